@@ -1,0 +1,56 @@
+//! Numbers with nine decimals.
+ghost use Rattle.std.specs.Prelude.{◌≡◌, SomeIff};
+ghost use Rattle.fixed_num.specs.Range.{InRange};
+
+use std::marker::Model;
+
+/// Why a text is no number of a type.
+#[derive(Clone, Copy, Debug, PartialEq, Eq)]
+pub enum NumFault {
+    /// The text spells no number.
+    NotANumber,
+    /// The text spells a number that is outside the type.
+    NumberRange,
+}
+
+/// A whole number of billionths whose magnitude is below 2^64 * 10^9 of them.
+#[derive(Clone, Copy, Debug, PartialEq, Eq, PartialOrd, Ord)]
+pub struct Fixed {
+    billionths: i128,
+}
+
+/// The first magnitude, in billionths, that is out of range: 2^64 * 10^9.
+pub(crate) const LIMIT: u128 = 18_446_744_073_709_551_616_000_000_000;
+
+impl Model for Fixed {
+    ghost use Rattle.std.specs.Prelude.{ℤ};
+    ghost use Rattle.fixed_num.specs.Range.{InRange};
+
+    ghost Value = { ℤ };
+
+    ghost view = { λ f. f.billionths };
+
+    ghost invariant = { λ f. InRange f.billionths };
+
+    ghost inverse = { λ z. record { billionths = z } };
+}
+
+impl Fixed {
+    /// The number of so many billionths; None where it is out of range.
+    pub fn of_billionths(n: i128) -> Option<Fixed>
+        ensures { SomeIff result (InRange n) n }
+    {
+        if n.unsigned_abs() < LIMIT {
+            Some(Fixed { billionths: n })
+        } else {
+            None
+        }
+    }
+
+    /// How many billionths it is.
+    pub fn billionths(self) -> i128
+        ensures { result ≡ self }
+    {
+        self.billionths
+    }
+}

@@ -1,0 +1,79 @@
+//! Metrics.
+ghost use Rattle.std.specs.Prelude.{◌≡◌, IfOk};
+ghost use Rattle.metric.specs.Metric.{IsFilled};
+
+use crate::{Text, Value};
+use fixed_num::{Moment, OutOfMemory, Seq};
+use std::marker::Model;
+use std::sync::Arc;
+
+/// What a metric says: its name, its tags in the order of their keys, its fields and its time.
+#[derive(Debug, PartialEq, Eq, Drop)]
+pub struct Content {
+    /// The name (the measurement of line protocol).
+    pub name: Text,
+    /// The tags, sorted by key, with distinct keys.
+    pub tags: Seq<(Text, Text)>,
+    /// The fields in order, with distinct keys.
+    pub fields: Seq<(Text, Value)>,
+    /// Nanoseconds since 1970.
+    pub time: Moment,
+}
+
+/// A metric; copies share one content.
+#[derive(Drop)]
+pub struct Metric {
+    content: Arc<Content>,
+}
+
+impl Model for Metric {
+    ghost use Rattle.std.specs.Arc.{arc_value};
+    ghost use Rattle.metric.specs.declared.metric.Content.{Content};
+    ghost use Rattle.metric.specs.Metric.{IsMetric};
+
+    ghost Value = { Content };
+
+    ghost view = { λ m. arc_value m.content };
+
+    ghost invariant = { λ m. IsMetric (arc_value m.content) };
+}
+
+impl Metric {
+    /// The name, which isn't empty.
+    pub fn name(&self) -> &Text
+        ensures name { result.now ≡ self.now.name }
+        ensures filled { IsFilled result.now }
+    {
+        &self.content.name
+    }
+
+    /// The tags, sorted by key.
+    pub fn tags(&self) -> &[(Text, Text)]
+        ensures { result.now ≡ self.now.tags }
+    {
+        self.content.tags.as_slice()
+    }
+
+    /// The fields, in order.
+    pub fn fields(&self) -> &[(Text, Value)]
+        ensures { result.now ≡ self.now.fields }
+    {
+        self.content.fields.as_slice()
+    }
+
+    /// The time: nanoseconds since 1970.
+    pub fn time(&self) -> Moment
+        ensures { result ≡ self.now.time }
+    {
+        self.content.time
+    }
+
+    /// An equal metric.
+    pub fn copy(&self) -> Result<Metric, OutOfMemory>
+        ensures { IfOk result (λ m. m ≡ self.now) }
+    {
+        Ok(Metric {
+            content: self.content.clone()?,
+        })
+    }
+}

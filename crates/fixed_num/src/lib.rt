@@ -2,10 +2,14 @@
 #![tactic(auto)]
 
 mod fixed;
+mod grammar;
+mod laws;
 mod memory;
 mod seq;
+mod value;
 
 pub use fixed::{Fixed, NumFault};
+pub use laws::{reads_canonical, reads_spelled, spelled_is_read};
 pub use memory::OutOfMemory;
 pub use seq::Seq;
 

@@ -13,7 +13,7 @@ pub struct Parts<'a> {
     pub exponent: &'a [u8],
 }
 
-fn digits_at(bytes: &[u8]) -> usize
+pub fn digits_at(bytes: &[u8]) -> usize
     ensures value { result ≡ digits_len bytes.now }
     ensures bound { result ≤ length bytes.now }
     ensures digits { AllDigits 10 (take result bytes.now) }
@@ -26,7 +26,7 @@ fn digits_at(bytes: &[u8]) -> usize
     bytes.len()
 }
 
-fn sign_at(bytes: &[u8]) -> usize
+pub fn sign_at(bytes: &[u8]) -> usize
     ensures value { result ≡ sign_len bytes.now }
     ensures bound { result ≤ length bytes.now }
 {

@@ -2,6 +2,8 @@
 ghost use Rattle.std.specs.Prelude.{◌≡◌, SomeIff};
 ghost use Rattle.fixed_num.specs.Range.{InRange};
 
+use crate::grammar::parts_of;
+use crate::value::magnitude;
 use std::marker::Model;
 
 /// Why a text is no number of a type.
@@ -36,6 +38,8 @@ impl Model for Fixed {
 }
 
 impl Fixed {
+    ghost use Rattle.fixed_num.specs.Fixed.{read_as};
+
     /// The number of so many billionths; None where it is out of range.
     pub fn of_billionths(n: i128) -> Option<Fixed>
         ensures { SomeIff result (InRange n) n }
@@ -52,5 +56,23 @@ impl Fixed {
         ensures { result ≡ self }
     {
         self.billionths
+    }
+
+    /// The number that a decimal spells, rounded half to even to a whole number of billionths.
+    /// A decimal is an optional sign, then digits with at most one `.` and at least one digit, then optionally `e` or `E`, an optional sign and at least one digit.
+    /// `NotANumber` where the text is no decimal, `NumberRange` where the rounded number is out of range.
+    pub fn read(text: &[u8]) -> Result<Fixed, NumFault>
+        ensures { result ≡ read_as text.now }
+    {
+        let Some(parts) = parts_of(text) else {
+            return Err(NumFault::NotANumber);
+        };
+        let Some(value) = magnitude(&parts) else {
+            return Err(NumFault::NumberRange);
+        };
+        let value = value as i128;
+        Ok(Fixed {
+            billionths: if parts.negative { -value } else { value },
+        })
     }
 }

@@ -1,8 +1,8 @@
 -- Whole numbers of a signed type, from those that are read without a sign.
-use Rattle.std.proofs.Common.{◌≡◌, ℕ, ◌+◌, ◌-◌, ◌<◌, ◌≤◌, ◌^◌, Bool, true, false, cond, ltb, List, length, take, drop, length-drop, refl, sym, ap, ◌∙◌, arith, inl, inr, Ok, Err}
+use Rattle.std.proofs.Common.{◌≡◌, ℕ, ◌+◌, ◌-◌, ◌≤◌, ◌^◌, Bool, true, false, cond, ltb, List, length, take, drop, length-drop, refl, sym, ap, ◌∙◌, arith, Ok, Err}
 use Rattle.std.specs.Prelude.{Result, ℤ}
 use Rattle.std.specs.Str.Parse.{digits_value}
-use Rattle.std.proofs.lemmas.Bool.{le-ltb, lt-ltb, ltb-false}
+use Rattle.std.proofs.lemmas.Bool.{le-ltb, ltb-false}
 use Rattle.fixed_num.specs.declared.fixed.NumFault.{NumFault}
 use Rattle.fixed_num.specs.declared.fixed.NumFault.TheVariants.{NotANumber, NumberRange}
 use Rattle.std.proofs.lemmas.List.{take_all}

@@ -6,6 +6,7 @@ mod grammar;
 mod laws;
 mod memory;
 mod seq;
+mod text;
 mod value;
 mod whole;
 

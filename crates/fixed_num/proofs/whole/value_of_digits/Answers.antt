@@ -1,4 +1,4 @@
-use Rattle.std.proofs.Common.{arith, ◌∙◌}
+use Rattle.std.proofs.Common.{arith}
 use Rattle.std.proofs.lemmas.Str.Parse.{digit_at}
 use Rattle.fixed_num.proofs.Values.{digits_step, whole_front}
 use Rattle.fixed_num.proofs.whole.value_of_digits.Goals as goal

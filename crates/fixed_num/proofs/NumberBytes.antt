@@ -48,8 +48,8 @@ fraction_bytes n h =
 magnitude_bytes : (n : ℕ) → n < 2 ^ 64 * 10 ^ 9 → AllByRecursion IsNumberByte (decimal (n / 10 ^ 9) ++ fraction_text (n % 10 ^ 9))
 magnitude_bytes n h =
     bytes_append (decimal (n / 10 ^ 9)) (fraction_text (n % 10 ^ 9))
-      (decimal_bytes (n / 10 ^ 9) (div_below n (10 ^ 9) (2 ^ 64) (omega arith) (omega arith)))
-      (fraction_bytes (n % 10 ^ 9) (mod-lt n {m = 10 ^ 9} (omega arith)))
+    (decimal_bytes (n / 10 ^ 9) (div_below n (10 ^ 9) (2 ^ 64) (omega arith) (omega arith)))
+    (fraction_bytes (n % 10 ^ 9) (mod-lt n {m = 10 ^ 9} (omega arith)))
 
 -- the canonical text of each number in range
 pub canonical_bytes : (z : ℤ) → InRange z → AllByRecursion IsNumberByte (canonical_text z)

@@ -1,0 +1,4 @@
+pub mod Offers
+pub mod Fates
+pub mod Legal
+pub mod Totals

@@ -1,0 +1,2 @@
+//! The state machine that decides what becomes of every metric.
+#![tactic(auto)]

@@ -1,7 +1,10 @@
 //! What is counted of a run.
-ghost use Rattle.std.specs.Prelude.{◌≡◌, ◌+◌, ◌<◌, ◌≤◌, ◌^◌, ◌↔◌, true, length, IfOk, IsTrue};
+ghost use Rattle.std.specs.Prelude.{◌≡◌, ◌+◌, ◌<◌, ◌≤◌, ◌^◌, ◌↔◌, true, ◌++◌, length, IfOk, OnOk, OnErr, IsTrue};
 ghost use Rattle.account.specs.Numbers.{Numbers, no_numbers, input_numbers, output_numbers, with_input, with_output, gathered_more, written_more, dropped_more, IsInputBelow, AreBelow};
+ghost use Rattle.account.specs.Extends.{Extends};
+ghost use Rattle.account.specs.AccountText.{account_text};
 
+use crate::text::{append_inputs, append_items, append_outputs};
 use crate::{InputNumbers, OutputNumbers};
 use fixed_num::OutOfMemory;
 use std::alloc::Global;
@@ -49,6 +52,34 @@ impl Account {
             && self.routed < 1 << 63
             && self.inputs.iter().all(|x| x.has_room())
             && self.outputs.iter().all(|x| x.has_room())
+    }
+
+    /// Appends the account's text: a line for each input, and one for the groups of each tracked
+    /// one, a line for the items, and a line for each output.
+    pub fn text(&self, alloc: Global, out: &mut Vec<u8>) -> Result<(), OutOfMemory>
+        ensures ok { OnOk result (out.new.items ≡ out.old.items ++ account_text self.now) }
+        ensures err { OnErr result (out.new.items ≡ out.old.items) }
+    {
+        let len = out.len();
+        match self.append_text(out) {
+            Ok(()) => Ok(()),
+            Err(fault) => {
+                out.truncate(len);
+                Err(fault)
+            }
+        }
+    }
+
+    // Appends the account's text, or a front of it.
+    #[tactic(auto, unfolding(crate::specs::AccountText::account_text))]
+    fn append_text(&self, out: &mut Vec<u8>) -> Result<(), OutOfMemory>
+        ensures ok { OnOk result (out.new.items ≡ out.old.items ++ account_text self.now) }
+        ensures kept { Extends out.old.items out.new.items }
+    {
+        append_inputs(out, &self.inputs)?;
+        append_items(out, self.made, self.removed, self.routed)?;
+        append_outputs(out, &self.outputs)?;
+        Ok(())
     }
 
     /// Counts an input's next pieces: how many there were, how many of them were refused, how many

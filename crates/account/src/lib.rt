@@ -2,6 +2,7 @@
 #![tactic(auto)]
 
 mod account;
+mod text;
 mod entry;
 mod numbers;
 

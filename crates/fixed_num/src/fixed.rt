@@ -1,7 +1,12 @@
 //! Numbers with nine decimals.
-ghost use Rattle.std.specs.Prelude.{◌≡◌, SomeIff};
+ghost use Rattle.std.specs.Prelude.{◌≡◌, ◌++◌, OnOk, OnErr, SomeIff};
 ghost use Rattle.fixed_num.specs.Range.{InRange};
 
+use crate::grammar::parts_of;
+use crate::memory::OutOfMemory;
+use crate::text::{LONGEST, split, write_number};
+use crate::value::magnitude;
+use std::alloc::Global;
 use std::marker::Model;
 
 /// Why a text is no number of a type.
@@ -36,6 +41,9 @@ impl Model for Fixed {
 }
 
 impl Fixed {
+    ghost use Rattle.fixed_num.specs.Fixed.{read_as};
+    ghost use Rattle.fixed_num.specs.Canonical.{canonical_text};
+
     /// The number of so many billionths; None where it is out of range.
     pub fn of_billionths(n: i128) -> Option<Fixed>
         ensures { SomeIff result (InRange n) n }
@@ -52,5 +60,36 @@ impl Fixed {
         ensures { result ≡ self }
     {
         self.billionths
+    }
+
+    /// The number that a decimal spells, rounded half to even to a whole number of billionths.
+    /// A decimal is an optional sign, then digits with at most one `.` and at least one digit, then optionally `e` or `E`, an optional sign and at least one digit.
+    /// `NotANumber` where the text is no decimal, `NumberRange` where the rounded number is out of range.
+    pub fn read(text: &[u8]) -> Result<Fixed, NumFault>
+        ensures { result ≡ read_as text.now }
+    {
+        let Some(parts) = parts_of(text) else {
+            return Err(NumFault::NotANumber);
+        };
+        let Some(value) = magnitude(&parts) else {
+            return Err(NumFault::NumberRange);
+        };
+        let value = value as i128;
+        Ok(Fixed {
+            billionths: if parts.negative { -value } else { value },
+        })
+    }
+
+    /// Appends the canonical text: `-` where the number is negative, the whole digits without leading zeros (`0` where there are none) and,
+    /// where the fraction is not zero, `.` and its digits without the zeros at their end. `OutOfMemory` leaves `out` as it was.
+    pub fn append(self, _alloc: Global, out: &mut Vec<u8>) -> Result<(), OutOfMemory>
+        ensures added { OnOk result (out.new.items ≡ out.old.items ++ canonical_text self) }
+        ensures kept { OnErr result (out.new.items ≡ out.old.items) }
+    {
+        let (whole, billionths) = split(self.billionths.unsigned_abs());
+        let mut buffer = [0; LONGEST];
+        let (start, end) = write_number(self.billionths < 0, whole, billionths, &mut buffer);
+        out.extend_from_slice(&buffer[start..end])?;
+        Ok(())
     }
 }

@@ -2,12 +2,19 @@
 #![tactic(auto)]
 
 mod fixed;
+mod grammar;
+mod laws;
 mod memory;
 mod seq;
+mod text;
+mod value;
+mod whole;
 
 pub use fixed::{Fixed, NumFault};
+pub use laws::{reads_canonical, reads_spelled, spelled_is_read};
 pub use memory::OutOfMemory;
 pub use seq::Seq;
+pub use whole::{read_int, read_uint};
 
 /// A moment: nanoseconds since the first of January 1970, UTC.
 pub type Moment = i64;

@@ -81,20 +81,24 @@ ends_after k [] rest h = h
 ends_after k (Escaped c ∷ marks) rest h = ends_after k marks rest h.1
 ends_after k (Bare b ∷ marks) rest h = ends_after k marks rest h.2
 
-boundary_before : (k : Kind) → IsAsciiKind k → (bs rest : List ℕ) (n : ℕ) → n ≤ length bs → drop n bs ≡ rest → Ends k rest → IsCharBoundary bs n
+-- the bytes that end such a part are ASCII
+abbrev pub EndsLow : Kind → Type 0
+EndsLow k = (b : ℕ) → k.ends b ≡ true → b < 128
+
+boundary_before : (k : Kind) → EndsLow k → (bs rest : List ℕ) (n : ℕ) → n ≤ length bs → drop n bs ≡ rest → Ends k rest → IsCharBoundary bs n
 boundary_before k low bs [] n le e h = let all : n ≡ length bs = omega (arith, length-drop n bs, ap length e) in subst (IsCharBoundary bs) (sym all) (IsCharBoundary-end bs)
 boundary_before k low bs (b ∷ rest) n le e h =
     let within : n < length bs = omega (arith, length-drop n bs, ap length e) in
     let at : get_or bs n 0 ≡ b = let same = ap (λ (l : List ℕ). get_or l 0 0) e in sym (get_or-drop n bs 0 0 ∙ rw add-zero refl) ∙ same in
-    let small : b < 128 = low.ends b h.0 in
+    let small : b < 128 = low b h.0 in
     IsCharBoundary-before_ascii bs n within (omega arith)
 
 -- the part that begins a text ends where a character ends
-pub part-IsCharBoundary : (k : Kind) → IsAsciiKind k → (bs : List ℕ) → part_len k bs ≤ length bs → IsCharBoundary bs (part_len k bs)
+pub part-IsCharBoundary : (k : Kind) → EndsLow k → (bs : List ℕ) → part_len k bs ≤ length bs → IsCharBoundary bs (part_len k bs)
 part-IsCharBoundary k low bs le = let f = found k bs in boundary_before k low bs (drop (part_len k bs) bs) (part_len k bs) le refl (ends_after k f.marks _ f.part)
 
 -- the part that begins at a place of a text ends where a character ends
-pub part-IsCharBoundary_at : (k : Kind) → IsAsciiKind k → (bs : List ℕ) (i : ℕ) → i ≤ length bs → part_len k (drop i bs) ≤ length (drop i bs) → IsCharBoundary bs (i + part_len k (drop i bs))
+pub part-IsCharBoundary_at : (k : Kind) → EndsLow k → (bs : List ℕ) (i : ℕ) → i ≤ length bs → part_len k (drop i bs) ≤ length (drop i bs) → IsCharBoundary bs (i + part_len k (drop i bs))
 part-IsCharBoundary_at k low bs i within le =
     let f = found k (drop i bs) in
     boundary_before k low bs (drop (part_len k (drop i bs)) (drop i bs)) (i + part_len k (drop i bs)) (omega (arith, length-drop i bs)) (sym (drop-drop (part_len k (drop i bs)) i bs)) (ends_after k f.marks _ f.part)
@@ -102,9 +106,10 @@ part-IsCharBoundary_at k low bs i within le =
 -- the text of a part is UTF-8
 pub part-IsUtf8 : (k : Kind) → IsAsciiKind k → (bs : List ℕ) (i : ℕ) → IsUtf8 bs → IsCharBoundary bs i → part_len k (drop i bs) ≤ length (drop i bs) → IsUtf8 (plain k (take (part_len k (drop i bs)) (drop i bs)))
 part-IsUtf8 k low bs i u at le =
-    plain-IsUtf8 k low _ (IsUtf8-take (drop i bs) (part_len k (drop i bs)) (IsUtf8-drop bs i u at) (part-IsCharBoundary k low (drop i bs) le))
+    plain-IsUtf8 k low _ (IsUtf8-take (drop i bs) (part_len k (drop i bs)) (IsUtf8-drop bs i u at) (part-IsCharBoundary k low.ends (drop i bs) le))
 
-either : (a b : Bool) → (a || b) ≡ true → (a ≡ true) ⊎ (b ≡ true)
+-- one of two tests is true
+pub either : (a b : Bool) → (a || b) ≡ true → (a ≡ true) ⊎ (b ≡ true)
 either true b e = inl refl
 either false b e = inr e
 

@@ -1,5 +1,5 @@
 -- A part of a text: what ends it, and what a backslash hides.
-use Rattle.std.specs.Prelude.{ℕ, ◌+◌, Bool, false, ◌==◌, ◌&&◌, List, [], ◌∷◌, take, drop, if◌then◌else◌}
+use Rattle.std.specs.Prelude.{◌≡◌, ℕ, ◌+◌, Bool, false, ◌==◌, ◌&&◌, List, [], ◌∷◌, length, take, drop, if◌then◌else◌}
 
 -- a kind of part: the bytes that end it, those that a backslash hides, and what a hidden one means
 pub record Kind : Type 0 where
@@ -32,3 +32,8 @@ len_at k piece i = part_len k (drop i piece)
 -- the text of the part that begins at a place, without its escapes
 abbrev pub text_at : Kind → List ℕ → ℕ → List ℕ
 text_at k piece i = plain k (take (len_at k piece i) (drop i piece))
+
+-- the text is the part of this kind that begins at a place, and it means itself
+pub record IsPartAt (k : Kind) (piece : List ℕ) (i : ℕ) (text : List ℕ) : Type 0 where
+  pub len : len_at k piece i ≡ length text
+  pub means : text_at k piece i ≡ text

@@ -8,3 +8,6 @@ mod part;
 pub use error::ReadError;
 pub use laws::{part_is_read, read_is_part};
 pub use part::{Part, part_len, part_text, plain_bytes};
+
+#[cfg(test)]
+mod tests;

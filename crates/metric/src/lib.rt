@@ -1,10 +1,13 @@
 //! Metrics: a name, tags, fields and a time.
 #![tactic(auto)]
 
+mod builder;
+pub mod laws;
 mod metric;
 mod text;
 mod value;
 
+pub use builder::{BuildFault, Builder};
 pub use metric::{Content, Metric};
 pub use text::Text;
 pub use value::Value;

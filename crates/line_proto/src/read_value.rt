@@ -1,0 +1,1 @@
+//! Values that are no text, and times.

@@ -1,1 +1,2 @@
 pub mod NumberWords
+pub mod PlaceLemmas

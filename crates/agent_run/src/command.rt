@@ -41,13 +41,7 @@ fn number_of(word: &str) -> Option<u32>
         return None;
     }
     match read_uint(bytes) {
-        Ok(n) => {
-            if n <= MOST {
-                Some(n as u32)
-            } else {
-                None
-            }
-        }
+        Ok(n) => { if n <= MOST { Some(n as u32) } else { None } }
         Err(_) => None,
     }
 }
@@ -84,7 +78,7 @@ fn pipe_of<'a>(words: &Words<'a>) -> Option<Pipe<'a>>
     ensures { MatchOption result
         ((batch limit : ℕ) → IsPipeOf words.now.command.now words.now.output.now words.now.batch.now words.now.limit.now batch limit → ⊥)
         (λ pipe. (pipe.input.now ≡ words.now.input.now) × (pipe.output.now ≡ words.now.output.now)
-            × IsPipeOf words.now.command.now words.now.output.now words.now.batch.now words.now.limit.now pipe.batch pipe.limit) }
+        × IsPipeOf words.now.command.now words.now.output.now words.now.batch.now words.now.limit.now pipe.batch pipe.limit) }
 {
     if words.command != "pipe" || words.output == JOURNAL {
         return None;

@@ -2,6 +2,7 @@
 #![tactic(auto)]
 
 mod command;
+mod opening;
 mod status;
 
 use command::read_command;

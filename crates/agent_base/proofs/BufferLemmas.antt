@@ -49,9 +49,9 @@ read_hand xs ys old new start end most n le fits same h =
     let m : end + most - end ≡ most = omega arith in
     let k : end + n - end ≡ n = omega arith in
     let front : take n (between end (end + most) new) ≡ between end (end + n) new =
-        ap (λ (j : ℕ). take n (take j (drop end new))) m ∙ take-take n most (drop end new) fits ∙ ap (λ (j : ℕ). take j (drop end new)) (sym k) in
+    ap (λ (j : ℕ). take n (take j (drop end new))) m ∙ take-take n most (drop end new) fits ∙ ap (λ (j : ℕ). take j (drop end new)) (sym k) in
     let whole : between start (end + n) new ≡ between start end old ++ between end (end + n) new =
-        between_join new start end (end + n) le (omega arith) ∙ ap (λ (l : List ℕ). l ++ between end (end + n) new) (between_front old new start end end (omega arith) same) in
+    between_join new start end (end + n) le (omega arith) ∙ ap (λ (l : List ℕ). l ++ between end (end + n) new) (between_front old new start end end (omega arith) same) in
     ap (λ (l : List ℕ). between start end old ++ l) (h ∙ ap (λ (l : List ℕ). l ++ ys) front) ∙ sym (append_assoc (between start end old) (between end (end + n) new) ys) ∙ ap (λ (l : List ℕ). l ++ ys) (sym whole)
 
 pub read_steps : (before after : Option (List ℕ)) (old new : List ℕ) (start end most n taken : ℕ) (p : Bool) → start ≤ end → n ≤ most → end + most ≤ length new → take end new ≡ take end old

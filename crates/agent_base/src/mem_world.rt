@@ -30,6 +30,8 @@ impl<S: Source + Send + Drop, K: Sink + Send + Drop> MemWorld<S, K> {
     pub fn new(alloc: Global) -> MemWorld<S, K>
         ensures ins { (place : List ℕ) → ⟦<MemWorld<S, K> as World>⟧.in_at result place ≡ empty_place }
         ensures outs { (place : List ℕ) → ⟦<MemWorld<S, K> as World>⟧.out_at result place ≡ empty_place }
+        ensures ins_home { AreHome (⟦<MemWorld<S, K> as World>⟧.in_at result) }
+        ensures outs_home { AreHome (⟦<MemWorld<S, K> as World>⟧.out_at result) }
         ensures rest { ⟦<MemWorld<S, K> as World>⟧.rest result ≡ record { reported = Some []; report_faults = 0 } }
         ensures moments { (who : ℕ) → ⟦<MemWorld<S, K> as World>⟧.moments result who ≡ Some (moments_of []) }
     {
@@ -50,6 +52,7 @@ impl<S: Source + Send + Drop, K: Sink + Send + Drop> MemWorld<S, K> {
         ensures home { AreHome (⟦<MemWorld<S, K> as World>⟧.in_at self.old) → AreHome (⟦<MemWorld<S, K> as World>⟧.in_at self.new) }
 
         ensures outs { SameAtAll (⟦<MemWorld<S, K> as World>⟧.out_at self.old) (⟦<MemWorld<S, K> as World>⟧.out_at self.new) }
+        ensures outs_home { AreHome (⟦<MemWorld<S, K> as World>⟧.out_at self.old) → AreHome (⟦<MemWorld<S, K> as World>⟧.out_at self.new) }
         ensures rest { ⟦<MemWorld<S, K> as World>⟧.rest self.new ≡ ⟦<MemWorld<S, K> as World>⟧.rest self.old }
         ensures moments { SameAtAll (⟦<MemWorld<S, K> as World>⟧.moments self.old) (⟦<MemWorld<S, K> as World>⟧.moments self.new) }
     {
@@ -64,6 +67,7 @@ impl<S: Source + Send + Drop, K: Sink + Send + Drop> MemWorld<S, K> {
         ensures home { AreHome (⟦<MemWorld<S, K> as World>⟧.out_at self.old) → AreHome (⟦<MemWorld<S, K> as World>⟧.out_at self.new) }
 
         ensures ins { SameAtAll (⟦<MemWorld<S, K> as World>⟧.in_at self.old) (⟦<MemWorld<S, K> as World>⟧.in_at self.new) }
+        ensures ins_home { AreHome (⟦<MemWorld<S, K> as World>⟧.in_at self.old) → AreHome (⟦<MemWorld<S, K> as World>⟧.in_at self.new) }
         ensures rest { ⟦<MemWorld<S, K> as World>⟧.rest self.new ≡ ⟦<MemWorld<S, K> as World>⟧.rest self.old }
         ensures moments { SameAtAll (⟦<MemWorld<S, K> as World>⟧.moments self.old) (⟦<MemWorld<S, K> as World>⟧.moments self.new) }
     {
@@ -80,7 +84,9 @@ impl<S: Source + Send + Drop, K: Sink + Send + Drop> MemWorld<S, K> {
         ensures refused { OnErr result (SameAtAll (⟦<MemWorld<S, K> as World>⟧.moments self.old) (⟦<MemWorld<S, K> as World>⟧.moments self.new)) }
 
         ensures ins { SameAtAll (⟦<MemWorld<S, K> as World>⟧.in_at self.old) (⟦<MemWorld<S, K> as World>⟧.in_at self.new) }
+        ensures ins_home { AreHome (⟦<MemWorld<S, K> as World>⟧.in_at self.old) → AreHome (⟦<MemWorld<S, K> as World>⟧.in_at self.new) }
         ensures outs { SameAtAll (⟦<MemWorld<S, K> as World>⟧.out_at self.old) (⟦<MemWorld<S, K> as World>⟧.out_at self.new) }
+        ensures outs_home { AreHome (⟦<MemWorld<S, K> as World>⟧.out_at self.old) → AreHome (⟦<MemWorld<S, K> as World>⟧.out_at self.new) }
         ensures rest { ⟦<MemWorld<S, K> as World>⟧.rest self.new ≡ ⟦<MemWorld<S, K> as World>⟧.rest self.old }
     {
         put_moments(&mut self.clocks, who, c.into_moments())

@@ -66,5 +66,4 @@ impl Pieces {
 /// The pieces of lines, each with a newline behind it, and of a rest without one are those of the lines and of the rest.
 pub fn cuts_lines()
     ensures { CutsLines }
-{
-}
+{}

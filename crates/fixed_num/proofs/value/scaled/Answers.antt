@@ -1,4 +1,4 @@
-use Rattle.std.proofs.Common.{arith, ◌≡◌, ◌∙◌, sym, ap, ◌≤◌, ◌^◌, ◌-◌}
+use Rattle.std.proofs.Common.{arith, sym, ◌-◌}
 use Rattle.fixed_num.proofs.Magnitude.{times, over, small_power}
 use Rattle.fixed_num.proofs.value.scaled.Goals as goal
 

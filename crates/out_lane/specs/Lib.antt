@@ -1,2 +1,3 @@
 pub mod Lane
 pub mod LaneEvents
+pub mod LaneLaws

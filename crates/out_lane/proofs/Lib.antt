@@ -4,3 +4,4 @@ pub mod EventLemmas
 pub mod ItemLemmas
 pub mod BecomeLemmas
 pub mod LaneLemmas
+pub mod CallLemmas

@@ -1,5 +1,6 @@
 //! Laws of lanes: what each call does to what waits, to the batch in flight and to the fate of each item.
 //! The body of each function is empty; its contract is the law.
+ghost use Rattle.out_lane.specs.LaneCalls.{CallsMeet};
 ghost use Rattle.out_lane.specs.LaneLaws.{NewIsLane, PushMeets, BeginMeets, AcceptMeets, FailMeets, KeepsBuffered, WritesInOrder, FatesLast};
 
 /// A new lane is the lane of no events.
@@ -40,4 +41,9 @@ pub fn law_order()
 /// Written and Dropped never change.
 pub fn law_fates()
     ensures { FatesLast }
+{}
+
+/// After each list of calls, what waits and what is in flight is what their events say.
+pub fn law_calls<T>()
+    ensures { CallsMeet T }
 {}

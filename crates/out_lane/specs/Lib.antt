@@ -1,2 +1,4 @@
 pub mod Lane
+pub mod LaneCalls
 pub mod LaneEvents
+pub mod LaneLaws

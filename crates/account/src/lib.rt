@@ -2,9 +2,9 @@
 #![tactic(auto)]
 
 mod account;
-mod text;
 mod entry;
 mod numbers;
+mod text;
 
 pub use account::Account;
 pub use entry::{Entry, Report, Verdict};

@@ -35,7 +35,18 @@ fn append_input_line(out: &mut Vec<u8>, input: u64, x: &InputNumbers) -> Result<
     ensures ok { OnOk result (out.new.items ≡ out.old.items ++ input_line input x.now) }
     ensures kept { Extends out.old.items out.new.items }
 {
-    append_line(out, &[("input ", input), (" pieces ", x.pieces), (" refused ", x.refused), (" passed ", x.passed), (" filtered ", x.filtered), (" gathered ", x.gathered)], ending(x.has_ended))?;
+    append_line(
+        out,
+        &[
+            ("input ", input),
+            (" pieces ", x.pieces),
+            (" refused ", x.refused),
+            (" passed ", x.passed),
+            (" filtered ", x.filtered),
+            (" gathered ", x.gathered),
+        ],
+        ending(x.has_ended),
+    )?;
     Ok(())
 }
 
@@ -45,7 +56,16 @@ fn append_groups_line(out: &mut Vec<u8>, input: u64, x: &InputNumbers) -> Result
     ensures ok { OnOk result (out.new.items ≡ out.old.items ++ groups_line input x.now) }
     ensures kept { Extends out.old.items out.new.items }
 {
-    append_line(out, &[("groups ", input), (" delivered ", x.delivered), (" rejected ", x.rejected), (" undelivered ", x.undelivered)], "\n")?;
+    append_line(
+        out,
+        &[
+            ("groups ", input),
+            (" delivered ", x.delivered),
+            (" rejected ", x.rejected),
+            (" undelivered ", x.undelivered),
+        ],
+        "\n",
+    )?;
     Ok(())
 }
 
@@ -64,11 +84,24 @@ fn append_input(out: &mut Vec<u8>, input: u64, x: &InputNumbers) -> Result<(), O
 
 // Appends the line of the items.
 #[tactic(auto, unfolding(crate::specs::AccountText::items_line))]
-pub(crate) fn append_items(out: &mut Vec<u8>, made: u64, removed: u64, routed: u64) -> Result<(), OutOfMemory>
+pub(crate) fn append_items(
+    out: &mut Vec<u8>,
+    made: u64,
+    removed: u64,
+    routed: u64,
+) -> Result<(), OutOfMemory>
     ensures ok { OnOk result (out.new.items ≡ out.old.items ++ items_line made removed routed) }
     ensures kept { Extends out.old.items out.new.items }
 {
-    append_line(out, &[("items made ", made), (" removed ", removed), (" routed ", routed)], "\n")?;
+    append_line(
+        out,
+        &[
+            ("items made ", made),
+            (" removed ", removed),
+            (" routed ", routed),
+        ],
+        "\n",
+    )?;
     Ok(())
 }
 
@@ -78,7 +111,19 @@ fn append_output(out: &mut Vec<u8>, output: u64, x: &OutputNumbers) -> Result<()
     ensures ok { OnOk result (out.new.items ≡ out.old.items ++ output_text output x.now) }
     ensures kept { Extends out.old.items out.new.items }
 {
-    append_line(out, &[("output ", output), (" filtered ", x.filtered), (" late ", x.late), (" consumed ", x.consumed), (" written ", x.written), (" buffered ", x.buffered), (" dropped ", x.dropped)], "\n")?;
+    append_line(
+        out,
+        &[
+            ("output ", output),
+            (" filtered ", x.filtered),
+            (" late ", x.late),
+            (" consumed ", x.consumed),
+            (" written ", x.written),
+            (" buffered ", x.buffered),
+            (" dropped ", x.dropped),
+        ],
+        "\n",
+    )?;
     Ok(())
 }
 
@@ -94,7 +139,10 @@ pub(crate) fn append_inputs(out: &mut Vec<u8>, inputs: &[InputNumbers]) -> Resul
 }
 
 // Appends what is said of outputs, counted from 0.
-pub(crate) fn append_outputs(out: &mut Vec<u8>, outputs: &[OutputNumbers]) -> Result<(), OutOfMemory>
+pub(crate) fn append_outputs(
+    out: &mut Vec<u8>,
+    outputs: &[OutputNumbers],
+) -> Result<(), OutOfMemory>
     ensures ok { OnOk result (out.new.items ≡ out.old.items ++ numbered output_text 0 outputs.now) }
     ensures kept { Extends out.old.items out.new.items }
 {

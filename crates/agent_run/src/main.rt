@@ -3,6 +3,7 @@
 
 mod command;
 mod opening;
+mod real;
 mod status;
 
 use command::read_command;

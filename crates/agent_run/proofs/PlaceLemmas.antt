@@ -1,13 +1,15 @@
 -- Places that were opened and given back.
-use Rattle.std.proofs.Common.{◌≡◌, ◌≢◌, ℕ, List, Bool, true, false, refl, sym, ap, ◌∙◌, Option}
+use Rattle.std.proofs.Common.{◌≡◌, ◌≢◌, ℕ, List, Bool, true, false, refl, sym, ap, ◌∙◌, inl, inr, Option}
 use Rattle.std.specs.Str.{bytes_eq}
 use Rattle.std.proofs.lemmas.Slice.Eq.{bytes_eq-Decides}
-use Rattle.agent_base.specs.Places.{Place, Opens, FailsToOpen, Refuses, TakesIn, SameBut, SameAtAll, AreHome}
+use Rattle.agent_base.specs.Places.{Place, Opens, FailsToOpen, Refuses, TakesIn, SameBut, SameAtAll, AreHome, Rest}
 use Rattle.agent_base.specs.declared.world.OpenFault.{OpenFault}
 use Rattle.agent_base.specs.declared.world.OpenFault.TheVariants.{Failed, OutOfMemory}
-use Rattle.agent_run.specs.Places.{IsBack, AreBack}
+use Rattle.agent_run.specs.Places.{IsBack, AreBack, ReportsLine, IsRefused, open_fault_line}
 use Rattle.agent_run.specs.Command.{journal_place}
-use Rattle.agent_run.specs.Opening.{HasRisen, HasRisenOut, OutsRefused, PartsRefused}
+use Rattle.agent_run.specs.Opening.{HasRisen, HasRisenOut, OutsRefused, PartsRefused, IsRefusalAnswer, place_of}
+use Rattle.agent_run.specs.declared.status.Status.{Status}
+use Rattle.agent_run.specs.declared.status.Status.TheVariants as statuses
 use Rattle.agent_run.specs.declared.opening.Refusal.{Refusal}
 use Rattle.agent_run.specs.declared.opening.Refusal.TheVariants as refusals
 
@@ -128,3 +130,56 @@ outs_refused refusal carried count input output i0 i1 i2 i3 o0 o1 o2 o3 home o s
       ins_back = given_back carried count input i0 i1 i2 i3 home o s t g u;
       outs_back = λ q. back_along (o0 q) (o1 q) (o2 q) (o3 q) (before q) (r.back q) (after q);
     }
+
+-- the input was given back, and nothing else is out
+pub ins_home : (input : List ℕ) (w0 w1 w2 w3 : List ℕ → Place) → ((q : List ℕ) → q ≢ input → (w0 q).is_out ≡ false) → SameAtAll w0 w1 → (w2 input).is_out ≡ false → SameBut input w1 w2 → SameAtAll w2 w3 → AreHome w3
+ins_home input w0 w1 w2 w3 others s given t u =
+    at_each (λ q. (w3 q).is_out ≡ false) input
+    (ap (λ (p : Place). p.is_out) (u input) ∙ given)
+    (λ q ne. ap (λ (p : Place). p.is_out) (u q ∙ t q ne ∙ s q) ∙ others q ne)
+
+-- both outputs were given back, and nothing else is out
+pub outs_home : (output second : List ℕ) (w0 w1 w2 w3 w4 : List ℕ → Place) → ((q : List ℕ) → q ≢ output → q ≢ second → (w0 q).is_out ≡ false) → SameAtAll w0 w1
+    → (w2 output).is_out ≡ false → SameBut output w1 w2 → (w3 second).is_out ≡ false → SameBut second w2 w3 → SameAtAll w3 w4 → AreHome w4
+outs_home output second w0 w1 w2 w3 w4 others s given t last u v =
+    at_each (λ q. (w4 q).is_out ≡ false) second
+    (ap (λ (p : Place). p.is_out) (v second) ∙ last)
+    (λ q ne. at_each (λ x. x ≢ second → (w4 x).is_out ≡ false) output
+    (λ k. ap (λ (p : Place). p.is_out) (v output ∙ u output k) ∙ given)
+    (λ x nx k. ap (λ (p : Place). p.is_out) (v x ∙ u x k ∙ t x nx ∙ s x) ∙ others x nx k) q ne)
+
+refused_back_to : (refusal : Refusal) (input output : List ℕ) (i0 i1 i2 o0 o1 o2 : List ℕ → Place) (r0 r2 : Rest) → refusal ≢ refusals.OutOfMemory
+    → PartsRefused refusal input output i0 i1 o0 o1 → SameAtAll i1 i2 → SameAtAll o1 o2 → ReportsLine r0 r2 (open_fault_line (place_of refusal input output))
+    → IsRefused i0 i2 o0 o2 r0 r2 input output
+refused_back_to refusals.Input input output i0 i1 i2 o0 o1 o2 r0 r2 ne h s t told = record {
+  place = input;
+  rose = inl (refl, rw (s input) h.rose);
+  ins_back = λ q. rw (s q) (h.ins_back q);
+  outs_back = λ q. rw (t q) (h.outs_back q);
+  told = told;
+}
+refused_back_to refusals.Output input output i0 i1 i2 o0 o1 o2 r0 r2 ne h s t told = record {
+  place = output;
+  rose = inr (inl refl, rw (t output) h.rose);
+  ins_back = λ q. rw (s q) (h.ins_back q);
+  outs_back = λ q. rw (t q) (h.outs_back q);
+  told = told;
+}
+refused_back_to refusals.Journal input output i0 i1 i2 o0 o1 o2 r0 r2 ne h s t told = record {
+  place = journal_place;
+  rose = inr (inr refl, rw (t journal_place) h.rose);
+  ins_back = λ q. rw (s q) (h.ins_back q);
+  outs_back = λ q. rw (t q) (h.outs_back q);
+  told = told;
+}
+refused_back_to refusals.OutOfMemory input output i0 i1 i2 o0 o1 o2 r0 r2 ne h s t told = absurd (ne refl)
+
+-- a refusal was reported
+pub is_refused : (status : Status) (refusal : Refusal) (input output : List ℕ) (i0 i1 i2 o0 o1 o2 : List ℕ → Place) (r0 r1 r2 : Rest)
+    → PartsRefused refusal input output i0 i1 o0 o1 → SameAtAll i1 i2 → SameAtAll o1 o2 → r1 ≡ r0 → IsRefusalAnswer status refusal input output r1 r2 → status ≡ statuses.OpenFault
+    → IsRefused i0 i2 o0 o2 r0 r2 input output
+is_refused status refusal input output i0 i1 i2 o0 o1 o2 r0 r1 r2 h s t same answer is =
+    elim answer [
+      | inl told ↦ refused_back_to refusal input output i0 i1 i2 o0 o1 o2 r0 r2 told.1 h s t (rw same at told.2)
+      | inr short ↦ absurd (let k : statuses.OpenFault ≡ statuses.OutOfMemory = sym is ∙ short in cc)
+    ]

@@ -1,8 +1,11 @@
 -- What is left where a place of a pipe wasn't opened.
-use Rattle.std.specs.Prelude.{◌≡◌, ◌≢◌, ℕ, List}
-use Rattle.agent_base.specs.Places.{Place}
+use Rattle.std.specs.Prelude.{◌≡◌, ◌≢◌, ◌⊎◌, ℕ, List, []}
+use Rattle.agent_base.specs.Places.{Place, Rest}
 use Rattle.agent_run.specs.Command.{journal_place}
-use Rattle.agent_run.specs.Places.{AreBack, RoseToOpen}
+use Rattle.agent_run.specs.Places.{AreBack, RoseToOpen, ReportsLine, open_fault_line}
+use Rattle.agent_run.specs.declared.status.Status.{Status}
+use Rattle.agent_run.specs.declared.status.Status.TheVariants.{OpenFault}
+use Rattle.agent_run.specs.declared.status.Status.TheVariants as statuses
 use Rattle.agent_run.specs.declared.opening.Refusal.{Refusal}
 use Rattle.agent_run.specs.declared.opening.Refusal.TheVariants.{Input, Output, Journal, OutOfMemory}
 
@@ -33,3 +36,15 @@ pub record PartsRefused (refusal : Refusal) (input output : List ℕ) (ins new_i
   pub rose : HasRisen refusal input output ins new_ins outs new_outs
   pub ins_back : AreBack ins new_ins
   pub outs_back : AreBack outs new_outs
+
+-- the place of a refusal
+abbrev pub place_of : Refusal → List ℕ → List ℕ → List ℕ
+place_of Input input output = input
+place_of Output input output = output
+place_of Journal input output = journal_place
+place_of OutOfMemory input output = []
+
+-- the place was reported, unless memory was short
+abbrev pub IsRefusalAnswer : Status → Refusal → List ℕ → List ℕ → Rest → Rest → Type 0
+IsRefusalAnswer status refusal input output old new =
+    ((status ≡ OpenFault) × (refusal ≢ OutOfMemory) × ReportsLine old new (open_fault_line (place_of refusal input output))) ⊎ (status ≡ statuses.OutOfMemory)

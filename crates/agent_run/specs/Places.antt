@@ -39,3 +39,9 @@ pub record IsRefused (ins new_ins outs new_outs : List ℕ → Place) (rest new_
   pub ins_back : AreBack ins new_ins
   pub outs_back : AreBack outs new_outs
   pub told : ReportsLine rest new_rest (open_fault_line place)
+
+-- the words were no command: every place has its bytes again, and the line of usage was reported
+pub record IsUnused (ins new_ins outs new_outs : List ℕ → Place) (rest new_rest : Rest) : Type 0 where
+  pub ins_back : AreBack ins new_ins
+  pub outs_back : AreBack outs new_outs
+  pub told : ReportsLine rest new_rest usage_line

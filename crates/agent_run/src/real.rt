@@ -1,17 +1,14 @@
 //! The real world: files, the standard streams, and the clock.
 ghost use Rattle.std.specs.Prelude.{◌≡◌, None, Some, false};
 
-use agent_base::{
-    Clock, MemWorld, OpenFault, PutFault, Sink, Source, StdSink, StdSource, World,
-};
+use agent_base::{Clock, MemWorld, OpenFault, PutFault, Sink, Source, StdSink, StdSource, World};
 use fixed_num::Moment;
 use std::alloc::Global;
 use std::fs::File;
-use std::io;
 use std::io::{Read, Stdin, Stdout, Write};
 use std::rt::Files;
-use std::thread;
 use std::time::{Duration, SystemTime};
+use std::{io, thread};
 
 /// What is read: standard input or a file.
 #[derive(Drop)]

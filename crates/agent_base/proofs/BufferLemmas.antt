@@ -1,13 +1,13 @@
 -- The bytes in hand, as places of the buffer.
-use Rattle.std.proofs.Common.{◌≡◌, ℕ, ◌+◌, ◌-◌, ◌<◌, ◌≤◌, Bool, false, ◌||◌, List, [], ◌∷◌, ◌++◌, length, take, drop, refl, sym, ap, ◌∙◌, append_assoc, arith, Option, Some, None}
+use Rattle.std.proofs.Common.{◌≡◌, ℕ, ◌+◌, ◌-◌, ◌≤◌, Bool, List, [], ◌∷◌, ◌++◌, length, take, drop, refl, sym, ap, ◌∙◌, append_assoc, arith, Option, Some, None}
 use Rattle.std.specs.List.{between}
 use Rattle.std.specs.Io.KnownBytes.{Consumes, Keeps}
 use Rattle.std.proofs.lemmas.List.{length-append, length-take, length-drop, drop-drop, take-take}
 use Rattle.std.proofs.lemmas.List.Folds.{list_any-append}
 use Rattle.std.proofs.lemmas.Slice.{between_is}
 use Rattle.std.proofs.Math.Seq.{take-add, take-append-add, drop-append-add}
-use Rattle.agent_base.specs.Cut.{TooLong, cut, passed, NoNewline, FirstNewline, has_newline}
-use Rattle.agent_base.specs.Hand.{Hand, to_come, Steps, IsStep}
+use Rattle.agent_base.specs.Cut.{NoNewline, FirstNewline, has_newline}
+use Rattle.agent_base.specs.Hand.{Hand, to_come, Steps}
 
 -- the bytes from i to k are those from i to j and from j to k
 pub between_join : (xs : List ℕ) (i j k : ℕ) → i ≤ j → j ≤ k → between i k xs ≡ between i j xs ++ between j k xs

@@ -1,9 +1,9 @@
 -- What a line that is given or passed over does to the pieces to come.
-use Rattle.std.proofs.Common.{◌≡◌, ℕ, ◌+◌, ◌-◌, ◌<◌, ◌≤◌, Bool, true, false, List, [], ◌∷◌, ◌++◌, length, take, drop, refl, sym, ap, ◌∙◌, arith, Result, Ok, Err}
+use Rattle.std.proofs.Common.{◌≡◌, ℕ, ◌+◌, ◌-◌, ◌<◌, ◌≤◌, Bool, true, false, List, [], ◌∷◌, length, take, drop, refl, sym, ap, ◌∙◌, arith, Result, Ok, Err}
 use Rattle.std.specs.Prelude.{OnErr}
 use Rattle.std.specs.List.{between}
-use Rattle.std.proofs.lemmas.List.{length-take, length-drop, append-nil, take-take}
-use Rattle.agent_base.specs.Cut.{Cut, TooLong, Whole, cut, passed, without_return, NoNewline, FirstNewline}
+use Rattle.std.proofs.lemmas.List.{length-take, append-nil, take-take}
+use Rattle.agent_base.specs.Cut.{Cut, TooLong, Whole, without_return, NoNewline, FirstNewline}
 use Rattle.agent_base.specs.Hand.{Hand, to_come, IsSameToCome}
 use Rattle.agent_base.proofs.Cuts.{passed_more, long_hand, line_taken, line_passed, line_within, ended_long, ended_whole, last_passed, last_piece, cut_nothing}
 use Rattle.agent_base.proofs.BufferLemmas.{between_front}

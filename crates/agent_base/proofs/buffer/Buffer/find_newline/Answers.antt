@@ -1,4 +1,4 @@
-use Rattle.std.proofs.Common.{arith, sym, ap}
+use Rattle.std.proofs.Common.{arith}
 use Rattle.agent_base.proofs.BufferLemmas.{clean_join, first_between}
 use Rattle.agent_base.proofs.buffer.Buffer.find_newline.Goals as goal
 

@@ -1,4 +1,4 @@
-use Rattle.std.proofs.Common.{refl, sym, ap, ◌∙◌, false, ◌-◌, drop, arith}
+use Rattle.std.proofs.Common.{refl, ◌∙◌, false, ◌-◌, drop, arith}
 use Rattle.std.proofs.lemmas.List.{length-take, length-drop}
 use Rattle.agent_base.specs.Buffered.{hand_of, bytes_of}
 use Rattle.agent_base.specs.Hand.{Hand}

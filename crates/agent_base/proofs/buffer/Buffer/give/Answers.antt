@@ -1,6 +1,5 @@
-use Rattle.std.proofs.Common.{refl, sym, ap, ◌∙◌, false, ◌+◌, arith}
+use Rattle.std.proofs.Common.{refl, ◌∙◌, false, ◌+◌, arith}
 use Rattle.agent_base.specs.Buffered.{hand_of, bytes_of}
-use Rattle.agent_base.specs.Cut.{without_return}
 use Rattle.agent_base.specs.Hand.{Hand}
 use Rattle.agent_base.proofs.HandLemmas.{gives_passed, gives_long, gives_whole}
 use Rattle.agent_base.proofs.buffer.Buffer.give.Goals as goal

@@ -1,7 +1,6 @@
-use Rattle.std.proofs.Common.{arith, refl, ◌-◌, drop}
+use Rattle.std.proofs.Common.{arith, ◌-◌, drop}
 use Rattle.std.proofs.lemmas.List.{length-take, length-drop}
 use Rattle.agent_base.specs.Buffered.{hand_of}
-use Rattle.agent_base.specs.Hand.{Hand}
 use Rattle.agent_base.proofs.HandLemmas.{passes, passes_long}
 use Rattle.agent_base.proofs.buffer.Buffer.make_room.Goals as goal
 

@@ -1,9 +1,8 @@
-use Rattle.std.proofs.Common.{◌≡◌, ◌<◌, ◌≤◌, ◌+◌, ◌-◌, length, drop, refl, sym, ap, ◌∙◌, arith}
+use Rattle.std.proofs.Common.{◌≡◌, ◌≤◌, ◌+◌, ◌-◌, length, drop, ap, ◌∙◌, arith}
 use Rattle.std.specs.List.{between}
 use Rattle.std.proofs.lemmas.List.{length-take, length-drop}
 use Rattle.agent_base.specs.Buffered.{hand_of}
 use Rattle.agent_base.specs.Cut.{has_newline}
-use Rattle.agent_base.specs.Hand.{Hand}
 use Rattle.agent_base.proofs.BufferLemmas.{between_front, read_steps, keeps_steps, hand_is}
 use Rattle.agent_base.proofs.HandLemmas.{on_err, hand_zero}
 use Rattle.agent_base.proofs.buffer.Buffer.read_more.Goals as goal

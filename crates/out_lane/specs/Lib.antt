@@ -1,1 +1,2 @@
+pub mod Lane
 pub mod LaneEvents

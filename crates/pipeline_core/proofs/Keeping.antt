@@ -1,7 +1,7 @@
 -- What a core keeps agrees after each step.
-use Rattle.std.proofs.Common.{◌≡◌, ◌<◌, ◌≤◌, ◌⊎◌, ℕ, ℤ, ◌+◌, ◌-◌, ◌*◌, ◌^◌, ◌==◌, Bool, true, false, List, [], ◌∷◌, ◌++◌, length, take, drop, map, refl, sym, ap, ◌∙◌, subst, inl, inr, arith, slice_index_or, slice_set, get_or, set, if◌then◌else◌, length-append, length-drop}
+use Rattle.std.proofs.Common.{◌≡◌, ◌<◌, ◌≤◌, ◌⊎◌, ℕ, ℤ, ◌+◌, ◌-◌, ◌*◌, ◌^◌, ◌==◌, Bool, true, false, List, [], ◌∷◌, ◌++◌, length, take, drop, map, refl, sym, ap, ◌∙◌, subst, inl, inr, arith, slice_index_or, slice_set, get_or, set, replicate, if◌then◌else◌, length-append, length-drop}
 use Rattle.std.proofs.Math.Nat.{eq-or-lt_of_le}
-use Rattle.std.proofs.lemmas.List.{get_or-set_same, get_or-set_other, length-take, length-take-le, length-map, set-get_or}
+use Rattle.std.proofs.lemmas.List.{get_or-set_same, get_or-set_other, length-take, length-take-le, length-map, set-get_or, get_or-map, length-replicate, get_or-replicate}
 use Rattle.std.proofs.lemmas.Bool.{cases_lt}
 use Rattle.std.proofs.lemmas.Bool.Decides.{nat_tests}
 use Rattle.std.proofs.lemmas.List.Sums.{sum_by-le, sum_by-set, get_or-le-sum_by}
@@ -12,16 +12,18 @@ use Rattle.std.specs.declared.option.Option.{Option}
 use Rattle.std.specs.declared.option.Option.TheVariants.{Some, None}
 use Rattle.metric.specs.declared.metric.Content.{Content}
 use Rattle.account.specs.declared.entry.Entry.{Entry}
-use Rattle.account.specs.Numbers.{Numbers, output_numbers, fates, unreached_output, with_output}
+use Rattle.account.specs.Numbers.{Numbers, output_numbers, fates, unread_input, no_numbers, unreached_output, with_output}
 use Rattle.account.specs.declared.numbers.OutputNumbers.{OutputNumbers}
 use Rattle.out_lane.specs.Lane.{LaneState, empty_lane}
 use Rattle.out_lane.specs.Lane as lane
 use Rattle.pipeline_core.specs.Offers.{view_at}
-use Rattle.pipeline_core.specs.declared.routing.Routed.{Routed}
 use Rattle.pipeline_core.proofs.Offering.{lanes_with-at, outputs_with-at, length-lanes_with, length-outputs_with}
-use Rattle.pipeline_core.specs.CoreState.{CoreState, IsCore, IsOutput, sizes_at, flights, in_flight, held_count, lane_at}
+use Rattle.pipeline_core.specs.declared.setup.CoreSetup.{CoreSetup}
+use Rattle.pipeline_core.specs.declared.setup.InSetup.{InSetup}
+use Rattle.pipeline_core.specs.declared.setup.OutSetup.{OutSetup}
+use Rattle.pipeline_core.specs.CoreState.{setup_of, lane_of, sizes, most_undelivered, CoreState, IsCore, IsOutput, sizes_at, flights, in_flight, held_count, lane_at}
 use Rattle.pipeline_core.specs.declared.gathering.Gathered.{Gathered}
-use Rattle.pipeline_core.specs.Steps.{after_gather, after_ended, after_take, after_begin, after_done, routed_as, lane_with, numbers_with, buffered_more, lane_done, count_done, counted_done, HasNumbers}
+use Rattle.pipeline_core.specs.Steps.{after_gather, after_ended, after_take, after_begin, after_done, lanes_routed, numbers_routed, HasFew, lane_with, numbers_with, buffered_more, lane_done, count_done, counted_done, HasNumbers}
 
 in_flight-le : (x : LaneState Content) → in_flight x ≤ 1
 in_flight-le x = elim (length x.flight == 0) as (λ b. (if b then 0 else 1) ≤ 1) [ true ↦ omega arith | false ↦ omega arith ]
@@ -165,9 +167,10 @@ each_with sizes routed all lanes o x at a b h new k c =
       ]
     ]
 
--- a removed item is counted
-pub kept_removed : (s : CoreState) (r : Routed) (item : ℕ) (stored : List Entry) → s.held ≡ Some item → IsCore s → IsCore (record (routed_as None s r) { stored = stored })
-kept_removed s r item stored held h =
+-- an item is counted, and offered to the outputs unless it was removed
+kept_as : (whole : Option Content) (s : CoreState) (outs : List (Option Content)) (item : ℕ) (stored : List Entry) → s.held ≡ Some item → IsCore s →
+  IsCore (record s { held = None; lanes = lanes_routed whole outs s.lanes; numbers = numbers_routed whole outs s.lanes s.numbers; stored = stored })
+kept_as None s outs item stored held h =
     record {
       lanes = h.lanes;
       inputs = h.inputs;
@@ -180,23 +183,38 @@ kept_removed s r item stored held h =
       routed = omega (arith, h.routed, ap held_count held);
       each = h.each;
     }
-
--- another is offered to the outputs
-pub kept_routed : (s : CoreState) (r : Routed) (whole : Content) (item : ℕ) (stored : List Entry) → s.held ≡ Some item → IsCore s → IsCore (record (routed_as (Some whole) s r) { stored = stored })
-kept_routed s r whole item stored held h =
+kept_as (Some whole) s outs item stored held h =
     record {
-      lanes = length-lanes_with r.outs s.lanes ∙ h.lanes;
+      lanes = length-lanes_with outs s.lanes ∙ h.lanes;
       inputs = h.inputs;
-      outputs = length-outputs_with r.outs s.lanes s.numbers.outputs ∙ h.outputs;
+      outputs = length-outputs_with outs s.lanes s.numbers.outputs ∙ h.outputs;
       ended = h.ended;
       few = h.few;
       untracked = h.untracked;
       counted = h.counted;
       below = h.below;
       routed = omega (arith, h.routed, ap held_count held);
-      each = λ o b. rw (lanes_with-at r.outs s.lanes o (omega (arith, h.lanes)), outputs_with-at r.outs s.lanes s.numbers.outputs o (omega (arith, h.outputs)))
-          (output_offered (sizes_at s.setup o) s.numbers.routed (output_numbers s.numbers o) (lane_at s.lanes o) (view_at o r.outs) (h.each o b));
+      each = λ o b. rw (lanes_with-at outs s.lanes o (omega (arith, h.lanes)), outputs_with-at outs s.lanes s.numbers.outputs o (omega (arith, h.outputs)))
+          (output_offered (sizes_at s.setup o) s.numbers.routed (output_numbers s.numbers o) (lane_at s.lanes o) (view_at o outs) (h.each o b));
     }
+
+pub length-lanes_routed : (whole : Option Content) (outs : List (Option Content)) (lanes : List (LaneState Content)) → length (lanes_routed whole outs lanes) ≡ length lanes
+length-lanes_routed None outs lanes = refl
+length-lanes_routed (Some whole) outs lanes = length-lanes_with outs lanes
+
+pub kept_route : (s : CoreState) (whole : Option Content) (outs : List (Option Content)) (item : ℕ) (lanes : List (LaneState Content)) (numbers : Numbers) (stored : List Entry) → s.held ≡ Some item →
+  lanes ≡ lanes_routed whole outs s.lanes → numbers ≡ numbers_routed whole outs s.lanes s.numbers → IsCore s → IsCore (record s { held = None; lanes = lanes; numbers = numbers; stored = stored })
+kept_route s whole outs item lanes numbers stored held l n h =
+    subst (λ (x : List (LaneState Content)). IsCore (record s { held = None; lanes = x; numbers = numbers; stored = stored })) (sym l)
+    (subst (λ (x : Numbers). IsCore (record s { held = None; lanes = lanes_routed whole outs s.lanes; numbers = x; stored = stored })) (sym n)
+    (kept_as whole s outs item stored held h))
+
+-- few enough metrics came to each output that one more may
+pub has_few : (s : CoreState) (item : ℕ) → s.held ≡ Some item → IsCore s → (o : ℕ) → o < length s.lanes → HasFew (output_numbers s.numbers o) (lane_at s.lanes o)
+has_few s item held h o b =
+    let e = h.each o (omega (arith, h.lanes)) in
+    let few = few_routed s item h held in
+    record { filtered = omega (arith, few, e.all); buffered = omega (arith, few, e.all); dropped = omega (arith, few, e.all); pushed = omega (arith, few, e.pushed) }
 
 -- a batch is begun
 pub kept_begin : (s : CoreState) (o : ℕ) (at : LaneState Content) (stored : List Entry) → o < length s.setup.outputs → length (lane_at s.lanes o).flight ≡ 0 → at ≡ lane.after_begin (lane_at s.lanes o) → IsCore s → IsCore (record s { lanes = set s.lanes o at; stored = stored })
@@ -239,3 +257,59 @@ kept_done s o ok at numbers stored b e n h =
 -- one batch fewer is in flight
 pub flights_done : (lanes : List (LaneState Content)) (o : ℕ) (at : LaneState Content) → o < length lanes → 0 < length (lane_at lanes o).flight → length at.flight ≡ 0 → flights (set lanes o at) + 1 ≡ flights lanes
 flights_done lanes o at b some none = omega (arith, sum_by-set in_flight lanes o at (empty_lane 0 0) b, one_flies (lane_at lanes o) some, none_flies at none)
+
+-- once a batch is done none is in flight
+pub none_left : (ok : Bool) (at : LaneState Content) → length (lane_done ok at).flight ≡ 0
+none_left true at = refl
+none_left false at = refl
+
+none_flies_yet : (outputs : List OutSetup) → flights (map lane_of outputs) ≡ 0
+none_flies_yet [] = refl
+none_flies_yet (x ∷ outputs) = omega (arith, none_flies_yet outputs)
+
+-- nothing is in flight at first
+pub spare_at_first : (outputs : List OutSetup) (lanes : List (LaneState Content)) → lanes ≡ map lane_of outputs → flights lanes ≡ 0
+spare_at_first outputs lanes e = ap flights e ∙ none_flies_yet outputs
+
+-- an output at which nothing waits agrees
+empty_output : (x : OutSetup) → 1 ≤ x.batch → x.batch ≤ x.limit → IsOutput (x.batch, x.limit) 0 unreached_output (lane_of x)
+empty_output x some fits = record { batch = refl; limit = refl; some = some; fits = fits; waits = omega arith; buffered = refl; all = refl; pushed = omega arith }
+
+no_output : OutSetup
+no_output = record { batch = 0; limit = 0 }
+
+each_at_first : (outputs : List OutSetup) → All (λ (x : OutSetup). (1 ≤ x.batch) × (x.batch ≤ x.limit)) outputs → (k : ℕ) → k < length outputs →
+  IsOutput (get_or (map sizes outputs) k (0, 0)) 0 (get_or (replicate (length outputs) unreached_output) k unreached_output) (lane_at (map lane_of outputs) k)
+each_at_first outputs h k b =
+    rw (get_or-map sizes outputs k no_output (0, 0) b, get_or-map lane_of outputs k no_output (empty_lane 0 0) b, get_or-replicate (length outputs) k unreached_output unreached_output b)
+    (empty_output (get_or outputs k no_output) (h k no_output b).0 (h k no_output b).1)
+
+untracked_at_first : (inputs : List InSetup) → All (λ (x : InSetup). x.tracked ≡ false) inputs → All (λ (x : Option ℕ). x ≡ None) (map most_undelivered inputs)
+untracked_at_first inputs h k d b =
+    let within : k < length inputs = omega (arith, length-map inputs most_undelivered) in
+    let one : InSetup = record { tracked = false; max_undelivered = 0 } in
+    get_or-map most_undelivered inputs k one d within ∙ ap (λ (t : Bool). if t then Some (get_or inputs k one).max_undelivered else None) (h k one within)
+
+-- a core in which nothing happened
+pub kept_first : (setup : CoreSetup) (raw : List Content) (lanes : List (LaneState Content)) (numbers : Numbers) (stored : List Entry) (counted : ℤ) (ended : List Bool) →
+  length setup.outputs ≤ 16 → All (λ (x : InSetup). x.tracked ≡ false) setup.inputs → All (λ (x : OutSetup). (1 ≤ x.batch) × (x.batch ≤ x.limit)) setup.outputs →
+  raw ≡ [] → lanes ≡ map lane_of setup.outputs → numbers ≡ no_numbers (replicate (length setup.inputs) false) (length setup.outputs) → ended ≡ replicate (length setup.inputs) false →
+  IsCore (record { setup = setup_of setup; raw = raw; taken = 0; held = None; lanes = lanes; numbers = numbers; stored = stored; gathered = 0; counted = counted; ended = ended; stopped = false })
+kept_first setup raw lanes numbers stored counted ended few untracked sized r l n e =
+    rw (r, l, n, e)
+    (record {
+      lanes = length-map setup.outputs lane_of ∙ sym (length-map setup.outputs sizes);
+      inputs = length-map _ unread_input ∙ length-replicate (length setup.inputs) false ∙ sym (length-map setup.inputs most_undelivered);
+      outputs = length-replicate (length setup.outputs) unreached_output ∙ sym (length-map setup.outputs sizes);
+      ended = length-replicate (length setup.inputs) false ∙ sym (length-map setup.inputs most_undelivered);
+      few = omega (arith, length-map setup.outputs sizes);
+      untracked = untracked_at_first setup.inputs untracked;
+      counted = refl;
+      below = omega arith;
+      routed = refl;
+      each = λ k b. each_at_first setup.outputs sized k (omega (arith, length-map setup.outputs sizes));
+    })
+
+pub kept_gathered : (s : CoreState) (g : Gathered) (raw : List Content) (numbers : Numbers) (gathered : ℕ) (stored : List Entry) → IsCore s → HasNumbers s g →
+  raw ≡ s.raw ++ g.metrics → numbers ≡ (after_gather s g).numbers → gathered ≡ s.gathered + length g.metrics → IsCore (record s { raw = raw; numbers = numbers; gathered = gathered; stored = stored })
+kept_gathered s g raw numbers gathered stored h few r n e = rw (r, n, e) (kept_gather s g stored h few)

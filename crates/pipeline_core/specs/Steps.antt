@@ -105,22 +105,24 @@ lanes_with outs lanes = map (λ (x : ℕ × LaneState Content). lane_with (view_
 abbrev pub outputs_with : List (Option Content) → List (LaneState Content) → List OutputNumbers → List OutputNumbers
 outputs_with outs lanes all = map (λ (x : ℕ × OutputNumbers). numbers_with (view_at x.0 outs) (lane_at lanes x.0) x.1) (enumerate_from 0 all)
 
--- nothing is in hand; a removed item counts as such, and the views of another are offered to the outputs
-abbrev pub routed_as : Option Content → CoreState → Routed → CoreState
-routed_as None state r = record state {
-  held = None;
-  numbers = record state.numbers { removed = state.numbers.removed + 1 };
-  stored = state.stored ++ route_entry r ∷ [];
-}
-routed_as (Some whole) state r = record state {
-  held = None;
-  lanes = lanes_with r.outs state.lanes;
-  numbers = record state.numbers { routed = state.numbers.routed + 1; outputs = outputs_with r.outs state.lanes state.numbers.outputs };
-  stored = state.stored ++ route_entry r ∷ [];
-}
+-- the lanes, once an item was routed; a removed one is offered to none
+abbrev pub lanes_routed : Option Content → List (Option Content) → List (LaneState Content) → List (LaneState Content)
+lanes_routed None outs lanes = lanes
+lanes_routed (Some whole) outs lanes = lanes_with outs lanes
 
+-- the numbers, once an item was routed
+abbrev pub numbers_routed : Option Content → List (Option Content) → List (LaneState Content) → Numbers → Numbers
+numbers_routed None outs lanes numbers = record numbers { removed = numbers.removed + 1 }
+numbers_routed (Some whole) outs lanes numbers = record numbers { routed = numbers.routed + 1; outputs = outputs_with outs lanes numbers.outputs }
+
+-- nothing is in hand; a removed item counts as such, and the views of another are offered to the outputs
 abbrev pub after_route : CoreState → Routed → CoreState
-after_route state r = routed_as r.whole state r
+after_route state r = record state {
+  held = None;
+  lanes = lanes_routed r.whole r.outs state.lanes;
+  numbers = numbers_routed r.whole r.outs state.lanes state.numbers;
+  stored = state.stored ++ route_entry r ∷ [];
+}
 
 -- the moment that counts is the greater one, and nothing is gathered any more
 abbrev pub after_stop : CoreState → ℤ → CoreState

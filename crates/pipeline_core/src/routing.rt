@@ -3,7 +3,7 @@ ghost use Rattle.std.specs.Prelude.{◌≡◌, ℕ, ◌<◌, ◌≤◌, ◌+◌,
 ghost use Rattle.account.specs.Numbers.{with_output, output_numbers};
 ghost use Rattle.pipeline_core.specs.CoreState.{lane_at};
 ghost use Rattle.pipeline_core.specs.Legal.{HasViews, verdict_of};
-ghost use Rattle.pipeline_core.specs.Steps.{after_route, lane_with, numbers_with, lanes_with, outputs_with, HasFew};
+ghost use Rattle.pipeline_core.specs.Steps.{after_route, lane_with, numbers_with, lanes_with, outputs_with, lanes_routed, numbers_routed, HasFew};
 
 use crate::output::Output;
 use crate::room::{make_room, view_copies};
@@ -37,20 +37,11 @@ impl Core {
         ensures ok { OnOk result (self.new ≡ after_route self.old r) }
         ensures err { OnErr result (self.new ≡ self.old) }
     {
-        let verdict = match r.whole {
-            Some(_) => Verdict::Passes,
-            None => Verdict::Removed,
-        };
+        let verdict = judged(&r.whole);
         let views = view_copies(self.alloc, r.outs.as_slice())?;
         make_room(&mut self.stored, self.outputs.len())?;
         self.held = None;
-        match verdict {
-            Verdict::Removed => self.account.removed(),
-            _ => {
-                self.account.routed();
-                offer(&mut self.outputs, &mut self.account, views);
-            }
-        }
+        settle(&mut self.outputs, &mut self.account, &r.whole, views);
         self.stored.push_reserved(Entry::Route {
             item: r.item,
             whole: r.whole,
@@ -61,6 +52,40 @@ impl Core {
         });
         Ok(verdict)
     }
+}
+
+// The verdict on an item.
+fn judged(whole: &Option<Metric>) -> Verdict
+    ensures { result ≡ verdict_of whole.now }
+{
+    match whole {
+        Some(_) => Verdict::Passes,
+        None => Verdict::Removed,
+    }
+}
+
+// Counts an item, and offers each output its view unless the item was removed.
+fn settle(
+    outputs: &mut Vec<Output>,
+    account: &mut Account,
+    whole: &Option<Metric>,
+    views: Vec<Option<Metric>>,
+)
+    requires views { length views.items ≡ length outputs.old.items }
+    requires numbers { length account.old.outputs ≡ length outputs.old.items }
+    requires count { length outputs.old.items ≤ 16 }
+    requires removed { account.old.removed < 2 ^ 32 }
+    requires routed { account.old.routed < 2 ^ 32 }
+    requires few { (output : ℕ) → output < length outputs.old.items → HasFew (output_numbers account.old output) (lane_at outputs.old.items output) }
+    ensures lanes { outputs.new.items ≡ lanes_routed whole.now views.items outputs.old.items }
+    ensures account { account.new ≡ numbers_routed whole.now views.items outputs.old.items account.old }
+{
+    if whole.is_none() {
+        account.removed();
+        return;
+    }
+    account.routed();
+    offer(outputs, account, views);
 }
 
 // Offers each output its view, and counts what became of it.

@@ -1,5 +1,5 @@
 -- The items that wait at an output and the batch in flight, and what each call makes of them.
-use Rattle.std.specs.Prelude.{ℕ, ◌+◌, ◌-◌, ◌==◌, min, List, [], ◌∷◌, ◌++◌, length, take, drop, slice_get, Option, Some, None, Result, Ok, Err, if◌then◌else◌}
+use Rattle.std.specs.Prelude.{ℕ, ◌+◌, ◌-◌, ◌==◌, min, List, [], ◌∷◌, ◌++◌, length, take, drop, slice_get, Option, None, Result, Ok, Err, if◌then◌else◌}
 use Rattle.out_lane.specs.declared.BeginAnswer.{BeginAnswer}
 use Rattle.out_lane.specs.declared.BeginAnswer.TheVariants.{InFlight, NothingWaiting}
 

@@ -120,7 +120,8 @@ impl<T: Drop> Lane<T> {
         ensures lane { self.new ≡ after_fail self.old }
         ensures out { out.new.items ≡ out.old.items ++ failed_out self.old }
     {
-        move_back(&mut self.flight, &mut self.waiting);
-        append_within(out, &mut self.flight);
+        let flight = &mut self.flight;
+        move_back(flight, &mut self.waiting);
+        append_within(out, flight);
     }
 }

@@ -5,3 +5,4 @@ pub mod ItemLemmas
 pub mod BecomeLemmas
 pub mod LaneLemmas
 pub mod CallLemmas
+pub mod CountLemmas

@@ -1,6 +1,7 @@
 //! Laws of lanes: what each call does to what waits, to the batch in flight and to the fate of each item.
 //! The body of each function is empty; its contract is the law.
 ghost use Rattle.out_lane.specs.LaneCalls.{CallsMeet};
+ghost use Rattle.out_lane.specs.LaneCounts.{BecomesCounts};
 ghost use Rattle.out_lane.specs.LaneLaws.{NewIsLane, PushMeets, BeginMeets, AcceptMeets, FailMeets, KeepsBuffered, WritesInOrder, FatesLast};
 
 /// A new lane is the lane of no events.
@@ -46,4 +47,9 @@ pub fn law_fates()
 /// After each list of calls, what waits and what is in flight is what their events say.
 pub fn law_calls<T>()
     ensures { CallsMeet T }
+{}
+
+/// As many items as change their fate are no longer Buffered, and have the new fate.
+pub fn law_counts<T>()
+    ensures { BecomesCounts T }
 {}

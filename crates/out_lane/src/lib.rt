@@ -7,8 +7,8 @@ mod moves;
 
 pub use lane::Lane;
 pub use laws::{
-    law_accept, law_begin, law_calls, law_fail, law_fates, law_new, law_order, law_push,
-    positions_buffered,
+    law_accept, law_begin, law_calls, law_counts, law_fail, law_fates, law_new, law_order,
+    law_push, positions_buffered,
 };
 
 /// Why no batch was begun.

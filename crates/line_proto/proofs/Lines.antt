@@ -148,6 +148,7 @@ none_at b bytes which none k e = elim (ltb k (length bytes)) as (λ t. ltb k (le
     passes : (b ≡ 92) ⊎ (b ≡ 34) → (b == 92 || b == 34) ≡ true
     passes (inl x) = rw x refl
     passes (inr y) = rw y refl
+
     true_false : true ≡ false → ⊥
     true_false e = cc
 

@@ -10,3 +10,6 @@ mod read_value;
 
 pub use fault::{LineFault, LineKind};
 pub use read::read_line;
+
+#[cfg(test)]
+mod tests;

@@ -20,7 +20,11 @@ use text_parts::ReadError;
 
 /// Puts the fields behind the spaces at a place into a draft, and gives the place behind them.
 #[tactic(auto, unfolding(crate::specs::Reading::spaced_fields_at))]
-fn read_spaced_fields(piece: &str, i: usize, draft: &mut Draft) -> Result<usize, ReadError<LineFault>>
+fn read_spaced_fields(
+    piece: &str,
+    i: usize,
+    draft: &mut Draft,
+) -> Result<usize, ReadError<LineFault>>
     requires boundary { IsCharBoundary piece.now i }
     requires bare { IsBare piece.now }
     requires unquoted { IsUnquoted piece.now }
@@ -36,7 +40,12 @@ fn read_spaced_fields(piece: &str, i: usize, draft: &mut Draft) -> Result<usize,
 }
 
 /// The metric of the line that begins at a place.
-fn metric_at(alloc: Global, piece: &str, i: usize, moment: Moment) -> Result<Option<Metric>, ReadError<LineFault>>
+fn metric_at(
+    alloc: Global,
+    piece: &str,
+    i: usize,
+    moment: Moment,
+) -> Result<Option<Metric>, ReadError<LineFault>>
     requires boundary { IsCharBoundary piece.now i }
     requires bare { IsBare piece.now }
     requires unquoted { IsUnquoted piece.now }
@@ -52,7 +61,11 @@ fn metric_at(alloc: Global, piece: &str, i: usize, moment: Moment) -> Result<Opt
 
 /// The metric that a text is, or none where it is blank or a comment.
 #[tactic(auto, unfolding(crate::specs::Reading::text_reading))]
-fn read_text(alloc: Global, piece: &str, moment: Moment) -> Result<Option<Metric>, ReadError<LineFault>>
+fn read_text(
+    alloc: Global,
+    piece: &str,
+    moment: Moment,
+) -> Result<Option<Metric>, ReadError<LineFault>>
     requires bare { IsBare piece.now }
     requires unquoted { IsUnquoted piece.now }
     ensures { Gives (λ x. x) result (text_reading piece.now moment) }

@@ -19,7 +19,11 @@ fn comma_at(piece: &str, at: usize) -> bool
 }
 
 /// Puts the tags that stand at a place into a draft, and gives the place behind them.
-pub(crate) fn read_tags(piece: &str, i: usize, draft: &mut Draft) -> Result<usize, ReadError<LineFault>>
+pub(crate) fn read_tags(
+    piece: &str,
+    i: usize,
+    draft: &mut Draft,
+) -> Result<usize, ReadError<LineFault>>
     requires boundary { IsCharBoundary piece.now i }
     requires bare { IsBare piece.now }
     requires none { StandsFor draft.old [] [] }
@@ -37,7 +41,11 @@ pub(crate) fn read_tags(piece: &str, i: usize, draft: &mut Draft) -> Result<usiz
 }
 
 /// Puts the fields that stand at a place into a draft, and gives the place behind them.
-pub(crate) fn read_fields(piece: &str, i: usize, draft: &mut Draft) -> Result<usize, ReadError<LineFault>>
+pub(crate) fn read_fields(
+    piece: &str,
+    i: usize,
+    draft: &mut Draft,
+) -> Result<usize, ReadError<LineFault>>
     requires boundary { IsCharBoundary piece.now i }
     requires bare { IsBare piece.now }
     requires unquoted { IsUnquoted piece.now }

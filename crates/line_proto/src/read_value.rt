@@ -145,7 +145,10 @@ fn value_at(piece: &str, i: usize) -> Result<(Value, usize), ReadError<LineFault
 
 /// The field that begins at a place, and the place behind it.
 #[tactic(auto, unfolding(crate::specs::Reading::field_at))]
-pub(crate) fn field_at(piece: &str, i: usize) -> Result<((&str, Value), usize), ReadError<LineFault>>
+pub(crate) fn field_at(
+    piece: &str,
+    i: usize,
+) -> Result<((&str, Value), usize), ReadError<LineFault>>
     requires boundary { IsCharBoundary piece.now i }
     requires bare { IsBare piece.now }
     requires unquoted { IsUnquoted piece.now }
@@ -192,7 +195,11 @@ fn written_time_at(piece: &[u8], i: usize) -> Result<Moment, ReadError<LineFault
 
 /// The time behind the spaces that stand at a place, or the moment where none is written.
 #[tactic(auto, unfolding(crate::specs::Reading::time_at))]
-pub(crate) fn time_at(piece: &[u8], i: usize, moment: Moment) -> Result<Moment, ReadError<LineFault>>
+pub(crate) fn time_at(
+    piece: &[u8],
+    i: usize,
+    moment: Moment,
+) -> Result<Moment, ReadError<LineFault>>
     requires { i ≤ length piece.now }
     ensures { Gives (λ x. x) result (time_at piece.now i moment) }
 {

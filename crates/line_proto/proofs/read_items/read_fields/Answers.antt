@@ -16,8 +16,12 @@ loop-i-init c =
     let first : Field = (c.in_ok-key.key.now, c.in_ok-key.value) in (
       c.in_ok-key.ensures.behind,
       c.field.ensures.name,
-      (first, c.in_ok-key.behind, c.in_ok-key.ensures.gives,
-        ([], nothing_read field_at 44 c.args.piece.now c.in_ok-key.behind, λ tags s. c.in_ok-field.ensures.ok tags [] s)),
+      (
+        first,
+        c.in_ok-key.behind,
+        c.in_ok-key.ensures.gives,
+        ([], nothing_read field_at 44 c.args.piece.now c.in_ok-key.behind, λ tags s. c.in_ok-field.ensures.ok tags [] s),
+      ),
     )
 
 pub field_at-requires-in-loop-i-clause-boundary : goal.field_at-requires-in-loop-i-clause-boundary
@@ -39,16 +43,23 @@ loop-i-preserved c =
     let field : Field = (c.in_ok-key-2.key.now, c.in_ok-key-2.value) in (
       c.in_ok-key-2.ensures.behind,
       c.field-in-loop-i.ensures.name ∙ c.loop-i.invariant.1,
-      (start.0, start.1, start.2,
-        (so_far.0 ++ field ∷ [],
+      (
+        start.0,
+        start.1,
+        start.2,
+        (
+          so_far.0 ++ field ∷ [],
           one_more field_at 44 c.args.piece.now start.1 so_far.0 c.loop-i.at field c.in_ok-key-2.behind so_far.1 (comma_within c.args.piece.now c.loop-i.at comma) (comma_is c.args.piece.now c.loop-i.at comma) c.in_ok-key-2.ensures.gives c.in_ok-key-2.ensures.more,
-          λ tags s. c.in_ok-field-2.ensures.ok tags (start.0 ∷ so_far.0) (so_far.2 tags s))),
+          λ tags s. c.in_ok-field-2.ensures.ok tags (start.0 ∷ so_far.0) (so_far.2 tags s),
+        ),
+      ),
     )
 
 pub returns-clause-fields : goal.returns-clause-fields
 returns-clause-fields c = λ tags s.
     let start = c.loop-i.invariant.2 in
-    let so_far = start.3 in
-    (start.0 ∷ so_far.0,
+    let so_far = start.3 in (
+      start.0 ∷ so_far.0,
       fields_are c.args.piece.now c.args.i start.1 c.loop-i.at start.0 so_far.0 start.2 (all_read field_at 44 c.args.piece.now start.1 so_far.0 c.loop-i.at so_far.1 (no_comma c.args.piece.now c.loop-i.at (sym c.comma_at.ensures ∙ c.loop-i-test.false))),
-      so_far.2 tags s)
+      so_far.2 tags s,
+    )

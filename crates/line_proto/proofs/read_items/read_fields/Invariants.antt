@@ -10,8 +10,8 @@ invariant-loop-i l =
     (IsCharBoundary l.piece l.at)
     × (l.draft.builder.name ≡ l.fn.draft.builder.name)
     × ((first : Field) × (behind : ℕ) × (field_at l.piece l.fn.i ≡ Ok (first, behind))
-      × ((fields : List Field) × (Reads field_at 44 l.piece behind fields l.at)
-        × ((tags : List Tag) → StandsFor l.fn.draft tags [] → StandsFor l.draft tags (first ∷ fields))))
+    × ((fields : List Field) × (Reads field_at 44 l.piece behind fields l.at)
+    × ((tags : List Tag) → StandsFor l.fn.draft tags [] → StandsFor l.draft tags (first ∷ fields))))
 
 abbrev pub decreases-loop-i : goal.decreases-loop-i
 decreases-loop-i l = length l.initial.piece - l.at

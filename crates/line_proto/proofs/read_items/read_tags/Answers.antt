@@ -20,9 +20,11 @@ loop-i-preserved c =
     let tag : Tag = (c.in_ok-key.key.now, c.in_ok-key.value.now) in (
       c.in_ok-key.ensures.behind,
       c.tag.ensures.name ∙ c.loop-i.invariant.1,
-      (so_far.0 ++ tag ∷ [],
+      (
+        so_far.0 ++ tag ∷ [],
         one_more tag_at 44 c.args.piece.now c.args.i so_far.0 c.loop-i.at tag c.in_ok-key.behind so_far.1 (comma_within c.args.piece.now c.loop-i.at comma) (comma_is c.args.piece.now c.loop-i.at comma) c.in_ok-key.ensures.gives c.in_ok-key.ensures.more,
-        c.in_ok-tag.ensures.ok so_far.0 [] so_far.2),
+        c.in_ok-tag.ensures.ok so_far.0 [] so_far.2,
+      ),
     )
 
 pub returns-in_err-key-clause-tags : goal.returns-in_err-key-clause-tags

@@ -2,3 +2,4 @@ pub mod Kinds
 pub mod Values
 pub mod Reading
 pub mod Views
+pub mod Draft

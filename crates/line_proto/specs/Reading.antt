@@ -67,7 +67,7 @@ text_value_at piece i =
 -- a value that is no text
 unfoldable pub plain_value_at : List ℕ → ℕ → Result (Value × ℕ) LineFault
 plain_value_at piece i = do
-  value ← placed i (value_of (take (len_at value_part piece i) (drop i piece)))
+  value ← placed i (value_of (text_at value_part piece i))
   Ok (value, i + len_at value_part piece i)
 
 -- a value
@@ -130,11 +130,17 @@ abbrev pub content_of : Line → Content
 content_of line = record { name = line.name; tags = with_values (in_key_order line.tags); fields = in_first_order line.fields; time = line.time }
 
 -- a metric has at most 64 tags and 256 fields
-abbrev pub has_too_many : Line → Bool
-has_too_many line = nat_lt 64 (length (in_key_order line.tags)) || nat_lt 256 (length (in_first_order line.fields))
+abbrev pub has_too_many : List Tag → List Field → Bool
+has_too_many tags fields = nat_lt 64 (length (in_key_order tags)) || nat_lt 256 (length (in_first_order fields))
 
 abbrev pub limited : Line → Result (Option Content) LineFault
-limited line = if has_too_many line then fault TooMany 0 else Ok (Some (content_of line))
+limited line = if has_too_many line.tags line.fields then fault TooMany 0 else Ok (Some (content_of line))
+
+-- the metric of the line that begins at a place
+unfoldable pub metric_at : List ℕ → ℕ → ℤ → Result (Option Content) LineFault
+metric_at piece i moment = do
+  line ← line_at piece i moment
+  limited line
 
 -- nothing but spaces, or a comment: the first byte other than a space is `#`
 abbrev pub is_blank_or_comment : List ℕ → Bool
@@ -143,10 +149,7 @@ is_blank_or_comment piece = behind_spaces piece 0 == length piece || slice_index
 -- the metric that a text is, or none where it is blank or a comment
 unfoldable pub text_reading : List ℕ → ℤ → Result (Option Content) LineFault
 text_reading piece moment =
-    if is_blank_or_comment piece then Ok None
-    else (do
-      line ← line_at piece (behind_spaces piece 0) moment
-      limited line)
+    if is_blank_or_comment piece then Ok None else metric_at piece (behind_spaces piece 0) moment
 
 -- the metric that a piece is; the piece has to be UTF-8
 unfoldable pub reading : List ℕ → ℤ → Result (Option Content) LineFault

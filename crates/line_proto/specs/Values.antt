@@ -1,5 +1,5 @@
 -- Values that are no text, and times: what a text spells.
-use Rattle.std.specs.Prelude.{ℕ, ℤ, ◌-◌, ◌==◌, Bool, true, false, List, [], ◌∷◌, length, take, Option, Some, None, Result, Ok, Err, codes, slice_index, if◌then◌else◌}
+use Rattle.std.specs.Prelude.{ℕ, ℤ, ◌-◌, ◌==◌, ◌||◌, Bool, true, false, List, [], ◌∷◌, length, take, Option, Some, None, Result, Ok, Err, codes, slice_index, if◌then◌else◌}
 use Rattle.std.specs.List.{list_any}
 use Rattle.std.specs.Str.{bytes_eq}
 use Rattle.fixed_num.specs.declared.fixed.NumFault.{NumFault}
@@ -25,6 +25,10 @@ is_one_of words text = list_any (λ (word : List ℕ). bytes_eq text word) words
 -- the truth value that a text names
 unfoldable pub truth_of : List ℕ → Option Bool
 truth_of text = if is_one_of true_words text then Some true else (if is_one_of false_words text then Some false else None)
+
+-- the words begin with a `t` or an `f`, small or capital
+abbrev pub begins_truth : ℕ → Bool
+begins_truth b = b == 116 || b == 84 || b == 102 || b == 70
 
 -- a number is read, or is no number, which is a fault of the given kind, or is out of range
 abbrev pub number_or : {A : Type 0} → LineKind → Result A NumFault → Result A LineKind

@@ -1,8 +1,15 @@
 //! InfluxDB line protocol: readings of lines.
 #![tactic(auto)]
 
+mod draft;
 mod fault;
+mod read;
+mod read_items;
 mod read_parts;
 mod read_value;
 
 pub use fault::{LineFault, LineKind};
+pub use read::read_line;
+
+#[cfg(test)]
+mod tests;

@@ -1,7 +1,7 @@
 //! The parts of a line: names, keys and tag values, in pieces without a backslash.
-ghost use Rattle.std.specs.Prelude.{◌≡◌, ◌==◌, ◌||◌, ◌+◌, ◌≤◌, not, length, take, drop, IfOk};
+ghost use Rattle.std.specs.Prelude.{◌≡◌, ◌==◌, ◌||◌, ◌+◌, ◌<◌, ◌≤◌, not, length, take, drop, IfOk};
 ghost use Rattle.std.specs.List.{position};
-ghost use Rattle.std.specs.Str.{IsCharBoundary};
+ghost use Rattle.std.specs.Str.{IsUtf8, IsCharBoundary};
 ghost use Rattle.text_parts.specs.Bare.{IsBare};
 ghost use Rattle.text_parts.specs.Part.{IsPartAt};
 ghost use Rattle.text_parts.specs.Chain.{Gives};
@@ -91,6 +91,7 @@ pub(crate) fn behind_spaces(piece: &[u8], i: usize) -> usize
     requires { i ≤ length piece.now }
     ensures value { result ≡ behind_spaces piece.now i }
     ensures end { result ≤ length piece.now }
+    ensures boundary { IsUtf8 piece.now → IsCharBoundary piece.now i → IsCharBoundary piece.now result }
 {
     let (_, rest) = piece.split_at(i);
     i + first_other(rest).unwrap_or(rest.len())
@@ -103,6 +104,7 @@ pub(crate) fn name_at(piece: &str, i: usize) -> Result<(&str, usize), ReadError<
     requires bare { IsBare piece.now }
     ensures gives { Gives (λ x. (x.0.now, x.1)) result (name_at piece.now i) }
     ensures behind { IfOk result (λ x. IsCharBoundary piece.now x.1) }
+    ensures filled { IfOk result (λ x. 0 < length x.0.now) }
 {
     let name = word_at(piece, i);
     if name.is_empty() {
@@ -119,6 +121,7 @@ pub(crate) fn key_at(piece: &str, i: usize) -> Result<(&str, usize), ReadError<L
     ensures gives { Gives (λ x. (x.0.now, x.1)) result (key_at piece.now i) }
     ensures behind { IfOk result (λ x. IsCharBoundary piece.now x.1) }
     ensures more { IfOk result (λ x. i ≤ x.1) }
+    ensures filled { IfOk result (λ x. 0 < length x.0.now) }
 {
     let key = key_word_at(piece, i);
     let end = i + key.len();
@@ -152,6 +155,7 @@ pub(crate) fn tag_at(piece: &str, i: usize) -> Result<((&str, &str), usize), Rea
     ensures gives { Gives (λ x. ((x.0.0.now, x.0.1.now), x.1)) result (tag_at piece.now i) }
     ensures behind { IfOk result (λ x. IsCharBoundary piece.now x.1) }
     ensures more { IfOk result (λ x. i ≤ x.1) }
+    ensures filled { IfOk result (λ x. 0 < length x.0.0.now) }
 {
     let (key, i) = key_at(piece, i)?;
     let (value, i) = tag_value_at(piece, i)?;

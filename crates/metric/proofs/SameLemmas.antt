@@ -1,8 +1,7 @@
 -- Contents that compare as equal are the same.
-use Rattle.std.proofs.Common.{◌≡◌, List, ℕ, ℤ, Bool, true, false, refl, sym, ap, ◌∙◌, rules}
+use Rattle.std.proofs.Common.{◌≡◌, ℤ, Bool, refl, sym, ap, ◌∙◌, rules}
 use Rattle.std.specs.Bool.{Decides, IsTrue}
 use Rattle.std.specs.Prelude.{◌↔◌, ◌&&◌}
-use Rattle.std.specs.Str.{bytes_eq}
 use Rattle.std.specs.Ordering.{int_eq}
 use Rattle.std.proofs.lemmas.Slice.Eq.{bytes_eq-Decides, slice_eq-Decides}
 use Rattle.std.proofs.lemmas.Bool.Decides.{Decides-and}

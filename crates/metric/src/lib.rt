@@ -2,12 +2,16 @@
 #![tactic(auto)]
 
 mod builder;
-pub mod laws;
+mod laws;
 mod metric;
 mod text;
 mod value;
 
 pub use builder::{BuildFault, Builder};
+pub use laws::{first_order, growth, key_order};
 pub use metric::{Content, Metric};
 pub use text::Text;
 pub use value::Value;
+
+#[cfg(test)]
+mod tests;

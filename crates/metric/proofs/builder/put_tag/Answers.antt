@@ -1,4 +1,3 @@
-use Rattle.std.proofs.Common.{sym, ap, ◌∙◌, set}
 use Rattle.metric.proofs.PairLemmas.{set_value}
 use Rattle.metric.proofs.builder.put_tag.Goals as goal
 

@@ -1,4 +1,3 @@
-use Rattle.std.proofs.Common.{rules}
 use Rattle.metric.proofs.MetricLemmas.{built_none}
 use Rattle.metric.proofs.builder.Builder.new.Goals as goal
 

@@ -1,0 +1,6 @@
+//! InfluxDB line protocol.
+#![tactic(auto)]
+
+mod write;
+
+pub use write::write_line;

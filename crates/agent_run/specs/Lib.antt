@@ -2,3 +2,4 @@ pub mod Status
 pub mod Command
 pub mod Places
 pub mod Opening
+pub mod Running

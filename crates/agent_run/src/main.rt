@@ -2,7 +2,9 @@
 #![tactic(auto)]
 
 mod command;
+mod journal;
 mod opening;
+mod reading;
 mod real;
 mod rounds;
 mod status;

@@ -1,41 +1,287 @@
-//! stub
-ghost use Rattle.std.specs.Prelude.{◌≢◌};
+//! The rounds of a run: gather, route, send.
+ghost use Rattle.std.specs.Prelude.{◌≡◌, ◌≢◌, ◌≤◌, ◌<◌, IfOk, OnOk, Some, None, false, true, [], length, slice_get};
+ghost use Rattle.pipeline_core.specs.CoreState.{CoreState, lane_at};
+ghost use Rattle.agent_run.specs.Running.{IsReady, IsReading, IsRoutable};
 
 use crate::command::Pipe;
+use crate::journal::JournalText;
+use crate::reading::{InState, read_group};
 use crate::status::Status;
-use agent_base::{Clock, Sink, Source};
-use fixed_num::OutOfMemory;
+use agent_base::{Clock, CutKind, Pieces, PutFault, Sink, Source};
+use fixed_num::{Moment, OutOfMemory, Seq};
+use line_proto::write_line;
+use metric::Metric;
+use pipeline_core::{
+    BeginAnswer, Core, CoreSetup, CutAnswer, GatherRefused, Gathered, InSetup, Item, OutSetup,
+    Routed, TakeAnswer,
+};
 use std::alloc::Global;
 
+/// How a run came to its end.
 #[derive(Drop)]
 pub struct Ending {
+    /// The text of the account.
     pub account: Vec<u8>,
+    /// Whether the input was read to its end, or why not.
+    pub state: InState,
+    /// Whether a put to the output failed.
+    pub left: bool,
+    /// Whether the put of the journal failed.
+    pub journal_failed: bool,
 }
 
 impl Ending {
-    pub fn status(&self, failed: bool) -> Status
+    /// The status of the run, given whether the put of the report failed.
+    pub fn status(&self, report_failed: bool) -> Status
         ensures usage { result ≢ Status.Usage }
         ensures config { result ≢ Status.Config }
         ensures open { result ≢ Status.OpenFault }
     {
-        if failed {
+        if self.state == InState::LimitReached {
+            Status::Limit
+        } else if self.journal_failed || report_failed {
             Status::ReportFault
+        } else if self.state == InState::Faulted {
+            Status::ReadFault
+        } else if self.left {
+            Status::Left
         } else {
             Status::Done
         }
     }
 }
 
+/// A run of one input and one output.
+#[derive(Drop)]
+struct PipeRun {
+    alloc: Global,
+    core: Core,
+    pieces: Pieces,
+    journal: JournalText,
+    /// The text of a batch.
+    text: Vec<u8>,
+}
+
+/// Gathers the next pieces of the input, and says whether it is read on.
+fn gather<S: Source, C: Clock>(
+    run: &mut PipeRun,
+    source: &mut S,
+    clock: &mut C,
+) -> Result<InState, OutOfMemory>
+    requires ready { IsReady run.old.core }
+    requires reading { IsReading run.old.core }
+    ensures ready { OnOk result (IsReady run.new.core) }
+    ensures reading { IfOk result (λ state. state ≡ InState.Reading → IsReading run.new.core) }
+    ensures going { OnOk result (run.new.core.stopped ≡ false) }
+{
+    let moment = clock.now();
+    let (group, state) = read_group(run.alloc, &mut run.pieces, source, moment)?;
+    if group.pieces > 0 {
+        let gathered = Gathered {
+            input: 0,
+            moment,
+            pieces: group.pieces,
+            refused: group.refused,
+            passed: 0,
+            filtered: 0,
+            metrics: Seq::of(group.metrics),
+        };
+        match run.core.gather(gathered) {
+            Ok(()) => {}
+            Err(GatherRefused::OutOfMemory) => return Err(OutOfMemory),
+            Err(_) => return Ok(InState::LimitReached),
+        }
+    }
+    if state == InState::Ended {
+        run.core.ended(0)?;
+    }
+    Ok(state)
+}
+
+/// Routes an item as it is.
+fn route(alloc: Global, core: &mut Core, item: Item) -> Result<(), OutOfMemory>
+    requires held { core.old.held ≡ Some item.number }
+    requires one { length core.old.setup.outputs ≡ 1 }
+    ensures ok { OnOk result (IsRoutable core.old core.new) }
+    ensures held { OnOk result (core.new.held ≡ None) }
+    ensures raw { OnOk result (core.new.raw ≡ core.old.raw) }
+{
+    let view = item.metric.copy()?;
+    core.route(Routed {
+        item: item.number,
+        whole: Some(item.metric),
+        aggs: Seq::of(Vec::new(alloc)),
+        outs: Seq::of(vec![in alloc; Some(view)]?),
+    })?;
+    Ok(())
+}
+
+/// Routes all raw items.
+fn route_all(alloc: Global, core: &mut Core) -> Result<(), OutOfMemory>
+    requires ready { IsReady core.old }
+    ensures ready { OnOk result (IsReady core.new) }
+    ensures kept { OnOk result (IsRoutable core.old core.new) }
+{
+    for _taken in 0..u64::MAX {
+        match core.take() {
+            Ok(item) => route(alloc, core, item)?,
+            Err(TakeAnswer::OutOfMemory) => return Err(OutOfMemory),
+            Err(_) => return Ok(()),
+        }
+    }
+    Err(OutOfMemory)
+}
+
+/// The text of a batch: the lines of its metrics, in order.
+fn write_batch(alloc: Global, metrics: &[Metric], out: &mut Vec<u8>) -> Result<(), OutOfMemory> {
+    out.clear();
+    for metric in metrics {
+        write_line(alloc, metric, out)?;
+    }
+    Ok(())
+}
+
+/// Sends batches until nothing waits or a put fails, and says whether none failed.
+fn send_all<K: Sink>(run: &mut PipeRun, sink: &mut K) -> Result<bool, OutOfMemory>
+    requires ready { IsReady run.old.core }
+    ensures ready { OnOk result (IsReady run.new.core) }
+    ensures ended { OnOk result (run.new.core.ended ≡ run.old.core.ended) }
+    ensures stopped { OnOk result (run.new.core.stopped ≡ run.old.core.stopped) }
+{
+    for _batch in 0..u64::MAX {
+        let batch = match run.core.begin(0) {
+            Ok(batch) => batch,
+            Err(BeginAnswer::OutOfMemory) => return Err(OutOfMemory),
+            Err(_) => return Ok(true),
+        };
+        write_batch(run.alloc, batch.metrics.as_slice(), &mut run.text)?;
+        match sink.put(&run.text) {
+            Ok(()) => run.core.done(0, true),
+            Err(PutFault::Failed) => {
+                run.core.done(0, false);
+                return Ok(false);
+            }
+            Err(PutFault::OutOfMemory) => return Err(OutOfMemory),
+        }
+    }
+    Err(OutOfMemory)
+}
+
+/// Adds the text of the entries since the last cut.
+fn note(run: &mut PipeRun) -> Result<(), OutOfMemory>
+    requires ready { IsReady run.old.core }
+    ensures ready { OnOk result (IsReady run.new.core) }
+    ensures ended { OnOk result (run.new.core.ended ≡ run.old.core.ended) }
+    ensures stopped { OnOk result (run.new.core.stopped ≡ run.old.core.stopped) }
+{
+    match run.core.cut() {
+        Ok(entries) => run.journal.write(entries.as_slice()),
+        Err(CutAnswer::NothingNew) => Ok(()),
+        Err(CutAnswer::OutOfMemory) => Err(OutOfMemory),
+    }
+}
+
+/// Rounds, until the input is read no more or a put fails; answers which of these.
+fn rounds<S: Source, K: Sink, C: Clock>(
+    run: &mut PipeRun,
+    source: &mut S,
+    sink: &mut K,
+    clock: &mut C,
+) -> Result<(InState, bool), OutOfMemory>
+    requires ready { IsReady run.old.core }
+    requires reading { IsReading run.old.core }
+    ensures ready { OnOk result (IsReady run.new.core) }
+    ensures going { OnOk result (run.new.core.stopped ≡ false) }
+{
+    for _round in 0..u64::MAX {
+        let state = gather(run, source, clock)?;
+        route_all(run.alloc, &mut run.core)?;
+        let sent = send_all(run, sink)?;
+        note(run)?;
+        if state != InState::Reading || !sent {
+            return Ok((state, sent));
+        }
+    }
+    Err(OutOfMemory)
+}
+
+/// Stops the gathering, and sends what waits unless a put failed; says whether none failed.
+fn finish<K: Sink>(
+    run: &mut PipeRun,
+    sink: &mut K,
+    moment: Moment,
+    sent: bool,
+) -> Result<bool, OutOfMemory>
+    requires ready { IsReady run.old.core }
+    requires going { run.old.core.stopped ≡ false }
+{
+    run.core.stop(moment)?;
+    route_all(run.alloc, &mut run.core)?;
+    let sent = sent && send_all(run, sink)?;
+    note(run)?;
+    Ok(sent)
+}
+
+/// A run in which nothing happened.
+fn new_run(alloc: Global, pipe: &Pipe<'_>, start: Moment) -> Result<PipeRun, OutOfMemory>
+    requires some { 1 ≤ pipe.now.batch }
+    requires ordered { pipe.now.batch ≤ pipe.now.limit }
+    ensures ready { IfOk result (λ run. IsReady run.core) }
+    ensures reading { IfOk result (λ run. IsReading run.core) }
+{
+    let core = Core::new(
+        alloc,
+        CoreSetup {
+            inputs: Seq::of(vec![in alloc; InSetup {
+                tracked: false,
+                max_undelivered: 0,
+            }]?),
+            outputs: Seq::of(vec![in alloc; OutSetup {
+                batch: pipe.batch,
+                limit: pipe.limit,
+            }]?),
+            start,
+        },
+    )?;
+    Ok(PipeRun {
+        alloc,
+        core,
+        pieces: Pieces::new(alloc, CutKind::Lines)?,
+        journal: JournalText::new(alloc, pipe, start)?,
+        text: Vec::new(alloc),
+    })
+}
+
+/// Runs a pipe over its parts: rounds, the end, and one put of the whole journal.
 pub fn run<S: Source, K: Sink, C: Clock>(
     alloc: Global,
-    _pipe: &Pipe<'_>,
-    _source: &mut S,
-    _sink: &mut K,
-    _journal: &mut K,
-    _clock: &mut C,
-    _input_clock: &mut C,
-) -> Result<Ending, OutOfMemory> {
+    pipe: &Pipe<'_>,
+    source: &mut S,
+    sink: &mut K,
+    journal: &mut K,
+    clock: &mut C,
+    input_clock: &mut C,
+) -> Result<Ending, OutOfMemory>
+    requires some { 1 ≤ pipe.now.batch }
+    requires ordered { pipe.now.batch ≤ pipe.now.limit }
+{
+    let start = clock.now();
+    let mut run = new_run(alloc, pipe, start)?;
+    let (state, sent) = rounds(&mut run, source, sink, input_clock)?;
+    let moment = clock.now();
+    let sent = finish(&mut run, sink, moment, sent)?;
+    let mut account = Vec::new(alloc);
+    run.core.account().text(alloc, &mut account)?;
+    let text = run.journal.end(&account)?;
+    let journal_failed = match journal.put(&text) {
+        Ok(()) => false,
+        Err(PutFault::Failed) => true,
+        Err(PutFault::OutOfMemory) => return Err(OutOfMemory),
+    };
     Ok(Ending {
-        account: Vec::new(alloc),
+        account,
+        state,
+        left: !sent,
+        journal_failed,
     })
 }

@@ -1,0 +1,23 @@
+-- What a core keeps between the steps of a run.
+use Rattle.std.specs.Prelude.{◌≡◌, ℕ, false, length, slice_get}
+use Rattle.std.specs.declared.option.Option.{Option}
+use Rattle.std.specs.declared.option.Option.TheVariants.{Some, None}
+use Rattle.pipeline_core.specs.CoreState.{CoreState, lane_at}
+
+-- there is one output, no item is in hand, and no batch is in flight
+pub record IsReady (core : CoreState) : Type 0 where
+  pub one : length core.setup.outputs ≡ 1
+  pub empty_handed : core.held ≡ None
+  pub landed : length (lane_at core.lanes 0).flight ≡ 0
+
+-- the input hasn't ended, and nothing is stopped
+pub record IsReading (core : CoreState) : Type 0 where
+  pub reading : slice_get core.ended 0 ≡ Some false
+  pub going : core.stopped ≡ false
+
+-- items were routed: the set-up, what ended and stopped, and the batch in flight are as before
+pub record IsRoutable (old new : CoreState) : Type 0 where
+  pub setup : new.setup ≡ old.setup
+  pub ended : new.ended ≡ old.ended
+  pub stopped : new.stopped ≡ old.stopped
+  pub flight : (lane_at new.lanes 0).flight ≡ (lane_at old.lanes 0).flight

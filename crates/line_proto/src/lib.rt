@@ -4,3 +4,6 @@
 mod write;
 
 pub use write::write_line;
+
+#[cfg(test)]
+mod write_tests;

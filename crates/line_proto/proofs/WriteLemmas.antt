@@ -66,9 +66,9 @@ is_backslash b = b == 92
 
 spaced_backslash : (b : ℕ) → is_backslash (spaced b) ≡ is_backslash b
 spaced_backslash b =
-    elim (b == 10) as (λ t. (b == 10) ≡ t → is_backslash (cond (t || b == 13) 32 b) ≡ is_backslash b)
-    [ true ↦ λ e. let is : b ≡ 10 = eqb-true b 10 e in rw is refl
-    | false ↦ λ e. elim (b == 13) as (λ t. (b == 13) ≡ t → is_backslash (cond t 32 b) ≡ is_backslash b) [ true ↦ λ e'. let is : b ≡ 13 = eqb-true b 13 e' in rw is refl | false ↦ λ e'. refl ] refl
+    elim (b == 10) as (λ t. (b == 10) ≡ t → is_backslash (cond (t || b == 13) 32 b) ≡ is_backslash b) [
+      | true ↦ λ e. let is : b ≡ 10 = eqb-true b 10 e in rw is refl
+      | false ↦ λ e. elim (b == 13) as (λ t. (b == 13) ≡ t → is_backslash (cond t 32 b) ≡ is_backslash b) [ true ↦ λ e'. let is : b ≡ 13 = eqb-true b 13 e' in rw is refl | false ↦ λ e'. refl ] refl
     ] refl
 
 prefix_len-map : (text : List ℕ) → prefix_len is_backslash (map spaced text) ≡ prefix_len is_backslash text

@@ -15,3 +15,5 @@ pub use write::write_line;
 
 #[cfg(test)]
 mod tests;
+#[cfg(test)]
+mod write_tests;

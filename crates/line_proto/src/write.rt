@@ -70,7 +70,11 @@ fn append_tag(tag: &(Text, Text), out: &mut Vec<u8>) -> Result<(), OutOfMemory>
     append_key(&tag.1, out)
 }
 
-fn append_fields(alloc: Global, fields: &[(Text, Value)], out: &mut Vec<u8>) -> Result<(), OutOfMemory>
+fn append_fields(
+    alloc: Global,
+    fields: &[(Text, Value)],
+    out: &mut Vec<u8>,
+) -> Result<(), OutOfMemory>
     ensures { Adds result out.old.items out.new.items (join_by field_text (codes ",") fields.now) }
 {
     match fields {
@@ -83,7 +87,11 @@ fn append_fields(alloc: Global, fields: &[(Text, Value)], out: &mut Vec<u8>) -> 
 }
 
 /// Appends fields, each behind a comma.
-fn append_rest(alloc: Global, fields: &[(Text, Value)], out: &mut Vec<u8>) -> Result<(), OutOfMemory>
+fn append_rest(
+    alloc: Global,
+    fields: &[(Text, Value)],
+    out: &mut Vec<u8>,
+) -> Result<(), OutOfMemory>
     ensures { Adds result out.old.items out.new.items (flat_map (λ field. codes "," ++ field_text field) fields.now) }
 {
     for field in fields {
@@ -198,14 +206,17 @@ fn append_escaped(marks: &[u8], text: &[u8], out: &mut Vec<u8>) -> Result<(), Ou
 fn all_bare(marks: &[u8], text: &[u8]) -> bool
     ensures { result ≡ list_all (is_bare marks.now) text.now }
 {
-    text.iter()
-        .all(|byte| *byte != b'\n' && *byte != b'\r' && !marks.contains(byte))
+    text.iter().all(|byte| *byte != b'\n' && *byte != b'\r' && !marks.contains(byte))
 }
 
 fn append_byte(marks: &[u8], byte: u8, out: &mut Vec<u8>) -> Result<(), OutOfMemory>
     ensures { Adds result out.old.items out.new.items (escaped_byte marks.now (spaced byte)) }
 {
-    let byte = if byte == b'\n' || byte == b'\r' { b' ' } else { byte };
+    let byte = if byte == b'\n' || byte == b'\r' {
+        b' '
+    } else {
+        byte
+    };
     if marks.contains(&byte) {
         out.push(b'\\')?;
     }

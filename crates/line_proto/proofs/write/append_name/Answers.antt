@@ -19,11 +19,11 @@ returns-then-kept-eq35 c =
     let old = c.args.out.now.items in
     let rest = escaped (codes ", ") (on_one_line (take (length kept - 1) (drop 1 kept))) in
     subst (λ (text : List ℕ). Adds c.append_escaped.result old c.append_escaped.new.out.items text) (hashed_name c.args.name.now kept is (omega arith) c.if-kept-eq35.true)
-      (adds_after c.append_escaped.result old c.push-then-kept-eq35.new.self.items c.append_escaped.new.out.items (95 ∷ []) rest c.in_ok-push-2.ensures.items c.append_escaped.ensures)
+    (adds_after c.append_escaped.result old c.push-then-kept-eq35.new.self.items c.append_escaped.new.out.items (95 ∷ []) rest c.in_ok-push-2.ensures.items c.append_escaped.ensures)
 
 pub returns : goal.returns
 returns c =
     let is = c.trim-kept.ensures ∙ ap trimmed (c.as_bytes.ensures.value ∙ c.as_str.ensures) in
     let some : length c.trim-kept.result.now ≡ 0 → ⊥ = eqb-false _ _ (sym c.is_empty.ensures ∙ c.if-is_empty.false) in
     subst (λ (text : List ℕ). Adds c.append_escaped-2.result c.args.out.now.items c.append_escaped-2.new.out.items text)
-      (kept_name c.args.name.now c.trim-kept.result.now 0 is (omega arith) (ne_eqb _ _ c.if-kept-eq35.false)) c.append_escaped-2.ensures
+    (kept_name c.args.name.now c.trim-kept.result.now 0 is (omega arith) (ne_eqb _ _ c.if-kept-eq35.false)) c.append_escaped-2.ensures

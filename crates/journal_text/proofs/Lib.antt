@@ -1,0 +1,2 @@
+pub mod ExtendsLemmas
+pub mod MetricLemmas

@@ -1,5 +1,5 @@
 -- The text of a journal.
-use Rattle.std.specs.Prelude.{◌≡◌, ◌<◌, ◌↔◌, ℕ, ℤ, Bool, false, List, [], ◌∷◌, ◌++◌, length, codes, decimal, slice_get, if◌then◌else◌}
+use Rattle.std.specs.Prelude.{◌≡◌, ◌<◌, ◌↔◌, ℕ, ℤ, Bool, false, List, [], ◌∷◌, ◌++◌, length, codes, decimal, slice_get, IsTrue, if◌then◌else◌}
 use Rattle.std.specs.List.{flat_map, AllByRecursion}
 use Rattle.std.specs.Option.{option_to_list}
 use Rattle.std.specs.declared.option.Option.{Option}
@@ -124,3 +124,20 @@ abbrev pub IsWholeOrRemoved : Entry → Type 0
 IsWholeOrRemoved (Route routed whole verdict aggs outs reports) =
     ((verdict ≡ Removed) ↔ (whole ≡ None)) × HasViewsOf whole aggs × HasViewsOf whole outs
 IsWholeOrRemoved _ = Unit {0}
+
+-- a Route's item is among the first so many
+abbrev pub IsItemBelow : ℕ → Entry → Type 0
+IsItemBelow n (Route routed whole verdict aggs outs reports) = routed < n
+IsItemBelow n _ = Unit {0}
+
+-- each Route's item is among the items of the journal
+abbrev pub AreItemsKnown : List Entry → Type 0
+AreItemsKnown es = AllByRecursion (IsItemBelow (length (items es))) es
+
+-- one more entry adds its text, beside its item among those that were there before
+abbrev pub TextGrows : Type 0
+TextGrows = (es : List Entry) (e : Entry) → AreItemsKnown es → entries_text (items (es ++ e ∷ [])) (es ++ e ∷ []) ≡ entries_text (items es) es ++ entry_text (item_of (items es) e) e
+
+-- metrics are equal, part by part, exactly where they are the same
+abbrev pub EqualAreSame : Type 0
+EqualAreSame = (first second : Content) → IsTrue (are_equal first second) ↔ (first ≡ second)

@@ -2,9 +2,13 @@
 #![tactic(auto)]
 
 mod entry;
+mod laws;
 mod metrics;
 mod parts;
 mod setup;
+#[cfg(test)]
+mod tests;
 
 pub use entry::{write_end, write_entry};
+pub use laws::{equal_are_same, text_grows};
 pub use setup::{AggLine, AggWord, JournalSetup, write_setup};

@@ -1,0 +1,3 @@
+pub mod ExtendsLemmas
+pub mod MetricLemmas
+pub mod JournalLemmas

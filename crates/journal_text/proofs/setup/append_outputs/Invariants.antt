@@ -1,0 +1,7 @@
+use Rattle.std.proofs.Common.{◌≡◌, ◌++◌, ℕ, List, take}
+use Rattle.account.specs.AccountText.{numbered}
+use Rattle.journal_text.specs.SetupText.{output_line}
+use Rattle.journal_text.proofs.setup.append_outputs.Given as goal
+
+abbrev pub invariant-loop-i : goal.invariant-loop-i
+invariant-loop-i l = l.out.items ≡ l.initial.out.items ++ numbered output_line 0 (take l.i l.outputs)

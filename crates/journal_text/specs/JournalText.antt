@@ -1,0 +1,143 @@
+-- The text of a journal.
+use Rattle.std.specs.Prelude.{◌≡◌, ◌<◌, ◌↔◌, ℕ, ℤ, Bool, false, List, [], ◌∷◌, ◌++◌, length, codes, decimal, slice_get, IsTrue, if◌then◌else◌}
+use Rattle.std.specs.List.{flat_map, AllByRecursion}
+use Rattle.std.specs.Option.{option_to_list}
+use Rattle.std.specs.declared.option.Option.{Option}
+use Rattle.std.specs.declared.option.Option.TheVariants.{Some, None}
+use Rattle.metric.specs.declared.metric.Content.{Content}
+use Rattle.metric.specs.contracts.metric.ContentPartialEq.TheImpl.{eq-value}
+use Rattle.account.specs.declared.entry.Verdict.{Verdict}
+use Rattle.account.specs.declared.entry.Verdict.TheVariants.{Passes, Consumed, Late, Removed}
+use Rattle.account.specs.declared.entry.Report.{Report}
+use Rattle.account.specs.declared.entry.Entry.{Entry}
+use Rattle.account.specs.declared.entry.Entry.TheVariants.{Gather, Ended, Take, Route, Tick, Stop, Begin, Done}
+use Rattle.account.specs.Items.{items}
+use Rattle.journal_text.specs.MetricText.{signed_text, metric_text}
+use Rattle.journal_text.specs.SetupText.{setup_text}
+use Rattle.journal_text.specs.declared.setup.JournalSetup.{JournalSetup}
+
+-- whether two metrics are equal, part by part
+abbrev pub are_equal : Content → Content → Bool
+are_equal first second = eq-value.it first second
+
+-- a metric beside one that is known: `=` where they are equal, else its text
+unfoldable pub beside_text : Content → Content → List ℕ
+beside_text known m = if are_equal m known then codes "=" else metric_text m
+
+-- the whole of a Route, beside its item
+unfoldable pub whole_text : List Content → Content → List ℕ
+whole_text [] whole = metric_text whole
+whole_text (item ∷ others) whole = beside_text item whole
+
+-- a view, beside the whole: `-` for none
+unfoldable pub view_text : Content → Option Content → List ℕ
+view_text whole None = codes "-"
+view_text whole (Some view) = beside_text whole view
+
+-- views, each behind a space
+abbrev pub views_text : Content → List (Option Content) → List ℕ
+views_text whole views = flat_map (λ (view : Option Content). codes " " ++ view_text whole view) views
+
+abbrev pub verdict_text : Verdict → List ℕ
+verdict_text Passes = codes "passes"
+verdict_text Consumed = codes "consumed"
+verdict_text Late = codes "late"
+verdict_text Removed = codes "removed"
+
+-- what a Route says behind its item: that it was removed, or its whole, its verdict and its views
+unfoldable pub routed_text : List Content → Option Content → Verdict → List (Option Content) → List (Option Content) → List ℕ
+routed_text item None verdict aggs outs = codes " - removed\n"
+routed_text item (Some whole) verdict aggs outs =
+    codes " " ++ whole_text item whole ++ codes " " ++ verdict_text verdict
+    ++ views_text whole aggs ++ codes " /" ++ views_text whole outs ++ codes "\n"
+
+-- the lines of metrics
+abbrev pub metric_lines : List Content → List ℕ
+metric_lines metrics = flat_map (λ (m : Content). codes "m " ++ metric_text m ++ codes "\n") metrics
+
+-- the line of a report
+unfoldable pub report_line : Report → List ℕ
+report_line report = codes "report " ++ decimal report.group ++ (if report.delivered then codes " delivered\n" else codes " rejected\n")
+
+-- the lines of reports
+abbrev pub report_lines : List Report → List ℕ
+report_lines reports = flat_map report_line reports
+
+-- the number of a group, where there is one
+abbrev pub group_text : Option ℕ → List ℕ
+group_text None = codes "-"
+group_text (Some group) = decimal group
+
+-- numbers, each behind a space
+abbrev pub spaced : List ℕ → List ℕ
+spaced numbers = flat_map (λ (n : ℕ). codes " " ++ decimal n) numbers
+
+-- the line of a Gather: the input, the moment, the numbers and the group
+unfoldable pub gather_line : ℕ → ℤ → List ℕ → Option ℕ → List ℕ
+gather_line input moment numbers group =
+    codes "gather " ++ decimal input ++ codes " " ++ signed_text moment ++ spaced numbers ++ codes " " ++ group_text group ++ codes "\n"
+
+-- an entry, with the item of a Route: its line, its metrics and its reports
+unfoldable pub entry_text : List Content → Entry → List ℕ
+entry_text item (Gather input moment pieces refused passed filtered metrics group reports) =
+    gather_line input moment (pieces ∷ refused ∷ passed ∷ filtered ∷ length metrics ∷ []) group
+    ++ metric_lines metrics ++ report_lines reports
+entry_text item (Ended input) = codes "ended " ++ decimal input ++ codes "\n"
+entry_text item (Take taken) = codes "take " ++ decimal taken ++ codes "\n"
+entry_text item (Route routed whole verdict aggs outs reports) =
+    codes "route " ++ decimal routed ++ routed_text item whole verdict aggs outs ++ report_lines reports
+entry_text item (Tick moment made) = codes "tick " ++ signed_text moment ++ codes " " ++ decimal (length made) ++ codes "\n" ++ metric_lines made
+entry_text item (Stop moment made) = codes "stop " ++ signed_text moment ++ codes " " ++ decimal (length made) ++ codes "\n" ++ metric_lines made
+entry_text item (Begin output from to) = codes "begin " ++ decimal output ++ codes " " ++ decimal from ++ codes " " ++ decimal to ++ codes "\n"
+entry_text item (Done output ok reports) = codes "done " ++ decimal output ++ (if ok then codes " ok\n" else codes " failed\n") ++ report_lines reports
+
+-- the item of an entry among all items of a journal: that of a Route
+abbrev pub item_of : List Content → Entry → List Content
+item_of all (Route routed whole verdict aggs outs reports) = option_to_list (slice_get all routed)
+item_of all _ = []
+
+-- entries, given all items of their journal
+unfoldable pub entries_text : List Content → List Entry → List ℕ
+entries_text all [] = []
+entries_text all (e ∷ es) = entry_text (item_of all e) e ++ entries_text all es
+
+-- the end: the account's text, and the number of entries
+unfoldable pub end_text : List ℕ → ℕ → List ℕ
+end_text account entries = account ++ codes "end " ++ decimal entries ++ codes "\n"
+
+-- a whole journal, with the text of its account
+unfoldable pub journal_text : JournalSetup → List Entry → List ℕ → List ℕ
+journal_text s es account = setup_text s ++ entries_text (items es) es ++ end_text account (length es)
+
+-- one metric is at hand for a Route, its item, and none for another entry
+abbrev pub HasItem : List Content → Entry → Type 0
+HasItem metrics (Route routed whole verdict aggs outs reports) = length metrics ≡ 1
+HasItem metrics _ = length metrics ≡ 0
+
+-- an item without a whole has no views
+abbrev pub HasViewsOf : Option Content → List (Option Content) → Type 0
+HasViewsOf None views = AllByRecursion (λ (view : Option Content). view ≡ None) views
+HasViewsOf (Some whole) views = Unit {0}
+
+-- a Route is Removed exactly where it has no whole, and then has no views
+abbrev pub IsWholeOrRemoved : Entry → Type 0
+IsWholeOrRemoved (Route routed whole verdict aggs outs reports) =
+    ((verdict ≡ Removed) ↔ (whole ≡ None)) × HasViewsOf whole aggs × HasViewsOf whole outs
+IsWholeOrRemoved _ = Unit {0}
+
+-- a Route's item is among the first so many
+abbrev pub IsItemBelow : ℕ → Entry → Type 0
+IsItemBelow n (Route routed whole verdict aggs outs reports) = routed < n
+IsItemBelow n _ = Unit {0}
+
+-- each Route's item is among the items of the journal
+abbrev pub AreItemsKnown : List Entry → Type 0
+AreItemsKnown es = AllByRecursion (IsItemBelow (length (items es))) es
+
+-- one more entry adds its text, beside its item among those that were there before
+abbrev pub TextGrows : Type 0
+TextGrows = (es : List Entry) (e : Entry) → AreItemsKnown es → entries_text (items (es ++ e ∷ [])) (es ++ e ∷ []) ≡ entries_text (items es) es ++ entry_text (item_of (items es) e) e
+
+-- metrics are equal, part by part, exactly where they are the same
+abbrev pub EqualAreSame : Type 0
+EqualAreSame = (first second : Content) → IsTrue (are_equal first second) ↔ (first ≡ second)

@@ -1,0 +1,3 @@
+pub mod MetricText
+pub mod SetupText
+pub mod JournalText

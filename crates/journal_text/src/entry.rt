@@ -1,0 +1,390 @@
+//! The entries of a journal, and its end.
+ghost use Rattle.std.specs.Prelude.{◌≡◌, ◌++◌, OnOk, OnErr, length, codes, decimal, if◌then◌else◌};
+ghost use Rattle.std.specs.List.{flat_map};
+ghost use Rattle.account.specs.Extends.{Extends};
+ghost use Rattle.journal_text.specs.MetricText.{signed_text};
+ghost use Rattle.journal_text.specs.JournalText.{are_equal, beside_text, whole_text, view_text, views_text, verdict_text, routed_text, metric_lines, report_line, report_lines, group_text, spaced, gather_line, entry_text, end_text, HasItem, IsWholeOrRemoved};
+
+use crate::metrics::append_metric;
+use crate::parts::{append, append_numbers, append_signed, append_unsigned, settle};
+use account::{Entry, Report, Verdict};
+use fixed_num::{Moment, OutOfMemory};
+use metric::Metric;
+use std::alloc::Global;
+
+// Appends a metric beside one that is known: `=` where they are equal, else its text.
+#[tactic(auto, unfolding(crate::specs::JournalText::beside_text))]
+fn append_beside(
+    alloc: Global,
+    out: &mut Vec<u8>,
+    known: &Metric,
+    metric: &Metric,
+) -> Result<(), OutOfMemory>
+    ensures ok { OnOk result (out.new.items ≡ out.old.items ++ beside_text known.now metric.now) }
+    ensures kept { Extends out.old.items out.new.items }
+{
+    if metric == known {
+        append(out, "=")?;
+        Ok(())
+    } else {
+        append_metric(alloc, out, metric)?;
+        Ok(())
+    }
+}
+
+// Appends the whole of a Route, beside its item.
+#[tactic(auto, unfolding(crate::specs::JournalText::whole_text))]
+fn append_whole(
+    alloc: Global,
+    out: &mut Vec<u8>,
+    item: &[Metric],
+    whole: &Metric,
+) -> Result<(), OutOfMemory>
+    ensures ok { OnOk result (out.new.items ≡ out.old.items ++ whole_text item.now whole.now) }
+    ensures kept { Extends out.old.items out.new.items }
+{
+    match item {
+        [item, ..] => append_beside(alloc, out, item, whole),
+        [] => append_metric(alloc, out, whole),
+    }
+}
+
+// Appends a view, beside the whole: `-` for none.
+#[tactic(auto, unfolding(crate::specs::JournalText::view_text))]
+fn append_view(
+    alloc: Global,
+    out: &mut Vec<u8>,
+    whole: &Metric,
+    view: &Option<Metric>,
+) -> Result<(), OutOfMemory>
+    ensures ok { OnOk result (out.new.items ≡ out.old.items ++ view_text whole.now view.now) }
+    ensures kept { Extends out.old.items out.new.items }
+{
+    match view {
+        None => append(out, "-"),
+        Some(view) => append_beside(alloc, out, whole, view),
+    }
+}
+
+// Appends views, each behind a space.
+fn append_views(
+    alloc: Global,
+    out: &mut Vec<u8>,
+    whole: &Metric,
+    views: &[Option<Metric>],
+) -> Result<(), OutOfMemory>
+    ensures ok { OnOk result (out.new.items ≡ out.old.items ++ views_text whole.now views.now) }
+    ensures kept { Extends out.old.items out.new.items }
+{
+    for view in views {
+        append(out, " ")?;
+        append_view(alloc, out, whole, view)?;
+    }
+    Ok(())
+}
+
+// The word for what became of an item, behind a space.
+fn word_of(verdict: Verdict) -> &'static str
+    ensures { result.now ≡ codes " " ++ verdict_text verdict }
+{
+    match verdict {
+        Verdict::Passes => " passes",
+        Verdict::Consumed => " consumed",
+        Verdict::Late => " late",
+        Verdict::Removed => " removed",
+    }
+}
+
+// Appends the views at outputs, which end the line of a Route.
+fn append_outs(
+    alloc: Global,
+    out: &mut Vec<u8>,
+    whole: &Metric,
+    outs: &[Option<Metric>],
+) -> Result<(), OutOfMemory>
+    ensures ok { OnOk result (out.new.items ≡ out.old.items ++ (codes " /" ++ views_text whole.now outs.now ++ codes "\n")) }
+    ensures kept { Extends out.old.items out.new.items }
+{
+    append(out, " /")?;
+    append_views(alloc, out, whole, outs)?;
+    append(out, "\n")?;
+    Ok(())
+}
+
+// Appends what a Route says behind its item.
+#[tactic(auto, unfolding(crate::specs::JournalText::routed_text))]
+fn append_routed(
+    alloc: Global,
+    out: &mut Vec<u8>,
+    item: &[Metric],
+    whole: &Option<Metric>,
+    verdict: Verdict,
+    aggs: &[Option<Metric>],
+    outs: &[Option<Metric>],
+) -> Result<(), OutOfMemory>
+    ensures ok { OnOk result (out.new.items ≡ out.old.items ++ routed_text item.now whole.now verdict aggs.now outs.now) }
+    ensures kept { Extends out.old.items out.new.items }
+{
+    let Some(whole) = whole else {
+        append(out, " - removed\n")?;
+        return Ok(());
+    };
+    append(out, " ")?;
+    append_whole(alloc, out, item, whole)?;
+    append(out, word_of(verdict))?;
+    append_views(alloc, out, whole, aggs)?;
+    append_outs(alloc, out, whole, outs)?;
+    Ok(())
+}
+
+// Appends the lines of metrics.
+fn append_metric_lines(
+    alloc: Global,
+    out: &mut Vec<u8>,
+    metrics: &[Metric],
+) -> Result<(), OutOfMemory>
+    ensures ok { OnOk result (out.new.items ≡ out.old.items ++ metric_lines metrics.now) }
+    ensures kept { Extends out.old.items out.new.items }
+{
+    for metric in metrics {
+        append(out, "m ")?;
+        append_metric(alloc, out, metric)?;
+        append(out, "\n")?;
+    }
+    Ok(())
+}
+
+// How the line of a report ends.
+fn report_ending(delivered: bool) -> &'static str
+    ensures { result.now ≡ (if delivered then codes " delivered\n" else codes " rejected\n") }
+{
+    if delivered {
+        " delivered\n"
+    } else {
+        " rejected\n"
+    }
+}
+
+// Appends the lines of reports.
+#[tactic(auto, unfolding(crate::specs::JournalText::report_line))]
+fn append_reports(out: &mut Vec<u8>, reports: &[Report]) -> Result<(), OutOfMemory>
+    ensures ok { OnOk result (out.new.items ≡ out.old.items ++ report_lines reports.now) }
+    ensures kept { Extends out.old.items out.new.items }
+{
+    for report in reports {
+        append_numbers(
+            out,
+            &[("report ", report.group)],
+            report_ending(report.delivered),
+        )?;
+    }
+    Ok(())
+}
+
+// The number of a group, and what follows it in the line of a Gather.
+fn append_group(out: &mut Vec<u8>, group: Option<u64>) -> Result<(), OutOfMemory>
+    ensures ok { OnOk result (out.new.items ≡ out.old.items ++ (codes " " ++ group_text group ++ codes "\n")) }
+    ensures kept { Extends out.old.items out.new.items }
+{
+    match group {
+        None => {
+            append(out, " -\n")?;
+            Ok(())
+        }
+        Some(group) => {
+            append_numbers(out, &[(" ", group)], "\n")?;
+            Ok(())
+        }
+    }
+}
+
+// Appends numbers, each behind a space.
+fn append_spaced(out: &mut Vec<u8>, numbers: &[u64]) -> Result<(), OutOfMemory>
+    ensures ok { OnOk result (out.new.items ≡ out.old.items ++ spaced numbers.now) }
+    ensures kept { Extends out.old.items out.new.items }
+{
+    for n in numbers {
+        append_unsigned(out, " ", *n)?;
+    }
+    Ok(())
+}
+
+// Appends the line of a Gather.
+#[tactic(auto, unfolding(crate::specs::JournalText::gather_line))]
+fn append_gather_line(
+    out: &mut Vec<u8>,
+    input: u32,
+    moment: &Moment,
+    numbers: &[u64],
+    group: Option<u64>,
+) -> Result<(), OutOfMemory>
+    ensures ok { OnOk result (out.new.items ≡ out.old.items ++ gather_line input moment.now numbers.now group) }
+    ensures kept { Extends out.old.items out.new.items }
+{
+    append_unsigned(out, "gather ", u64::from(input))?;
+    append_signed(out, " ", moment)?;
+    append_spaced(out, numbers)?;
+    append_group(out, group)?;
+    Ok(())
+}
+
+// Appends words, a moment, the number of metrics and their lines.
+fn append_made(
+    alloc: Global,
+    out: &mut Vec<u8>,
+    words: &str,
+    moment: &Moment,
+    made: &[Metric],
+) -> Result<(), OutOfMemory>
+    ensures ok { OnOk result (out.new.items ≡ out.old.items ++ (words.now ++ signed_text moment.now ++ codes " " ++ decimal (length made.now) ++ codes "\n" ++ metric_lines made.now)) }
+    ensures kept { Extends out.old.items out.new.items }
+{
+    append_signed(out, words, moment)?;
+    append_numbers(out, &[(" ", made.len() as u64)], "\n")?;
+    append_metric_lines(alloc, out, made)?;
+    Ok(())
+}
+
+// How the line of a Done ends.
+fn done_ending(ok: bool) -> &'static str
+    ensures { result.now ≡ (if ok then codes " ok\n" else codes " failed\n") }
+{
+    if ok { " ok\n" } else { " failed\n" }
+}
+
+// Appends an entry, or a front of it.
+#[tactic(auto, unfolding(crate::specs::JournalText::entry_text))]
+fn append_entry(
+    alloc: Global,
+    item: &[Metric],
+    e: &Entry,
+    out: &mut Vec<u8>,
+) -> Result<(), OutOfMemory>
+    ensures ok { OnOk result (out.new.items ≡ out.old.items ++ entry_text item.now e.now) }
+    ensures kept { Extends out.old.items out.new.items }
+{
+    match e {
+        Entry::Gather {
+            input,
+            moment,
+            pieces,
+            refused,
+            passed,
+            filtered,
+            metrics,
+            group,
+            reports,
+        } => {
+            let count = metrics.as_slice().len() as u64;
+            let numbers = [
+                u64::from(*pieces),
+                u64::from(*refused),
+                u64::from(*passed),
+                u64::from(*filtered),
+                count,
+            ];
+            append_gather_line(out, *input, moment, &numbers, *group)?;
+            append_metric_lines(alloc, out, metrics.as_slice())?;
+            append_reports(out, reports.as_slice())?;
+            Ok(())
+        }
+        Entry::Ended { input } => {
+            append_numbers(out, &[("ended ", u64::from(*input))], "\n")?;
+            Ok(())
+        }
+        Entry::Take { item } => {
+            append_numbers(out, &[("take ", *item)], "\n")?;
+            Ok(())
+        }
+        Entry::Route {
+            item: number,
+            whole,
+            verdict,
+            aggs,
+            outs,
+            reports,
+        } => {
+            append_numbers(out, &[("route ", *number)], "")?;
+            append_routed(
+                alloc,
+                out,
+                item,
+                whole,
+                *verdict,
+                aggs.as_slice(),
+                outs.as_slice(),
+            )?;
+            append_reports(out, reports.as_slice())?;
+            Ok(())
+        }
+        Entry::Tick { moment, made } => {
+            append_made(alloc, out, "tick ", moment, made.as_slice())?;
+            Ok(())
+        }
+        Entry::Stop { moment, made } => {
+            append_made(alloc, out, "stop ", moment, made.as_slice())?;
+            Ok(())
+        }
+        Entry::Begin { output, from, to } => {
+            append_numbers(
+                out,
+                &[("begin ", u64::from(*output)), (" ", *from), (" ", *to)],
+                "\n",
+            )?;
+            Ok(())
+        }
+        Entry::Done {
+            output,
+            ok,
+            reports,
+        } => {
+            append_numbers(out, &[("done ", u64::from(*output))], done_ending(*ok))?;
+            append_reports(out, reports.as_slice())?;
+            Ok(())
+        }
+    }
+}
+
+/// Appends an entry: its line, its metrics and its reports, in order. A Route is written beside its item: `=` stands for a whole that equals the item, and for a view that equals the whole.
+/// `OutOfMemory` leaves `out` as it was.
+pub fn write_entry(
+    alloc: Global,
+    metrics: &[Metric],
+    e: &Entry,
+    out: &mut Vec<u8>,
+) -> Result<(), OutOfMemory>
+    requires item { HasItem metrics.now e.now }
+    requires whole { IsWholeOrRemoved e.now }
+    ensures ok { OnOk result (out.new.items ≡ out.old.items ++ entry_text metrics.now e.now) }
+    ensures err { OnErr result (out.new.items ≡ out.old.items) }
+{
+    let len = out.len();
+    let written = append_entry(alloc, metrics, e, out);
+    settle(out, len, written)
+}
+
+// Appends the end, or a front of it.
+#[tactic(auto, unfolding(crate::specs::JournalText::end_text))]
+fn append_end(account: &[u8], entries: u64, out: &mut Vec<u8>) -> Result<(), OutOfMemory>
+    ensures ok { OnOk result (out.new.items ≡ out.old.items ++ end_text account.now entries) }
+    ensures kept { Extends out.old.items out.new.items }
+{
+    out.extend_from_slice(account)?;
+    append_numbers(out, &[("end ", entries)], "\n")?;
+    Ok(())
+}
+
+/// Appends the end of a journal: the account's text and the number of entries. `OutOfMemory` leaves `out` as it was.
+pub fn write_end(
+    _alloc: Global,
+    account: &[u8],
+    entries: u64,
+    out: &mut Vec<u8>,
+) -> Result<(), OutOfMemory>
+    ensures ok { OnOk result (out.new.items ≡ out.old.items ++ end_text account.now entries) }
+    ensures err { OnErr result (out.new.items ≡ out.old.items) }
+{
+    let len = out.len();
+    let written = append_end(account, entries, out);
+    settle(out, len, written)
+}

@@ -1,0 +1,14 @@
+//! The text of a journal: its head, its entries and its end.
+#![tactic(auto)]
+
+mod entry;
+mod laws;
+mod metrics;
+mod parts;
+mod setup;
+#[cfg(test)]
+mod tests;
+
+pub use entry::{write_end, write_entry};
+pub use laws::{equal_are_same, text_grows};
+pub use setup::{AggLine, AggWord, JournalSetup, write_setup};

@@ -1,0 +1,186 @@
+//! The text of a metric.
+ghost use Rattle.std.specs.Prelude.{◌≡◌, ◌++◌, ◌<◌, ◌≤◌, false, OnOk, length, codes};
+ghost use Rattle.std.specs.List.{flat_map, prefix_len};
+ghost use Rattle.account.specs.Extends.{Extends};
+ghost use Rattle.journal_text.specs.MetricText.{is_plain, hex_digit, byte_text, escaped, value_text, tag_text, field_text, fields_text, metric_text};
+
+use crate::parts::{append, append_signed, append_unsigned};
+use fixed_num::OutOfMemory;
+use metric::{Metric, Text, Value};
+use std::alloc::Global;
+
+// Is it an upper-case letter, a lower-case letter, a digit, or one of `_ . - :`?
+#[tactic(auto, unfolding(crate::specs::MetricText::is_plain))]
+fn is_plain(b: u8) -> bool
+    ensures { result ≡ is_plain b }
+{
+    matches!(b, b'A'..=b'Z' | b'a'..=b'z' | b'0'..=b'9' | b'_' | b'.' | b'-' | b':')
+}
+
+// An upper-case hexadecimal digit.
+#[tactic(auto, unfolding(crate::specs::MetricText::hex_digit))]
+fn hex_digit(n: u8) -> u8
+    requires { n < 16 }
+    ensures { result ≡ hex_digit n }
+{
+    if n < 10 { b'0' + n } else { b'A' - 10 + n }
+}
+
+// Appends `%` and the two hexadecimal digits of a byte that isn't plain.
+#[tactic(auto, unfolding(crate::specs::MetricText::byte_text))]
+fn append_escape(out: &mut Vec<u8>, b: u8) -> Result<(), OutOfMemory>
+    requires { is_plain b ≡ false }
+    ensures ok { OnOk result (out.new.items ≡ out.old.items ++ byte_text b) }
+    ensures kept { Extends out.old.items out.new.items }
+{
+    out.extend_from_slice(&[b'%', hex_digit(b / 16), hex_digit(b % 16)])?;
+    Ok(())
+}
+
+// How many plain bytes stand at the front.
+fn plain_len(bytes: &[u8]) -> usize
+    ensures plain { result ≡ prefix_len is_plain bytes.now }
+    ensures within { result ≤ length bytes.now }
+{
+    bytes.iter().take_while(|b| is_plain(**b)).count()
+}
+
+// Appends a name, a key or a text: plain bytes as they are, others escaped.
+fn append_escaped(out: &mut Vec<u8>, bytes: &[u8]) -> Result<(), OutOfMemory>
+    ensures ok { OnOk result (out.new.items ≡ out.old.items ++ escaped bytes.now) }
+    ensures kept { Extends out.old.items out.new.items }
+{
+    let mut rest = bytes;
+    loop {
+        let (front, back) = rest.split_at(plain_len(rest));
+        out.extend_from_slice(front)?;
+        match back.split_first() {
+            None => return Ok(()),
+            Some((b, others)) => {
+                append_escape(out, *b)?;
+                rest = others;
+            }
+        }
+    }
+}
+
+// Appends a text.
+fn append_text(out: &mut Vec<u8>, text: &Text) -> Result<(), OutOfMemory>
+    ensures ok { OnOk result (out.new.items ≡ out.old.items ++ escaped text.now) }
+    ensures kept { Extends out.old.items out.new.items }
+{
+    append_escaped(out, text.as_str().as_bytes())?;
+    Ok(())
+}
+
+// Appends a value: a letter that tells its type, and what it is.
+#[tactic(auto, unfolding(crate::specs::MetricText::value_text))]
+fn append_value(alloc: Global, out: &mut Vec<u8>, value: &Value) -> Result<(), OutOfMemory>
+    ensures ok { OnOk result (out.new.items ≡ out.old.items ++ value_text value.now) }
+    ensures kept { Extends out.old.items out.new.items }
+{
+    match value {
+        Value::Int(n) => append_signed(out, "i", n),
+        Value::Uint(n) => append_unsigned(out, "u", *n),
+        Value::Fixed(x) => {
+            append(out, "f")?;
+            x.append(alloc, out)?;
+            Ok(())
+        }
+        Value::Bool(true) => append(out, "bt"),
+        Value::Bool(false) => append(out, "bf"),
+        Value::Text(text) => {
+            append(out, "s")?;
+            append_text(out, text)?;
+            Ok(())
+        }
+    }
+}
+
+// Appends a tag, behind a semicolon.
+#[tactic(auto, unfolding(crate::specs::MetricText::tag_text))]
+fn append_tag(out: &mut Vec<u8>, key: &Text, value: &Text) -> Result<(), OutOfMemory>
+    ensures ok { OnOk result (out.new.items ≡ out.old.items ++ tag_text (key.now, value.now)) }
+    ensures kept { Extends out.old.items out.new.items }
+{
+    append(out, ";")?;
+    append_text(out, key)?;
+    append(out, "=")?;
+    append_text(out, value)?;
+    Ok(())
+}
+
+// Appends a field.
+#[tactic(auto, unfolding(crate::specs::MetricText::field_text))]
+fn append_field(
+    alloc: Global,
+    out: &mut Vec<u8>,
+    key: &Text,
+    value: &Value,
+) -> Result<(), OutOfMemory>
+    ensures ok { OnOk result (out.new.items ≡ out.old.items ++ field_text (key.now, value.now)) }
+    ensures kept { Extends out.old.items out.new.items }
+{
+    append_text(out, key)?;
+    append(out, "=")?;
+    append_value(alloc, out, value)?;
+    Ok(())
+}
+
+// Appends tags, each behind a semicolon.
+fn append_tags(out: &mut Vec<u8>, tags: &[(Text, Text)]) -> Result<(), OutOfMemory>
+    ensures ok { OnOk result (out.new.items ≡ out.old.items ++ flat_map tag_text tags.now) }
+    ensures kept { Extends out.old.items out.new.items }
+{
+    for (key, value) in tags {
+        append_tag(out, key, value)?;
+    }
+    Ok(())
+}
+
+// Appends fields, each behind a semicolon.
+fn append_other_fields(
+    alloc: Global,
+    out: &mut Vec<u8>,
+    fields: &[(Text, Value)],
+) -> Result<(), OutOfMemory>
+    ensures ok { OnOk result (out.new.items ≡ out.old.items ++ flat_map (λ other. codes ";" ++ field_text other) fields.now) }
+    ensures kept { Extends out.old.items out.new.items }
+{
+    for (key, value) in fields {
+        append(out, ";")?;
+        append_field(alloc, out, key, value)?;
+    }
+    Ok(())
+}
+
+// Appends fields with semicolons between them.
+#[tactic(auto, unfolding(crate::specs::MetricText::fields_text))]
+fn append_fields(
+    alloc: Global,
+    out: &mut Vec<u8>,
+    fields: &[(Text, Value)],
+) -> Result<(), OutOfMemory>
+    ensures ok { OnOk result (out.new.items ≡ out.old.items ++ fields_text fields.now) }
+    ensures kept { Extends out.old.items out.new.items }
+{
+    if let [(key, value), others @ ..] = fields {
+        append_field(alloc, out, key, value)?;
+        append_other_fields(alloc, out, others)?;
+    }
+    Ok(())
+}
+
+// Appends a metric: its name with its tags, its fields and its time.
+#[tactic(auto, unfolding(crate::specs::MetricText::metric_text))]
+pub fn append_metric(alloc: Global, out: &mut Vec<u8>, metric: &Metric) -> Result<(), OutOfMemory>
+    ensures ok { OnOk result (out.new.items ≡ out.old.items ++ metric_text metric.now) }
+    ensures kept { Extends out.old.items out.new.items }
+{
+    append_text(out, metric.name())?;
+    append_tags(out, metric.tags())?;
+    append(out, "|")?;
+    append_fields(alloc, out, metric.fields())?;
+    append_signed(out, "|", &metric.time())?;
+    Ok(())
+}

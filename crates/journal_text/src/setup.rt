@@ -1,0 +1,250 @@
+//! The head of a journal.
+ghost use Rattle.std.specs.Prelude.{◌≡◌, ◌++◌, [], OnOk, OnErr, codes, if◌then◌else◌};
+ghost use Rattle.account.specs.Extends.{Extends};
+ghost use Rattle.journal_text.specs.MetricText.{signed_text};
+ghost use Rattle.account.specs.AccountText.{numbered};
+ghost use Rattle.journal_text.specs.SetupText.{input_line, letters_text, kind_text, times_text, agg_line, output_line, start_lines, setup_text};
+
+use crate::parts::{append, append_numbers, append_signed, settle};
+use fixed_num::{Moment, OutOfMemory, Seq};
+use std::alloc::Global;
+
+/// What a journal is about.
+#[derive(Drop)]
+pub struct JournalSetup {
+    /// The moment of the start: nanoseconds since 1970.
+    pub start: Moment,
+    /// Per input the most groups that may be undelivered, where it is tracked.
+    pub inputs: Seq<Option<u32>>,
+    /// The aggregators.
+    pub aggs: Seq<AggLine>,
+    /// Per output its batch size and its buffer limit.
+    pub outputs: Seq<(u32, u32)>,
+}
+
+/// An aggregator.
+#[derive(Clone, Copy, Debug, PartialEq, Eq)]
+pub struct AggLine {
+    /// Its kind.
+    pub kind: AggWord,
+    /// The length of its windows, in nanoseconds.
+    pub period: i64,
+    /// How long it waits after a window's end before the window closes, in nanoseconds.
+    pub delay: i64,
+    /// How long it still takes metrics after a window closed, in nanoseconds.
+    pub grace: i64,
+    /// Whether it keeps the metrics that it takes from the outputs.
+    pub dropping: bool,
+}
+
+/// The kind of an aggregator.
+#[derive(Clone, Copy, Debug, PartialEq, Eq)]
+pub enum AggWord {
+    /// The least and the greatest value of each field.
+    MinMax,
+    /// Statistics of each field.
+    Basic {
+        /// Is the sum among them?
+        sum: bool,
+        /// Is the count among them?
+        count: bool,
+        /// Is the least value among them?
+        min: bool,
+        /// Is the greatest value among them?
+        max: bool,
+    },
+    /// The fields of metrics of one series and time, in one metric.
+    Merge,
+    /// The last metric of a series, once none came for so many nanoseconds.
+    Final(i64),
+}
+
+// Appends the line of an input.
+#[tactic(auto, unfolding(crate::specs::SetupText::input_line))]
+fn append_input(out: &mut Vec<u8>, input: u64, most: Option<u32>) -> Result<(), OutOfMemory>
+    ensures ok { OnOk result (out.new.items ≡ out.old.items ++ input_line input most) }
+    ensures kept { Extends out.old.items out.new.items }
+{
+    match most {
+        None => {
+            append_numbers(out, &[("input ", input)], " plain\n")?;
+            Ok(())
+        }
+        Some(most) => {
+            append_numbers(
+                out,
+                &[("input ", input), (" tracked ", u64::from(most))],
+                "\n",
+            )?;
+            Ok(())
+        }
+    }
+}
+
+// Appends a letter where its statistic is set.
+fn append_letter(out: &mut Vec<u8>, letter: &str, wanted: bool) -> Result<(), OutOfMemory>
+    ensures ok { OnOk result (out.new.items ≡ out.old.items ++ (if wanted then letter.now else [])) }
+    ensures kept { Extends out.old.items out.new.items }
+{
+    if wanted { append(out, letter) } else { Ok(()) }
+}
+
+// Appends the letters of the statistics that are set.
+#[tactic(auto, unfolding(crate::specs::SetupText::letters_text))]
+fn append_letters(
+    out: &mut Vec<u8>,
+    sum: bool,
+    count: bool,
+    min: bool,
+    max: bool,
+) -> Result<(), OutOfMemory>
+    ensures ok { OnOk result (out.new.items ≡ out.old.items ++ letters_text sum count min max) }
+    ensures kept { Extends out.old.items out.new.items }
+{
+    append_letter(out, "s", sum)?;
+    append_letter(out, "c", count)?;
+    append_letter(out, "m", min)?;
+    append_letter(out, "x", max)?;
+    Ok(())
+}
+
+// Appends the kind of an aggregator.
+#[tactic(auto, unfolding(crate::specs::SetupText::kind_text))]
+fn append_kind(out: &mut Vec<u8>, kind: &AggWord) -> Result<(), OutOfMemory>
+    ensures ok { OnOk result (out.new.items ≡ out.old.items ++ kind_text kind.now) }
+    ensures kept { Extends out.old.items out.new.items }
+{
+    match kind {
+        AggWord::MinMax => append(out, "minmax"),
+        AggWord::Basic {
+            sum,
+            count,
+            min,
+            max,
+        } => {
+            append(out, "basicstats:")?;
+            append_letters(out, *sum, *count, *min, *max)?;
+            Ok(())
+        }
+        AggWord::Merge => append(out, "merge"),
+        AggWord::Final(timeout) => append_signed(out, "final:", timeout),
+    }
+}
+
+// How the line of an aggregator ends.
+fn ending(dropping: bool) -> &'static str
+    ensures { result.now ≡ (if dropping then codes " drop\n" else codes " keep\n") }
+{
+    if dropping { " drop\n" } else { " keep\n" }
+}
+
+// Appends an aggregator's period, delay and grace, each behind a space.
+#[tactic(auto, unfolding(crate::specs::SetupText::times_text))]
+fn append_times(out: &mut Vec<u8>, line: &AggLine) -> Result<(), OutOfMemory>
+    ensures ok { OnOk result (out.new.items ≡ out.old.items ++ times_text line.now) }
+    ensures kept { Extends out.old.items out.new.items }
+{
+    append_signed(out, " ", &line.period)?;
+    append_signed(out, " ", &line.delay)?;
+    append_signed(out, " ", &line.grace)?;
+    Ok(())
+}
+
+// Appends the line of an aggregator.
+#[tactic(auto, unfolding(crate::specs::SetupText::agg_line))]
+fn append_agg(out: &mut Vec<u8>, agg: u64, line: &AggLine) -> Result<(), OutOfMemory>
+    ensures ok { OnOk result (out.new.items ≡ out.old.items ++ agg_line agg line.now) }
+    ensures kept { Extends out.old.items out.new.items }
+{
+    append_numbers(out, &[("aggregator ", agg)], " ")?;
+    append_kind(out, &line.kind)?;
+    append_times(out, line)?;
+    append(out, ending(line.dropping))?;
+    Ok(())
+}
+
+// Appends the line of an output.
+#[tactic(auto, unfolding(crate::specs::SetupText::output_line))]
+fn append_output(out: &mut Vec<u8>, output: u64, batch: u32, limit: u32) -> Result<(), OutOfMemory>
+    ensures ok { OnOk result (out.new.items ≡ out.old.items ++ output_line output (batch, limit)) }
+    ensures kept { Extends out.old.items out.new.items }
+{
+    append_numbers(
+        out,
+        &[
+            ("output ", output),
+            (" ", u64::from(batch)),
+            (" ", u64::from(limit)),
+        ],
+        "\n",
+    )?;
+    Ok(())
+}
+
+// Appends the lines of inputs, counted from 0.
+fn append_inputs(out: &mut Vec<u8>, inputs: &[Option<u32>]) -> Result<(), OutOfMemory>
+    ensures ok { OnOk result (out.new.items ≡ out.old.items ++ numbered input_line 0 inputs.now) }
+    ensures kept { Extends out.old.items out.new.items }
+{
+    for (i, most) in inputs.iter().enumerate() {
+        append_input(out, i as u64, *most)?;
+    }
+    Ok(())
+}
+
+// Appends the lines of aggregators, counted from 0.
+fn append_aggs(out: &mut Vec<u8>, aggs: &[AggLine]) -> Result<(), OutOfMemory>
+    ensures ok { OnOk result (out.new.items ≡ out.old.items ++ numbered agg_line 0 aggs.now) }
+    ensures kept { Extends out.old.items out.new.items }
+{
+    for (i, line) in aggs.iter().enumerate() {
+        append_agg(out, i as u64, line)?;
+    }
+    Ok(())
+}
+
+// Appends the lines of outputs, counted from 0.
+fn append_outputs(out: &mut Vec<u8>, outputs: &[(u32, u32)]) -> Result<(), OutOfMemory>
+    ensures ok { OnOk result (out.new.items ≡ out.old.items ++ numbered output_line 0 outputs.now) }
+    ensures kept { Extends out.old.items out.new.items }
+{
+    for (i, sizes) in outputs.iter().enumerate() {
+        append_output(out, i as u64, sizes.0, sizes.1)?;
+    }
+    Ok(())
+}
+
+// Appends the version, and the moment of the start.
+#[tactic(auto, unfolding(crate::specs::SetupText::start_lines))]
+fn append_start(out: &mut Vec<u8>, start: &Moment) -> Result<(), OutOfMemory>
+    ensures ok { OnOk result (out.new.items ≡ out.old.items ++ start_lines start.now) }
+    ensures kept { Extends out.old.items out.new.items }
+{
+    append_signed(out, "journal 1\nstart ", start)?;
+    append(out, "\n")?;
+    Ok(())
+}
+
+// Appends the head of a journal, or a front of it.
+#[tactic(auto, unfolding(crate::specs::SetupText::setup_text))]
+fn append_setup(s: &JournalSetup, out: &mut Vec<u8>) -> Result<(), OutOfMemory>
+    ensures ok { OnOk result (out.new.items ≡ out.old.items ++ setup_text s.now) }
+    ensures kept { Extends out.old.items out.new.items }
+{
+    append_start(out, &s.start)?;
+    append_inputs(out, s.inputs.as_slice())?;
+    append_aggs(out, s.aggs.as_slice())?;
+    append_outputs(out, s.outputs.as_slice())?;
+    Ok(())
+}
+
+/// Appends the head of a journal: `journal 1`, `start` and the moment, then a line for each input, aggregator and output, in order.
+/// `OutOfMemory` leaves `out` as it was.
+pub fn write_setup(_alloc: Global, s: &JournalSetup, out: &mut Vec<u8>) -> Result<(), OutOfMemory>
+    ensures ok { OnOk result (out.new.items ≡ out.old.items ++ setup_text s.now) }
+    ensures err { OnErr result (out.new.items ≡ out.old.items) }
+{
+    let len = out.len();
+    let written = append_setup(s, out);
+    settle(out, len, written)
+}

@@ -103,10 +103,10 @@ none_flies x h = grind (arith, nat_tests)
 one_flies : (x : LaneState Content) → 0 < length x.flight → in_flight x ≡ 1
 one_flies x h = grind (arith, nat_tests)
 
-not_full : (m n : ℕ) → m < n → (m == n) ≡ false
+pub not_full : (m n : ℕ) → m < n → (m == n) ≡ false
 not_full m n h = grind (arith, nat_tests)
 
-full : (m n : ℕ) → m ≡ n → (m == n) ≡ true
+pub full : (m n : ℕ) → m ≡ n → (m == n) ≡ true
 full m n h = grind (arith, nat_tests)
 
 -- one more waits

@@ -6,3 +6,4 @@ pub mod TotalPush
 pub mod OutputPush
 pub mod Standing
 pub mod StandsSteps
+pub mod StandsLanes

@@ -60,7 +60,7 @@ placed_raw raw n (inl h) = inl (nil_of_length raw h)
 placed_raw raw n (inr h) = inr h
 
 -- an entry that does nothing at the outputs
-outputs_stay : (setup : Setup) (journal : List Entry) (e : Entry) → ((o : ℕ) → lane_events_by o e ≡ []) → ((o : ℕ) → offered_by o e ≡ []) → ((o : ℕ) (t : Fate → Bool) → kept_out t o e ≡ 0) →
+pub outputs_stay : (setup : Setup) (journal : List Entry) (e : Entry) → ((o : ℕ) → lane_events_by o e ≡ []) → ((o : ℕ) → offered_by o e ≡ []) → ((o : ℕ) (t : Fate → Bool) → kept_out t o e ≡ 0) →
   (totals setup (journal ++ e ∷ [])).outputs ≡ (totals setup journal).outputs
 outputs_stay setup journal e l v k = outputs-same setup journal e (λ o b. output_stays (sizes_at setup o).1 o journal e (l o) (v o) (k o))
 
@@ -183,3 +183,19 @@ stands_gather s g core reading going few place journal h =
       ended_count = refl;
       stopped = sym (or-false s.stopped);
     })
+
+-- the same of a core that is what the call makes of the old one
+by_step : (s n t : CoreState) (e : Entry) → n ≡ t → Continues s t e → Continues s n e
+by_step s n t e q h = subst (λ (m : CoreState). Continues s m e) (sym q) h
+
+pub take_stands : (s n : CoreState) → n ≡ after_take s → s.held ≡ None → 0 < length s.raw → Continues s n (Take s.taken)
+take_stands s n q none some = by_step s n (after_take s) (Take s.taken) q (stands_take s none some)
+
+pub ended_stands : (s n : CoreState) (input : ℕ) → n ≡ after_ended s input → IsCore s → slice_get s.ended input ≡ Some false → s.stopped ≡ false → Continues s n (Ended input)
+ended_stands s n input q core reading going = by_step s n (after_ended s input) (Ended input) q (stands_ended s input core reading going)
+
+pub gather_stands : (s n : CoreState) (g : Gathered) → n ≡ after_gather s g → IsCore s → slice_get s.ended g.input ≡ Some false → s.stopped ≡ false → HasNumbers s g → HasPlace s g → Continues s n (gather_entry g)
+gather_stands s n g q core reading going few place = by_step s n (after_gather s g) (gather_entry g) q (stands_gather s g core reading going few place)
+
+pub stop_stands : (s n : CoreState) (moment : ℤ) → n ≡ after_stop s moment → s.stopped ≡ false → Continues s n (Stop (int_max moment s.counted) [])
+stop_stands s n moment q going = by_step s n (after_stop s moment) (Stop (int_max moment s.counted) []) q (stands_stop s moment going)

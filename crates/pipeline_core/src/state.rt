@@ -2,6 +2,11 @@
 ghost use Rattle.std.specs.Prelude.{◌≡◌, ◌≤◌, ◌<◌, [], length, map, true, false, IfOk, OnOk, OnErr, ◌↔◌, ℕ};
 ghost use Rattle.std.specs.List.{All};
 ghost use Rattle.pipeline_core.specs.CoreState.{first_state, lane_of};
+ghost use Rattle.account.specs.declared.entry.Entry.{Entry};
+ghost use Rattle.account.specs.declared.entry.Entry.TheVariants as entries;
+ghost use Rattle.std.specs.Int.{int_max};
+ghost use Rattle.pipeline_core.specs.Stands.{Stands, Continues};
+ghost use Rattle.pipeline_core.specs.Totals.{totals};
 ghost use Rattle.pipeline_core.specs.Steps.{after_stop, after_cut};
 
 use crate::output::Output;
@@ -89,6 +94,7 @@ impl Core {
     pub fn stop(&mut self, moment: Moment) -> Result<(), OutOfMemory>
         requires { self.old.stopped ≡ false }
         ensures ok { OnOk result (self.new ≡ after_stop self.old moment) }
+        ensures stands { OnOk result (Continues self.old self.new (entries.Stop (int_max moment self.old.counted) [])) }
         ensures err { OnErr result (self.new ≡ self.old) }
     {
         make_room(&mut self.stored, self.outputs.len())?;

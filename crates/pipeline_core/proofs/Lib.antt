@@ -7,3 +7,4 @@ pub mod OutputPush
 pub mod Standing
 pub mod StandsSteps
 pub mod StandsLanes
+pub mod StandsCuts

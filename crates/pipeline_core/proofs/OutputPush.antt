@@ -115,7 +115,7 @@ output_fails batch limit o es e at l v k h =
     (omega (arith, count-become is_buffered limit o es e (lane.Done false) lane.Dropped (failed_out at) l v (k is_buffered) h.dropped))
     (omega (arith, count-become is_dropped limit o es e (lane.Done false) lane.Dropped (failed_out at) l v (k is_dropped) h.dropped))
 
-same_totals : (x y : Numbers) → x.inputs ≡ y.inputs → x.made ≡ y.made → x.removed ≡ y.removed → x.routed ≡ y.routed → x.outputs ≡ y.outputs → x ≡ y
+pub same_totals : (x y : Numbers) → x.inputs ≡ y.inputs → x.made ≡ y.made → x.removed ≡ y.removed → x.routed ≡ y.routed → x.outputs ≡ y.outputs → x ≡ y
 same_totals x y a b c d e =
     let F : List InputNumbers → Numbers = λ n. record { inputs = n; made = x.made; removed = x.removed; routed = x.routed; outputs = x.outputs } in
     let G : ℕ → Numbers = λ n. record { inputs = y.inputs; made = n; removed = x.removed; routed = x.routed; outputs = x.outputs } in

@@ -41,7 +41,7 @@ inputs-at setup journal i b =
     ∙ ap (λ (x : ℕ × Option ℕ). input_total x.0 (is_some x.1) journal) (get_or-enumerate_from 0 setup.inputs i (0, None) b)
     ∙ ap (λ (n : ℕ). input_total n (is_some (get_or setup.inputs i None)) journal) (omega arith)
 
-length-inputs : (setup : Setup) (journal : List Entry) → length (totals setup journal).inputs ≡ length setup.inputs
+pub length-inputs : (setup : Setup) (journal : List Entry) → length (totals setup journal).inputs ≡ length setup.inputs
 length-inputs setup journal = length-map _ _ ∙ length-enumerate_from 0 setup.inputs
 
 inputs-push : (setup : Setup) (journal : List Entry) (e : Entry) (i : ℕ) → i < length setup.inputs → get_or (totals setup (journal ++ e ∷ [])).inputs i (unread_input false) ≡ input_with i (get_or (totals setup journal).inputs i (unread_input false)) e

@@ -1,5 +1,5 @@
 //! What a core keeps, and its entries.
-ghost use Rattle.std.specs.Prelude.{◌≡◌, ◌≤◌, ◌<◌, [], length, map, true, false, IfOk, OnOk, OnErr, ◌↔◌, ℕ};
+ghost use Rattle.std.specs.Prelude.{◌≡◌, ◌≤◌, ◌<◌, [], length, map, true, false, IfOk, OnOk, OnErr, ◌↔◌, List};
 ghost use Rattle.std.specs.List.{All};
 ghost use Rattle.pipeline_core.specs.CoreState.{first_state, lane_of};
 ghost use Rattle.account.specs.declared.entry.Entry.{Entry};
@@ -66,7 +66,8 @@ impl Core {
         requires outputs { length setup.outputs ≤ 16 }
         requires untracked { All (λ x. x.tracked ≡ false) setup.inputs }
         requires sizes { All (λ x. (1 ≤ x.batch) × (x.batch ≤ x.limit)) setup.outputs }
-        ensures { IfOk result (λ core. core ≡ first_state setup) }
+        ensures ok { IfOk result (λ core. core ≡ first_state setup) }
+        ensures stands { IfOk result (λ core. Stands core []) }
     {
         let inputs = setup.inputs.as_slice().len();
         let ended = vec![in alloc; false; inputs]?;
@@ -111,6 +112,7 @@ impl Core {
     pub fn cut(&mut self) -> Result<Vec<Entry>, CutAnswer>
         ensures ok { IfOk result (λ entries. (entries.items ≡ self.old.stored) × (self.new ≡ after_cut self.old)) }
         ensures nothing { (result ≡ Err CutAnswer.NothingNew) ↔ (self.old.stored ≡ []) }
+        ensures stands { (journal : List Entry) → Stands self.old journal → Stands self.new journal }
         ensures err { OnErr result (self.new ≡ self.old) }
     {
         if self.stored.is_empty() {
@@ -124,7 +126,8 @@ impl Core {
 
     /// What was counted.
     pub fn account(&self) -> &Account
-        ensures { result.now ≡ self.now.numbers }
+        ensures numbers { result.now ≡ self.now.numbers }
+        ensures totals { (journal : List Entry) → Stands self.now journal → result.now ≡ totals self.now.setup journal }
     {
         &self.account
     }

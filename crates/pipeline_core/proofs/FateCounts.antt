@@ -1,5 +1,5 @@
 -- How many of the routed metrics have each fate.
-use Rattle.std.proofs.Common.{◌≡◌, ◌<◌, ◌≤◌, ℕ, ◌+◌, ◌*◌, cond, if◌then◌else◌, Bool, true, false, List, [], ◌∷◌, ◌++◌, length, refl, sym, ap, ◌∙◌, subst, arith, length-append, zero, suc}
+use Rattle.std.proofs.Common.{◌≡◌, ℕ, ◌+◌, cond, if◌then◌else◌, Bool, true, false, List, [], ◌∷◌, ◌++◌, length, refl, ap, ◌∙◌, arith, length-append}
 use Rattle.std.specs.List.{count_by}
 use Rattle.std.proofs.lemmas.List.Sums.{sum_by-cons}
 use Rattle.std.specs.declared.option.Option.{Option}
@@ -9,7 +9,7 @@ use Rattle.account.specs.declared.entry.Entry.{Entry}
 use Rattle.account.specs.declared.entry.Entry.TheVariants.{Gather, Ended, Take, Route, Tick, Stop, Begin, Done}
 use Rattle.account.specs.declared.entry.Verdict.{Verdict}
 use Rattle.account.specs.declared.entry.Verdict.TheVariants as verdicts
-use Rattle.out_lane.specs.LaneEvents.{LaneEvent, LaneFate, fate_at}
+use Rattle.out_lane.specs.LaneEvents.{LaneEvent, fate_at}
 use Rattle.out_lane.specs.LaneCounts.{ones, positions_counted, fates_counted}
 use Rattle.out_lane.proofs.CountLemmas.{positions_counted-add}
 use Rattle.pipeline_core.specs.Offers.{offers, lane_events, offered, offered_by, view_at}
@@ -17,7 +17,7 @@ use Rattle.pipeline_core.specs.Fates.{Fate, fate_of, fate_of_view, fates_by_verd
 use Rattle.pipeline_core.specs.Fates as fate
 use Rattle.pipeline_core.specs.Sums.{FatesAddUp}
 use Rattle.std.specs.Option.{option_to_list}
-use Rattle.pipeline_core.specs.Totals.{total_by, is_removed, routed_by, is_filtered, is_late, is_consumed, is_written, is_buffered, is_dropped, output_total}
+use Rattle.pipeline_core.specs.Totals.{total_by, is_removed, routed_by, is_filtered, is_late, is_consumed, is_written, is_buffered, is_dropped}
 
 count_by-more : (t : Fate → Bool) (x : Fate) (xs : List Fate) → count_by t (x ∷ xs) ≡ cond (t x) 1 0 + count_by t xs
 count_by-more t x xs = sum_by-cons (λ (y : Fate). cond (t y) 1 0) x xs
@@ -68,7 +68,7 @@ by_entry t limit o events position (Done number ok reports) = omega arith
 
 -- of the fates, those of metrics that came to no lane, and those of positions
 fates_from-counted : (t : Fate → Bool) (limit o : ℕ) (events : List LaneEvent) (position : ℕ) (es : List Entry) →
-  count_by t (fates_from limit o events position es) ≡ total_by (kept_out t o) es + positions_counted (test_at t limit events) position (length (offers o es))
+    count_by t (fates_from limit o events position es) ≡ total_by (kept_out t o) es + positions_counted (test_at t limit events) position (length (offers o es))
 unfolding fates_from total_by offers
 fates_from-counted t limit o events position [] = omega arith
 fates_from-counted t limit o events position (e ∷ es) =
@@ -76,7 +76,7 @@ fates_from-counted t limit o events position (e ∷ es) =
     let m : ℕ = length (offers o es) in
     let all : length (offered_by o e ++ offers o es) ≡ n + m = length-append (offered_by o e) (offers o es) in
     let both : positions_counted (test_at t limit events) position (length (offered_by o e ++ offers o es)) ≡ positions_counted (test_at t limit events) position n + positions_counted (test_at t limit events) (position + n) m =
-        ap (positions_counted (test_at t limit events) position) all ∙ positions_counted-add (test_at t limit events) position n m in
+    ap (positions_counted (test_at t limit events) position) all ∙ positions_counted-add (test_at t limit events) position n m in
     let front : count_by t (fates_by limit o events position e) ≡ kept_out t o e + positions_counted (test_at t limit events) position n = by_entry t limit o events position e in
     let back : count_by t (fates_from limit o events (position + n) es) ≡ total_by (kept_out t o) es + positions_counted (test_at t limit events) (position + n) m = fates_from-counted t limit o events (position + n) es in
     omega (arith, count_by-append t (fates_by limit o events position e) (fates_from limit o events (position + n) es))

@@ -1,22 +1,19 @@
 -- A core that stands for a journal, and one entry more.
-use Rattle.std.proofs.Common.{◌≡◌, ◌<◌, ◌≤◌, ◌⊎◌, ℕ, ℤ, ◌+◌, ◌^◌, Bool, true, false, ◌||◌, List, [], ◌∷◌, ◌++◌, length, drop, refl, sym, ap, ◌∙◌, subst, arith, append_assoc, append-nil, set, get_or}
+use Rattle.std.proofs.Common.{◌≡◌, ◌<◌, ℕ, ℤ, ◌+◌, Bool, false, ◌||◌, List, [], ◌∷◌, ◌++◌, length, drop, sym, ap, ◌∙◌, append_assoc, append-nil}
 use Rattle.std.proofs.Math.Bool.{or-false}
 use Rattle.std.specs.Prelude.{slice_get}
 use Rattle.std.specs.declared.option.Option.{Option}
-use Rattle.std.specs.declared.option.Option.TheVariants.{Some, None}
+use Rattle.std.specs.declared.option.Option.TheVariants.{Some}
 use Rattle.metric.specs.declared.metric.Content.{Content}
-use Rattle.account.specs.Items.{named_by, items, takes_by, taken, raw_items, held_after, in_hand}
-use Rattle.account.specs.Numbers.{Numbers}
+use Rattle.account.specs.Items.{named_by, takes_by, held_after}
 use Rattle.account.specs.declared.entry.Entry.{Entry}
-use Rattle.out_lane.specs.LaneEvents.{LaneEvent}
 use Rattle.out_lane.specs.LaneLaws.{IsLaneOf}
 use Rattle.pipeline_core.specs.Offers.{offers, offered_by, lane_events, lane_events_by}
-use Rattle.pipeline_core.specs.Legal.{has_stop, is_stop, has_ended, is_ended_of, gathered_count, gathered_by, counted_from, moment_after, Meets, IsLegal}
-use Rattle.pipeline_core.specs.Totals.{totals, made_by, removed_by, routed_by, input_with, output_total}
+use Rattle.pipeline_core.specs.Legal.{is_stop, has_ended, is_ended_of, gathered_by, moment_after, Meets}
+use Rattle.pipeline_core.specs.Totals.{totals}
 use Rattle.pipeline_core.specs.CoreState.{CoreState, lane_at, sizes_at}
 use Rattle.pipeline_core.specs.Stands.{Stands}
-use Rattle.pipeline_core.proofs.JournalPush.{items-push, taken-push, in_hand-push, offers-push, lane_events-push, has_stop-push, has_ended-push, gathered_count-push, counted_from-push, IsLegal-push, raw_items-push}
-use Rattle.pipeline_core.proofs.TotalPush.{inputs-same}
+use Rattle.pipeline_core.proofs.JournalPush.{taken-push, in_hand-push, offers-push, lane_events-push, has_stop-push, has_ended-push, gathered_count-push, counted_from-push, IsLegal-push, raw_items-push}
 
 -- what one entry makes of a core that stands for a journal
 pub record Grows (s t : CoreState) (journal : List Entry) (e : Entry) : Type 0 where

@@ -1,13 +1,11 @@
 -- A new core stands for the empty journal, and a cut changes no journal.
-use Rattle.std.proofs.Common.{◌≡◌, ◌<◌, ◌≤◌, ℕ, Bool, true, false, List, [], ◌∷◌, ◌++◌, length, map, replicate, is_some, refl, sym, ap, ◌∙◌, subst, arith, append-nil, get_or, if◌then◌else◌}
+use Rattle.std.proofs.Common.{◌≡◌, ◌<◌, ◌≤◌, ℕ, Bool, false, List, [], length, map, replicate, is_some, refl, sym, ap, ◌∙◌, subst, arith, append-nil, get_or, if◌then◌else◌}
 use Rattle.std.proofs.lemmas.Option.{slice_get-get_or}
 use Rattle.std.proofs.lemmas.List.{ext_get_or, get_or-map, get_or-replicate, length-map, length-replicate}
-use Rattle.std.specs.Prelude.{slice_get}
 use Rattle.std.specs.List.{All}
-use Rattle.std.specs.declared.option.Option.{Option}
 use Rattle.std.specs.declared.option.Option.TheVariants.{Some, None}
 use Rattle.account.specs.Items.{items, taken, in_hand_from}
-use Rattle.account.specs.Numbers.{Numbers, unread_input, unreached_output}
+use Rattle.account.specs.Numbers.{unread_input, unreached_output}
 use Rattle.account.specs.declared.entry.Entry.{Entry}
 use Rattle.out_lane.specs.Lane.{empty_lane}
 use Rattle.out_lane.specs.LaneLaws.{IsLaneOf}
@@ -17,7 +15,7 @@ use Rattle.pipeline_core.specs.Offers.{offers, lane_events}
 use Rattle.pipeline_core.specs.Fates.{fates_from}
 use Rattle.pipeline_core.specs.Legal.{AreLegal, has_stop, has_ended, gathered_count, counted_from}
 use Rattle.pipeline_core.specs.Totals.{totals, total_by, input_total_from}
-use Rattle.pipeline_core.specs.CoreState.{CoreState, IsCore, setup_of, first_state, lane_at, lane_of, sizes, sizes_at, most_undelivered}
+use Rattle.pipeline_core.specs.CoreState.{CoreState, setup_of, first_state, lane_at, lane_of, sizes, most_undelivered}
 use Rattle.pipeline_core.specs.Stands.{Stands}
 use Rattle.pipeline_core.specs.Steps.{after_cut}
 use Rattle.pipeline_core.specs.declared.setup.CoreSetup.{CoreSetup}
@@ -56,7 +54,7 @@ no_input : InSetup
 no_input = record { tracked = false; max_undelivered = 0 }
 
 lanes_at_first : (outputs : List OutSetup) → All (λ (x : OutSetup). (1 ≤ x.batch) × (x.batch ≤ x.limit)) outputs → (o : ℕ) → o < length outputs →
-  IsLaneOf (get_or (map sizes outputs) o (0, 0)).0 (get_or (map sizes outputs) o (0, 0)).1 (lane_events o []) (offers o []) (lane_at (map lane_of outputs) o)
+    IsLaneOf (get_or (map sizes outputs) o (0, 0)).0 (get_or (map sizes outputs) o (0, 0)).1 (lane_events o []) (offers o []) (lane_at (map lane_of outputs) o)
 unfolding lane_events offers
 lanes_at_first outputs sized o b =
     rw (get_or-map sizes outputs o no_output (0, 0) b, get_or-map lane_of outputs o no_output (empty_lane 0 0) b)
@@ -70,9 +68,9 @@ inputs_at_first setup untracked =
     let l : length (map unread_input (replicate (length setup.inputs) false)) ≡ length setup.inputs = length-map (replicate (length setup.inputs) false) unread_input ∙ m in
     ext_get_or (unread_input false) (map unread_input (replicate (length setup.inputs) false)) (totals (setup_of setup) []).inputs (l ∙ sym n ∙ sym (length-inputs (setup_of setup) []))
     (λ i b. let c : i < length setup.inputs = omega arith in
-        get_or-map unread_input (replicate (length setup.inputs) false) i false (unread_input false) (omega arith) ∙ ap unread_input (get_or-replicate (length setup.inputs) i false false c)
-        ∙ ap (λ (t : Bool). unread_input t) (sym (ap is_some (get_or-map most_undelivered setup.inputs i no_input None c ∙ ap (λ (t : Bool). if t then Some (get_or setup.inputs i no_input).max_undelivered else None) (untracked i no_input c))))
-        ∙ sym (inputs-at (setup_of setup) [] i (omega arith)))
+    get_or-map unread_input (replicate (length setup.inputs) false) i false (unread_input false) (omega arith) ∙ ap unread_input (get_or-replicate (length setup.inputs) i false false c)
+    ∙ ap (λ (t : Bool). unread_input t) (sym (ap is_some (get_or-map most_undelivered setup.inputs i no_input None c ∙ ap (λ (t : Bool). if t then Some (get_or setup.inputs i no_input).max_undelivered else None) (untracked i no_input c))))
+    ∙ sym (inputs-at (setup_of setup) [] i (omega arith)))
 
 outputs_at_first : (setup : CoreSetup) → replicate (length setup.outputs) unreached_output ≡ (totals (setup_of setup) []).outputs
 unfolding fates_from

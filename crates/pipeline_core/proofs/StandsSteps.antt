@@ -1,29 +1,25 @@
 -- A core that stands for a journal stands for it with the call's entry more.
-use Rattle.std.proofs.Common.{◌≡◌, ◌≢◌, ◌<◌, ◌≤◌, ◌≤ℤ◌, ◌⊎◌, ℕ, ℤ, ◌+◌, ◌-◌, ◌^◌, ◌==◌, Bool, true, false, ◌||◌, List, [], ◌∷◌, ◌++◌, length, map, take, drop, is_some, min, inl, inr, refl, sym, ap, ◌∙◌, subst, arith, append_assoc, append-nil, length-append, length-drop, set, get_or, if◌then◌else◌}
+use Rattle.std.proofs.Common.{◌≡◌, ◌≢◌, ◌<◌, ◌≤◌, ◌≤ℤ◌, ◌⊎◌, ℕ, ℤ, ◌+◌, ◌==◌, Bool, true, false, ◌||◌, List, [], ◌∷◌, ◌++◌, length, drop, inl, inr, refl, sym, ap, ◌∙◌, subst, arith, append-nil, length-drop, set, get_or, if◌then◌else◌}
 use Rattle.std.proofs.Math.Bool.{or-false}
 use Rattle.std.proofs.Math.Nat.{eq-or-lt_of_le}
 use Rattle.std.proofs.lemmas.Bool.{cases_lt}
 use Rattle.std.proofs.lemmas.Option.{slice_get-get_or, slice_get_within, get_or_from_slice_get}
-use Rattle.std.proofs.lemmas.List.{get_or-set_same, get_or-set_other, ext_get_or, length-set}
+use Rattle.std.proofs.lemmas.List.{get_or-set_same, get_or-set_other, length-set}
 use Rattle.std.specs.Int.{int_max}
 use Rattle.std.specs.Prelude.{slice_get}
-use Rattle.std.specs.List.{All}
-use Rattle.std.specs.declared.option.Option.{Option}
 use Rattle.std.specs.declared.option.Option.TheVariants.{Some, None}
 use Rattle.metric.specs.declared.metric.Content.{Content}
 use Rattle.account.specs.Setup.{Setup}
-use Rattle.account.specs.Items.{items, taken, raw_items, in_hand}
-use Rattle.account.specs.Numbers.{Numbers, unread_input, unreached_output, gathered_more, input_numbers, with_input}
+use Rattle.account.specs.Items.{items, taken}
+use Rattle.account.specs.Numbers.{Numbers, unread_input, gathered_more}
 use Rattle.account.specs.declared.numbers.InputNumbers.{InputNumbers}
-use Rattle.account.specs.declared.numbers.OutputNumbers.{OutputNumbers}
 use Rattle.account.specs.declared.entry.Entry.{Entry}
-use Rattle.account.specs.declared.entry.Entry.TheVariants.{Gather, Ended, Take, Route, Tick, Stop, Begin, Done}
-use Rattle.out_lane.specs.LaneEvents.{LaneEvent}
+use Rattle.account.specs.declared.entry.Entry.TheVariants.{Ended, Take, Stop}
 use Rattle.pipeline_core.specs.Fates.{Fate}
-use Rattle.pipeline_core.specs.Offers.{offers, offered_by, lane_events, lane_events_by}
-use Rattle.pipeline_core.specs.Legal.{has_stop, has_ended, gathered_count, counted_from, IsLegal}
-use Rattle.pipeline_core.specs.Totals.{totals, made_by, removed_by, routed_by, input_with, output_total}
-use Rattle.pipeline_core.specs.CoreState.{CoreState, IsCore, lane_at, sizes_at}
+use Rattle.pipeline_core.specs.Offers.{offered_by, lane_events_by}
+use Rattle.pipeline_core.specs.Legal.{has_ended}
+use Rattle.pipeline_core.specs.Totals.{totals}
+use Rattle.pipeline_core.specs.CoreState.{CoreState, IsCore, sizes_at}
 use Rattle.pipeline_core.specs.Stands.{Stands, Continues}
 use Rattle.pipeline_core.specs.Steps.{after_gather, after_ended, after_take, after_stop, gather_entry, HasNumbers, HasPlace}
 use Rattle.pipeline_core.specs.declared.gathering.Gathered.{Gathered}
@@ -33,7 +29,7 @@ use Rattle.pipeline_core.proofs.Keeping.{full}
 use Rattle.pipeline_core.proofs.FateCounts.{kept_out}
 use Rattle.pipeline_core.proofs.TotalPush.{inputs-same, inputs-set, outputs-same}
 use Rattle.pipeline_core.proofs.OutputPush.{output_stays, totals-push}
-use Rattle.pipeline_core.proofs.Standing.{Grows, stands_grows, lanes_stay, ended_stays}
+use Rattle.pipeline_core.proofs.Standing.{stands_grows, lanes_stay, ended_stays}
 
 nil_of_length : (xs : List Content) → length xs ≡ 0 → xs ≡ []
 nil_of_length [] h = refl
@@ -61,7 +57,7 @@ placed_raw raw n (inr h) = inr h
 
 -- an entry that does nothing at the outputs
 pub outputs_stay : (setup : Setup) (journal : List Entry) (e : Entry) → ((o : ℕ) → lane_events_by o e ≡ []) → ((o : ℕ) → offered_by o e ≡ []) → ((o : ℕ) (t : Fate → Bool) → kept_out t o e ≡ 0) →
-  (totals setup (journal ++ e ∷ [])).outputs ≡ (totals setup journal).outputs
+    (totals setup (journal ++ e ∷ [])).outputs ≡ (totals setup journal).outputs
 outputs_stay setup journal e l v k = outputs-same setup journal e (λ o b. output_stays (sizes_at setup o).1 o journal e (l o) (v o) (k o))
 
 pub stands_take : (s : CoreState) → s.held ≡ None → 0 < length s.raw → Continues s (after_take s) (Take s.taken)
@@ -103,7 +99,7 @@ stands_stop s moment going journal h =
       counted = refl;
       ended = ended_stays s journal h;
       ended_count = refl;
-      stopped = ap (λ (b : Bool). b || true) (sym going) ;
+      stopped = ap (λ (b : Bool). b || true) (sym going);
     })
 
 -- which inputs have ended with one more
@@ -137,7 +133,7 @@ stands_ended s input core reading going journal h =
       numbers = totals-push s.setup journal e s.numbers (after_ended s input).numbers h.numbers
           (ap (λ (m : Numbers). set m.inputs input (record (get_or m.inputs input (unread_input false)) { has_ended = true })) h.numbers
           ∙ sym (inputs-set s.setup journal e input (record (get_or (totals s.setup journal).inputs input (unread_input false)) { has_ended = true }) n (λ k x d. ap (λ (t : Bool). if t then record x { has_ended = true } else x) (differs input k (omega (arith, d))))
-              (ap (λ (t : Bool). if t then record (get_or (totals s.setup journal).inputs input (unread_input false)) { has_ended = true } else get_or (totals s.setup journal).inputs input (unread_input false)) (same_number input))))
+          (ap (λ (t : Bool). if t then record (get_or (totals s.setup journal).inputs input (unread_input false)) { has_ended = true } else get_or (totals s.setup journal).inputs input (unread_input false)) (same_number input))))
           (omega arith) (omega arith) (omega arith)
           (ap (λ (m : Numbers). m.outputs) h.numbers ∙ sym (outputs_stay s.setup journal e (λ o. refl) (λ o. refl) (λ o t. refl)));
       stored = refl;
@@ -173,7 +169,7 @@ stands_gather s g core reading going few place journal h =
       numbers = totals-push s.setup journal e s.numbers (after_gather s g).numbers h.numbers
           (ap (λ (m : Numbers). set m.inputs g.input (more (get_or m.inputs g.input (unread_input false)))) h.numbers
           ∙ sym (inputs-set s.setup journal e g.input (more old) n (λ k x d. ap (λ (t : Bool). if t then more x else x) (differs g.input k (omega (arith, d))))
-              (ap (λ (t : Bool). if t then more old else old) (same_number g.input))))
+          (ap (λ (t : Bool). if t then more old else old) (same_number g.input))))
           (omega arith) (omega arith) (omega arith)
           (ap (λ (m : Numbers). m.outputs) h.numbers ∙ sym (outputs_stay s.setup journal e (λ o. refl) (λ o. refl) (λ o t. refl)));
       stored = refl;

@@ -1,31 +1,26 @@
 -- The numbers of a journal with one entry more.
-use Rattle.std.proofs.Common.{◌≡◌, ◌≢◌, ◌<◌, ◌≤◌, ◌⊎◌, ℕ, ◌+◌, ◌-◌, ◌*◌, ◌==◌, cond, if◌then◌else◌, Bool, true, false, List, [], ◌∷◌, ◌++◌, length, map, set, get_or, is_some, inl, inr, refl, sym, ap, ◌∙◌, subst, arith, length-append, append-nil, zero, suc}
+use Rattle.std.proofs.Common.{◌≡◌, ◌≢◌, ◌<◌, ℕ, ◌+◌, ◌*◌, Bool, false, List, [], ◌∷◌, ◌++◌, length, set, get_or, is_some, inl, inr, refl, sym, ap, ◌∙◌, subst, arith, length-append, append-nil}
 use Rattle.std.specs.List.{count_by, enumerate_from}
-use Rattle.std.specs.Option.{option_to_list}
-use Rattle.std.specs.Prelude.{slice_get}
 use Rattle.std.specs.declared.option.Option.{Option}
-use Rattle.std.specs.declared.option.Option.TheVariants.{Some, None}
+use Rattle.std.specs.declared.option.Option.TheVariants.{None}
 use Rattle.std.proofs.Math.Nat.{eq-or-lt_of_le}
 use Rattle.std.proofs.lemmas.Bool.{cases_lt}
-use Rattle.std.proofs.lemmas.Option.{slice_get-get_or}
 use Rattle.std.proofs.lemmas.List.{get_or-set_same, get_or-set_other, ext_get_or, length-set, get_or-map, length-map}
 use Rattle.std.proofs.lemmas.List.FromFn.{get_or-enumerate_from, length-enumerate_from}
 use Rattle.metric.specs.declared.metric.Content.{Content}
 use Rattle.account.specs.Setup.{Setup}
-use Rattle.account.specs.Numbers.{Numbers, unread_input, unreached_output, written_more, dropped_more}
+use Rattle.account.specs.Numbers.{unread_input, unreached_output}
 use Rattle.account.specs.declared.numbers.InputNumbers.{InputNumbers}
 use Rattle.account.specs.declared.numbers.OutputNumbers.{OutputNumbers}
 use Rattle.account.specs.declared.entry.Entry.{Entry}
 use Rattle.out_lane.specs.LaneEvents.{LaneEvent, LaneFate, fate_at}
 use Rattle.out_lane.specs.LaneEvents as lane
-use Rattle.out_lane.specs.Lane.{LaneState, pushed_out, failed_out, after_push}
 use Rattle.out_lane.specs.LaneCounts.{ones, positions_counted, fates_counted}
-use Rattle.out_lane.specs.LaneLaws.{IsLaneOf, KeepsFates, Becomes, Pushes, Accepts, Fails}
+use Rattle.out_lane.specs.LaneLaws.{KeepsFates, Becomes}
 use Rattle.out_lane.proofs.CountLemmas.{positions_counted-add, keeps_counted, becomes_counted}
 use Rattle.pipeline_core.specs.Offers.{offers, offered_by, lane_events, lane_events_by}
 use Rattle.pipeline_core.specs.Fates.{Fate, fate_of, fates}
-use Rattle.pipeline_core.specs.Totals.{totals, total_by, input_with, input_total_from, input_total, output_total, is_filtered, is_late, is_consumed, is_written, is_buffered, is_dropped}
-use Rattle.pipeline_core.specs.Steps.{numbers_with, buffered_more, counted_done, count_done}
+use Rattle.pipeline_core.specs.Totals.{totals, total_by, input_with, input_total_from, input_total, output_total}
 use Rattle.pipeline_core.proofs.JournalPush.{offers-push, lane_events-push}
 use Rattle.pipeline_core.proofs.FateCounts.{kept_out, fates-counted, total_by-push}
 
@@ -56,7 +51,7 @@ inputs-same setup journal e h =
 
 -- an entry of one input
 pub inputs-set : (setup : Setup) (journal : List Entry) (e : Entry) (i : ℕ) (y : InputNumbers) → i < length setup.inputs → ((k : ℕ) (x : InputNumbers) → k ≢ i → input_with k x e ≡ x) →
-  input_with i (get_or (totals setup journal).inputs i (unread_input false)) e ≡ y → (totals setup (journal ++ e ∷ [])).inputs ≡ set (totals setup journal).inputs i y
+    input_with i (get_or (totals setup journal).inputs i (unread_input false)) e ≡ y → (totals setup (journal ++ e ∷ [])).inputs ≡ set (totals setup journal).inputs i y
 inputs-set setup journal e i y b others here =
     let n : length (totals setup (journal ++ e ∷ [])).inputs ≡ length setup.inputs = length-inputs setup (journal ++ e ∷ []) in
     let m : length (totals setup journal).inputs ≡ length setup.inputs = length-inputs setup journal in
@@ -85,19 +80,19 @@ outputs-push setup journal e o y b h = outputs-at setup (journal ++ e ∷ []) o 
 
 -- other numbers at each output
 pub outputs-as : (setup : Setup) (journal : List Entry) (e : Entry) (all : List OutputNumbers) → length all ≡ length setup.outputs → ((o : ℕ) → o < length setup.outputs → output_total (get_or setup.outputs o (0, 0)).1 o (journal ++ e ∷ []) ≡ get_or all o unreached_output) →
-  (totals setup (journal ++ e ∷ [])).outputs ≡ all
+    (totals setup (journal ++ e ∷ [])).outputs ≡ all
 outputs-as setup journal e all n h =
     ext_get_or unreached_output (totals setup (journal ++ e ∷ [])).outputs all (length-outputs setup (journal ++ e ∷ []) ∙ sym n)
     (λ o b. let c : o < length setup.outputs = omega (arith, length-outputs setup (journal ++ e ∷ [])) in outputs-push setup journal e o (get_or all o unreached_output) c (h o c))
 
 -- an entry that says nothing of outputs
 pub outputs-same : (setup : Setup) (journal : List Entry) (e : Entry) → ((o : ℕ) → o < length setup.outputs → output_total (get_or setup.outputs o (0, 0)).1 o (journal ++ e ∷ []) ≡ output_total (get_or setup.outputs o (0, 0)).1 o journal) →
-  (totals setup (journal ++ e ∷ [])).outputs ≡ (totals setup journal).outputs
+    (totals setup (journal ++ e ∷ [])).outputs ≡ (totals setup journal).outputs
 outputs-same setup journal e h = outputs-as setup journal e (totals setup journal).outputs (length-outputs setup journal) (λ o b. h o b ∙ sym (outputs-at setup journal o b))
 
 -- an entry of one output
 pub outputs-set : (setup : Setup) (journal : List Entry) (e : Entry) (o : ℕ) (y : OutputNumbers) → o < length setup.outputs → ((k : ℕ) → k < length setup.outputs → k ≢ o → output_total (get_or setup.outputs k (0, 0)).1 k (journal ++ e ∷ []) ≡ output_total (get_or setup.outputs k (0, 0)).1 k journal) →
-  output_total (get_or setup.outputs o (0, 0)).1 o (journal ++ e ∷ []) ≡ y → (totals setup (journal ++ e ∷ [])).outputs ≡ set (totals setup journal).outputs o y
+    output_total (get_or setup.outputs o (0, 0)).1 o (journal ++ e ∷ []) ≡ y → (totals setup (journal ++ e ∷ [])).outputs ≡ set (totals setup journal).outputs o y
 outputs-set setup journal e o y b others here =
     let all : List OutputNumbers = (totals setup journal).outputs in
     let m : length all ≡ length setup.outputs = length-outputs setup journal in
@@ -126,43 +121,43 @@ tested t f = t (fate_of f)
 
 -- the counts with one entry more
 count-push : (t : Fate → Bool) (limit o : ℕ) (es : List Entry) (e : Entry) (events : List LaneEvent) (views : List Content) → lane_events_by o e ≡ events → offered_by o e ≡ views →
-  count_by t (fates limit o (es ++ e ∷ [])) ≡ total_by (kept_out t o) es + kept_out t o e + fates_counted (tested t) limit (lane_events o es ++ events) (length (offers o es ++ views))
+    count_by t (fates limit o (es ++ e ∷ [])) ≡ total_by (kept_out t o) es + kept_out t o e + fates_counted (tested t) limit (lane_events o es ++ events) (length (offers o es ++ views))
 count-push t limit o es e events views l v =
     let a : lane_events o (es ++ e ∷ []) ≡ lane_events o es ++ events = lane_events-push o es e ∙ ap (λ (x : List LaneEvent). lane_events o es ++ x) l in
     let b : offers o (es ++ e ∷ []) ≡ offers o es ++ views = offers-push o es e ∙ ap (λ (x : List Content). offers o es ++ x) v in
     let c : fates_counted (tested t) limit (lane_events o (es ++ e ∷ [])) (length (offers o (es ++ e ∷ []))) ≡ fates_counted (tested t) limit (lane_events o es ++ events) (length (offers o es ++ views)) =
-        ap (λ (x : List LaneEvent). fates_counted (tested t) limit x (length (offers o (es ++ e ∷ [])))) a ∙ ap (λ (x : List Content). fates_counted (tested t) limit (lane_events o es ++ events) (length x)) b in
+    ap (λ (x : List LaneEvent). fates_counted (tested t) limit x (length (offers o (es ++ e ∷ [])))) a ∙ ap (λ (x : List Content). fates_counted (tested t) limit (lane_events o es ++ events) (length x)) b in
     omega (arith, fates-counted t limit o (es ++ e ∷ []), total_by-push (kept_out t o) es e)
 
 -- an entry that does nothing at the output's lane
 pub count-plain : (t : Fate → Bool) (limit o : ℕ) (es : List Entry) (e : Entry) → lane_events_by o e ≡ [] → offered_by o e ≡ [] → count_by t (fates limit o (es ++ e ∷ [])) ≡ count_by t (fates limit o es) + kept_out t o e
 count-plain t limit o es e l v =
     let a : fates_counted (tested t) limit (lane_events o es ++ []) (length (offers o es ++ [])) ≡ fates_counted (tested t) limit (lane_events o es) (length (offers o es)) =
-        ap (λ (x : List LaneEvent). fates_counted (tested t) limit x (length (offers o es ++ []))) (append-nil (lane_events o es)) ∙ ap (λ (x : List Content). fates_counted (tested t) limit (lane_events o es) (length x)) (append-nil (offers o es)) in
+    ap (λ (x : List LaneEvent). fates_counted (tested t) limit x (length (offers o es ++ []))) (append-nil (lane_events o es)) ∙ ap (λ (x : List Content). fates_counted (tested t) limit (lane_events o es) (length x)) (append-nil (offers o es)) in
     omega (arith, count-push t limit o es e [] [] l v, fates-counted t limit o es)
 
 -- an entry that begins a batch of the output
 pub count-keep : (t : Fate → Bool) (limit o : ℕ) (es : List Entry) (e : Entry) (event : LaneEvent) → lane_events_by o e ≡ event ∷ [] → offered_by o e ≡ [] → kept_out t o e ≡ 0 → KeepsFates limit (lane_events o es) (lane_events o es ++ event ∷ []) (offers o es) →
-  count_by t (fates limit o (es ++ e ∷ [])) ≡ count_by t (fates limit o es)
+    count_by t (fates limit o (es ++ e ∷ [])) ≡ count_by t (fates limit o es)
 count-keep t limit o es e event l v z k =
     let a : fates_counted (tested t) limit (lane_events o es ++ event ∷ []) (length (offers o es ++ [])) ≡ fates_counted (tested t) limit (lane_events o es ++ event ∷ []) (length (offers o es)) =
-        ap (λ (x : List Content). fates_counted (tested t) limit (lane_events o es ++ event ∷ []) (length x)) (append-nil (offers o es)) in
+    ap (λ (x : List Content). fates_counted (tested t) limit (lane_events o es ++ event ∷ []) (length x)) (append-nil (offers o es)) in
     omega (arith, count-push t limit o es e (event ∷ []) [] l v, fates-counted t limit o es, keeps_counted (tested t) limit (lane_events o es) (lane_events o es ++ event ∷ []) (offers o es) k)
 
 -- an entry by which some views are no longer buffered
 pub count-become : (t : Fate → Bool) (limit o : ℕ) (es : List Entry) (e : Entry) (event : LaneEvent) (fate : LaneFate) (views : List Content) → lane_events_by o e ≡ event ∷ [] → offered_by o e ≡ [] → kept_out t o e ≡ 0 →
-  Becomes limit (lane_events o es) (lane_events o es ++ event ∷ []) (offers o es) fate views →
-  count_by t (fates limit o (es ++ e ∷ [])) + ones (tested t lane.Buffered) * length views ≡ count_by t (fates limit o es) + ones (tested t fate) * length views
+    Becomes limit (lane_events o es) (lane_events o es ++ event ∷ []) (offers o es) fate views →
+    count_by t (fates limit o (es ++ e ∷ [])) + ones (tested t lane.Buffered) * length views ≡ count_by t (fates limit o es) + ones (tested t fate) * length views
 count-become t limit o es e event fate views l v z k =
     let a : fates_counted (tested t) limit (lane_events o es ++ event ∷ []) (length (offers o es ++ [])) ≡ fates_counted (tested t) limit (lane_events o es ++ event ∷ []) (length (offers o es)) =
-        ap (λ (x : List Content). fates_counted (tested t) limit (lane_events o es ++ event ∷ []) (length x)) (append-nil (offers o es)) in
+    ap (λ (x : List Content). fates_counted (tested t) limit (lane_events o es ++ event ∷ []) (length x)) (append-nil (offers o es)) in
     omega (arith, count-push t limit o es e (event ∷ []) [] l v, fates-counted t limit o es, becomes_counted (tested t) limit (lane_events o es) (lane_events o es ++ event ∷ []) (offers o es) fate views k)
 
 -- an entry by which a view comes, and others are no longer buffered
 pub count-come : (t : Fate → Bool) (limit o : ℕ) (es : List Entry) (e : Entry) (view : Content) (views : List Content) → lane_events_by o e ≡ lane.Push ∷ [] → offered_by o e ≡ view ∷ [] → kept_out t o e ≡ 0 →
-  fate_at limit (lane_events o es ++ lane.Push ∷ []) (length (offers o es)) ≡ lane.Buffered →
-  Becomes limit (lane_events o es) (lane_events o es ++ lane.Push ∷ []) (offers o es) lane.Dropped views →
-  count_by t (fates limit o (es ++ e ∷ [])) + ones (tested t lane.Buffered) * length views ≡ count_by t (fates limit o es) + ones (tested t lane.Dropped) * length views + ones (tested t lane.Buffered)
+    fate_at limit (lane_events o es ++ lane.Push ∷ []) (length (offers o es)) ≡ lane.Buffered →
+    Becomes limit (lane_events o es) (lane_events o es ++ lane.Push ∷ []) (offers o es) lane.Dropped views →
+    count_by t (fates limit o (es ++ e ∷ [])) + ones (tested t lane.Buffered) * length views ≡ count_by t (fates limit o es) + ones (tested t lane.Dropped) * length views + ones (tested t lane.Buffered)
 count-come t limit o es e view views l v z new k =
     let after : List LaneEvent = lane_events o es ++ lane.Push ∷ [] in
     let n : ℕ = length (offers o es) in

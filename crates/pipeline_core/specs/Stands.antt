@@ -2,7 +2,6 @@
 use Rattle.std.specs.Prelude.{◌≡◌, ◌<◌, ℕ, List, [], ◌∷◌, ◌++◌, length, slice_get}
 use Rattle.std.specs.declared.option.Option.TheVariants.{Some}
 use Rattle.account.specs.Items.{taken, raw_items, in_hand}
-use Rattle.account.specs.Setup.{Setup}
 use Rattle.account.specs.declared.entry.Entry.{Entry}
 use Rattle.out_lane.specs.LaneLaws.{IsLaneOf}
 use Rattle.pipeline_core.specs.Offers.{offers, lane_events}

@@ -112,8 +112,14 @@ impl Core {
         make_room(&mut self.stored, self.outputs.len())?;
         self.raw.append(&mut copies)?;
         self.gathered += count as u32;
-        self.account
-            .gathered(g.input, g.pieces, g.refused, g.passed, g.filtered, count as u32);
+        self.account.gathered(
+            g.input,
+            g.pieces,
+            g.refused,
+            g.passed,
+            g.filtered,
+            count as u32,
+        );
         self.stored.push_reserved(Entry::Gather {
             input: g.input,
             moment: g.moment,

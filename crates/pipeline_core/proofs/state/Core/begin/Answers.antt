@@ -27,7 +27,7 @@ returns-clause-stands c =
     let within : c.args.output < length c.self.inside.outputs.items = omega (arith, c.self.invariant.core.lanes) in
     let first : lane_at c.args.self.now.lanes c.args.output ≡ c.index-place.result.now = ap (λ (s : CoreState). lane_at s.lanes c.args.output) (sym c.self.view_is) ∙ placed c.self.inside.outputs.items c.args.output c.index-place.result.now within c.index-place.ensures in
     let place : lane_at c.args.self.now.lanes c.args.output ≡ c.index_mut-place.result.now =
-        ap (λ (s : CoreState). lane_at s.lanes c.args.output) (sym c.self.view_is) ∙ placed c.self.inside.outputs.items c.args.output c.index_mut-place.result.now within c.index_mut-place.ensures.value in
+    ap (λ (s : CoreState). lane_at s.lanes c.args.output) (sym c.self.view_is) ∙ placed c.self.inside.outputs.items c.args.output c.index_mut-place.result.now within c.index_mut-place.ensures.value in
     begin_stands c.args.self.now _ c.args.output c.in-Ok-begin.batch.from c.in-Ok-begin.batch.to (search rules) c.requires
     (ap (λ (x : LaneState Content). length x.flight) first ∙ c.in_ok-ready.ensures.ok.0)
     (omega (arith, ap (λ (x : LaneState Content). length x.waiting) first, c.in_ok-ready.ensures.ok.1))

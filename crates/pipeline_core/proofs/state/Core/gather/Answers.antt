@@ -1,4 +1,4 @@
-use Rattle.std.proofs.Common.{◌≡◌, ◌<◌, ◌+◌, ◌++◌, List, ◌∙◌, ap, sym, length, rules, subst, arith}
+use Rattle.std.proofs.Common.{◌+◌, ◌++◌, List, ◌∙◌, ap, length, rules, subst, arith}
 use Rattle.std.proofs.lemmas.Grind.{common_steps}
 use Rattle.metric.specs.declared.metric.Content.{Content}
 use Rattle.account.specs.Numbers.{with_input, input_numbers, gathered_more}

@@ -1,10 +1,9 @@
-use Rattle.std.proofs.Common.{◌≡◌, ◌<◌, ◌∙◌, ap, sym, List, map, length, replicate, Bool, false, arith}
+use Rattle.std.proofs.Common.{◌≡◌, ◌∙◌, ap, List, map, length, replicate, Bool, false, arith}
 use Rattle.std.proofs.lemmas.Grind.{common_steps}
 use Rattle.std.proofs.lemmas.List.{length-map}
 use Rattle.account.specs.Numbers.{no_numbers}
 use Rattle.pipeline_core.specs.declared.setup.InSetup.{InSetup}
-use Rattle.pipeline_core.specs.CoreState.{CoreState, lane_of}
-use Rattle.pipeline_core.specs.CoreView.{core_state}
+use Rattle.pipeline_core.specs.CoreState.{lane_of}
 use Rattle.pipeline_core.proofs.StandsCuts.{first_stands}
 use Rattle.pipeline_core.proofs.Keeping.{kept_first, spare_at_first}
 use Rattle.pipeline_core.proofs.state.Core.new.Goals as goal

@@ -1,4 +1,4 @@
-use Rattle.std.proofs.Common.{◌≡◌, ◌<◌, ◌∙◌, ap, sym, List, length, Some, Option, rules, subst, arith}
+use Rattle.std.proofs.Common.{◌≡◌, ◌∙◌, ap, List, length, Option, rules, subst, arith}
 use Rattle.metric.specs.declared.metric.Content.{Content}
 use Rattle.pipeline_core.specs.CoreState.{CoreState, IsCore}
 use Rattle.pipeline_core.specs.CoreView.{core_state}

@@ -1,7 +1,10 @@
 //! What is counted of a run.
-ghost use Rattle.std.specs.Prelude.{◌≡◌, ◌+◌, ◌<◌, ◌≤◌, ◌^◌, ◌↔◌, true, length, IfOk, IsTrue};
+ghost use Rattle.std.specs.Prelude.{◌≡◌, ◌+◌, ◌<◌, ◌≤◌, ◌^◌, ◌↔◌, true, ◌++◌, length, IfOk, OnOk, OnErr, IsTrue};
 ghost use Rattle.account.specs.Numbers.{Numbers, no_numbers, input_numbers, output_numbers, with_input, with_output, gathered_more, written_more, dropped_more, IsInputBelow, AreBelow};
+ghost use Rattle.account.specs.Extends.{Extends};
+ghost use Rattle.account.specs.AccountText.{account_text};
 
+use crate::text::{append_inputs, append_items, append_outputs};
 use crate::{InputNumbers, OutputNumbers};
 use fixed_num::OutOfMemory;
 use std::alloc::Global;
@@ -49,6 +52,34 @@ impl Account {
             && self.routed < 1 << 63
             && self.inputs.iter().all(|x| x.has_room())
             && self.outputs.iter().all(|x| x.has_room())
+    }
+
+    /// Appends the account's text: a line for each input, and one for the groups of each tracked
+    /// one, a line for the items, and a line for each output.
+    pub fn text(&self, _alloc: Global, out: &mut Vec<u8>) -> Result<(), OutOfMemory>
+        ensures ok { OnOk result (out.new.items ≡ out.old.items ++ account_text self.now) }
+        ensures err { OnErr result (out.new.items ≡ out.old.items) }
+    {
+        let len = out.len();
+        match self.append_text(out) {
+            Ok(()) => Ok(()),
+            Err(fault) => {
+                out.truncate(len);
+                Err(fault)
+            }
+        }
+    }
+
+    // Appends the account's text, or a front of it.
+    #[tactic(auto, unfolding(crate::specs::AccountText::account_text))]
+    fn append_text(&self, out: &mut Vec<u8>) -> Result<(), OutOfMemory>
+        ensures ok { OnOk result (out.new.items ≡ out.old.items ++ account_text self.now) }
+        ensures kept { Extends out.old.items out.new.items }
+    {
+        append_inputs(out, &self.inputs)?;
+        append_items(out, self.made, self.removed, self.routed)?;
+        append_outputs(out, &self.outputs)?;
+        Ok(())
     }
 
     /// Counts an input's next pieces: how many there were, how many of them were refused, how many
@@ -176,4 +207,40 @@ fn unread_inputs(alloc: Global, tracked: &[bool]) -> Result<Vec<InputNumbers>, O
         inputs.push(InputNumbers::unread(*flag))?;
     }
     Ok(inputs)
+}
+
+#[cfg(test)]
+mod tests {
+    use super::*;
+
+    #[test]
+    fn prints_what_was_counted(rt: HostRuntime) -> Result<(), OutOfMemory> {
+        let alloc = rt.alloc();
+        let mut account = Account::new(alloc, &[false, true], 2)?;
+        assert!(rt; account.has_room());
+        account.gathered(0, 5, 1, 2, 3, 4);
+        account.gathered(0, 1, 0, 0, 0, 1);
+        account.ended(0);
+        account.made(7);
+        account.removed();
+        account.routed();
+        account.filtered(0);
+        account.late(0);
+        account.consumed(0);
+        account.buffered(1);
+        account.buffered(1);
+        account.buffered(1);
+        account.written(1, 1);
+        account.dropped(1, 1);
+        let mut out = Vec::from_slice(alloc, b"> ")?;
+        account.text(alloc, &mut out)?;
+        let want = "> input 0 pieces 6 refused 1 passed 2 filtered 3 gathered 5 ended\n\
+            input 1 pieces 0 refused 0 passed 0 filtered 0 gathered 0 unread\n\
+            groups 1 delivered 0 rejected 0 undelivered 0\n\
+            items made 7 removed 1 routed 1\n\
+            output 0 filtered 1 late 1 consumed 1 written 0 buffered 0 dropped 0\n\
+            output 1 filtered 0 late 0 consumed 0 written 1 buffered 1 dropped 1\n";
+        assert_eq!(rt; out.as_slice(), want.as_bytes());
+        Ok(())
+    }
 }

@@ -4,6 +4,7 @@
 mod account;
 mod entry;
 mod numbers;
+mod text;
 
 pub use account::Account;
 pub use entry::{Entry, Report, Verdict};

@@ -173,3 +173,8 @@ part_told (Some p) slot e = sym e
 pub home_told : {P : Type 0} (bytes : P → Option (List ℕ)) (faults : P → ℕ) (slot : Option (Slot P)) → (told_of bytes faults slot).is_out ≡ is_out_at slot
 home_told bytes faults None = refl
 home_told bytes faults (Some slot) = refl
+
+-- a place without its part tells nothing
+pub none_told : {P : Type 0} (bytes : P → Option (List ℕ)) (faults : P → ℕ) (slot : Option (Slot P)) → HasNoPart slot → IsTold None 0 (told_of bytes faults slot)
+none_told bytes faults None h = record { bytes = refl; faults = refl }
+none_told bytes faults (Some slot) h = rw h (record { bytes = refl; faults = refl })

@@ -5,3 +5,9 @@ pub mod Places
 pub mod Memory
 pub mod Slots
 pub mod Clocks
+pub mod Cut
+pub mod Lines
+pub mod Told
+pub mod Hand
+pub mod PieceAnswers
+pub mod Buffered

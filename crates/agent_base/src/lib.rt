@@ -1,9 +1,12 @@
 //! The outside of the agent: what is read, written and waited for, and the lines that are read.
 #![tactic(auto)]
 
+mod buffer;
 mod mem_world;
 mod memory;
 mod outside;
+mod piece;
+mod pieces;
 mod slots;
 mod standard;
 mod world;
@@ -11,5 +14,10 @@ mod world;
 pub use mem_world::MemWorld;
 pub use memory::{MemClock, MemSink, MemSource};
 pub use outside::{Clock, Failed, PutFault, Sink, Source};
+pub use piece::{CutKind, Piece, PieceFault};
+pub use pieces::{Pieces, cuts_lines};
 pub use standard::{StdSink, StdSource};
 pub use world::{OpenFault, World};
+
+#[cfg(test)]
+mod tests;

@@ -5,7 +5,7 @@ ghost use Rattle.agent_base.specs.Clocks.{moments_at, is_of};
 ghost use Rattle.agent_base.specs.Memory.{moments_of};
 ghost use Rattle.agent_base.specs.Places.{Rest, SameBut, SameAtAll, AreHome, TakesIn, IsTold, empty_place};
 
-use crate::slots::{Slot, add, give, open, part_of};
+use crate::slots::{Slot, add, give, has_part, open, part_of};
 use crate::{Clock, MemClock, MemSink, MemSource, OpenFault, PutFault, Sink, Source, World};
 use fixed_num::{Moment, OutOfMemory};
 use std::alloc::{AllocError, Global};
@@ -30,6 +30,8 @@ impl<S: Source + Send + Drop, K: Sink + Send + Drop> MemWorld<S, K> {
     pub fn new(alloc: Global) -> MemWorld<S, K>
         ensures ins { (place : List ℕ) → ⟦<MemWorld<S, K> as World>⟧.in_at result place ≡ empty_place }
         ensures outs { (place : List ℕ) → ⟦<MemWorld<S, K> as World>⟧.out_at result place ≡ empty_place }
+        ensures ins_home { AreHome (⟦<MemWorld<S, K> as World>⟧.in_at result) }
+        ensures outs_home { AreHome (⟦<MemWorld<S, K> as World>⟧.out_at result) }
         ensures rest { ⟦<MemWorld<S, K> as World>⟧.rest result ≡ record { reported = Some []; report_faults = 0 } }
         ensures moments { (who : ℕ) → ⟦<MemWorld<S, K> as World>⟧.moments result who ≡ Some (moments_of []) }
     {
@@ -50,6 +52,7 @@ impl<S: Source + Send + Drop, K: Sink + Send + Drop> MemWorld<S, K> {
         ensures home { AreHome (⟦<MemWorld<S, K> as World>⟧.in_at self.old) → AreHome (⟦<MemWorld<S, K> as World>⟧.in_at self.new) }
 
         ensures outs { SameAtAll (⟦<MemWorld<S, K> as World>⟧.out_at self.old) (⟦<MemWorld<S, K> as World>⟧.out_at self.new) }
+        ensures outs_home { AreHome (⟦<MemWorld<S, K> as World>⟧.out_at self.old) → AreHome (⟦<MemWorld<S, K> as World>⟧.out_at self.new) }
         ensures rest { ⟦<MemWorld<S, K> as World>⟧.rest self.new ≡ ⟦<MemWorld<S, K> as World>⟧.rest self.old }
         ensures moments { SameAtAll (⟦<MemWorld<S, K> as World>⟧.moments self.old) (⟦<MemWorld<S, K> as World>⟧.moments self.new) }
     {
@@ -64,6 +67,7 @@ impl<S: Source + Send + Drop, K: Sink + Send + Drop> MemWorld<S, K> {
         ensures home { AreHome (⟦<MemWorld<S, K> as World>⟧.out_at self.old) → AreHome (⟦<MemWorld<S, K> as World>⟧.out_at self.new) }
 
         ensures ins { SameAtAll (⟦<MemWorld<S, K> as World>⟧.in_at self.old) (⟦<MemWorld<S, K> as World>⟧.in_at self.new) }
+        ensures ins_home { AreHome (⟦<MemWorld<S, K> as World>⟧.in_at self.old) → AreHome (⟦<MemWorld<S, K> as World>⟧.in_at self.new) }
         ensures rest { ⟦<MemWorld<S, K> as World>⟧.rest self.new ≡ ⟦<MemWorld<S, K> as World>⟧.rest self.old }
         ensures moments { SameAtAll (⟦<MemWorld<S, K> as World>⟧.moments self.old) (⟦<MemWorld<S, K> as World>⟧.moments self.new) }
     {
@@ -80,10 +84,26 @@ impl<S: Source + Send + Drop, K: Sink + Send + Drop> MemWorld<S, K> {
         ensures refused { OnErr result (SameAtAll (⟦<MemWorld<S, K> as World>⟧.moments self.old) (⟦<MemWorld<S, K> as World>⟧.moments self.new)) }
 
         ensures ins { SameAtAll (⟦<MemWorld<S, K> as World>⟧.in_at self.old) (⟦<MemWorld<S, K> as World>⟧.in_at self.new) }
+        ensures ins_home { AreHome (⟦<MemWorld<S, K> as World>⟧.in_at self.old) → AreHome (⟦<MemWorld<S, K> as World>⟧.in_at self.new) }
         ensures outs { SameAtAll (⟦<MemWorld<S, K> as World>⟧.out_at self.old) (⟦<MemWorld<S, K> as World>⟧.out_at self.new) }
+        ensures outs_home { AreHome (⟦<MemWorld<S, K> as World>⟧.out_at self.old) → AreHome (⟦<MemWorld<S, K> as World>⟧.out_at self.new) }
         ensures rest { ⟦<MemWorld<S, K> as World>⟧.rest self.new ≡ ⟦<MemWorld<S, K> as World>⟧.rest self.old }
     {
         put_moments(&mut self.clocks, who, c.into_moments())
+    }
+
+    /// Whether a source stands at an input place. Where none does, the place tells no bytes and no faults.
+    pub fn has_in(&self, place: &str) -> bool
+        ensures { result ≡ false → IsTold None 0 (⟦<MemWorld<S, K> as World>⟧.in_at self.now place.now) }
+    {
+        has_part(&self.ins, place)
+    }
+
+    /// Whether a sink stands at an output place. Where none does, the place tells no bytes and no faults.
+    pub fn has_out(&self, place: &str) -> bool
+        ensures { result ≡ false → IsTold None 0 (⟦<MemWorld<S, K> as World>⟧.out_at self.now place.now) }
+    {
+        has_part(&self.outs, place)
     }
 
     /// The sink of an output place, where it isn't out.

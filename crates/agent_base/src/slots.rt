@@ -1,5 +1,5 @@
 //! Places in memory.
-ghost use Rattle.std.specs.Prelude.{◌≡◌, None, true, OnOk, OnErr, MatchOption};
+ghost use Rattle.std.specs.Prelude.{false, ◌≡◌, None, true, OnOk, OnErr, MatchOption};
 ghost use Rattle.std.specs.List.{position};
 ghost use Rattle.agent_base.specs.Slots.{slot_at, is_named, is_out_at, Opened, Comes, IsMissed, Fills, HasPart, HasNoPart, AllHome};
 ghost use Rattle.agent_base.specs.Places.{SameBut};
@@ -136,4 +136,11 @@ pub(crate) fn part_of<'a, P>(slots: &'a [Slot<P>], place: &str) -> Option<&'a P>
         Some(at) => slots[at].part.as_ref(),
         None => None,
     }
+}
+
+// Whether a place has its part.
+pub(crate) fn has_part<P>(slots: &[Slot<P>], place: &str) -> bool
+    ensures { result ≡ false → HasNoPart (slot_at slots.now place.now) }
+{
+    part_of(slots, place).is_some()
 }

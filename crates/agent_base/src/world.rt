@@ -7,7 +7,6 @@ ghost use Rattle.agent_base.specs.Puts.{PutAppends, PutHasCause};
 use crate::{Clock, PutFault, Sink, Source};
 
 /// Why a place wasn't opened.
-
 #[derive(Clone, Copy, Debug, PartialEq, Eq)]
 pub enum OpenFault {
     /// The outside failed, or nothing is there.

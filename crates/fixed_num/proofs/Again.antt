@@ -1,6 +1,6 @@
 -- The canonical text is read again.
 use Rattle.std.proofs.Common.{◌≡◌, ℕ, zero, suc, ◌+◌, ◌-◌, ◌*◌, ◌/◌, ◌%◌, ◌^◌, ◌<◌, ◌≤◌, Bool, true, false, cond, eqb, List, [], ◌∷◌, ◌++◌, length, refl, sym, ap, ◌∙◌, arith, Ok, ltb}
-use Rattle.std.specs.Prelude.{pos, neg_ℤ}
+use Rattle.std.specs.Prelude.{ℤ, pos, negsuc, neg_ℤ}
 use Rattle.std.specs.Char.{digit_value}
 use Rattle.std.specs.Fmt.{decimal}
 use Rattle.std.specs.Str.Parse.{AllDigits, digits_value}
@@ -12,8 +12,9 @@ use Rattle.std.proofs.lemmas.Fmt.{decimal_is_IsNumeral}
 use Rattle.fixed_num.specs.Rounded.{rounded}
 use Rattle.fixed_num.specs.Decimal.{Decimal, billionths}
 use Rattle.fixed_num.specs.Grammar.{Sign, is_minus, Digits, digits_text, whole_of, fraction_of, NoSign, Minus, NoPower, Without, With, Spelled, spelling, IsDecimal, meaning}
+use Rattle.fixed_num.specs.Range.{InRange}
 use Rattle.fixed_num.specs.Fixed.{read_as, fixed_from}
-use Rattle.fixed_num.specs.Canonical.{places_of, fraction_text, canonical}
+use Rattle.fixed_num.specs.Canonical.{places_of, fraction_text, canonical, canonical_text}
 use Rattle.fixed_num.proofs.Values.{value_split, value_of_parts, digit_is}
 use Rattle.fixed_num.proofs.Magnitude.{times}
 use Rattle.fixed_num.proofs.Spelling.{reads_spelled}
@@ -42,7 +43,7 @@ places_more k n h p =
     let parts = div-add-mod' n (10 ^ k) in
     record { digits = (omega (arith, q-is), p.digits); short = omega (arith, p.short); value = rw (value, gap) (spread q (10 ^ length ds) (digits_value 10 ds) (10 ^ (k - length ds)) ∙ rw (powers, p.value) parts) }
 
-places : (k n : ℕ) → n < 10 ^ k → ArePlaces k n (places_of k n)
+pub places : (k n : ℕ) → n < 10 ^ k → ArePlaces k n (places_of k n)
 unfolding places_of
 places zero n h = record { digits = tt; short = omega arith; value = omega arith }
 places (suc k) n h =
@@ -90,11 +91,15 @@ digital n small =
       | false ↦ λ e. (With ws f, record { text = rw (e, append-nil) refl; some = omega (arith, w.0.0); whole = w.0.1; fraction = p.digits; value = number_is n ws f w.1 p })
     ] refl
 
-pub reads_canonical : (negative : Bool) (n : ℕ) → n < 2 ^ 64 * 10 ^ 9 → read_as (canonical negative n) ≡ Ok (cond negative (neg_ℤ (pos n)) (pos n))
+reads_magnitude : (negative : Bool) (n : ℕ) → n < 2 ^ 64 * 10 ^ 9 → read_as (canonical negative n) ≡ Ok (cond negative (neg_ℤ (pos n)) (pos n))
 unfolding billionths
-reads_canonical true n small =
+reads_magnitude true n small =
     let d = digital n small in
     reads_as (canonical true n) (record { sign = Minus; digits = d.0; power = NoPower }) n (ap (λ (t : List ℕ). 45 ∷ t) d.1.text) (record { some = d.1.some; whole = d.1.whole; fraction = d.1.fraction; power = tt }) d.1.value small
-reads_canonical false n small =
+reads_magnitude false n small =
     let d = digital n small in
     reads_as (canonical false n) (record { sign = NoSign; digits = d.0; power = NoPower }) n d.1.text (record { some = d.1.some; whole = d.1.whole; fraction = d.1.fraction; power = tt }) d.1.value small
+
+pub reads_canonical : (z : ℤ) → InRange z → read_as (canonical_text z) ≡ Ok z
+reads_canonical (pos n) h = reads_magnitude false n h
+reads_canonical (negsuc n) h = reads_magnitude true (suc n) h

@@ -1,5 +1,5 @@
 -- The number with a capped exponent agrees with the number below the limit.
-use Rattle.std.proofs.Common.{◌≡◌, ℕ, zero, suc, ◌+◌, ◌-◌, ◌*◌, ◌/◌, ◌%◌, ◌^◌, ◌<◌, ◌≤◌, min, refl, sym, ap, subst, ◌∙◌, arith, true, false, inl, inr, Bool, List, length, take, drop}
+use Rattle.std.proofs.Common.{◌≡◌, ℕ, zero, suc, ◌+◌, ◌-◌, ◌*◌, ◌/◌, ◌%◌, ◌^◌, ◌<◌, ◌≤◌, min, refl, sym, ap, subst, ◌∙◌, arith, true, false, inl, inr, Bool, cond, List, [], ◌∷◌, ◌++◌, length, take, drop}
 use Rattle.std.specs.Prelude.{MatchBool, if◌then◌else◌}
 use Rattle.std.specs.Str.Parse.{digits_value, AllDigits}
 use Rattle.std.proofs.Math.Nat.{mul-le-mul_right, pow-suc, one-le-pow, pow-le-pow_right}
@@ -8,6 +8,7 @@ use Rattle.std.proofs.lemmas.Nat.{pow-add, le-div}
 use Rattle.std.proofs.lemmas.List.{take-append-drop, length-drop}
 use Rattle.std.proofs.lemmas.Int.Digits.{digits_value-lt}
 use Rattle.fixed_num.specs.Rounded.{rounded, AgreesBelow}
+use Rattle.fixed_num.specs.Decimal.{Decimal, billionths}
 use Rattle.fixed_num.proofs.Rounding.{rounds_down, rounds_up, rounds_even, scaled, whole, nothing, mark, mark_is, marked}
 use Rattle.fixed_num.proofs.Values.{AllDigits-drop, value_of_parts}
 
@@ -114,3 +115,27 @@ cap_down limit m ds power capped places v all is room h =
 
 pub min_agrees : (limit m n v : ℕ) → limit ≤ m → v ≡ min n m → AgreesBelow limit n v
 min_agrees limit m n v small e = record { below = λ u. omega arith; above = λ u. omega arith }
+
+-- ---- texts with no power
+
+pub small_power : (k : ℕ) → 1 ≤ k → k ≤ 18 → (2 ≤ 10 ^ k) × (10 ^ k < 2 ^ 63)
+small_power k low high =
+    let p : 10 ^ 1 ≤ 10 ^ k = pow-le-pow_right {n = 10} (omega arith) {i = 1} {j = k} low in
+    let q : 10 ^ k ≤ 10 ^ 18 = pow-le-pow_right {n = 10} (omega arith) {i = k} {j = 18} high in
+    (omega (arith, p), omega (arith, q))
+
+nothing_in : (xs : List ℕ) → length xs ≡ 0 → digits_value 10 xs ≡ 0
+nothing_in [] e = refl
+nothing_in (x ∷ xs) e = absurd (omega (arith, e))
+
+pub plain : (d : Decimal) (n r : ℕ) → length d.exponent ≡ 0 → n ≡ digits_value 10 (d.whole ++ d.fraction) → r ≡ rounded (n * 10 ^ 9) (10 ^ length d.fraction) → r ≡ billionths d
+unfolding billionths
+plain d n r none is e =
+    let power = nothing_in d.exponent none in
+    let all : r ≡ rounded (digits_value 10 (d.whole ++ d.fraction) * 10 ^ 9) (10 ^ length d.fraction) = e ∙ ap (λ (k : ℕ). rounded (k * 10 ^ 9) (10 ^ length d.fraction)) is in
+    let up : 9 + digits_value 10 d.exponent ≡ 9 = omega (arith, power) in
+    let down : length d.fraction + digits_value 10 d.exponent ≡ length d.fraction = omega (arith, power) in
+    elim d.shrinks as (λ t. r ≡ rounded (digits_value 10 (d.whole ++ d.fraction) * 10 ^ (cond t 9 (9 + digits_value 10 d.exponent))) (10 ^ (cond t (length d.fraction + digits_value 10 d.exponent) (length d.fraction)))) [
+      | true ↦ rw down all
+      | false ↦ rw up all
+    ]

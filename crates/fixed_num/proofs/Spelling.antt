@@ -47,7 +47,7 @@ point_unsigned : (ds rest : List ℕ) → AllDigits 10 ds → Unsigned (ds ++ 46
 point_unsigned [] rest h = record { len = refl; minus = refl }
 point_unsigned (d ∷ ds) rest h = let e = digit_no_sign d h.0 in record { len = rw (e.0, e.1) refl; minus = e.1 }
 
-signed : (s : Sign) (text : List ℕ) → Unsigned text → (sign_len (sign_text s ++ text) ≡ length (sign_text s)) × (eqb (get_or (sign_text s ++ text) 0 0) 45 ≡ is_minus s)
+pub signed : (s : Sign) (text : List ℕ) → Unsigned text → (sign_len (sign_text s ++ text) ≡ length (sign_text s)) × (eqb (get_or (sign_text s ++ text) 0 0) 45 ≡ is_minus s)
 signed NoSign text u = (u.len, u.minus)
 signed Plus text u = (refl, refl)
 signed Minus text u = (refl, refl)
@@ -55,10 +55,10 @@ signed Minus text u = (refl, refl)
 abbrev bare : Bool → List ℕ → List ℕ → Decimal
 bare n w f = record { negative = n; whole = w; fraction = f; shrinks = false; exponent = [] }
 
-unsigned_digits : (ds : List ℕ) → 0 < length ds → AllDigits 10 ds → Unsigned ds
+pub unsigned_digits : (ds : List ℕ) → 0 < length ds → AllDigits 10 ds → Unsigned ds
 unsigned_digits ds some h = subst Unsigned (append-nil ds) (digits_unsigned ds [] h some)
 
-all_digits_len : (ds : List ℕ) → AllDigits 10 ds → digits_len ds ≡ length ds
+pub all_digits_len : (ds : List ℕ) → AllDigits 10 ds → digits_len ds ≡ length ds
 all_digits_len ds h = ap digits_len (sym (append-nil ds)) ∙ digits_len-append ds [] h refl
 
 tail_read : (n : Bool) (w f : List ℕ) (b : ℕ) (s : Sign) (ds : List ℕ) → (b == 101 || b == 69) ≡ true → 0 < length ds → AllDigits 10 ds
@@ -144,7 +144,7 @@ all_front (b ∷ bs) =
       | false ↦ λ e. tt
     ] refl
 
-sign_split : (text : List ℕ) → (s : Sign) × (text ≡ sign_text s ++ drop (sign_len text) text) × (eqb (get_or text 0 0) 45 ≡ is_minus s)
+pub sign_split : (text : List ℕ) → (s : Sign) × (text ≡ sign_text s ++ drop (sign_len text) text) × (eqb (get_or text 0 0) 45 ≡ is_minus s)
 sign_split [] = (NoSign, refl, refl)
 sign_split (b ∷ bs) =
     elim (eqb b 43) as (λ t. eqb b 43 ≡ t → (s : Sign) × ((b ∷ bs) ≡ sign_text s ++ drop (cond (t || eqb b 45) 1 0) (b ∷ bs)) × (eqb b 45 ≡ is_minus s)) [
@@ -156,11 +156,11 @@ sign_split (b ∷ bs) =
     ] refl
 
 -- a test whose answer is known
-chosen : {A : Type 0} (b : Bool) (x y z : A) → cond b x y ≡ z → ((b ≡ true) × (x ≡ z)) ⊎ ((b ≡ false) × (y ≡ z))
+pub chosen : {A : Type 0} (b : Bool) (x y z : A) → cond b x y ≡ z → ((b ≡ true) × (x ≡ z)) ⊎ ((b ≡ false) × (y ≡ z))
 chosen true x y z e = inl (refl, e)
 chosen false x y z e = inr (refl, e)
 
-digits_whole : (ds : List ℕ) → eqb (digits_len ds) (length ds) ≡ true → AllDigits 10 ds
+pub digits_whole : (ds : List ℕ) → eqb (digits_len ds) (length ds) ≡ true → AllDigits 10 ds
 digits_whole ds e = subst (AllDigits 10) (ap (λ (n : ℕ). take n ds) (eqb-true _ _ e) ∙ take_all (length ds) ds (omega arith)) (all_front ds)
 
 -- what follows the digits is a power, where it is read
@@ -173,7 +173,7 @@ pub record IsPower (n : Bool) (w f bs : List ℕ) (d : Decimal) : Type 0 where
 abbrev none_of : Option Decimal
 none_of = None
 
-some_len : (ds : List ℕ) → (length ds == 0) ≡ false → 0 < length ds
+pub some_len : (ds : List ℕ) → (length ds == 0) ≡ false → 0 < length ds
 some_len [] e = absurd cc
 some_len (d ∷ ds) e = omega arith
 

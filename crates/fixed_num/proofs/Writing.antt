@@ -27,7 +27,7 @@ one_more b end left text h room some so_far =
     let e : 31 - end ≡ suc k = omega arith in
     let d : ℕ = 48 + left / 10 ^ k in
     rw (take_more_set b end d room) (append_assoc (take end b) (d ∷ []) (places_of k (left % 10 ^ k))
-      ∙ ap (λ (r : List ℕ). take end b ++ r) (sym (ap (λ (j : ℕ). places_of j left) e ∙ places_more k left some)) ∙ so_far)
+    ∙ ap (λ (r : List ℕ). take end b ++ r) (sym (ap (λ (j : ℕ). places_of j left) e ∙ places_more k left some)) ∙ so_far)
 
 pub begun : (b : List ℕ) (n : ℕ) → 21 < length b → take 22 (set b 21 46) ++ places_of 9 n ≡ take 21 b ++ 46 ∷ places_of 9 n
 begun b n room = rw (take_more_set b 21 46 room) (append_assoc (take 21 b) (46 ∷ []) (places_of 9 n))

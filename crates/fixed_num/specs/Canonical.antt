@@ -1,9 +1,10 @@
 -- The canonical text of a number of billionths.
-use Rattle.std.specs.Prelude.{◌≡◌, ℕ, zero, suc, ◌+◌, ◌*◌, ◌/◌, ◌%◌, ◌^◌, ◌<◌, Bool, true, false, ◌==◌, List, [], ◌∷◌, ◌++◌, if◌then◌else◌, pos, negsuc, neg_ℤ, Ok, ℤ}
+use Rattle.std.specs.Prelude.{◌≡◌, ℕ, zero, suc, ◌+◌, ◌/◌, ◌%◌, ◌^◌, Bool, true, false, ◌==◌, List, [], ◌∷◌, ◌++◌, if◌then◌else◌, pos, negsuc, Ok, ℤ}
 use Rattle.std.specs.Fmt.{decimal}
 use Rattle.fixed_num.specs.Fixed.{read_as}
+use Rattle.fixed_num.specs.Range.{InRange}
 
--- the digits of a number of k places behind the point, without the zeros at its end
+-- the digits of n that stand in k places behind the point, without the zeros at their end
 unfoldable pub places_of : ℕ → ℕ → List ℕ
 places_of zero n = []
 places_of (suc k) n = if n == 0 then [] else (48 + n / 10 ^ k) ∷ places_of k (n % 10 ^ k)
@@ -29,6 +30,6 @@ abbrev pub canonical_text : ℤ → List ℕ
 canonical_text (pos n) = canonical false n
 canonical_text (negsuc n) = canonical true (suc n)
 
--- what is written is read again
+-- the canonical text of each number in range is read as the number
 abbrev pub ReadsCanonical : Type 0
-ReadsCanonical = (negative : Bool) (n : ℕ) → n < 2 ^ 64 * 10 ^ 9 → read_as (canonical negative n) ≡ Ok (if negative then neg_ℤ (pos n) else pos n)
+ReadsCanonical = (z : ℤ) → InRange z → read_as (canonical_text z) ≡ Ok z

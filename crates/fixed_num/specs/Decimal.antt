@@ -1,11 +1,11 @@
 -- What a decimal is, and the number that it spells.
-use Rattle.std.specs.Prelude.{ℕ, ◌+◌, ◌*◌, ◌^◌, Bool, true, false, ◌||◌, ◌==◌, List, [], ◌∷◌, ◌++◌, length, take, drop, Option, Some, None, slice_index, if◌then◌else◌}
+use Rattle.std.specs.Prelude.{ℕ, ◌+◌, ◌*◌, ◌^◌, Bool, false, ◌||◌, ◌==◌, List, [], ◌++◌, length, take, drop, Option, Some, None, slice_index, if◌then◌else◌}
 use Rattle.std.specs.List.{prefix_len}
 use Rattle.std.specs.Char.{is_ascii_digit}
 use Rattle.std.specs.Str.Parse.{digits_value, AllDigits}
 use Rattle.fixed_num.specs.Rounded.{rounded}
 
--- the digits of a decimal, and its signs
+-- a decimal: whether it is negative, its digits before and behind the point, whether its power of ten is negative, and the digits of that
 pub record Decimal : Type 0 where
   pub negative : Bool
   pub whole : List ℕ
@@ -13,26 +13,21 @@ pub record Decimal : Type 0 where
   pub shrinks : Bool
   pub exponent : List ℕ
 
--- ---- the grammar: a concatenation of parts
-
--- a sign, which may be left out
-pub data IsSign : List ℕ → Bool → Type 0 where
-  none : IsSign [] false
-  plus : IsSign (43 ∷ []) false
-  minus : IsSign (45 ∷ []) true
-
 -- ---- reading from left to right
 
+-- how many digits stand first
 abbrev pub digits_len : List ℕ → ℕ
 digits_len bs = prefix_len is_ascii_digit bs
 
+-- 1 where a sign stands first
 abbrev pub sign_len : List ℕ → ℕ
 sign_len bs = if slice_index bs 0 == 43 || slice_index bs 0 == 45 then 1 else 0
 
+-- 1 where a point stands first
 abbrev pub point_len : List ℕ → ℕ
 point_len bs = if slice_index bs 0 == 46 then 1 else 0
 
--- the exponent, after what stands before it
+-- the decimal with the power that the rest of the text spells, where it spells one or is empty
 unfoldable pub with_exponent : Decimal → List ℕ → Option Decimal
 with_exponent d bs =
     if length bs == 0 then Some d else (if slice_index bs 0 == 101 || slice_index bs 0 == 69 then
@@ -41,6 +36,7 @@ with_exponent d bs =
     then Some (record d { shrinks = slice_index signed 0 == 45; exponent = digits }) else None))
     else None)
 
+-- the decimal that the whole text spells, where it spells one
 unfoldable pub decimal_of : List ℕ → Option Decimal
 decimal_of text =
     let unsigned = drop (sign_len text) text in

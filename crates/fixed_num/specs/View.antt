@@ -1,3 +1,4 @@
+-- What the parts of a text mean.
 use Rattle.fixed_num.specs.declared.grammar.Parts.{Parts}
 use Rattle.fixed_num.specs.Decimal.{Decimal}
 

@@ -1,9 +1,10 @@
+//! The grammar of decimals: a sign, digits with a point, and a power of ten.
 ghost use Rattle.std.specs.Prelude.{◌≡◌, ◌≤◌, length, take, option_map, List, IfSome};
 ghost use Rattle.std.specs.Str.Parse.{AllDigits};
 ghost use Rattle.fixed_num.specs.Decimal.{digits_len, sign_len, point_len, decimal_of, with_exponent, IsDigital};
 ghost use Rattle.fixed_num.specs.View.{decimal};
 
-/// The parts of a decimal.
+/// The parts of a decimal: whether it is negative, the digits before and behind the point, whether the power of ten is negative, and its digits.
 #[derive(Clone, Copy)]
 pub struct Parts<'a> {
     pub negative: bool,
@@ -13,6 +14,7 @@ pub struct Parts<'a> {
     pub exponent: &'a [u8],
 }
 
+/// How many digits stand first.
 pub fn digits_at(bytes: &[u8]) -> usize
     ensures value { result ≡ digits_len bytes.now }
     ensures bound { result ≤ length bytes.now }
@@ -26,6 +28,7 @@ pub fn digits_at(bytes: &[u8]) -> usize
     bytes.len()
 }
 
+/// How long the sign is that stands first: 1, or 0 where there is none.
 pub fn sign_at(bytes: &[u8]) -> usize
     ensures value { result ≡ sign_len bytes.now }
     ensures bound { result ≤ length bytes.now }
@@ -37,6 +40,7 @@ pub fn sign_at(bytes: &[u8]) -> usize
     }
 }
 
+/// How long the point is that stands first: 1, or 0 where there is none.
 fn point_at(bytes: &[u8]) -> usize
     ensures value { result ≡ point_len bytes.now }
     ensures bound { result ≤ length bytes.now }
@@ -47,7 +51,7 @@ fn point_at(bytes: &[u8]) -> usize
     }
 }
 
-/// The parts with the exponent that stands behind them.
+/// The parts with the power of ten that the rest of the text spells; None where it spells none and is not empty.
 #[tactic(auto, unfolding(crate::specs::Decimal::with_exponent))]
 fn with_exponent_at<'a>(parts: Parts<'a>, bytes: &'a [u8]) -> Option<Parts<'a>>
     requires { IsDigital (decimal parts) }
@@ -74,7 +78,7 @@ fn with_exponent_at<'a>(parts: Parts<'a>, bytes: &'a [u8]) -> Option<Parts<'a>>
     })
 }
 
-/// The parts of a decimal, where the text is one.
+/// The parts of the decimal that the text spells; None where it spells none.
 #[tactic(auto, unfolding(crate::specs::Decimal::decimal_of))]
 pub fn parts_of(text: &[u8]) -> Option<Parts<'_>>
     ensures value { option_map decimal result ≡ decimal_of text.now }

@@ -1,4 +1,5 @@
-ghost use Rattle.fixed_num.specs.Grammar.{ReadsSpelled, SpelledIsRead};
+//! Laws of the texts of numbers.
+ghost use Rattle.fixed_num.specs.Grammar.{ReadsSpelled, SpelledIsRead, ReadsInts, IntsAreSpelled, ReadsUints, UintsAreSpelled};
 ghost use Rattle.fixed_num.specs.Canonical.{ReadsCanonical};
 
 /// What is spelled as a decimal is read as what it means.
@@ -14,4 +15,16 @@ pub fn spelled_is_read()
 /// The canonical text of a number is read as the number.
 pub fn reads_canonical()
     ensures { ReadsCanonical }
+{}
+
+/// A sign and at least one digit are read as the whole number that they spell, and nothing else is read.
+pub fn reads_ints()
+    ensures reads { ReadsInts }
+    ensures spelled { IntsAreSpelled }
+{}
+
+/// Digits, with or without a plus, are read as the whole number that they spell, and nothing else is read.
+pub fn reads_uints()
+    ensures reads { ReadsUints }
+    ensures spelled { UintsAreSpelled }
 {}

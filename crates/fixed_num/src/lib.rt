@@ -11,10 +11,13 @@ mod value;
 mod whole;
 
 pub use fixed::{Fixed, NumFault};
-pub use laws::{reads_canonical, reads_spelled, spelled_is_read};
+pub use laws::{reads_canonical, reads_ints, reads_spelled, reads_uints, spelled_is_read};
 pub use memory::OutOfMemory;
 pub use seq::Seq;
 pub use whole::{read_int, read_uint};
 
 /// A moment: nanoseconds since the first of January 1970, UTC.
 pub type Moment = i64;
+
+#[cfg(test)]
+mod tests;

@@ -67,7 +67,12 @@ fn write_front(negative: bool, whole: u64, buffer: &mut [u8]) -> usize
 }
 
 /// Writes the text of a number, given its sign, whole part and billionths. Gives the places where it begins and ends.
-pub fn write_number(negative: bool, whole: u64, billionths: u32, buffer: &mut [u8]) -> (usize, usize)
+pub fn write_number(
+    negative: bool,
+    whole: u64,
+    billionths: u32,
+    buffer: &mut [u8],
+) -> (usize, usize)
     requires small { billionths < 10 ^ 9 }
     requires room { length buffer.old ≡ LONGEST }
     ensures bound { (result.0 ≤ result.1) × (result.1 ≤ LONGEST) }

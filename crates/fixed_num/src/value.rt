@@ -1,16 +1,15 @@
-ghost use Rattle.std.specs.Prelude.{◌≡◌, ℕ, ◌+◌, ◌-◌, ◌*◌, ◌^◌, ◌<◌, ◌≤◌, ◌++◌, List, length, take, drop, min, IfOk, SomeIff, IsTrue, ◌↔◌, MatchBool, if◌then◌else◌};
+//! How many billionths a decimal is, rounded half to even.
+ghost use Rattle.std.specs.Prelude.{◌≡◌, ℕ, ◌+◌, ◌-◌, ◌*◌, ◌^◌, ◌<◌, ◌≤◌, ◌++◌, List, length, take, drop, min, IfOk, IfSome, SomeIff, IsTrue, ◌↔◌, MatchBool, if◌then◌else◌};
 ghost use Rattle.std.specs.Str.Parse.{digits_value_after, digits_value, AllDigits};
 ghost use Rattle.fixed_num.specs.Rounded.{rounded, AgreesBelow};
 ghost use Rattle.fixed_num.specs.Decimal.{billionths, IsDigital};
 ghost use Rattle.fixed_num.specs.View.{decimal};
 
+use crate::fixed::LIMIT;
 use crate::grammar::Parts;
 
 /// Above each number that is in range, and above each length of a text.
 const CAP: u128 = 1_000_000_000_000_000_000_000_000_000_000;
-
-/// The first magnitude, in billionths, that is out of range.
-const LIMIT: u128 = 18_446_744_073_709_551_616_000_000_000;
 
 /// The number that the digits spell behind those of a number, and the cap where it is more.
 fn capped(start: u128, digits: &[u8]) -> u128
@@ -114,6 +113,7 @@ fn spelled(whole: &[u8], fraction: &[u8], up: u128, down: u128) -> u128
     }
 }
 
+/// How many billionths the parts spell, where that is in range.
 #[tactic(auto, unfolding(crate::specs::Decimal::billionths))]
 fn value_of(parts: &Parts) -> u128
     requires { IsDigital (decimal parts.now) }
@@ -128,11 +128,77 @@ fn value_of(parts: &Parts) -> u128
     }
 }
 
-/// How many billionths the parts spell, where that is in range.
+/// The number that the digits spell behind those of a number; None where it is 2^64 or more.
+pub fn value_after(start: u64, digits: &[u8]) -> Option<u64>
+    requires { AllDigits 10 digits.now }
+    ensures { let value = digits_value_after 10 start digits.now in SomeIff result (value < 2 ^ 64) value }
+{
+    let mut value = start;
+    for b in digits {
+        value = value.checked_mul(10)?.checked_add((b - b'0') as u64)?;
+    }
+    Some(value)
+}
+
+/// A power of ten.
+fn power_of_ten(exponent: usize) -> u64
+    requires { exponent ≤ 18 }
+    ensures { result ≡ 10 ^ exponent }
+{
+    10_u64.pow(exponent as u32)
+}
+
+/// A quotient, rounded half to even.
+#[tactic(auto, unfolding(crate::specs::Rounded::rounded))]
+fn nearest_quotient(number: u64, divisor: u64) -> u64
+    requires { (2 ≤ divisor) × (divisor < 2 ^ 63) }
+    ensures { result ≡ rounded number divisor }
+{
+    let floor = number / divisor;
+    let left = number % divisor;
+    if 2 * left < divisor {
+        floor
+    } else if divisor < 2 * left {
+        floor + 1
+    } else {
+        floor + floor % 2
+    }
+}
+
+/// How many billionths the digits spell, all of whose number fits 64 bits, with so many of them behind the point.
+fn scaled(number: u64, places: usize) -> u128
+    requires { places ≤ 27 }
+    ensures { result ≡ rounded (number * 10 ^ 9) (10 ^ places) }
+{
+    if places <= 9 {
+        u128::from(number) * u128::from(power_of_ten(9 - places))
+    } else {
+        u128::from(nearest_quotient(number, power_of_ten(places - 9)))
+    }
+}
+
+/// How many billionths the parts of most texts spell: those with no power, whose digits fit 64 bits.
+#[tactic(auto, unfolding(crate::specs::Decimal::billionths))]
+fn plain_value(parts: &Parts) -> Option<u128>
+    requires { IsDigital (decimal parts.now) }
+    ensures { IfSome result (λ value. value ≡ billionths (decimal parts.now)) }
+{
+    let places = parts.fraction.len();
+    if 27 < places || !parts.exponent.is_empty() {
+        return None;
+    }
+    let number = value_after(value_after(0, parts.whole)?, parts.fraction)?;
+    Some(scaled(number, places))
+}
+
+/// How many billionths the parts spell; None where that is out of range.
 pub fn magnitude(parts: &Parts) -> Option<u128>
     requires { IsDigital (decimal parts.now) }
     ensures { SomeIff result (billionths (decimal parts.now) < LIMIT) (billionths (decimal parts.now)) }
 {
-    let value = value_of(parts);
+    let value = match plain_value(parts) {
+        Some(value) => value,
+        None => value_of(parts),
+    };
     if value < LIMIT { Some(value) } else { None }
 }

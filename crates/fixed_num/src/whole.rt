@@ -5,18 +5,7 @@ ghost use Rattle.fixed_num.specs.Whole.{as_int, numeral_read_as, int_read_as, ui
 
 use crate::fixed::NumFault;
 use crate::grammar::{digits_at, sign_at};
-
-/// The number that the digits spell; None where it is 2^64 or more.
-fn value_of_digits(digits: &[u8]) -> Option<u64>
-    requires { AllDigits 10 digits.now }
-    ensures { SomeIff result (digits_value 10 digits.now < 2 ^ 64) (digits_value 10 digits.now) }
-{
-    let mut value: u64 = 0;
-    for b in digits {
-        value = value.checked_mul(10)?.checked_add((b - b'0') as u64)?;
-    }
-    Some(value)
-}
+use crate::value::value_after;
 
 /// The number that one digit or more spell.
 #[tactic(auto, unfolding(crate::specs::Whole::numeral_read_as))]
@@ -26,7 +15,7 @@ fn read_numeral(digits: &[u8]) -> Result<u64, NumFault>
     if digits.is_empty() || digits_at(digits) != digits.len() {
         return Err(NumFault::NotANumber);
     }
-    value_of_digits(digits).ok_or(NumFault::NumberRange)
+    value_after(0, digits).ok_or(NumFault::NumberRange)
 }
 
 /// Whether a minus stands first.

@@ -1,10 +1,17 @@
 //! Metrics: a name, tags, fields and a time.
 #![tactic(auto)]
 
+mod builder;
+mod laws;
 mod metric;
 mod text;
 mod value;
 
+pub use builder::{BuildFault, Builder};
+pub use laws::{first_order, growth, key_order};
 pub use metric::{Content, Metric};
 pub use text::Text;
 pub use value::Value;
+
+#[cfg(test)]
+mod tests;

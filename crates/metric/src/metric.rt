@@ -1,9 +1,14 @@
 //! Metrics.
-ghost use Rattle.std.specs.Prelude.{◌≡◌, IfOk};
-ghost use Rattle.metric.specs.Metric.{IsFilled};
+ghost use Rattle.std.specs.Prelude.{◌≡◌, ◌↔◌, IfOk, IsTrue};
+ghost use Rattle.std.proofs.Common.{rules};
+ghost use Rattle.std.specs.Cmp.Rules.{comparing};
+ghost use Rattle.std.specs.Option.{option_copied};
+ghost use Rattle.metric.specs.Metric.{IsFilled, IsMetric};
+ghost use Rattle.metric.specs.Pairs.{value_at};
 
 use crate::{Text, Value};
 use fixed_num::{Moment, OutOfMemory, Seq};
+use std::alloc::Global;
 use std::marker::Model;
 use std::sync::Arc;
 
@@ -21,7 +26,7 @@ pub struct Content {
 }
 
 /// A metric; copies share one content.
-#[derive(Drop)]
+#[derive(Drop, Debug)]
 pub struct Metric {
     content: Arc<Content>,
 }
@@ -39,6 +44,16 @@ impl Model for Metric {
 }
 
 impl Metric {
+    /// The metric of a content.
+    pub(crate) fn of(alloc: Global, content: Content) -> Result<Metric, OutOfMemory>
+        requires { IsMetric content }
+        ensures { IfOk result (λ m. m ≡ content) }
+    {
+        Ok(Metric {
+            content: Arc::new(alloc, content)?,
+        })
+    }
+
     /// The name, which isn't empty.
     pub fn name(&self) -> &Text
         ensures name { result.now ≡ self.now.name }
@@ -52,6 +67,16 @@ impl Metric {
         ensures { result.now ≡ self.now.tags }
     {
         self.content.tags.as_slice()
+    }
+
+    /// The value of the tag of a key.
+    pub fn tag(&self, key: &str) -> Option<&Text>
+        ensures { option_copied result ≡ value_at self.now.tags key.now }
+    {
+        self.tags()
+            .iter()
+            .find(|tag| tag.0.as_str() == key)
+            .map(|tag| &tag.1)
     }
 
     /// The fields, in order.
@@ -68,6 +93,13 @@ impl Metric {
         self.content.time
     }
 
+    /// Is the other metric equal?
+    pub fn same_as(&self, other: &Metric) -> bool
+        ensures { IsTrue result ↔ (self.now ≡ other.now) }
+    {
+        self == other
+    }
+
     /// An equal metric.
     pub fn copy(&self) -> Result<Metric, OutOfMemory>
         ensures { IfOk result (λ m. m ≡ self.now) }
@@ -76,4 +108,22 @@ impl Metric {
             content: self.content.clone()?,
         })
     }
+}
+
+impl PartialEq for Metric {
+    ghost use Rattle.metric.specs.contracts.metric.ContentPartialEq.TheImpl.Laws.{laws-law};
+
+    ghost eq = { ⟦<Content as PartialEq>⟧.eq };
+
+    ghost laws = { laws-law };
+
+    fn eq(&self, other: &Self) -> bool {
+        *self.content == *other.content
+    }
+}
+
+impl Eq for Metric {
+    ghost use Rattle.metric.specs.contracts.metric.ContentEq.TheImpl.Laws.{laws-law};
+
+    ghost laws = { laws-law };
 }

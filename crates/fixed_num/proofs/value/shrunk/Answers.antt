@@ -1,7 +1,8 @@
 use Rattle.std.proofs.Common.{arith, ◌∙◌, sym, ◌≤◌, ◌-◌, ◌+◌, ◌*◌, ◌≡◌, min, ℕ, List, ◌++◌, length, take, drop, lit≤, refl}
 use Rattle.std.specs.Str.Parse.{digits_value}
 use Rattle.std.proofs.lemmas.List.{length-append}
-use Rattle.fixed_num.specs.declared.value.TheConstants.{CAP, LIMIT}
+use Rattle.fixed_num.specs.declared.value.TheConstants.{CAP}
+use Rattle.fixed_num.specs.declared.fixed.TheConstants.{LIMIT}
 use Rattle.fixed_num.specs.Rounded.{rounded}
 use Rattle.fixed_num.proofs.Values.{AllDigits-append}
 use Rattle.fixed_num.proofs.Magnitude.{vanishes, same_agrees, cut_off, capped_agrees, mark_at}

@@ -1,6 +1,7 @@
 use Rattle.std.proofs.Common.{arith, ◌∙◌, sym, ap, ◌≤◌, min, ℕ, ◌++◌, lit≤}
 use Rattle.std.specs.Str.Parse.{digits_value}
-use Rattle.fixed_num.specs.declared.value.TheConstants.{CAP, LIMIT}
+use Rattle.fixed_num.specs.declared.value.TheConstants.{CAP}
+use Rattle.fixed_num.specs.declared.fixed.TheConstants.{LIMIT}
 use Rattle.fixed_num.proofs.Values.{value_append}
 use Rattle.fixed_num.proofs.Magnitude.{times, over, min_agrees}
 use Rattle.fixed_num.proofs.value.spelled.Goals as goal

@@ -2,7 +2,8 @@ use Rattle.std.proofs.Common.{arith, ℕ, List, ◌++◌, length, lit≤}
 use Rattle.std.specs.Str.Parse.{digits_value}
 use Rattle.std.proofs.lemmas.List.{length-append}
 use Rattle.fixed_num.specs.Decimal.{billionths}
-use Rattle.fixed_num.specs.declared.value.TheConstants.{CAP, LIMIT}
+use Rattle.fixed_num.specs.declared.value.TheConstants.{CAP}
+use Rattle.fixed_num.specs.declared.fixed.TheConstants.{LIMIT}
 use Rattle.fixed_num.proofs.Values.{AllDigits-append}
 use Rattle.fixed_num.proofs.Magnitude.{cap_up, cap_down}
 use Rattle.fixed_num.proofs.value.value_of.Goals as goal

@@ -1,0 +1,8 @@
+use Rattle.fixed_num.proofs.SpelledInts as spelled
+use Rattle.fixed_num.proofs.laws.reads_ints.Goals as goal
+
+pub returns-clause-reads : goal.returns-clause-reads
+returns-clause-reads c = spelled.reads_ints
+
+pub returns-clause-spelled : goal.returns-clause-spelled
+returns-clause-spelled c = spelled.ints_are_spelled

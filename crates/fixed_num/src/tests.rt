@@ -1,0 +1,108 @@
+//! Texts of numbers against answers from outside: the rules in plain words, IEEE 754 shortest texts, and InfluxDB's documentation.
+use super::*;
+use std::alloc::Global;
+use std::test::Fail;
+
+/// Appends what a text is read as: the canonical text of its number, or the fault's name.
+fn append_read(alloc: Global, text: &str, out: &mut Vec<u8>) -> Result<(), OutOfMemory> {
+    match Fixed::read(text.as_bytes()) {
+        Ok(number) => number.append(alloc, out),
+        Err(NumFault::NotANumber) => Ok(out.extend_from_slice(b"NotANumber")?),
+        Err(NumFault::NumberRange) => Ok(out.extend_from_slice(b"NumberRange")?),
+    }
+}
+
+#[test]
+fn decimals(rt: HostRuntime) -> Result<(), Fail> {
+    let rows = [
+        // ties to even, signs, points and powers
+        ("0.30000000000000004", "0.3"),
+        ("1e+06", "1000000"),
+        ("0.0000000005", "0"),
+        ("0.0000000015", "0.000000002"),
+        ("0.00000000050000000000000001", "0.000000001"),
+        ("-0.0000000015", "-0.000000002"),
+        ("0.1234567885", "0.123456788"),
+        ("0.1234567895", "0.12345679"),
+        ("-0.0", "0"),
+        (".5", "0.5"),
+        ("5.", "5"),
+        ("+5", "5"),
+        ("-1.5e-1", "-0.15"),
+        ("100.020", "100.02"),
+        ("0e999999999999", "0"),
+        ("1e-999999999999", "0"),
+        ("-1000000000e-9", "-1"),
+        // the ends of the range
+        (
+            "18446744073709551615.9999999994",
+            "18446744073709551615.999999999",
+        ),
+        (
+            "-18446744073709551615.9999999994",
+            "-18446744073709551615.999999999",
+        ),
+        ("18446744073709551615.9999999995", "NumberRange"),
+        ("18446744073709551616.0", "NumberRange"),
+        ("1e999999999999", "NumberRange"),
+        // no decimals
+        ("", "NotANumber"),
+        (".", "NotANumber"),
+        ("+", "NotANumber"),
+        ("1e", "NotANumber"),
+        ("1 ", "NotANumber"),
+        ("--1", "NotANumber"),
+        ("1.2.3", "NotANumber"),
+        ("1e5.", "NotANumber"),
+        ("inf", "NotANumber"),
+        // shortest texts of doubles
+        ("1.7976931348623157e+308", "NumberRange"),
+        ("5e-324", "0"),
+        ("2.2250738585072014e-308", "0"),
+        ("0.1", "0.1"),
+        ("123456789.123456789", "123456789.123456789"),
+        ("9007199254740993", "9007199254740993"),
+        // InfluxDB's documentation
+        ("1", "1"),
+        ("1.0", "1"),
+        ("1.e+78", "NumberRange"),
+        ("1.E+6", "1000000"),
+        ("-1.234456e+78", "NumberRange"),
+    ];
+    for (text, want) in rows {
+        let mut out = Vec::new(rt.alloc());
+        append_read(rt.alloc(), text, &mut out)?;
+        assert_eq!(rt; out.as_slice(), want.as_bytes(), "at {text}");
+    }
+    Ok(())
+}
+
+#[test]
+fn whole_numbers(rt: HostRuntime) {
+    let ints = [
+        ("+5", Ok(5)),
+        ("-0", Ok(0)),
+        ("007", Ok(7)),
+        ("9223372036854775807", Ok(i64::MAX)),
+        ("9223372036854775808", Err(NumFault::NumberRange)),
+        ("-9223372036854775808", Ok(i64::MIN)),
+        ("-9223372036854775809", Err(NumFault::NumberRange)),
+        ("99999999999999999999999x", Err(NumFault::NotANumber)),
+        ("", Err(NumFault::NotANumber)),
+        ("-", Err(NumFault::NotANumber)),
+        ("1.0", Err(NumFault::NotANumber)),
+    ];
+    for (text, want) in ints {
+        assert_eq!(rt; read_int(text.as_bytes()), want, "at {text}");
+    }
+    let uints = [
+        ("-0", Err(NumFault::NotANumber)),
+        ("+0", Ok(0)),
+        ("18446744073709551615", Ok(u64::MAX)),
+        ("18446744073709551616", Err(NumFault::NumberRange)),
+        ("00000000000000000000000018446744073709551615", Ok(u64::MAX)),
+    ];
+    for (text, want) in uints {
+        assert_eq!(rt; read_uint(text.as_bytes()), want, "at {text}");
+    }
+}

@@ -1,0 +1,6 @@
+pub mod Kinds
+pub mod Values
+pub mod Reading
+pub mod Views
+pub mod Draft
+pub mod LineText

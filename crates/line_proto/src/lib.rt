@@ -1,0 +1,17 @@
+//! InfluxDB line protocol: lines are read and written.
+#![tactic(auto)]
+
+mod draft;
+mod fault;
+mod read;
+mod read_items;
+mod read_parts;
+mod read_value;
+mod write;
+
+pub use fault::{LineFault, LineKind};
+pub use read::read_line;
+pub use write::write_line;
+
+#[cfg(test)]
+mod tests;

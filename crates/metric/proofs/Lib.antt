@@ -1,0 +1,4 @@
+pub mod PairLemmas
+pub mod MetricLemmas
+pub mod SameLemmas
+pub mod LawLemmas

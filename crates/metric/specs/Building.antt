@@ -1,0 +1,35 @@
+-- How a metric is made of parts.
+use Rattle.std.specs.Prelude.{◌≡◌, ◌==◌, ◌||◌, ℕ, ℤ, List, length, Result, Ok, Err, IsOk, nat_eq, if◌then◌else◌}
+use Rattle.std.specs.List.{IsDistinct}
+use Rattle.std.specs.Map.{keys_of}
+use Rattle.std.specs.Cmp.Lexicographic.{pointwise}
+use Rattle.metric.specs.Pairs.{has_empty_key, with_values, IsInKeyOrder}
+use Rattle.metric.specs.declared.value.Value.{Value}
+use Rattle.metric.specs.declared.metric.Content.{Content}
+use Rattle.metric.specs.declared.builder.BuildFault.{BuildFault}
+use Rattle.metric.specs.declared.builder.BuildFault.TheVariants.{OutOfMemory, EmptyName, EmptyKey, NoFields}
+
+-- what a metric in the making has so far: tags in the order of their keys, fields in the order in which they came
+pub record Parts : Type 0 where
+  pub name : List ℕ
+  pub tags : List (List ℕ × List ℕ)
+  pub fields : List (List ℕ × Value)
+
+-- what is true of the parts at each time
+pub record IsBuilt (p : Parts) : Type 0 where
+  pub sorted : IsInKeyOrder p.tags
+  pub distinct : IsDistinct (pointwise nat_eq) (keys_of p.fields)
+
+-- the metric that the parts make at a time, or the first thing that is wrong with them
+abbrev pub finished : Parts → ℤ → Result Content BuildFault
+finished parts time =
+    if length parts.name == 0 then Err EmptyName
+    else if has_empty_key parts.tags || has_empty_key parts.fields then Err EmptyKey
+    else if length parts.fields == 0 then Err NoFields
+    else Ok (record { name = parts.name; tags = with_values parts.tags; fields = parts.fields; time = time })
+
+-- the result is the wanted one, but that memory may be wanting where a metric is wanted
+abbrev pub Finishes : Result Content BuildFault → Result Content BuildFault → Type 0
+Finishes (Ok metric) wanted = wanted ≡ Ok metric
+Finishes (Err OutOfMemory) wanted = IsOk wanted
+Finishes (Err fault) wanted = wanted ≡ Err fault

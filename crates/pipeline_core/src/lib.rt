@@ -16,3 +16,6 @@ pub use laws::fates_add_up;
 pub use routing::Routed;
 pub use setup::{CoreSetup, InSetup, OutSetup};
 pub use state::{Core, CutAnswer};
+
+#[cfg(test)]
+mod tests;

@@ -1,7 +1,7 @@
 //! What a core keeps, and its entries.
-ghost use Rattle.std.specs.Prelude.{◌≡◌, ◌≤◌, ◌<◌, [], length, map, true, false, IfOk, OnOk, OnErr, ◌↔◌, List};
+ghost use Rattle.std.specs.Prelude.{◌≡◌, ◌≤◌, ◌<◌, [], length, map, true, false, IfOk, OnOk, OnErr, ◌↔◌, List, IsTrue, slice_get};
 ghost use Rattle.std.specs.List.{All};
-ghost use Rattle.pipeline_core.specs.CoreState.{first_state, lane_of};
+ghost use Rattle.pipeline_core.specs.CoreState.{first_state, lane_of, lane_at};
 ghost use Rattle.account.specs.declared.entry.Entry.{Entry};
 ghost use Rattle.account.specs.declared.entry.Entry.TheVariants as entries;
 ghost use Rattle.std.specs.Int.{int_max};
@@ -122,6 +122,47 @@ impl Core {
             return Err(CutAnswer::OutOfMemory);
         };
         Ok(mem::replace(&mut self.stored, fresh))
+    }
+
+    /// Whether the input is one of the core's and hasn't ended.
+    pub fn is_reading(&self, input: u32) -> bool
+        ensures { IsTrue result ↔ (slice_get self.now.ended input ≡ Some false) }
+    {
+        match self.ended.get(input as usize) {
+            Some(ended) => !*ended,
+            None => false,
+        }
+    }
+
+    /// Whether no more is gathered.
+    pub fn is_stopped(&self) -> bool
+        ensures { result ≡ self.now.stopped }
+    {
+        self.stopped
+    }
+
+    /// The item in hand.
+    pub fn held(&self) -> Option<u64>
+        ensures { result ≡ self.now.held }
+    {
+        self.held
+    }
+
+    /// How many outputs there are.
+    pub fn output_count(&self) -> usize
+        ensures { result ≡ length self.now.setup.outputs }
+    {
+        self.outputs.len()
+    }
+
+    /// Whether the output is one of the core's and its batch is in flight.
+    pub fn is_in_flight(&self, output: u32) -> bool
+        ensures { IsTrue result ↔ ((output < length self.now.setup.outputs) × (0 < length (lane_at self.now.lanes output).flight)) }
+    {
+        match self.outputs.get(output as usize) {
+            Some(place) => place.is_in_flight(),
+            None => false,
+        }
     }
 
     /// What was counted.

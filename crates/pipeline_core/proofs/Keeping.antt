@@ -1,18 +1,17 @@
 -- What a core keeps agrees after each step.
-use Rattle.std.proofs.Common.{◌≡◌, ◌<◌, ◌≤◌, ◌⊎◌, ℕ, ℤ, ◌+◌, ◌-◌, ◌*◌, ◌^◌, ◌==◌, Bool, true, false, List, [], ◌∷◌, ◌++◌, length, take, drop, map, refl, sym, ap, ◌∙◌, subst, inl, inr, arith, slice_index_or, slice_set, get_or, set, replicate, if◌then◌else◌, length-append, length-drop}
+use Rattle.std.proofs.Common.{◌≡◌, ◌<◌, ◌≤◌, ℕ, ℤ, ◌+◌, ◌-◌, ◌^◌, ◌==◌, Bool, true, false, List, [], ◌∷◌, ◌++◌, length, take, drop, map, refl, sym, ap, ◌∙◌, subst, inl, inr, arith, get_or, set, replicate, if◌then◌else◌, length-append, length-drop}
 use Rattle.std.proofs.Math.Nat.{eq-or-lt_of_le}
 use Rattle.std.proofs.lemmas.List.{get_or-set_same, get_or-set_other, length-take, length-take-le, length-map, set-get_or, get_or-map, length-replicate, get_or-replicate}
 use Rattle.std.proofs.lemmas.Bool.{cases_lt}
 use Rattle.std.proofs.lemmas.Bool.Decides.{nat_tests}
-use Rattle.std.proofs.lemmas.List.Sums.{sum_by-le, sum_by-set, get_or-le-sum_by}
-use Rattle.std.proofs.lemmas.Grind.{common_steps}
+use Rattle.std.proofs.lemmas.List.Sums.{sum_by-le, sum_by-set}
 use Rattle.std.proofs.Math.ListN.{length-set}
-use Rattle.std.specs.List.{sum_by, All}
+use Rattle.std.specs.List.{All}
 use Rattle.std.specs.declared.option.Option.{Option}
 use Rattle.std.specs.declared.option.Option.TheVariants.{Some, None}
 use Rattle.metric.specs.declared.metric.Content.{Content}
 use Rattle.account.specs.declared.entry.Entry.{Entry}
-use Rattle.account.specs.Numbers.{Numbers, output_numbers, fates, unread_input, no_numbers, unreached_output, with_output}
+use Rattle.account.specs.Numbers.{Numbers, output_numbers, unread_input, no_numbers, unreached_output, with_output}
 use Rattle.account.specs.declared.numbers.OutputNumbers.{OutputNumbers}
 use Rattle.out_lane.specs.Lane.{LaneState, empty_lane}
 use Rattle.out_lane.specs.Lane as lane
@@ -23,7 +22,7 @@ use Rattle.pipeline_core.specs.declared.setup.InSetup.{InSetup}
 use Rattle.pipeline_core.specs.declared.setup.OutSetup.{OutSetup}
 use Rattle.pipeline_core.specs.CoreState.{setup_of, lane_of, sizes, most_undelivered, CoreState, IsCore, IsOutput, sizes_at, flights, in_flight, held_count, lane_at}
 use Rattle.pipeline_core.specs.declared.gathering.Gathered.{Gathered}
-use Rattle.pipeline_core.specs.Steps.{after_gather, after_ended, after_take, after_begin, after_done, lanes_routed, numbers_routed, HasFew, lane_with, numbers_with, buffered_more, lane_done, count_done, counted_done, HasNumbers}
+use Rattle.pipeline_core.specs.Steps.{after_gather, after_ended, after_take, lanes_routed, numbers_routed, HasFew, lane_with, numbers_with, buffered_more, lane_done, count_done, counted_done, HasNumbers}
 
 in_flight-le : (x : LaneState Content) → in_flight x ≤ 1
 in_flight-le x = elim (length x.flight == 0) as (λ b. (if b then 0 else 1) ≤ 1) [ true ↦ omega arith | false ↦ omega arith ]
@@ -103,10 +102,10 @@ none_flies x h = grind (arith, nat_tests)
 one_flies : (x : LaneState Content) → 0 < length x.flight → in_flight x ≡ 1
 one_flies x h = grind (arith, nat_tests)
 
-not_full : (m n : ℕ) → m < n → (m == n) ≡ false
+pub not_full : (m n : ℕ) → m < n → (m == n) ≡ false
 not_full m n h = grind (arith, nat_tests)
 
-full : (m n : ℕ) → m ≡ n → (m == n) ≡ true
+pub full : (m n : ℕ) → m ≡ n → (m == n) ≡ true
 full m n h = grind (arith, nat_tests)
 
 -- one more waits
@@ -155,8 +154,8 @@ output_done false size routed x at h =
 
 -- with another lane and other numbers at one output, each output agrees
 pub each_with : (sizes : List (ℕ × ℕ)) (routed : ℕ) (all : List OutputNumbers) (lanes : List (LaneState Content)) (o : ℕ) (x : OutputNumbers) (at : LaneState Content) → o < length all → o < length lanes →
-  ((k : ℕ) → k < length sizes → IsOutput (get_or sizes k (0, 0)) routed (get_or all k unreached_output) (lane_at lanes k)) → IsOutput (get_or sizes o (0, 0)) routed x at →
-  (k : ℕ) → k < length sizes → IsOutput (get_or sizes k (0, 0)) routed (get_or (set all o x) k unreached_output) (lane_at (set lanes o at) k)
+    ((k : ℕ) → k < length sizes → IsOutput (get_or sizes k (0, 0)) routed (get_or all k unreached_output) (lane_at lanes k)) → IsOutput (get_or sizes o (0, 0)) routed x at →
+    (k : ℕ) → k < length sizes → IsOutput (get_or sizes k (0, 0)) routed (get_or (set all o x) k unreached_output) (lane_at (set lanes o at) k)
 each_with sizes routed all lanes o x at a b h new k c =
     elim (cases_lt k o) [
       | inl m ↦ rw (get_or-set_other all o k x unreached_output (omega arith), get_or-set_other lanes o k at (empty_lane 0 0) (omega arith)) (h k c)
@@ -169,7 +168,7 @@ each_with sizes routed all lanes o x at a b h new k c =
 
 -- an item is counted, and offered to the outputs unless it was removed
 kept_as : (whole : Option Content) (s : CoreState) (outs : List (Option Content)) (item : ℕ) (stored : List Entry) → s.held ≡ Some item → IsCore s →
-  IsCore (record s { held = None; lanes = lanes_routed whole outs s.lanes; numbers = numbers_routed whole outs s.lanes s.numbers; stored = stored })
+    IsCore (record s { held = None; lanes = lanes_routed whole outs s.lanes; numbers = numbers_routed whole outs s.lanes s.numbers; stored = stored })
 kept_as None s outs item stored held h =
     record {
       lanes = h.lanes;
@@ -203,7 +202,7 @@ length-lanes_routed None outs lanes = refl
 length-lanes_routed (Some whole) outs lanes = length-lanes_with outs lanes
 
 pub kept_route : (s : CoreState) (whole : Option Content) (outs : List (Option Content)) (item : ℕ) (lanes : List (LaneState Content)) (numbers : Numbers) (stored : List Entry) → s.held ≡ Some item →
-  lanes ≡ lanes_routed whole outs s.lanes → numbers ≡ numbers_routed whole outs s.lanes s.numbers → IsCore s → IsCore (record s { held = None; lanes = lanes; numbers = numbers; stored = stored })
+    lanes ≡ lanes_routed whole outs s.lanes → numbers ≡ numbers_routed whole outs s.lanes s.numbers → IsCore s → IsCore (record s { held = None; lanes = lanes; numbers = numbers; stored = stored })
 kept_route s whole outs item lanes numbers stored held l n h =
     subst (λ (x : List (LaneState Content)). IsCore (record s { held = None; lanes = x; numbers = numbers; stored = stored })) (sym l)
     (subst (λ (x : Numbers). IsCore (record s { held = None; lanes = lanes_routed whole outs s.lanes; numbers = x; stored = stored })) (sym n)
@@ -236,7 +235,7 @@ kept_begin s o at stored b none e h =
 
 -- a batch is done
 pub kept_done : (s : CoreState) (o : ℕ) (ok : Bool) (at : LaneState Content) (numbers : Numbers) (stored : List Entry) → o < length s.setup.outputs → at ≡ lane_done ok (lane_at s.lanes o) →
-  numbers ≡ with_output s.numbers o (counted_done ok (count_done ok (lane_at s.lanes o)) (output_numbers s.numbers o)) → IsCore s → IsCore (record s { lanes = set s.lanes o at; numbers = numbers; stored = stored })
+    numbers ≡ with_output s.numbers o (counted_done ok (count_done ok (lane_at s.lanes o)) (output_numbers s.numbers o)) → IsCore s → IsCore (record s { lanes = set s.lanes o at; numbers = numbers; stored = stored })
 kept_done s o ok at numbers stored b e n h =
     let x : OutputNumbers = counted_done ok (count_done ok (lane_at s.lanes o)) (output_numbers s.numbers o) in
     subst (λ (m : Numbers). IsCore (record s { lanes = set s.lanes o at; numbers = m; stored = stored })) (sym n)
@@ -279,7 +278,7 @@ no_output : OutSetup
 no_output = record { batch = 0; limit = 0 }
 
 each_at_first : (outputs : List OutSetup) → All (λ (x : OutSetup). (1 ≤ x.batch) × (x.batch ≤ x.limit)) outputs → (k : ℕ) → k < length outputs →
-  IsOutput (get_or (map sizes outputs) k (0, 0)) 0 (get_or (replicate (length outputs) unreached_output) k unreached_output) (lane_at (map lane_of outputs) k)
+    IsOutput (get_or (map sizes outputs) k (0, 0)) 0 (get_or (replicate (length outputs) unreached_output) k unreached_output) (lane_at (map lane_of outputs) k)
 each_at_first outputs h k b =
     rw (get_or-map sizes outputs k no_output (0, 0) b, get_or-map lane_of outputs k no_output (empty_lane 0 0) b, get_or-replicate (length outputs) k unreached_output unreached_output b)
     (empty_output (get_or outputs k no_output) (h k no_output b).0 (h k no_output b).1)
@@ -292,9 +291,9 @@ untracked_at_first inputs h k d b =
 
 -- a core in which nothing happened
 pub kept_first : (setup : CoreSetup) (raw : List Content) (lanes : List (LaneState Content)) (numbers : Numbers) (stored : List Entry) (counted : ℤ) (ended : List Bool) →
-  length setup.outputs ≤ 16 → All (λ (x : InSetup). x.tracked ≡ false) setup.inputs → All (λ (x : OutSetup). (1 ≤ x.batch) × (x.batch ≤ x.limit)) setup.outputs →
-  raw ≡ [] → lanes ≡ map lane_of setup.outputs → numbers ≡ no_numbers (replicate (length setup.inputs) false) (length setup.outputs) → ended ≡ replicate (length setup.inputs) false →
-  IsCore (record { setup = setup_of setup; raw = raw; taken = 0; held = None; lanes = lanes; numbers = numbers; stored = stored; gathered = 0; counted = counted; ended = ended; stopped = false })
+    length setup.outputs ≤ 16 → All (λ (x : InSetup). x.tracked ≡ false) setup.inputs → All (λ (x : OutSetup). (1 ≤ x.batch) × (x.batch ≤ x.limit)) setup.outputs →
+    raw ≡ [] → lanes ≡ map lane_of setup.outputs → numbers ≡ no_numbers (replicate (length setup.inputs) false) (length setup.outputs) → ended ≡ replicate (length setup.inputs) false →
+    IsCore (record { setup = setup_of setup; raw = raw; taken = 0; held = None; lanes = lanes; numbers = numbers; stored = stored; gathered = 0; counted = counted; ended = ended; stopped = false })
 kept_first setup raw lanes numbers stored counted ended few untracked sized r l n e =
     rw (r, l, n, e)
     (record {
@@ -311,5 +310,5 @@ kept_first setup raw lanes numbers stored counted ended few untracked sized r l 
     })
 
 pub kept_gathered : (s : CoreState) (g : Gathered) (raw : List Content) (numbers : Numbers) (gathered : ℕ) (stored : List Entry) → IsCore s → HasNumbers s g →
-  raw ≡ s.raw ++ g.metrics → numbers ≡ (after_gather s g).numbers → gathered ≡ s.gathered + length g.metrics → IsCore (record s { raw = raw; numbers = numbers; gathered = gathered; stored = stored })
+    raw ≡ s.raw ++ g.metrics → numbers ≡ (after_gather s g).numbers → gathered ≡ s.gathered + length g.metrics → IsCore (record s { raw = raw; numbers = numbers; gathered = gathered; stored = stored })
 kept_gathered s g raw numbers gathered stored h few r n e = rw (r, n, e) (kept_gather s g stored h few)

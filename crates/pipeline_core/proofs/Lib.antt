@@ -1,2 +1,10 @@
 pub mod Keeping
 pub mod Offering
+pub mod JournalPush
+pub mod FateCounts
+pub mod TotalPush
+pub mod OutputPush
+pub mod Standing
+pub mod StandsSteps
+pub mod StandsLanes
+pub mod StandsCuts

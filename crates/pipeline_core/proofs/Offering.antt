@@ -1,12 +1,10 @@
 -- The views of an item go to the outputs, the last output first.
-use Rattle.std.proofs.Common.{◌≡◌, ◌≢◌, ◌<◌, ◌≤◌, ◌⊎◌, ℕ, ◌+◌, ◌-◌, ◌==◌, Bool, true, false, List, [], ◌∷◌, ◌++◌, length, map, refl, sym, ap, ◌∙◌, subst, inl, inr, arith, slice_index_or, slice_set, get_or, set, if◌then◌else◌, length-append}
+use Rattle.std.proofs.Common.{◌≡◌, ◌<◌, ◌≤◌, ℕ, ◌+◌, ◌==◌, Bool, true, List, [], ◌∷◌, ◌++◌, length, refl, sym, ap, ◌∙◌, subst, inl, inr, arith, slice_set, get_or, if◌then◌else◌, length-append}
 use Rattle.std.proofs.Math.Nat.{eq-or-lt_of_le}
 use Rattle.std.proofs.lemmas.List.{get_or_push, get_or_append_left, set-set, get_or-set_same, get_or-set_other, ext_get_or, length-set, get_or-map, length-map}
 use Rattle.std.proofs.lemmas.List.FromFn.{get_or-enumerate_from, length-enumerate_from}
 use Rattle.std.proofs.lemmas.Option.{slice_get-get_or, get_or_from_slice_get, slice_get_read}
-use Rattle.std.proofs.lemmas.Grind.{common_steps}
 use Rattle.std.specs.List.{enumerate_from}
-use Rattle.std.specs.Prelude.{slice_get}
 use Rattle.std.specs.declared.option.Option.{Option}
 use Rattle.std.specs.declared.option.Option.TheVariants.{Some, None}
 use Rattle.metric.specs.declared.metric.Content.{Content}
@@ -15,7 +13,7 @@ use Rattle.account.specs.declared.numbers.OutputNumbers.{OutputNumbers}
 use Rattle.out_lane.specs.Lane.{LaneState, empty_lane}
 use Rattle.pipeline_core.specs.Offers.{view_at, view_among}
 use Rattle.pipeline_core.specs.CoreState.{lane_at}
-use Rattle.pipeline_core.specs.Steps.{lane_with, numbers_with, lanes_with, outputs_with, buffered_more}
+use Rattle.pipeline_core.specs.Steps.{lane_with, numbers_with, lanes_with, outputs_with}
 
 -- the outputs whose views are left are as they were, and the others have got theirs
 pub record Offered (lanes₀ : List (LaneState Content)) (numbers₀ : Numbers) (views left : List (Option Content)) (lanes : List (LaneState Content)) (numbers : Numbers) : Type 0 where
@@ -42,10 +40,10 @@ pub view-get_or : (views : List (Option Content)) (k : ℕ) → k < length views
 view-get_or views k h = ap view_among (slice_get-get_or views k None h)
 
 pub offered_more : (lanes₀ : List (LaneState Content)) (numbers₀ : Numbers) (views left rest : List (Option Content)) (view : Option Content) (lanes lanes' : List (LaneState Content)) (numbers numbers' : Numbers) →
-  length views ≡ length lanes₀ → length numbers₀.outputs ≡ length lanes₀ → left ≡ rest ++ view ∷ [] →
-  lanes' ≡ slice_set lanes (length rest) (lane_with view (lane_at lanes (length rest))) →
-  numbers' ≡ with_output numbers (length rest) (numbers_with view (lane_at lanes (length rest)) (output_numbers numbers (length rest))) →
-  Offered lanes₀ numbers₀ views left lanes numbers → Offered lanes₀ numbers₀ views rest lanes' numbers'
+    length views ≡ length lanes₀ → length numbers₀.outputs ≡ length lanes₀ → left ≡ rest ++ view ∷ [] →
+    lanes' ≡ slice_set lanes (length rest) (lane_with view (lane_at lanes (length rest))) →
+    numbers' ≡ with_output numbers (length rest) (numbers_with view (lane_at lanes (length rest)) (output_numbers numbers (length rest))) →
+    Offered lanes₀ numbers₀ views left lanes numbers → Offered lanes₀ numbers₀ views rest lanes' numbers'
 offered_more lanes₀ numbers₀ views left rest view lanes lanes' numbers numbers' vs os l ls ns h =
     let len : length left ≡ length rest + 1 = ap length l ∙ length-append rest (view ∷ []) in
     let y : LaneState Content = lane_with view (lane_at lanes (length rest)) in
@@ -102,7 +100,7 @@ offered_lanes lanes₀ numbers₀ views left lanes numbers none h =
     (λ o b. h.lane_after o (omega arith) (omega (arith, h.as_many)) ∙ sym (lanes_with-at views lanes₀ o (omega (arith, h.as_many))))
 
 pub offered_numbers : (lanes₀ : List (LaneState Content)) (numbers₀ : Numbers) (views left : List (Option Content)) (lanes : List (LaneState Content)) (numbers : Numbers) → length left ≡ 0 → length numbers₀.outputs ≡ length lanes₀ → Offered lanes₀ numbers₀ views left lanes numbers →
-  numbers ≡ record numbers₀ { outputs = outputs_with views lanes₀ numbers₀.outputs }
+    numbers ≡ record numbers₀ { outputs = outputs_with views lanes₀ numbers₀.outputs }
 offered_numbers lanes₀ numbers₀ views left lanes numbers none os h =
     h.rest ∙ ap (λ (xs : List OutputNumbers). record numbers₀ { outputs = xs })
     (ext_get_or unreached_output numbers.outputs (outputs_with views lanes₀ numbers₀.outputs) (h.numbered ∙ sym (length-outputs_with views lanes₀ numbers₀.outputs))
@@ -110,8 +108,8 @@ offered_numbers lanes₀ numbers₀ views left lanes numbers none os h =
 
 -- one view is buffered, and the oldest that waited is dropped
 pub buffered_dropped : (a mid new : Numbers) (o : ℕ) (view : Option Content) (metric : Content) (at : LaneState Content) → o < length a.outputs → view ≡ Some metric → (length at.waiting == at.limit) ≡ true →
-  mid ≡ with_output a o (record (output_numbers a o) { buffered = (output_numbers a o).buffered + 1 }) → new ≡ with_output mid o (dropped_more (output_numbers mid o) 1) →
-  new ≡ with_output a o (numbers_with view at (output_numbers a o))
+    mid ≡ with_output a o (record (output_numbers a o) { buffered = (output_numbers a o).buffered + 1 }) → new ≡ with_output mid o (dropped_more (output_numbers mid o) 1) →
+    new ≡ with_output a o (numbers_with view at (output_numbers a o))
 buffered_dropped a mid new o view metric at b v full m n =
     let x : OutputNumbers = record (output_numbers a o) { buffered = (output_numbers a o).buffered + 1 } in
     n ∙ ap (λ (y : Numbers). with_output y o (dropped_more (output_numbers y o) 1)) m

@@ -1,5 +1,5 @@
 -- How a core is seen.
-use Rattle.std.specs.Prelude.{◌≡◌, ◌≤◌, ◌+◌, vec_len, vec_capacity}
+use Rattle.std.specs.Prelude.{◌≤◌, ◌+◌, vec_len, vec_capacity}
 use Rattle.pipeline_core.specs.CoreState.{CoreState, IsCore, setup_of, flights}
 use Rattle.pipeline_core.specs.declared.state.Core.TheInside.{Inside}
 

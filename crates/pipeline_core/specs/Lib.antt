@@ -6,3 +6,5 @@ pub mod CoreState
 pub mod CoreView
 pub mod OutputView
 pub mod Steps
+pub mod Stands
+pub mod Sums

@@ -1,5 +1,5 @@
 -- How an output is seen.
-use Rattle.std.specs.Prelude.{◌≡◌, ◌<◌, ◌≤◌, ℕ, ◌==◌, List, [], length, vec_capacity, if◌then◌else◌}
+use Rattle.std.specs.Prelude.{◌≡◌, ◌<◌, ◌≤◌, ◌==◌, [], length, vec_capacity, if◌then◌else◌}
 use Rattle.metric.specs.declared.metric.Content.{Content}
 use Rattle.out_lane.specs.Lane.{LaneState}
 use Rattle.pipeline_core.specs.declared.output.Output.TheInside.{Inside}

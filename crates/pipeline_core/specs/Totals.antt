@@ -2,13 +2,12 @@
 use Rattle.std.specs.Prelude.{ℕ, ◌+◌, ◌==◌, Bool, true, false, is_some, List, [], ◌∷◌, length, map, count_by, if◌then◌else◌}
 use Rattle.std.specs.List.{enumerate_from}
 use Rattle.std.specs.declared.option.Option.{Option}
-use Rattle.std.specs.declared.option.Option.TheVariants.{Some, None}
 use Rattle.account.specs.Setup.{Setup}
 use Rattle.account.specs.Numbers.{Numbers, gathered_more, unread_input}
 use Rattle.account.specs.declared.numbers.InputNumbers.{InputNumbers}
 use Rattle.account.specs.declared.numbers.OutputNumbers.{OutputNumbers}
 use Rattle.account.specs.declared.entry.Entry.{Entry}
-use Rattle.account.specs.declared.entry.Entry.TheVariants.{Gather, Ended, Take, Route, Tick, Stop, Begin, Done}
+use Rattle.account.specs.declared.entry.Entry.TheVariants.{Gather, Ended, Route, Tick, Stop}
 use Rattle.account.specs.declared.entry.Verdict.{Verdict}
 use Rattle.account.specs.declared.entry.Verdict.TheVariants as verdicts
 use Rattle.pipeline_core.specs.Fates.{Fate, fates}

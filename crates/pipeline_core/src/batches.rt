@@ -1,7 +1,9 @@
 //! Batches of an output.
-ghost use Rattle.std.specs.Prelude.{◌≡◌, ◌<◌, ◌≤◌, ◌^◌, ◌↔◌, length, IfOk, OnOk, OnErr};
+ghost use Rattle.std.specs.Prelude.{◌≡◌, ◌<◌, ◌≤◌, ◌^◌, ◌↔◌, [], length, IfOk, OnOk, OnErr};
 ghost use Rattle.account.specs.Numbers.{with_output, output_numbers, IsOutputBelow};
 ghost use Rattle.pipeline_core.specs.CoreState.{lane_at};
+ghost use Rattle.account.specs.declared.entry.Entry.TheVariants as entries;
+ghost use Rattle.pipeline_core.specs.Stands.{Continues};
 ghost use Rattle.pipeline_core.specs.Steps.{after_begin, after_done, IsBatchOf, counted_done};
 
 use crate::room::make_room;
@@ -40,6 +42,7 @@ impl Core {
         ensures nothing { (result ≡ Err BeginAnswer.NothingWaiting) ↔ ((length (lane_at self.old.lanes output).flight ≡ 0) × (length (lane_at self.old.lanes output).waiting ≡ 0)) }
         ensures batch { IfOk result (IsBatchOf (lane_at self.old.lanes output)) }
         ensures ok { IfOk result (λ batch. self.new ≡ after_begin self.old output batch.from batch.to) }
+        ensures stands { IfOk result (λ batch. Continues self.old self.new (entries.Begin output batch.from batch.to)) }
         ensures err { OnErr result (self.new ≡ self.old) }
     {
         let place = &self.outputs[output as usize];
@@ -63,7 +66,8 @@ impl Core {
     pub fn done(&mut self, output: u32, ok: bool)
         requires known { output < length self.old.setup.outputs }
         requires begun { 0 < length (lane_at self.old.lanes output).flight }
-        ensures { self.new ≡ after_done self.old output ok }
+        ensures after { self.new ≡ after_done self.old output ok }
+        ensures stands { Continues self.old self.new (entries.Done output ok []) }
     {
         let place = &mut self.outputs[output as usize];
         let count = place.done(ok);

@@ -1,6 +1,8 @@
 //! Metrics come in, and are taken in hand.
 ghost use Rattle.std.specs.Prelude.{◌≡◌, ◌<◌, ◌≤◌, ◌⊎◌, ◌+◌, IsTrue, ◌^◌, ◌↔◌, [], true, false, length, slice_get, IfOk, OnOk, OnErr, IsSome, IsNone, ℕ};
-ghost use Rattle.pipeline_core.specs.Steps.{after_gather, after_ended, after_take, IsGatherAnswer};
+ghost use Rattle.account.specs.declared.entry.Entry.TheVariants as entries;
+ghost use Rattle.pipeline_core.specs.Stands.{Continues};
+ghost use Rattle.pipeline_core.specs.Steps.{gather_entry, after_gather, after_ended, after_take, IsGatherAnswer};
 ghost use Rattle.pipeline_core.specs.declared.gathering.GatherRefused.TheVariants as refused;
 
 use crate::room::{make_room, queue_of};
@@ -93,6 +95,7 @@ impl Core {
         requires going { self.old.stopped ≡ false }
         ensures answer { IsGatherAnswer self.old g result }
         ensures ok { OnOk result (self.new ≡ after_gather self.old g) }
+        ensures stands { OnOk result (Continues self.old self.new (gather_entry g)) }
         ensures err { OnErr result (self.new ≡ self.old) }
     {
         let count = g.metrics.as_slice().len();
@@ -109,8 +112,14 @@ impl Core {
         make_room(&mut self.stored, self.outputs.len())?;
         self.raw.append(&mut copies)?;
         self.gathered += count as u32;
-        self.account
-            .gathered(g.input, g.pieces, g.refused, g.passed, g.filtered, count as u32);
+        self.account.gathered(
+            g.input,
+            g.pieces,
+            g.refused,
+            g.passed,
+            g.filtered,
+            count as u32,
+        );
         self.stored.push_reserved(Entry::Gather {
             input: g.input,
             moment: g.moment,
@@ -130,6 +139,7 @@ impl Core {
         requires reading { slice_get self.old.ended input ≡ Some false }
         requires going { self.old.stopped ≡ false }
         ensures ok { OnOk result (self.new ≡ after_ended self.old input) }
+        ensures stands { OnOk result (Continues self.old self.new (entries.Ended input)) }
         ensures err { OnErr result (self.new ≡ self.old) }
     {
         make_room(&mut self.stored, self.outputs.len())?;
@@ -145,6 +155,7 @@ impl Core {
         ensures empty { (result ≡ Err TakeAnswer.Empty) ↔ (IsNone self.old.held × (self.old.raw ≡ [])) }
         ensures item { IfOk result (λ item. (item.number ≡ self.old.taken) × (item.made ≡ false) × (slice_get self.old.raw 0 ≡ Some item.metric)) }
         ensures ok { OnOk result (self.new ≡ after_take self.old) }
+        ensures stands { OnOk result (Continues self.old self.new (entries.Take self.old.taken)) }
         ensures err { OnErr result (self.new ≡ self.old) }
     {
         if self.held.is_some() {

@@ -3,6 +3,7 @@
 
 mod batches;
 mod gathering;
+mod laws;
 mod output;
 mod room;
 mod routing;
@@ -11,6 +12,10 @@ mod state;
 
 pub use batches::{Batch, BeginAnswer};
 pub use gathering::{GatherRefused, Gathered, Item, TakeAnswer};
+pub use laws::fates_add_up;
 pub use routing::Routed;
 pub use setup::{CoreSetup, InSetup, OutSetup};
 pub use state::{Core, CutAnswer};
+
+#[cfg(test)]
+mod tests;

@@ -1,5 +1,5 @@
 //! What waits at an output, and its batch in flight.
-ghost use Rattle.std.specs.Prelude.{◌≡◌, ◌≢◌, ◌<◌, ◌≤◌, ◌+◌, ◌^◌, ◌==◌, ◌↔◌, [], true, false, length, slice_set, IfOk, OnOk, OnErr};
+ghost use Rattle.std.specs.Prelude.{◌≡◌, ◌≢◌, ◌<◌, ◌≤◌, ◌+◌, ◌^◌, ◌==◌, ◌↔◌, [], true, false, length, slice_set, IfOk, OnOk, OnErr, IsTrue};
 ghost use Rattle.out_lane.specs.Lane.{empty_lane, after_push, after_begin};
 ghost use Rattle.pipeline_core.specs.Steps.{IsBatchOf, lane_done, count_done};
 
@@ -53,6 +53,13 @@ impl Output {
         ensures dropped { result ≡ (length self.old.waiting == self.old.limit) }
     {
         self.lane.push(view).is_some()
+    }
+
+    /// Whether a batch is in flight.
+    pub(crate) fn is_in_flight(&self) -> bool
+        ensures { IsTrue result ↔ (0 < length self.now.flight) }
+    {
+        !self.lane.flight().is_empty()
     }
 
     /// Why no batch may be begun, if none may.

@@ -3,7 +3,8 @@ ghost use Rattle.std.specs.Prelude.{◌≡◌, ℕ, ◌<◌, ◌≤◌, ◌+◌,
 ghost use Rattle.account.specs.Numbers.{with_output, output_numbers};
 ghost use Rattle.pipeline_core.specs.CoreState.{lane_at};
 ghost use Rattle.pipeline_core.specs.Legal.{HasViews, verdict_of};
-ghost use Rattle.pipeline_core.specs.Steps.{after_route, lane_with, numbers_with, lanes_with, outputs_with, lanes_routed, numbers_routed, HasFew};
+ghost use Rattle.pipeline_core.specs.Stands.{Continues};
+ghost use Rattle.pipeline_core.specs.Steps.{route_entry, after_route, lane_with, numbers_with, lanes_with, outputs_with, lanes_routed, numbers_routed, HasFew};
 
 use crate::output::Output;
 use crate::room::{make_room, view_copies};
@@ -35,6 +36,7 @@ impl Core {
         requires views { HasViews r.whole r.outs }
         ensures verdict { IfOk result (λ verdict. verdict ≡ verdict_of r.whole) }
         ensures ok { OnOk result (self.new ≡ after_route self.old r) }
+        ensures stands { OnOk result (Continues self.old self.new (route_entry r)) }
         ensures err { OnErr result (self.new ≡ self.old) }
     {
         let verdict = judged(&r.whole);

@@ -1,7 +1,12 @@
 //! What a core keeps, and its entries.
-ghost use Rattle.std.specs.Prelude.{◌≡◌, ◌≤◌, ◌<◌, [], length, map, true, false, IfOk, OnOk, OnErr, ◌↔◌, ℕ};
+ghost use Rattle.std.specs.Prelude.{◌≡◌, ◌≤◌, ◌<◌, [], length, map, true, false, IfOk, OnOk, OnErr, ◌↔◌, List, IsTrue, slice_get};
 ghost use Rattle.std.specs.List.{All};
-ghost use Rattle.pipeline_core.specs.CoreState.{first_state, lane_of};
+ghost use Rattle.pipeline_core.specs.CoreState.{first_state, lane_of, lane_at};
+ghost use Rattle.account.specs.declared.entry.Entry.{Entry};
+ghost use Rattle.account.specs.declared.entry.Entry.TheVariants as entries;
+ghost use Rattle.std.specs.Int.{int_max};
+ghost use Rattle.pipeline_core.specs.Stands.{Stands, Continues};
+ghost use Rattle.pipeline_core.specs.Totals.{totals};
 ghost use Rattle.pipeline_core.specs.Steps.{after_stop, after_cut};
 
 use crate::output::Output;
@@ -61,7 +66,8 @@ impl Core {
         requires outputs { length setup.outputs ≤ 16 }
         requires untracked { All (λ x. x.tracked ≡ false) setup.inputs }
         requires sizes { All (λ x. (1 ≤ x.batch) × (x.batch ≤ x.limit)) setup.outputs }
-        ensures { IfOk result (λ core. core ≡ first_state setup) }
+        ensures ok { IfOk result (λ core. core ≡ first_state setup) }
+        ensures stands { IfOk result (λ core. Stands core []) }
     {
         let inputs = setup.inputs.as_slice().len();
         let ended = vec![in alloc; false; inputs]?;
@@ -89,6 +95,7 @@ impl Core {
     pub fn stop(&mut self, moment: Moment) -> Result<(), OutOfMemory>
         requires { self.old.stopped ≡ false }
         ensures ok { OnOk result (self.new ≡ after_stop self.old moment) }
+        ensures stands { OnOk result (Continues self.old self.new (entries.Stop (int_max moment self.old.counted) [])) }
         ensures err { OnErr result (self.new ≡ self.old) }
     {
         make_room(&mut self.stored, self.outputs.len())?;
@@ -105,6 +112,7 @@ impl Core {
     pub fn cut(&mut self) -> Result<Vec<Entry>, CutAnswer>
         ensures ok { IfOk result (λ entries. (entries.items ≡ self.old.stored) × (self.new ≡ after_cut self.old)) }
         ensures nothing { (result ≡ Err CutAnswer.NothingNew) ↔ (self.old.stored ≡ []) }
+        ensures stands { (journal : List Entry) → Stands self.old journal → Stands self.new journal }
         ensures err { OnErr result (self.new ≡ self.old) }
     {
         if self.stored.is_empty() {
@@ -116,9 +124,51 @@ impl Core {
         Ok(mem::replace(&mut self.stored, fresh))
     }
 
+    /// Whether the input is one of the core's and hasn't ended.
+    pub fn is_reading(&self, input: u32) -> bool
+        ensures { IsTrue result ↔ (slice_get self.now.ended input ≡ Some false) }
+    {
+        match self.ended.get(input as usize) {
+            Some(ended) => !*ended,
+            None => false,
+        }
+    }
+
+    /// Whether no more is gathered.
+    pub fn is_stopped(&self) -> bool
+        ensures { result ≡ self.now.stopped }
+    {
+        self.stopped
+    }
+
+    /// The item in hand.
+    pub fn held(&self) -> Option<u64>
+        ensures { result ≡ self.now.held }
+    {
+        self.held
+    }
+
+    /// How many outputs there are.
+    pub fn output_count(&self) -> usize
+        ensures { result ≡ length self.now.setup.outputs }
+    {
+        self.outputs.len()
+    }
+
+    /// Whether the output is one of the core's and its batch is in flight.
+    pub fn is_in_flight(&self, output: u32) -> bool
+        ensures { IsTrue result ↔ ((output < length self.now.setup.outputs) × (0 < length (lane_at self.now.lanes output).flight)) }
+    {
+        match self.outputs.get(output as usize) {
+            Some(place) => place.is_in_flight(),
+            None => false,
+        }
+    }
+
     /// What was counted.
     pub fn account(&self) -> &Account
-        ensures { result.now ≡ self.now.numbers }
+        ensures numbers { result.now ≡ self.now.numbers }
+        ensures totals { (journal : List Entry) → Stands self.now journal → result.now ≡ totals self.now.setup journal }
     {
         &self.account
     }

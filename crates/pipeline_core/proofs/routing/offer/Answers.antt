@@ -1,4 +1,4 @@
-use Rattle.std.proofs.Common.{◌∙◌, ap, sym, arith}
+use Rattle.std.proofs.Common.{arith}
 use Rattle.std.proofs.lemmas.Grind.{common_steps}
 use Rattle.pipeline_core.proofs.Offering.{offered_more, offered_lanes, offered_numbers}
 use Rattle.pipeline_core.proofs.routing.offer.Goals as goal

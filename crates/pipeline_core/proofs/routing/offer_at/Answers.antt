@@ -1,4 +1,4 @@
-use Rattle.std.proofs.Common.{◌∙◌, ap, sym, arith}
+use Rattle.std.proofs.Common.{arith}
 use Rattle.pipeline_core.proofs.Offering.{buffered_dropped, full_at}
 use Rattle.pipeline_core.specs.CoreState.{lane_at}
 use Rattle.pipeline_core.proofs.routing.offer_at.Goals as goal

@@ -1,5 +1,6 @@
-use Rattle.std.proofs.Common.{arith}
+use Rattle.std.proofs.Common.{rules, arith}
 use Rattle.pipeline_core.specs.CoreView.{core_state}
+use Rattle.pipeline_core.proofs.StandsCuts.{cut_stands}
 use Rattle.pipeline_core.proofs.Keeping.{kept_entries, flights-le}
 use Rattle.pipeline_core.proofs.state.Core.cut.Goals as goal
 
@@ -10,3 +11,6 @@ invariant_of-self c =
       core = kept_entries (core_state c.self.inside) _ _ _ c.self.invariant.core;
       spare = omega (arith, flights-le c.self.inside.outputs.items, c.in-Ok.ensures.exact, c.in-Ok.ensures.len);
     })
+
+pub returns-clause-stands : goal.returns-clause-stands
+returns-clause-stands c = cut_stands c.args.self.now _ (search rules)

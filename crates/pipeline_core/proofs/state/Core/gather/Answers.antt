@@ -1,7 +1,10 @@
-use Rattle.std.proofs.Common.{◌≡◌, ◌<◌, ◌+◌, ◌++◌, List, ◌∙◌, ap, sym, length, arith}
+use Rattle.std.proofs.Common.{◌+◌, ◌++◌, List, ◌∙◌, ap, length, rules, subst, arith}
+use Rattle.std.proofs.lemmas.Grind.{common_steps}
 use Rattle.metric.specs.declared.metric.Content.{Content}
 use Rattle.account.specs.Numbers.{with_input, input_numbers, gathered_more}
 use Rattle.pipeline_core.specs.CoreView.{core_state}
+use Rattle.pipeline_core.specs.CoreState.{CoreState, IsCore}
+use Rattle.pipeline_core.proofs.StandsSteps.{gather_stands}
 use Rattle.pipeline_core.proofs.Keeping.{kept_gathered, flights-le}
 use Rattle.pipeline_core.proofs.state.Core.gather.Goals as goal
 
@@ -15,3 +18,8 @@ invariant_of-self-2 c =
           (ap (λ (xs : List Content). c.self.inside.gathered + length xs) c.as_slice-count.ensures);
       spare = omega (arith, flights-le c.self.inside.outputs.items, c.in_ok-make_room.ensures.room);
     }
+
+pub returns-clause-stands : goal.returns-clause-stands
+returns-clause-stands c =
+    gather_stands c.args.self.now _ c.args.g (search rules) (subst IsCore c.self.view_is c.self.invariant.core) c.requires.reading c.requires.going
+    (omega (arith, ap (λ (s : CoreState). s.gathered) c.self.view_is, ap length c.as_slice-count.ensures)) (grind (arith, common_steps))

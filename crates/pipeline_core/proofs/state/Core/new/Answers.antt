@@ -1,10 +1,10 @@
-use Rattle.std.proofs.Common.{◌≡◌, ◌<◌, ◌∙◌, ap, sym, List, map, length, replicate, Bool, false, arith}
+use Rattle.std.proofs.Common.{◌≡◌, ◌∙◌, ap, List, map, length, replicate, Bool, false, arith}
 use Rattle.std.proofs.lemmas.Grind.{common_steps}
 use Rattle.std.proofs.lemmas.List.{length-map}
 use Rattle.account.specs.Numbers.{no_numbers}
 use Rattle.pipeline_core.specs.declared.setup.InSetup.{InSetup}
-use Rattle.pipeline_core.specs.CoreState.{CoreState, lane_of}
-use Rattle.pipeline_core.specs.CoreView.{core_state}
+use Rattle.pipeline_core.specs.CoreState.{lane_of}
+use Rattle.pipeline_core.proofs.StandsCuts.{first_stands}
 use Rattle.pipeline_core.proofs.Keeping.{kept_first, spare_at_first}
 use Rattle.pipeline_core.proofs.state.Core.new.Goals as goal
 
@@ -18,3 +18,6 @@ invariant_of-result c =
           (c.in_ok-account.ensures ∙ ap (λ (xs : List Bool). no_numbers xs c.len.result) (c.as_slice-2.ensures.value ∙ flags) ∙ ap (no_numbers (replicate (length c.args.setup.inputs) false)) count) flags;
       spare = omega (arith, spare_at_first c.args.setup.outputs c.in_ok-outputs.outputs.items lanes, c.new-3.ensures.len);
     }
+
+pub returns-clause-stands : goal.returns-clause-stands
+returns-clause-stands c = first_stands c.args.setup _ (grind (arith, common_steps)) c.requires.untracked c.requires.sizes

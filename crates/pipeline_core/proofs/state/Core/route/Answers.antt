@@ -1,8 +1,9 @@
-use Rattle.std.proofs.Common.{◌≡◌, ◌<◌, ◌∙◌, ap, sym, List, length, Some, Option, arith}
+use Rattle.std.proofs.Common.{◌≡◌, ◌∙◌, ap, List, length, Option, rules, subst, arith}
 use Rattle.metric.specs.declared.metric.Content.{Content}
-use Rattle.pipeline_core.specs.CoreState.{CoreState}
+use Rattle.pipeline_core.specs.CoreState.{CoreState, IsCore}
 use Rattle.pipeline_core.specs.CoreView.{core_state}
 use Rattle.pipeline_core.specs.Steps.{lanes_routed, numbers_routed}
+use Rattle.pipeline_core.proofs.StandsLanes.{route_stands}
 use Rattle.pipeline_core.proofs.Keeping.{kept_route, flights-le, length-lanes_routed}
 use Rattle.pipeline_core.proofs.state.Core.route.Goals as goal
 
@@ -17,3 +18,7 @@ invariant_of-self-2 c =
           c.self.invariant.core;
       spare = omega (arith, flights-le c.settle.new.outputs.items, ap length lanes, length-lanes_routed c.args.r.whole c.args.r.outs c.self.inside.outputs.items, c.in_ok-make_room.ensures.room);
     }
+
+pub returns-clause-stands : goal.returns-clause-stands
+returns-clause-stands c =
+    route_stands c.args.self.now _ c.args.r (search rules) (subst IsCore c.self.view_is c.self.invariant.core) c.requires.held c.requires.aggregators c.requires.outputs c.requires.views

@@ -1,5 +1,6 @@
-use Rattle.std.proofs.Common.{arith}
+use Rattle.std.proofs.Common.{rules, arith}
 use Rattle.pipeline_core.specs.CoreView.{core_state}
+use Rattle.pipeline_core.proofs.StandsSteps.{stop_stands}
 use Rattle.pipeline_core.proofs.Keeping.{kept_entries, flights-le}
 use Rattle.pipeline_core.proofs.state.Core.stop.Goals as goal
 
@@ -9,3 +10,6 @@ invariant_of-self-2 c =
       core = kept_entries (core_state c.self.inside) _ _ _ c.self.invariant.core;
       spare = omega (arith, flights-le c.self.inside.outputs.items, c.in_ok-make_room.ensures.room);
     }
+
+pub returns-clause-stands : goal.returns-clause-stands
+returns-clause-stands c = stop_stands c.args.self.now _ c.args.moment (search rules) c.requires

@@ -1,5 +1,7 @@
-use Rattle.std.proofs.Common.{◌≡◌, ◌<◌, length, None, arith}
+use Rattle.std.proofs.Common.{◌≡◌, ◌<◌, length, None, ap, sym, ◌∙◌, rules, arith}
 use Rattle.std.proofs.lemmas.Grind.{common_steps}
+use Rattle.pipeline_core.specs.CoreState.{CoreState}
+use Rattle.pipeline_core.proofs.StandsSteps.{take_stands}
 use Rattle.pipeline_core.specs.CoreView.{core_state}
 use Rattle.pipeline_core.proofs.Keeping.{kept_take, flights-le}
 use Rattle.pipeline_core.proofs.state.Core.take.Goals as goal
@@ -12,3 +14,11 @@ invariant_of-self-2 c =
       core = rw c.pop_front.ensures.rest (kept_take (core_state c.self.inside) _ c.self.invariant.core empty some);
       spare = omega (arith, flights-le c.self.inside.outputs.items, c.in-Ok.ensures.room);
     }
+
+pub returns-clause-stands : goal.returns-clause-stands
+returns-clause-stands c =
+    let empty : c.self.inside.held ≡ None = grind (arith, common_steps) in
+    let some : 0 < length c.self.inside.raw.items = grind (arith, common_steps) in
+    take_stands c.args.self.now _ (search rules)
+    (ap (λ (s : CoreState). s.held) (sym c.self.view_is) ∙ empty)
+    (omega (arith, some, ap (λ (s : CoreState). length s.raw) c.self.view_is))

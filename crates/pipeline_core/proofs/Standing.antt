@@ -1,0 +1,59 @@
+-- A core that stands for a journal, and one entry more.
+use Rattle.std.proofs.Common.{◌≡◌, ◌<◌, ℕ, ℤ, ◌+◌, Bool, false, ◌||◌, List, [], ◌∷◌, ◌++◌, length, drop, sym, ap, ◌∙◌, append_assoc, append-nil}
+use Rattle.std.proofs.Math.Bool.{or-false}
+use Rattle.std.specs.Prelude.{slice_get}
+use Rattle.std.specs.declared.option.Option.{Option}
+use Rattle.std.specs.declared.option.Option.TheVariants.{Some}
+use Rattle.metric.specs.declared.metric.Content.{Content}
+use Rattle.account.specs.Items.{named_by, takes_by, held_after}
+use Rattle.account.specs.declared.entry.Entry.{Entry}
+use Rattle.out_lane.specs.LaneLaws.{IsLaneOf}
+use Rattle.pipeline_core.specs.Offers.{offers, offered_by, lane_events, lane_events_by}
+use Rattle.pipeline_core.specs.Legal.{is_stop, has_ended, is_ended_of, gathered_by, moment_after, Meets}
+use Rattle.pipeline_core.specs.Totals.{totals}
+use Rattle.pipeline_core.specs.CoreState.{CoreState, lane_at, sizes_at}
+use Rattle.pipeline_core.specs.Stands.{Stands}
+use Rattle.pipeline_core.proofs.JournalPush.{taken-push, in_hand-push, offers-push, lane_events-push, has_stop-push, has_ended-push, gathered_count-push, counted_from-push, IsLegal-push, raw_items-push}
+
+-- what one entry makes of a core that stands for a journal
+pub record Grows (s t : CoreState) (journal : List Entry) (e : Entry) : Type 0 where
+  pub meets : Meets s.setup journal e
+  pub raw : t.raw ≡ drop (takes_by e) (s.raw ++ named_by e)
+  pub taken_is : t.taken ≡ s.taken + takes_by e
+  pub held : t.held ≡ held_after s.held e
+  pub lanes : (o : ℕ) → o < length s.setup.outputs → IsLaneOf (sizes_at s.setup o).0 (sizes_at s.setup o).1 (lane_events o journal ++ lane_events_by o e) (offers o journal ++ offered_by o e) (lane_at t.lanes o)
+  pub lane_count : length t.lanes ≡ length s.lanes
+  pub numbers : t.numbers ≡ totals s.setup (journal ++ e ∷ [])
+  pub stored : t.stored ≡ s.stored ++ e ∷ []
+  pub gathered : t.gathered ≡ s.gathered + gathered_by e
+  pub counted : t.counted ≡ moment_after s.counted e
+  pub ended : (i : ℕ) → i < length s.setup.inputs → slice_get t.ended i ≡ Some (has_ended i journal || is_ended_of i e)
+  pub ended_count : length t.ended ≡ length s.ended
+  pub stopped : t.stopped ≡ (s.stopped || is_stop e)
+
+pub stands_grows : (s t : CoreState) (journal : List Entry) (e : Entry) → Stands s journal → Grows s t journal e → Stands (record t { setup = s.setup }) (journal ++ e ∷ [])
+stands_grows s t journal e h g =
+    record {
+      legal = IsLegal-push s.setup journal e h.legal g.meets;
+      raw = g.raw ∙ ap (λ (xs : List Content). drop (takes_by e) (xs ++ named_by e)) h.raw ∙ sym (raw_items-push s.setup journal e h.legal);
+      taken_is = g.taken_is ∙ ap (λ (n : ℕ). n + takes_by e) h.taken_is ∙ sym (taken-push journal e);
+      held = g.held ∙ ap (λ (x : Option ℕ). held_after x e) h.held ∙ sym (in_hand-push journal e);
+      lanes = λ o b. rw (lane_events-push o journal e, offers-push o journal e) (g.lanes o b);
+      lane_count = g.lane_count ∙ h.lane_count;
+      numbers = g.numbers;
+      front = h.front;
+      stored = ap (λ (j : List Entry). j ++ e ∷ []) h.stored ∙ append_assoc h.front s.stored (e ∷ []) ∙ ap (λ (j : List Entry). h.front ++ j) (sym g.stored);
+      gathered = g.gathered ∙ ap (λ (n : ℕ). n + gathered_by e) h.gathered ∙ sym (gathered_count-push journal e);
+      counted = g.counted ∙ ap (λ (m : ℤ). moment_after m e) h.counted ∙ sym (counted_from-push s.setup.start journal e);
+      ended = λ i b. g.ended i b ∙ ap Some (sym (has_ended-push i journal e));
+      ended_count = g.ended_count ∙ h.ended_count;
+      stopped = g.stopped ∙ ap (λ (b : Bool). b || is_stop e) h.stopped ∙ sym (has_stop-push journal e);
+    }
+
+-- an entry that does nothing at the lanes
+pub lanes_stay : (s : CoreState) (journal : List Entry) → Stands s journal → (o : ℕ) → o < length s.setup.outputs → IsLaneOf (sizes_at s.setup o).0 (sizes_at s.setup o).1 (lane_events o journal ++ []) (offers o journal ++ []) (lane_at s.lanes o)
+lanes_stay s journal h o b = rw (append-nil (lane_events o journal), append-nil (offers o journal)) (h.lanes o b)
+
+-- an entry by which no input ends
+pub ended_stays : (s : CoreState) (journal : List Entry) → Stands s journal → (i : ℕ) → i < length s.setup.inputs → slice_get s.ended i ≡ Some (has_ended i journal || false)
+ended_stays s journal h i b = h.ended i b ∙ ap Some (sym (or-false (has_ended i journal)))

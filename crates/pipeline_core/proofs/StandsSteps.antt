@@ -1,0 +1,197 @@
+-- A core that stands for a journal stands for it with the call's entry more.
+use Rattle.std.proofs.Common.{◌≡◌, ◌≢◌, ◌<◌, ◌≤◌, ◌≤ℤ◌, ◌⊎◌, ℕ, ℤ, ◌+◌, ◌==◌, Bool, true, false, ◌||◌, List, [], ◌∷◌, ◌++◌, length, drop, inl, inr, refl, sym, ap, ◌∙◌, subst, arith, append-nil, length-drop, set, get_or, if◌then◌else◌}
+use Rattle.std.proofs.Math.Bool.{or-false}
+use Rattle.std.proofs.Math.Nat.{eq-or-lt_of_le}
+use Rattle.std.proofs.lemmas.Bool.{cases_lt}
+use Rattle.std.proofs.lemmas.Option.{slice_get-get_or, slice_get_within, get_or_from_slice_get}
+use Rattle.std.proofs.lemmas.List.{get_or-set_same, get_or-set_other, length-set}
+use Rattle.std.specs.Int.{int_max}
+use Rattle.std.specs.Prelude.{slice_get}
+use Rattle.std.specs.declared.option.Option.TheVariants.{Some, None}
+use Rattle.metric.specs.declared.metric.Content.{Content}
+use Rattle.account.specs.Setup.{Setup}
+use Rattle.account.specs.Items.{items, taken}
+use Rattle.account.specs.Numbers.{Numbers, unread_input, gathered_more}
+use Rattle.account.specs.declared.numbers.InputNumbers.{InputNumbers}
+use Rattle.account.specs.declared.entry.Entry.{Entry}
+use Rattle.account.specs.declared.entry.Entry.TheVariants.{Ended, Take, Stop}
+use Rattle.pipeline_core.specs.Fates.{Fate}
+use Rattle.pipeline_core.specs.Offers.{offered_by, lane_events_by}
+use Rattle.pipeline_core.specs.Legal.{has_ended}
+use Rattle.pipeline_core.specs.Totals.{totals}
+use Rattle.pipeline_core.specs.CoreState.{CoreState, IsCore, sizes_at}
+use Rattle.pipeline_core.specs.Stands.{Stands, Continues}
+use Rattle.pipeline_core.specs.Steps.{after_gather, after_ended, after_take, after_stop, gather_entry, HasNumbers, HasPlace}
+use Rattle.pipeline_core.specs.declared.gathering.Gathered.{Gathered}
+use Rattle.std.proofs.lemmas.Bool.Decides.{nat_tests}
+use Rattle.std.proofs.lemmas.Int.{ints}
+use Rattle.pipeline_core.proofs.Keeping.{full}
+use Rattle.pipeline_core.proofs.FateCounts.{kept_out}
+use Rattle.pipeline_core.proofs.TotalPush.{inputs-same, inputs-set, outputs-same}
+use Rattle.pipeline_core.proofs.OutputPush.{output_stays, totals-push}
+use Rattle.pipeline_core.proofs.Standing.{stands_grows, lanes_stay, ended_stays}
+
+nil_of_length : (xs : List Content) → length xs ≡ 0 → xs ≡ []
+nil_of_length [] h = refl
+nil_of_length (x ∷ xs) h = absurd (omega (arith, h))
+
+pub differs : (m n : ℕ) → m ≢ n → (m == n) ≡ false
+differs m n h = grind (arith, nat_tests)
+
+pub same_number : (n : ℕ) → (n == n) ≡ true
+same_number n = full n n refl
+
+or_true : (b : Bool) → (b || true) ≡ true
+or_true true = refl
+or_true false = refl
+
+some_same : (a b : Bool) → Some a ≡ Some b → a ≡ b
+some_same a b h = cc
+
+below_max : (a b : ℤ) → b ≤ℤ int_max a b
+below_max a b = grind (arith, ints)
+
+placed_raw : (raw : List Content) (n : ℕ) → (length raw ≡ 0) ⊎ (length raw + n ≤ 10000) → (raw ≡ []) ⊎ (length raw + n ≤ 10000)
+placed_raw raw n (inl h) = inl (nil_of_length raw h)
+placed_raw raw n (inr h) = inr h
+
+-- an entry that does nothing at the outputs
+pub outputs_stay : (setup : Setup) (journal : List Entry) (e : Entry) → ((o : ℕ) → lane_events_by o e ≡ []) → ((o : ℕ) → offered_by o e ≡ []) → ((o : ℕ) (t : Fate → Bool) → kept_out t o e ≡ 0) →
+    (totals setup (journal ++ e ∷ [])).outputs ≡ (totals setup journal).outputs
+outputs_stay setup journal e l v k = outputs-same setup journal e (λ o b. output_stays (sizes_at setup o).1 o journal e (l o) (v o) (k o))
+
+pub stands_take : (s : CoreState) → s.held ≡ None → 0 < length s.raw → Continues s (after_take s) (Take s.taken)
+stands_take s none some journal h =
+    let e : Entry = Take s.taken in
+    stands_grows s (after_take s) journal e h
+    (record {
+      meets = record { empty_handed = sym h.held ∙ none; first = h.taken_is; raw = omega (arith, ap length h.raw, length-drop (taken journal) (items journal), h.taken_is) };
+      raw = ap (drop 1) (sym (append-nil s.raw));
+      taken_is = refl;
+      held = refl;
+      lanes = lanes_stay s journal h;
+      lane_count = refl;
+      numbers = totals-push s.setup journal e s.numbers s.numbers h.numbers (ap (λ (n : Numbers). n.inputs) h.numbers ∙ sym (inputs-same s.setup journal e (λ i x. refl))) (omega arith) (omega arith) (omega arith)
+          (ap (λ (n : Numbers). n.outputs) h.numbers ∙ sym (outputs_stay s.setup journal e (λ o. refl) (λ o. refl) (λ o t. refl)));
+      stored = refl;
+      gathered = omega arith;
+      counted = refl;
+      ended = ended_stays s journal h;
+      ended_count = refl;
+      stopped = sym (or-false s.stopped);
+    })
+
+pub stands_stop : (s : CoreState) (moment : ℤ) → s.stopped ≡ false → Continues s (after_stop s moment) (Stop (int_max moment s.counted) [])
+stands_stop s moment going journal h =
+    let e : Entry = Stop (int_max moment s.counted) [] in
+    stands_grows s (after_stop s moment) journal e h
+    (record {
+      meets = record { going = sym h.stopped ∙ going; later = subst (λ (m : ℤ). m ≤ℤ int_max moment s.counted) h.counted (below_max moment s.counted); nothing_made = refl };
+      raw = sym (append-nil s.raw);
+      taken_is = omega arith;
+      held = refl;
+      lanes = lanes_stay s journal h;
+      lane_count = refl;
+      numbers = totals-push s.setup journal e s.numbers s.numbers h.numbers (ap (λ (n : Numbers). n.inputs) h.numbers ∙ sym (inputs-same s.setup journal e (λ i x. refl))) (omega arith) (omega arith) (omega arith)
+          (ap (λ (n : Numbers). n.outputs) h.numbers ∙ sym (outputs_stay s.setup journal e (λ o. refl) (λ o. refl) (λ o t. refl)));
+      stored = refl;
+      gathered = omega arith;
+      counted = refl;
+      ended = ended_stays s journal h;
+      ended_count = refl;
+      stopped = ap (λ (b : Bool). b || true) (sym going);
+    })
+
+-- which inputs have ended with one more
+ended_more : (s : CoreState) (journal : List Entry) (input : ℕ) → slice_get s.ended input ≡ Some false → Stands s journal → (i : ℕ) → i < length s.setup.inputs → slice_get (set s.ended input true) i ≡ Some (has_ended i journal || (input == i))
+ended_more s journal input reading h i b =
+    let n : input < length s.ended = slice_get_within s.ended input false reading in
+    let len : length (set s.ended input true) ≡ length s.ended = length-set s.ended input true in
+    let at : slice_get (set s.ended input true) i ≡ Some (get_or (set s.ended input true) i false) = slice_get-get_or (set s.ended input true) i false (omega (arith, h.ended_count)) in
+    let was : get_or s.ended i false ≡ has_ended i journal = get_or_from_slice_get s.ended i (has_ended i journal) false (h.ended i b) in
+    elim (cases_lt i input) [
+      | inl l ↦ at ∙ ap Some (get_or-set_other s.ended input i true false (omega arith) ∙ was ∙ sym (or-false (has_ended i journal)) ∙ ap (λ (t : Bool). has_ended i journal || t) (sym (differs input i (omega arith))))
+      | inr l ↦ elim (eq-or-lt_of_le l) [
+        | inl q ↦ subst (λ (j : ℕ). slice_get (set s.ended input true) j ≡ Some (has_ended j journal || (input == j))) q
+            (slice_get-get_or (set s.ended input true) input false (omega arith) ∙ ap Some (get_or-set_same s.ended input true false n ∙ sym (or_true (has_ended input journal)) ∙ ap (λ (t : Bool). has_ended input journal || t) (sym (same_number input))))
+        | inr q ↦ at ∙ ap Some (get_or-set_other s.ended input i true false (omega arith) ∙ was ∙ sym (or-false (has_ended i journal)) ∙ ap (λ (t : Bool). has_ended i journal || t) (sym (differs input i (omega arith))))
+      ]
+    ]
+
+pub stands_ended : (s : CoreState) (input : ℕ) → IsCore s → slice_get s.ended input ≡ Some false → s.stopped ≡ false → Continues s (after_ended s input) (Ended input)
+stands_ended s input core reading going journal h =
+    let e : Entry = Ended input in
+    let n : input < length s.setup.inputs = omega (arith, slice_get_within s.ended input false reading, h.ended_count) in
+    stands_grows s (after_ended s input) journal e h
+    (record {
+      meets = record { known = n; going = sym h.stopped ∙ going; reading = some_same (has_ended input journal) false (sym (h.ended input n) ∙ reading) };
+      raw = sym (append-nil s.raw);
+      taken_is = omega arith;
+      held = refl;
+      lanes = lanes_stay s journal h;
+      lane_count = refl;
+      numbers = totals-push s.setup journal e s.numbers (after_ended s input).numbers h.numbers
+          (ap (λ (m : Numbers). set m.inputs input (record (get_or m.inputs input (unread_input false)) { has_ended = true })) h.numbers
+          ∙ sym (inputs-set s.setup journal e input (record (get_or (totals s.setup journal).inputs input (unread_input false)) { has_ended = true }) n (λ k x d. ap (λ (t : Bool). if t then record x { has_ended = true } else x) (differs input k (omega (arith, d))))
+          (ap (λ (t : Bool). if t then record (get_or (totals s.setup journal).inputs input (unread_input false)) { has_ended = true } else get_or (totals s.setup journal).inputs input (unread_input false)) (same_number input))))
+          (omega arith) (omega arith) (omega arith)
+          (ap (λ (m : Numbers). m.outputs) h.numbers ∙ sym (outputs_stay s.setup journal e (λ o. refl) (λ o. refl) (λ o t. refl)));
+      stored = refl;
+      gathered = omega arith;
+      counted = refl;
+      ended = ended_more s journal input reading h;
+      ended_count = length-set s.ended input true;
+      stopped = sym (or-false s.stopped);
+    })
+
+pub stands_gather : (s : CoreState) (g : Gathered) → IsCore s → slice_get s.ended g.input ≡ Some false → s.stopped ≡ false → HasNumbers s g → HasPlace s g → Continues s (after_gather s g) (gather_entry g)
+stands_gather s g core reading going few place journal h =
+    let e : Entry = gather_entry g in
+    let n : g.input < length s.setup.inputs = omega (arith, slice_get_within s.ended g.input false reading, h.ended_count) in
+    let more : InputNumbers → InputNumbers = λ x. gathered_more x g.pieces g.refused g.passed g.filtered (length g.metrics) in
+    let old : InputNumbers = get_or (totals s.setup journal).inputs g.input (unread_input false) in
+    stands_grows s (after_gather s g) journal e h
+    (record {
+      meets = record {
+        untracked = slice_get-get_or s.setup.inputs g.input None n ∙ ap Some (core.untracked g.input None n);
+        going = sym h.stopped ∙ going;
+        reading = some_same (has_ended g.input journal) false (sym (h.ended g.input n) ∙ reading);
+        fits = omega (arith, h.gathered, few);
+        room = subst (λ (xs : List Content). (xs ≡ []) ⊎ (length xs + length g.metrics ≤ 10000)) h.raw (placed_raw s.raw (length g.metrics) place);
+        no_group = refl;
+        no_reports = refl;
+      };
+      raw = refl;
+      taken_is = omega arith;
+      held = refl;
+      lanes = lanes_stay s journal h;
+      lane_count = refl;
+      numbers = totals-push s.setup journal e s.numbers (after_gather s g).numbers h.numbers
+          (ap (λ (m : Numbers). set m.inputs g.input (more (get_or m.inputs g.input (unread_input false)))) h.numbers
+          ∙ sym (inputs-set s.setup journal e g.input (more old) n (λ k x d. ap (λ (t : Bool). if t then more x else x) (differs g.input k (omega (arith, d))))
+          (ap (λ (t : Bool). if t then more old else old) (same_number g.input))))
+          (omega arith) (omega arith) (omega arith)
+          (ap (λ (m : Numbers). m.outputs) h.numbers ∙ sym (outputs_stay s.setup journal e (λ o. refl) (λ o. refl) (λ o t. refl)));
+      stored = refl;
+      gathered = refl;
+      counted = refl;
+      ended = ended_stays s journal h;
+      ended_count = refl;
+      stopped = sym (or-false s.stopped);
+    })
+
+-- the same of a core that is what the call makes of the old one
+by_step : (s n t : CoreState) (e : Entry) → n ≡ t → Continues s t e → Continues s n e
+by_step s n t e q h = subst (λ (m : CoreState). Continues s m e) (sym q) h
+
+pub take_stands : (s n : CoreState) → n ≡ after_take s → s.held ≡ None → 0 < length s.raw → Continues s n (Take s.taken)
+take_stands s n q none some = by_step s n (after_take s) (Take s.taken) q (stands_take s none some)
+
+pub ended_stands : (s n : CoreState) (input : ℕ) → n ≡ after_ended s input → IsCore s → slice_get s.ended input ≡ Some false → s.stopped ≡ false → Continues s n (Ended input)
+ended_stands s n input q core reading going = by_step s n (after_ended s input) (Ended input) q (stands_ended s input core reading going)
+
+pub gather_stands : (s n : CoreState) (g : Gathered) → n ≡ after_gather s g → IsCore s → slice_get s.ended g.input ≡ Some false → s.stopped ≡ false → HasNumbers s g → HasPlace s g → Continues s n (gather_entry g)
+gather_stands s n g q core reading going few place = by_step s n (after_gather s g) (gather_entry g) q (stands_gather s g core reading going few place)
+
+pub stop_stands : (s n : CoreState) (moment : ℤ) → n ≡ after_stop s moment → s.stopped ≡ false → Continues s n (Stop (int_max moment s.counted) [])
+stop_stands s n moment q going = by_step s n (after_stop s moment) (Stop (int_max moment s.counted) []) q (stands_stop s moment going)

@@ -3,3 +3,4 @@ pub mod Values
 pub mod Reading
 pub mod Views
 pub mod Draft
+pub mod Grammar

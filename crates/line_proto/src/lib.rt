@@ -3,12 +3,14 @@
 
 mod draft;
 mod fault;
+mod laws;
 mod read;
 mod read_items;
 mod read_parts;
 mod read_value;
 
 pub use fault::{LineFault, LineKind};
+pub use laws::{read_is_written, written_is_read};
 pub use read::read_line;
 
 #[cfg(test)]

@@ -1,12 +1,12 @@
 -- What is read as a line is written as one.
-use Rattle.std.proofs.Common.{◌≡◌, ◌≢◌, ℕ, ℤ, zero, suc, ◌+◌, ◌-◌, ◌<◌, ◌≤◌, Bool, true, false, cond, eqb, ltb, List, [], ◌∷◌, ◌++◌, length, get_or, take, drop, Result, Ok, Err, Option, Some, None, refl, sym, ap, subst, ◌∙◌, arith, add-zero, append_assoc, drop-cons, add-one, inl, inr}
-use Rattle.std.specs.Prelude.{◌||◌, ◌==◌, not, replicate}
+use Rattle.std.proofs.Common.{◌≡◌, ◌≢◌, ℕ, ℤ, zero, suc, ◌+◌, ◌<◌, ◌≤◌, Bool, true, false, cond, eqb, ltb, List, [], ◌∷◌, ◌++◌, length, get_or, take, drop, Result, Ok, Err, Option, Some, None, refl, sym, ap, subst, ◌∙◌, arith, add-zero, append_assoc, drop-cons, add-one, inl, inr}
+use Rattle.std.specs.Prelude.{◌||◌, ◌==◌, not}
 use Rattle.std.specs.List.{position_or_len}
 use Rattle.std.specs.Str.{IsUtf8, is_utf8}
 use Rattle.std.proofs.lemmas.Str.{IsUtf8-from_is_utf8}
-use Rattle.std.proofs.lemmas.Bool.{ne_eqb, eq-eqb, eqb-true, eqb-false, ltb-true, ltb-false}
-use Rattle.std.proofs.lemmas.List.{take_at, drop_at, drop-drop, get_or-drop, get_or_past, length-drop, length-append, length-take-le, append-nil, take-append-drop, drop_all}
-use Rattle.text_parts.specs.Part.{Kind, part_len, plain, len_at, text_at, IsPartAt}
+use Rattle.std.proofs.lemmas.Bool.{ne_eqb, eqb-true, eqb-false, ltb-true, ltb-false}
+use Rattle.std.proofs.lemmas.List.{drop-drop, get_or-drop, get_or_past, length-drop, length-take-le, append-nil, take-append-drop, drop_all}
+use Rattle.text_parts.specs.Part.{Kind, plain, IsPartAt}
 use Rattle.text_parts.specs.Bare.{IsBare}
 use Rattle.text_parts.specs.Chain.{◌>>=◌}
 use Rattle.text_parts.specs.Many.{Reader, many_at, items_at}
@@ -327,6 +327,7 @@ space_there piece i lt ends no_comma =
   where
     first_of : get_or (drop i piece) 0 0 ≡ get_or piece i 0
     first_of = get_or-drop i piece 0 0 ∙ rw add-zero refl
+
     meets_first : (bs : List ℕ) → 0 < length bs → Meets ends_word bs → ends_word (get_or bs 0 0) ≡ true
     meets_first [] some e = absurd (omega arith)
     meets_first (b ∷ bs) some e = e
@@ -350,9 +351,13 @@ written_again piece i time le e =
     let end = time_chosen (behind_spaces piece (i + time_len piece i) == length piece) t.0 time _ t.2 in
     let short : time_len piece i ≤ length (drop i piece) = position_or_len_le is_space (drop i piece) in
     let s = spaces_again piece (i + time_len piece i) (omega (arith, short, length-drop i piece)) in
-    let rest : drop (i + time_len piece i) piece ≡ spaces s.count = at_end piece (i + time_len piece i) (behind_spaces piece (i + time_len piece i)) s.count s.spans end.0 in
-    (take (time_len piece i) (drop i piece), s.count, split.0, placed_ok i _ t.0 t.1 ∙ ap Ok end.1,
-      sym (take-append-drop (time_len piece i) (drop i piece)) ∙ ap (λ (x : List ℕ). take (time_len piece i) (drop i piece) ++ x) (drop-drop (time_len piece i) i piece ∙ rest))
+    let rest : drop (i + time_len piece i) piece ≡ spaces s.count = at_end piece (i + time_len piece i) (behind_spaces piece (i + time_len piece i)) s.count s.spans end.0 in (
+      take (time_len piece i) (drop i piece),
+      s.count,
+      split.0,
+      placed_ok i _ t.0 t.1 ∙ ap Ok end.1,
+      sym (take-append-drop (time_len piece i) (drop i piece)) ∙ ap (λ (x : List ℕ). take (time_len piece i) (drop i piece) ++ x) (drop-drop (time_len piece i) i piece ∙ rest),
+    )
   where
     time_chosen : (t : Bool) (a b : ℤ) (fault : LineFault) → cond t (Ok a) (Err fault) ≡ Ok b → (t ≡ true) × (a ≡ b)
     time_chosen true a b fault e = let same : a ≡ b = cc in (refl, same)
@@ -388,11 +393,14 @@ fields_again piece bare unquoted i j fields le e =
     let o = bind_ok (items_at field_at 44 piece f.0.1) _ (fields, j) f.2 in
     let others = many_again field_at IsField piece (field_again piece bare unquoted) (length piece) f.0.1 o.0.1 o.0.0 (omega arith) first.spans.within first.ends o.1 in
     let same = ok_pair (f.0.0 ∷ o.0.0) fields o.0.1 j o.2 in
-    let all : Spans piece i o.0.1 (pair_text first.pair ++ pairs_text others.pairs) = joins piece i f.0.1 o.0.1 (pair_text first.pair) (pairs_text others.pairs) first.spans others.spans in
-    (first.pair, others.pairs, subst (λ (fs : List Field). AllAre IsField (first.pair ∷ others.pairs) fs) same.0 (first.is, others.are),
+    let all : Spans piece i o.0.1 (pair_text first.pair ++ pairs_text others.pairs) = joins piece i f.0.1 o.0.1 (pair_text first.pair) (pairs_text others.pairs) first.spans others.spans in (
+      first.pair,
+      others.pairs,
+      subst (λ (fs : List Field). AllAre IsField (first.pair ∷ others.pairs) fs) same.0 (first.is, others.are),
       subst (λ (m : ℕ). get_or piece m 0 ≢ 44) same.1 others.no_comma,
       subst (λ (m : ℕ). Meets ends_word (drop m piece)) same.1 others.ends,
-      subst (λ (m : ℕ). Spans piece i m (pair_text first.pair ++ pairs_text others.pairs)) same.1 all)
+      subst (λ (m : ℕ). Spans piece i m (pair_text first.pair ++ pairs_text others.pairs)) same.1 all,
+    )
 
 pub spaced_fields_again : (piece : List ℕ) → IsBare piece → IsUnquoted piece → (i j : ℕ) (fields : List Field) → i ≤ length piece → Meets ends_word (drop i piece) → get_or piece i 0 ≢ 44 → spaced_fields_at piece i ≡ Ok (fields, j)
     → (gap : ℕ) × (w : List ℕ × List ℕ) × (ws : List (List ℕ × List ℕ)) × (0 < gap) × AllAre IsField (w ∷ ws) fields × (get_or piece j 0 ≢ 44) × Meets ends_word (drop j piece) × Spans piece i j (spaces gap ++ (pair_text w ++ pairs_text ws))
@@ -437,8 +445,8 @@ line_again piece bare unquoted i before line moment le no_comment e =
     let made : Line = record { name = n.0.0; tags = t.0.0; fields = f.0.0; time = m.0 } in
     let same : record { name = n.0.0; tags = t.0.0; fields = f.0.0; time = m.0 } ≡ line = ok_line made line m.2 in
     let behind : drop t.0.1 piece ≡ spaces fields.0 ++ (pair_text fields.1 ++ (pairs_text fields.2 ++ (time_text time.written ++ spaces time.after))) =
-        fields.7.is ∙ ap (λ (x : List ℕ). (spaces fields.0 ++ (pair_text fields.1 ++ pairs_text fields.2)) ++ x) time.text ∙ append_assoc (spaces fields.0) (pair_text fields.1 ++ pairs_text fields.2) (time_text time.written ++ spaces time.after)
-        ∙ ap (λ (x : List ℕ). spaces fields.0 ++ x) (append_assoc (pair_text fields.1) (pairs_text fields.2) (time_text time.written ++ spaces time.after)) in
+    fields.7.is ∙ ap (λ (x : List ℕ). (spaces fields.0 ++ (pair_text fields.1 ++ pairs_text fields.2)) ++ x) time.text ∙ append_assoc (spaces fields.0) (pair_text fields.1 ++ pairs_text fields.2) (time_text time.written ++ spaces time.after)
+    ∙ ap (λ (x : List ℕ). spaces fields.0 ++ x) (append_assoc (pair_text fields.1) (pairs_text fields.2) (time_text time.written ++ spaces time.after)) in
     subst (λ (l : Line). LineRead piece i before l moment) same (record {
       written = record { before = before; name = n.0.0; tags = tags.pairs; gap = fields.0; first = fields.1; others = fields.2; time = time.written; after = time.after };
       same = refl;
@@ -476,9 +484,15 @@ read_is_written piece moment content plain e =
     let first = or_false (behind_spaces piece 0 == length piece) (get_or piece (behind_spaces piece 0) 0 == 35) text.0 in
     let read = some_ok (line_at piece (behind_spaces piece 0) moment) content text.1 in
     let s = spaces_again piece 0 (omega arith) in
-    let line = line_again piece (bare piece plain) (unquoted piece plain) (behind_spaces piece 0) s.count read.0 moment s.spans.within first.1 read.1 in
-    (line.written, read.0, s.spans.is ∙ ap (λ (t : List ℕ). spaces s.count ++ t) line.text ∙ ap (λ (n : ℕ). spaces n ++ (line.written.name ++ (pairs_text line.written.tags ++ (spaces line.written.gap ++ (pair_text line.written.first ++ (pairs_text line.written.others ++ (time_text line.written.time ++ spaces line.written.after))))))) (sym line.same),
-      IsUtf8-from_is_utf8 piece whole.0, line.is, read.2, read.3)
+    let line = line_again piece (bare piece plain) (unquoted piece plain) (behind_spaces piece 0) s.count read.0 moment s.spans.within first.1 read.1 in (
+      line.written,
+      read.0,
+      s.spans.is ∙ ap (λ (t : List ℕ). spaces s.count ++ t) line.text ∙ ap (λ (n : ℕ). spaces n ++ (line.written.name ++ (pairs_text line.written.tags ++ (spaces line.written.gap ++ (pair_text line.written.first ++ (pairs_text line.written.others ++ (time_text line.written.time ++ spaces line.written.after))))))) (sym line.same),
+      IsUtf8-from_is_utf8 piece whole.0,
+      line.is,
+      read.2,
+      read.3,
+    )
   where
     utf8_chosen : (t : Bool) (r : Result (Option Content) LineFault) (fault : LineFault) (y : Option Content) → cond t r (Err fault) ≡ Ok y → (t ≡ true) × (r ≡ Ok y)
     utf8_chosen true r fault y e = (refl, e)

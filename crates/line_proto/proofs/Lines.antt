@@ -1,17 +1,17 @@
 -- A whole line.
-use Rattle.std.proofs.Common.{◌≡◌, ◌≢◌, ℕ, ℤ, ◌<◌, Bool, true, false, cond, eqb, ltb, get_or, List, [], ◌∷◌, length, Result, Ok, Err, Option, Some, None, refl, sym, ap, subst, ◌∙◌, arith, inl, inr}
-use Rattle.std.specs.Prelude.{◌||◌, ◌==◌, ◌⊎◌, nat_lt}
+use Rattle.std.proofs.Common.{◌≡◌, ◌≢◌, ℕ, ℤ, ◌<◌, true, false, cond, ltb, get_or, List, [], ◌∷◌, length, Result, Ok, Err, Option, refl, sym, ap, subst, ◌∙◌, arith, inl, inr}
+use Rattle.std.specs.Prelude.{◌||◌, ◌==◌, ◌⊎◌}
 use Rattle.std.specs.Str.Lossy.{utf8_valid_len}
 use Rattle.std.specs.Str.{IsUtf8, is_utf8}
 use Rattle.std.proofs.lemmas.Str.{IsUtf8-from_is_utf8, is_utf8-from_IsUtf8}
-use Rattle.std.proofs.lemmas.Bool.{ne_eqb, eq-eqb, ltb-true, ltb-false}
+use Rattle.std.proofs.lemmas.Bool.{ne_eqb, ltb-true, ltb-false}
 use Rattle.std.proofs.lemmas.List.{get_or_past}
 use Rattle.std.proofs.lemmas.List.Folds.{list_any_at}
 use Rattle.text_parts.specs.Bare.{IsBare}
 use Rattle.line_proto.specs.declared.draft.Draft.{Draft}
 use Rattle.line_proto.specs.Draft.{IsUnquoted, StandsFor, IsReady}
 use Rattle.line_proto.proofs.Drafts.{longer_pair}
-use Rattle.text_parts.specs.Many.{items_at, many_at}
+use Rattle.text_parts.specs.Many.{items_at}
 use Rattle.text_parts.specs.declared.error.ReadError.{ReadError}
 use Rattle.text_parts.specs.declared.error.ReadError.TheVariants as errors
 use Rattle.text_parts.specs.Chain.{◌>>=◌, Fails}

@@ -1,22 +1,21 @@
 -- What is written as a line is read as it.
-use Rattle.std.proofs.Common.{◌≡◌, ◌≢◌, ℕ, ℤ, zero, suc, ◌+◌, ◌<◌, ◌≤◌, Bool, true, false, cond, eqb, List, [], ◌∷◌, ◌++◌, length, get_or, take, drop, Result, Ok, Err, Option, Some, None, refl, sym, ap, subst, ◌∙◌, arith, add-zero, append_assoc}
-use Rattle.std.specs.Prelude.{◌||◌, ◌==◌, not, replicate}
+use Rattle.std.proofs.Common.{◌≡◌, ◌≢◌, ℕ, ℤ, zero, suc, ◌+◌, ◌<◌, ◌≤◌, Bool, true, false, eqb, List, [], ◌∷◌, ◌++◌, length, get_or, take, drop, Result, Ok, Option, Some, None, refl, sym, ap, subst, ◌∙◌, arith, add-zero, append_assoc}
+use Rattle.std.specs.Prelude.{◌||◌, ◌==◌, not}
 use Rattle.std.specs.List.{position_or_len}
 use Rattle.std.specs.Str.{IsUtf8, is_utf8}
 use Rattle.std.proofs.lemmas.Str.{is_utf8-from_IsUtf8}
-use Rattle.std.proofs.lemmas.Bool.{ne_eqb, eq-eqb, eqb-true, eqb-false}
-use Rattle.std.proofs.lemmas.List.{take_at, drop_at, drop-drop, get_or-drop, length-drop, length-append, append-nil}
-use Rattle.text_parts.specs.Part.{Kind, part_len, plain, len_at, text_at, IsPartAt}
+use Rattle.std.proofs.lemmas.Bool.{ne_eqb, eq-eqb}
+use Rattle.std.proofs.lemmas.List.{take_at, drop_at, drop-drop, get_or-drop, length-append, append-nil}
+use Rattle.text_parts.specs.Part.{Kind, plain, IsPartAt}
 use Rattle.text_parts.specs.Bare.{IsBare}
-use Rattle.text_parts.specs.Chain.{◌>>=◌}
-use Rattle.text_parts.specs.Many.{Reader, many_at, items_at}
+use Rattle.text_parts.specs.Many.{Reader, many_at}
 use Rattle.text_parts.proofs.Bare.{bare_part}
 use Rattle.metric.specs.declared.value.Value.{Value}
 use Rattle.line_proto.specs.declared.fault.LineFault.{LineFault}
 use Rattle.line_proto.specs.Kinds.{name_part, key_part, tag_value_part, value_part}
 use Rattle.line_proto.specs.Values.{value_of, time_of}
 use Rattle.line_proto.specs.Draft.{IsUnquoted}
-use Rattle.line_proto.specs.Reading.{Tag, Field, Line, placed, name_at, key_at, tag_value_at, tag_at, plain_value_at, value_at, field_at, tags_at, fields_at, behind_spaces, spaced_fields_at, written_time_at, time_at, time_len, line_at, limited, content_of, has_too_many, metric_at, text_reading, reading, needs_escapes}
+use Rattle.line_proto.specs.Reading.{Tag, Field, Line, name_at, key_at, tag_value_at, tag_at, plain_value_at, value_at, field_at, tags_at, fields_at, behind_spaces, spaced_fields_at, written_time_at, time_at, time_len, line_at, content_of, has_too_many, metric_at, text_reading, reading, needs_escapes}
 use Rattle.line_proto.proofs.Lines.{bare, unquoted}
 use Rattle.line_proto.specs.Grammar.{HasNone, ends_word, ends_key, is_space, IsMadeOf, Written, spaces, pair_text, pairs_text, time_text, line_spelling, IsTag, IsField, AllAre, IsTime, NoHash, IsLine}
 

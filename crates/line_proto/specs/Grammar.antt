@@ -1,9 +1,7 @@
 -- Lines as they are written, of pieces without a backslash and a double quote.
-use Rattle.std.specs.Prelude.{◌≡◌, ◌<◌, ℕ, ℤ, zero, suc, ◌==◌, ◌||◌, Bool, false, true, List, [], ◌∷◌, ◌++◌, length, replicate, Option, Some, None, Result, Ok, Err}
+use Rattle.std.specs.Prelude.{◌≡◌, ◌<◌, ℕ, ℤ, ◌==◌, ◌||◌, Bool, false, List, [], ◌∷◌, ◌++◌, length, replicate, Option, Some, None, Ok}
 use Rattle.std.specs.Str.{IsUtf8}
-use Rattle.metric.specs.declared.value.Value.{Value}
 use Rattle.metric.specs.declared.metric.Content.{Content}
-use Rattle.line_proto.specs.declared.fault.LineKind.{LineKind}
 use Rattle.line_proto.specs.Values.{value_of, time_of}
 use Rattle.line_proto.specs.Reading.{Tag, Field, Line, content_of, has_too_many, needs_escapes, reading}
 

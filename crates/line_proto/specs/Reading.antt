@@ -1,10 +1,10 @@
 -- Reading a line from left to right, with the first fault that is met.
-use Rattle.std.specs.Prelude.{ℕ, ℤ, ◌+◌, ◌==◌, ◌||◌, not, Bool, List, [], ◌∷◌, length, take, drop, Option, Some, None, Result, Ok, Err, slice_index, nat_lt, if◌then◌else◌}
+use Rattle.std.specs.Prelude.{ℕ, ℤ, ◌+◌, ◌==◌, ◌||◌, not, Bool, List, ◌∷◌, length, take, drop, Option, Some, None, Result, Ok, Err, slice_index, nat_lt, if◌then◌else◌}
 use Rattle.std.specs.List.{position_or_len, list_any}
 use Rattle.std.specs.Str.{is_utf8}
 use Rattle.std.specs.Str.Lossy.{utf8_valid_len}
 use Rattle.text_parts.specs.Chain.{◌>>=◌}
-use Rattle.text_parts.specs.Part.{Kind, len_at, text_at}
+use Rattle.text_parts.specs.Part.{len_at, text_at}
 use Rattle.text_parts.specs.Many.{items_at}
 use Rattle.metric.specs.declared.value.Value.{Value}
 use Rattle.metric.specs.declared.value.Value.TheVariants as values

@@ -1,4 +1,4 @@
-use Rattle.std.proofs.Common.{◌≡◌, ◌∙◌, sym, ap, subst, inl, inr, ℕ, List}
+use Rattle.std.proofs.Common.{◌∙◌, sym, inr}
 use Rattle.line_proto.proofs.Lines.{not_utf8, read_utf8, same_text, fault_given}
 use Rattle.line_proto.proofs.read.read_line.Goals as goal
 

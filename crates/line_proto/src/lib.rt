@@ -1,9 +1,21 @@
-//! InfluxDB line protocol.
+//! InfluxDB line protocol: readings of lines, and the lines of metrics.
 #![tactic(auto)]
 
+mod draft;
+mod fault;
+mod laws;
+mod read;
+mod read_items;
+mod read_parts;
+mod read_value;
 mod write;
 
+pub use fault::{LineFault, LineKind};
+pub use laws::{read_is_written, written_is_read};
+pub use read::read_line;
 pub use write::write_line;
 
+#[cfg(test)]
+mod tests;
 #[cfg(test)]
 mod write_tests;

@@ -1,0 +1,167 @@
+-- A whole line.
+use Rattle.std.proofs.Common.{◌≡◌, ◌≢◌, ℕ, ℤ, ◌<◌, true, false, cond, ltb, get_or, List, [], ◌∷◌, length, Result, Ok, Err, Option, refl, sym, ap, subst, ◌∙◌, arith, inl, inr}
+use Rattle.std.specs.Prelude.{◌||◌, ◌==◌, ◌⊎◌}
+use Rattle.std.specs.Str.Lossy.{utf8_valid_len}
+use Rattle.std.specs.Str.{IsUtf8, is_utf8}
+use Rattle.std.proofs.lemmas.Str.{IsUtf8-from_is_utf8, is_utf8-from_IsUtf8}
+use Rattle.std.proofs.lemmas.Bool.{ne_eqb, ltb-true, ltb-false}
+use Rattle.std.proofs.lemmas.List.{get_or_past}
+use Rattle.std.proofs.lemmas.List.Folds.{list_any_at}
+use Rattle.text_parts.specs.Bare.{IsBare}
+use Rattle.line_proto.specs.declared.draft.Draft.{Draft}
+use Rattle.line_proto.specs.Draft.{IsUnquoted, StandsFor, IsReady}
+use Rattle.line_proto.proofs.Drafts.{longer_pair}
+use Rattle.text_parts.specs.Many.{items_at}
+use Rattle.text_parts.specs.declared.error.ReadError.{ReadError}
+use Rattle.text_parts.specs.declared.error.ReadError.TheVariants as errors
+use Rattle.text_parts.specs.Chain.{◌>>=◌, Fails}
+use Rattle.metric.specs.declared.metric.Content.{Content}
+use Rattle.metric.specs.declared.builder.BuildFault.{BuildFault}
+use Rattle.metric.specs.declared.builder.BuildFault.TheVariants as builds
+use Rattle.metric.specs.Building.{Parts, finished, Finishes}
+use Rattle.metric.specs.Pairs.{has_empty_key, with_values, with_pair, in_first_order, in_first_order_on}
+use Rattle.line_proto.specs.declared.fault.LineFault.{LineFault}
+use Rattle.line_proto.specs.declared.fault.LineKind.TheVariants.{NotUtf8, NoFields}
+use Rattle.line_proto.specs.Reading.{Tag, Field, fault, behind_spaces, field_at, fields_at, name_at, tags_at, spaced_fields_at, time_at, line_at, limited, metric_at, text_reading, reading, plain_reading, needs_escapes}
+use Rattle.std.proofs.lemmas.Int.{to_z-of_z}
+use mir.Val.{SFits, of_z, to_z}
+use mir.Syntax.{w64}
+
+-- ---- finishing
+
+pub finished_is : (parts : Parts) (time : ℤ) → 0 < length parts.name → has_empty_key parts.tags ≡ false → has_empty_key parts.fields ≡ false → 0 < length parts.fields
+    → finished parts time ≡ Ok (record { name = parts.name; tags = with_values parts.tags; fields = parts.fields; time = time })
+finished_is parts time named tags fields some =
+    let name : (length parts.name == 0) ≡ false = ne_eqb _ _ (λ e. absurd (omega arith)) in
+    let field : (length parts.fields == 0) ≡ false = ne_eqb _ _ (λ e. absurd (omega arith)) in
+    rw (name, tags, fields, field) refl
+
+ok_err : (wanted : Result Content BuildFault) (content : Content) (f : BuildFault) → wanted ≡ Ok content → wanted ≡ Err f → ⊥
+ok_err wanted content f is h = cc
+
+pub only_memory : (f : BuildFault) (wanted : Result Content BuildFault) (content : Content) → wanted ≡ Ok content → Finishes (Err f) wanted → f ≡ builds.OutOfMemory
+only_memory builds.OutOfMemory wanted content is h = refl
+only_memory builds.EmptyName wanted content is h = absurd (ok_err wanted content builds.EmptyName is h)
+only_memory builds.EmptyKey wanted content is h = absurd (ok_err wanted content builds.EmptyKey is h)
+only_memory builds.NoFields wanted content is h = absurd (ok_err wanted content builds.NoFields is h)
+
+-- ---- the chain of a line's readings
+
+pub name_fails : (e : ReadError LineFault) (piece : List ℕ) (i : ℕ) (moment : ℤ) → Fails e (name_at piece i) → Fails e (metric_at piece i moment)
+unfolding metric_at line_at
+name_fails errors.OutOfMemory piece i moment h = tt
+name_fails (errors.Fault f) piece i moment h = rw h refl
+
+pub tags_fail : (e : ReadError LineFault) (piece : List ℕ) (i : ℕ) (moment : ℤ) (name : List ℕ) (j : ℕ) → name_at piece i ≡ Ok (name, j) → Fails e (tags_at piece j) → Fails e (metric_at piece i moment)
+unfolding metric_at line_at
+tags_fail errors.OutOfMemory piece i moment name j n h = tt
+tags_fail (errors.Fault f) piece i moment name j n h = rw (n, h) refl
+
+pub fields_fail : (e : ReadError LineFault) (piece : List ℕ) (i : ℕ) (moment : ℤ) (name : List ℕ) (j : ℕ) (tags : List Tag) (k : ℕ) → name_at piece i ≡ Ok (name, j) → tags_at piece j ≡ Ok (tags, k)
+    → Fails e (spaced_fields_at piece k) → Fails e (metric_at piece i moment)
+unfolding metric_at line_at
+fields_fail errors.OutOfMemory piece i moment name j tags k n t h = tt
+fields_fail (errors.Fault f) piece i moment name j tags k n t h = rw (n, t, h) refl
+
+pub time_fails : (e : ReadError LineFault) (piece : List ℕ) (i : ℕ) (moment : ℤ) (name : List ℕ) (j : ℕ) (tags : List Tag) (k : ℕ) (fields : List Field) (l : ℕ) → name_at piece i ≡ Ok (name, j) → tags_at piece j ≡ Ok (tags, k)
+    → spaced_fields_at piece k ≡ Ok (fields, l) → Fails e (time_at piece l moment) → Fails e (metric_at piece i moment)
+unfolding metric_at line_at
+time_fails errors.OutOfMemory piece i moment name j tags k fields l n t fs h = tt
+time_fails (errors.Fault f) piece i moment name j tags k fields l n t fs h = rw (n, t, fs, h) refl
+
+pub line_is : (piece : List ℕ) (i : ℕ) (moment : ℤ) (name : List ℕ) (j : ℕ) (tags : List Tag) (k : ℕ) (fields : List Field) (l : ℕ) (time : ℤ) → name_at piece i ≡ Ok (name, j) → tags_at piece j ≡ Ok (tags, k)
+    → spaced_fields_at piece k ≡ Ok (fields, l) → time_at piece l moment ≡ Ok time → metric_at piece i moment ≡ limited (record { name = name; tags = tags; fields = fields; time = time })
+unfolding metric_at line_at
+line_is piece i moment name j tags k fields l time n t fs h = rw (n, t, fs, h) refl
+
+-- a line that is read has a field
+joined : Field → List Field × ℕ → Result (List Field × ℕ) LineFault
+joined first others = Ok (first ∷ others.0, others.1)
+
+fields_of : Result (List Field × ℕ) LineFault → List Field
+fields_of (Ok x) = x.0
+fields_of (Err f) = []
+
+some_others : (first : Field) (r : Result (List Field × ℕ) LineFault) (fields : List Field) (at : ℕ) → (r >>= joined first) ≡ Ok (fields, at) → 0 < length fields
+unfolding joined fields_of
+some_others first (Ok x) fields at e = let same : first ∷ x.0 ≡ fields = ap fields_of e in subst (λ (fs : List Field). 0 < length fs) same (omega arith)
+some_others first (Err f) fields at e = absurd cc
+
+some_first : (piece : List ℕ) (r : Result (Field × ℕ) LineFault) (fields : List Field) (at : ℕ) → (r >>= λ first. items_at field_at 44 piece first.1 >>= joined first.0) ≡ Ok (fields, at) → 0 < length fields
+some_first piece (Ok x) fields at e = some_others x.0 (items_at field_at 44 piece x.1) fields at e
+some_first piece (Err f) fields at e = absurd cc
+
+some_fields : (piece : List ℕ) (i at : ℕ) (fields : List Field) → fields_at piece i ≡ Ok (fields, at) → 0 < length fields
+unfolding fields_at joined
+some_fields piece i at fields e = some_first piece (field_at piece i) fields at e
+
+some_spaced : (piece : List ℕ) (i at : ℕ) (fields : List Field) → spaced_fields_at piece i ≡ Ok (fields, at) → 0 < length fields
+unfolding spaced_fields_at
+some_spaced piece i at fields e = elim (behind_spaces piece i == length piece) as (λ t. cond t (Err (record { kind = NoFields; place = length piece })) (fields_at piece (behind_spaces piece i)) ≡ Ok (fields, at) → 0 < length fields) [
+  | true ↦ λ e. absurd cc
+  | false ↦ λ e. some_fields piece (behind_spaces piece i) at fields e
+] e
+
+kept_some : {X : Type 0} (kept given : List (List ℕ × X)) → 0 < length kept → 0 < length (in_first_order_on kept given)
+unfolding in_first_order_on
+kept_some kept [] some = some
+kept_some kept (pair ∷ given) some = kept_some (with_pair kept pair.0 pair.1) given (omega (arith, longer_pair kept pair.0 pair.1))
+
+first_some : {X : Type 0} (given : List (List ℕ × X)) → 0 < length given → 0 < length (in_first_order given)
+unfolding in_first_order_on with_pair
+first_some [] some = absurd (omega arith)
+first_some (pair ∷ given) some = kept_some ((pair.0, pair.1) ∷ []) given (omega arith)
+
+-- the draft of a line that is read makes a metric
+pub ready : (piece : List ℕ) (k l : ℕ) (draft : Draft) (tags : List Tag) (fields : List Field) (name : List ℕ) → draft.builder.name ≡ name → 0 < length name
+    → spaced_fields_at piece k ≡ Ok (fields, l) → StandsFor draft tags fields → IsReady draft
+ready piece k l draft tags fields name is filled read s = record {
+  named = subst (λ (n : List ℕ). 0 < length n) (sym is) filled;
+  tag_keys = s.tag_keys;
+  field_keys = s.field_keys;
+  some = λ few. subst (λ (fs : List Field). 0 < length fs) (sym (s.fields_kept few)) (first_some fields (some_spaced piece k l fields read));
+}
+
+-- ---- the piece
+
+pub not_utf8 : (piece : List ℕ) (n : ℕ) (moment : ℤ) → needs_escapes piece ≡ false → ¬ (IsUtf8 piece) → utf8_valid_len piece ≡ n → plain_reading piece moment ≡ Err (record { kind = NotUtf8; place = n })
+unfolding reading
+not_utf8 piece n moment plain not len =
+    let none : is_utf8 piece ≡ false = elim (is_utf8 piece) as (λ t. is_utf8 piece ≡ t → t ≡ false) [ true ↦ λ e. absurd (not (IsUtf8-from_is_utf8 piece e)) | false ↦ λ e. refl ] refl in
+    rw (plain, none, len) refl
+
+pub read_utf8 : (piece : List ℕ) (moment : ℤ) → needs_escapes piece ≡ false → IsUtf8 piece → plain_reading piece moment ≡ text_reading piece moment
+unfolding reading
+read_utf8 piece moment plain u = rw (plain, is_utf8-from_IsUtf8 piece u) refl
+
+-- ---- pieces without a backslash and a double quote
+
+none_at : (b : ℕ) (bytes : List ℕ) → (b ≡ 92) ⊎ (b ≡ 34) → needs_escapes bytes ≡ false → (k : ℕ) → get_or bytes k 0 ≢ b
+none_at b bytes which none k e = elim (ltb k (length bytes)) as (λ t. ltb k (length bytes) ≡ t → ⊥) [
+  | true ↦ λ lt. absurd (true_false (sym (list_any_at (λ x. x == 92 || x == 34) bytes k 0 (ltb-true k (length bytes) lt) (rw e (passes which))) ∙ none))
+  | false ↦ λ ge. elim which [ inl x ↦ absurd (omega (arith, get_or_past bytes k 0 (ltb-false k (length bytes) ge), e, x)) | inr y ↦ absurd (omega (arith, get_or_past bytes k 0 (ltb-false k (length bytes) ge), e, y)) ]
+] refl
+  where
+    passes : (b ≡ 92) ⊎ (b ≡ 34) → (b == 92 || b == 34) ≡ true
+    passes (inl x) = rw x refl
+    passes (inr y) = rw y refl
+
+    true_false : true ≡ false → ⊥
+    true_false e = cc
+
+pub bare : (bytes : List ℕ) → needs_escapes bytes ≡ false → IsBare bytes
+bare bytes none = record { each = none_at 92 bytes (inl refl) none }
+
+pub unquoted : (bytes : List ℕ) → needs_escapes bytes ≡ false → IsUnquoted bytes
+unquoted bytes none = record { each = none_at 34 bytes (inr refl) none }
+
+-- ---- a moment that was handed on
+
+pub same_time : (piece bytes : List ℕ) (i : ℕ) (moment : ℤ) → SFits w64 moment → bytes ≡ piece → time_at bytes i (to_z w64 (of_z w64 moment)) ≡ time_at piece i moment
+same_time piece bytes i moment fits same = rw (same, to_z-of_z w64 moment fits) refl
+
+pub same_text : (piece text : List ℕ) (moment : ℤ) → SFits w64 moment → text ≡ piece → text_reading text (to_z w64 (of_z w64 moment)) ≡ text_reading piece moment
+same_text piece text moment fits same = rw (same, to_z-of_z w64 moment fits) refl
+
+pub fault_given : (e : ReadError LineFault) (fault : LineFault) (r : Result (Option Content) LineFault) → e ≡ errors.Fault fault → Fails e r → r ≡ Err fault
+fault_given e fault r is h = subst (λ (x : ReadError LineFault). Fails x r) is h

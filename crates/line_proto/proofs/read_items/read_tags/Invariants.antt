@@ -1,0 +1,12 @@
+use Rattle.std.proofs.Common.{◌≡◌, ◌-◌, List, [], length}
+use Rattle.std.specs.Str.{IsCharBoundary}
+use Rattle.text_parts.proofs.Items.{Reads}
+use Rattle.line_proto.specs.Reading.{Tag, tag_at}
+use Rattle.line_proto.specs.Draft.{StandsFor}
+use Rattle.line_proto.proofs.read_items.read_tags.Given as goal
+
+abbrev pub invariant-loop-i : goal.invariant-loop-i
+invariant-loop-i l = (IsCharBoundary l.piece l.at) × (l.draft.builder.name ≡ l.fn.draft.builder.name) × ((tags : List Tag) × (Reads tag_at 44 l.piece l.fn.i tags l.at) × (StandsFor l.draft tags []))
+
+abbrev pub decreases-loop-i : goal.decreases-loop-i
+decreases-loop-i l = length l.initial.piece - l.at

@@ -1,0 +1,34 @@
+//! What is wrong with a line.
+
+/// The kind of a line's fault.
+#[derive(Clone, Copy, Debug, PartialEq, Eq)]
+pub enum LineKind {
+    /// No memory was left.
+    OutOfMemory,
+    /// Nothing but spaces follows the measurement and its tags.
+    NoFields,
+    /// The measurement or a key is empty, or a key has no `=` behind it.
+    BadKey,
+    /// A value is empty, is no value, or is a text without an end.
+    BadValue,
+    /// The time is no whole number, or something follows it.
+    BadTime,
+    /// A number is outside its type.
+    NumberRange,
+    /// The piece is no UTF-8.
+    NotUtf8,
+    /// The metric would have more than 64 tags or 256 fields.
+    TooMany,
+    /// The piece holds a backslash or a double quote, which aren't read yet.
+    NotBuilt,
+}
+
+/// The first fault of a line.
+#[derive(Clone, Copy, Debug, PartialEq, Eq)]
+pub struct LineFault {
+    /// What is wrong.
+    pub kind: LineKind,
+    /// The first byte of the part at fault: an index into the piece. It is 0 for `OutOfMemory`, `TooMany` and
+    /// `NotBuilt`, and the end of the longest valid front for `NotUtf8`.
+    pub place: usize,
+}

@@ -1,0 +1,116 @@
+//! Reading a line.
+ghost use Rattle.std.specs.Prelude.{◌≡◌, ◌||◌, ◌==◌, ◌≤◌, List, [], length, slice_index, IfOk};
+ghost use Rattle.std.specs.List.{list_any};
+ghost use Rattle.std.specs.Str.{IsCharBoundary};
+ghost use Rattle.text_parts.specs.Bare.{IsBare};
+ghost use Rattle.text_parts.specs.Chain.{Gives};
+ghost use Rattle.line_proto.specs.Draft.{IsUnquoted, StandsFor, HasFields};
+ghost use Rattle.line_proto.specs.Reading.{Tag, spaced_fields_at, metric_at, text_reading, needs_escapes, plain_reading};
+ghost use Rattle.line_proto.specs.Views.{Answers};
+
+use crate::draft::Draft;
+use crate::fault::{LineFault, LineKind};
+use crate::read_items::{read_fields, read_tags};
+use crate::read_parts::{behind_spaces, fault, name_at};
+use crate::read_value::time_at;
+use fixed_num::Moment;
+use metric::Metric;
+use std::alloc::Global;
+use text_parts::ReadError;
+
+/// Puts the fields behind the spaces at a place into a draft, and gives the place behind them.
+#[tactic(auto, unfolding(crate::specs::Reading::spaced_fields_at))]
+fn read_spaced_fields(
+    piece: &str,
+    i: usize,
+    draft: &mut Draft,
+) -> Result<usize, ReadError<LineFault>>
+    requires boundary { IsCharBoundary piece.now i }
+    requires bare { IsBare piece.now }
+    requires unquoted { IsUnquoted piece.now }
+    ensures name { draft.new.builder.name ≡ draft.old.builder.name }
+    ensures fields { (tags : List Tag) → StandsFor draft.old tags [] → HasFields draft.new tags result (spaced_fields_at piece.now i) }
+    ensures behind { IfOk result (λ x. x ≤ length piece.now) }
+{
+    let start = behind_spaces(piece.as_bytes(), i);
+    if start == piece.len() {
+        return Err(fault(LineKind::NoFields, start));
+    }
+    read_fields(piece, start, draft)
+}
+
+/// The metric of the line that begins at a place.
+fn metric_at(
+    alloc: Global,
+    piece: &str,
+    i: usize,
+    moment: Moment,
+) -> Result<Option<Metric>, ReadError<LineFault>>
+    requires boundary { IsCharBoundary piece.now i }
+    requires bare { IsBare piece.now }
+    requires unquoted { IsUnquoted piece.now }
+    ensures { Gives (λ x. x) result (metric_at piece.now i moment) }
+{
+    let (name, i) = name_at(piece, i)?;
+    let mut draft = Draft::new(alloc, name)?;
+    let i = read_tags(piece, i, &mut draft)?;
+    let i = read_spaced_fields(piece, i, &mut draft)?;
+    let time = time_at(piece.as_bytes(), i, moment)?;
+    draft.finish(time)
+}
+
+/// The metric that a text is, or none where it is blank or a comment.
+#[tactic(auto, unfolding(crate::specs::Reading::text_reading))]
+fn read_text(
+    alloc: Global,
+    piece: &str,
+    moment: Moment,
+) -> Result<Option<Metric>, ReadError<LineFault>>
+    requires bare { IsBare piece.now }
+    requires unquoted { IsUnquoted piece.now }
+    ensures { Gives (λ x. x) result (text_reading piece.now moment) }
+{
+    let start = behind_spaces(piece.as_bytes(), 0);
+    if start == piece.len() || piece.as_bytes()[start] == b'#' {
+        return Ok(None);
+    }
+    metric_at(alloc, piece, start, moment)
+}
+
+/// Whether a backslash or a double quote stands in a piece.
+fn needs_escapes(piece: &[u8]) -> bool
+    ensures { result ≡ needs_escapes piece.now }
+{
+    piece.iter().any(|b| *b == b'\\' || *b == b'"')
+}
+
+/// Reads a piece without its newline as a line of line protocol. `None` exactly where it is blank (nothing but
+/// spaces) or a comment (its first byte other than a space is `#`). Where the line has no time, the moment is its time.
+/// The first fault from left to right counts, with its place; `OutOfMemory` may come in place of any answer.
+pub fn read_line(alloc: Global, piece: &[u8], moment: Moment) -> Result<Option<Metric>, LineFault>
+    ensures { Answers result (plain_reading piece.now moment) }
+{
+    if needs_escapes(piece) {
+        return Err(LineFault {
+            kind: LineKind::NotBuilt,
+            place: 0,
+        });
+    }
+    let text = match str::from_utf8(piece) {
+        Ok(text) => text,
+        Err(e) => {
+            return Err(LineFault {
+                kind: LineKind::NotUtf8,
+                place: e.valid_up_to(),
+            });
+        }
+    };
+    match read_text(alloc, text, moment) {
+        Ok(metric) => Ok(metric),
+        Err(ReadError::OutOfMemory) => Err(LineFault {
+            kind: LineKind::OutOfMemory,
+            place: 0,
+        }),
+        Err(ReadError::Fault(fault)) => Err(fault),
+    }
+}

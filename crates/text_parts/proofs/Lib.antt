@@ -1,0 +1,5 @@
+pub mod Parts
+pub mod Marks
+pub mod Utf8
+pub mod Items
+pub mod Bare

@@ -1,0 +1,45 @@
+use super::*;
+use std::test::Fail;
+
+const KEY: Part = Part {
+    ends: [b'=', b',', b' '],
+    escapes: [b'=', b',', b' '],
+    newlines: false,
+};
+
+const LABEL: Part = Part {
+    ends: [b'"', b'"', b'"'],
+    escapes: [b'"', b'\\', b'n'],
+    newlines: true,
+};
+
+// Keys from the examples of line protocol's documentation, label values from those of the OpenMetrics text format.
+#[test]
+fn parts_are_read(rt: HostRuntime) -> Result<(), Fail> {
+    let rows = [
+        (KEY, r"tag\ Key3=value", 9, "tag Key3"),
+        (KEY, r"tag\=Key\,1=value", 11, "tag=Key,1"),
+        (KEY, r"C:\dir=a", 6, r"C:\dir"),
+        (KEY, "=1", 0, ""),
+        (KEY, r"naïve\", 7, r"naïve\"),
+        (LABEL, r#"C:\\DIR\\FILE.TXT"} 1"#, 17, r"C:\DIR\FILE.TXT"),
+        (
+            LABEL,
+            r#"Cannot find file:\n\"FILE.TXT\""}"#,
+            31,
+            "Cannot find file:\n\"FILE.TXT\"",
+        ),
+    ];
+    for (part, text, len, says) in rows {
+        assert_eq!(rt; part_len(&part, text.as_bytes()), len, "at {text}");
+        let plain = plain_bytes(
+            rt.alloc(),
+            &part,
+            &text.as_bytes()[..part_len(&part, text.as_bytes())],
+        )?;
+        assert_eq!(rt; plain.as_slice(), says.as_bytes(), "at {text}");
+    }
+    let text = part_text(rt.alloc(), &KEY, r"tag\ Key3=value", 0)?;
+    assert_eq!(rt; text.as_str(), "tag Key3");
+    Ok(())
+}

@@ -1,17 +1,17 @@
 -- A whole line.
-use Rattle.std.proofs.Common.{◌≡◌, ◌≢◌, ℕ, ℤ, ◌<◌, Bool, true, false, cond, eqb, ltb, get_or, List, [], ◌∷◌, length, Result, Ok, Err, Option, Some, None, refl, sym, ap, subst, ◌∙◌, arith, inl, inr}
-use Rattle.std.specs.Prelude.{◌||◌, ◌==◌, ◌⊎◌, nat_lt}
+use Rattle.std.proofs.Common.{◌≡◌, ◌≢◌, ℕ, ℤ, ◌<◌, true, false, cond, ltb, get_or, List, [], ◌∷◌, length, Result, Ok, Err, Option, refl, sym, ap, subst, ◌∙◌, arith, inl, inr}
+use Rattle.std.specs.Prelude.{◌||◌, ◌==◌, ◌⊎◌}
 use Rattle.std.specs.Str.Lossy.{utf8_valid_len}
-use Rattle.std.specs.Str.{IsUtf8, IsValidUpTo}
-use Rattle.std.proofs.lemmas.Str.{utf8_valid_len-IsUtf8, utf8_valid_len-IsValidUpTo}
-use Rattle.std.proofs.lemmas.Bool.{ne_eqb, eq-eqb, ltb-true, ltb-false}
+use Rattle.std.specs.Str.{IsUtf8, is_utf8}
+use Rattle.std.proofs.lemmas.Str.{IsUtf8-from_is_utf8, is_utf8-from_IsUtf8}
+use Rattle.std.proofs.lemmas.Bool.{ne_eqb, ltb-true, ltb-false}
 use Rattle.std.proofs.lemmas.List.{get_or_past}
 use Rattle.std.proofs.lemmas.List.Folds.{list_any_at}
 use Rattle.text_parts.specs.Bare.{IsBare}
 use Rattle.line_proto.specs.declared.draft.Draft.{Draft}
 use Rattle.line_proto.specs.Draft.{IsUnquoted, StandsFor, IsReady}
 use Rattle.line_proto.proofs.Drafts.{longer_pair}
-use Rattle.text_parts.specs.Many.{items_at, many_at}
+use Rattle.text_parts.specs.Many.{items_at}
 use Rattle.text_parts.specs.declared.error.ReadError.{ReadError}
 use Rattle.text_parts.specs.declared.error.ReadError.TheVariants as errors
 use Rattle.text_parts.specs.Chain.{◌>>=◌, Fails}
@@ -124,18 +124,15 @@ ready piece k l draft tags fields name is filled read s = record {
 
 -- ---- the piece
 
-pub not_utf8 : (piece : List ℕ) (n : ℕ) (moment : ℤ) → needs_escapes piece ≡ false → IsValidUpTo piece n → plain_reading piece moment ≡ Err (record { kind = NotUtf8; place = n })
+pub not_utf8 : (piece : List ℕ) (n : ℕ) (moment : ℤ) → needs_escapes piece ≡ false → ¬ (IsUtf8 piece) → utf8_valid_len piece ≡ n → plain_reading piece moment ≡ Err (record { kind = NotUtf8; place = n })
 unfolding reading
-not_utf8 piece n moment plain v =
-    let len : utf8_valid_len piece ≡ n = utf8_valid_len-IsValidUpTo piece n v in
-    let short : (utf8_valid_len piece == length piece) ≡ false = ne_eqb _ _ (λ e. absurd (omega (arith, len, v.short))) in
-    rw (plain, short, len) refl
+not_utf8 piece n moment plain not len =
+    let none : is_utf8 piece ≡ false = elim (is_utf8 piece) as (λ t. is_utf8 piece ≡ t → t ≡ false) [ true ↦ λ e. absurd (not (IsUtf8-from_is_utf8 piece e)) | false ↦ λ e. refl ] refl in
+    rw (plain, none, len) refl
 
-pub is_utf8 : (piece : List ℕ) (moment : ℤ) → needs_escapes piece ≡ false → IsUtf8 piece → plain_reading piece moment ≡ text_reading piece moment
+pub read_utf8 : (piece : List ℕ) (moment : ℤ) → needs_escapes piece ≡ false → IsUtf8 piece → plain_reading piece moment ≡ text_reading piece moment
 unfolding reading
-is_utf8 piece moment plain u =
-    let whole : (utf8_valid_len piece == length piece) ≡ true = eq-eqb _ _ (utf8_valid_len-IsUtf8 piece u) in
-    rw (plain, whole) refl
+read_utf8 piece moment plain u = rw (plain, is_utf8-from_IsUtf8 piece u) refl
 
 -- ---- pieces without a backslash and a double quote
 

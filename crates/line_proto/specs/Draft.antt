@@ -1,5 +1,5 @@
 -- A metric in the making, while a line is read.
-use Rattle.std.specs.Prelude.{◌≡◌, ◌≢◌, ◌<◌, ℕ, Bool, false, List, [], length, Result, Ok, Err}
+use Rattle.std.specs.Prelude.{◌≡◌, ◌≢◌, ◌<◌, ℕ, false, List, [], length, Result, Ok, Err}
 use Rattle.std.proofs.Common.{get_or}
 use Rattle.metric.specs.Pairs.{in_key_order, in_first_order, has_empty_key}
 use Rattle.text_parts.specs.Chain.{Fails}

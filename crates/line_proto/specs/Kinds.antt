@@ -1,5 +1,5 @@
 -- The kinds of parts of a line.
-use Rattle.std.specs.Prelude.{ℕ, false, ◌==◌, ◌||◌}
+use Rattle.std.specs.Prelude.{false, ◌==◌, ◌||◌}
 use Rattle.text_parts.specs.Part.{Kind}
 
 -- a measurement ends before a comma or a space; a backslash hides these

@@ -3,4 +3,5 @@ pub mod Values
 pub mod Reading
 pub mod Views
 pub mod Draft
+pub mod Grammar
 pub mod LineText

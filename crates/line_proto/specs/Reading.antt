@@ -1,9 +1,10 @@
 -- Reading a line from left to right, with the first fault that is met.
-use Rattle.std.specs.Prelude.{ℕ, ℤ, ◌+◌, ◌==◌, ◌||◌, not, Bool, List, [], ◌∷◌, length, take, drop, Option, Some, None, Result, Ok, Err, slice_index, nat_lt, if◌then◌else◌}
+use Rattle.std.specs.Prelude.{ℕ, ℤ, ◌+◌, ◌==◌, ◌||◌, not, Bool, List, ◌∷◌, length, take, drop, Option, Some, None, Result, Ok, Err, slice_index, nat_lt, if◌then◌else◌}
 use Rattle.std.specs.List.{position_or_len, list_any}
+use Rattle.std.specs.Str.{is_utf8}
 use Rattle.std.specs.Str.Lossy.{utf8_valid_len}
 use Rattle.text_parts.specs.Chain.{◌>>=◌}
-use Rattle.text_parts.specs.Part.{Kind, len_at, text_at}
+use Rattle.text_parts.specs.Part.{len_at, text_at}
 use Rattle.text_parts.specs.Many.{items_at}
 use Rattle.metric.specs.declared.value.Value.{Value}
 use Rattle.metric.specs.declared.value.Value.TheVariants as values
@@ -151,9 +152,9 @@ unfoldable pub text_reading : List ℕ → ℤ → Result (Option Content) LineF
 text_reading piece moment =
     if is_blank_or_comment piece then Ok None else metric_at piece (behind_spaces piece 0) moment
 
--- the metric that a piece is; the piece has to be UTF-8
+-- the metric that a piece is; the piece has to be UTF-8, else the fault is at the end of its longest front that is
 unfoldable pub reading : List ℕ → ℤ → Result (Option Content) LineFault
-reading piece moment = if utf8_valid_len piece == length piece then text_reading piece moment else fault NotUtf8 (utf8_valid_len piece)
+reading piece moment = if is_utf8 piece then text_reading piece moment else fault NotUtf8 (utf8_valid_len piece)
 
 -- a backslash or a double quote stands in the piece
 abbrev pub needs_escapes : List ℕ → Bool

@@ -1,8 +1,9 @@
-//! InfluxDB line protocol: lines are read and written.
+//! InfluxDB line protocol: readings of lines, and the lines of metrics.
 #![tactic(auto)]
 
 mod draft;
 mod fault;
+mod laws;
 mod read;
 mod read_items;
 mod read_parts;
@@ -10,6 +11,7 @@ mod read_value;
 mod write;
 
 pub use fault::{LineFault, LineKind};
+pub use laws::{read_is_written, written_is_read};
 pub use read::read_line;
 pub use write::write_line;
 

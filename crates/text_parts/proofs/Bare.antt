@@ -1,12 +1,12 @@
 -- Parts of bytes without a backslash: nothing is hidden.
-use Rattle.std.proofs.Common.{◌≡◌, ◌≢◌, ℕ, ◌+◌, ◌≤◌, Bool, true, false, cond, eqb, List, [], ◌∷◌, length, get_or, take, drop, refl, sym, ap, subst, ◌∙◌, add-one, arith, ◌<◌, ltb}
-use Rattle.std.specs.Prelude.{◌&&◌, ◌==◌, not}
+use Rattle.std.proofs.Common.{◌≡◌, ℕ, ◌+◌, ◌≤◌, Bool, true, false, cond, eqb, List, [], ◌∷◌, length, get_or, take, drop, refl, sym, ap, subst, ◌∙◌, add-one, arith, ltb}
+use Rattle.std.specs.Prelude.{not}
 use Rattle.std.specs.List.{position_or_len}
-use Rattle.std.specs.Str.{IsUtf8, IsCharBoundary}
+use Rattle.std.specs.Str.{IsCharBoundary}
 use Rattle.std.proofs.lemmas.Bool.{ne_eqb, ltb-false, ltb-true}
-use Rattle.std.proofs.lemmas.List.{get_or-drop, get_or-take, get_or_past, length-take-le, length-drop}
+use Rattle.std.proofs.lemmas.List.{get_or-drop, get_or-take, get_or_past, length-take-le}
 use Rattle.std.proofs.lemmas.List.Sums.{prefix_len-le-length}
-use Rattle.text_parts.specs.Part.{Kind, part_len, plain, len_at, text_at, IsPartAt}
+use Rattle.text_parts.specs.Part.{Kind, part_len, plain, IsPartAt}
 use Rattle.text_parts.proofs.Utf8.{EndsLow, part-IsCharBoundary, part-IsCharBoundary_at}
 use Rattle.text_parts.specs.Bare.{IsBare}
 
@@ -47,10 +47,12 @@ position_or_len_le p bs = prefix_len-le-length (λ b. not (p b)) bs
 
 -- the bytes up to a place have no backslash either
 pub bare_to : (bs : List ℕ) (n : ℕ) → n ≤ length bs → IsBare bs → IsBare (take n bs)
-bare_to bs n le h = record { each = λ k. elim (ltb k n) as (λ t. ltb k n ≡ t → get_or (take n bs) k 0 ≡ 92 → ⊥) [
-  | true ↦ λ lt e. h.each k (sym (get_or-take n bs k 0 (ltb-true k n lt)) ∙ e)
-  | false ↦ λ ge e. absurd (omega (arith, get_or_past (take n bs) k 0 (past k (ltb-false k n ge)), e))
-] refl }
+bare_to bs n le h = record {
+  each = λ k. elim (ltb k n) as (λ t. ltb k n ≡ t → get_or (take n bs) k 0 ≡ 92 → ⊥) [
+    | true ↦ λ lt e. h.each k (sym (get_or-take n bs k 0 (ltb-true k n lt)) ∙ e)
+    | false ↦ λ ge e. absurd (omega (arith, get_or_past (take n bs) k 0 (past k (ltb-false k n ge)), e))
+  ] refl;
+}
   where
     past : (k : ℕ) → n ≤ k → length (take n bs) ≤ k
     past k ge = omega (arith, length-take-le n bs le)

@@ -1,14 +1,14 @@
 -- Text stays UTF-8 where it is cut at ASCII bytes, and without its escapes.
-use Rattle.std.proofs.Common.{◌≡◌, ℕ, zero, suc, ◌+◌, ◌<◌, ◌≤◌, Bool, true, false, cond, eqb, List, [], ◌∷◌, ◌++◌, length, get_or, take, drop, refl, sym, ap, subst, ◌∙◌, append_assoc, arith, add-zero, ◌⊎◌, inl, inr, rules}
+use Rattle.std.proofs.Common.{◌≡◌, ℕ, ◌+◌, ◌<◌, ◌≤◌, Bool, true, false, cond, eqb, List, [], ◌∷◌, ◌++◌, length, get_or, take, drop, refl, sym, ap, subst, ◌∙◌, append_assoc, arith, add-zero, ◌⊎◌, inl, inr, rules}
 use Rattle.std.specs.Prelude.{◌&&◌, ◌||◌, ◌==◌, slice_index}
 use Rattle.std.specs.Str.{IsUtf8, IsCharBoundary}
 use Rattle.std.proofs.lemmas.Bool.{eqb-true}
 use Rattle.std.proofs.lemmas.List.{take_at, drop_at, get_or_at, length-append, length-drop, drop-drop, get_or-drop}
 use Rattle.std.proofs.lemmas.Str.{IsUtf8-append, IsUtf8-take, IsUtf8-drop, IsUtf8-encode, encode_ascii, IsCharBoundary-before_ascii, IsCharBoundary-after_ascii, IsCharBoundary-end}
-use Rattle.text_parts.specs.Part.{Kind, plain, part_len, is_escape}
+use Rattle.text_parts.specs.Part.{Kind, plain, part_len}
 use Rattle.text_parts.specs.Grammar.{Mark, Escaped, Bare, IsPart, Ends}
 use Rattle.text_parts.specs.declared.part.Part.{Part}
-use Rattle.text_parts.specs.Kinds.{kind_of, ends_of, escapes_of, meaning_of, IsAsciiPart}
+use Rattle.text_parts.specs.Kinds.{kind_of, meaning_of, IsAsciiPart}
 use Rattle.text_parts.proofs.Marks.{found}
 
 -- a byte below 128 can be left out

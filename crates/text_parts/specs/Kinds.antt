@@ -1,5 +1,5 @@
 -- Kinds of parts, as the code gives them.
-use Rattle.std.specs.Prelude.{ℕ, ◌<◌, ◌==◌, ◌&&◌, ◌||◌, Bool, All, slice_index, if◌then◌else◌}
+use Rattle.std.specs.Prelude.{ℕ, ◌<◌, ◌==◌, ◌&&◌, ◌||◌, Bool, slice_index, if◌then◌else◌}
 use Rattle.text_parts.specs.declared.part.Part.{Part}
 use Rattle.text_parts.specs.Part.{Kind}
 

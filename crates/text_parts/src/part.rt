@@ -37,7 +37,11 @@ impl Part {
     fn meaning(&self, byte: u8) -> u8
         ensures { result ≡ meaning_of self.now byte }
     {
-        if self.newlines && byte == b'n' { b'\n' } else { byte }
+        if self.newlines && byte == b'n' {
+            b'\n'
+        } else {
+            byte
+        }
     }
 }
 

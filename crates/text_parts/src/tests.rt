@@ -23,11 +23,20 @@ fn parts_are_read(rt: HostRuntime) -> Result<(), Fail> {
         (KEY, "=1", 0, ""),
         (KEY, r"naïve\", 7, r"naïve\"),
         (LABEL, r#"C:\\DIR\\FILE.TXT"} 1"#, 17, r"C:\DIR\FILE.TXT"),
-        (LABEL, r#"Cannot find file:\n\"FILE.TXT\""}"#, 31, "Cannot find file:\n\"FILE.TXT\""),
+        (
+            LABEL,
+            r#"Cannot find file:\n\"FILE.TXT\""}"#,
+            31,
+            "Cannot find file:\n\"FILE.TXT\"",
+        ),
     ];
     for (part, text, len, says) in rows {
         assert_eq!(rt; part_len(&part, text.as_bytes()), len, "at {text}");
-        let plain = plain_bytes(rt.alloc(), &part, &text.as_bytes()[..part_len(&part, text.as_bytes())])?;
+        let plain = plain_bytes(
+            rt.alloc(),
+            &part,
+            &text.as_bytes()[..part_len(&part, text.as_bytes())],
+        )?;
         assert_eq!(rt; plain.as_slice(), says.as_bytes(), "at {text}");
     }
     let text = part_text(rt.alloc(), &KEY, r"tag\ Key3=value", 0)?;

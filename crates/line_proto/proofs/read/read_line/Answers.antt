@@ -1,20 +1,19 @@
-use Rattle.std.proofs.Common.{◌≡◌, ◌∙◌, sym, ap, subst, inl, inr, ℕ, List}
-use Rattle.std.specs.Str.{IsValidUpTo}
-use Rattle.line_proto.proofs.Lines.{not_utf8, is_utf8, same_text, fault_given}
+use Rattle.std.proofs.Common.{◌∙◌, sym, inr}
+use Rattle.line_proto.proofs.Lines.{not_utf8, read_utf8, same_text, fault_given}
 use Rattle.line_proto.proofs.read.read_line.Goals as goal
 
 pub returns-in-Err : goal.returns-in-Err
 returns-in-Err c =
     let plain = sym c.needs_escapes.ensures ∙ c.if-needs_escapes.false in
-    inr (not_utf8 c.args.piece.now c.valid_up_to.result c.args.moment plain (subst (IsValidUpTo c.args.piece.now) (sym c.valid_up_to.ensures) c.in-Err.ensures.cases.1))
+    inr (not_utf8 c.args.piece.now c.valid_up_to.result c.args.moment plain c.in-Err.ensures.cases.0 (sym c.in-Err.ensures.valid_len ∙ sym c.valid_up_to.ensures))
 
 pub returns-in-Ok-read_text : goal.returns-in-Ok-read_text
 returns-in-Ok-read_text c =
     let plain = sym c.needs_escapes.ensures ∙ c.if-needs_escapes.false in
-    is_utf8 c.args.piece.now c.args.moment plain c.in-Ok.ensures.cases.1 ∙ sym (same_text c.args.piece.now c.in-Ok.text.now c.args.moment c.ranges.moment c.in-Ok.ensures.cases.0) ∙ c.in-Ok-read_text.ensures
+    read_utf8 c.args.piece.now c.args.moment plain c.in-Ok.ensures.cases.1 ∙ sym (same_text c.args.piece.now c.in-Ok.text.now c.args.moment c.ranges.moment c.in-Ok.ensures.cases.0) ∙ c.in-Ok-read_text.ensures
 
 pub returns-in-Err-Fault : goal.returns-in-Err-Fault
 returns-in-Err-Fault c =
     let plain = sym c.needs_escapes.ensures ∙ c.if-needs_escapes.false in
     let read = fault_given c.in-Err-Fault.field-0 c.in-Err-Fault.fault _ c.in-Err-Fault.field-0-is c.in-Err-Fault.ensures in
-    inr (is_utf8 c.args.piece.now c.args.moment plain c.in-Ok.ensures.cases.1 ∙ sym (same_text c.args.piece.now c.in-Ok.text.now c.args.moment c.ranges.moment c.in-Ok.ensures.cases.0) ∙ read)
+    inr (read_utf8 c.args.piece.now c.args.moment plain c.in-Ok.ensures.cases.1 ∙ sym (same_text c.args.piece.now c.in-Ok.text.now c.args.moment c.ranges.moment c.in-Ok.ensures.cases.0) ∙ read)

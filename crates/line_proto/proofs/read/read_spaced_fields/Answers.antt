@@ -1,5 +1,3 @@
-use Rattle.std.proofs.Common.{◌≡◌, sym, subst, List, ℕ}
-use Rattle.std.specs.Str.{IsUtf8, IsCharBoundary}
 use Rattle.line_proto.proofs.Parts.{at_text}
 use Rattle.line_proto.proofs.read.read_spaced_fields.Goals as goal
 

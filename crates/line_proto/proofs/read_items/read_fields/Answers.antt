@@ -1,5 +1,4 @@
-use Rattle.std.proofs.Common.{◌≡◌, ◌∙◌, ◌++◌, ◌∷◌, [], sym, refl, arith}
-use Rattle.text_parts.specs.Many.{items_at}
+use Rattle.std.proofs.Common.{◌∙◌, ◌++◌, ◌∷◌, [], sym}
 use Rattle.text_parts.proofs.Items.{nothing_read, one_more, failed_read, all_read}
 use Rattle.std.proofs.lemmas.Result.{err_from_is_err_and}
 use Rattle.line_proto.specs.Reading.{Field, field_at}

@@ -1,9 +1,7 @@
-use Rattle.std.proofs.Common.{◌≡◌, ◌∙◌, ◌++◌, ◌∷◌, [], sym, refl, arith}
-use Rattle.text_parts.specs.Many.{items_at}
+use Rattle.std.proofs.Common.{◌∙◌, ◌++◌, ◌∷◌, [], sym, refl}
 use Rattle.text_parts.proofs.Items.{nothing_read, one_more, failed_read, all_read}
 use Rattle.std.proofs.lemmas.Result.{err_from_is_err_and}
 use Rattle.line_proto.specs.Reading.{Tag, tag_at, tags_at}
-use Rattle.line_proto.specs.Draft.{HasTags}
 use Rattle.line_proto.proofs.Loops.{comma_is, comma_within, comma_boundary, no_comma}
 use Rattle.line_proto.proofs.read_items.read_tags.Goals as goal
 

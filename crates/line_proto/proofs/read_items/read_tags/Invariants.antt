@@ -1,4 +1,4 @@
-use Rattle.std.proofs.Common.{◌≡◌, ℕ, ◌-◌, List, [], length}
+use Rattle.std.proofs.Common.{◌≡◌, ◌-◌, List, [], length}
 use Rattle.std.specs.Str.{IsCharBoundary}
 use Rattle.text_parts.proofs.Items.{Reads}
 use Rattle.line_proto.specs.Reading.{Tag, tag_at}

@@ -1,4 +1,4 @@
-use Rattle.std.proofs.Common.{◌≡◌, ◌<◌, ◌+◌, length, get_or, List, ℕ, ap, arith}
+use Rattle.std.proofs.Common.{◌<◌, ◌+◌, length, get_or, List, ℕ, ap, arith}
 use Rattle.std.proofs.lemmas.Str.{IsCharBoundary-after_ascii}
 use Rattle.line_proto.proofs.read_parts.key_at.Goals as goal
 

@@ -1,5 +1,3 @@
-use Rattle.std.proofs.Common.{◌≡◌, drop}
-use Rattle.std.specs.List.{position_or_len}
 use Rattle.text_parts.proofs.Bare.{bare_end}
 use Rattle.line_proto.specs.Kinds.{key_part}
 use Rattle.line_proto.proofs.Parts.{found_len, found_boundary, found_part, key_low}

@@ -1,4 +1,4 @@
-use Rattle.std.proofs.Common.{◌≡◌, ◌≤◌, ◌∙◌, ℕ, length, drop, take, ap, refl, sym}
+use Rattle.std.proofs.Common.{◌≡◌, ◌∙◌, length, drop, take, ap, refl}
 use Rattle.std.specs.Prelude.{◌==◌}
 use Rattle.std.proofs.lemmas.List.{length-take-le}
 use Rattle.text_parts.proofs.Bare.{position_or_len_le}

@@ -1,4 +1,4 @@
-use Rattle.std.proofs.Common.{◌≡◌, ◌∙◌, false, true, sym, ap, List, ℕ, length, get_or, eqb}
+use Rattle.std.proofs.Common.{◌≡◌, ◌∙◌, false, sym, ap, List, ℕ, length, get_or}
 use Rattle.std.proofs.lemmas.Bool.{eqb-true}
 use Rattle.line_proto.specs.Values.{begins_truth}
 use Rattle.line_proto.proofs.Words.{no_truth, empty_no_truth}

@@ -1,4 +1,4 @@
-use Rattle.std.proofs.Common.{◌++◌, ◌≡◌, take, drop, length, ◌-◌, arith, subst}
+use Rattle.std.proofs.Common.{◌++◌, take, drop, length, ◌-◌, arith, subst}
 use Rattle.std.specs.List.{flat_map}
 use Rattle.std.specs.Prelude.{codes, List, ℕ}
 use Rattle.line_proto.specs.LineText.{field_text, Adds}

@@ -1,4 +1,4 @@
-use Rattle.std.proofs.Common.{◌++◌, ◌∷◌, [], ◌≡◌, ◌<◌, length, take, drop, ◌-◌, ap, sym, ◌∙◌, arith, subst}
+use Rattle.std.proofs.Common.{◌++◌, ◌∷◌, [], ◌≡◌, length, take, drop, ◌-◌, ap, sym, ◌∙◌, arith, subst}
 use Rattle.std.specs.Prelude.{List, ℕ, codes}
 use Rattle.std.proofs.lemmas.Bool.{eqb-true, eqb-false, ne_eqb}
 use Rattle.line_proto.specs.LineText.{trimmed, escaped, on_one_line, Adds}

@@ -1,4 +1,4 @@
-use Rattle.std.proofs.Common.{◌≡◌, ◌≤◌, ◌∙◌, sym, ap, subst, refl, Bool, true, false, List, ℕ, take, drop, length}
+use Rattle.std.proofs.Common.{◌≡◌, ◌≤◌, ◌∙◌, sym, ap, subst, refl, true, false, take, drop, length}
 use Rattle.std.specs.Str.{IsUtf8}
 use Rattle.text_parts.specs.Part.{part_len, plain}
 use Rattle.text_parts.specs.Kinds.{kind_of}

@@ -1,0 +1,499 @@
+-- What is read as a line is written as one.
+use Rattle.std.proofs.Common.{◌≡◌, ◌≢◌, ℕ, ℤ, zero, suc, ◌+◌, ◌<◌, ◌≤◌, Bool, true, false, cond, eqb, ltb, List, [], ◌∷◌, ◌++◌, length, get_or, take, drop, Result, Ok, Err, Option, Some, None, refl, sym, ap, subst, ◌∙◌, arith, add-zero, append_assoc, drop-cons, add-one, inl, inr}
+use Rattle.std.specs.Prelude.{◌||◌, ◌==◌, not}
+use Rattle.std.specs.List.{position_or_len}
+use Rattle.std.specs.Str.{IsUtf8, is_utf8}
+use Rattle.std.proofs.lemmas.Str.{IsUtf8-from_is_utf8}
+use Rattle.std.proofs.lemmas.Bool.{ne_eqb, eqb-true, eqb-false, ltb-true, ltb-false}
+use Rattle.std.proofs.lemmas.List.{drop-drop, get_or-drop, get_or_past, length-drop, length-take-le, append-nil, take-append-drop, drop_all}
+use Rattle.text_parts.specs.Part.{Kind, plain, IsPartAt}
+use Rattle.text_parts.specs.Bare.{IsBare}
+use Rattle.text_parts.specs.Chain.{◌>>=◌}
+use Rattle.text_parts.specs.Many.{Reader, many_at, items_at}
+use Rattle.text_parts.proofs.Utf8.{either}
+use Rattle.text_parts.proofs.Bare.{bare_part, position_or_len_le}
+use Rattle.metric.specs.declared.value.Value.{Value}
+use Rattle.metric.specs.declared.metric.Content.{Content}
+use Rattle.line_proto.proofs.Lines.{bare, unquoted}
+use Rattle.line_proto.specs.declared.fault.LineKind.{LineKind}
+use Rattle.line_proto.specs.declared.fault.LineFault.{LineFault}
+use Rattle.line_proto.specs.Kinds.{name_part, key_part, tag_value_part, value_part}
+use Rattle.line_proto.specs.Values.{value_of, time_of}
+use Rattle.line_proto.specs.Draft.{IsUnquoted}
+use Rattle.line_proto.specs.Reading.{Tag, Field, Line, placed, name_at, key_at, tag_value_at, tag_at, plain_value_at, value_at, field_at, fields_at, tags_at, behind_spaces, spaced_fields_at, time_len, written_time_at, time_at, line_at, metric_at, text_reading, reading, limited, has_too_many, content_of, needs_escapes, is_blank_or_comment}
+use Rattle.line_proto.specs.Grammar.{HasNone, ends_word, ends_key, is_space, IsMadeOf, Written, spaces, pair_text, pairs_text, time_text, line_spelling, IsTag, IsField, AllAre, IsTime, NoHash, IsLine}
+use Rattle.line_proto.proofs.Takes.{Meets}
+
+-- ---- chains that gave an answer
+
+pub bind_ok : {F A B : Type 0} (r : Result A F) (next : A → Result B F) (y : B) → (r >>= next) ≡ Ok y → (x : A) × (r ≡ Ok x) × (next x ≡ Ok y)
+bind_ok (Ok x) next y e = (x, refl, e)
+bind_ok (Err fault) next y e = absurd cc
+
+pub chosen_ok : {F A : Type 0} (t : Bool) (fault : F) (r : Result A F) (y : A) → cond t (Err fault) r ≡ Ok y → (t ≡ false) × (r ≡ Ok y)
+chosen_ok true fault r y e = absurd cc
+chosen_ok false fault r y e = (refl, e)
+
+first_or : {F A : Type 0} → A → Result (A × ℕ) F → A
+first_or a (Ok x) = x.0
+first_or a (Err fault) = a
+
+second_or : {F A : Type 0} → ℕ → Result (A × ℕ) F → ℕ
+second_or n (Ok x) = x.1
+second_or n (Err fault) = n
+
+pub ok_pair : {F A : Type 0} (a b : A) (m n : ℕ) → let l : Result (A × ℕ) F = Ok (a, m) in let r : Result (A × ℕ) F = Ok (b, n) in l ≡ r → (a ≡ b) × (m ≡ n)
+unfolding first_or second_or
+ok_pair {F} {A} a b m n e = (ap (first_or {F = F} a) e, ap (second_or {F = F} m) e)
+
+pub placed_ok : {A : Type 0} (i : ℕ) (r : Result A LineKind) (x : A) → placed i r ≡ Ok x → r ≡ Ok x
+placed_ok i (Ok y) x e = let same : y ≡ x = cc in ap Ok same
+placed_ok i (Err kind) x e = absurd cc
+
+or_false : (a b : Bool) → (a || b) ≡ false → (a ≡ false) × (b ≡ false)
+or_false true b e = absurd cc
+or_false false b e = (refl, e)
+
+not_false : (b : Bool) → not b ≡ false → b ≡ true
+not_false true e = refl
+not_false false e = absurd cc
+
+-- ---- parts
+
+pub word_split : (p : ℕ → Bool) (bs : List ℕ) → HasNone p (take (position_or_len p bs) bs) × Meets p (drop (position_or_len p bs) bs)
+word_split p [] = (tt, tt)
+word_split p (b ∷ bs) = elim (p b) as (λ t. p b ≡ t → HasNone p (take (cond (not t) (1 + position_or_len p bs) 0) (b ∷ bs)) × Meets p (drop (cond (not t) (1 + position_or_len p bs) 0) (b ∷ bs))) [
+  | true ↦ λ e. (tt, e)
+  | false ↦ λ e. let m : 1 + position_or_len p bs ≡ suc (position_or_len p bs) = omega arith in let behind = word_split p bs in rw m ((e, behind.0), behind.1)
+] refl
+
+-- the text stands between two places
+pub record Spans (piece : List ℕ) (i j : ℕ) (text : List ℕ) : Type 0 where
+  pub is : drop i piece ≡ text ++ drop j piece
+  pub more : i ≤ j
+  pub within : j ≤ length piece
+
+pub joins : (piece : List ℕ) (i j k : ℕ) (a b : List ℕ) → Spans piece i j a → Spans piece j k b → Spans piece i k (a ++ b)
+joins piece i j k a b x y = record { is = x.is ∙ ap (λ (t : List ℕ). a ++ t) y.is ∙ sym (append_assoc a b (drop k piece)); more = omega (arith, x.more, y.more); within = y.within }
+
+-- a part that is read has no end in it and stands before one
+pub record Parted (k : Kind) (piece : List ℕ) (i : ℕ) : Type 0 where
+  pub word : List ℕ
+  pub at : IsPartAt k piece i word
+  pub none : HasNone k.ends word
+  pub ends : Meets k.ends (drop (i + length word) piece)
+  pub spans : Spans piece i (i + length word) word
+
+pub part_again : (k : Kind) (piece : List ℕ) (i : ℕ) → IsBare piece → i ≤ length piece → Parted k piece i
+part_again k piece i bare le =
+    let w = take (position_or_len k.ends (drop i piece)) (drop i piece) in
+    let split = word_split k.ends (drop i piece) in
+    let len : length (take (position_or_len k.ends (drop i piece)) (drop i piece)) ≡ position_or_len k.ends (drop i piece) = length-take-le _ _ (position_or_len_le k.ends (drop i piece)) in
+    let rest : drop (i + length (take (position_or_len k.ends (drop i piece)) (drop i piece))) piece ≡ drop (position_or_len k.ends (drop i piece)) (drop i piece) = ap (λ (m : ℕ). drop (i + m) piece) len ∙ sym (drop-drop (position_or_len k.ends (drop i piece)) i piece) in
+    record {
+      word = w;
+      at = bare_part k piece i w bare refl;
+      none = split.0;
+      ends = subst (Meets k.ends) (sym rest) split.1;
+      spans = record {
+        is = sym (take-append-drop (position_or_len k.ends (drop i piece)) (drop i piece)) ∙ ap (λ (t : List ℕ). take (position_or_len k.ends (drop i piece)) (drop i piece) ++ t) (sym rest);
+        more = omega arith;
+        within = omega (arith, len, position_or_len_le k.ends (drop i piece), length-drop i piece);
+      };
+    }
+
+some_of : (w : List ℕ) → (length w == 0) ≡ false → 0 < length w
+some_of [] e = absurd cc
+some_of (b ∷ w) e = omega arith
+
+-- a word that was read
+pub record WordRead (p : ℕ → Bool) (piece : List ℕ) (i j : ℕ) (w : List ℕ) : Type 0 where
+  pub made : IsMadeOf p w
+  pub ends : Meets p (drop j piece)
+  pub spans : Spans piece i j w
+
+word_read : (k : Kind) (piece : List ℕ) (i j : ℕ) (w : List ℕ) (part : Parted k piece i) → (length part.word == 0) ≡ false → part.word ≡ w → i + length part.word ≡ j → WordRead k.ends piece i j w
+word_read k piece i j w part some same place = subst (λ (t : List ℕ). WordRead k.ends piece i j t) same (subst (λ (m : ℕ). WordRead k.ends piece i m part.word) place (record { made = record { some = some_of part.word some; none = part.none }; ends = part.ends; spans = part.spans }))
+
+pub name_again : (piece : List ℕ) (i j : ℕ) (w : List ℕ) → IsBare piece → i ≤ length piece → name_at piece i ≡ Ok (w, j) → WordRead ends_word piece i j w
+unfolding name_at
+name_again piece i j w bare le e =
+    let part = part_again name_part piece i bare le in
+    let read = rw (part.at.means, part.at.len) at e in
+    let ok = chosen_ok (length part.word == 0) _ _ _ read in
+    let pair = ok_pair _ _ _ _ ok.1 in
+    word_read name_part piece i j w part ok.0 pair.0 pair.1
+
+pub tag_value_again : (piece : List ℕ) (i j : ℕ) (w : List ℕ) → IsBare piece → i ≤ length piece → tag_value_at piece i ≡ Ok (w, j) → WordRead ends_word piece i j w
+unfolding tag_value_at
+tag_value_again piece i j w bare le e =
+    let part = part_again tag_value_part piece i bare le in
+    let read = rw (part.at.means, part.at.len) at e in
+    let ok = chosen_ok (length part.word == 0) _ _ _ read in
+    let pair = ok_pair _ _ _ _ ok.1 in
+    word_read tag_value_part piece i j w part ok.0 pair.0 pair.1
+
+byte_at : (piece : List ℕ) (m b : ℕ) → 0 < b → get_or piece m 0 ≡ b → drop m piece ≡ b ∷ drop (m + 1) piece
+byte_at piece m b some e =
+    let within : m < length piece = is_within piece m (omega arith) in
+    rw add-one (drop-cons piece m 0 within ∙ ap (λ (x : ℕ). x ∷ drop (suc m) piece) e)
+  where
+    is_within : (piece : List ℕ) (m : ℕ) → 0 < get_or piece m 0 → m < length piece
+    is_within piece m some = elim (ltb m (length piece)) as (λ t. ltb m (length piece) ≡ t → m < length piece) [
+      | true ↦ λ lt. ltb-true m (length piece) lt
+      | false ↦ λ ge. absurd (omega (arith, get_or_past piece m 0 (ltb-false m (length piece) ge)))
+    ] refl
+
+pub byte_spans : (piece : List ℕ) (m b : ℕ) → 0 < b → get_or piece m 0 ≡ b → Spans piece m (m + 1) (b ∷ [])
+byte_spans piece m b some e =
+    let is = byte_at piece m b some e in
+    record { is = is; more = omega arith; within = omega (arith, ap length is, length-drop m piece, length-drop (m + 1) piece) }
+
+-- a key with its equals sign
+pub record KeyRead (piece : List ℕ) (i j : ℕ) (w : List ℕ) : Type 0 where
+  pub made : IsMadeOf ends_key w
+  pub spans : Spans piece i j (w ++ 61 ∷ [])
+
+key_read : (piece : List ℕ) (i j : ℕ) (w : List ℕ) (part : Parted key_part piece i) → (length part.word == 0) ≡ false → get_or piece (i + length part.word) 0 ≡ 61 → part.word ≡ w → i + length part.word + 1 ≡ j → KeyRead piece i j w
+key_read piece i j w part some equals same place = subst (λ (t : List ℕ). KeyRead piece i j t) same (subst (λ (m : ℕ). KeyRead piece i m part.word) place (record {
+  made = record { some = some_of part.word some; none = part.none };
+  spans = joins piece i (i + length part.word) (i + length part.word + 1) part.word (61 ∷ []) part.spans (byte_spans piece (i + length part.word) 61 (omega arith) equals);
+}))
+
+pub key_again : (piece : List ℕ) (i j : ℕ) (w : List ℕ) → IsBare piece → i ≤ length piece → key_at piece i ≡ Ok (w, j) → KeyRead piece i j w
+unfolding key_at
+key_again piece i j w bare le e =
+    let part = part_again key_part piece i bare le in
+    let read = rw (part.at.means, part.at.len) at e in
+    let ok = chosen_ok (length part.word == 0 || not (get_or piece (i + length part.word) 0 == 61)) _ _ _ read in
+    let both = or_false (length part.word == 0) (not (get_or piece (i + length part.word) 0 == 61)) ok.0 in
+    let pair = ok_pair _ _ _ _ ok.1 in
+    key_read piece i j w part both.0 (eqb-true (get_or piece (i + length part.word) 0) 61 (not_false (eqb (get_or piece (i + length part.word) 0) 61) both.1)) pair.0 pair.1
+
+-- an item that was read: it is written as a pair in front of an end
+pub record PairRead {X : Type 0} (Is : List ℕ × List ℕ → X → Type 0) (piece : List ℕ) (i j : ℕ) (x : X) : Type 0 where
+  pub pair : List ℕ × List ℕ
+  pub is : Is pair x
+  pub ends : Meets ends_word (drop j piece)
+  pub spans : Spans piece i j (pair_text pair)
+
+pub tag_again : (piece : List ℕ) → IsBare piece → (i j : ℕ) (tag : Tag) → i ≤ length piece → tag_at piece i ≡ Ok (tag, j) → PairRead IsTag piece i j tag
+unfolding tag_at
+tag_again piece bare i j tag le e =
+    let k = bind_ok (key_at piece i) _ (tag, j) e in
+    let key = key_again piece i k.0.1 k.0.0 bare le k.1 in
+    let v = bind_ok (tag_value_at piece k.0.1) _ (tag, j) k.2 in
+    let value = tag_value_again piece k.0.1 v.0.1 v.0.0 bare key.spans.within v.1 in
+    let same = ok_pair (k.0.0, v.0.0) tag v.0.1 j v.2 in
+    let both : Spans piece i v.0.1 (pair_text (k.0.0, v.0.0)) = subst (Spans piece i v.0.1) (append_assoc k.0.0 (61 ∷ []) v.0.0) (joins piece i k.0.1 v.0.1 (k.0.0 ++ 61 ∷ []) v.0.0 key.spans value.spans) in
+    subst (λ (m : ℕ). PairRead IsTag piece i m tag) same.1 (record { pair = (k.0.0, v.0.0); is = record { key = key.made; value = value.made; same = same.0 }; ends = value.ends; spans = both })
+
+-- a value that was read
+pub record ValueRead (piece : List ℕ) (i j : ℕ) (value : Value) : Type 0 where
+  pub text : List ℕ
+  pub none : HasNone ends_word text
+  pub is : value_of text ≡ Ok value
+  pub ends : Meets ends_word (drop j piece)
+  pub spans : Spans piece i j text
+
+pub value_again : (piece : List ℕ) (i j : ℕ) (value : Value) → IsBare piece → IsUnquoted piece → i ≤ length piece → value_at piece i ≡ Ok (value, j) → ValueRead piece i j value
+unfolding value_at plain_value_at
+value_again piece i j value bare unquoted le e =
+    let part = part_again value_part piece i bare le in
+    let plain_one : (get_or piece i 0 == 34) ≡ false = ne_eqb _ _ (unquoted.each i) in
+    let read = rw (plain_one, part.at.means, part.at.len) at e in
+    let v = bind_ok (placed i (value_of part.word)) _ (value, j) read in
+    let same = ok_pair v.0 value (i + length part.word) j v.2 in
+    subst (λ (m : ℕ). ValueRead piece i m value) same.1 (record { text = part.word; none = part.none; is = placed_ok i (value_of part.word) v.0 v.1 ∙ ap Ok same.0; ends = part.ends; spans = part.spans })
+
+pub field_again : (piece : List ℕ) → IsBare piece → IsUnquoted piece → (i j : ℕ) (field : Field) → i ≤ length piece → field_at piece i ≡ Ok (field, j) → PairRead IsField piece i j field
+unfolding field_at
+field_again piece bare unquoted i j field le e =
+    let k = bind_ok (key_at piece i) _ (field, j) e in
+    let key = key_again piece i k.0.1 k.0.0 bare le k.1 in
+    let v = bind_ok (value_at piece k.0.1) _ (field, j) k.2 in
+    let value = value_again piece k.0.1 v.0.1 v.0.0 bare unquoted key.spans.within v.1 in
+    let same = ok_pair (k.0.0, v.0.0) field v.0.1 j v.2 in
+    let both : Spans piece i v.0.1 (pair_text (k.0.0, value.text)) = subst (Spans piece i v.0.1) (append_assoc k.0.0 (61 ∷ []) value.text) (joins piece i k.0.1 v.0.1 (k.0.0 ++ 61 ∷ []) value.text key.spans value.spans) in
+    subst (λ (m : ℕ). PairRead IsField piece i m field) same.1 (record { pair = (k.0.0, value.text); is = record { key = key.made; same = ap (λ (f : Field). f.0) same.0; text = value.none; value = value.is ∙ ap (λ (f : Field). Ok f.1) same.0 }; ends = value.ends; spans = both })
+
+-- ---- lists of pairs
+
+pub record PairsRead {X : Type 0} (Is : List ℕ × List ℕ → X → Type 0) (piece : List ℕ) (i j : ℕ) (xs : List X) : Type 0 where
+  pub pairs : List (List ℕ × List ℕ)
+  pub are : AllAre Is pairs xs
+  pub no_comma : get_or piece j 0 ≢ 44
+  pub ends : Meets ends_word (drop j piece)
+  pub spans : Spans piece i j (pairs_text pairs)
+
+none_spans : (piece : List ℕ) (i : ℕ) → i ≤ length piece → Spans piece i i []
+none_spans piece i le = record { is = refl; more = omega arith; within = le }
+
+no_more : {X : Type 0} (Is : List ℕ × List ℕ → X → Type 0) (piece : List ℕ) (i j : ℕ) (xs : List X) → i ≤ length piece → get_or piece i 0 ≢ 44 → Meets ends_word (drop i piece) → let l : Result (List X × ℕ) LineFault = Ok ([], i) in l ≡ Ok (xs, j) → PairsRead Is piece i j xs
+no_more {X} Is piece i j xs le no_comma ends e =
+    let same = ok_pair {F = LineFault} {A = List X} [] xs i j e in
+    subst (λ (ys : List X). PairsRead Is piece i j ys) same.0 (subst (λ (m : ℕ). PairsRead Is piece i m []) same.1 (record { pairs = []; are = tt; no_comma = no_comma; ends = ends; spans = none_spans piece i le }))
+
+listed : {X : Type 0} → X → List X × ℕ → Result (List X × ℕ) LineFault
+listed x others = Ok (x ∷ others.0, others.1)
+
+-- the list in front of an item
+one_again : {X : Type 0} (item_at : Reader X LineFault) (Is : List ℕ × List ℕ → X → Type 0) (piece : List ℕ)
+    → ((i j : ℕ) (x : X) → i ≤ length piece → item_at piece i ≡ Ok (x, j) → PairRead Is piece i j x)
+    → (n i j : ℕ) (xs : List X) → ((k l : ℕ) (ys : List X) → i < k → k ≤ length piece → Meets ends_word (drop k piece) → many_at item_at 44 n piece k ≡ Ok (ys, l) → PairsRead Is piece k l ys)
+    → get_or piece i 0 ≡ 44 → (item_at piece (i + 1) >>= λ first. many_at item_at 44 n piece first.1 >>= λ others. listed first.0 others) ≡ Ok (xs, j) → PairsRead Is piece i j xs
+unfolding listed
+one_again {X} item_at Is piece again n i j xs others_again comma e =
+    let start = byte_spans piece i 44 (omega arith) comma in
+    let f = bind_ok (item_at piece (i + 1)) _ (xs, j) e in
+    let first = again (i + 1) f.0.1 f.0.0 start.within f.1 in
+    let o = bind_ok (many_at item_at 44 n piece f.0.1) _ (xs, j) f.2 in
+    let others = others_again f.0.1 o.0.1 o.0.0 (omega (arith, first.spans.more)) first.spans.within first.ends o.1 in
+    let same = ok_pair (f.0.0 ∷ o.0.0) xs o.0.1 j o.2 in
+    let all : Spans piece i o.0.1 (pairs_text (first.pair ∷ others.pairs)) = joins piece i (i + 1) o.0.1 (44 ∷ []) (pair_text first.pair ++ pairs_text others.pairs) start (joins piece (i + 1) f.0.1 o.0.1 (pair_text first.pair) (pairs_text others.pairs) first.spans others.spans) in
+    subst (λ (ys : List X). PairsRead Is piece i j ys) same.0 (subst (λ (m : ℕ). PairsRead Is piece i m (f.0.0 ∷ o.0.0)) same.1 (record { pairs = first.pair ∷ others.pairs; are = (first.is, others.are); no_comma = others.no_comma; ends = others.ends; spans = all }))
+
+pub many_again : {X : Type 0} (item_at : Reader X LineFault) (Is : List ℕ × List ℕ → X → Type 0) (piece : List ℕ)
+    → ((i j : ℕ) (x : X) → i ≤ length piece → item_at piece i ≡ Ok (x, j) → PairRead Is piece i j x)
+    → (n i j : ℕ) (xs : List X) → length piece ≤ n + i → i ≤ length piece → Meets ends_word (drop i piece) → many_at item_at 44 n piece i ≡ Ok (xs, j) → PairsRead Is piece i j xs
+unfolding many_at listed
+many_again item_at Is piece again zero i j xs enough le ends e = no_more Is piece i j xs le (λ comma. absurd (omega (arith, get_or_past piece i 0 (omega arith), comma))) ends e
+many_again {X} item_at Is piece again (suc n) i j xs enough le ends e = elim (get_or piece i 0 == 44) as (λ t. (get_or piece i 0 == 44) ≡ t → cond t (item_at piece (i + 1) >>= λ first. many_at item_at 44 n piece first.1 >>= λ others. listed first.0 others) (Ok ([], i)) ≡ Ok (xs, j) → PairsRead Is piece i j xs) [
+  | true ↦ λ test e. one_again item_at Is piece again n i j xs (λ k l ys more within ends read. many_again item_at Is piece again n k l ys (omega arith) within ends read) (eqb-true (get_or piece i 0) 44 test) e
+  | false ↦ λ test e. no_more Is piece i j xs le (eqb-false (get_or piece i 0) 44 test) ends e
+] refl e
+
+-- ---- spaces
+
+not_not : (b : Bool) → not b ≡ false → b ≡ true
+not_not true e = refl
+not_not false e = absurd cc
+
+all_spaces : (w : List ℕ) → HasNone (λ b. not (b == 32)) w → w ≡ spaces (length w)
+all_spaces [] none = refl
+all_spaces (b ∷ w) none =
+    let is : b ≡ 32 = eqb-true b 32 (not_not (b == 32) none.0) in
+    rw is (ap (λ (t : List ℕ). 32 ∷ t) (all_spaces w none.1))
+
+-- spaces that were passed
+pub record SpacesRead (piece : List ℕ) (i j : ℕ) : Type 0 where
+  pub count : ℕ
+  pub counted : i + count ≡ j
+  pub ends : Meets (λ b. not (b == 32)) (drop j piece)
+  pub spans : Spans piece i j (spaces count)
+
+pub spaces_again : (piece : List ℕ) (i : ℕ) → i ≤ length piece → SpacesRead piece i (behind_spaces piece i)
+spaces_again piece i le =
+    let n = position_or_len (λ b. not (b == 32)) (drop i piece) in
+    let split = word_split (λ b. not (b == 32)) (drop i piece) in
+    let short : position_or_len (λ b. not (b == 32)) (drop i piece) ≤ length (drop i piece) = position_or_len_le (λ b. not (b == 32)) (drop i piece) in
+    let len : length (take (position_or_len (λ b. not (b == 32)) (drop i piece)) (drop i piece)) ≡ position_or_len (λ b. not (b == 32)) (drop i piece) = length-take-le _ _ short in
+    let rest : drop (behind_spaces piece i) piece ≡ drop (position_or_len (λ b. not (b == 32)) (drop i piece)) (drop i piece) = sym (drop-drop (position_or_len (λ b. not (b == 32)) (drop i piece)) i piece) in
+    let front : take (position_or_len (λ b. not (b == 32)) (drop i piece)) (drop i piece) ≡ spaces (position_or_len (λ b. not (b == 32)) (drop i piece)) = all_spaces _ split.0 ∙ ap spaces len in
+    record {
+      count = position_or_len (λ b. not (b == 32)) (drop i piece);
+      counted = refl;
+      ends = subst (Meets (λ b. not (b == 32))) (sym rest) split.1;
+      spans = record {
+        is = sym (take-append-drop (position_or_len (λ b. not (b == 32)) (drop i piece)) (drop i piece)) ∙ ap (λ (t : List ℕ). t ++ drop (position_or_len (λ b. not (b == 32)) (drop i piece)) (drop i piece)) front ∙ ap (λ (t : List ℕ). spaces (position_or_len (λ b. not (b == 32)) (drop i piece)) ++ t) (sym rest);
+        more = omega arith;
+        within = omega (arith, short, length-drop i piece);
+      };
+    }
+
+-- ---- the time
+
+-- a time that was read: what stands up to the end of the piece
+pub record TimeRead (piece : List ℕ) (i : ℕ) (time moment : ℤ) : Type 0 where
+  pub written : Option (ℕ × List ℕ)
+  pub after : ℕ
+  pub is : IsTime written time moment
+  pub text : drop i piece ≡ time_text written ++ spaces after
+
+at_end : (piece : List ℕ) (i j : ℕ) (n : ℕ) → Spans piece i j (spaces n) → (j == length piece) ≡ true → drop i piece ≡ spaces n
+at_end piece i j n s e = let all : j ≡ length piece = eqb-true j (length piece) e in s.is ∙ ap (λ (t : List ℕ). spaces n ++ t) (drop_all j piece (omega arith)) ∙ append-nil (spaces n)
+
+not_all : (piece : List ℕ) (i j : ℕ) → i ≤ j → j ≤ length piece → j ≢ length piece → i < length piece
+not_all piece i j a b ne = omega arith
+
+-- a byte that is no comma and ends a word, in front of the end or a space
+space_there : (piece : List ℕ) (i : ℕ) → i < length piece → Meets ends_word (drop i piece) → get_or piece i 0 ≢ 44 → get_or piece i 0 ≡ 32
+space_there piece i lt ends no_comma =
+    let is : ends_word (get_or piece i 0) ≡ true = rw (← first_of) (meets_first (drop i piece) (omega (arith, length-drop i piece)) ends) in
+    elim (either (eqb (get_or piece i 0) 44) (eqb (get_or piece i 0) 32) is) [
+      | inl x ↦ absurd (no_comma (eqb-true (get_or piece i 0) 44 x))
+      | inr y ↦ eqb-true (get_or piece i 0) 32 y
+    ]
+  where
+    first_of : get_or (drop i piece) 0 0 ≡ get_or piece i 0
+    first_of = get_or-drop i piece 0 0 ∙ rw add-zero refl
+
+    meets_first : (bs : List ℕ) → 0 < length bs → Meets ends_word bs → ends_word (get_or bs 0 0) ≡ true
+    meets_first [] some e = absurd (omega arith)
+    meets_first (b ∷ bs) some e = e
+
+-- where a space stands, at least one is passed
+passes_one : (piece : List ℕ) (i j : ℕ) → get_or piece i 0 ≡ 32 → (s : SpacesRead piece i j) → 0 < s.count
+passes_one piece i j space s = some s.count refl
+  where
+    some : (n : ℕ) → s.count ≡ n → 0 < n
+    some (suc n) e = omega arith
+    some zero e =
+        let same : j ≡ i = omega (arith, s.counted, e) in
+        let ends : Meets (λ b. not (b == 32)) (32 ∷ drop (i + 1) piece) = subst (Meets (λ b. not (b == 32))) (byte_at piece i 32 (omega arith) space) (subst (λ (m : ℕ). Meets (λ b. not (b == 32)) (drop m piece)) same s.ends) in
+        absurd cc
+
+pub written_again : (piece : List ℕ) (i : ℕ) (time : ℤ) → i ≤ length piece → written_time_at piece i ≡ Ok time → (text : List ℕ) × (after : ℕ) × HasNone is_space text × (time_of text ≡ Ok time) × (drop i piece ≡ text ++ spaces after)
+unfolding written_time_at
+written_again piece i time le e =
+    let split = word_split is_space (drop i piece) in
+    let t = bind_ok (placed i (time_of (take (time_len piece i) (drop i piece)))) _ time e in
+    let end = time_chosen (behind_spaces piece (i + time_len piece i) == length piece) t.0 time _ t.2 in
+    let short : time_len piece i ≤ length (drop i piece) = position_or_len_le is_space (drop i piece) in
+    let s = spaces_again piece (i + time_len piece i) (omega (arith, short, length-drop i piece)) in
+    let rest : drop (i + time_len piece i) piece ≡ spaces s.count = at_end piece (i + time_len piece i) (behind_spaces piece (i + time_len piece i)) s.count s.spans end.0 in (
+      take (time_len piece i) (drop i piece),
+      s.count,
+      split.0,
+      placed_ok i _ t.0 t.1 ∙ ap Ok end.1,
+      sym (take-append-drop (time_len piece i) (drop i piece)) ∙ ap (λ (x : List ℕ). take (time_len piece i) (drop i piece) ++ x) (drop-drop (time_len piece i) i piece ∙ rest),
+    )
+  where
+    time_chosen : (t : Bool) (a b : ℤ) (fault : LineFault) → cond t (Ok a) (Err fault) ≡ Ok b → (t ≡ true) × (a ≡ b)
+    time_chosen true a b fault e = let same : a ≡ b = cc in (refl, same)
+    time_chosen false a b fault e = absurd cc
+
+pub time_again : (piece : List ℕ) (i : ℕ) (time moment : ℤ) → i ≤ length piece → Meets ends_word (drop i piece) → get_or piece i 0 ≢ 44 → time_at piece i moment ≡ Ok time → TimeRead piece i time moment
+unfolding time_at
+time_again piece i time moment le ends no_comma e = elim (behind_spaces piece i == length piece) as (λ t. (behind_spaces piece i == length piece) ≡ t → cond t (Ok moment) (written_time_at piece (behind_spaces piece i)) ≡ Ok time → TimeRead piece i time moment) [
+  | true ↦ λ test e. let same : moment ≡ time = cc in record { written = None; after = (spaces_again piece i le).count; is = sym same; text = at_end piece i (behind_spaces piece i) (spaces_again piece i le).count (spaces_again piece i le).spans test }
+  | false ↦ λ test e. later test e
+] refl e
+  where
+    later : (behind_spaces piece i == length piece) ≡ false → written_time_at piece (behind_spaces piece i) ≡ Ok time → TimeRead piece i time moment
+    later test e =
+        let s = spaces_again piece i le in
+        let w = written_again piece (behind_spaces piece i) time s.spans.within e in
+        let lt : i < length piece = not_all piece i (behind_spaces piece i) s.spans.more s.spans.within (eqb-false (behind_spaces piece i) (length piece) test) in
+        record {
+          written = Some (s.count, w.0);
+          after = w.1;
+          is = (passes_one piece i (behind_spaces piece i) (space_there piece i lt ends no_comma) s, w.2, w.3);
+          text = s.spans.is ∙ ap (λ (t : List ℕ). spaces s.count ++ t) w.4 ∙ sym (append_assoc (spaces s.count) w.0 (spaces w.1));
+        }
+
+-- ---- fields
+
+pub fields_again : (piece : List ℕ) → IsBare piece → IsUnquoted piece → (i j : ℕ) (fields : List Field) → i ≤ length piece → fields_at piece i ≡ Ok (fields, j)
+    → (w : List ℕ × List ℕ) × (ws : List (List ℕ × List ℕ)) × AllAre IsField (w ∷ ws) fields × (get_or piece j 0 ≢ 44) × Meets ends_word (drop j piece) × Spans piece i j (pair_text w ++ pairs_text ws)
+unfolding fields_at
+fields_again piece bare unquoted i j fields le e =
+    let f = bind_ok (field_at piece i) _ (fields, j) e in
+    let first = field_again piece bare unquoted i f.0.1 f.0.0 le f.1 in
+    let o = bind_ok (items_at field_at 44 piece f.0.1) _ (fields, j) f.2 in
+    let others = many_again field_at IsField piece (field_again piece bare unquoted) (length piece) f.0.1 o.0.1 o.0.0 (omega arith) first.spans.within first.ends o.1 in
+    let same = ok_pair (f.0.0 ∷ o.0.0) fields o.0.1 j o.2 in
+    let all : Spans piece i o.0.1 (pair_text first.pair ++ pairs_text others.pairs) = joins piece i f.0.1 o.0.1 (pair_text first.pair) (pairs_text others.pairs) first.spans others.spans in (
+      first.pair,
+      others.pairs,
+      subst (λ (fs : List Field). AllAre IsField (first.pair ∷ others.pairs) fs) same.0 (first.is, others.are),
+      subst (λ (m : ℕ). get_or piece m 0 ≢ 44) same.1 others.no_comma,
+      subst (λ (m : ℕ). Meets ends_word (drop m piece)) same.1 others.ends,
+      subst (λ (m : ℕ). Spans piece i m (pair_text first.pair ++ pairs_text others.pairs)) same.1 all,
+    )
+
+pub spaced_fields_again : (piece : List ℕ) → IsBare piece → IsUnquoted piece → (i j : ℕ) (fields : List Field) → i ≤ length piece → Meets ends_word (drop i piece) → get_or piece i 0 ≢ 44 → spaced_fields_at piece i ≡ Ok (fields, j)
+    → (gap : ℕ) × (w : List ℕ × List ℕ) × (ws : List (List ℕ × List ℕ)) × (0 < gap) × AllAre IsField (w ∷ ws) fields × (get_or piece j 0 ≢ 44) × Meets ends_word (drop j piece) × Spans piece i j (spaces gap ++ (pair_text w ++ pairs_text ws))
+unfolding spaced_fields_at
+spaced_fields_again piece bare unquoted i j fields le ends no_comma e =
+    let s = spaces_again piece i le in
+    let ok = chosen_ok (behind_spaces piece i == length piece) _ _ _ e in
+    let lt : i < length piece = not_all piece i (behind_spaces piece i) s.spans.more s.spans.within (eqb-false (behind_spaces piece i) (length piece) ok.0) in
+    let f = fields_again piece bare unquoted (behind_spaces piece i) j fields s.spans.within ok.1 in
+    (s.count, f.0, f.1, passes_one piece i (behind_spaces piece i) (space_there piece i lt ends no_comma) s, f.2, f.3, f.4, joins piece i (behind_spaces piece i) j (spaces s.count) (pair_text f.0 ++ pairs_text f.1) s.spans f.5)
+
+-- ---- the line
+
+first_byte : (piece : List ℕ) (i : ℕ) → get_or (drop i piece) 0 0 ≡ get_or piece i 0
+first_byte piece i = get_or-drop i piece 0 0 ∙ rw add-zero refl
+
+ok_line : (a b : Line) → let l : Result Line LineFault = Ok a in l ≡ Ok b → a ≡ b
+ok_line a b e = cc
+
+no_hash : (w rest : List ℕ) → 0 < length w → (get_or (w ++ rest) 0 0 == 35) ≡ false → NoHash w
+no_hash [] rest some e = tt
+no_hash (b ∷ w) rest some e = e
+
+-- a line that was read at a place, behind some spaces
+pub record LineRead (piece : List ℕ) (i before : ℕ) (line : Line) (moment : ℤ) : Type 0 where
+  pub written : Written
+  pub same : written.before ≡ before
+  pub is : IsLine written line moment
+  pub text : drop i piece ≡ written.name ++ (pairs_text written.tags ++ (spaces written.gap ++ (pair_text written.first ++ (pairs_text written.others ++ (time_text written.time ++ spaces written.after)))))
+
+pub line_again : (piece : List ℕ) → IsBare piece → IsUnquoted piece → (i before : ℕ) (line : Line) (moment : ℤ) → i ≤ length piece → (get_or piece i 0 == 35) ≡ false → line_at piece i moment ≡ Ok line → LineRead piece i before line moment
+unfolding line_at tags_at
+line_again piece bare unquoted i before line moment le no_comment e =
+    let n = bind_ok (name_at piece i) _ line e in
+    let name = name_again piece i n.0.1 n.0.0 bare le n.1 in
+    let t = bind_ok (items_at tag_at 44 piece n.0.1) _ line n.2 in
+    let tags = many_again tag_at IsTag piece (tag_again piece bare) (length piece) n.0.1 t.0.1 t.0.0 (omega arith) name.spans.within name.ends t.1 in
+    let f = bind_ok (spaced_fields_at piece t.0.1) _ line t.2 in
+    let fields = spaced_fields_again piece bare unquoted t.0.1 f.0.1 f.0.0 tags.spans.within tags.ends tags.no_comma f.1 in
+    let m = bind_ok (time_at piece f.0.1 moment) _ line f.2 in
+    let time = time_again piece f.0.1 m.0 moment fields.7.within fields.6 fields.5 m.1 in
+    let made : Line = record { name = n.0.0; tags = t.0.0; fields = f.0.0; time = m.0 } in
+    let same : record { name = n.0.0; tags = t.0.0; fields = f.0.0; time = m.0 } ≡ line = ok_line made line m.2 in
+    let behind : drop t.0.1 piece ≡ spaces fields.0 ++ (pair_text fields.1 ++ (pairs_text fields.2 ++ (time_text time.written ++ spaces time.after))) =
+    fields.7.is ∙ ap (λ (x : List ℕ). (spaces fields.0 ++ (pair_text fields.1 ++ pairs_text fields.2)) ++ x) time.text ∙ append_assoc (spaces fields.0) (pair_text fields.1 ++ pairs_text fields.2) (time_text time.written ++ spaces time.after)
+    ∙ ap (λ (x : List ℕ). spaces fields.0 ++ x) (append_assoc (pair_text fields.1) (pairs_text fields.2) (time_text time.written ++ spaces time.after)) in
+    subst (λ (l : Line). LineRead piece i before l moment) same (record {
+      written = record { before = before; name = n.0.0; tags = tags.pairs; gap = fields.0; first = fields.1; others = fields.2; time = time.written; after = time.after };
+      same = refl;
+      is = record {
+        name = name.made;
+        no_comment = no_hash n.0.0 (drop n.0.1 piece) name.made.some (ap (λ (l : List ℕ). get_or l 0 0 == 35) (sym name.spans.is) ∙ ap (λ (b : ℕ). b == 35) (first_byte piece i) ∙ no_comment);
+        same_name = refl;
+        tags = tags.are;
+        gap = fields.3;
+        fields = fields.4;
+        time = time.is;
+      };
+      text = name.spans.is ∙ ap (λ (x : List ℕ). n.0.0 ++ x) (tags.spans.is ∙ ap (λ (x : List ℕ). pairs_text tags.pairs ++ x) behind);
+    })
+
+some_ok : (r : Result Line LineFault) (content : Content) → (r >>= limited) ≡ Ok (Some content) → (line : Line) × (r ≡ Ok line) × (has_too_many line.tags line.fields ≡ false) × (content ≡ content_of line)
+some_ok r content e =
+    let l = bind_ok r limited (Some content) e in
+    let c = chosen_ok (has_too_many l.0.tags l.0.fields) _ _ _ l.2 in
+    (l.0, l.1, c.0, sym (some_same (content_of l.0) content c.1))
+  where
+    some_same : (a b : Content) → let l : Result (Option Content) LineFault = Ok (Some a) in l ≡ Ok (Some b) → a ≡ b
+    some_same a b e = cc
+
+not_none : (t : Bool) (r : Result (Option Content) LineFault) (content : Content) → cond t (Ok None) r ≡ Ok (Some content) → (t ≡ false) × (r ≡ Ok (Some content))
+not_none true r content e = absurd cc
+not_none false r content e = (refl, e)
+
+pub read_is_written : (piece : List ℕ) (moment : ℤ) (content : Content) → needs_escapes piece ≡ false → reading piece moment ≡ Ok (Some content)
+    → (w : Written) × (line : Line) × (piece ≡ line_spelling w) × IsUtf8 piece × IsLine w line moment × (has_too_many line.tags line.fields ≡ false) × (content ≡ content_of line)
+unfolding reading text_reading metric_at
+read_is_written piece moment content plain e =
+    let whole = utf8_chosen (is_utf8 piece) _ _ (Some content) e in
+    let text = not_none (is_blank_or_comment piece) _ content whole.1 in
+    let first = or_false (behind_spaces piece 0 == length piece) (get_or piece (behind_spaces piece 0) 0 == 35) text.0 in
+    let read = some_ok (line_at piece (behind_spaces piece 0) moment) content text.1 in
+    let s = spaces_again piece 0 (omega arith) in
+    let line = line_again piece (bare piece plain) (unquoted piece plain) (behind_spaces piece 0) s.count read.0 moment s.spans.within first.1 read.1 in (
+      line.written,
+      read.0,
+      s.spans.is ∙ ap (λ (t : List ℕ). spaces s.count ++ t) line.text ∙ ap (λ (n : ℕ). spaces n ++ (line.written.name ++ (pairs_text line.written.tags ++ (spaces line.written.gap ++ (pair_text line.written.first ++ (pairs_text line.written.others ++ (time_text line.written.time ++ spaces line.written.after))))))) (sym line.same),
+      IsUtf8-from_is_utf8 piece whole.0,
+      line.is,
+      read.2,
+      read.3,
+    )
+  where
+    utf8_chosen : (t : Bool) (r : Result (Option Content) LineFault) (fault : LineFault) (y : Option Content) → cond t r (Err fault) ≡ Ok y → (t ≡ true) × (r ≡ Ok y)
+    utf8_chosen true r fault y e = (refl, e)
+    utf8_chosen false r fault y e = absurd cc

@@ -4,3 +4,4 @@ pub mod Reading
 pub mod Views
 pub mod Draft
 pub mod Grammar
+pub mod LineText

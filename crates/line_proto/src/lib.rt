@@ -1,4 +1,4 @@
-//! InfluxDB line protocol: readings of lines.
+//! InfluxDB line protocol: lines are read and written.
 #![tactic(auto)]
 
 mod draft;
@@ -8,10 +8,12 @@ mod read;
 mod read_items;
 mod read_parts;
 mod read_value;
+mod write;
 
 pub use fault::{LineFault, LineKind};
 pub use laws::{read_is_written, written_is_read};
 pub use read::read_line;
+pub use write::write_line;
 
 #[cfg(test)]
 mod tests;

@@ -1,0 +1,246 @@
+//! What is counted of a run.
+ghost use Rattle.std.specs.Prelude.{◌≡◌, ◌+◌, ◌<◌, ◌≤◌, ◌^◌, ◌↔◌, true, ◌++◌, length, IfOk, OnOk, OnErr, IsTrue};
+ghost use Rattle.account.specs.Numbers.{Numbers, no_numbers, input_numbers, output_numbers, with_input, with_output, gathered_more, written_more, dropped_more, IsInputBelow, AreBelow};
+ghost use Rattle.account.specs.Extends.{Extends};
+ghost use Rattle.account.specs.AccountText.{account_text};
+
+use crate::text::{append_inputs, append_items, append_outputs};
+use crate::{InputNumbers, OutputNumbers};
+use fixed_num::OutOfMemory;
+use std::alloc::Global;
+use std::marker::Model;
+
+/// The numbers of a run: what was read of each input, how many items were made, removed and
+/// routed, and what became of the routed ones at each output.
+#[derive(Drop)]
+pub struct Account {
+    inputs: Vec<InputNumbers>,
+    made: u64,
+    removed: u64,
+    routed: u64,
+    outputs: Vec<OutputNumbers>,
+}
+
+impl Model for Account {
+    ghost use Rattle.account.specs.Numbers.{Numbers};
+
+    ghost Value = { Numbers };
+
+    ghost view = { λ a. record { inputs = a.inputs.items; made = a.made; removed = a.removed; routed = a.routed; outputs = a.outputs.items } };
+}
+
+impl Account {
+    /// All numbers 0. The flags say which inputs are tracked.
+    pub fn new(alloc: Global, inputs: &[bool], outputs: u32) -> Result<Account, OutOfMemory>
+        ensures { IfOk result (λ account. account ≡ no_numbers inputs.now outputs) }
+    {
+        Ok(Account {
+            inputs: unread_inputs(alloc, inputs)?,
+            made: 0,
+            removed: 0,
+            routed: 0,
+            outputs: vec![in alloc; OutputNumbers::unreached(); outputs as usize]?,
+        })
+    }
+
+    /// Whether each number is below 2^63.
+    pub fn has_room(&self) -> bool
+        ensures { IsTrue result ↔ AreBelow (2 ^ 63) self.now }
+    {
+        self.made < 1 << 63
+            && self.removed < 1 << 63
+            && self.routed < 1 << 63
+            && self.inputs.iter().all(|x| x.has_room())
+            && self.outputs.iter().all(|x| x.has_room())
+    }
+
+    /// Appends the account's text: a line for each input, and one for the groups of each tracked
+    /// one, a line for the items, and a line for each output.
+    pub fn text(&self, _alloc: Global, out: &mut Vec<u8>) -> Result<(), OutOfMemory>
+        ensures ok { OnOk result (out.new.items ≡ out.old.items ++ account_text self.now) }
+        ensures err { OnErr result (out.new.items ≡ out.old.items) }
+    {
+        let len = out.len();
+        match self.append_text(out) {
+            Ok(()) => Ok(()),
+            Err(fault) => {
+                out.truncate(len);
+                Err(fault)
+            }
+        }
+    }
+
+    // Appends the account's text, or a front of it.
+    #[tactic(auto, unfolding(crate::specs::AccountText::account_text))]
+    fn append_text(&self, out: &mut Vec<u8>) -> Result<(), OutOfMemory>
+        ensures ok { OnOk result (out.new.items ≡ out.old.items ++ account_text self.now) }
+        ensures kept { Extends out.old.items out.new.items }
+    {
+        append_inputs(out, &self.inputs)?;
+        append_items(out, self.made, self.removed, self.routed)?;
+        append_outputs(out, &self.outputs)?;
+        Ok(())
+    }
+
+    /// Counts an input's next pieces: how many there were, how many of them were refused, how many
+    /// samples were passed over, how many readings its filter kept out, and how many metrics came.
+    pub fn gathered(
+        &mut self,
+        input: u32,
+        pieces: u32,
+        refused: u32,
+        passed: u32,
+        filtered: u32,
+        metrics: u32,
+    )
+        requires within { input < length self.old.inputs }
+        requires room { IsInputBelow (2 ^ 64) (gathered_more (input_numbers self.old input) pieces refused passed filtered metrics) }
+        ensures { self.new ≡ with_input self.old input (gathered_more (input_numbers self.old input) pieces refused passed filtered metrics) }
+    {
+        let x = &mut self.inputs[input as usize];
+        x.pieces += u64::from(pieces);
+        x.refused += u64::from(refused);
+        x.passed += u64::from(passed);
+        x.filtered += u64::from(filtered);
+        x.gathered += u64::from(metrics);
+    }
+
+    /// Notes that an input was read to its end.
+    pub fn ended(&mut self, input: u32)
+        requires { input < length self.old.inputs }
+        ensures { self.new ≡ with_input self.old input (record (input_numbers self.old input) { has_ended = true }) }
+    {
+        self.inputs[input as usize].has_ended = true;
+    }
+
+    /// Counts metrics that were made.
+    pub fn made(&mut self, n: u32)
+        requires { self.old.made + n < 2 ^ 64 }
+        ensures { self.new ≡ record self.old { made = self.old.made + n } }
+    {
+        self.made += u64::from(n);
+    }
+
+    /// Counts an item that was removed.
+    pub fn removed(&mut self)
+        requires { self.old.removed + 1 < 2 ^ 64 }
+        ensures { self.new ≡ record self.old { removed = self.old.removed + 1 } }
+    {
+        self.removed += 1;
+    }
+
+    /// Counts an item that was routed.
+    pub fn routed(&mut self)
+        requires { self.old.routed + 1 < 2 ^ 64 }
+        ensures { self.new ≡ record self.old { routed = self.old.routed + 1 } }
+    {
+        self.routed += 1;
+    }
+
+    /// Counts a metric that an output's filter kept out.
+    pub fn filtered(&mut self, output: u32)
+        requires within { output < length self.old.outputs }
+        requires room { (output_numbers self.old output).filtered + 1 < 2 ^ 64 }
+        ensures { let x = output_numbers self.old output in self.new ≡ with_output self.old output (record x { filtered = x.filtered + 1 }) }
+    {
+        self.outputs[output as usize].filtered += 1;
+    }
+
+    /// Counts a metric that came too late for a window, at an output.
+    pub fn late(&mut self, output: u32)
+        requires within { output < length self.old.outputs }
+        requires room { (output_numbers self.old output).late + 1 < 2 ^ 64 }
+        ensures { let x = output_numbers self.old output in self.new ≡ with_output self.old output (record x { late = x.late + 1 }) }
+    {
+        self.outputs[output as usize].late += 1;
+    }
+
+    /// Counts a metric that an aggregator kept from an output.
+    pub fn consumed(&mut self, output: u32)
+        requires within { output < length self.old.outputs }
+        requires room { (output_numbers self.old output).consumed + 1 < 2 ^ 64 }
+        ensures { let x = output_numbers self.old output in self.new ≡ with_output self.old output (record x { consumed = x.consumed + 1 }) }
+    {
+        self.outputs[output as usize].consumed += 1;
+    }
+
+    /// Counts a metric that an output took.
+    pub fn buffered(&mut self, output: u32)
+        requires within { output < length self.old.outputs }
+        requires room { (output_numbers self.old output).buffered + 1 < 2 ^ 64 }
+        ensures { let x = output_numbers self.old output in self.new ≡ with_output self.old output (record x { buffered = x.buffered + 1 }) }
+    {
+        self.outputs[output as usize].buffered += 1;
+    }
+
+    /// Counts buffered metrics of an output as written.
+    pub fn written(&mut self, output: u32, n: u32)
+        requires within { output < length self.old.outputs }
+        requires held { n ≤ (output_numbers self.old output).buffered }
+        requires room { (output_numbers self.old output).written + n < 2 ^ 64 }
+        ensures { self.new ≡ with_output self.old output (written_more (output_numbers self.old output) n) }
+    {
+        let x = &mut self.outputs[output as usize];
+        x.written += u64::from(n);
+        x.buffered -= u64::from(n);
+    }
+
+    /// Counts buffered metrics of an output as dropped.
+    pub fn dropped(&mut self, output: u32, n: u32)
+        requires within { output < length self.old.outputs }
+        requires held { n ≤ (output_numbers self.old output).buffered }
+        requires room { (output_numbers self.old output).dropped + n < 2 ^ 64 }
+        ensures { self.new ≡ with_output self.old output (dropped_more (output_numbers self.old output) n) }
+    {
+        let x = &mut self.outputs[output as usize];
+        x.dropped += u64::from(n);
+        x.buffered -= u64::from(n);
+    }
+}
+
+// The numbers of inputs of which nothing was read.
+fn unread_inputs(alloc: Global, tracked: &[bool]) -> Result<Vec<InputNumbers>, OutOfMemory>
+    ensures { IfOk result (λ inputs. inputs.items ≡ (no_numbers tracked.now 0).inputs) }
+{
+    let mut inputs = Vec::with_capacity(alloc, tracked.len())?;
+    for flag in tracked {
+        inputs.push(InputNumbers::unread(*flag))?;
+    }
+    Ok(inputs)
+}
+
+#[cfg(test)]
+mod tests {
+    use super::*;
+
+    #[test]
+    fn prints_what_was_counted(rt: HostRuntime) -> Result<(), OutOfMemory> {
+        let alloc = rt.alloc();
+        let mut account = Account::new(alloc, &[false, true], 2)?;
+        assert!(rt; account.has_room());
+        account.gathered(0, 5, 1, 2, 3, 4);
+        account.gathered(0, 1, 0, 0, 0, 1);
+        account.ended(0);
+        account.made(7);
+        account.removed();
+        account.routed();
+        account.filtered(0);
+        account.late(0);
+        account.consumed(0);
+        account.buffered(1);
+        account.buffered(1);
+        account.buffered(1);
+        account.written(1, 1);
+        account.dropped(1, 1);
+        let mut out = Vec::from_slice(alloc, b"> ")?;
+        account.text(alloc, &mut out)?;
+        let want = "> input 0 pieces 6 refused 1 passed 2 filtered 3 gathered 5 ended\n\
+            input 1 pieces 0 refused 0 passed 0 filtered 0 gathered 0 unread\n\
+            groups 1 delivered 0 rejected 0 undelivered 0\n\
+            items made 7 removed 1 routed 1\n\
+            output 0 filtered 1 late 1 consumed 1 written 0 buffered 0 dropped 0\n\
+            output 1 filtered 0 late 0 consumed 0 written 1 buffered 1 dropped 1\n";
+        assert_eq!(rt; out.as_slice(), want.as_bytes());
+        Ok(())
+    }
+}

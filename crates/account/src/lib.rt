@@ -1,0 +1,11 @@
+//! The events of a run, and what is counted of them.
+#![tactic(auto)]
+
+mod account;
+mod entry;
+mod numbers;
+mod text;
+
+pub use account::Account;
+pub use entry::{Entry, Report, Verdict};
+pub use numbers::{InputNumbers, OutputNumbers};

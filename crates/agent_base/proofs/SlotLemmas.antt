@@ -1,0 +1,180 @@
+-- A place after its slot changed.
+use Rattle.std.proofs.Common.{◌≡◌, ◌≢◌, ℕ, ◌≤◌, List, [], ◌∷◌, ◌++◌, length, get_or, set, Bool, true, false, cond, refl, sym, ap, ◌∙◌, arith, Some, None, Ok, Err, Result, IfOk, IfErr}
+use Rattle.std.proofs.lemmas.Option.{slice_get-get_or, slice_get_past}
+use Rattle.std.specs.List.{slice_get}
+use Rattle.std.specs.Option.{option_or}
+use Rattle.std.specs.declared.option.Option.{Option}
+use Rattle.std.specs.Str.{bytes_eq}
+use Rattle.std.proofs.lemmas.Bool.{false_from_ne_true, eqb-true, eq-eqb}
+use Rattle.std.specs.Prelude.{ℤ, Vec}
+use Rattle.std.specs.declared.alloc.Global.{Global}
+use Rattle.agent_base.specs.Clocks.{is_of, told_by, moments_at}
+use Rattle.agent_base.specs.Memory.{moments_of}
+use Rattle.std.proofs.lemmas.Grind.{common_steps}
+use Rattle.std.proofs.lemmas.List.Folds.{find_at, find-set, find_past, find-append}
+use Rattle.std.proofs.lemmas.List.Quantifiers.{position-Some}
+use Rattle.std.proofs.lemmas.Slice.Eq.{bytes_eq-Decides}
+use Rattle.std.specs.List.{position, position_or_len, find}
+use Rattle.std.specs.String.{string_bytes}
+use Rattle.agent_base.specs.Slots.{slot_at, is_named, told_of, Leaves, Comes, IsMissed, Opened, Fills, AllHome, is_out_at, HasPart, HasNoPart}
+use Rattle.std.specs.Borrow.{Bor}
+use Rattle.std.specs.Option.{option_copied}
+use Rattle.std.specs.Prelude.{MatchOption}
+use Rattle.agent_base.specs.Places.{SameBut, Opens, TakesIn, FailsToOpen, Refuses, IsTold}
+use Rattle.agent_base.specs.declared.world.OpenFault.{OpenFault}
+use Rattle.agent_base.specs.declared.world.OpenFault.TheVariants.{Failed, OutOfMemory}
+use Rattle.agent_base.specs.declared.slots.Slot.{Slot}
+
+-- at one place x was, and y is
+pub record Changes {P : Type 0} (old new : List (Slot P)) (place : List ℕ) (x y : Slot P) : Type 0 where
+  pub was : slot_at old place ≡ Some x
+  pub now : slot_at new place ≡ Some y
+  pub others : SameBut place (slot_at old) (slot_at new)
+
+-- a slot of one place is none of another
+not_named : {P : Type 0} (slot : Slot P) (place other : List ℕ) → is_named place slot ≡ true → other ≢ place → is_named other slot ≡ false
+not_named slot place other t ne =
+    false_from_ne_true _ (λ e. ne (sym ((bytes_eq-Decides (string_bytes slot.place) other).0 e) ∙ (bytes_eq-Decides (string_bytes slot.place) place).0 t))
+
+pub at_position : {X : Type 0} (p : X → Bool) (xs : List X) (i : ℕ) (x : X) → position p xs ≡ Some i → x ≡ get_or xs i x → find p xs ≡ Some x
+at_position p xs i x e at =
+    let found = position-Some p xs i x e in
+    let first : i ≡ position_or_len p xs = grind (arith, common_steps) in
+    find_at p xs ∙ ap (slice_get xs) (sym first) ∙ slice_get-get_or xs i x found.0 ∙ ap Some (sym at)
+
+pub no_position : {X : Type 0} (p : X → Bool) (xs : List X) → position p xs ≡ None → find p xs ≡ None
+no_position p xs e =
+    let past : length xs ≤ position_or_len p xs = grind (arith, common_steps) in
+    find_at p xs ∙ slice_get_past xs (position_or_len p xs) past
+
+-- a clock's moments were taken out
+pub told_before : (clocks : List (ℕ × Vec ℤ Global)) (who i : ℕ) (x : ℕ × Vec ℤ Global) → position (is_of who) clocks ≡ Some i → x ≡ get_or clocks i x → moments_of x.1.items ≡ moments_at clocks who
+told_before clocks who i x e at = sym (ap told_by (at_position (is_of who) clocks i x e at))
+
+pub told_beside : (clocks : List (ℕ × Vec ℤ Global)) (who i : ℕ) (x y : ℕ × Vec ℤ Global) → position (is_of who) clocks ≡ Some i → x ≡ get_or clocks i x → y.0 ≡ x.0 → SameBut who (moments_at clocks) (moments_at (set clocks i y))
+told_beside clocks who i x y e at same other ne =
+    let named : x.0 ≡ who = eqb-true x.0 who (ap (is_of who) at ∙ (position-Some (is_of who) clocks i x e).1) in
+    let not_x : is_of other x ≡ false = false_from_ne_true _ (λ t. ne (sym (eqb-true x.0 other t) ∙ named)) in
+    let not_y : is_of other y ≡ false = false_from_ne_true _ (λ t. ne (sym (eqb-true y.0 other t) ∙ same ∙ named)) in
+    ap told_by (find_past (is_of other) clocks i y x (ap (is_of other) (sym at) ∙ not_x) not_y)
+
+pub changes : {P : Type 0} (slots : List (Slot P)) (place : List ℕ) (i : ℕ) (x y : Slot P) → position (is_named place) slots ≡ Some i → x ≡ get_or slots i x → string_bytes y.place ≡ string_bytes x.place → Changes slots (set slots i y) place x y
+changes slots place i x y e at same =
+    let p = is_named place in
+    let found = position-Some p slots i x e in
+    let first : i ≡ position_or_len p slots = grind (arith, common_steps) in
+    let named : is_named place x ≡ true = ap p at ∙ found.1 in
+    let renamed : is_named place y ≡ true = ap (λ b. bytes_eq b place) same ∙ named in
+    record {
+      was = find_at p slots ∙ ap (slice_get slots) (sym first) ∙ slice_get-get_or slots i x found.0 ∙ ap Some (sym at);
+      now = find-set p slots i y first found.0 renamed;
+      others = λ other ne. find_past (is_named other) slots i y x (ap (is_named other) (sym at) ∙ not_named x place other named ne) (not_named y place other renamed ne);
+    }
+
+or_none : {X : Type 0} (o : Option X) → option_or o None ≡ o
+or_none None = refl
+or_none (Some x) = refl
+
+pub none_at : {P : Type 0} (slots : List (Slot P)) (place : List ℕ) → position (is_named place) slots ≡ None → slot_at slots place ≡ None
+none_at slots place e =
+    let p = is_named place in
+    let past : length slots ≤ position_or_len p slots = grind (arith, common_steps) in
+    find_at p slots ∙ slice_get_past slots (position_or_len p slots) past
+
+-- one more slot, of a place that had none
+pub record Adds {P : Type 0} (old new : List (Slot P)) (place : List ℕ) (y : Slot P) : Type 0 where
+  pub was : slot_at old place ≡ None
+  pub now : slot_at new place ≡ Some y
+  pub others : SameBut place (slot_at old) (slot_at new)
+
+pub adds : {P : Type 0} (slots : List (Slot P)) (place : List ℕ) (y : Slot P) → position (is_named place) slots ≡ None → string_bytes y.place ≡ place → Adds slots (slots ++ y ∷ []) place y
+adds slots place y e same =
+    let none : slot_at slots place ≡ None = none_at slots place e in
+    let named : is_named place y ≡ true = (bytes_eq-Decides (string_bytes y.place) place).1 same in
+    record {
+      was = none;
+      now = rw (find-append, none, named) refl;
+      others = λ other ne. find-append (is_named other) slots (y ∷ []) ∙ ap (λ b. option_or (find (is_named other) slots) (cond b (Some y) None)) (not_named y place other named ne) ∙ or_none (find (is_named other) slots);
+    }
+
+pub never : false ≡ true → ⊥
+never e = cc
+
+-- a clock's moments are put in place of those that were there, or added
+pub told_after : (clocks : List (ℕ × Vec ℤ Global)) (who i : ℕ) (x y : ℕ × Vec ℤ Global) → position (is_of who) clocks ≡ Some i → x ≡ get_or clocks i x → y.0 ≡ x.0 → moments_at (set clocks i y) who ≡ moments_of y.1.items
+told_after clocks who i x y e at same =
+    let found = position-Some (is_of who) clocks i x e in
+    let first : i ≡ position_or_len (is_of who) clocks = grind (arith, common_steps) in
+    let named : x.0 ≡ who = eqb-true x.0 who (ap (is_of who) at ∙ found.1) in
+    let is_y : is_of who y ≡ true = eq-eqb y.0 who (same ∙ named) in
+    ap told_by (find-set (is_of who) clocks i y first found.0 is_y)
+
+pub told_added : (clocks : List (ℕ × Vec ℤ Global)) (who : ℕ) (v : Vec ℤ Global) → position (is_of who) clocks ≡ None → moments_at (clocks ++ (who, v) ∷ []) who ≡ moments_of v.items
+told_added clocks who v e =
+    let none = no_position (is_of who) clocks e in
+    let same : is_of who (who, v) ≡ true = eq-eqb who who refl in
+    rw (find-append, none, same) refl
+
+pub told_beside_added : (clocks : List (ℕ × Vec ℤ Global)) (who : ℕ) (v : Vec ℤ Global) → SameBut who (moments_at clocks) (moments_at (clocks ++ (who, v) ∷ []))
+told_beside_added clocks who v other ne =
+    let not_same : is_of other (who, v) ≡ false = false_from_ne_true _ (λ t. ne (sym (eqb-true who other t))) in
+    ap told_by (find-append (is_of other) clocks ((who, v) ∷ []) ∙ ap (λ b. option_or (find (is_of other) clocks) (cond b (Some (who, v)) None)) not_same ∙ or_none (find (is_of other) clocks))
+
+-- the push
+pub misses : {P : Type 0} (slots new : List (Slot P)) (place : List ℕ) (y : Slot P) → position (is_named place) slots ≡ None → string_bytes y.place ≡ place → new ≡ slots ++ y ∷ [] → Adds slots new place y
+misses slots new place y e same grown = rw grown (adds slots place y e same)
+
+-- what a place tells as its part leaves and comes
+module _ {P : Type 0} (bytes : P → Option (List ℕ)) (faults : P → ℕ) where
+  pub opens_told : (part : P) (old new : Option (Slot P)) → Leaves part old new → Opens (bytes part) (faults part) (told_of bytes faults old) (told_of bytes faults new)
+  opens_told part old new h =
+      rw (h.was, h.now, h.had, h.has) (record { bytes = refl; faults = refl; open_faults = h.open_faults; is_out = h.is_out })
+
+  pub takes_told : (part : P) (old new : Option (Slot P)) → Comes part old new → TakesIn (bytes part) (faults part) (told_of bytes faults old) (told_of bytes faults new)
+  takes_told part old new h =
+      rw (h.was, h.now, h.has) (record { bytes = refl; faults = refl; open_faults = h.open_faults; is_out = h.is_out })
+
+  pub fills_told : (part : P) (old new : Option (Slot P)) → Fills part old new → TakesIn (bytes part) (faults part) (told_of bytes faults old) (told_of bytes faults new)
+  fills_told part None new h =
+      rw (h.now, h.has) (record { bytes = refl; faults = refl; open_faults = h.open_faults; is_out = h.is_out })
+  fills_told part (Some slot) new h =
+      rw (h.now, h.has) (record { bytes = refl; faults = refl; open_faults = h.open_faults; is_out = h.is_out })
+
+  pub part_is_told : (r : Option (Bor P)) (slot : Option (Slot P)) → MatchOption r (HasNoPart slot) (λ part. HasPart part.now slot)
+      → MatchOption r ((told_of bytes faults slot).bytes ≡ None) (λ part. IsTold (bytes part.now) (faults part.now) (told_of bytes faults slot))
+  part_is_told None None h = refl
+  part_is_told None (Some slot) h = rw h refl
+  part_is_told (Some part) None h = absurd h
+  part_is_told (Some part) (Some slot) h = rw h (record { bytes = refl; faults = refl })
+
+  misses_told : (old : Option (Slot P)) (new : Option (Slot P)) → (told_of bytes faults old).is_out ≡ false → IsMissed old new → FailsToOpen (told_of bytes faults old) (told_of bytes faults new)
+  misses_told None new out h = rw (h.now, h.has) (record { bytes = refl; part_faults = refl; is_out = h.is_out; rose = rw h.open_faults (omega arith); later = omega arith })
+  misses_told (Some slot) new out h =
+      rw (h.now, h.has, h.open_faults.0) (record { bytes = refl; part_faults = refl; is_out = h.is_out ∙ out; rose = rw h.open_faults.1 (omega arith); later = h.open_faults.2 })
+
+  pub opened_told : (result : Result P OpenFault) (old new : Option (Slot P)) → (told_of bytes faults old).is_out ≡ false → Opened result old new
+      → IfOk result (λ part. Opens (bytes part) (faults part) (told_of bytes faults old) (told_of bytes faults new)) × IfErr result (λ e. Refuses e (told_of bytes faults old) (told_of bytes faults new))
+  opened_told (Ok part) old new out h = (opens_told part old new h, tt)
+  opened_told (Err Failed) old new out h = (tt, misses_told old new out h)
+  opened_told (Err OutOfMemory) old new out h = (tt, ap (told_of bytes faults) h)
+
+pub still_home : {P : Type 0} (old new : List (Slot P)) (place : List ℕ) → SameBut place (slot_at old) (slot_at new) → is_out_at (slot_at new place) ≡ false → AllHome old → AllHome new
+still_home old new place s z h q = go (bytes_eq q place) refl
+  where
+    go : (b : Bool) → bytes_eq q place ≡ b → is_out_at (slot_at new q) ≡ false
+    go true e = rw ((bytes_eq-Decides q place).0 e) z
+    go false e = ap is_out_at (s q (λ same. never (sym e ∙ (bytes_eq-Decides q place).1 same))) ∙ h q
+
+pub part_told : {P : Type 0} (r : Option (Bor P)) (slot : Slot P) → option_copied r ≡ slot.part → MatchOption r (HasNoPart (Some slot)) (λ part. HasPart part.now (Some slot))
+part_told None slot e = sym e
+part_told (Some p) slot e = sym e
+
+-- the home of all places, by what they tell
+pub home_told : {P : Type 0} (bytes : P → Option (List ℕ)) (faults : P → ℕ) (slot : Option (Slot P)) → (told_of bytes faults slot).is_out ≡ is_out_at slot
+home_told bytes faults None = refl
+home_told bytes faults (Some slot) = refl
+
+-- a place without its part tells nothing
+pub none_told : {P : Type 0} (bytes : P → Option (List ℕ)) (faults : P → ℕ) (slot : Option (Slot P)) → HasNoPart slot → IsTold None 0 (told_of bytes faults slot)
+none_told bytes faults None h = record { bytes = refl; faults = refl }
+none_told bytes faults (Some slot) h = rw h (record { bytes = refl; faults = refl })

@@ -1,0 +1,13 @@
+pub mod Counts
+pub mod Puts
+pub mod Moments
+pub mod Places
+pub mod Memory
+pub mod Slots
+pub mod Clocks
+pub mod Cut
+pub mod Lines
+pub mod Told
+pub mod Hand
+pub mod PieceAnswers
+pub mod Buffered

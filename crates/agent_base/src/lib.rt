@@ -1,0 +1,23 @@
+//! The outside of the agent: what is read, written and waited for, and the lines that are read.
+#![tactic(auto)]
+
+mod buffer;
+mod mem_world;
+mod memory;
+mod outside;
+mod piece;
+mod pieces;
+mod slots;
+mod standard;
+mod world;
+
+pub use mem_world::MemWorld;
+pub use memory::{MemClock, MemSink, MemSource};
+pub use outside::{Clock, Failed, PutFault, Sink, Source};
+pub use piece::{CutKind, Piece, PieceFault};
+pub use pieces::{Pieces, cuts_lines};
+pub use standard::{StdSink, StdSource};
+pub use world::{OpenFault, World};
+
+#[cfg(test)]
+mod tests;

@@ -1,0 +1,69 @@
+//! A source's bytes, cut into pieces.
+ghost use Rattle.std.specs.Prelude.{◌≡◌, ◌+◌, ◌≤◌, ℕ, List, length, IfOk, IsErrOf};
+ghost use Rattle.agent_base.specs.Cut.{HasNewline};
+ghost use Rattle.agent_base.specs.Hand.{empty_hand, to_come};
+ghost use Rattle.agent_base.specs.Lines.{CutsLines};
+ghost use Rattle.agent_base.specs.PieceAnswers.{Answers, IsLimited, HasReason};
+ghost use Rattle.agent_base.specs.Told.{Told};
+
+use crate::buffer::Buffer;
+use crate::{CutKind, Piece, PieceFault, Source};
+use fixed_num::OutOfMemory;
+use std::alloc::Global;
+use std::marker::Model;
+
+/// The bytes that were taken of a source and not given yet, whether they belong to a long line that is passed over, and
+/// how many bytes were taken in all.
+#[derive(Debug, Drop)]
+pub struct Pieces {
+    buffer: Buffer,
+}
+
+impl Model for Pieces {
+    ghost use Rattle.agent_base.specs.Hand.{Hand};
+
+    ghost Value = { Hand };
+
+    ghost use Rattle.agent_base.specs.Buffered.{hand_of};
+
+    ghost view = { λ p. hand_of p.buffer };
+}
+
+impl Pieces {
+    /// Nothing is in hand.
+    pub fn new(alloc: Global, _kind: CutKind) -> Result<Pieces, OutOfMemory>
+        ensures { IfOk result (λ p. p ≡ empty_hand) }
+    {
+        match Buffer::new(alloc) {
+            Ok(buffer) => Ok(Pieces { buffer }),
+            Err(OutOfMemory) => Err(OutOfMemory),
+        }
+    }
+
+    /// The next piece of the bytes in hand and those that the source has left; None at the end of the source.
+    ///
+    /// A piece that is too long is passed over to its end. After a failed read the bytes that were taken are kept. Once
+    /// 2^40 bytes were taken the answer is `ByteLimit`, whatever is in hand.
+    pub fn next<S: Source>(&mut self, src: &mut S) -> Result<Option<Piece>, PieceFault>
+        ensures pieces { Told (S.left src.old) (S.left src.new) (λ xs ys. Answers result (to_come self.old xs) (to_come self.new ys)) }
+        ensures reason { HasReason result self.old self.new (S.left src.new) (S.faults src.old) (S.faults src.new) }
+        ensures limited { IsLimited result self.new.taken }
+
+        // The bytes that are no longer left were taken.
+        ensures counted { Told (S.left src.old) (S.left src.new) (λ xs ys. self.old.taken + length xs ≡ self.new.taken + length ys) }
+        ensures grows { self.old.taken ≤ self.new.taken }
+        ensures faults { S.faults src.old ≤ S.faults src.new }
+
+        // A line that is in hand is given without a read, and all room is taken before the first read.
+        ensures whole { HasNewline self.old.bytes → (left : List ℕ) → Answers result (to_come self.old left) (to_come self.new left) }
+        ensures in_hand { HasNewline self.old.bytes → src.new ≡ src.old }
+        ensures memory { IsErrOf result PieceFault.OutOfMemory → src.new ≡ src.old }
+    {
+        self.buffer.next(src)
+    }
+}
+
+/// The pieces of lines, each with a newline behind it, and of a rest without one are those of the lines and of the rest.
+pub fn cuts_lines()
+    ensures { CutsLines }
+{}

@@ -1,0 +1,95 @@
+//! Sources and sinks over std's readers and writers.
+ghost use Rattle.std.specs.Prelude.{◌≡◌, None};
+
+use crate::{Failed, PutFault, Sink, Source};
+use std::io::{ErrorKind, Read, Write};
+
+/// A source over a reader; nothing is told of its bytes.
+#[derive(Drop)]
+pub struct StdSource<R> {
+    reader: R,
+    faults: u64,
+}
+
+impl<R: Read + Drop> StdSource<R> {
+    /// No read has failed yet.
+    pub fn new(reader: R) -> StdSource<R>
+        ensures left { ⟦<StdSource<R> as Source>⟧.left result ≡ None }
+        ensures faults { ⟦<StdSource<R> as Source>⟧.faults result ≡ 0 }
+    {
+        StdSource { reader, faults: 0 }
+    }
+
+    /// So many reads have failed before.
+    pub fn with_faults(reader: R, faults: u64) -> StdSource<R>
+        ensures left { ⟦<StdSource<R> as Source>⟧.left result ≡ None }
+        ensures faults { ⟦<StdSource<R> as Source>⟧.faults result ≡ faults }
+    {
+        StdSource { reader, faults }
+    }
+}
+
+impl<R: Read + Drop> Source for StdSource<R> {
+    ghost left = { λ _. None };
+
+    ghost faults = { λ s. s.faults };
+
+    fn read(&mut self, buf: &mut [u8]) -> Result<usize, Failed> {
+        for _ in 0..u64::MAX {
+            match self.reader.read(buf) {
+                Ok(count) => return Ok(count),
+                Err(e) => {
+                    if e.kind() != ErrorKind::Interrupted {
+                        break;
+                    }
+                }
+            }
+        }
+        self.faults = self.faults.saturating_add(1);
+        Err(Failed)
+    }
+}
+
+/// A sink over a writer, which is flushed after each put; nothing is told of its bytes.
+#[derive(Drop)]
+pub struct StdSink<W> {
+    writer: W,
+    faults: u64,
+}
+
+impl<W: Write + Drop> StdSink<W> {
+    /// No put has failed yet.
+    pub fn new(writer: W) -> StdSink<W>
+        ensures held { ⟦<StdSink<W> as Sink>⟧.held result ≡ None }
+        ensures faults { ⟦<StdSink<W> as Sink>⟧.faults result ≡ 0 }
+    {
+        StdSink { writer, faults: 0 }
+    }
+
+    /// So many puts have failed before.
+    pub fn with_faults(writer: W, faults: u64) -> StdSink<W>
+        ensures held { ⟦<StdSink<W> as Sink>⟧.held result ≡ None }
+        ensures faults { ⟦<StdSink<W> as Sink>⟧.faults result ≡ faults }
+    {
+        StdSink { writer, faults }
+    }
+}
+
+// Writes all bytes and flushes them; whether both went well.
+fn write_whole<W: Write + Drop>(writer: &mut W, bytes: &[u8]) -> bool {
+    writer.write_all(bytes).is_ok() && writer.flush().is_ok()
+}
+
+impl<W: Write + Drop> Sink for StdSink<W> {
+    ghost held = { λ _. None };
+
+    ghost faults = { λ s. s.faults };
+
+    fn put(&mut self, bytes: &[u8]) -> Result<(), PutFault> {
+        if write_whole(&mut self.writer, bytes) {
+            return Ok(());
+        }
+        self.faults = self.faults.saturating_add(1);
+        Err(PutFault::Failed)
+    }
+}

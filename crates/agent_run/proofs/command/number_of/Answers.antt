@@ -1,0 +1,19 @@
+use Rattle.std.proofs.Common.{◌≡◌, ◌<◌, ◌≤◌, ℕ, List, Bool, Ok, Err, sym, ap, ◌∙◌, arith}
+use Rattle.agent_run.proofs.NumberWords.{word_is, word_reads, word_fails}
+use Rattle.fixed_num.specs.Whole.{uint_read_as}
+use Rattle.agent_run.proofs.command.number_of.Goals as goal
+
+pub returns-then-n-le-MOST : goal.returns-then-n-le-MOST
+returns-then-n-le-MOST c =
+    let read : uint_read_as c.args.word.now ≡ Ok c.in-Ok.n = cc in
+    (word_is c.args.word.now c.in-Ok.n (rw (← c.as_bytes-bytes.ensures.value) (cc)) read, c.if-n-le-MOST.true)
+
+pub returns-else-n-le-MOST : goal.returns-else-n-le-MOST
+returns-else-n-le-MOST c = λ m h.
+    let read : uint_read_as c.args.word.now ≡ Ok c.in-Ok.n = cc in
+    let same = word_reads c.args.word.now c.in-Ok.n m read h in omega (arith, same)
+
+pub returns-in-Err : goal.returns-in-Err
+returns-in-Err c = λ m h.
+    let failed : uint_read_as c.args.word.now ≡ Err c.in-Err.field-0 = cc in
+    let big = word_fails c.args.word.now c.in-Err.field-0 m failed h in omega (arith, big)

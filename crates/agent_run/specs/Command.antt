@@ -1,0 +1,32 @@
+-- The words that are a command.
+use Rattle.std.specs.Prelude.{◌≡◌, ◌≢◌, ◌≤◌, ℕ, List, [], ◌∷◌, map, codes, String}
+use Rattle.std.specs.Str.Parse.{IsNumeral, digits_value}
+use Rattle.std.specs.declared.alloc.Global.{Global}
+use Rattle.std.specs.String.{string_bytes}
+
+-- the output place of the journal
+abbrev pub journal_place : List ℕ
+journal_place = codes "agent.journal"
+
+-- a word of one or more decimal digits, and the number that it spells
+pub record IsNumber (word : List ℕ) (n : ℕ) : Type 0 where
+  pub digits : IsNumeral 10 word
+  pub value : digits_value 10 word ≡ n
+
+-- the five words of `pipe IN OUT BATCH LIMIT`, with 1 <= BATCH <= LIMIT <= 10,000; OUT isn't the journal's place
+pub record IsPipeOf (command output batch_word limit_word : List ℕ) (batch limit : ℕ) : Type 0 where
+  pub command_is : command ≡ codes "pipe"
+  pub apart : output ≢ journal_place
+  pub batch_is : IsNumber batch_word batch
+  pub limit_is : IsNumber limit_word limit
+  pub some : 1 ≤ batch
+  pub ordered : batch ≤ limit
+  pub most : limit ≤ 10000
+
+-- the words are this command
+pub record IsPipe (words : List (String Global)) (input output : List ℕ) (batch limit : ℕ) : Type 0 where
+  pub command : List ℕ
+  pub batch_word : List ℕ
+  pub limit_word : List ℕ
+  pub words_are : map string_bytes words ≡ command ∷ input ∷ output ∷ batch_word ∷ limit_word ∷ []
+  pub pipe : IsPipeOf command output batch_word limit_word batch limit

@@ -1,0 +1,4 @@
+pub mod Status
+pub mod Command
+pub mod Places
+pub mod Opening

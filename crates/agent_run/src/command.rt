@@ -1,0 +1,107 @@
+//! The words of a command.
+ghost use Rattle.std.specs.Prelude.{◌≡◌, ◌≢◌, ◌==◌, ◌<◌, ◌≤◌, ℕ, List, [], ◌∷◌, length, map, string_bytes, MatchOption, slice_index};
+ghost use Rattle.agent_run.specs.Command.{IsNumber, IsPipe, IsPipeOf};
+
+use fixed_num::read_uint;
+
+/// The output place of the journal.
+pub const JOURNAL: &str = "agent.journal";
+
+/// The greatest batch size and buffer limit.
+const MOST: u64 = 10_000;
+
+/// One line protocol input and one line protocol output.
+#[derive(Clone, Copy, Debug)]
+pub struct Pipe<'a> {
+    /// The place that is read.
+    pub input: &'a str,
+    /// The place that is written.
+    pub output: &'a str,
+    /// How many metrics a batch has at most.
+    pub batch: u32,
+    /// How many metrics wait at most.
+    pub limit: u32,
+}
+
+fn begins_with_plus(bytes: &[u8]) -> bool
+    ensures { result ≡ (slice_index bytes.now 0 == 43) }
+{
+    match bytes {
+        [b'+', ..] => true,
+        _ => false,
+    }
+}
+
+/// The number that a word of decimal digits spells, where it is at most 10,000.
+fn number_of(word: &str) -> Option<u32>
+    ensures { MatchOption result ((n : ℕ) → IsNumber word.now n → MOST < n) (λ n. IsNumber word.now n × (n ≤ MOST)) }
+{
+    let bytes = word.as_bytes();
+    if begins_with_plus(bytes) {
+        return None;
+    }
+    match read_uint(bytes) {
+        Ok(n) => { if n <= MOST { Some(n as u32) } else { None } }
+        Err(_) => None,
+    }
+}
+
+/// Five words.
+#[derive(Clone, Copy)]
+struct Words<'a> {
+    command: &'a str,
+    input: &'a str,
+    output: &'a str,
+    batch: &'a str,
+    limit: &'a str,
+}
+
+/// The words, where they are five.
+fn five_of(words: &[String]) -> Option<Words<'_>>
+    ensures { MatchOption result (length words.now ≢ 5)
+        (λ w. map string_bytes words.now ≡ w.command.now ∷ w.input.now ∷ w.output.now ∷ w.batch.now ∷ w.limit.now ∷ []) }
+{
+    let [command, input, output, batch, limit] = words else {
+        return None;
+    };
+    Some(Words {
+        command: command.as_str(),
+        input: input.as_str(),
+        output: output.as_str(),
+        batch: batch.as_str(),
+        limit: limit.as_str(),
+    })
+}
+
+/// The pipe that five words are.
+fn pipe_of<'a>(words: &Words<'a>) -> Option<Pipe<'a>>
+    ensures { MatchOption result
+        ((batch limit : ℕ) → IsPipeOf words.now.command.now words.now.output.now words.now.batch.now words.now.limit.now batch limit → ⊥)
+        (λ pipe. (pipe.input.now ≡ words.now.input.now) × (pipe.output.now ≡ words.now.output.now)
+        × IsPipeOf words.now.command.now words.now.output.now words.now.batch.now words.now.limit.now pipe.batch pipe.limit) }
+{
+    if words.command != "pipe" || words.output == JOURNAL {
+        return None;
+    }
+    let batch = number_of(words.batch)?;
+    let limit = number_of(words.limit)?;
+    if batch == 0 || limit < batch {
+        return None;
+    }
+    Some(Pipe {
+        input: words.input,
+        output: words.output,
+        batch,
+        limit,
+    })
+}
+
+/// The pipe that the words are; None exactly where they are no command.
+pub fn read_command(words: &[String]) -> Option<Pipe<'_>>
+    ensures { MatchOption result
+        ((input output : List ℕ) (batch limit : ℕ) → IsPipe words.now input output batch limit → ⊥)
+        (λ pipe. IsPipe words.now pipe.input.now pipe.output.now pipe.batch pipe.limit) }
+{
+    let five = five_of(words)?;
+    pipe_of(&five)
+}

@@ -1,0 +1,45 @@
+//! How a run ended.
+ghost use Rattle.std.specs.Prelude.{◌≡◌};
+ghost use Rattle.agent_run.specs.Status.{code_of};
+
+/// How a run ended.
+#[derive(Clone, Copy, Debug, PartialEq, Eq)]
+pub enum Status {
+    /// All that was read was written or told as refused.
+    Done,
+    /// The words are no command.
+    Usage,
+    /// The configuration was refused.
+    Config,
+    /// A read failed.
+    ReadFault,
+    /// A place wasn't opened.
+    OpenFault,
+    /// Metrics were left at an output that failed.
+    Left,
+    /// The journal or the report wasn't written whole.
+    ReportFault,
+    /// A limit of the run was reached.
+    Limit,
+    /// No memory was left.
+    OutOfMemory,
+}
+
+impl Status {
+    /// The program's exit status.
+    pub fn code(self) -> u8
+        ensures { result ≡ code_of self }
+    {
+        match self {
+            Status::Done => 0,
+            Status::Usage => 2,
+            Status::Config => 3,
+            Status::ReadFault => 4,
+            Status::OpenFault => 5,
+            Status::Left => 6,
+            Status::ReportFault => 7,
+            Status::Limit => 8,
+            Status::OutOfMemory => 9,
+        }
+    }
+}

@@ -1,0 +1,177 @@
+//! The top call.
+ghost use Rattle.std.specs.Prelude.{◌≡◌, ◌≢◌, ◌⊎◌, ℕ, List, true, false, IfOk, MatchOption, string_bytes};
+ghost use Rattle.agent_base.specs.Places.{AreHome, SameAtAll};
+ghost use Rattle.agent_run.specs.Command.{IsPipe, journal_place};
+ghost use Rattle.agent_run.specs.Places.{ReportsLine, IsRefused, IsUnused, open_fault_line};
+ghost use Rattle.agent_run.specs.Opening.{IsRefusalAnswer, place_of};
+
+use crate::command::{JOURNAL, Pipe, read_command};
+use crate::opening::{Parts, Refusal, open_parts};
+use crate::rounds::{Ending, run};
+use crate::status::Status;
+use agent_base::{PutFault, World};
+use std::alloc::{AllocError, Global};
+
+/// The number of the run's clock.
+const RUN_CLOCK: u32 = 0;
+
+/// How long a wait of the run's clock pauses: 10 seconds, in nanoseconds.
+const RUN_PAUSE: i64 = 10_000_000_000;
+
+/// The number of the input's clock.
+const INPUT_CLOCK: u32 = 3;
+
+/// How long a wait of the input's clock pauses: 10 milliseconds, in nanoseconds.
+const INPUT_PAUSE: i64 = 10_000_000;
+
+/// Reports a line, and answers the status, unless memory was short.
+fn report_line<W: World>(world: &mut W, line: &[u8], status: Status) -> Status
+    ensures answer { ((result ≡ status) × ReportsLine (W.rest world.old) (W.rest world.new) line.now) ⊎ (result ≡ Status.OutOfMemory) }
+    ensures ins { SameAtAll (W.in_at world.old) (W.in_at world.new) }
+    ensures outs { SameAtAll (W.out_at world.old) (W.out_at world.new) }
+{
+    match world.report(line) {
+        Err(PutFault::OutOfMemory) => Status::OutOfMemory,
+        _ => status,
+    }
+}
+
+/// The line that says which place wasn't opened.
+fn open_fault_line(alloc: Global, place: &str) -> Result<String, AllocError>
+    ensures { IfOk result (λ line. string_bytes line ≡ open_fault_line place.now) }
+{
+    format!(in alloc; "fault: open {place}\n")
+}
+
+/// Reports the account, and says how the run ended.
+fn report_account<W: World>(ending: &Ending, world: &mut W) -> Status
+    ensures usage { result ≢ Status.Usage }
+    ensures config { result ≢ Status.Config }
+    ensures open { result ≢ Status.OpenFault }
+    ensures ins { SameAtAll (W.in_at world.old) (W.in_at world.new) }
+    ensures outs { SameAtAll (W.out_at world.old) (W.out_at world.new) }
+{
+    match world.report(&ending.account) {
+        Ok(()) => ending.status(false),
+        Err(PutFault::Failed) => ending.status(true),
+        Err(PutFault::OutOfMemory) => Status::OutOfMemory,
+    }
+}
+
+/// Runs a pipe over its opened parts, gives them back, and reports the account.
+fn run_parts<W: World>(
+    alloc: Global,
+    pipe: &Pipe<'_>,
+    parts: Parts<W::In, W::Out>,
+    world: &mut W,
+) -> Status
+    requires source { (W.in_at world.old pipe.now.input.now).is_out ≡ true }
+    requires sink { (W.out_at world.old pipe.now.output.now).is_out ≡ true }
+    requires journal { (W.out_at world.old journal_place).is_out ≡ true }
+    requires apart { pipe.now.output.now ≢ journal_place }
+    requires other_ins { (place : List ℕ) → place ≢ pipe.now.input.now → (W.in_at world.old place).is_out ≡ false }
+    requires other_outs { (place : List ℕ) → place ≢ pipe.now.output.now → place ≢ journal_place → (W.out_at world.old place).is_out ≡ false }
+    ensures usage { result ≢ Status.Usage }
+    ensures config { result ≢ Status.Config }
+    ensures open { result ≢ Status.OpenFault }
+    ensures ins { AreHome (W.in_at world.new) }
+    ensures outs { AreHome (W.out_at world.new) }
+{
+    let Parts {
+        mut source,
+        mut sink,
+        mut journal,
+    } = parts;
+    let mut clock = world.clock(RUN_CLOCK, RUN_PAUSE);
+    let mut input_clock = world.clock(INPUT_CLOCK, INPUT_PAUSE);
+    let ran = run(
+        alloc,
+        pipe,
+        &mut source,
+        &mut sink,
+        &mut journal,
+        &mut clock,
+        &mut input_clock,
+    );
+    world.give_in(pipe.input, source);
+    world.give_out(pipe.output, sink);
+    world.give_out(JOURNAL, journal);
+    match ran {
+        Ok(ending) => report_account(&ending, world),
+        Err(_) => Status::OutOfMemory,
+    }
+}
+
+/// The place that wasn't opened; None where memory was short.
+fn refused_place<'a>(pipe: &Pipe<'a>, refusal: Refusal) -> Option<&'a str>
+    ensures { MatchOption result (refusal ≡ Refusal.OutOfMemory)
+        (λ place. (refusal ≢ Refusal.OutOfMemory) × (place.now ≡ place_of refusal pipe.now.input.now pipe.now.output.now)) }
+{
+    match refusal {
+        Refusal::Input => Some(pipe.input),
+        Refusal::Output => Some(pipe.output),
+        Refusal::Journal => Some(JOURNAL),
+        Refusal::OutOfMemory => None,
+    }
+}
+
+/// Says which place of a pipe wasn't opened.
+fn refuse<W: World>(alloc: Global, pipe: &Pipe<'_>, refusal: Refusal, world: &mut W) -> Status
+    ensures answer { IsRefusalAnswer result refusal pipe.now.input.now pipe.now.output.now (W.rest world.old) (W.rest world.new) }
+    ensures ins { SameAtAll (W.in_at world.old) (W.in_at world.new) }
+    ensures outs { SameAtAll (W.out_at world.old) (W.out_at world.new) }
+{
+    let Some(place) = refused_place(pipe, refusal) else {
+        return Status::OutOfMemory;
+    };
+    match open_fault_line(alloc, place) {
+        Ok(line) => report_line(world, line.as_bytes(), Status::OpenFault),
+        Err(_) => Status::OutOfMemory,
+    }
+}
+
+/// Opens the places of a pipe and runs it.
+fn run_pipe<W: World>(alloc: Global, pipe: &Pipe<'_>, world: &mut W) -> Status
+    requires ins { AreHome (W.in_at world.old) }
+    requires outs { AreHome (W.out_at world.old) }
+    requires apart { pipe.now.output.now ≢ journal_place }
+    ensures usage { result ≢ Status.Usage }
+    ensures config { result ≢ Status.Config }
+    ensures open { result ≡ Status.OpenFault → IsRefused (W.in_at world.old) (W.in_at world.new) (W.out_at world.old) (W.out_at world.new) (W.rest world.old) (W.rest world.new) pipe.now.input.now pipe.now.output.now }
+    ensures ins_home { AreHome (W.in_at world.new) }
+    ensures outs_home { AreHome (W.out_at world.new) }
+{
+    match open_parts(world, pipe.input, pipe.output) {
+        Ok(parts) => run_parts(alloc, pipe, parts, world),
+        Err(refusal) => refuse(alloc, pipe, refusal, world),
+    }
+}
+
+/// Runs the command that the words are, over a world of which no part is out, and gives all parts back.
+///
+/// The only command is `pipe IN OUT BATCH LIMIT`: it reads line protocol at IN and writes it to OUT in
+/// batches of at most BATCH metrics, of which at most LIMIT wait; it writes the journal to
+/// `agent.journal`, and reports the account. It always returns.
+pub fn agent<W: World>(alloc: Global, words: &[String], world: &mut W) -> Status
+    requires ins { AreHome (W.in_at world.old) }
+    requires outs { AreHome (W.out_at world.old) }
+
+    // Usage comes exactly where the words are no command, but for want of memory; nothing else changes.
+    ensures usage { result ≡ Status.Usage → (input output : List ℕ) (batch limit : ℕ) → IsPipe words.now input output batch limit → ⊥ }
+    ensures no_command { ((input output : List ℕ) (batch limit : ℕ) → IsPipe words.now input output batch limit → ⊥) → (result ≡ Status.Usage) ⊎ (result ≡ Status.OutOfMemory) }
+    ensures usage_leaves { result ≡ Status.Usage → IsUnused (W.in_at world.old) (W.in_at world.new) (W.out_at world.old) (W.out_at world.new) (W.rest world.old) (W.rest world.new) }
+
+    ensures config { result ≢ Status.Config }
+
+    // OpenFault comes only where one of the three places wasn't opened; every place then has its bytes.
+    ensures open { result ≡ Status.OpenFault → (input output : List ℕ) × (batch limit : ℕ) × IsPipe words.now input output batch limit
+        × IsRefused (W.in_at world.old) (W.in_at world.new) (W.out_at world.old) (W.out_at world.new) (W.rest world.old) (W.rest world.new) input output }
+
+    ensures ins_home { AreHome (W.in_at world.new) }
+    ensures outs_home { AreHome (W.out_at world.new) }
+{
+    match read_command(words) {
+        Some(pipe) => run_pipe(alloc, &pipe, world),
+        None => report_line(world, b"usage\n", Status::Usage),
+    }
+}

@@ -1,0 +1,29 @@
+use Rattle.std.proofs.Common.{◌++◌, ◌∷◌, [], ◌≡◌, ◌<◌, length, take, drop, ◌-◌, ap, sym, ◌∙◌, arith, subst}
+use Rattle.std.specs.Prelude.{List, ℕ, codes}
+use Rattle.std.proofs.lemmas.Bool.{eqb-true, eqb-false, ne_eqb}
+use Rattle.line_proto.specs.LineText.{trimmed, escaped, on_one_line, Adds}
+use Rattle.line_proto.proofs.WriteLemmas.{empty_name, hashed_name, kept_name, adds_after}
+use Rattle.line_proto.proofs.write.append_name.Goals as goal
+
+pub returns-then-is_empty : goal.returns-then-is_empty
+returns-then-is_empty c =
+    let is = c.trim-kept.ensures ∙ ap trimmed (c.as_bytes.ensures.value ∙ c.as_str.ensures) in
+    let none : length c.trim-kept.result.now ≡ 0 = eqb-true _ _ (sym c.is_empty.ensures ∙ c.if-is_empty.true) in
+    c.in_ok-push.ensures.items ∙ ap (λ text. c.args.out.now.items ++ text) (sym (empty_name c.args.name.now c.trim-kept.result.now is none))
+
+pub returns-then-kept-eq35 : goal.returns-then-kept-eq35
+returns-then-kept-eq35 c =
+    let is = c.trim-kept.ensures ∙ ap trimmed (c.as_bytes.ensures.value ∙ c.as_str.ensures) in
+    let some : length c.trim-kept.result.now ≡ 0 → ⊥ = eqb-false _ _ (sym c.is_empty.ensures ∙ c.if-is_empty.false) in
+    let kept = c.trim-kept.result.now in
+    let old = c.args.out.now.items in
+    let rest = escaped (codes ", ") (on_one_line (take (length kept - 1) (drop 1 kept))) in
+    subst (λ (text : List ℕ). Adds c.append_escaped.result old c.append_escaped.new.out.items text) (hashed_name c.args.name.now kept is (omega arith) c.if-kept-eq35.true)
+      (adds_after c.append_escaped.result old c.push-then-kept-eq35.new.self.items c.append_escaped.new.out.items (95 ∷ []) rest c.in_ok-push-2.ensures.items c.append_escaped.ensures)
+
+pub returns : goal.returns
+returns c =
+    let is = c.trim-kept.ensures ∙ ap trimmed (c.as_bytes.ensures.value ∙ c.as_str.ensures) in
+    let some : length c.trim-kept.result.now ≡ 0 → ⊥ = eqb-false _ _ (sym c.is_empty.ensures ∙ c.if-is_empty.false) in
+    subst (λ (text : List ℕ). Adds c.append_escaped-2.result c.args.out.now.items c.append_escaped-2.new.out.items text)
+      (kept_name c.args.name.now c.trim-kept.result.now 0 is (omega arith) (ne_eqb _ _ c.if-kept-eq35.false)) c.append_escaped-2.ensures

@@ -1,0 +1,82 @@
+-- The text of a metric in line protocol.
+use Rattle.std.specs.Prelude.{◌≡◌, ◌==◌, ◌||◌, ◌&&◌, not, ◌-◌, ℕ, Bool, List, [], ◌∷◌, ◌++◌, length, take, map, flat_map, codes, Result, Ok, Err, if◌then◌else◌}
+use Rattle.std.specs.List.{list_any, suffix_len, join_by}
+use Rattle.std.specs.Fmt.{decimal, signed_decimal}
+use Rattle.fixed_num.specs.Canonical.{canonical_text}
+use Rattle.fixed_num.specs.declared.memory.OutOfMemory.{OutOfMemory}
+use Rattle.metric.specs.declared.value.Value.{Value}
+use Rattle.metric.specs.declared.value.Value.TheVariants.{Int, Uint, Fixed, «Bool» as Truth, Text}
+use Rattle.metric.specs.declared.metric.Content.{Content}
+
+-- a byte; a space in place of a newline or a carriage return
+abbrev pub spaced : ℕ → ℕ
+spaced b = if b == 10 || b == 13 then 32 else b
+
+-- a text in one line
+abbrev pub on_one_line : List ℕ → List ℕ
+on_one_line text = map spaced text
+
+-- a text without the backslashes at its end
+abbrev pub trimmed : List ℕ → List ℕ
+trimmed text = take (length text - suffix_len (λ b. b == 92) text) text
+
+-- a text; `_` in place of none
+abbrev pub or_underscore : List ℕ → List ℕ
+or_underscore [] = 95 ∷ []
+or_underscore (b ∷ bs) = b ∷ bs
+
+-- a text that begins no comment: `_` in place of a `#` at its front
+abbrev pub without_hash : List ℕ → List ℕ
+without_hash [] = []
+without_hash (b ∷ bs) = (if b == 35 then 95 else b) ∷ bs
+
+-- a byte, behind a backslash where it is one of the marks
+abbrev pub escaped_byte : List ℕ → ℕ → List ℕ
+escaped_byte marks b = if list_any (λ mark. mark == b) marks then 92 ∷ b ∷ [] else b ∷ []
+
+-- a byte that is written as it is
+abbrev pub is_bare : List ℕ → ℕ → Bool
+is_bare marks b = not (b == 10) && not (b == 13) && not (list_any (λ mark. mark == b) marks)
+
+-- a text with its marks escaped
+unfoldable pub escaped : List ℕ → List ℕ → List ℕ
+escaped marks text = flat_map (escaped_byte marks) text
+
+-- a measurement
+unfoldable pub name_text : List ℕ → List ℕ
+name_text name = escaped (codes ", ") (without_hash (or_underscore (trimmed (on_one_line name))))
+
+-- a key or the value of a tag
+unfoldable pub key_text : List ℕ → List ℕ
+key_text key = escaped (codes ",= ") (or_underscore (trimmed (on_one_line key)))
+
+-- the value of a field
+unfoldable pub value_text : Value → List ℕ
+value_text (Int n) = signed_decimal n ++ codes "i"
+value_text (Uint n) = decimal n ++ codes "u"
+value_text (Fixed n) = canonical_text n
+value_text (Truth b) = if b then codes "true" else codes "false"
+value_text (Text text) = codes "\"" ++ escaped (codes "\"\\") (on_one_line text) ++ codes "\""
+
+unfoldable pub tag_text : List ℕ × List ℕ → List ℕ
+tag_text tag = codes "," ++ key_text tag.0 ++ codes "=" ++ key_text tag.1
+
+unfoldable pub field_text : List ℕ × Value → List ℕ
+field_text field = key_text field.0 ++ codes "=" ++ value_text field.1
+
+-- a metric without its time: the measurement, the tags in the order of their keys and the fields
+unfoldable pub head_text : Content → List ℕ
+head_text m = name_text m.name ++ flat_map tag_text m.tags ++ codes " " ++ join_by field_text (codes ",") m.fields
+
+-- a metric's line
+unfoldable pub line_text : Content → List ℕ
+line_text m = head_text m ++ codes " " ++ signed_decimal m.time ++ codes "\n"
+
+-- a list that begins with another
+abbrev pub Extends : List ℕ → List ℕ → Type 0
+Extends old new = take (length old) new ≡ old
+
+-- a text was appended, or, where memory was wanting, perhaps a part of it
+abbrev pub Adds : Result (Unit {0}) OutOfMemory → List ℕ → List ℕ → List ℕ → Type 0
+Adds (Ok done) old new text = new ≡ old ++ text
+Adds (Err fault) old new text = Extends old new

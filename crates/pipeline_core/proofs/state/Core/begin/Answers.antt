@@ -1,0 +1,21 @@
+use Rattle.std.proofs.Common.{◌≡◌, ◌<◌, ◌∙◌, ap, sym, length, slice_set, arith}
+use Rattle.std.proofs.lemmas.List.{length-set}
+use Rattle.metric.specs.declared.metric.Content.{Content}
+use Rattle.out_lane.specs.Lane.{LaneState, after_begin}
+use Rattle.pipeline_core.specs.CoreState.{CoreState, lane_at}
+use Rattle.pipeline_core.specs.CoreView.{core_state}
+use Rattle.pipeline_core.proofs.Keeping.{kept_begin, flights-le}
+use Rattle.pipeline_core.proofs.Offering.{placed}
+use Rattle.pipeline_core.proofs.state.Core.begin.Goals as goal
+
+pub invariant_of-self-2 : goal.invariant_of-self-2
+invariant_of-self-2 c =
+    let known : c.args.output < length (core_state c.self.inside).setup.outputs = omega (arith, ap (λ (s : CoreState). length s.setup.outputs) c.self.view_is, c.requires) in
+    let within : c.args.output < length c.self.inside.outputs.items = omega (arith, c.self.invariant.core.lanes) in
+    let first : lane_at c.self.inside.outputs.items c.args.output ≡ c.index-place.result.now = placed c.self.inside.outputs.items c.args.output c.index-place.result.now within c.index-place.ensures in
+    let place : lane_at c.self.inside.outputs.items c.args.output ≡ c.index_mut-place.result.now = placed c.self.inside.outputs.items c.args.output c.index_mut-place.result.now within c.index_mut-place.ensures.value in
+    record {
+      core = kept_begin (core_state c.self.inside) c.args.output c.begin.new.self _ known (ap (λ (x : LaneState Content). length x.flight) first ∙ c.in_ok-ready.ensures.ok.0)
+          (c.in-Ok-begin.ensures.ok ∙ ap after_begin (sym place)) c.self.invariant.core;
+      spare = omega (arith, flights-le (slice_set c.self.inside.outputs.items c.args.output c.begin.new.self), length-set c.self.inside.outputs.items c.args.output c.begin.new.self, c.in-Ok.ensures.room);
+    }

@@ -1,0 +1,19 @@
+use Rattle.std.proofs.Common.{◌≡◌, ◌<◌, ◌∙◌, ap, sym, List, length, Some, Option, arith}
+use Rattle.metric.specs.declared.metric.Content.{Content}
+use Rattle.pipeline_core.specs.CoreState.{CoreState}
+use Rattle.pipeline_core.specs.CoreView.{core_state}
+use Rattle.pipeline_core.specs.Steps.{lanes_routed, numbers_routed}
+use Rattle.pipeline_core.proofs.Keeping.{kept_route, flights-le, length-lanes_routed}
+use Rattle.pipeline_core.proofs.state.Core.route.Goals as goal
+
+pub invariant_of-self-2 : goal.invariant_of-self-2
+invariant_of-self-2 c =
+    let views : c.in_ok-views.views.items ≡ c.args.r.outs = c.in_ok-views.ensures ∙ c.as_slice.ensures in
+    let lanes : c.settle.new.outputs.items ≡ lanes_routed c.args.r.whole c.args.r.outs c.self.inside.outputs.items = c.settle.ensures.lanes ∙ ap (λ (xs : List (Option Content)). lanes_routed c.args.r.whole xs c.self.inside.outputs.items) views in
+    record {
+      core = kept_route (core_state c.self.inside) c.args.r.whole c.args.r.outs c.args.r.item c.settle.new.outputs.items c.settle.new.account _ (ap (λ (s : CoreState). s.held) c.self.view_is ∙ c.requires.held)
+          lanes
+          (c.settle.ensures.account ∙ ap (λ (xs : List (Option Content)). numbers_routed c.args.r.whole xs c.self.inside.outputs.items c.self.inside.account) views)
+          c.self.invariant.core;
+      spare = omega (arith, flights-le c.settle.new.outputs.items, ap length lanes, length-lanes_routed c.args.r.whole c.args.r.outs c.self.inside.outputs.items, c.in_ok-make_room.ensures.room);
+    }

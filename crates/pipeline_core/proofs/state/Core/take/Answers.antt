@@ -1,0 +1,14 @@
+use Rattle.std.proofs.Common.{◌≡◌, ◌<◌, length, None, arith}
+use Rattle.std.proofs.lemmas.Grind.{common_steps}
+use Rattle.pipeline_core.specs.CoreView.{core_state}
+use Rattle.pipeline_core.proofs.Keeping.{kept_take, flights-le}
+use Rattle.pipeline_core.proofs.state.Core.take.Goals as goal
+
+pub invariant_of-self-2 : goal.invariant_of-self-2
+invariant_of-self-2 c =
+    let empty : c.self.inside.held ≡ None = grind (arith, common_steps) in
+    let some : 0 < length c.self.inside.raw.items = grind (arith, common_steps) in
+    record {
+      core = rw c.pop_front.ensures.rest (kept_take (core_state c.self.inside) _ c.self.invariant.core empty some);
+      spare = omega (arith, flights-le c.self.inside.outputs.items, c.in-Ok.ensures.room);
+    }

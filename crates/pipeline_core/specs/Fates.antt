@@ -1,0 +1,60 @@
+-- What became of each routed metric at an output.
+use Rattle.std.specs.Prelude.{ℕ, ◌+◌, Bool, true, false, List, [], ◌∷◌, ◌++◌, count_by}
+use Rattle.std.specs.declared.option.Option.{Option}
+use Rattle.std.specs.declared.option.Option.TheVariants.{Some, None}
+use Rattle.metric.specs.declared.metric.Content.{Content}
+use Rattle.account.specs.declared.entry.Entry.{Entry}
+use Rattle.account.specs.declared.entry.Entry.TheVariants.{Gather, Ended, Take, Route, Tick, Stop, Begin, Done}
+use Rattle.account.specs.declared.entry.Verdict.{Verdict}
+use Rattle.account.specs.declared.entry.Verdict.TheVariants as verdicts
+use Rattle.out_lane.specs.LaneEvents.{LaneEvent, LaneFate, fate_at}
+use Rattle.out_lane.specs.LaneEvents as lane
+use Rattle.pipeline_core.specs.Offers.{view_at, lane_events, offered_by}
+use Rattle.std.specs.Prelude.{length}
+
+-- exactly one of these is the fate of a routed metric at an output
+pub data Fate : Type 0 where
+  Filtered : Fate
+  Late : Fate
+  Consumed : Fate
+  Written : Fate
+  Buffered : Fate
+  Dropped : Fate
+
+-- the fate of a view that came to the output
+abbrev pub fate_of : LaneFate → Fate
+fate_of lane.Written = Written
+fate_of lane.Buffered = Buffered
+fate_of lane.Dropped = Dropped
+
+-- a metric that passes is filtered where it has no view at the output, and else has the fate of its position
+abbrev pub fate_of_view : ℕ → List LaneEvent → ℕ → Option Content → Fate
+fate_of_view limit events position None = Filtered
+fate_of_view limit events position (Some view) = fate_of (fate_at limit events position)
+
+-- the fates of what is routed with a verdict: none where it was removed
+abbrev pub fates_by_verdict : ℕ → List LaneEvent → ℕ → Verdict → Option Content → List Fate
+fates_by_verdict limit events position verdicts.Passes view = fate_of_view limit events position view ∷ []
+fates_by_verdict limit events position verdicts.Consumed view = Consumed ∷ []
+fates_by_verdict limit events position verdicts.Late view = Late ∷ []
+fates_by_verdict limit events position verdicts.Removed view = []
+
+abbrev pub fates_by : ℕ → ℕ → List LaneEvent → ℕ → Entry → List Fate
+fates_by limit output events position (Gather input moment pieces refused passed filtered metrics group reports) = []
+fates_by limit output events position (Ended input) = []
+fates_by limit output events position (Take item) = []
+fates_by limit output events position (Route item whole verdict aggs outs reports) = fates_by_verdict limit events position verdict (view_at output outs)
+fates_by limit output events position (Tick moment made) = []
+fates_by limit output events position (Stop moment made) = []
+fates_by limit output events position (Begin number from to) = []
+fates_by limit output events position (Done number ok reports) = []
+
+-- the fates of the metrics that these entries route, the first position being the number of offers before them
+unfoldable pub fates_from : ℕ → ℕ → List LaneEvent → ℕ → List Entry → List Fate
+fates_from limit output events position [] = []
+fates_from limit output events position (e ∷ es) =
+    fates_by limit output events position e ++ fates_from limit output events (position + length (offered_by output e)) es
+
+-- the fates of all routed metrics of a journal at an output with this buffer limit, in the order of their Routes
+abbrev pub fates : ℕ → ℕ → List Entry → List Fate
+fates limit output es = fates_from limit output (lane_events output es) 0 es

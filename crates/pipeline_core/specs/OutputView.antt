@@ -1,0 +1,18 @@
+-- How an output is seen.
+use Rattle.std.specs.Prelude.{◌≡◌, ◌<◌, ◌≤◌, ℕ, ◌==◌, List, [], length, vec_capacity, if◌then◌else◌}
+use Rattle.metric.specs.declared.metric.Content.{Content}
+use Rattle.out_lane.specs.Lane.{LaneState}
+use Rattle.pipeline_core.specs.declared.output.Output.TheInside.{Inside}
+
+-- The first position of a batch counts while the batch is in flight.
+abbrev pub output_state : Inside → LaneState Content
+output_state o = record o.lane { first = if length o.lane.flight == 0 then 0 else o.lane.first }
+
+-- no more wait than may, and what comes back of a batch in flight has room
+pub record IsOutputKept (o : Inside) : Type 0 where
+  pub size : o.lane.batch ≡ o.batch
+  pub some : 1 ≤ o.lane.batch
+  pub waits : length o.lane.waiting ≤ o.lane.limit
+  pub most : 1 ≤ o.lane.limit
+  pub none : o.back.items ≡ []
+  pub room : 0 < length o.lane.flight → o.lane.batch ≤ vec_capacity o.back

@@ -1,0 +1,173 @@
+-- What each call makes of what a core keeps.
+use Rattle.std.specs.Prelude.{◌≡◌, ◌<◌, ◌≤◌, ◌⊎◌, ℕ, ℤ, ◌+◌, ◌^◌, ◌==◌, Bool, true, false, List, [], ◌∷◌, ◌++◌, map, length, take, drop, min, slice_set, slice_get, slice_index_or, if◌then◌else◌, Result, Ok, Err}
+use Rattle.std.specs.Int.{int_max}
+use Rattle.std.specs.List.{enumerate_from}
+use Rattle.std.specs.declared.option.Option.{Option}
+use Rattle.std.specs.declared.option.Option.TheVariants.{Some, None}
+use Rattle.metric.specs.declared.metric.Content.{Content}
+use Rattle.account.specs.Numbers.{Numbers, with_input, input_numbers, gathered_more, written_more, dropped_more}
+use Rattle.account.specs.declared.numbers.OutputNumbers.{OutputNumbers}
+use Rattle.account.specs.Numbers.{with_output, output_numbers}
+use Rattle.account.specs.declared.entry.Entry.{Entry}
+use Rattle.account.specs.declared.entry.Entry.TheVariants as entries
+use Rattle.account.specs.declared.entry.Verdict.{Verdict}
+use Rattle.account.specs.declared.entry.Verdict.TheVariants as verdicts
+use Rattle.out_lane.specs.Lane.{LaneState}
+use Rattle.out_lane.specs.Lane as lane
+use Rattle.pipeline_core.specs.Offers.{view_at}
+use Rattle.pipeline_core.specs.Legal.{verdict_of}
+use Rattle.pipeline_core.specs.CoreState.{CoreState, lane_at}
+use Rattle.pipeline_core.specs.declared.gathering.Gathered.{Gathered}
+use Rattle.pipeline_core.specs.declared.gathering.GatherRefused.{GatherRefused}
+use Rattle.pipeline_core.specs.declared.gathering.GatherRefused.TheVariants.{OutOfMemory, RunFull, HeldUndelivered, HeldRaw}
+use Rattle.pipeline_core.specs.declared.routing.Routed.{Routed}
+use Rattle.pipeline_core.specs.declared.batches.Batch.{Batch}
+
+-- the entry of what was gathered
+abbrev pub gather_entry : Gathered → Entry
+gather_entry g = entries.Gather g.input g.moment g.pieces g.refused g.passed g.filtered g.metrics None []
+
+-- the metrics become raw items
+abbrev pub after_gather : CoreState → Gathered → CoreState
+after_gather state g = record state {
+  raw = state.raw ++ g.metrics;
+  numbers = with_input state.numbers g.input (gathered_more (input_numbers state.numbers g.input) g.pieces g.refused g.passed g.filtered (length g.metrics));
+  stored = state.stored ++ gather_entry g ∷ [];
+  gathered = state.gathered + length g.metrics;
+}
+
+-- all gathered metrics with these are fewer than 2^32
+abbrev pub HasNumbers : CoreState → Gathered → Type 0
+HasNumbers state g = state.gathered + length g.metrics < 2 ^ 32
+
+-- no item is raw, or the raw ones with these are at most 10,000
+abbrev pub HasPlace : CoreState → Gathered → Type 0
+HasPlace state g = (length state.raw ≡ 0) ⊎ (length state.raw + length g.metrics ≤ 10000)
+
+-- which answer comes when, and that a refusal hands back what was handed in
+abbrev pub IsGatherAnswer : CoreState → Gathered → Result (Unit {0}) GatherRefused → Type 0
+IsGatherAnswer state g (Ok done) = HasNumbers state g × HasPlace state g
+IsGatherAnswer state g (Err OutOfMemory) = HasNumbers state g × HasPlace state g
+IsGatherAnswer state g (Err (RunFull back)) = (back ≡ g) × ¬ HasNumbers state g
+IsGatherAnswer state g (Err (HeldUndelivered back)) = ⊥
+IsGatherAnswer state g (Err (HeldRaw back)) = (back ≡ g) × HasNumbers state g × ¬ HasPlace state g
+
+-- the input has ended
+abbrev pub after_ended : CoreState → ℕ → CoreState
+after_ended state input = record state {
+  numbers = with_input state.numbers input (record (input_numbers state.numbers input) { has_ended = true });
+  stored = state.stored ++ entries.Ended input ∷ [];
+  ended = slice_set state.ended input true;
+}
+
+-- the oldest raw item is in hand
+abbrev pub after_take : CoreState → CoreState
+after_take state = record state {
+  raw = drop 1 state.raw;
+  taken = state.taken + 1;
+  held = Some state.taken;
+  stored = state.stored ++ entries.Take state.taken ∷ [];
+}
+
+-- the entry of what was routed
+abbrev pub route_entry : Routed → Entry
+route_entry r = entries.Route r.item r.whole (verdict_of r.whole) r.aggs r.outs []
+
+-- an output's lane, once its view was offered
+abbrev pub lane_with : Option Content → LaneState Content → LaneState Content
+lane_with None x = x
+lane_with (Some view) x = lane.after_push x view
+
+-- an output's numbers, once a view was buffered: where as many wait as may, the oldest is dropped
+abbrev pub buffered_more : LaneState Content → OutputNumbers → OutputNumbers
+buffered_more at x =
+    if length at.waiting == at.limit
+    then dropped_more (record x { buffered = x.buffered + 1 }) 1
+    else record x { buffered = x.buffered + 1 }
+
+-- an output's numbers, once its view was offered; without one the metric was filtered
+abbrev pub numbers_with : Option Content → LaneState Content → OutputNumbers → OutputNumbers
+numbers_with None at x = record x { filtered = x.filtered + 1 }
+numbers_with (Some view) at x = buffered_more at x
+
+-- few enough metrics came to an output that one more may
+pub record HasFew (x : OutputNumbers) (at : LaneState Content) : Type 0 where
+  pub filtered : x.filtered < 2 ^ 32
+  pub buffered : x.buffered < 2 ^ 32
+  pub dropped : x.dropped < 2 ^ 32
+  pub pushed : at.pushed < 2 ^ 32
+
+-- each output's lane, once its view was offered
+abbrev pub lanes_with : List (Option Content) → List (LaneState Content) → List (LaneState Content)
+lanes_with outs lanes = map (λ (x : ℕ × LaneState Content). lane_with (view_at x.0 outs) x.1) (enumerate_from 0 lanes)
+
+-- each output's numbers, once its view was offered
+abbrev pub outputs_with : List (Option Content) → List (LaneState Content) → List OutputNumbers → List OutputNumbers
+outputs_with outs lanes all = map (λ (x : ℕ × OutputNumbers). numbers_with (view_at x.0 outs) (lane_at lanes x.0) x.1) (enumerate_from 0 all)
+
+-- the lanes, once an item was routed; a removed one is offered to none
+abbrev pub lanes_routed : Option Content → List (Option Content) → List (LaneState Content) → List (LaneState Content)
+lanes_routed None outs lanes = lanes
+lanes_routed (Some whole) outs lanes = lanes_with outs lanes
+
+-- the numbers, once an item was routed
+abbrev pub numbers_routed : Option Content → List (Option Content) → List (LaneState Content) → Numbers → Numbers
+numbers_routed None outs lanes numbers = record numbers { removed = numbers.removed + 1 }
+numbers_routed (Some whole) outs lanes numbers = record numbers { routed = numbers.routed + 1; outputs = outputs_with outs lanes numbers.outputs }
+
+-- nothing is in hand; a removed item counts as such, and the views of another are offered to the outputs
+abbrev pub after_route : CoreState → Routed → CoreState
+after_route state r = record state {
+  held = None;
+  lanes = lanes_routed r.whole r.outs state.lanes;
+  numbers = numbers_routed r.whole r.outs state.lanes state.numbers;
+  stored = state.stored ++ route_entry r ∷ [];
+}
+
+-- the moment that counts is the greater one, and nothing is gathered any more
+abbrev pub after_stop : CoreState → ℤ → CoreState
+after_stop state moment = record state {
+  stored = state.stored ++ entries.Stop (int_max moment state.counted) [] ∷ [];
+  counted = int_max moment state.counted;
+  stopped = true;
+}
+
+-- the output's batch is in flight, of the positions from the first to before the second
+abbrev pub after_begin : CoreState → ℕ → ℕ → ℕ → CoreState
+after_begin state output from to = record state {
+  lanes = slice_set state.lanes output (lane.after_begin (lane_at state.lanes output));
+  stored = state.stored ++ entries.Begin output from to ∷ [];
+}
+
+-- an output's lane, once its batch was accepted, or failed
+abbrev pub lane_done : Bool → LaneState Content → LaneState Content
+lane_done true x = record (lane.after_accept x) { first = 0 }
+lane_done false x = record (lane.after_fail x) { first = 0 }
+
+-- the oldest waiting metrics, as many as a batch has at most, with their positions
+pub record IsBatchOf (x : LaneState Content) (batch : Batch) : Type 0 where
+  pub from : batch.from ≡ lane.waiting_from x
+  pub to : batch.to ≡ lane.waiting_from x + min x.batch (length x.waiting)
+  pub metrics : batch.metrics ≡ take x.batch x.waiting
+
+-- how many metrics leave an output as its batch is accepted, or fails
+abbrev pub count_done : Bool → LaneState Content → ℕ
+count_done true x = length x.flight
+count_done false x = length (lane.failed_out x)
+
+-- an output's numbers, once so many buffered metrics left as its batch was accepted, or failed
+abbrev pub counted_done : Bool → ℕ → OutputNumbers → OutputNumbers
+counted_done true n x = written_more x n
+counted_done false n x = dropped_more x n
+
+-- no batch of the output is in flight: its metrics are written, or wait again, and of these the oldest are dropped where there are too many
+abbrev pub after_done : CoreState → ℕ → Bool → CoreState
+after_done state output ok = record state {
+  lanes = slice_set state.lanes output (lane_done ok (lane_at state.lanes output));
+  numbers = with_output state.numbers output (counted_done ok (count_done ok (lane_at state.lanes output)) (output_numbers state.numbers output));
+  stored = state.stored ++ entries.Done output ok [] ∷ [];
+}
+
+-- no entry is stored
+abbrev pub after_cut : CoreState → CoreState
+after_cut state = record state { stored = [] }

@@ -1,0 +1,91 @@
+//! Batches of an output.
+ghost use Rattle.std.specs.Prelude.{◌≡◌, ◌<◌, ◌≤◌, ◌^◌, ◌↔◌, length, IfOk, OnOk, OnErr};
+ghost use Rattle.account.specs.Numbers.{with_output, output_numbers, IsOutputBelow};
+ghost use Rattle.pipeline_core.specs.CoreState.{lane_at};
+ghost use Rattle.pipeline_core.specs.Steps.{after_begin, after_done, IsBatchOf, counted_done};
+
+use crate::room::make_room;
+use crate::state::Core;
+use account::{Account, Entry};
+use fixed_num::Seq;
+use metric::Metric;
+
+/// A batch that was begun.
+#[derive(Drop)]
+pub struct Batch {
+    /// The position of its first metric: how many came to the output before.
+    pub from: u64,
+    /// One past the position of its last metric.
+    pub to: u64,
+    /// The metrics, oldest first.
+    pub metrics: Seq<Metric>,
+}
+
+/// Why no batch was begun.
+#[derive(Clone, Copy, Debug, PartialEq, Eq)]
+pub enum BeginAnswer {
+    /// No memory was left.
+    OutOfMemory,
+    /// A batch of the output is in flight.
+    InFlight,
+    /// No metric waits at the output.
+    NothingWaiting,
+}
+
+impl Core {
+    /// Begins the next batch of an output: its oldest waiting metrics. An error leaves all as it was.
+    pub fn begin(&mut self, output: u32) -> Result<Batch, BeginAnswer>
+        requires { output < length self.old.setup.outputs }
+        ensures in_flight { (result ≡ Err BeginAnswer.InFlight) ↔ (0 < length (lane_at self.old.lanes output).flight) }
+        ensures nothing { (result ≡ Err BeginAnswer.NothingWaiting) ↔ ((length (lane_at self.old.lanes output).flight ≡ 0) × (length (lane_at self.old.lanes output).waiting ≡ 0)) }
+        ensures batch { IfOk result (IsBatchOf (lane_at self.old.lanes output)) }
+        ensures ok { IfOk result (λ batch. self.new ≡ after_begin self.old output batch.from batch.to) }
+        ensures err { OnErr result (self.new ≡ self.old) }
+    {
+        let place = &self.outputs[output as usize];
+        place.ready()?;
+        let Ok(()) = make_room(&mut self.stored, self.outputs.len()) else {
+            return Err(BeginAnswer::OutOfMemory);
+        };
+        let place = &mut self.outputs[output as usize];
+        let Ok(batch) = place.begin(self.alloc) else {
+            return Err(BeginAnswer::OutOfMemory);
+        };
+        self.stored.push_reserved(Entry::Begin {
+            output,
+            from: batch.from,
+            to: batch.to,
+        });
+        Ok(batch)
+    }
+
+    /// Ends an output's batch in flight: accepted, or failed. Takes no memory.
+    pub fn done(&mut self, output: u32, ok: bool)
+        requires known { output < length self.old.setup.outputs }
+        requires begun { 0 < length (lane_at self.old.lanes output).flight }
+        ensures { self.new ≡ after_done self.old output ok }
+    {
+        let place = &mut self.outputs[output as usize];
+        let count = place.done(ok);
+        count_done(&mut self.account, output, ok, count);
+        self.stored.push_reserved(Entry::Done {
+            output,
+            ok,
+            reports: Seq::of(Vec::new(self.alloc)),
+        });
+    }
+}
+
+// Counts the metrics of an output that leave as its batch was accepted, or failed.
+fn count_done(account: &mut Account, output: u32, ok: bool, count: u32)
+    requires known { output < length account.old.outputs }
+    requires held { count ≤ (output_numbers account.old output).buffered }
+    requires few { IsOutputBelow (2 ^ 32) (output_numbers account.old output) }
+    ensures { account.new ≡ with_output account.old output (counted_done ok count (output_numbers account.old output)) }
+{
+    if ok {
+        account.written(output, count);
+    } else {
+        account.dropped(output, count);
+    }
+}

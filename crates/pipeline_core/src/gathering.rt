@@ -1,0 +1,177 @@
+//! Metrics come in, and are taken in hand.
+ghost use Rattle.std.specs.Prelude.{◌≡◌, ◌<◌, ◌≤◌, ◌⊎◌, ◌+◌, IsTrue, ◌^◌, ◌↔◌, [], true, false, length, slice_get, IfOk, OnOk, OnErr, IsSome, IsNone, ℕ};
+ghost use Rattle.pipeline_core.specs.Steps.{after_gather, after_ended, after_take, IsGatherAnswer};
+ghost use Rattle.pipeline_core.specs.declared.gathering.GatherRefused.TheVariants as refused;
+
+use crate::room::{make_room, queue_of};
+use crate::state::Core;
+use account::Entry;
+use fixed_num::{Moment, OutOfMemory, Seq};
+use metric::Metric;
+use std::alloc::AllocError;
+
+/// What was read of an input.
+#[derive(Drop)]
+pub struct Gathered {
+    /// The input.
+    pub input: u32,
+    /// The moment at which it was read: nanoseconds since 1970.
+    pub moment: Moment,
+    /// How many pieces there were.
+    pub pieces: u32,
+    /// How many of them were refused.
+    pub refused: u32,
+    /// How many samples were passed over.
+    pub passed: u32,
+    /// How many readings the input's filter kept out.
+    pub filtered: u32,
+    /// The readings, in order.
+    pub metrics: Seq<Metric>,
+}
+
+/// An item in hand.
+#[derive(Drop)]
+pub struct Item {
+    /// Its number: items are counted from 0.
+    pub number: u64,
+    /// Whether an aggregator made it.
+    pub made: bool,
+    /// The metric.
+    pub metric: Metric,
+}
+
+/// Why nothing was gathered.
+#[derive(Drop)]
+pub enum GatherRefused {
+    /// No memory was left.
+    OutOfMemory,
+    /// A run gathers fewer than 2^32 metrics, and with these it would have as many.
+    RunFull(Gathered),
+    /// The input has as many undelivered groups as it may have.
+    HeldUndelivered(Gathered),
+    /// Items wait to be taken, and with these they would be more than 10,000.
+    HeldRaw(Gathered),
+}
+
+impl From<OutOfMemory> for GatherRefused {
+    ghost from_gives = { λ _ e. e ≡ refused.OutOfMemory };
+
+    fn from(_fault: OutOfMemory) -> GatherRefused {
+        GatherRefused::OutOfMemory
+    }
+}
+
+impl From<AllocError> for GatherRefused {
+    ghost from_gives = { λ _ e. e ≡ refused.OutOfMemory };
+
+    fn from(_fault: AllocError) -> GatherRefused {
+        GatherRefused::OutOfMemory
+    }
+}
+
+/// Why no item was taken in hand.
+#[derive(Clone, Copy, Debug, PartialEq, Eq)]
+pub enum TakeAnswer {
+    /// No memory was left.
+    OutOfMemory,
+    /// An item is in hand already.
+    InHand,
+    /// No item is raw.
+    Empty,
+}
+
+// The most items that wait to be taken, where more than one group has come.
+const MOST_RAW: usize = 10_000;
+
+// A run gathers fewer metrics than this: 2^32.
+const MOST_GATHERED: usize = 1 << 32;
+
+impl Core {
+    /// Counts what was read of an input; its metrics become items. A refusal leaves all as it was.
+    pub fn gather(&mut self, g: Gathered) -> Result<(), GatherRefused>
+        requires reading { slice_get self.old.ended g.input ≡ Some false }
+        requires going { self.old.stopped ≡ false }
+        ensures answer { IsGatherAnswer self.old g result }
+        ensures ok { OnOk result (self.new ≡ after_gather self.old g) }
+        ensures err { OnErr result (self.new ≡ self.old) }
+    {
+        let count = g.metrics.as_slice().len();
+        if count >= MOST_GATHERED - self.gathered as usize {
+            return Err(GatherRefused::RunFull(g));
+        }
+        if !has_place(self.raw.len(), count) {
+            return Err(GatherRefused::HeldRaw(g));
+        }
+        if !self.account.has_room() {
+            return Err(GatherRefused::OutOfMemory);
+        }
+        let mut copies = queue_of(self.alloc, g.metrics.as_slice())?;
+        make_room(&mut self.stored, self.outputs.len())?;
+        self.raw.append(&mut copies)?;
+        self.gathered += count as u32;
+        self.account
+            .gathered(g.input, g.pieces, g.refused, g.passed, g.filtered, count as u32);
+        self.stored.push_reserved(Entry::Gather {
+            input: g.input,
+            moment: g.moment,
+            pieces: g.pieces,
+            refused: g.refused,
+            passed: g.passed,
+            filtered: g.filtered,
+            metrics: g.metrics,
+            group: None,
+            reports: Seq::of(Vec::new(self.alloc)),
+        });
+        Ok(())
+    }
+
+    /// Notes that an input was read to its end. Without memory all stays as it was.
+    pub fn ended(&mut self, input: u32) -> Result<(), OutOfMemory>
+        requires reading { slice_get self.old.ended input ≡ Some false }
+        requires going { self.old.stopped ≡ false }
+        ensures ok { OnOk result (self.new ≡ after_ended self.old input) }
+        ensures err { OnErr result (self.new ≡ self.old) }
+    {
+        make_room(&mut self.stored, self.outputs.len())?;
+        self.account.ended(input);
+        self.ended[input as usize] = true;
+        self.stored.push_reserved(Entry::Ended { input });
+        Ok(())
+    }
+
+    /// Takes the oldest raw item in hand. An error leaves all as it was.
+    pub fn take(&mut self) -> Result<Item, TakeAnswer>
+        ensures in_hand { (result ≡ Err TakeAnswer.InHand) ↔ IsSome self.old.held }
+        ensures empty { (result ≡ Err TakeAnswer.Empty) ↔ (IsNone self.old.held × (self.old.raw ≡ [])) }
+        ensures item { IfOk result (λ item. (item.number ≡ self.old.taken) × (item.made ≡ false) × (slice_get self.old.raw 0 ≡ Some item.metric)) }
+        ensures ok { OnOk result (self.new ≡ after_take self.old) }
+        ensures err { OnErr result (self.new ≡ self.old) }
+    {
+        if self.held.is_some() {
+            return Err(TakeAnswer::InHand);
+        }
+        if self.raw.is_empty() {
+            return Err(TakeAnswer::Empty);
+        }
+        let Ok(()) = make_room(&mut self.stored, self.outputs.len()) else {
+            return Err(TakeAnswer::OutOfMemory);
+        };
+        let metric = self.raw.pop_front().unwrap();
+        let number = self.taken;
+        self.held = Some(number);
+        self.taken += 1;
+        self.stored.push_reserved(Entry::Take { item: number });
+        Ok(Item {
+            number,
+            made: false,
+            metric,
+        })
+    }
+}
+
+// Whether so many metrics may come where so many items are raw.
+fn has_place(raw: usize, count: usize) -> bool
+    ensures { IsTrue result ↔ ((raw ≡ 0) ⊎ (raw + count ≤ 10000)) }
+{
+    raw == 0 || (raw <= MOST_RAW && count <= MOST_RAW - raw)
+}

@@ -1,0 +1,114 @@
+//! What waits at an output, and its batch in flight.
+ghost use Rattle.std.specs.Prelude.{◌≡◌, ◌≢◌, ◌<◌, ◌≤◌, ◌+◌, ◌^◌, ◌==◌, ◌↔◌, [], true, false, length, slice_set, IfOk, OnOk, OnErr};
+ghost use Rattle.out_lane.specs.Lane.{empty_lane, after_push, after_begin};
+ghost use Rattle.pipeline_core.specs.Steps.{IsBatchOf, lane_done, count_done};
+
+use crate::batches::{Batch, BeginAnswer};
+use crate::room::copies_of;
+use fixed_num::{OutOfMemory, Seq};
+use metric::Metric;
+use out_lane::Lane;
+use std::alloc::Global;
+use std::marker::Model;
+
+/// What waits at an output, its batch in flight, and the room for what comes back of that batch.
+#[derive(Drop)]
+pub(crate) struct Output {
+    lane: Lane<Metric>,
+    batch: u32,
+    back: Vec<Metric>,
+}
+
+impl Model for Output {
+    ghost use Rattle.metric.specs.declared.metric.Content.{Content};
+    ghost use Rattle.out_lane.specs.Lane.{LaneState};
+
+    ghost Value = { LaneState Content };
+
+    ghost use Rattle.pipeline_core.specs.OutputView.{output_state, IsOutputKept};
+
+    ghost view = { output_state };
+
+    ghost invariant = { IsOutputKept };
+}
+
+impl Output {
+    /// Makes an output at which nothing waits.
+    pub(crate) fn new(alloc: Global, batch: u32, limit: u32) -> Result<Output, OutOfMemory>
+        requires some { 1 ≤ batch }
+        requires fits { batch ≤ limit }
+        ensures { IfOk result (λ output. output ≡ empty_lane batch limit) }
+    {
+        Ok(Output {
+            lane: Lane::new(alloc, batch, limit)?,
+            batch,
+            back: Vec::new(alloc),
+        })
+    }
+
+    /// Lets a view wait, and tells whether the oldest one that waited was dropped for it.
+    pub(crate) fn push(&mut self, view: Metric) -> bool
+        requires { self.old.pushed < 2 ^ 63 }
+        ensures lane { self.new ≡ after_push self.old view }
+        ensures dropped { result ≡ (length self.old.waiting == self.old.limit) }
+    {
+        self.lane.push(view).is_some()
+    }
+
+    /// Why no batch may be begun, if none may.
+    pub(crate) fn ready(&self) -> Result<(), BeginAnswer>
+        ensures in_flight { (result ≡ Err BeginAnswer.InFlight) ↔ (0 < length self.now.flight) }
+        ensures nothing { (result ≡ Err BeginAnswer.NothingWaiting) ↔ ((length self.now.flight ≡ 0) × (length self.now.waiting ≡ 0)) }
+        ensures ok { OnOk result ((length self.now.flight ≡ 0) × (0 < length self.now.waiting)) }
+        ensures memory { result ≢ Err BeginAnswer.OutOfMemory }
+    {
+        if !self.lane.flight().is_empty() {
+            return Err(BeginAnswer::InFlight);
+        }
+        if self.lane.waiting() == 0 {
+            return Err(BeginAnswer::NothingWaiting);
+        }
+        Ok(())
+    }
+
+    /// Begins a batch of the oldest waiting views. Without memory all stays as it was.
+    pub(crate) fn begin(&mut self, alloc: Global) -> Result<Batch, OutOfMemory>
+        requires empty { length self.old.flight ≡ 0 }
+        requires some { 0 < length self.old.waiting }
+        ensures batch { IfOk result (IsBatchOf self.old) }
+        ensures ok { OnOk result (self.new ≡ after_begin self.old) }
+        ensures err { OnErr result (self.new ≡ self.old) }
+    {
+        let mut back = Vec::with_capacity(alloc, self.batch as usize)?;
+        let Ok((from, to)) = self.lane.begin() else {
+            unreachable!();
+        };
+        let Ok(metrics) = copies_of(alloc, self.lane.flight()) else {
+            self.lane.fail(&mut back);
+            return Err(OutOfMemory);
+        };
+        self.back = back;
+        Ok(Batch {
+            from,
+            to,
+            metrics: Seq::of(metrics),
+        })
+    }
+
+    /// Ends the batch in flight, accepted or failed, and answers how many views leave by it.
+    pub(crate) fn done(&mut self, ok: bool) -> u32
+        requires begun { 0 < length self.old.flight }
+        requires few { length self.old.flight + length self.old.waiting < 2 ^ 32 }
+        ensures lane { self.new ≡ lane_done ok self.old }
+        ensures count { result ≡ count_done ok self.old }
+    {
+        if ok {
+            self.lane.accept(&mut self.back);
+        } else {
+            self.lane.fail(&mut self.back);
+        }
+        let count = self.back.len();
+        self.back.clear();
+        count as u32
+    }
+}

@@ -1,0 +1,57 @@
+//! Room for entries and copies of metrics.
+ghost use Rattle.std.specs.Prelude.{◌≡◌, ◌+◌, ◌≤◌, length, vec_len, vec_capacity, IfOk, OnOk};
+
+use account::Entry;
+use fixed_num::OutOfMemory;
+use metric::Metric;
+use std::alloc::Global;
+use std::collections::VecDeque;
+
+/// Makes room for one entry more, and for one of each output.
+pub(crate) fn make_room(stored: &mut Vec<Entry>, outputs: usize) -> Result<(), OutOfMemory>
+    requires { outputs ≤ 16 }
+    ensures items { stored.new.items ≡ stored.old.items }
+    ensures len { vec_len stored.new ≡ vec_len stored.old }
+    ensures room { OnOk result (vec_len stored.new + (outputs + 1) ≤ vec_capacity stored.new) }
+    ensures kept { vec_capacity stored.old ≤ vec_capacity stored.new }
+{
+    stored.reserve(outputs + 1)?;
+    Ok(())
+}
+
+/// Copies of metrics, in order.
+pub(crate) fn copies_of(alloc: Global, metrics: &[Metric]) -> Result<Vec<Metric>, OutOfMemory>
+    ensures { IfOk result (λ copies. copies.items ≡ metrics.now) }
+{
+    let mut copies = Vec::with_capacity(alloc, metrics.len())?;
+    for metric in metrics {
+        copies.push(metric.copy()?)?;
+    }
+    Ok(copies)
+}
+
+/// Copies of metrics, in order, for a queue.
+pub(crate) fn queue_of(alloc: Global, metrics: &[Metric]) -> Result<VecDeque<Metric>, OutOfMemory>
+    ensures { IfOk result (λ copies. copies.items ≡ metrics.now) }
+{
+    let copies = copies_of(alloc, metrics)?;
+    Ok(VecDeque::from_vec(copies))
+}
+
+/// Copies of views, in order.
+pub(crate) fn view_copies(
+    alloc: Global,
+    views: &[Option<Metric>],
+) -> Result<Vec<Option<Metric>>, OutOfMemory>
+    ensures { IfOk result (λ copies. copies.items ≡ views.now) }
+{
+    let mut copies = Vec::with_capacity(alloc, views.len())?;
+    for view in views {
+        let copy = match view {
+            Some(metric) => Some(metric.copy()?),
+            None => None,
+        };
+        copies.push(copy)?;
+    }
+    Ok(copies)
+}

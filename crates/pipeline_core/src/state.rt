@@ -1,0 +1,137 @@
+//! What a core keeps, and its entries.
+ghost use Rattle.std.specs.Prelude.{◌≡◌, ◌≤◌, ◌<◌, [], length, map, true, false, IfOk, OnOk, OnErr, ◌↔◌, ℕ};
+ghost use Rattle.std.specs.List.{All};
+ghost use Rattle.pipeline_core.specs.CoreState.{first_state, lane_of};
+ghost use Rattle.pipeline_core.specs.Steps.{after_stop, after_cut};
+
+use crate::output::Output;
+use crate::room::make_room;
+use crate::setup::{CoreSetup, OutSetup};
+use account::{Account, Entry};
+use fixed_num::{Moment, OutOfMemory, Seq};
+use metric::Metric;
+use std::alloc::Global;
+use std::collections::VecDeque;
+use std::marker::Model;
+use std::mem;
+
+/// Why no entries came.
+#[derive(Clone, Copy, Debug, PartialEq, Eq)]
+pub enum CutAnswer {
+    /// No memory was left.
+    OutOfMemory,
+    /// There is no entry since the last cut.
+    NothingNew,
+}
+
+/// Decides what becomes of every metric: gathered metrics are items, each is taken in hand and routed,
+/// and its views wait at the outputs, which take them in batches. Each change is an entry of the journal.
+#[derive(Drop)]
+pub struct Core {
+    pub(crate) alloc: Global,
+    pub(crate) setup: CoreSetup,
+    pub(crate) raw: VecDeque<Metric>,
+    pub(crate) taken: u64,
+    pub(crate) held: Option<u64>,
+    pub(crate) outputs: Vec<Output>,
+    pub(crate) account: Account,
+    pub(crate) stored: Vec<Entry>,
+    pub(crate) gathered: u32,
+    pub(crate) counted: Moment,
+    pub(crate) ended: Vec<bool>,
+    pub(crate) stopped: bool,
+}
+
+impl Model for Core {
+    ghost use Rattle.pipeline_core.specs.CoreState.{CoreState};
+
+    ghost Value = { CoreState };
+
+    ghost use Rattle.pipeline_core.specs.CoreView.{core_state, IsKept};
+
+    ghost view = { core_state };
+
+    ghost invariant = { IsKept };
+}
+
+impl Core {
+    /// Makes a core in which nothing happened. Its inputs aren't tracked.
+    pub fn new(alloc: Global, setup: CoreSetup) -> Result<Core, OutOfMemory>
+        requires inputs { length setup.inputs ≤ 16 }
+        requires outputs { length setup.outputs ≤ 16 }
+        requires untracked { All (λ x. x.tracked ≡ false) setup.inputs }
+        requires sizes { All (λ x. (1 ≤ x.batch) × (x.batch ≤ x.limit)) setup.outputs }
+        ensures { IfOk result (λ core. core ≡ first_state setup) }
+    {
+        let inputs = setup.inputs.as_slice().len();
+        let ended = vec![in alloc; false; inputs]?;
+        let outputs = empty_outputs(alloc, setup.outputs.as_slice())?;
+        let account = Account::new(alloc, ended.as_slice(), outputs.len() as u32)?;
+        let counted = setup.start;
+        Ok(Core {
+            alloc,
+            setup,
+            raw: VecDeque::new(alloc),
+            taken: 0,
+            held: None,
+            outputs,
+            account,
+            stored: Vec::new(alloc),
+            gathered: 0,
+            counted,
+            ended,
+            stopped: false,
+        })
+    }
+
+    /// Stops the gathering. The moment that counts (nanoseconds since 1970) is the greater of this one
+    /// and the last one counted. Without memory all stays as it was.
+    pub fn stop(&mut self, moment: Moment) -> Result<(), OutOfMemory>
+        requires { self.old.stopped ≡ false }
+        ensures ok { OnOk result (self.new ≡ after_stop self.old moment) }
+        ensures err { OnErr result (self.new ≡ self.old) }
+    {
+        make_room(&mut self.stored, self.outputs.len())?;
+        self.counted = moment.max(self.counted);
+        self.stopped = true;
+        self.stored.push_reserved(Entry::Stop {
+            moment: self.counted,
+            made: Seq::of(Vec::new(self.alloc)),
+        });
+        Ok(())
+    }
+
+    /// Takes the entries since the last cut, in order.
+    pub fn cut(&mut self) -> Result<Vec<Entry>, CutAnswer>
+        ensures ok { IfOk result (λ entries. (entries.items ≡ self.old.stored) × (self.new ≡ after_cut self.old)) }
+        ensures nothing { (result ≡ Err CutAnswer.NothingNew) ↔ (self.old.stored ≡ []) }
+        ensures err { OnErr result (self.new ≡ self.old) }
+    {
+        if self.stored.is_empty() {
+            return Err(CutAnswer::NothingNew);
+        }
+        let Ok(fresh) = Vec::with_capacity(self.alloc, self.outputs.len()) else {
+            return Err(CutAnswer::OutOfMemory);
+        };
+        Ok(mem::replace(&mut self.stored, fresh))
+    }
+
+    /// What was counted.
+    pub fn account(&self) -> &Account
+        ensures { result.now ≡ self.now.numbers }
+    {
+        &self.account
+    }
+}
+
+// Outputs of these sizes, in order, at which nothing waits.
+fn empty_outputs(alloc: Global, sizes: &[OutSetup]) -> Result<Vec<Output>, OutOfMemory>
+    requires { All (λ x. (1 ≤ x.batch) × (x.batch ≤ x.limit)) sizes.now }
+    ensures { IfOk result (λ outputs. outputs.items ≡ map lane_of sizes.now) }
+{
+    let mut outputs = Vec::with_capacity(alloc, sizes.len())?;
+    for size in sizes {
+        outputs.push(Output::new(alloc, size.batch, size.limit)?)?;
+    }
+    Ok(outputs)
+}

@@ -1,12 +1,16 @@
 -- What a core keeps between the steps of a run.
-use Rattle.std.specs.Prelude.{◌≡◌, ℕ, false, length, slice_get}
+use Rattle.std.specs.Prelude.{◌≡◌, ◌≤◌, ℕ, List, false, length, slice_get, Result, Ok, Err, ⊤}
 use Rattle.std.specs.declared.option.Option.{Option}
 use Rattle.std.specs.declared.option.Option.TheVariants.{Some, None}
+use Rattle.account.specs.declared.entry.Entry.{Entry}
 use Rattle.pipeline_core.specs.CoreState.{CoreState, lane_at}
+use Rattle.pipeline_core.specs.Stands.{Stands}
 
 -- there is one output, no item is in hand, and no batch is in flight
 pub record IsReady (core : CoreState) : Type 0 where
   pub one : length core.setup.outputs ≡ 1
+  pub lane_count : length core.lanes ≡ 1
+  pub some : 1 ≤ (lane_at core.lanes 0).batch
   pub empty_handed : core.held ≡ None
   pub landed : length (lane_at core.lanes 0).flight ≡ 0
 
@@ -20,4 +24,16 @@ pub record IsRoutable (old new : CoreState) : Type 0 where
   pub setup : new.setup ≡ old.setup
   pub ended : new.ended ≡ old.ended
   pub stopped : new.stopped ≡ old.stopped
+  pub lane_count : length new.lanes ≡ length old.lanes
+  pub batch : (lane_at new.lanes 0).batch ≡ (lane_at old.lanes 0).batch
   pub flight : (lane_at new.lanes 0).flight ≡ (lane_at old.lanes 0).flight
+
+-- the core stands for a legal journal
+pub record HasJournal (core : CoreState) : Type 0 where
+  pub journal : List Entry
+  pub stands : Stands core journal
+
+-- so it does, where the call did what it was asked for
+abbrev pub StillStands : {T E : Type 0} → Result T E → CoreState → Type 0
+StillStands (Ok done) core = HasJournal core
+StillStands (Err fault) core = ⊤

@@ -1,8 +1,11 @@
 //! The journal's text, as far as the run has come.
+ghost use Rattle.std.specs.Prelude.{All, IfOk};
+ghost use Rattle.std.specs.Option.{option_to_list};
+ghost use Rattle.journal_text.specs.JournalText.{HasItem, IsWholeOrRemoved};
+
 use account::Entry;
 use fixed_num::OutOfMemory;
-use crate::command::Pipe;
-use fixed_num::Moment;
+use journal_text::{JournalSetup, write_end, write_entry, write_setup};
 use metric::Metric;
 use std::alloc::Global;
 use std::collections::VecDeque;
@@ -20,8 +23,9 @@ pub struct JournalText {
 
 impl JournalText {
     /// The text of a set-up, with no entry.
-    pub fn new(alloc: Global, _pipe: &Pipe<'_>, _start: Moment) -> Result<JournalText, OutOfMemory> {
-        let text = Vec::new(alloc);
+    pub fn new(alloc: Global, setup: &JournalSetup) -> Result<JournalText, OutOfMemory> {
+        let mut text = Vec::new(alloc);
+        write_setup(alloc, setup, &mut text)?;
         Ok(JournalText {
             alloc,
             text,
@@ -31,7 +35,9 @@ impl JournalText {
     }
 
     /// Adds the text of entries.
-    pub fn write(&mut self, entries: &[Entry]) -> Result<(), OutOfMemory> {
+    pub fn write(&mut self, entries: &[Entry]) -> Result<(), OutOfMemory>
+        requires { All IsWholeOrRemoved entries.now }
+    {
         for entry in entries {
             self.write_one(entry)?;
         }
@@ -39,21 +45,45 @@ impl JournalText {
     }
 
     /// Adds the text of an entry.
-    fn write_one(&mut self, entry: &Entry) -> Result<(), OutOfMemory> {
+    fn write_one(&mut self, entry: &Entry) -> Result<(), OutOfMemory>
+        requires { IsWholeOrRemoved entry.now }
+    {
         let entries = self.entries.checked_add(1).ok_or(OutOfMemory)?;
-        match entry {
-            Entry::Gather { metrics, .. } => {
-                self.keep(metrics.as_slice())?;
-                write_entry(self.alloc, &[], entry, &mut self.text)?;
-            }
-            Entry::Route { .. } => match self.unrouted.pop_front() {
-                Some(item) => write_entry(self.alloc, &[item], entry, &mut self.text)?,
-                None => return Err(OutOfMemory),
-            },
-            _ => write_entry(self.alloc, &[], entry, &mut self.text)?,
+        let alloc = self.alloc;
+        match self.item_of(entry)? {
+            Some(item) => write_entry(alloc, &[item], entry, &mut self.text)?,
+            None => write_entry(alloc, &[], entry, &mut self.text)?,
         }
         self.entries = entries;
         Ok(())
+    }
+
+    /// The item of a Route; the metrics that another entry names are kept until they are routed.
+    fn item_of(&mut self, entry: &Entry) -> Result<Option<Metric>, OutOfMemory>
+        ensures { IfOk result (λ item. HasItem (option_to_list item) entry.now) }
+    {
+        match entry {
+            Entry::Gather { metrics, .. } => {
+                self.keep(metrics.as_slice())?;
+                Ok(None)
+            }
+            Entry::Tick { made, .. } => {
+                self.keep(made.as_slice())?;
+                Ok(None)
+            }
+            Entry::Stop { made, .. } => {
+                self.keep(made.as_slice())?;
+                Ok(None)
+            }
+            Entry::Route { .. } => match self.unrouted.pop_front() {
+                Some(item) => Ok(Some(item)),
+                None => Err(OutOfMemory),
+            },
+            Entry::Ended { .. } => Ok(None),
+            Entry::Take { .. } => Ok(None),
+            Entry::Begin { .. } => Ok(None),
+            Entry::Done { .. } => Ok(None),
+        }
     }
 
     /// Keeps items until they are routed.
@@ -69,14 +99,10 @@ impl JournalText {
         let JournalText {
             alloc,
             mut text,
-            entries: _,
+            entries,
             unrouted: _,
         } = self;
-        text.extend_from_slice(account)?;
+        write_end(alloc, account, entries, &mut text)?;
         Ok(text)
     }
-}
-
-fn write_entry(_alloc: Global, _metrics: &[Metric], _entry: &Entry, _text: &mut Vec<u8>) -> Result<(), OutOfMemory> {
-    Ok(())
 }

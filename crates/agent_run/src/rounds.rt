@@ -1,14 +1,15 @@
 //! The rounds of a run: gather, route, send.
 ghost use Rattle.std.specs.Prelude.{◌≡◌, ◌≢◌, ◌≤◌, ◌<◌, IfOk, OnOk, Some, None, false, true, [], length, slice_get};
 ghost use Rattle.pipeline_core.specs.CoreState.{CoreState, lane_at};
-ghost use Rattle.agent_run.specs.Running.{IsReady, IsReading, IsRoutable};
+ghost use Rattle.agent_run.specs.Running.{IsReady, IsReading, IsRoutable, HasJournal, StillStands};
 
 use crate::command::Pipe;
 use crate::journal::JournalText;
-use crate::reading::{InState, read_group};
+use crate::reading::{Group, InState, read_group};
 use crate::status::Status;
 use agent_base::{Clock, CutKind, Pieces, PutFault, Sink, Source};
 use fixed_num::{Moment, OutOfMemory, Seq};
+use journal_text::JournalSetup;
 use line_proto::write_line;
 use metric::Metric;
 use pipeline_core::{
@@ -62,6 +63,53 @@ struct PipeRun {
     text: Vec<u8>,
 }
 
+/// Offers a group to the core, and says whether it was gathered.
+fn offer(core: &mut Core, moment: Moment, group: Group) -> Result<bool, OutOfMemory>
+    requires ready { IsReady core.old }
+    requires reading { IsReading core.old }
+    requires stands { HasJournal core.old }
+    ensures ready { OnOk result (IsReady core.new) }
+    ensures reading { OnOk result (IsReading core.new) }
+    ensures stands { StillStands result core.new }
+{
+    if group.pieces == 0 {
+        return Ok(true);
+    }
+    let gathered = Gathered {
+        input: 0,
+        moment,
+        pieces: group.pieces,
+        refused: group.refused,
+        passed: 0,
+        filtered: 0,
+        metrics: Seq::of(group.metrics),
+    };
+    match core.gather(gathered) {
+        Ok(()) => Ok(true),
+        Err(GatherRefused::OutOfMemory) => Err(OutOfMemory),
+        Err(GatherRefused::RunFull(_)) => Ok(false),
+        Err(GatherRefused::HeldUndelivered(_)) => Ok(false),
+        Err(GatherRefused::HeldRaw(_)) => Ok(false),
+    }
+}
+
+/// Notes the end of the input, where it was reached.
+fn end_input(core: &mut Core, state: InState) -> Result<(), OutOfMemory>
+    requires ready { IsReady core.old }
+    requires reading { IsReading core.old }
+    requires stands { HasJournal core.old }
+    ensures ready { OnOk result (IsReady core.new) }
+    ensures reading { OnOk result (state ≡ InState.Reading → IsReading core.new) }
+    ensures going { OnOk result (core.new.stopped ≡ false) }
+    ensures stands { StillStands result core.new }
+{
+    if state != InState::Ended {
+        return Ok(());
+    }
+    core.ended(0)?;
+    Ok(())
+}
+
 /// Gathers the next pieces of the input, and says whether it is read on.
 fn gather<S: Source, C: Clock>(
     run: &mut PipeRun,
@@ -70,31 +118,18 @@ fn gather<S: Source, C: Clock>(
 ) -> Result<InState, OutOfMemory>
     requires ready { IsReady run.old.core }
     requires reading { IsReading run.old.core }
+    requires stands { HasJournal run.old.core }
     ensures ready { OnOk result (IsReady run.new.core) }
     ensures reading { IfOk result (λ state. state ≡ InState.Reading → IsReading run.new.core) }
     ensures going { OnOk result (run.new.core.stopped ≡ false) }
+    ensures stands { StillStands result run.new.core }
 {
     let moment = clock.now();
     let (group, state) = read_group(run.alloc, &mut run.pieces, source, moment)?;
-    if group.pieces > 0 {
-        let gathered = Gathered {
-            input: 0,
-            moment,
-            pieces: group.pieces,
-            refused: group.refused,
-            passed: 0,
-            filtered: 0,
-            metrics: Seq::of(group.metrics),
-        };
-        match run.core.gather(gathered) {
-            Ok(()) => {}
-            Err(GatherRefused::OutOfMemory) => return Err(OutOfMemory),
-            Err(_) => return Ok(InState::LimitReached),
-        }
+    if !offer(&mut run.core, moment, group)? {
+        return Ok(InState::LimitReached);
     }
-    if state == InState::Ended {
-        run.core.ended(0)?;
-    }
+    end_input(&mut run.core, state)?;
     Ok(state)
 }
 
@@ -102,9 +137,11 @@ fn gather<S: Source, C: Clock>(
 fn route(alloc: Global, core: &mut Core, item: Item) -> Result<(), OutOfMemory>
     requires held { core.old.held ≡ Some item.number }
     requires one { length core.old.setup.outputs ≡ 1 }
+    requires stands { HasJournal core.old }
     ensures ok { OnOk result (IsRoutable core.old core.new) }
     ensures held { OnOk result (core.new.held ≡ None) }
     ensures raw { OnOk result (core.new.raw ≡ core.old.raw) }
+    ensures stands { StillStands result core.new }
 {
     let view = item.metric.copy()?;
     core.route(Routed {
@@ -116,17 +153,36 @@ fn route(alloc: Global, core: &mut Core, item: Item) -> Result<(), OutOfMemory>
     Ok(())
 }
 
+/// Takes the next raw item and routes it, and says whether there was one.
+fn route_next(alloc: Global, core: &mut Core) -> Result<bool, OutOfMemory>
+    requires ready { IsReady core.old }
+    requires stands { HasJournal core.old }
+    ensures ready { OnOk result (IsReady core.new) }
+    ensures kept { OnOk result (IsRoutable core.old core.new) }
+    ensures stands { StillStands result core.new }
+{
+    match core.take() {
+        Ok(item) => {
+            route(alloc, core, item)?;
+            Ok(true)
+        }
+        Err(TakeAnswer::OutOfMemory) => Err(OutOfMemory),
+        Err(TakeAnswer::InHand) => Ok(false),
+        Err(TakeAnswer::Empty) => Ok(false),
+    }
+}
+
 /// Routes all raw items.
 fn route_all(alloc: Global, core: &mut Core) -> Result<(), OutOfMemory>
     requires ready { IsReady core.old }
+    requires stands { HasJournal core.old }
     ensures ready { OnOk result (IsReady core.new) }
     ensures kept { OnOk result (IsRoutable core.old core.new) }
+    ensures stands { StillStands result core.new }
 {
     for _taken in 0..u64::MAX {
-        match core.take() {
-            Ok(item) => route(alloc, core, item)?,
-            Err(TakeAnswer::OutOfMemory) => return Err(OutOfMemory),
-            Err(_) => return Ok(()),
+        if !route_next(alloc, core)? {
+            return Ok(());
         }
     }
     Err(OutOfMemory)
@@ -141,27 +197,60 @@ fn write_batch(alloc: Global, metrics: &[Metric], out: &mut Vec<u8>) -> Result<(
     Ok(())
 }
 
-/// Sends batches until nothing waits or a put fails, and says whether none failed.
-fn send_all<K: Sink>(run: &mut PipeRun, sink: &mut K) -> Result<bool, OutOfMemory>
+/// What came of a batch.
+#[derive(Clone, Copy, Debug, PartialEq, Eq)]
+enum Sending {
+    /// It was accepted.
+    Accepted,
+    /// Its put failed.
+    Failed,
+    /// There was none: nothing waits.
+    Nothing,
+}
+
+/// Sends the next batch.
+fn send_next<K: Sink>(run: &mut PipeRun, sink: &mut K) -> Result<Sending, OutOfMemory>
     requires ready { IsReady run.old.core }
+    requires stands { HasJournal run.old.core }
     ensures ready { OnOk result (IsReady run.new.core) }
     ensures ended { OnOk result (run.new.core.ended ≡ run.old.core.ended) }
     ensures stopped { OnOk result (run.new.core.stopped ≡ run.old.core.stopped) }
+    ensures stands { StillStands result run.new.core }
+{
+    let batch = match run.core.begin(0) {
+        Ok(batch) => batch,
+        Err(BeginAnswer::OutOfMemory) => return Err(OutOfMemory),
+        Err(BeginAnswer::InFlight) => return Ok(Sending::Nothing),
+        Err(BeginAnswer::NothingWaiting) => return Ok(Sending::Nothing),
+    };
+    write_batch(run.alloc, batch.metrics.as_slice(), &mut run.text)?;
+    match sink.put(&run.text) {
+        Ok(()) => {
+            run.core.done(0, true);
+            Ok(Sending::Accepted)
+        }
+        Err(PutFault::Failed) => {
+            run.core.done(0, false);
+            Ok(Sending::Failed)
+        }
+        Err(PutFault::OutOfMemory) => Err(OutOfMemory),
+    }
+}
+
+/// Sends batches until nothing waits or a put fails, and says whether none failed.
+fn send_all<K: Sink>(run: &mut PipeRun, sink: &mut K) -> Result<bool, OutOfMemory>
+    requires ready { IsReady run.old.core }
+    requires stands { HasJournal run.old.core }
+    ensures ready { OnOk result (IsReady run.new.core) }
+    ensures ended { OnOk result (run.new.core.ended ≡ run.old.core.ended) }
+    ensures stopped { OnOk result (run.new.core.stopped ≡ run.old.core.stopped) }
+    ensures stands { StillStands result run.new.core }
 {
     for _batch in 0..u64::MAX {
-        let batch = match run.core.begin(0) {
-            Ok(batch) => batch,
-            Err(BeginAnswer::OutOfMemory) => return Err(OutOfMemory),
-            Err(_) => return Ok(true),
-        };
-        write_batch(run.alloc, batch.metrics.as_slice(), &mut run.text)?;
-        match sink.put(&run.text) {
-            Ok(()) => run.core.done(0, true),
-            Err(PutFault::Failed) => {
-                run.core.done(0, false);
-                return Ok(false);
-            }
-            Err(PutFault::OutOfMemory) => return Err(OutOfMemory),
+        match send_next(run, sink)? {
+            Sending::Accepted => {}
+            Sending::Failed => return Ok(false),
+            Sending::Nothing => return Ok(true),
         }
     }
     Err(OutOfMemory)
@@ -170,12 +259,17 @@ fn send_all<K: Sink>(run: &mut PipeRun, sink: &mut K) -> Result<bool, OutOfMemor
 /// Adds the text of the entries since the last cut.
 fn note(run: &mut PipeRun) -> Result<(), OutOfMemory>
     requires ready { IsReady run.old.core }
+    requires stands { HasJournal run.old.core }
     ensures ready { OnOk result (IsReady run.new.core) }
     ensures ended { OnOk result (run.new.core.ended ≡ run.old.core.ended) }
     ensures stopped { OnOk result (run.new.core.stopped ≡ run.old.core.stopped) }
+    ensures stands { StillStands result run.new.core }
 {
     match run.core.cut() {
-        Ok(entries) => run.journal.write(entries.as_slice()),
+        Ok(entries) => {
+            run.journal.write(entries.as_slice())?;
+            Ok(())
+        }
         Err(CutAnswer::NothingNew) => Ok(()),
         Err(CutAnswer::OutOfMemory) => Err(OutOfMemory),
     }
@@ -190,8 +284,10 @@ fn rounds<S: Source, K: Sink, C: Clock>(
 ) -> Result<(InState, bool), OutOfMemory>
     requires ready { IsReady run.old.core }
     requires reading { IsReading run.old.core }
+    requires stands { HasJournal run.old.core }
     ensures ready { OnOk result (IsReady run.new.core) }
     ensures going { OnOk result (run.new.core.stopped ≡ false) }
+    ensures stands { StillStands result run.new.core }
 {
     for _round in 0..u64::MAX {
         let state = gather(run, source, clock)?;
@@ -214,12 +310,31 @@ fn finish<K: Sink>(
 ) -> Result<bool, OutOfMemory>
     requires ready { IsReady run.old.core }
     requires going { run.old.core.stopped ≡ false }
+    requires stands { HasJournal run.old.core }
 {
     run.core.stop(moment)?;
     route_all(run.alloc, &mut run.core)?;
-    let sent = sent && send_all(run, sink)?;
+    if !sent {
+        note(run)?;
+        return Ok(false);
+    }
+    let sent = send_all(run, sink)?;
     note(run)?;
     Ok(sent)
+}
+
+/// What the journal is about.
+fn journal_setup(
+    alloc: Global,
+    pipe: &Pipe<'_>,
+    start: Moment,
+) -> Result<JournalSetup, OutOfMemory> {
+    Ok(JournalSetup {
+        start,
+        inputs: Seq::of(vec![in alloc; None]?),
+        aggs: Seq::of(Vec::new(alloc)),
+        outputs: Seq::of(vec![in alloc; (pipe.batch, pipe.limit)]?),
+    })
 }
 
 /// A run in which nothing happened.
@@ -228,6 +343,7 @@ fn new_run(alloc: Global, pipe: &Pipe<'_>, start: Moment) -> Result<PipeRun, Out
     requires ordered { pipe.now.batch ≤ pipe.now.limit }
     ensures ready { IfOk result (λ run. IsReady run.core) }
     ensures reading { IfOk result (λ run. IsReading run.core) }
+    ensures stands { IfOk result (λ run. HasJournal run.core) }
 {
     let core = Core::new(
         alloc,
@@ -247,7 +363,7 @@ fn new_run(alloc: Global, pipe: &Pipe<'_>, start: Moment) -> Result<PipeRun, Out
         alloc,
         core,
         pieces: Pieces::new(alloc, CutKind::Lines)?,
-        journal: JournalText::new(alloc, pipe, start)?,
+        journal: JournalText::new(alloc, &journal_setup(alloc, pipe, start)?)?,
         text: Vec::new(alloc),
     })
 }

@@ -1,5 +1,5 @@
 //! The top call.
-ghost use Rattle.std.specs.Prelude.{◌≡◌, ◌≢◌, ◌⊎◌, ℕ, List, true, false, IfOk, MatchOption, string_bytes};
+ghost use Rattle.std.specs.Prelude.{◌≡◌, ◌≢◌, ◌≤◌, ◌⊎◌, ℕ, List, true, false, IfOk, MatchOption, string_bytes};
 ghost use Rattle.agent_base.specs.Places.{AreHome, SameAtAll};
 ghost use Rattle.agent_run.specs.Command.{IsPipe, journal_place};
 ghost use Rattle.agent_run.specs.Places.{ReportsLine, IsRefused, IsUnused, open_fault_line};
@@ -69,6 +69,8 @@ fn run_parts<W: World>(
     requires sink { (W.out_at world.old pipe.now.output.now).is_out ≡ true }
     requires journal { (W.out_at world.old journal_place).is_out ≡ true }
     requires apart { pipe.now.output.now ≢ journal_place }
+    requires some { 1 ≤ pipe.now.batch }
+    requires ordered { pipe.now.batch ≤ pipe.now.limit }
     requires other_ins { (place : List ℕ) → place ≢ pipe.now.input.now → (W.in_at world.old place).is_out ≡ false }
     requires other_outs { (place : List ℕ) → place ≢ pipe.now.output.now → place ≢ journal_place → (W.out_at world.old place).is_out ≡ false }
     ensures usage { result ≢ Status.Usage }
@@ -135,6 +137,8 @@ fn run_pipe<W: World>(alloc: Global, pipe: &Pipe<'_>, world: &mut W) -> Status
     requires ins { AreHome (W.in_at world.old) }
     requires outs { AreHome (W.out_at world.old) }
     requires apart { pipe.now.output.now ≢ journal_place }
+    requires some { 1 ≤ pipe.now.batch }
+    requires ordered { pipe.now.batch ≤ pipe.now.limit }
     ensures usage { result ≢ Status.Usage }
     ensures config { result ≢ Status.Config }
     ensures open { result ≡ Status.OpenFault → IsRefused (W.in_at world.old) (W.in_at world.new) (W.out_at world.old) (W.out_at world.new) (W.rest world.old) (W.rest world.new) pipe.now.input.now pipe.now.output.now }

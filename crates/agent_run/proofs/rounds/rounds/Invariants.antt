@@ -1,5 +1,5 @@
-use Rattle.agent_run.specs.Running.{IsReady, IsReading}
+use Rattle.agent_run.specs.Running.{IsReady, IsReading, HasJournal}
 use Rattle.agent_run.proofs.rounds.rounds.Given as goal
 
 abbrev pub invariant-loop-round : goal.invariant-loop-round
-invariant-loop-round g l = record { ready : IsReady l.run.core; reading : IsReading l.run.core }
+invariant-loop-round g l = record { ready : IsReady l.run.core; reading : IsReading l.run.core; stands : HasJournal l.run.core }

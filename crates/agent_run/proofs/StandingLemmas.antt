@@ -1,0 +1,110 @@
+-- Cores that stand for a journal, and the entries that they keep.
+use Rattle.std.proofs.Common.{◌≡◌, ◌≤◌, ◌<◌, ◌+◌, ℕ, zero, suc, List, [], ◌∷◌, ◌++◌, length, take, refl, sym, ap, ◌∙◌, arith, subst}
+use Rattle.std.specs.Prelude.{All, ◌↔◌, map}
+use Rattle.std.specs.List.{AllByRecursion, enumerate_from}
+use Rattle.std.specs.declared.option.Option.{Option}
+use Rattle.std.specs.declared.option.Option.TheVariants.{Some, None}
+use Rattle.std.proofs.lemmas.List.{length-take}
+use Rattle.std.proofs.lemmas.Grind.{common_steps}
+use Rattle.metric.specs.declared.metric.Content.{Content}
+use Rattle.account.specs.Setup.{Setup}
+use Rattle.account.specs.declared.entry.Entry.{Entry}
+use Rattle.account.specs.declared.entry.Entry.TheVariants.{Gather, Ended, Take, Route, Tick, Stop, Begin, Done}
+use Rattle.account.specs.declared.entry.Verdict.{Verdict}
+use Rattle.account.specs.declared.entry.Verdict.TheVariants as verdicts
+use Rattle.out_lane.specs.Lane.{LaneState}
+use Rattle.pipeline_core.specs.CoreState.{CoreState, lane_at}
+use Rattle.pipeline_core.specs.Offers.{view_at}
+use Rattle.pipeline_core.specs.Steps.{lane_with, lanes_with}
+use Rattle.pipeline_core.specs.Legal.{AreLegal, Meets, HasViews, verdict_of}
+use Rattle.pipeline_core.specs.Stands.{Stands}
+use Rattle.journal_text.specs.JournalText.{IsWholeOrRemoved, HasViewsOf}
+use Rattle.agent_run.specs.Running.{HasJournal}
+
+pub has : {core : CoreState} {journal : List Entry} → Stands core journal → HasJournal core
+has {core} {journal} s = record { journal = journal; stands = s }
+
+-- one entry more
+pub continues : {old new : CoreState} {e : Entry} → ((journal : List Entry) → Stands old journal → Stands new (journal ++ e ∷ [])) → HasJournal old → HasJournal new
+continues {old} {new} {e} more h = record { journal = h.journal ++ e ∷ []; stands = more h.journal h.stands }
+
+whole_or_none : (whole : Option Content) (verdict : Verdict) → verdict ≡ verdict_of whole → (verdict ≡ verdicts.Removed) ↔ (whole ≡ None)
+whole_or_none None verdict e = (λ k. refl, λ k. e)
+whole_or_none (Some whole) verdict e = (λ k. absurd (let x : verdicts.Passes ≡ verdicts.Removed = sym e ∙ k in cc), λ k. absurd (let x : Some whole ≡ None = k in cc))
+
+views_of : (whole : Option Content) (outs : List (Option Content)) → HasViews whole outs → HasViewsOf whole outs
+views_of None outs h = h
+views_of (Some whole) outs h = h
+
+no_views : (whole : Option Content) (aggs : List (Option Content)) → aggs ≡ [] → HasViewsOf whole aggs
+no_views None aggs e = rw e tt
+no_views (Some whole) aggs e = tt
+
+meets_whole : (setup : Setup) (before : List Entry) (e : Entry) → Meets setup before e → IsWholeOrRemoved e
+meets_whole setup before (Gather input moment pieces refused passed filtered metrics group reports) h = tt
+meets_whole setup before (Ended input) h = tt
+meets_whole setup before (Take item) h = tt
+meets_whole setup before (Route item whole verdict aggs outs reports) h = (whole_or_none whole verdict h.judged, no_views whole aggs h.aggregators, views_of whole outs h.views)
+meets_whole setup before (Tick moment made) h = tt
+meets_whole setup before (Stop moment made) h = tt
+meets_whole setup before (Begin output from to) h = tt
+meets_whole setup before (Done output ok reports) h = tt
+
+legal_whole : (setup : Setup) (before es : List Entry) → AreLegal setup before es → AllByRecursion IsWholeOrRemoved es
+unfolding AreLegal
+legal_whole setup before [] h = tt
+legal_whole setup before (e ∷ es) h = (meets_whole setup before e h.0, legal_whole setup (before ++ e ∷ []) es h.1)
+
+all_behind : (P : Entry → Type 0) (front es : List Entry) → AllByRecursion P (front ++ es) → AllByRecursion P es
+all_behind P [] es h = h
+all_behind P (e ∷ front) es h = all_behind P front es h.1
+
+-- the entries that a core stores can be spelled
+pub stored_whole : (core : CoreState) → HasJournal core → AllByRecursion IsWholeOrRemoved core.stored
+stored_whole core h =
+    all_behind IsWholeOrRemoved h.stands.front core.stored (subst (AllByRecursion IsWholeOrRemoved) h.stands.stored (legal_whole core.setup [] h.journal h.stands.legal))
+
+-- a batch has an item, where one waits
+pub takes_some : (batch : ℕ) (xs : List Content) → 1 ≤ batch → (length xs ≡ 0 → ⊥) → 0 < length (take batch xs)
+takes_some batch [] some ne = absurd (ne refl)
+takes_some batch (x ∷ xs) some ne = omega (arith, length-take batch (x ∷ xs))
+
+all_at : (P : Entry → Type 0) (es : List Entry) → AllByRecursion P es → All P es
+all_at P [] h zero d lt = absurd (omega arith)
+all_at P [] h (suc k) d lt = absurd (omega arith)
+all_at P (e ∷ es) h zero d lt = h.0
+all_at P (e ∷ es) h (suc k) d lt = all_at P es h.1 k d (omega arith)
+
+-- the entries that a cut gives can be spelled
+pub cut_whole : (core : CoreState) (es : List Entry) → es ≡ core.stored → HasJournal core → All IsWholeOrRemoved es
+cut_whole core es same h = all_at IsWholeOrRemoved es (rw same (stored_whole core h))
+
+-- what offering views leaves of the first lane
+pub record IsLaneKept (old new : List (LaneState Content)) : Type 0 where
+  pub count : length new ≡ length old
+  pub batch : (lane_at new 0).batch ≡ (lane_at old 0).batch
+  pub flight : (lane_at new 0).flight ≡ (lane_at old 0).flight
+
+mapped : {A B : Type 0} (f : A → B) (xs : List A) → length (map f xs) ≡ length xs
+mapped f [] = refl
+mapped f (x ∷ xs) = ap (λ (k : ℕ). suc k) (mapped f xs)
+
+enumerated : (n : ℕ) (lanes : List (LaneState Content)) → length (enumerate_from n lanes) ≡ length lanes
+enumerated n [] = refl
+enumerated n (x ∷ xs) = ap (λ (k : ℕ). suc k) (enumerated (n + 1) xs)
+
+with_batch : (view : Option Content) (x : LaneState Content) → (lane_with view x).batch ≡ x.batch
+with_batch None x = refl
+with_batch (Some view) x = refl
+
+with_flight : (view : Option Content) (x : LaneState Content) → (lane_with view x).flight ≡ x.flight
+with_flight None x = refl
+with_flight (Some view) x = refl
+
+pub lanes_kept : (outs : List (Option Content)) (lanes : List (LaneState Content)) → IsLaneKept lanes (lanes_with outs lanes)
+lanes_kept outs [] = record { count = refl; batch = refl; flight = refl }
+lanes_kept outs (x ∷ xs) = record {
+  count = mapped (λ (p : ℕ × LaneState Content). lane_with (view_at p.0 outs) p.1) (enumerate_from 0 (x ∷ xs)) ∙ enumerated 0 (x ∷ xs);
+  batch = with_batch (view_at 0 outs) x;
+  flight = with_flight (view_at 0 outs) x;
+}

@@ -1,0 +1,11 @@
+use Rattle.std.proofs.Common.{refl}
+use Rattle.agent_run.proofs.StandingLemmas.{continues, lanes_kept}
+use Rattle.agent_run.proofs.rounds.route.Goals as goal
+
+pub returns-clause-ok : goal.returns-clause-ok
+returns-clause-ok c =
+    let kept = lanes_kept c.of-2.result c.args.core.now.lanes in
+    rw c.in_ok-route.ensures.ok (record { setup = refl; ended = refl; stopped = refl; lane_count = kept.count; batch = kept.batch; flight = kept.flight })
+
+pub returns-clause-stands : goal.returns-clause-stands
+returns-clause-stands c = continues c.in_ok-route.ensures.stands c.requires.stands

@@ -1,5 +1,5 @@
 -- What is counted of a run.
-use Rattle.std.specs.Prelude.{◌≡◌, ℕ, ◌+◌, ◌-◌, ◌<◌, ◌^◌, Bool, true, false, List, map, replicate, All, slice_set, slice_index_or}
+use Rattle.std.specs.Prelude.{ℕ, ◌+◌, ◌-◌, ◌<◌, Bool, false, List, map, replicate, All, slice_set, slice_index_or}
 use Rattle.account.specs.declared.numbers.InputNumbers.{InputNumbers}
 use Rattle.account.specs.declared.numbers.OutputNumbers.{OutputNumbers}
 
@@ -84,7 +84,3 @@ pub record AreBelow (limit : ℕ) (numbers : Numbers) : Type 0 where
 -- how many routed metrics an output's numbers tell of
 abbrev pub fates : OutputNumbers → ℕ
 fates x = x.filtered + x.late + x.consumed + x.written + x.buffered + x.dropped
-
--- at each output the numbers add up to the routed metrics
-abbrev pub AddUp : Numbers → Type 0
-AddUp numbers = All (λ x. fates x ≡ numbers.routed) numbers.outputs

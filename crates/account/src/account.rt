@@ -95,7 +95,8 @@ impl Account {
     )
         requires within { input < length self.old.inputs }
         requires room { IsInputBelow (2 ^ 64) (gathered_more (input_numbers self.old input) pieces refused passed filtered metrics) }
-        ensures { self.new ≡ with_input self.old input (gathered_more (input_numbers self.old input) pieces refused passed filtered metrics) }
+        ensures { let x = input_numbers self.old input in
+            self.new ≡ with_input self.old input (gathered_more x pieces refused passed filtered metrics) }
     {
         let x = &mut self.inputs[input as usize];
         x.pieces += u64::from(pieces);
@@ -141,7 +142,8 @@ impl Account {
     pub fn filtered(&mut self, output: u32)
         requires within { output < length self.old.outputs }
         requires room { (output_numbers self.old output).filtered + 1 < 2 ^ 64 }
-        ensures { let x = output_numbers self.old output in self.new ≡ with_output self.old output (record x { filtered = x.filtered + 1 }) }
+        ensures { let x = output_numbers self.old output in
+            self.new ≡ with_output self.old output (record x { filtered = x.filtered + 1 }) }
     {
         self.outputs[output as usize].filtered += 1;
     }
@@ -150,7 +152,8 @@ impl Account {
     pub fn late(&mut self, output: u32)
         requires within { output < length self.old.outputs }
         requires room { (output_numbers self.old output).late + 1 < 2 ^ 64 }
-        ensures { let x = output_numbers self.old output in self.new ≡ with_output self.old output (record x { late = x.late + 1 }) }
+        ensures { let x = output_numbers self.old output in
+            self.new ≡ with_output self.old output (record x { late = x.late + 1 }) }
     {
         self.outputs[output as usize].late += 1;
     }
@@ -159,7 +162,8 @@ impl Account {
     pub fn consumed(&mut self, output: u32)
         requires within { output < length self.old.outputs }
         requires room { (output_numbers self.old output).consumed + 1 < 2 ^ 64 }
-        ensures { let x = output_numbers self.old output in self.new ≡ with_output self.old output (record x { consumed = x.consumed + 1 }) }
+        ensures { let x = output_numbers self.old output in
+            self.new ≡ with_output self.old output (record x { consumed = x.consumed + 1 }) }
     {
         self.outputs[output as usize].consumed += 1;
     }
@@ -168,7 +172,8 @@ impl Account {
     pub fn buffered(&mut self, output: u32)
         requires within { output < length self.old.outputs }
         requires room { (output_numbers self.old output).buffered + 1 < 2 ^ 64 }
-        ensures { let x = output_numbers self.old output in self.new ≡ with_output self.old output (record x { buffered = x.buffered + 1 }) }
+        ensures { let x = output_numbers self.old output in
+            self.new ≡ with_output self.old output (record x { buffered = x.buffered + 1 }) }
     {
         self.outputs[output as usize].buffered += 1;
     }

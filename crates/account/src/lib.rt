@@ -3,9 +3,11 @@
 
 mod account;
 mod entry;
+mod laws;
 mod numbers;
 mod text;
 
 pub use account::Account;
 pub use entry::{Entry, Report, Verdict};
+pub use laws::moves_keep_the_sum;
 pub use numbers::{InputNumbers, OutputNumbers};

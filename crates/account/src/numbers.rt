@@ -1,6 +1,6 @@
 //! The numbers of an input and of an output.
-ghost use Rattle.std.specs.Prelude.{◌≡◌, ◌+◌, ◌<◌, ◌≤◌, ◌^◌, ◌↔◌, IsTrue};
-ghost use Rattle.account.specs.Numbers.{unread_input, unreached_output, gathered_more, written_more, dropped_more, IsInputBelow, IsOutputBelow};
+ghost use Rattle.std.specs.Prelude.{◌≡◌, ◌<◌, ◌^◌, ◌↔◌, IsTrue};
+ghost use Rattle.account.specs.Numbers.{unread_input, unreached_output, IsInputBelow, IsOutputBelow};
 
 /// The numbers of an input.
 #[derive(Clone, Copy, Debug, PartialEq, Eq)]

@@ -1,16 +1,16 @@
 //! The text of what was counted.
-ghost use Rattle.std.specs.Prelude.{◌≡◌, ◌++◌, ◌<◌, ◌+◌, ◌^◌, length, OnOk, OnErr, take, decimal, codes, if◌then◌else◌};
+ghost use Rattle.std.specs.Prelude.{◌≡◌, ◌++◌, ◌<◌, ◌+◌, OnOk, decimal, codes, if◌then◌else◌};
 ghost use Rattle.std.specs.List.{flat_map};
 ghost use Rattle.account.specs.Extends.{Extends};
-ghost use Rattle.account.specs.Numbers.{Numbers};
-ghost use Rattle.account.specs.AccountText.{input_line, groups_line, input_text, items_line, output_text, numbered, account_text};
+ghost use Rattle.account.specs.AccountText.{input_line, groups_line, input_text, items_line, output_text, numbered};
 
 use crate::{InputNumbers, OutputNumbers};
 use fixed_num::OutOfMemory;
 
 // Appends labels, each with a number, and an end.
 fn append_line(out: &mut Vec<u8>, counts: &[(&str, u64)], end: &str) -> Result<(), OutOfMemory>
-    ensures ok { OnOk result (out.new.items ≡ out.old.items ++ (flat_map (λ count. count.0.now ++ decimal count.1) counts.now ++ end.now)) }
+    ensures ok { OnOk result (out.new.items ≡ out.old.items
+        ++ (flat_map (λ count. count.0.now ++ decimal count.1) counts.now ++ end.now)) }
     ensures kept { Extends out.old.items out.new.items }
 {
     let mut buffer = itoa::Buffer::new();

@@ -1,8 +1,7 @@
 -- The text of a journal, as entries and items come to it.
-use Rattle.std.proofs.Common.{◌≡◌, ◌<◌, ◌↔◌, ℕ, zero, suc, List, [], ◌∷◌, ◌++◌, length, refl, sym, ◌∙◌, ap, append_assoc, arith}
+use Rattle.std.proofs.Common.{◌≡◌, ◌<◌, ℕ, zero, suc, List, [], ◌∷◌, ◌++◌, length, refl, sym, ◌∙◌, ap, append_assoc, arith}
 use Rattle.std.specs.List.{AllByRecursion, slice_get}
 use Rattle.std.specs.Option.{option_to_list}
-use Rattle.std.specs.Bool.{IsTrue}
 use Rattle.std.proofs.lemmas.List.{append-nil}
 use Rattle.metric.specs.declared.metric.Content.{Content}
 use Rattle.metric.proofs.SameLemmas.{same}

@@ -1,9 +1,8 @@
 //! The entries of a journal, and its end.
 ghost use Rattle.std.specs.Prelude.{◌≡◌, ◌++◌, OnOk, OnErr, length, codes, decimal, if◌then◌else◌};
-ghost use Rattle.std.specs.List.{flat_map};
 ghost use Rattle.account.specs.Extends.{Extends};
 ghost use Rattle.journal_text.specs.MetricText.{signed_text};
-ghost use Rattle.journal_text.specs.JournalText.{are_equal, beside_text, whole_text, view_text, views_text, verdict_text, routed_text, metric_lines, report_line, report_lines, group_text, spaced, gather_line, entry_text, end_text, HasItem, IsWholeOrRemoved};
+ghost use Rattle.journal_text.specs.JournalText.{beside_text, whole_text, view_text, views_text, verdict_text, routed_text, metric_lines, report_line, report_lines, group_text, spaced, gather_line, entry_text, end_text, HasItem, IsWholeOrRemoved};
 
 use crate::metrics::append_metric;
 use crate::parts::{append, append_numbers, append_signed, append_unsigned, settle};
@@ -236,7 +235,8 @@ fn append_made(
     moment: &Moment,
     made: &[Metric],
 ) -> Result<(), OutOfMemory>
-    ensures ok { OnOk result (out.new.items ≡ out.old.items ++ (words.now ++ signed_text moment.now ++ codes " " ++ decimal (length made.now) ++ codes "\n" ++ metric_lines made.now)) }
+    ensures ok { OnOk result (out.new.items ≡ out.old.items
+        ++ (words.now ++ signed_text moment.now ++ codes " " ++ decimal (length made.now) ++ codes "\n" ++ metric_lines made.now)) }
     ensures kept { Extends out.old.items out.new.items }
 {
     append_signed(out, words, moment)?;
@@ -345,8 +345,9 @@ fn append_entry(
     }
 }
 
-/// Appends an entry: its line, its metrics and its reports, in order. A Route is written beside its item: `=` stands for a whole that equals the item, and for a view that equals the whole.
-/// `OutOfMemory` leaves `out` as it was.
+/// Appends an entry: its line, its metrics and its reports, in the order of the list. A Route is
+/// written beside its item: `=` stands for a whole that equals the item, and for a view that equals
+/// the whole. `OutOfMemory` leaves `out` as it was.
 pub fn write_entry(
     alloc: Global,
     metrics: &[Metric],

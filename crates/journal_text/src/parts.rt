@@ -1,5 +1,5 @@
 //! Parts of lines.
-ghost use Rattle.std.specs.Prelude.{◌≡◌, ◌++◌, OnOk, OnErr, IfOk, decimal, is_ok, take, length};
+ghost use Rattle.std.specs.Prelude.{◌≡◌, ◌++◌, OnOk, OnErr, decimal, take, length};
 ghost use Rattle.std.specs.List.{flat_map};
 ghost use Rattle.account.specs.Extends.{Extends};
 ghost use Rattle.journal_text.specs.MetricText.{signed_text};
@@ -21,7 +21,8 @@ pub fn append_numbers(
     numbers: &[(&str, u64)],
     end: &str,
 ) -> Result<(), OutOfMemory>
-    ensures ok { OnOk result (out.new.items ≡ out.old.items ++ (flat_map (λ number. number.0.now ++ decimal number.1) numbers.now ++ end.now)) }
+    ensures ok { OnOk result (out.new.items ≡ out.old.items
+        ++ (flat_map (λ number. number.0.now ++ decimal number.1) numbers.now ++ end.now)) }
     ensures kept { Extends out.old.items out.new.items }
 {
     let mut buffer = itoa::Buffer::new();

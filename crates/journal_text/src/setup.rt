@@ -1,7 +1,6 @@
 //! The head of a journal.
 ghost use Rattle.std.specs.Prelude.{◌≡◌, ◌++◌, [], OnOk, OnErr, codes, if◌then◌else◌};
 ghost use Rattle.account.specs.Extends.{Extends};
-ghost use Rattle.journal_text.specs.MetricText.{signed_text};
 ghost use Rattle.account.specs.AccountText.{numbered};
 ghost use Rattle.journal_text.specs.SetupText.{input_line, letters_text, kind_text, times_text, agg_line, output_line, start_lines, setup_text};
 
@@ -238,8 +237,8 @@ fn append_setup(s: &JournalSetup, out: &mut Vec<u8>) -> Result<(), OutOfMemory>
     Ok(())
 }
 
-/// Appends the head of a journal: `journal 1`, `start` and the moment, then a line for each input, aggregator and output, in order.
-/// `OutOfMemory` leaves `out` as it was.
+/// Appends the head of a journal: `journal 1`, `start` and the moment, then a line for each input,
+/// aggregator and output, in order. `OutOfMemory` leaves `out` as it was.
 pub fn write_setup(_alloc: Global, s: &JournalSetup, out: &mut Vec<u8>) -> Result<(), OutOfMemory>
     ensures ok { OnOk result (out.new.items ≡ out.old.items ++ setup_text s.now) }
     ensures err { OnErr result (out.new.items ≡ out.old.items) }

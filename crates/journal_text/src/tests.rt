@@ -68,7 +68,8 @@ fn write_example(alloc: Global, out: &mut Vec<u8>) -> Result<(), BuildFault> {
         outputs: one(alloc, (10, 100))?,
     };
     write_setup(alloc, &setup, out)?;
-    let items = [tagged(alloc)?, half(alloc)?];
+    let first = [tagged(alloc)?];
+    let second = [half(alloc)?];
     let gather = Entry::Gather {
         input: 0,
         moment: 0,
@@ -91,7 +92,7 @@ fn write_example(alloc: Global, out: &mut Vec<u8>) -> Result<(), BuildFault> {
         outs: one(alloc, Some(tagged(alloc)?))?,
         reports: none(alloc),
     };
-    write_entry(alloc, &items[..1], &route, out)?;
+    write_entry(alloc, &first, &route, out)?;
     write_entry(alloc, &[], &Entry::Take { item: 1 }, out)?;
     let route = Entry::Route {
         item: 1,
@@ -101,7 +102,7 @@ fn write_example(alloc: Global, out: &mut Vec<u8>) -> Result<(), BuildFault> {
         outs: one(alloc, Some(half(alloc)?))?,
         reports: none(alloc),
     };
-    write_entry(alloc, &items[1..], &route, out)?;
+    write_entry(alloc, &second, &route, out)?;
     write_entry(
         alloc,
         &[],

@@ -1,4 +1,4 @@
-use Rattle.std.proofs.Common.{◌≡◌, ◌++◌, ℕ, List, take}
+use Rattle.std.proofs.Common.{◌≡◌, ◌++◌, take}
 use Rattle.journal_text.specs.JournalText.{metric_lines}
 use Rattle.journal_text.proofs.entry.append_metric_lines.Given as goal
 

@@ -1,4 +1,4 @@
-use Rattle.std.proofs.Common.{◌≡◌, ◌++◌, ℕ, List, take}
+use Rattle.std.proofs.Common.{◌≡◌, ◌++◌, take}
 use Rattle.journal_text.specs.JournalText.{views_text}
 use Rattle.journal_text.proofs.entry.append_views.Given as goal
 

@@ -1,4 +1,4 @@
-use Rattle.std.proofs.Common.{◌≡◌, ◌++◌, ℕ, List, take}
+use Rattle.std.proofs.Common.{◌≡◌, ◌++◌, take}
 use Rattle.account.specs.AccountText.{numbered}
 use Rattle.journal_text.specs.SetupText.{agg_line}
 use Rattle.journal_text.proofs.setup.append_aggs.Given as goal

@@ -53,3 +53,6 @@ fn main(rt: HostRuntime) -> ExitCode {
     }
     ExitCode::from(status.code())
 }
+
+#[cfg(test)]
+mod tests;

@@ -348,14 +348,18 @@ fn new_run(alloc: Global, pipe: &Pipe<'_>, start: Moment) -> Result<PipeRun, Out
     let core = Core::new(
         alloc,
         CoreSetup {
-            inputs: Seq::of(vec![in alloc; InSetup {
-                tracked: false,
-                max_undelivered: 0,
-            }]?),
-            outputs: Seq::of(vec![in alloc; OutSetup {
-                batch: pipe.batch,
-                limit: pipe.limit,
-            }]?),
+            inputs: Seq::of(vec![in alloc;
+                InSetup {
+                    tracked: false,
+                    max_undelivered: 0,
+                },
+            ]?),
+            outputs: Seq::of(vec![in alloc;
+                OutSetup {
+                    batch: pipe.batch,
+                    limit: pipe.limit,
+                },
+            ]?),
             start,
         },
     )?;

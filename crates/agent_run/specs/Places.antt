@@ -19,6 +19,10 @@ AreBack old new = (place : List ℕ) → IsBack (old place) (new place)
 abbrev pub RoseToOpen : Place → Place → Type 0
 RoseToOpen old new = Rose old.open_faults new.open_faults
 
+-- a read or a put of the part of the place failed
+abbrev pub RoseToPut : Place → Place → Type 0
+RoseToPut old new = Rose old.part_faults new.part_faults
+
 -- a line was reported, or a prefix of it where the count of failed reports rose
 pub record ReportsLine (old new : Rest) (line : List ℕ) : Type 0 where
   pub later : old.report_faults ≤ new.report_faults

@@ -1,6 +1,7 @@
 //! The rounds of a run: gather, route, send.
-ghost use Rattle.std.specs.Prelude.{◌≡◌, ◌≢◌, ◌≤◌, ◌<◌, IfOk, OnOk, Some, None, false, true, [], length, slice_get};
+ghost use Rattle.std.specs.Prelude.{◌≡◌, ◌≢◌, ◌≤◌, ◌⊎◌, Ok, IfOk, OnOk, Some, None, false, true, [], length, slice_get};
 ghost use Rattle.pipeline_core.specs.CoreState.{CoreState, lane_at};
+ghost use Rattle.agent_base.specs.Counts.{Rose};
 ghost use Rattle.agent_run.specs.Running.{IsReady, IsReading, IsRoutable, HasJournal, StillStands};
 
 use crate::command::Pipe;
@@ -37,6 +38,11 @@ impl Ending {
         ensures usage { result ≢ Status.Usage }
         ensures config { result ≢ Status.Config }
         ensures open { result ≢ Status.OpenFault }
+        ensures left { result ≡ Status.Left → self.now.left ≡ true }
+        ensures report { result ≡ Status.ReportFault → (self.now.journal_failed ≡ true) ⊎ (report_failed ≡ true) }
+        ensures read { result ≡ Status.ReadFault → self.now.state ≡ InState.Faulted }
+        ensures limit { result ≡ Status.Limit → self.now.state ≡ InState.LimitReached }
+        ensures done { result ≡ Status.Done → (self.now.left ≡ false) × (self.now.journal_failed ≡ false) × (report_failed ≡ false) }
     {
         if self.state == InState::LimitReached {
             Status::Limit
@@ -216,6 +222,8 @@ fn send_next<K: Sink>(run: &mut PipeRun, sink: &mut K) -> Result<Sending, OutOfM
     ensures ended { OnOk result (run.new.core.ended ≡ run.old.core.ended) }
     ensures stopped { OnOk result (run.new.core.stopped ≡ run.old.core.stopped) }
     ensures stands { StillStands result run.new.core }
+    ensures faults { K.faults sink.old ≤ K.faults sink.new }
+    ensures failed { result ≡ Ok Sending.Failed → Rose (K.faults sink.old) (K.faults sink.new) }
 {
     let batch = match run.core.begin(0) {
         Ok(batch) => batch,
@@ -245,6 +253,8 @@ fn send_all<K: Sink>(run: &mut PipeRun, sink: &mut K) -> Result<bool, OutOfMemor
     ensures ended { OnOk result (run.new.core.ended ≡ run.old.core.ended) }
     ensures stopped { OnOk result (run.new.core.stopped ≡ run.old.core.stopped) }
     ensures stands { StillStands result run.new.core }
+    ensures faults { K.faults sink.old ≤ K.faults sink.new }
+    ensures failed { result ≡ Ok false → Rose (K.faults sink.old) (K.faults sink.new) }
 {
     for _batch in 0..u64::MAX {
         match send_next(run, sink)? {
@@ -288,6 +298,8 @@ fn rounds<S: Source, K: Sink, C: Clock>(
     ensures ready { OnOk result (IsReady run.new.core) }
     ensures going { OnOk result (run.new.core.stopped ≡ false) }
     ensures stands { StillStands result run.new.core }
+    ensures faults { K.faults sink.old ≤ K.faults sink.new }
+    ensures failed { IfOk result (λ r. r.1 ≡ false → Rose (K.faults sink.old) (K.faults sink.new)) }
 {
     for _round in 0..u64::MAX {
         let state = gather(run, source, clock)?;
@@ -311,6 +323,8 @@ fn finish<K: Sink>(
     requires ready { IsReady run.old.core }
     requires going { run.old.core.stopped ≡ false }
     requires stands { HasJournal run.old.core }
+    ensures faults { K.faults sink.old ≤ K.faults sink.new }
+    ensures failed { result ≡ Ok false → sent ≡ true → Rose (K.faults sink.old) (K.faults sink.new) }
 {
     run.core.stop(moment)?;
     route_all(run.alloc, &mut run.core)?;
@@ -384,6 +398,8 @@ pub fn run<S: Source, K: Sink, C: Clock>(
 ) -> Result<Ending, OutOfMemory>
     requires some { 1 ≤ pipe.now.batch }
     requires ordered { pipe.now.batch ≤ pipe.now.limit }
+    ensures left { IfOk result (λ ending. ending.left ≡ true → Rose (K.faults sink.old) (K.faults sink.new)) }
+    ensures journal { IfOk result (λ ending. ending.journal_failed ≡ true → Rose (K.faults journal.old) (K.faults journal.new)) }
 {
     let start = clock.now();
     let mut run = new_run(alloc, pipe, start)?;

@@ -1,8 +1,9 @@
 //! The top call.
 ghost use Rattle.std.specs.Prelude.{◌≡◌, ◌≢◌, ◌≤◌, ◌⊎◌, ℕ, List, true, false, IfOk, MatchOption, string_bytes};
+ghost use Rattle.agent_base.specs.Counts.{Rose};
 ghost use Rattle.agent_base.specs.Places.{AreHome, SameAtAll};
 ghost use Rattle.agent_run.specs.Command.{IsPipe, journal_place};
-ghost use Rattle.agent_run.specs.Places.{ReportsLine, IsRefused, IsUnused, open_fault_line};
+ghost use Rattle.agent_run.specs.Places.{ReportsLine, IsRefused, IsUnused, RoseToPut, open_fault_line};
 ghost use Rattle.agent_run.specs.Opening.{IsRefusalAnswer, place_of};
 
 use crate::command::{JOURNAL, Pipe, read_command};
@@ -48,6 +49,8 @@ fn report_account<W: World>(ending: &Ending, world: &mut W) -> Status
     ensures usage { result ≢ Status.Usage }
     ensures config { result ≢ Status.Config }
     ensures open { result ≢ Status.OpenFault }
+    ensures left { result ≡ Status.Left → ending.now.left ≡ true }
+    ensures report { result ≡ Status.ReportFault → (ending.now.journal_failed ≡ true) ⊎ Rose (W.rest world.old).report_faults (W.rest world.new).report_faults }
     ensures ins { SameAtAll (W.in_at world.old) (W.in_at world.new) }
     ensures outs { SameAtAll (W.out_at world.old) (W.out_at world.new) }
 {
@@ -78,6 +81,9 @@ fn run_parts<W: World>(
     ensures open { result ≢ Status.OpenFault }
     ensures ins { AreHome (W.in_at world.new) }
     ensures outs { AreHome (W.out_at world.new) }
+    ensures left { result ≡ Status.Left → Rose (W.Out.faults parts.sink) (W.out_at world.new pipe.now.output.now).part_faults }
+    ensures report { result ≡ Status.ReportFault → Rose (W.Out.faults parts.journal) (W.out_at world.new journal_place).part_faults
+        ⊎ Rose (W.rest world.old).report_faults (W.rest world.new).report_faults }
 {
     let Parts {
         mut source,
@@ -144,6 +150,9 @@ fn run_pipe<W: World>(alloc: Global, pipe: &Pipe<'_>, world: &mut W) -> Status
     ensures open { result ≡ Status.OpenFault → IsRefused (W.in_at world.old) (W.in_at world.new) (W.out_at world.old) (W.out_at world.new) (W.rest world.old) (W.rest world.new) pipe.now.input.now pipe.now.output.now }
     ensures ins_home { AreHome (W.in_at world.new) }
     ensures outs_home { AreHome (W.out_at world.new) }
+    ensures left { result ≡ Status.Left → RoseToPut (W.out_at world.old pipe.now.output.now) (W.out_at world.new pipe.now.output.now) }
+    ensures report { result ≡ Status.ReportFault → RoseToPut (W.out_at world.old journal_place) (W.out_at world.new journal_place)
+        ⊎ Rose (W.rest world.old).report_faults (W.rest world.new).report_faults }
 {
     match open_parts(world, pipe.input, pipe.output) {
         Ok(parts) => run_parts(alloc, pipe, parts, world),
@@ -170,6 +179,12 @@ pub fn agent<W: World>(alloc: Global, words: &[String], world: &mut W) -> Status
     // OpenFault comes only where one of the three places wasn't opened; every place then has its bytes.
     ensures open { result ≡ Status.OpenFault → (input output : List ℕ) × (batch limit : ℕ) × IsPipe words.now input output batch limit
         × IsRefused (W.in_at world.old) (W.in_at world.new) (W.out_at world.old) (W.out_at world.new) (W.rest world.old) (W.rest world.new) input output }
+
+    // Left comes only where a put to the output failed, ReportFault only where the put of the journal or the report did.
+    ensures left { result ≡ Status.Left → (input output : List ℕ) × (batch limit : ℕ) × IsPipe words.now input output batch limit
+        × RoseToPut (W.out_at world.old output) (W.out_at world.new output) }
+    ensures report { result ≡ Status.ReportFault → RoseToPut (W.out_at world.old journal_place) (W.out_at world.new journal_place)
+        ⊎ Rose (W.rest world.old).report_faults (W.rest world.new).report_faults }
 
     ensures ins_home { AreHome (W.in_at world.new) }
     ensures outs_home { AreHome (W.out_at world.new) }

@@ -312,3 +312,9 @@ kept_first setup raw lanes numbers stored counted ended few untracked sized r l 
 pub kept_gathered : (s : CoreState) (g : Gathered) (raw : List Content) (numbers : Numbers) (gathered : ℕ) (stored : List Entry) → IsCore s → HasNumbers s g →
     raw ≡ s.raw ++ g.metrics → numbers ≡ (after_gather s g).numbers → gathered ≡ s.gathered + length g.metrics → IsCore (record s { raw = raw; numbers = numbers; gathered = gathered; stored = stored })
 kept_gathered s g raw numbers gathered stored h few r n e = rw (r, n, e) (kept_gather s g stored h few)
+
+-- a batch that is begun is in flight
+pub flies : (s : CoreState) (o : ℕ) (at : LaneState Content) → IsCore s → o < length s.setup.outputs → at ≡ lane.after_begin (lane_at s.lanes o) → 0 < length (lane_at s.lanes o).waiting → 0 < length (lane_at (set s.lanes o at) o).flight
+flies s o at h b e some =
+    let x : LaneState Content = lane_at s.lanes o in
+    subst (λ (y : LaneState Content). 0 < length y.flight) (sym (get_or-set_same s.lanes o at (empty_lane 0 0) (omega (arith, h.lanes)) ∙ e)) (omega (arith, length-take x.batch x.waiting, (h.each o b).some))

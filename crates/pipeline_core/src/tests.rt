@@ -185,59 +185,72 @@ fn spelled(alloc: Global, entry: &Entry) -> Result<String, OutOfMemory> {
     }
 }
 
-/// The entries since the last cut, each behind a semicolon.
+/// The entries since the last cut.
 fn news(alloc: Global, core: &mut Core) -> Result<String, Fail> {
     let mut text = String::new(alloc);
     if let Ok(entries) = core.cut() {
         for entry in &entries {
-            text.push_str(";")?;
             text.push_str(spelled(alloc, entry)?.as_str())?;
         }
     }
     Ok(text)
 }
 
-/// At output 0 two wait at most, so that the failed batch of two loses its first metric.
+/// The calls of a run. At output 0 two wait at most, so that the failed batch of two loses its first metric.
+fn calls() -> [Call; 26] {
+    [
+        Call::Gather(0, 3),
+        Call::Begin(0),
+        Call::Take,
+        Call::Take,
+        Call::Pass(true, true),
+        Call::Take,
+        Call::Pass(true, false),
+        Call::Begin(0),
+        Call::Begin(0),
+        Call::Take,
+        Call::Pass(true, true),
+        Call::Done(0, false),
+        Call::Gather(1, 2),
+        Call::Take,
+        Call::Remove,
+        Call::Begin(0),
+        Call::Done(0, true),
+        Call::Begin(1),
+        Call::Done(1, true),
+        Call::Ended(0),
+        Call::Stop(50),
+        Call::Take,
+        Call::Pass(false, true),
+        Call::Take,
+        Call::Begin(1),
+        Call::Begin(0),
+    ]
+}
+
+/// The entries of each call, a line for each.
+fn entries() -> &'static str {
+    "gather 0 3\n\ntake 0\n\nroute 0 vv\ntake 1\nroute 1 v-\nbegin 0 0 2\n\ntake 2\nroute 2 vv\ndone 0 false\ngather 1 2\ntake 3\nroute 3 removed\nbegin 0 1 3\ndone 0 true\nbegin 1 0 1\ndone 1 true\nended 0\nstop 100\ntake 4\nroute 4 -v\n\nbegin 1 1 2\n\n"
+}
+
+/// The numbers at the end.
+fn numbers() -> &'static [u8] {
+    b"input 0 pieces 3 refused 0 passed 0 filtered 0 gathered 3 ended\ninput 1 pieces 2 refused 0 passed 0 filtered 0 gathered 2 unread\nitems made 0 removed 1 routed 4\noutput 0 filtered 1 late 0 consumed 0 written 2 buffered 0 dropped 1\noutput 1 filtered 1 late 0 consumed 0 written 1 buffered 2 dropped 0\n"
+}
+
 #[test]
 fn two_inputs_and_two_outputs(rt: HostRuntime) -> Result<(), Fail> {
     let mut core = Core::new(rt.alloc(), setup(rt.alloc())?)?;
-    let rows = [
-        (Call::Gather(0, 3), ";gather 0 3"),
-        (Call::Begin(0), ""),
-        (Call::Take, ";take 0"),
-        (Call::Take, ""),
-        (Call::Pass(true, true), ";route 0 vv"),
-        (Call::Take, ";take 1"),
-        (Call::Pass(true, false), ";route 1 v-"),
-        (Call::Begin(0), ";begin 0 0 2"),
-        (Call::Begin(0), ""),
-        (Call::Take, ";take 2"),
-        (Call::Pass(true, true), ";route 2 vv"),
-        (Call::Done(0, false), ";done 0 false"),
-        (Call::Gather(1, 2), ";gather 1 2"),
-        (Call::Take, ";take 3"),
-        (Call::Remove, ";route 3 removed"),
-        (Call::Begin(0), ";begin 0 1 3"),
-        (Call::Done(0, true), ";done 0 true"),
-        (Call::Begin(1), ";begin 1 0 1"),
-        (Call::Done(1, true), ";done 1 true"),
-        (Call::Ended(0), ";ended 0"),
-        (Call::Stop(50), ";stop 100"),
-        (Call::Take, ";take 4"),
-        (Call::Pass(false, true), ";route 4 -v"),
-        (Call::Take, ""),
-        (Call::Begin(1), ";begin 1 1 2"),
-        (Call::Begin(0), ""),
-    ];
-    for (call, want) in rows {
+    let mut text = String::new(rt.alloc());
+    for call in calls() {
         make(rt.alloc(), &mut core, call)?;
-        let entries = news(rt.alloc(), &mut core)?;
-        assert_eq!(rt; entries.as_str(), want);
+        let news = news(rt.alloc(), &mut core)?;
+        text.push_str(news.as_str())?;
+        text.push_str("\n")?;
     }
+    assert_eq!(rt; text.as_str(), entries());
     let mut account = Vec::new(rt.alloc());
     core.account().text(rt.alloc(), &mut account)?;
-    let want =
-        b"input 0 pieces 3 refused 0 passed 0 filtered 0 gathered 3 ended\ninput 1 pieces 2 refused 0 passed 0 filtered 0 gathered 2 unread\nitems made 0 removed 1 routed 4\noutput 0 filtered 1 late 0 consumed 0 written 2 buffered 0 dropped 1\noutput 1 filtered 1 late 0 consumed 0 written 1 buffered 2 dropped 0\n";
-    assert_eq!(rt; account.as_slice(), want.as_slice());
+    assert_eq!(rt; account.as_slice(), numbers());
     Ok(())
 }

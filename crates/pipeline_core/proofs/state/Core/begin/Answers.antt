@@ -5,7 +5,7 @@ use Rattle.out_lane.specs.Lane.{LaneState, after_begin, waiting_from}
 use Rattle.pipeline_core.specs.CoreState.{CoreState, lane_at}
 use Rattle.pipeline_core.specs.CoreView.{core_state}
 use Rattle.pipeline_core.proofs.StandsLanes.{begin_stands}
-use Rattle.pipeline_core.proofs.Keeping.{kept_begin, flights-le}
+use Rattle.pipeline_core.proofs.Keeping.{kept_begin, flights-le, flies}
 use Rattle.pipeline_core.proofs.Offering.{placed}
 use Rattle.pipeline_core.proofs.state.Core.begin.Goals as goal
 
@@ -33,3 +33,12 @@ returns-clause-stands c =
     (omega (arith, ap (λ (x : LaneState Content). length x.waiting) first, c.in_ok-ready.ensures.ok.1))
     (c.in-Ok-begin.ensures.batch.from ∙ ap waiting_from (sym place))
     (c.in-Ok-begin.ensures.batch.to ∙ ap (λ (x : LaneState Content). waiting_from x + min x.batch (length x.waiting)) (sym place))
+
+pub returns-clause-flies : goal.returns-clause-flies
+returns-clause-flies c =
+    let known : c.args.output < length (core_state c.self.inside).setup.outputs = omega (arith, ap (λ (s : CoreState). length s.setup.outputs) c.self.view_is, c.requires) in
+    let within : c.args.output < length c.self.inside.outputs.items = omega (arith, c.self.invariant.core.lanes) in
+    let first : lane_at c.self.inside.outputs.items c.args.output ≡ c.index-place.result.now = placed c.self.inside.outputs.items c.args.output c.index-place.result.now within c.index-place.ensures in
+    let place : lane_at c.self.inside.outputs.items c.args.output ≡ c.index_mut-place.result.now = placed c.self.inside.outputs.items c.args.output c.index_mut-place.result.now within c.index_mut-place.ensures.value in
+    flies (core_state c.self.inside) c.args.output c.begin.new.self c.self.invariant.core known (c.in-Ok-begin.ensures.ok ∙ ap after_begin (sym place))
+    (omega (arith, ap (λ (x : LaneState Content). length x.waiting) first, c.in_ok-ready.ensures.ok.1))

@@ -1,3 +1,5 @@
 pub mod NumberWords
 pub mod PlaceLemmas
 pub mod StandingLemmas
+pub mod GroupLemmas
+pub mod GatherLemmas

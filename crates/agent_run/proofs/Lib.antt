@@ -2,3 +2,5 @@ pub mod NumberWords
 pub mod PlaceLemmas
 pub mod StandingLemmas
 pub mod FaultLemmas
+pub mod GroupLemmas
+pub mod GatherLemmas

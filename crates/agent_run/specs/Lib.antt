@@ -3,3 +3,5 @@ pub mod Command
 pub mod Places
 pub mod Opening
 pub mod Running
+pub mod Gathered
+pub mod Groups

@@ -1,5 +1,8 @@
 //! Reading the next pieces of an input.
-ghost use Rattle.std.specs.Prelude.{◌≡◌, ◌<◌, ◌≤◌, ◌+◌, OnOk};
+ghost use Rattle.std.specs.Prelude.{◌≡◌, ◌<◌, ◌≤◌, ◌+◌, ◌^◌, IfOk, OnOk};
+ghost use Rattle.agent_base.specs.Counts.{Rose};
+ghost use Rattle.agent_base.specs.Cut.{TooLong, Whole};
+ghost use Rattle.agent_run.specs.Groups.{CountsPiece, IsAllRead, ReadsGroup, ReadsNext};
 
 use agent_base::{Piece, PieceFault, Pieces, Source};
 use fixed_num::{Moment, OutOfMemory};
@@ -35,12 +38,11 @@ pub struct Group {
 }
 
 impl Group {
-    /// Counts a piece that is refused.
-    fn refuse(&mut self)
+    /// Counts a piece that is too long, and so refused.
+    fn refuse(&mut self, moment: Moment)
         requires few { self.old.pieces < GATHER_PIECES }
         requires some { self.old.refused ≤ self.old.pieces }
-        ensures pieces { self.new.pieces ≡ self.old.pieces + 1 }
-        ensures some { self.new.refused ≤ self.new.pieces }
+        ensures counted { CountsPiece moment TooLong self.old self.new }
     {
         self.pieces += 1;
         self.refused += 1;
@@ -50,8 +52,7 @@ impl Group {
     fn read(&mut self, alloc: Global, piece: &Piece, moment: Moment) -> Result<(), OutOfMemory>
         requires few { self.old.pieces < GATHER_PIECES }
         requires some { self.old.refused ≤ self.old.pieces }
-        ensures pieces { OnOk result (self.new.pieces ≡ self.old.pieces + 1) }
-        ensures some { OnOk result (self.new.refused ≤ self.new.pieces) }
+        ensures counted { OnOk result (CountsPiece moment (Whole piece.now) self.old self.new) }
     {
         match read_line(alloc, piece.bytes(), moment) {
             Ok(Some(metric)) => self.metrics.push(metric)?,
@@ -68,26 +69,59 @@ impl Group {
     }
 }
 
+/// Reads the next piece into the group, and says whether the input is read on.
+fn read_next<S: Source>(
+    alloc: Global,
+    pieces: &mut Pieces,
+    source: &mut S,
+    moment: Moment,
+    group: &mut Group,
+) -> Result<InState, OutOfMemory>
+    requires few { group.old.pieces < GATHER_PIECES }
+    requires some { group.old.refused ≤ group.old.pieces }
+    ensures next { IfOk result (λ state. ReadsNext state moment group.old group.new pieces.old pieces.new (S.left source.old) (S.left source.new)) }
+    ensures all { IfOk result (λ state. state ≡ InState.Ended → IsAllRead (S.left source.old) (S.left source.new) pieces.new) }
+    ensures failed { IfOk result (λ state. state ≡ InState.Faulted → Rose (S.faults source.old) (S.faults source.new)) }
+    ensures limit { IfOk result (λ state. state ≡ InState.LimitReached → pieces.new.taken ≡ 2 ^ 40) }
+    ensures faults { S.faults source.old ≤ S.faults source.new }
+{
+    match pieces.next(source) {
+        Ok(Some(piece)) => {
+            group.read(alloc, &piece, moment)?;
+            Ok(InState::Reading)
+        }
+        Ok(None) => Ok(InState::Ended),
+        Err(PieceFault::TooLong) => {
+            group.refuse(moment);
+            Ok(InState::Reading)
+        }
+        Err(PieceFault::ReadFault) => Ok(InState::Faulted),
+        Err(PieceFault::ByteLimit) => Ok(InState::LimitReached),
+        Err(PieceFault::OutOfMemory) => Err(OutOfMemory),
+    }
+}
+
 /// Reads the next pieces, at most as many as a gather has, and says whether the input is read on.
 pub fn read_group<S: Source>(
     alloc: Global,
     pieces: &mut Pieces,
     source: &mut S,
     moment: Moment,
-) -> Result<(Group, InState), OutOfMemory> {
+) -> Result<(Group, InState), OutOfMemory>
+    ensures reads { IfOk result (λ answer. ReadsGroup moment answer.0 answer.1 pieces.old pieces.new (S.left source.old) (S.left source.new)) }
+    ensures failed { IfOk result (λ answer. answer.1 ≡ InState.Faulted → Rose (S.faults source.old) (S.faults source.new)) }
+    ensures limit { IfOk result (λ answer. answer.1 ≡ InState.LimitReached → pieces.new.taken ≡ 2 ^ 40) }
+    ensures faults { S.faults source.old ≤ S.faults source.new }
+{
     let mut group = Group {
         pieces: 0,
         refused: 0,
         metrics: Vec::with_capacity(alloc, GATHER_PIECES as usize)?,
     };
     for _piece in 0..GATHER_PIECES {
-        match pieces.next(source) {
-            Ok(Some(piece)) => group.read(alloc, &piece, moment)?,
-            Ok(None) => return Ok((group, InState::Ended)),
-            Err(PieceFault::TooLong) => group.refuse(),
-            Err(PieceFault::ReadFault) => return Ok((group, InState::Faulted)),
-            Err(PieceFault::ByteLimit) => return Ok((group, InState::LimitReached)),
-            Err(PieceFault::OutOfMemory) => return Err(OutOfMemory),
+        let state = read_next(alloc, pieces, source, moment, &mut group)?;
+        if state != InState::Reading {
+            return Ok((group, state));
         }
     }
     Ok((group, InState::Reading))

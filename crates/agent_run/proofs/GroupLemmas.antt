@@ -1,0 +1,105 @@
+-- Groups with one piece more.
+use Rattle.std.proofs.Common.{◌≡◌, ◌≤◌, ◌<◌, ◌+◌, ℕ, ℤ, Bool, cond, List, [], ◌∷◌, ◌++◌, length, refl, sym, ap, subst, ◌∙◌, arith, append_assoc, append-nil, length-append}
+use Rattle.std.specs.Prelude.{count_by}
+use Rattle.std.specs.List.{flat_map}
+use Rattle.std.specs.declared.option.Option.{Option}
+use Rattle.std.specs.declared.option.Option.TheVariants.{Some, None}
+use Rattle.std.proofs.lemmas.Int.{to_z-of_z}
+use mir.Syntax.{w64}
+use mir.Val.{SFits, of_z, to_z}
+use Rattle.std.proofs.lemmas.List.Sums.{sum_by-append}
+use Rattle.std.proofs.lemmas.Grind.{flat_map-append}
+use Rattle.metric.specs.declared.metric.Content.{Content}
+use Rattle.agent_base.specs.Cut.{Cut}
+use Rattle.agent_base.specs.Hand.{Hand, to_come}
+use Rattle.agent_base.specs.Told.{Told}
+use Rattle.agent_run.specs.declared.reading.Group.{Group}
+use Rattle.agent_run.specs.declared.reading.InState.{InState}
+use Rattle.agent_run.specs.declared.reading.InState.TheVariants as states
+use Rattle.agent_run.specs.Gathered.{is_refused, readings}
+use Rattle.agent_run.specs.Groups.{CountsPiece, ReadsPiece, ReadsNone, ReadsNext, IsAllRead, Reads, ReadsGroup}
+
+-- what is told of two steps holds of both
+pub told_then : (first second third : Option (List ℕ)) (P Q R : List ℕ → List ℕ → Type 0) → Told first second P → Told second third Q → ((xs ys zs : List ℕ) → P xs ys → Q ys zs → R xs zs) → Told first third R
+told_then None second third P Q R p q both = tt
+told_then (Some xs) None third P Q R p q both = absurd p
+told_then (Some xs) (Some ys) None P Q R p q both = absurd q
+told_then (Some xs) (Some ys) (Some zs) P Q R p q both = both xs ys zs p q
+
+counted_more : (moment : ℤ) (read : List Cut) (piece : Cut) → count_by (is_refused moment) (read ++ piece ∷ []) ≡ count_by (is_refused moment) read + cond (is_refused moment piece) 1 0
+counted_more moment read piece = omega (arith, sum_by-append (λ (x : Cut). cond (is_refused moment x) 1 0) read (piece ∷ []))
+
+read_more : (moment : ℤ) (read : List Cut) (piece : Cut) → flat_map (readings moment) (read ++ piece ∷ []) ≡ flat_map (readings moment) read ++ readings moment piece
+read_more moment read piece = flat_map-append (readings moment) read (piece ∷ []) ∙ ap (λ (ms : List Content). flat_map (readings moment) read ++ ms) (append-nil (readings moment piece))
+
+pub reads_piece : (moment : ℤ) (old new : Group) (before between after : Hand) (left_before left_between left_after : Option (List ℕ)) → Reads moment old before between left_before left_between → ReadsPiece moment old new between after left_between left_after
+    → Reads moment new before after left_before left_after
+reads_piece moment old new before between after left_before left_between left_after r p = record {
+  read = r.read ++ p.piece ∷ [];
+  pieces = omega (arith, r.pieces, p.counted.pieces, length-append r.read (p.piece ∷ []));
+  refused = omega (arith, r.refused, p.counted.refused, counted_more moment r.read p.piece);
+  metrics = p.counted.metrics ∙ ap (λ (ms : List Content). ms ++ readings moment p.piece) r.metrics ∙ sym (read_more moment r.read p.piece);
+  consecutive =
+      told_then left_before left_between left_after
+      (λ xs ys. to_come before xs ≡ r.read ++ to_come between ys) (λ ys zs. to_come between ys ≡ p.piece ∷ to_come after zs) (λ xs zs. to_come before xs ≡ (r.read ++ p.piece ∷ []) ++ to_come after zs)
+      r.consecutive p.first (λ xs ys zs a b. a ∙ ap (λ (rest : List Cut). r.read ++ rest) b ∙ sym (append_assoc r.read (p.piece ∷ []) (to_come after zs)));
+}
+
+pub reads_none : (moment : ℤ) (old new : Group) (before between after : Hand) (left_before left_between left_after : Option (List ℕ)) → Reads moment old before between left_before left_between → ReadsNone old new between after left_between left_after
+    → Reads moment new before after left_before left_after
+reads_none moment old new before between after left_before left_between left_after r n = record {
+  read = r.read;
+  pieces = ap (λ (g : Group). g.pieces) n.same ∙ r.pieces;
+  refused = ap (λ (g : Group). g.refused) n.same ∙ r.refused;
+  metrics = ap (λ (g : Group). g.metrics.items) n.same ∙ r.metrics;
+  consecutive =
+      told_then left_before left_between left_after
+      (λ xs ys. to_come before xs ≡ r.read ++ to_come between ys) (λ ys zs. to_come between ys ≡ to_come after zs) (λ xs zs. to_come before xs ≡ r.read ++ to_come after zs)
+      r.consecutive n.to_come_still (λ xs ys zs a b. a ∙ ap (λ (rest : List Cut). r.read ++ rest) b);
+}
+
+pub reads_next : (state : InState) (moment : ℤ) (old new : Group) (before between after : Hand) (left_before left_between left_after : Option (List ℕ)) → Reads moment old before between left_before left_between → ReadsNext state moment old new between after left_between left_after
+    → Reads moment new before after left_before left_after
+reads_next states.Reading moment old new before between after left_before left_between left_after r n = reads_piece moment old new before between after left_before left_between left_after r n
+reads_next states.Ended moment old new before between after left_before left_between left_after r n = reads_none moment old new before between after left_before left_between left_after r n
+reads_next states.Faulted moment old new before between after left_before left_between left_after r n = reads_none moment old new before between after left_before left_between left_after r n
+reads_next states.LimitReached moment old new before between after left_before left_between left_after r n = reads_none moment old new before between after left_before left_between left_after r n
+
+pub next_pieces : (state : InState) (moment : ℤ) (old new : Group) (before after : Hand) (left_before left_after : Option (List ℕ)) → ReadsNext state moment old new before after left_before left_after → state ≡ states.Reading → new.pieces ≡ old.pieces + 1
+next_pieces states.Reading moment old new before after left_before left_after n e = n.counted.pieces
+next_pieces states.Ended moment old new before after left_before left_after n e = absurd (let x : states.Ended ≡ states.Reading = e in cc)
+next_pieces states.Faulted moment old new before after left_before left_after n e = absurd (let x : states.Faulted ≡ states.Reading = e in cc)
+next_pieces states.LimitReached moment old new before after left_before left_after n e = absurd (let x : states.LimitReached ≡ states.Reading = e in cc)
+
+pub next_same : (state : InState) (moment : ℤ) (old new : Group) (before after : Hand) (left_before left_after : Option (List ℕ)) → ReadsNext state moment old new before after left_before left_after → (state ≡ states.Reading → ⊥) → new.pieces ≡ old.pieces
+next_same states.Reading moment old new before after left_before left_after n ne = absurd (ne refl)
+next_same states.Ended moment old new before after left_before left_after n ne = ap (λ (g : Group). g.pieces) n.same
+next_same states.Faulted moment old new before after left_before left_after n ne = ap (λ (g : Group). g.pieces) n.same
+next_same states.LimitReached moment old new before after left_before left_after n ne = ap (λ (g : Group). g.pieces) n.same
+
+-- a group behind which nothing is read
+pub group_ends : (state : InState) (moment : ℤ) (old new : Group) (before between after : Hand) (left_before left_between left_after : Option (List ℕ)) → Reads moment old before between left_before left_between → ReadsNext state moment old new between after left_between left_after
+    → (state ≡ states.Reading → ⊥) → old.pieces < 1000 → (state ≡ states.Ended → IsAllRead left_between left_after after) → ReadsGroup moment new state before after left_before left_after
+group_ends state moment old new before between after left_before left_between left_after r n ne few all =
+    let reads : Reads moment new before after left_before left_after = reads_next state moment old new before between after left_before left_between left_after r n in
+    record {
+      reads = reads;
+      most = omega (arith, reads.pieces, next_same state moment old new between after left_between left_after n ne);
+      full = λ e. absurd (ne e);
+      all = λ e. told_then left_before left_between left_after
+          (λ xs ys. to_come before xs ≡ r.read ++ to_come between ys) (λ ys zs. to_come after zs ≡ []) (λ xs zs. to_come after zs ≡ [])
+          r.consecutive (all e) (λ xs ys zs a b. b);
+    }
+
+-- a group of as many pieces as there may be
+pub group_full : (moment : ℤ) (group : Group) (before after : Hand) (left_before left_after : Option (List ℕ)) → Reads moment group before after left_before left_after → group.pieces ≡ 1000 → ReadsGroup moment group states.Reading before after left_before left_after
+group_full moment group before after left_before left_after r n = record {
+  reads = r;
+  most = omega (arith, r.pieces);
+  full = λ e. sym r.pieces ∙ n;
+  all = λ e. absurd (let x : states.Reading ≡ states.Ended = e in cc);
+}
+
+pub at_moment : (moment : ℤ) (group : Group) (state : InState) (before after : Hand) (left_before left_after : Option (List ℕ)) → SFits w64 moment → ReadsGroup (to_z w64 (of_z w64 moment)) group state before after left_before left_after
+    → ReadsGroup moment group state before after left_before left_after
+at_moment moment group state before after left_before left_after fits r = subst (λ (m : ℤ). ReadsGroup m group state before after left_before left_after) (to_z-of_z w64 moment fits) r

@@ -1,0 +1,107 @@
+-- What the Gathers of an input say of its text.
+use Rattle.std.specs.Prelude.{◌≡◌, ◌≤◌, ℕ, ℤ, ◌==◌, Bool, true, List, [], ◌∷◌, ◌++◌, length, count_by, is_err, Result, Ok, Err, if◌then◌else◌}
+use Rattle.std.specs.List.{flat_map}
+use Rattle.std.specs.declared.option.Option.{Option}
+use Rattle.std.specs.declared.option.Option.TheVariants.{Some, None}
+use Rattle.agent_base.specs.Cut.{Cut, TooLong, Whole, cut}
+use Rattle.metric.specs.declared.metric.Content.{Content}
+use Rattle.line_proto.specs.declared.fault.LineFault.{LineFault}
+use Rattle.line_proto.specs.Reading.{plain_reading}
+use Rattle.account.specs.declared.entry.Entry.{Entry}
+use Rattle.account.specs.declared.entry.Entry.TheVariants.{Gather, Ended, Take, Route, Tick, Stop, Begin, Done}
+use Rattle.pipeline_core.specs.Legal.{has_ended}
+
+-- a piece is refused at a moment where it is too long, or no line, and neither blank nor a comment
+abbrev pub is_refused : ℤ → Cut → Bool
+is_refused moment TooLong = true
+is_refused moment (Whole piece) = is_err (plain_reading piece moment)
+
+-- the metric of a reading, where there is one
+abbrev pub metric_of : Result (Option Content) LineFault → List Content
+metric_of (Ok None) = []
+metric_of (Ok (Some metric)) = metric ∷ []
+metric_of (Err fault) = []
+
+-- the metric that a piece says at a moment, where it says one
+abbrev pub readings : ℤ → Cut → List Content
+readings moment TooLong = []
+readings moment (Whole piece) = metric_of (plain_reading piece moment)
+
+-- what a Gather says
+pub record GatherSays : Type 0 where
+  pub moment : ℤ
+  pub pieces : ℕ
+  pub refused : ℕ
+  pub passed : ℕ
+  pub filtered : ℕ
+  pub metrics : List Content
+
+abbrev pub gathers_by : ℕ → Entry → List GatherSays
+gathers_by input (Gather number moment pieces refused passed filtered metrics group reports) =
+    if number == input then (record { moment = moment; pieces = pieces; refused = refused; passed = passed; filtered = filtered; metrics = metrics } ∷ []) else []
+gathers_by input (Ended number) = []
+gathers_by input (Take item) = []
+gathers_by input (Route item whole verdict aggs outs reports) = []
+gathers_by input (Tick moment made) = []
+gathers_by input (Stop moment made) = []
+gathers_by input (Begin output from to) = []
+gathers_by input (Done output ok reports) = []
+
+-- the Gathers of an input, in order
+unfoldable pub gathers : ℕ → List Entry → List GatherSays
+gathers input [] = []
+gathers input (e ∷ es) = gathers_by input e ++ gathers input es
+
+-- a Gather names a group of pieces: how many they are, how many of them are refused, and the readings of the others in order; nothing is passed over or filtered
+pub record IsGroup (group : List Cut) (says : GatherSays) : Type 0 where
+  pub pieces : says.pieces ≡ length group
+  pub refused : says.refused ≡ count_by (is_refused says.moment) group
+  pub passed : says.passed ≡ 0
+  pub filtered : says.filtered ≡ 0
+  pub metrics : says.metrics ≡ flat_map (readings says.moment) group
+
+-- the Gathers name these groups, one each
+unfoldable pub AreGroups : List (List Cut) → List GatherSays → Type 0
+AreGroups [] [] = Unit {0}
+AreGroups [] (says ∷ others) = ⊥
+AreGroups (group ∷ groups) [] = ⊥
+AreGroups (group ∷ groups) (says ∷ others) = IsGroup group says × AreGroups groups others
+
+-- each group but the last has so many pieces, and the last at least one and at most so many
+unfoldable pub AreFull : ℕ → List (List Cut) → Type 0
+AreFull most [] = Unit {0}
+AreFull most (group ∷ []) = (1 ≤ length group) × (length group ≤ most)
+AreFull most (group ∷ second ∷ groups) = (length group ≡ most) × AreFull most (second ∷ groups)
+
+-- the groups, one behind the other
+unfoldable pub joined : List (List Cut) → List Cut
+joined [] = []
+joined (group ∷ groups) = group ++ joined groups
+
+-- the Gathers of an input name consecutive groups of the pieces of its text, from the first piece on, and all pieces where the input has ended
+pub record Gathered (most : ℕ) (journal : List Entry) (input : ℕ) (text : List ℕ) : Type 0 where
+  pub groups : List (List Cut)
+  pub rest : List Cut
+  pub consecutive : cut text ≡ joined groups ++ rest
+  pub named : AreGroups groups (gathers input journal)
+  pub full : AreFull most groups
+  pub all : has_ended input journal ≡ true → rest ≡ []
+
+-- each group has exactly so many pieces
+unfoldable pub AllFull : ℕ → List (List Cut) → Type 0
+AllFull most [] = Unit {0}
+AllFull most (group ∷ groups) = (length group ≡ most) × AllFull most groups
+
+-- so far the Gathers of an input name consecutive full groups of the pieces of its text, from the first piece on; the rest are named by none
+pub record Gathering (most : ℕ) (journal : List Entry) (input : ℕ) (text : List ℕ) (rest : List Cut) : Type 0 where
+  pub groups : List (List Cut)
+  pub consecutive : cut text ≡ joined groups ++ rest
+  pub named : AreGroups groups (gathers input journal)
+  pub full : AllFull most groups
+
+-- the same, where the last group needn't be full
+pub record GatheredTo (most : ℕ) (journal : List Entry) (input : ℕ) (text : List ℕ) (rest : List Cut) : Type 0 where
+  pub groups : List (List Cut)
+  pub consecutive : cut text ≡ joined groups ++ rest
+  pub named : AreGroups groups (gathers input journal)
+  pub full : AreFull most groups

@@ -1,0 +1,54 @@
+-- What the next pieces of an input say, and which pieces of its text they are.
+use Rattle.std.specs.Prelude.{◌≡◌, ◌≤◌, ℕ, ℤ, ◌+◌, List, [], ◌∷◌, ◌++◌, length, count_by, if◌then◌else◌}
+use Rattle.std.specs.List.{flat_map}
+use Rattle.std.specs.declared.option.Option.{Option}
+use Rattle.agent_base.specs.Cut.{Cut}
+use Rattle.agent_base.specs.Hand.{Hand, to_come}
+use Rattle.agent_base.specs.Told.{Told}
+use Rattle.agent_run.specs.declared.reading.Group.{Group}
+use Rattle.agent_run.specs.declared.reading.InState.{InState}
+use Rattle.agent_run.specs.declared.reading.InState.TheVariants as states
+use Rattle.agent_run.specs.Gathered.{is_refused, readings}
+
+-- one piece more is counted, as refused where it is, and its reading is kept behind the others
+pub record CountsPiece (moment : ℤ) (piece : Cut) (old new : Group) : Type 0 where
+  pub pieces : new.pieces ≡ old.pieces + 1
+  pub refused : new.refused ≡ old.refused + (if is_refused moment piece then 1 else 0)
+  pub metrics : new.metrics.items ≡ old.metrics.items ++ readings moment piece
+
+-- the first piece to come is counted, and the others are to come then
+pub record ReadsPiece (moment : ℤ) (old new : Group) (before after : Hand) (left_before left_after : Option (List ℕ)) : Type 0 where
+  pub piece : Cut
+  pub counted : CountsPiece moment piece old new
+  pub first : Told left_before left_after (λ xs ys. to_come before xs ≡ piece ∷ to_come after ys)
+
+-- no piece is counted, and the same pieces are to come
+pub record ReadsNone (old new : Group) (before after : Hand) (left_before left_after : Option (List ℕ)) : Type 0 where
+  pub same : new ≡ old
+  pub to_come_still : Told left_before left_after (λ xs ys. to_come before xs ≡ to_come after ys)
+
+-- a piece is counted where the input is read on, else none
+abbrev pub ReadsNext : InState → ℤ → Group → Group → Hand → Hand → Option (List ℕ) → Option (List ℕ) → Type 0
+ReadsNext states.Reading moment old new before after left_before left_after = ReadsPiece moment old new before after left_before left_after
+ReadsNext states.Ended moment old new before after left_before left_after = ReadsNone old new before after left_before left_after
+ReadsNext states.Faulted moment old new before after left_before left_after = ReadsNone old new before after left_before left_after
+ReadsNext states.LimitReached moment old new before after left_before left_after = ReadsNone old new before after left_before left_after
+
+-- no piece is to come
+abbrev pub IsAllRead : Option (List ℕ) → Option (List ℕ) → Hand → Type 0
+IsAllRead left_before left_after after = Told left_before left_after (λ xs ys. to_come after ys ≡ [])
+
+-- the group is what some pieces say at the moment: those are the first that were to come, and the others are to come then
+pub record Reads (moment : ℤ) (group : Group) (before after : Hand) (left_before left_after : Option (List ℕ)) : Type 0 where
+  pub read : List Cut
+  pub pieces : group.pieces ≡ length read
+  pub refused : group.refused ≡ count_by (is_refused moment) read
+  pub metrics : group.metrics.items ≡ flat_map (readings moment) read
+  pub consecutive : Told left_before left_after (λ xs ys. to_come before xs ≡ read ++ to_come after ys)
+
+-- and they are at most 1,000, exactly so many where the input is read on, and all where it has ended
+pub record ReadsGroup (moment : ℤ) (group : Group) (state : InState) (before after : Hand) (left_before left_after : Option (List ℕ)) : Type 0 where
+  pub reads : Reads moment group before after left_before left_after
+  pub most : length reads.read ≤ 1000
+  pub full : state ≡ states.Reading → length reads.read ≡ 1000
+  pub all : state ≡ states.Ended → IsAllRead left_before left_after after

@@ -3,3 +3,5 @@ pub mod Command
 pub mod Places
 pub mod Opening
 pub mod Running
+pub mod Sent
+pub mod Worked

@@ -1,0 +1,170 @@
+-- What an output was sent, with one entry more.
+use Rattle.std.proofs.Common.{◌≡◌, ℕ, zero, suc, ◌+◌, ◌-◌, ◌<◌, ◌≤◌, ◌==◌, min, Bool, true, false, List, [], ◌∷◌, ◌++◌, length, take, drop, if◌then◌else◌, Result, Ok, Err, refl, sym, ap, ◌∙◌, arith, subst, append_assoc, append-nil}
+use Rattle.std.proofs.lemmas.List.{length-drop, length-take}
+use Rattle.std.specs.declared.option.Option.{Option}
+use Rattle.std.specs.declared.option.Option.TheVariants.{Some, None}
+use Rattle.std.specs.Io.KnownBytes.{Appends, Keeps}
+use Rattle.metric.specs.declared.metric.Content.{Content}
+use Rattle.account.specs.declared.entry.Entry.{Entry}
+use Rattle.account.specs.declared.entry.Entry.TheVariants.{Gather, Ended, Take, Route, Tick, Stop, Begin, Done}
+use Rattle.account.specs.declared.entry.Verdict.{Verdict}
+use Rattle.account.specs.declared.entry.Verdict.TheVariants as verdicts
+use Rattle.out_lane.specs.Lane.{LaneState, waiting_from}
+use Rattle.out_lane.specs.LaneEvents.{LaneEvent, Ranges, ranges_after, ranges_from, ranges_of}
+use Rattle.out_lane.specs.LaneLaws.{IsLaneOf, IsLaneAt, no_ranges, oldest_waiting}
+use Rattle.agent_base.specs.Puts.{PutAppends}
+use Rattle.agent_base.specs.declared.outside.PutFault.{PutFault}
+use Rattle.agent_base.specs.declared.outside.PutFault.TheVariants.{Failed, OutOfMemory}
+use Rattle.pipeline_core.specs.CoreState.{CoreState, lane_at}
+use Rattle.pipeline_core.specs.Offers.{offers, offered_by, lane_events, lane_events_by, pushes, offered, view_at}
+use Rattle.pipeline_core.specs.Stands.{Stands}
+use Rattle.pipeline_core.specs.Steps.{IsBatchOf}
+use Rattle.pipeline_core.specs.declared.batches.Batch.{Batch}
+use Rattle.pipeline_core.proofs.JournalPush.{offers-push}
+use Rattle.agent_run.specs.Sent.{BatchSays, views_in, begun_after, batches_by, batches_from, batches, batch_text, IsPart, AreSent, Sent, AppendsSo}
+
+-- the range that is begun after some entries, where this one was begun before them
+unfoldable pub begun_from : ℕ → Option (ℕ × ℕ) → List Entry → Option (ℕ × ℕ)
+begun_from output begun [] = begun
+begun_from output begun (e ∷ es) = begun_from output (begun_after output begun e) es
+
+pub begun_from-push : (output : ℕ) (begun : Option (ℕ × ℕ)) (es : List Entry) (e : Entry) → begun_from output begun (es ++ e ∷ []) ≡ begun_after output (begun_from output begun es) e
+unfolding begun_from
+begun_from-push output begun [] e = refl
+begun_from-push output begun (d ∷ es) e = begun_from-push output (begun_after output begun d) es e
+
+ranges_from-append : (r : Ranges) (es more : List LaneEvent) → ranges_from r (es ++ more) ≡ ranges_from (ranges_from r es) more
+unfolding ranges_from
+ranges_from-append r [] more = refl
+ranges_from-append r (e ∷ es) more = ranges_from-append (ranges_after r e) es more
+
+pushed-begun : (r : Ranges) (views : List Content) → (ranges_from r (pushes views)).begun ≡ r.begun
+unfolding ranges_from
+pushed-begun r [] = refl
+pushed-begun r (view ∷ views) = pushed-begun (record r { pushed = r.pushed + 1 }) views
+
+begin-begun : (r : Ranges) (from to : ℕ) (here : Bool) → (ranges_from r (if here then Rattle.out_lane.specs.LaneEvents.Begin from to ∷ [] else [])).begun ≡ (if here then Some (from, to) else r.begun)
+unfolding ranges_from
+begin-begun r from to true = refl
+begin-begun r from to false = refl
+
+done-begun : (r : Ranges) (ok here : Bool) → (ranges_from r (if here then Rattle.out_lane.specs.LaneEvents.Done ok ∷ [] else [])).begun ≡ (if here then None else r.begun)
+unfolding ranges_from
+done-begun r ok true = refl
+done-begun r ok false = refl
+
+entry-begun : (output : ℕ) (r : Ranges) (e : Entry) → (ranges_from r (lane_events_by output e)).begun ≡ begun_after output r.begun e
+unfolding ranges_from
+entry-begun output r (Gather input moment pieces refused passed filtered metrics group reports) = refl
+entry-begun output r (Ended input) = refl
+entry-begun output r (Take item) = refl
+entry-begun output r (Route item whole verdict aggs outs reports) = pushed-begun r (offered verdict (view_at output outs))
+entry-begun output r (Tick moment made) = refl
+entry-begun output r (Stop moment made) = refl
+entry-begun output r (Begin number from to) = begin-begun r from to (number == output)
+entry-begun output r (Done number ok reports) = done-begun r ok (number == output)
+
+begun_from-ranges : (output : ℕ) (r : Ranges) (es : List Entry) → begun_from output r.begun es ≡ (ranges_from r (lane_events output es)).begun
+unfolding begun_from lane_events ranges_from
+begun_from-ranges output r [] = refl
+begun_from-ranges output r (e ∷ es) =
+    ap (λ (b : Option (ℕ × ℕ)). begun_from output b es) (sym (entry-begun output r e))
+    ∙ begun_from-ranges output (ranges_from r (lane_events_by output e)) es
+    ∙ ap (λ (x : Ranges). x.begun) (sym (ranges_from-append r (lane_events_by output e) (lane_events output es)))
+
+-- the range that is begun is the one of the events at the output
+pub begun_is : (output : ℕ) (es : List Entry) → begun_from output None es ≡ (ranges_of (lane_events output es)).begun
+begun_is output es = begun_from-ranges output no_ranges es
+
+batches_from-push : (output : ℕ) (views : List Content) (begun : Option (ℕ × ℕ)) (es : List Entry) (e : Entry) →
+    batches_from output views begun (es ++ e ∷ []) ≡ batches_from output views begun es ++ batches_by output (views ++ offers output es) (begun_from output begun es) e
+unfolding batches_from offers begun_from
+batches_from-push output views begun [] e =
+    append-nil (batches_by output views begun e) ∙ ap (λ (vs : List Content). batches_by output vs begun e) (sym (append-nil views))
+batches_from-push output views begun (d ∷ es) e =
+    let more : List Content = views ++ offered_by output d in
+    let next : Option (ℕ × ℕ) = begun_after output begun d in
+    ap (λ (bs : List BatchSays). batches_by output views begun d ++ bs)
+    (batches_from-push output more next es e
+    ∙ ap (λ (vs : List Content). batches_from output more next es ++ batches_by output vs (begun_from output next es) e) (append_assoc views (offered_by output d) (offers output es)))
+    ∙ sym (append_assoc (batches_by output views begun d) (batches_from output more next es) (batches_by output (views ++ (offered_by output d ++ offers output es)) (begun_from output next es) e))
+
+-- the batches, with one entry more
+pub batches-push : (output : ℕ) (es : List Entry) (e : Entry) → batches output (es ++ e ∷ []) ≡ batches output es ++ batches_by output (offers output es) (ranges_of (lane_events output es)).begun e
+batches-push output es e =
+    batches_from-push output [] None es e
+    ∙ ap (λ (b : Option (ℕ × ℕ)). batches output es ++ batches_by output (offers output es) b e) (begun_is output es)
+
+-- an entry that isn't the end of the output's batch
+abbrev pub EndsNone : ℕ → Entry → Type 0
+EndsNone output (Done number ok reports) = (number == output) ≡ false
+EndsNone output _ = Unit {0}
+
+ends_none : (output : ℕ) (views : List Content) (begun : Option (ℕ × ℕ)) (e : Entry) → EndsNone output e → batches_by output views begun e ≡ []
+ends_none output views begun (Gather input moment pieces refused passed filtered metrics group reports) h = refl
+ends_none output views begun (Ended input) h = refl
+ends_none output views begun (Take item) h = refl
+ends_none output views begun (Route item whole verdict aggs outs reports) h = refl
+ends_none output views begun (Tick moment made) h = refl
+ends_none output views begun (Stop moment made) h = refl
+ends_none output views begun (Begin number from to) h = refl
+ends_none output views begun (Done number ok reports) h =
+    ap (λ (here : Bool). if here then (let b : BatchSays = record { views = views_in begun views; ok = ok } in b) ∷ [] else []) h
+
+-- it leaves the batches as they are
+pub batches-same : (output : ℕ) (es : List Entry) (e : Entry) → EndsNone output e → batches output (es ++ e ∷ []) ≡ batches output es
+batches-same output es e h =
+    let begun : Option (ℕ × ℕ) = (ranges_of (lane_events output es)).begun in
+    batches-push output es e ∙ ap (λ (bs : List BatchSays). batches output es ++ bs) (ends_none output (offers output es) begun e h) ∙ append-nil (batches output es)
+
+pub Sent-same : (output : ℕ) (es : List Entry) (e : Entry) (bytes : List ℕ) → EndsNone output e → Sent es output bytes → Sent (es ++ e ∷ []) output bytes
+Sent-same output es e bytes h s = subst (λ (bs : List BatchSays). AreSent bs bytes) (sym (batches-same output es e h)) s
+
+-- one batch more, of which a part was sent
+pub AreSent-append : (bs : List BatchSays) (bytes : List ℕ) (b : BatchSays) (part : List ℕ) → AreSent bs bytes → IsPart b.ok (batch_text b.views) part → AreSent (bs ++ b ∷ []) (bytes ++ part)
+unfolding AreSent
+AreSent-append [] bytes b part s p = (part, [], ap (λ (xs : List ℕ). xs ++ part) s ∙ sym (append-nil part), p, refl)
+AreSent-append (c ∷ bs) bytes b part s p =
+    (s.0, s.1 ++ part, ap (λ (xs : List ℕ). xs ++ part) s.2 ∙ append_assoc s.0 s.1 part, s.3, AreSent-append bs s.1 b part s.4 p)
+
+-- nothing was sent
+pub AreSent-none : AreSent [] []
+unfolding AreSent
+AreSent-none = refl
+
+-- nothing is appended
+pub AppendsSo-nil : (P : List ℕ → Type 0) (held : Option (List ℕ)) → P [] → AppendsSo held held P
+AppendsSo-nil P None h = tt
+AppendsSo-nil P (Some xs) h = ([], sym (append-nil xs), h)
+
+-- the same bytes with another fact
+pub AppendsSo-map : (P Q : List ℕ → Type 0) (old new : Option (List ℕ)) → ((bytes : List ℕ) → P bytes → Q bytes) → AppendsSo old new P → AppendsSo old new Q
+AppendsSo-map P Q None new f h = tt
+AppendsSo-map P Q (Some xs) None f h = absurd h
+AppendsSo-map P Q (Some xs) (Some ys) f h = (h.0, h.1, f h.0 h.2)
+
+-- more bytes
+pub AppendsSo-trans : (P Q : List ℕ → Type 0) (old mid new : Option (List ℕ)) (text : List ℕ) → ((bytes : List ℕ) → P bytes → Q (bytes ++ text)) → AppendsSo old mid P → Appends mid new text → AppendsSo old new Q
+AppendsSo-trans P Q None mid new text f h a = tt
+AppendsSo-trans P Q (Some xs) None new text f h a = absurd h
+AppendsSo-trans P Q (Some xs) (Some ys) None text f h a = absurd a
+AppendsSo-trans P Q (Some xs) (Some ys) (Some zs) text f h a =
+    (h.0 ++ text, a ∙ ap (λ (l : List ℕ). l ++ text) h.1 ∙ append_assoc xs h.0 text, f h.0 h.2)
+
+pub AppendsSo-kept : (P : List ℕ → Type 0) (old mid new : Option (List ℕ)) → AppendsSo old mid P → Keeps mid new → AppendsSo old new P
+AppendsSo-kept P None mid new h k = tt
+AppendsSo-kept P (Some xs) None new h k = absurd h
+AppendsSo-kept P (Some xs) (Some ys) None h k = absurd k
+AppendsSo-kept P (Some xs) (Some ys) (Some zs) h k = (h.0, k ∙ h.1, h.2)
+
+-- whether a put was accepted
+abbrev pub accepted : Result (Unit {0}) PutFault → Bool
+accepted (Ok done) = true
+accepted (Err fault) = false
+
+-- a put that was accepted or failed appends a part of its text
+pub AppendsSo-put : (P Q : List ℕ → Type 0) (old mid new : Option (List ℕ)) (text : List ℕ) (result : Result (Unit {0}) PutFault) → (result ≡ Err OutOfMemory → ⊥) →
+    ((bytes part : List ℕ) → IsPart (accepted result) text part → P bytes → Q (bytes ++ part)) → AppendsSo old mid P → PutAppends mid new text result → AppendsSo old new Q
+AppendsSo-put P Q old mid new text (Ok done) n f h a = AppendsSo-trans P Q old mid new text (λ bytes p. f bytes text refl p) h a
+AppendsSo-put P Q old mid new text (Err Failed) n f h a = AppendsSo-trans P Q old mid new (take a.0 text) (λ bytes p. f bytes (take a.0 text) (a.0, refl) p) h a.1
+AppendsSo-put P Q old mid new text (Err OutOfMemory) n f h a = absurd (n refl)

@@ -2,3 +2,4 @@ pub mod NumberWords
 pub mod PlaceLemmas
 pub mod StandingLemmas
 pub mod SentLemmas
+pub mod WorkedLemmas

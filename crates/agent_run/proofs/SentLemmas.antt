@@ -1,6 +1,8 @@
 -- What an output was sent, with one entry more.
-use Rattle.std.proofs.Common.{◌≡◌, ℕ, zero, suc, ◌+◌, ◌-◌, ◌<◌, ◌≤◌, ◌==◌, min, Bool, true, false, List, [], ◌∷◌, ◌++◌, length, take, drop, if◌then◌else◌, Result, Ok, Err, refl, sym, ap, ◌∙◌, arith, subst, append_assoc, append-nil}
-use Rattle.std.proofs.lemmas.List.{length-drop, length-take}
+use Rattle.std.proofs.Common.{◌≡◌, ℕ, zero, suc, ◌+◌, ◌-◌, ◌<◌, ◌≤◌, ◌==◌, min, Bool, true, false, List, [], ◌∷◌, ◌++◌, length, take, drop, if◌then◌else◌, inl, inr, Result, Ok, Err, refl, sym, ap, ◌∙◌, arith, subst, append_assoc, append-nil}
+use Rattle.std.proofs.lemmas.List.{length-drop, take_all}
+use Rattle.std.proofs.lemmas.Bool.{cases_lt}
+use Rattle.std.proofs.Math.ListN.{drop_of_length-le}
 use Rattle.std.specs.declared.option.Option.{Option}
 use Rattle.std.specs.declared.option.Option.TheVariants.{Some, None}
 use Rattle.std.specs.Io.KnownBytes.{Appends, Keeps}
@@ -11,6 +13,7 @@ use Rattle.account.specs.declared.entry.Verdict.{Verdict}
 use Rattle.account.specs.declared.entry.Verdict.TheVariants as verdicts
 use Rattle.out_lane.specs.Lane.{LaneState, waiting_from}
 use Rattle.out_lane.specs.LaneEvents.{LaneEvent, Ranges, ranges_after, ranges_from, ranges_of}
+use Rattle.out_lane.specs.LaneEvents as events
 use Rattle.out_lane.specs.LaneLaws.{IsLaneOf, IsLaneAt, no_ranges, oldest_waiting}
 use Rattle.agent_base.specs.Puts.{PutAppends}
 use Rattle.agent_base.specs.declared.outside.PutFault.{PutFault}
@@ -21,6 +24,7 @@ use Rattle.pipeline_core.specs.Stands.{Stands}
 use Rattle.pipeline_core.specs.Steps.{IsBatchOf}
 use Rattle.pipeline_core.specs.declared.batches.Batch.{Batch}
 use Rattle.pipeline_core.proofs.JournalPush.{offers-push}
+use Rattle.pipeline_core.proofs.StandsSteps.{same_number}
 use Rattle.agent_run.specs.Sent.{BatchSays, views_in, begun_after, batches_by, batches_from, batches, batch_text, IsPart, AreSent, Sent, AppendsSo}
 
 -- the range that is begun after some entries, where this one was begun before them
@@ -43,12 +47,12 @@ unfolding ranges_from
 pushed-begun r [] = refl
 pushed-begun r (view ∷ views) = pushed-begun (record r { pushed = r.pushed + 1 }) views
 
-begin-begun : (r : Ranges) (from to : ℕ) (here : Bool) → (ranges_from r (if here then Rattle.out_lane.specs.LaneEvents.Begin from to ∷ [] else [])).begun ≡ (if here then Some (from, to) else r.begun)
+begin-begun : (r : Ranges) (from to : ℕ) (here : Bool) → (ranges_from r (if here then events.Begin from to ∷ [] else [])).begun ≡ (if here then Some (from, to) else r.begun)
 unfolding ranges_from
 begin-begun r from to true = refl
 begin-begun r from to false = refl
 
-done-begun : (r : Ranges) (ok here : Bool) → (ranges_from r (if here then Rattle.out_lane.specs.LaneEvents.Done ok ∷ [] else [])).begun ≡ (if here then None else r.begun)
+done-begun : (r : Ranges) (ok here : Bool) → (ranges_from r (if here then events.Done ok ∷ [] else [])).begun ≡ (if here then None else r.begun)
 unfolding ranges_from
 done-begun r ok true = refl
 done-begun r ok false = refl
@@ -168,3 +172,105 @@ pub AppendsSo-put : (P Q : List ℕ → Type 0) (old mid new : Option (List ℕ)
 AppendsSo-put P Q old mid new text (Ok done) n f h a = AppendsSo-trans P Q old mid new text (λ bytes p. f bytes text refl p) h a
 AppendsSo-put P Q old mid new text (Err Failed) n f h a = AppendsSo-trans P Q old mid new (take a.0 text) (λ bytes p. f bytes (take a.0 text) (a.0, refl) p) h a.1
 AppendsSo-put P Q old mid new text (Err OutOfMemory) n f h a = absurd (n refl)
+
+-- the same with an entry that isn't the end of the output's batch
+pub sent_same : (output : ℕ) (journal : List Entry) (e : Entry) (held new : Option (List ℕ)) → EndsNone output e → AppendsSo held new (Sent journal output) → AppendsSo held new (Sent (journal ++ e ∷ []) output)
+sent_same output journal e held new h a =
+    AppendsSo-map (Sent journal output) (Sent (journal ++ e ∷ []) output) held new (λ bytes s. Sent-same output journal e bytes h s) a
+
+-- nothing happened, and nothing was sent
+pub sent_first : (output : ℕ) (held : Option (List ℕ)) → AppendsSo held held (Sent [] output)
+unfolding batches_from
+sent_first output held = AppendsSo-nil (Sent [] output) held AreSent-none
+
+-- the items behind a place begin where as many come before the end
+behind : (k : ℕ) (views waiting : List Content) → waiting ≡ drop k views → drop (length views - length waiting) views ≡ waiting
+behind k views waiting e =
+    elim (cases_lt (length views) k) [
+      | inl l ↦
+          (let none : drop k views ≡ [] = drop_of_length-le views {i = k} (omega arith) in
+          let empty : length waiting ≡ 0 = ap (λ (xs : List Content). length xs) (e ∙ none) in
+          ap (λ (n : ℕ). drop n views) (let n : length views - length waiting ≡ length views = omega arith in n) ∙ drop_of_length-le views {i = length views} (omega arith) ∙ sym (e ∙ none))
+      | inr g ↦
+          (let many : length waiting ≡ length views - k = ap (λ (xs : List Content). length xs) e ∙ length-drop k views in
+          ap (λ (n : ℕ). drop n views) (let n : length views - length waiting ≡ k = omega arith in n) ∙ sym e)
+    ]
+
+clipped : (n : ℕ) (xs : List Content) → take (min n (length xs)) xs ≡ take n xs
+clipped n xs =
+    elim (cases_lt (length xs) n) [
+      | inl l ↦
+          ap (λ (k : ℕ). take k xs) (let k : min n (length xs) ≡ length xs = omega arith in k) ∙ take_all (length xs) xs (omega arith) ∙ sym (take_all n xs (omega arith))
+      | inr g ↦ ap (λ (k : ℕ). take k xs) (let k : min n (length xs) ≡ n = omega arith in k)
+    ]
+
+-- a batch's metrics are the views of its range
+pub batch_views : (core : CoreState) (journal : List Entry) (output : ℕ) (batch : Batch) → Stands core journal → output < length core.setup.outputs → IsBatchOf (lane_at core.lanes output) batch →
+    batch.metrics ≡ views_in (Some (batch.from, batch.to)) (offers output journal)
+batch_views core journal output batch h b is =
+    let x : LaneState Content = lane_at core.lanes output in
+    let views : List Content = offers output journal in
+    let ranges : Ranges = ranges_of (lane_events output journal) in
+    let state = (h.lanes output b).state in
+    let all : x.pushed ≡ length views = state.pushed ∙ sym state.offered in
+    let first : batch.from ≡ length views - length x.waiting = is.from ∙ ap (λ (n : ℕ). n - length x.waiting) all in
+    let many : batch.to - batch.from ≡ min x.batch (length x.waiting) = omega (arith, is.from, is.to) in
+    let rest : drop batch.from views ≡ x.waiting = ap (λ (n : ℕ). drop n views) first ∙ behind (oldest_waiting x.limit ranges) views x.waiting (state.waiting ∙ ap (λ (n : ℕ). drop (oldest_waiting n ranges) views) (sym state.limit)) in
+    is.metrics ∙ sym (clipped x.batch x.waiting) ∙ sym (ap (λ (n : ℕ). take n x.waiting) many) ∙ sym (ap (λ (xs : List Content). take (batch.to - batch.from) xs) rest)
+
+begins-here : (begun : Option (ℕ × ℕ)) (output from to : ℕ) → begun_after output begun (Begin output from to) ≡ Some (from, to)
+begins-here begun output from to = ap (λ (here : Bool). if here then Some (from, to) else begun) (same_number output)
+
+ends-here : (output : ℕ) (views : List Content) (begun : Option (ℕ × ℕ)) (ok : Bool) → batches_by output views begun (Done output ok []) ≡ record { views = views_in begun views; ok = ok } ∷ []
+ends-here output views begun ok =
+    ap (λ (here : Bool). if here then (let b : BatchSays = record { views = views_in begun views; ok = ok } in b) ∷ [] else []) (same_number output)
+
+-- the batches, once one more was begun and done
+pub batches-more : (output : ℕ) (journal : List Entry) (from to : ℕ) (ok : Bool) →
+    batches output ((journal ++ Begin output from to ∷ []) ++ Done output ok [] ∷ []) ≡ batches output journal ++ record { views = views_in (Some (from, to)) (offers output journal); ok = ok } ∷ []
+batches-more output journal from to ok =
+    let begin : Entry = Begin output from to in
+    let before : List Entry = journal ++ begin ∷ [] in
+    let end : Entry = Done output ok [] in
+    let range : Option (ℕ × ℕ) = Some (from, to) in
+    let begun : (ranges_of (lane_events output before)).begun ≡ range = sym (begun_is output before) ∙ begun_from-push output None journal begin ∙ begins-here (begun_from output None journal) output from to in
+    let views : offers output before ≡ offers output journal = offers-push output journal begin ∙ append-nil (offers output journal) in
+    batches-push output before end
+    ∙ ap (λ (bs : List BatchSays). bs ++ batches_by output (offers output before) (ranges_of (lane_events output before)).begun end) (batches-same output journal begin tt)
+    ∙ ap (λ (r : Option (ℕ × ℕ)). batches output journal ++ batches_by output (offers output before) r end) begun
+    ∙ ap (λ (vs : List Content). batches output journal ++ batches_by output vs range end) views
+    ∙ ap (λ (bs : List BatchSays). batches output journal ++ bs) (ends-here output (offers output journal) range ok)
+
+-- one batch more, of whose text a part was sent
+pub Sent-more : (core : CoreState) (journal : List Entry) (output : ℕ) (batch : Batch) (ok : Bool) (bytes part : List ℕ) → Stands core journal → output < length core.setup.outputs → IsBatchOf (lane_at core.lanes output) batch →
+    IsPart ok (batch_text batch.metrics) part → Sent journal output bytes → Sent ((journal ++ Begin output batch.from batch.to ∷ []) ++ Done output ok [] ∷ []) output (bytes ++ part)
+Sent-more core journal output batch ok bytes part h b is p s =
+    let views : List Content = views_in (Some (batch.from, batch.to)) (offers output journal) in
+    let says : BatchSays = record { views = views; ok = ok } in
+    let q : IsPart ok (batch_text views) part = subst (λ (vs : List Content). IsPart ok (batch_text vs) part) (batch_views core journal output batch h b is) p in
+    subst (λ (bs : List BatchSays). AreSent bs (bytes ++ part)) (sym (batches-more output journal batch.from batch.to ok)) (AreSent-append (batches output journal) bytes says part s q)
+
+-- what was sent, once a batch was begun, put and done
+pub sent_more : (core : CoreState) (journal : List Entry) (output : ℕ) (batch : Batch) (held mid new : Option (List ℕ)) (text : List ℕ) (result : Result (Unit {0}) PutFault) →
+    Stands core journal → output < length core.setup.outputs → IsBatchOf (lane_at core.lanes output) batch → text ≡ batch_text batch.metrics → (result ≡ Err OutOfMemory → ⊥) →
+    AppendsSo held mid (Sent journal output) → PutAppends mid new text result →
+    AppendsSo held new (Sent ((journal ++ Begin output batch.from batch.to ∷ []) ++ Done output (accepted result) [] ∷ []) output)
+sent_more core journal output batch held mid new text result h b is t n a put =
+    AppendsSo-put (Sent journal output) (Sent ((journal ++ Begin output batch.from batch.to ∷ []) ++ Done output (accepted result) [] ∷ []) output) held mid new text result n
+    (λ bytes part p s. Sent-more core journal output batch (accepted result) bytes part h b is (subst (λ (xs : List ℕ). IsPart (accepted result) xs part) t p) s) a put
+
+-- the same where the put was accepted
+pub sent_accepted : (core : CoreState) (journal : List Entry) (output : ℕ) (batch : Batch) (held mid new : Option (List ℕ)) (text : List ℕ) →
+    Stands core journal → output < length core.setup.outputs → IsBatchOf (lane_at core.lanes output) batch → text ≡ batch_text batch.metrics →
+    AppendsSo held mid (Sent journal output) → Appends mid new text →
+    AppendsSo held new (Sent ((journal ++ Begin output batch.from batch.to ∷ []) ++ Done output true [] ∷ []) output)
+sent_accepted core journal output batch held mid new text h b is t a put =
+    sent_more core journal output batch held mid new text (Ok tt) h b is t (λ e. absurd (let x : Ok tt ≡ Err OutOfMemory = e in cc)) a put
+
+-- and where it failed
+pub sent_failed : (core : CoreState) (journal : List Entry) (output : ℕ) (batch : Batch) (held mid new : Option (List ℕ)) (text : List ℕ) →
+    Stands core journal → output < length core.setup.outputs → IsBatchOf (lane_at core.lanes output) batch → text ≡ batch_text batch.metrics →
+    AppendsSo held mid (Sent journal output) → ((n : ℕ) × Appends mid new (take n text)) →
+    AppendsSo held new (Sent ((journal ++ Begin output batch.from batch.to ∷ []) ++ Done output false [] ∷ []) output)
+sent_failed core journal output batch held mid new text h b is t a put =
+    sent_more core journal output batch held mid new text (Err Failed) h b is t (λ e. absurd (let x : Err Failed ≡ Err OutOfMemory = e in cc)) a put

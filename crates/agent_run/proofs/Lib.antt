@@ -4,3 +4,5 @@ pub mod StandingLemmas
 pub mod FaultLemmas
 pub mod GroupLemmas
 pub mod GatherLemmas
+pub mod SentLemmas
+pub mod WorkedLemmas

@@ -5,3 +5,5 @@ pub mod Opening
 pub mod Running
 pub mod Gathered
 pub mod Groups
+pub mod Sent
+pub mod Worked

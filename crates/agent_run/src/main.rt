@@ -1,6 +1,7 @@
 //! A metric agent: one line protocol input to one line protocol output, with a journal of every event.
 #![tactic(auto)]
 
+mod batch;
 mod command;
 mod journal;
 mod opening;

@@ -4,6 +4,7 @@ ghost use Rattle.pipeline_core.specs.CoreState.{CoreState, lane_at};
 ghost use Rattle.agent_base.specs.Counts.{Rose};
 ghost use Rattle.agent_run.specs.Running.{IsReady, IsReading, IsRoutable, HasJournal, StillStands};
 
+use crate::batch::write_batch;
 use crate::command::Pipe;
 use crate::journal::JournalText;
 use crate::reading::{Group, InState, read_group};
@@ -11,8 +12,6 @@ use crate::status::Status;
 use agent_base::{Clock, CutKind, Pieces, PutFault, Sink, Source};
 use fixed_num::{Moment, OutOfMemory, Seq};
 use journal_text::JournalSetup;
-use line_proto::write_line;
-use metric::Metric;
 use pipeline_core::{
     BeginAnswer, Core, CoreSetup, CutAnswer, GatherRefused, Gathered, InSetup, Item, OutSetup,
     Routed, TakeAnswer,
@@ -192,15 +191,6 @@ fn route_all(alloc: Global, core: &mut Core) -> Result<(), OutOfMemory>
         }
     }
     Err(OutOfMemory)
-}
-
-/// The text of a batch: the lines of its metrics, in order.
-fn write_batch(alloc: Global, metrics: &[Metric], out: &mut Vec<u8>) -> Result<(), OutOfMemory> {
-    out.clear();
-    for metric in metrics {
-        write_line(alloc, metric, out)?;
-    }
-    Ok(())
 }
 
 /// What came of a batch.

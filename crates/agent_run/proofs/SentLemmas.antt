@@ -1,0 +1,276 @@
+-- What an output was sent, with one entry more.
+use Rattle.std.proofs.Common.{◌≡◌, ℕ, zero, suc, ◌+◌, ◌-◌, ◌<◌, ◌≤◌, ◌==◌, min, Bool, true, false, List, [], ◌∷◌, ◌++◌, length, take, drop, if◌then◌else◌, inl, inr, Result, Ok, Err, refl, sym, ap, ◌∙◌, arith, subst, append_assoc, append-nil}
+use Rattle.std.proofs.lemmas.List.{length-drop, take_all}
+use Rattle.std.proofs.lemmas.Bool.{cases_lt}
+use Rattle.std.proofs.Math.ListN.{drop_of_length-le}
+use Rattle.std.specs.declared.option.Option.{Option}
+use Rattle.std.specs.declared.option.Option.TheVariants.{Some, None}
+use Rattle.std.specs.Io.KnownBytes.{Appends, Keeps}
+use Rattle.metric.specs.declared.metric.Content.{Content}
+use Rattle.account.specs.declared.entry.Entry.{Entry}
+use Rattle.account.specs.declared.entry.Entry.TheVariants.{Gather, Ended, Take, Route, Tick, Stop, Begin, Done}
+use Rattle.account.specs.declared.entry.Verdict.{Verdict}
+use Rattle.account.specs.declared.entry.Verdict.TheVariants as verdicts
+use Rattle.out_lane.specs.Lane.{LaneState, waiting_from}
+use Rattle.out_lane.specs.LaneEvents.{LaneEvent, Ranges, ranges_after, ranges_from, ranges_of}
+use Rattle.out_lane.specs.LaneEvents as events
+use Rattle.out_lane.specs.LaneLaws.{IsLaneOf, IsLaneAt, no_ranges, oldest_waiting}
+use Rattle.agent_base.specs.Puts.{PutAppends}
+use Rattle.agent_base.specs.declared.outside.PutFault.{PutFault}
+use Rattle.agent_base.specs.declared.outside.PutFault.TheVariants.{Failed, OutOfMemory}
+use Rattle.pipeline_core.specs.CoreState.{CoreState, lane_at}
+use Rattle.pipeline_core.specs.Offers.{offers, offered_by, lane_events, lane_events_by, pushes, offered, view_at}
+use Rattle.pipeline_core.specs.Stands.{Stands}
+use Rattle.pipeline_core.specs.Steps.{IsBatchOf}
+use Rattle.pipeline_core.specs.declared.batches.Batch.{Batch}
+use Rattle.pipeline_core.proofs.JournalPush.{offers-push}
+use Rattle.pipeline_core.proofs.StandsSteps.{same_number}
+use Rattle.agent_run.specs.Sent.{BatchSays, views_in, begun_after, batches_by, batches_from, batches, batch_text, IsPart, AreSent, Sent, AppendsSo}
+
+-- the range that is begun after some entries, where this one was begun before them
+unfoldable pub begun_from : ℕ → Option (ℕ × ℕ) → List Entry → Option (ℕ × ℕ)
+begun_from output begun [] = begun
+begun_from output begun (e ∷ es) = begun_from output (begun_after output begun e) es
+
+pub begun_from-push : (output : ℕ) (begun : Option (ℕ × ℕ)) (es : List Entry) (e : Entry) → begun_from output begun (es ++ e ∷ []) ≡ begun_after output (begun_from output begun es) e
+unfolding begun_from
+begun_from-push output begun [] e = refl
+begun_from-push output begun (d ∷ es) e = begun_from-push output (begun_after output begun d) es e
+
+ranges_from-append : (r : Ranges) (es more : List LaneEvent) → ranges_from r (es ++ more) ≡ ranges_from (ranges_from r es) more
+unfolding ranges_from
+ranges_from-append r [] more = refl
+ranges_from-append r (e ∷ es) more = ranges_from-append (ranges_after r e) es more
+
+pushed-begun : (r : Ranges) (views : List Content) → (ranges_from r (pushes views)).begun ≡ r.begun
+unfolding ranges_from
+pushed-begun r [] = refl
+pushed-begun r (view ∷ views) = pushed-begun (record r { pushed = r.pushed + 1 }) views
+
+begin-begun : (r : Ranges) (from to : ℕ) (here : Bool) → (ranges_from r (if here then events.Begin from to ∷ [] else [])).begun ≡ (if here then Some (from, to) else r.begun)
+unfolding ranges_from
+begin-begun r from to true = refl
+begin-begun r from to false = refl
+
+done-begun : (r : Ranges) (ok here : Bool) → (ranges_from r (if here then events.Done ok ∷ [] else [])).begun ≡ (if here then None else r.begun)
+unfolding ranges_from
+done-begun r ok true = refl
+done-begun r ok false = refl
+
+entry-begun : (output : ℕ) (r : Ranges) (e : Entry) → (ranges_from r (lane_events_by output e)).begun ≡ begun_after output r.begun e
+unfolding ranges_from
+entry-begun output r (Gather input moment pieces refused passed filtered metrics group reports) = refl
+entry-begun output r (Ended input) = refl
+entry-begun output r (Take item) = refl
+entry-begun output r (Route item whole verdict aggs outs reports) = pushed-begun r (offered verdict (view_at output outs))
+entry-begun output r (Tick moment made) = refl
+entry-begun output r (Stop moment made) = refl
+entry-begun output r (Begin number from to) = begin-begun r from to (number == output)
+entry-begun output r (Done number ok reports) = done-begun r ok (number == output)
+
+begun_from-ranges : (output : ℕ) (r : Ranges) (es : List Entry) → begun_from output r.begun es ≡ (ranges_from r (lane_events output es)).begun
+unfolding begun_from lane_events ranges_from
+begun_from-ranges output r [] = refl
+begun_from-ranges output r (e ∷ es) =
+    ap (λ (b : Option (ℕ × ℕ)). begun_from output b es) (sym (entry-begun output r e))
+    ∙ begun_from-ranges output (ranges_from r (lane_events_by output e)) es
+    ∙ ap (λ (x : Ranges). x.begun) (sym (ranges_from-append r (lane_events_by output e) (lane_events output es)))
+
+-- the range that is begun is the one of the events at the output
+pub begun_is : (output : ℕ) (es : List Entry) → begun_from output None es ≡ (ranges_of (lane_events output es)).begun
+begun_is output es = begun_from-ranges output no_ranges es
+
+batches_from-push : (output : ℕ) (views : List Content) (begun : Option (ℕ × ℕ)) (es : List Entry) (e : Entry) →
+    batches_from output views begun (es ++ e ∷ []) ≡ batches_from output views begun es ++ batches_by output (views ++ offers output es) (begun_from output begun es) e
+unfolding batches_from offers begun_from
+batches_from-push output views begun [] e =
+    append-nil (batches_by output views begun e) ∙ ap (λ (vs : List Content). batches_by output vs begun e) (sym (append-nil views))
+batches_from-push output views begun (d ∷ es) e =
+    let more : List Content = views ++ offered_by output d in
+    let next : Option (ℕ × ℕ) = begun_after output begun d in
+    ap (λ (bs : List BatchSays). batches_by output views begun d ++ bs)
+    (batches_from-push output more next es e
+    ∙ ap (λ (vs : List Content). batches_from output more next es ++ batches_by output vs (begun_from output next es) e) (append_assoc views (offered_by output d) (offers output es)))
+    ∙ sym (append_assoc (batches_by output views begun d) (batches_from output more next es) (batches_by output (views ++ (offered_by output d ++ offers output es)) (begun_from output next es) e))
+
+-- the batches, with one entry more
+pub batches-push : (output : ℕ) (es : List Entry) (e : Entry) → batches output (es ++ e ∷ []) ≡ batches output es ++ batches_by output (offers output es) (ranges_of (lane_events output es)).begun e
+batches-push output es e =
+    batches_from-push output [] None es e
+    ∙ ap (λ (b : Option (ℕ × ℕ)). batches output es ++ batches_by output (offers output es) b e) (begun_is output es)
+
+-- an entry that isn't the end of the output's batch
+abbrev pub EndsNone : ℕ → Entry → Type 0
+EndsNone output (Done number ok reports) = (number == output) ≡ false
+EndsNone output _ = Unit {0}
+
+ends_none : (output : ℕ) (views : List Content) (begun : Option (ℕ × ℕ)) (e : Entry) → EndsNone output e → batches_by output views begun e ≡ []
+ends_none output views begun (Gather input moment pieces refused passed filtered metrics group reports) h = refl
+ends_none output views begun (Ended input) h = refl
+ends_none output views begun (Take item) h = refl
+ends_none output views begun (Route item whole verdict aggs outs reports) h = refl
+ends_none output views begun (Tick moment made) h = refl
+ends_none output views begun (Stop moment made) h = refl
+ends_none output views begun (Begin number from to) h = refl
+ends_none output views begun (Done number ok reports) h =
+    ap (λ (here : Bool). if here then (let b : BatchSays = record { views = views_in begun views; ok = ok } in b) ∷ [] else []) h
+
+-- it leaves the batches as they are
+pub batches-same : (output : ℕ) (es : List Entry) (e : Entry) → EndsNone output e → batches output (es ++ e ∷ []) ≡ batches output es
+batches-same output es e h =
+    let begun : Option (ℕ × ℕ) = (ranges_of (lane_events output es)).begun in
+    batches-push output es e ∙ ap (λ (bs : List BatchSays). batches output es ++ bs) (ends_none output (offers output es) begun e h) ∙ append-nil (batches output es)
+
+pub Sent-same : (output : ℕ) (es : List Entry) (e : Entry) (bytes : List ℕ) → EndsNone output e → Sent es output bytes → Sent (es ++ e ∷ []) output bytes
+Sent-same output es e bytes h s = subst (λ (bs : List BatchSays). AreSent bs bytes) (sym (batches-same output es e h)) s
+
+-- one batch more, of which a part was sent
+pub AreSent-append : (bs : List BatchSays) (bytes : List ℕ) (b : BatchSays) (part : List ℕ) → AreSent bs bytes → IsPart b.ok (batch_text b.views) part → AreSent (bs ++ b ∷ []) (bytes ++ part)
+unfolding AreSent
+AreSent-append [] bytes b part s p = (part, [], ap (λ (xs : List ℕ). xs ++ part) s ∙ sym (append-nil part), p, refl)
+AreSent-append (c ∷ bs) bytes b part s p =
+    (s.0, s.1 ++ part, ap (λ (xs : List ℕ). xs ++ part) s.2 ∙ append_assoc s.0 s.1 part, s.3, AreSent-append bs s.1 b part s.4 p)
+
+-- nothing was sent
+pub AreSent-none : AreSent [] []
+unfolding AreSent
+AreSent-none = refl
+
+-- nothing is appended
+pub AppendsSo-nil : (P : List ℕ → Type 0) (held : Option (List ℕ)) → P [] → AppendsSo held held P
+AppendsSo-nil P None h = tt
+AppendsSo-nil P (Some xs) h = ([], sym (append-nil xs), h)
+
+-- the same bytes with another fact
+pub AppendsSo-map : (P Q : List ℕ → Type 0) (old new : Option (List ℕ)) → ((bytes : List ℕ) → P bytes → Q bytes) → AppendsSo old new P → AppendsSo old new Q
+AppendsSo-map P Q None new f h = tt
+AppendsSo-map P Q (Some xs) None f h = absurd h
+AppendsSo-map P Q (Some xs) (Some ys) f h = (h.0, h.1, f h.0 h.2)
+
+-- more bytes
+pub AppendsSo-trans : (P Q : List ℕ → Type 0) (old mid new : Option (List ℕ)) (text : List ℕ) → ((bytes : List ℕ) → P bytes → Q (bytes ++ text)) → AppendsSo old mid P → Appends mid new text → AppendsSo old new Q
+AppendsSo-trans P Q None mid new text f h a = tt
+AppendsSo-trans P Q (Some xs) None new text f h a = absurd h
+AppendsSo-trans P Q (Some xs) (Some ys) None text f h a = absurd a
+AppendsSo-trans P Q (Some xs) (Some ys) (Some zs) text f h a =
+    (h.0 ++ text, a ∙ ap (λ (l : List ℕ). l ++ text) h.1 ∙ append_assoc xs h.0 text, f h.0 h.2)
+
+pub AppendsSo-kept : (P : List ℕ → Type 0) (old mid new : Option (List ℕ)) → AppendsSo old mid P → Keeps mid new → AppendsSo old new P
+AppendsSo-kept P None mid new h k = tt
+AppendsSo-kept P (Some xs) None new h k = absurd h
+AppendsSo-kept P (Some xs) (Some ys) None h k = absurd k
+AppendsSo-kept P (Some xs) (Some ys) (Some zs) h k = (h.0, k ∙ h.1, h.2)
+
+-- whether a put was accepted
+abbrev pub accepted : Result (Unit {0}) PutFault → Bool
+accepted (Ok done) = true
+accepted (Err fault) = false
+
+-- a put that was accepted or failed appends a part of its text
+pub AppendsSo-put : (P Q : List ℕ → Type 0) (old mid new : Option (List ℕ)) (text : List ℕ) (result : Result (Unit {0}) PutFault) → (result ≡ Err OutOfMemory → ⊥) →
+    ((bytes part : List ℕ) → IsPart (accepted result) text part → P bytes → Q (bytes ++ part)) → AppendsSo old mid P → PutAppends mid new text result → AppendsSo old new Q
+AppendsSo-put P Q old mid new text (Ok done) n f h a = AppendsSo-trans P Q old mid new text (λ bytes p. f bytes text refl p) h a
+AppendsSo-put P Q old mid new text (Err Failed) n f h a = AppendsSo-trans P Q old mid new (take a.0 text) (λ bytes p. f bytes (take a.0 text) (a.0, refl) p) h a.1
+AppendsSo-put P Q old mid new text (Err OutOfMemory) n f h a = absurd (n refl)
+
+-- the same with an entry that isn't the end of the output's batch
+pub sent_same : (output : ℕ) (journal : List Entry) (e : Entry) (held new : Option (List ℕ)) → EndsNone output e → AppendsSo held new (Sent journal output) → AppendsSo held new (Sent (journal ++ e ∷ []) output)
+sent_same output journal e held new h a =
+    AppendsSo-map (Sent journal output) (Sent (journal ++ e ∷ []) output) held new (λ bytes s. Sent-same output journal e bytes h s) a
+
+-- nothing happened, and nothing was sent
+pub sent_first : (output : ℕ) (held : Option (List ℕ)) → AppendsSo held held (Sent [] output)
+unfolding batches_from
+sent_first output held = AppendsSo-nil (Sent [] output) held AreSent-none
+
+-- the items behind a place begin where as many come before the end
+behind : (k : ℕ) (views waiting : List Content) → waiting ≡ drop k views → drop (length views - length waiting) views ≡ waiting
+behind k views waiting e =
+    elim (cases_lt (length views) k) [
+      | inl l ↦
+          (let none : drop k views ≡ [] = drop_of_length-le views {i = k} (omega arith) in
+          let empty : length waiting ≡ 0 = ap (λ (xs : List Content). length xs) (e ∙ none) in
+          ap (λ (n : ℕ). drop n views) (let n : length views - length waiting ≡ length views = omega arith in n) ∙ drop_of_length-le views {i = length views} (omega arith) ∙ sym (e ∙ none))
+      | inr g ↦
+          (let many : length waiting ≡ length views - k = ap (λ (xs : List Content). length xs) e ∙ length-drop k views in
+          ap (λ (n : ℕ). drop n views) (let n : length views - length waiting ≡ k = omega arith in n) ∙ sym e)
+    ]
+
+clipped : (n : ℕ) (xs : List Content) → take (min n (length xs)) xs ≡ take n xs
+clipped n xs =
+    elim (cases_lt (length xs) n) [
+      | inl l ↦
+          ap (λ (k : ℕ). take k xs) (let k : min n (length xs) ≡ length xs = omega arith in k) ∙ take_all (length xs) xs (omega arith) ∙ sym (take_all n xs (omega arith))
+      | inr g ↦ ap (λ (k : ℕ). take k xs) (let k : min n (length xs) ≡ n = omega arith in k)
+    ]
+
+-- a batch's metrics are the views of its range
+pub batch_views : (core : CoreState) (journal : List Entry) (output : ℕ) (batch : Batch) → Stands core journal → output < length core.setup.outputs → IsBatchOf (lane_at core.lanes output) batch →
+    batch.metrics ≡ views_in (Some (batch.from, batch.to)) (offers output journal)
+batch_views core journal output batch h b is =
+    let x : LaneState Content = lane_at core.lanes output in
+    let views : List Content = offers output journal in
+    let ranges : Ranges = ranges_of (lane_events output journal) in
+    let state = (h.lanes output b).state in
+    let all : x.pushed ≡ length views = state.pushed ∙ sym state.offered in
+    let first : batch.from ≡ length views - length x.waiting = is.from ∙ ap (λ (n : ℕ). n - length x.waiting) all in
+    let many : batch.to - batch.from ≡ min x.batch (length x.waiting) = omega (arith, is.from, is.to) in
+    let rest : drop batch.from views ≡ x.waiting = ap (λ (n : ℕ). drop n views) first ∙ behind (oldest_waiting x.limit ranges) views x.waiting (state.waiting ∙ ap (λ (n : ℕ). drop (oldest_waiting n ranges) views) (sym state.limit)) in
+    is.metrics ∙ sym (clipped x.batch x.waiting) ∙ sym (ap (λ (n : ℕ). take n x.waiting) many) ∙ sym (ap (λ (xs : List Content). take (batch.to - batch.from) xs) rest)
+
+begins-here : (begun : Option (ℕ × ℕ)) (output from to : ℕ) → begun_after output begun (Begin output from to) ≡ Some (from, to)
+begins-here begun output from to = ap (λ (here : Bool). if here then Some (from, to) else begun) (same_number output)
+
+ends-here : (output : ℕ) (views : List Content) (begun : Option (ℕ × ℕ)) (ok : Bool) → batches_by output views begun (Done output ok []) ≡ record { views = views_in begun views; ok = ok } ∷ []
+ends-here output views begun ok =
+    ap (λ (here : Bool). if here then (let b : BatchSays = record { views = views_in begun views; ok = ok } in b) ∷ [] else []) (same_number output)
+
+-- the batches, once one more was begun and done
+pub batches-more : (output : ℕ) (journal : List Entry) (from to : ℕ) (ok : Bool) →
+    batches output ((journal ++ Begin output from to ∷ []) ++ Done output ok [] ∷ []) ≡ batches output journal ++ record { views = views_in (Some (from, to)) (offers output journal); ok = ok } ∷ []
+batches-more output journal from to ok =
+    let begin : Entry = Begin output from to in
+    let before : List Entry = journal ++ begin ∷ [] in
+    let end : Entry = Done output ok [] in
+    let range : Option (ℕ × ℕ) = Some (from, to) in
+    let begun : (ranges_of (lane_events output before)).begun ≡ range = sym (begun_is output before) ∙ begun_from-push output None journal begin ∙ begins-here (begun_from output None journal) output from to in
+    let views : offers output before ≡ offers output journal = offers-push output journal begin ∙ append-nil (offers output journal) in
+    batches-push output before end
+    ∙ ap (λ (bs : List BatchSays). bs ++ batches_by output (offers output before) (ranges_of (lane_events output before)).begun end) (batches-same output journal begin tt)
+    ∙ ap (λ (r : Option (ℕ × ℕ)). batches output journal ++ batches_by output (offers output before) r end) begun
+    ∙ ap (λ (vs : List Content). batches output journal ++ batches_by output vs range end) views
+    ∙ ap (λ (bs : List BatchSays). batches output journal ++ bs) (ends-here output (offers output journal) range ok)
+
+-- one batch more, of whose text a part was sent
+pub Sent-more : (core : CoreState) (journal : List Entry) (output : ℕ) (batch : Batch) (ok : Bool) (bytes part : List ℕ) → Stands core journal → output < length core.setup.outputs → IsBatchOf (lane_at core.lanes output) batch →
+    IsPart ok (batch_text batch.metrics) part → Sent journal output bytes → Sent ((journal ++ Begin output batch.from batch.to ∷ []) ++ Done output ok [] ∷ []) output (bytes ++ part)
+Sent-more core journal output batch ok bytes part h b is p s =
+    let views : List Content = views_in (Some (batch.from, batch.to)) (offers output journal) in
+    let says : BatchSays = record { views = views; ok = ok } in
+    let q : IsPart ok (batch_text views) part = subst (λ (vs : List Content). IsPart ok (batch_text vs) part) (batch_views core journal output batch h b is) p in
+    subst (λ (bs : List BatchSays). AreSent bs (bytes ++ part)) (sym (batches-more output journal batch.from batch.to ok)) (AreSent-append (batches output journal) bytes says part s q)
+
+-- what was sent, once a batch was begun, put and done
+pub sent_more : (core : CoreState) (journal : List Entry) (output : ℕ) (batch : Batch) (held mid new : Option (List ℕ)) (text : List ℕ) (result : Result (Unit {0}) PutFault) →
+    Stands core journal → output < length core.setup.outputs → IsBatchOf (lane_at core.lanes output) batch → text ≡ batch_text batch.metrics → (result ≡ Err OutOfMemory → ⊥) →
+    AppendsSo held mid (Sent journal output) → PutAppends mid new text result →
+    AppendsSo held new (Sent ((journal ++ Begin output batch.from batch.to ∷ []) ++ Done output (accepted result) [] ∷ []) output)
+sent_more core journal output batch held mid new text result h b is t n a put =
+    AppendsSo-put (Sent journal output) (Sent ((journal ++ Begin output batch.from batch.to ∷ []) ++ Done output (accepted result) [] ∷ []) output) held mid new text result n
+    (λ bytes part p s. Sent-more core journal output batch (accepted result) bytes part h b is (subst (λ (xs : List ℕ). IsPart (accepted result) xs part) t p) s) a put
+
+-- the same where the put was accepted
+pub sent_accepted : (core : CoreState) (journal : List Entry) (output : ℕ) (batch : Batch) (held mid new : Option (List ℕ)) (text : List ℕ) →
+    Stands core journal → output < length core.setup.outputs → IsBatchOf (lane_at core.lanes output) batch → text ≡ batch_text batch.metrics →
+    AppendsSo held mid (Sent journal output) → Appends mid new text →
+    AppendsSo held new (Sent ((journal ++ Begin output batch.from batch.to ∷ []) ++ Done output true [] ∷ []) output)
+sent_accepted core journal output batch held mid new text h b is t a put =
+    sent_more core journal output batch held mid new text (Ok tt) h b is t (λ e. absurd (let x : Ok tt ≡ Err OutOfMemory = e in cc)) a put
+
+-- and where it failed
+pub sent_failed : (core : CoreState) (journal : List Entry) (output : ℕ) (batch : Batch) (held mid new : Option (List ℕ)) (text : List ℕ) →
+    Stands core journal → output < length core.setup.outputs → IsBatchOf (lane_at core.lanes output) batch → text ≡ batch_text batch.metrics →
+    AppendsSo held mid (Sent journal output) → ((n : ℕ) × Appends mid new (take n text)) →
+    AppendsSo held new (Sent ((journal ++ Begin output batch.from batch.to ∷ []) ++ Done output false [] ∷ []) output)
+sent_failed core journal output batch held mid new text h b is t a put =
+    sent_more core journal output batch held mid new text (Err Failed) h b is t (λ e. absurd (let x : Err Failed ≡ Err OutOfMemory = e in cc)) a put

@@ -1,0 +1,64 @@
+-- What an output was sent.
+use Rattle.std.specs.Prelude.{◌≡◌, ℕ, ◌-◌, ◌==◌, Bool, true, false, List, [], ◌∷◌, ◌++◌, take, drop, if◌then◌else◌, ⊤}
+use Rattle.std.specs.List.{flat_map}
+use Rattle.std.specs.declared.option.Option.{Option}
+use Rattle.std.specs.declared.option.Option.TheVariants.{Some, None}
+use Rattle.metric.specs.declared.metric.Content.{Content}
+use Rattle.line_proto.specs.LineText.{line_text}
+use Rattle.account.specs.declared.entry.Entry.{Entry}
+use Rattle.account.specs.declared.entry.Entry.TheVariants.{Gather, Ended, Take, Route, Tick, Stop, Begin, Done}
+use Rattle.pipeline_core.specs.Offers.{offered_by}
+
+-- a batch that is done: the views of its range, and whether it was accepted
+pub record BatchSays : Type 0 where
+  pub views : List Content
+  pub ok : Bool
+
+-- the views at the positions of a range
+abbrev pub views_in : Option (ℕ × ℕ) → List Content → List Content
+views_in None views = []
+views_in (Some range) views = take (range.1 - range.0) (drop range.0 views)
+
+-- the range of an output that is begun after an entry
+abbrev pub begun_after : ℕ → Option (ℕ × ℕ) → Entry → Option (ℕ × ℕ)
+begun_after output begun (Begin number from to) = if number == output then Some (from, to) else begun
+begun_after output begun (Done number ok reports) = if number == output then None else begun
+begun_after output begun _ = begun
+
+-- the batch of an output that an entry ends, where these views were offered before it
+abbrev pub batches_by : ℕ → List Content → Option (ℕ × ℕ) → Entry → List BatchSays
+batches_by output views begun (Done number ok reports) = if number == output then (record { views = views_in begun views; ok = ok } ∷ []) else []
+batches_by output views begun _ = []
+
+unfoldable pub batches_from : ℕ → List Content → Option (ℕ × ℕ) → List Entry → List BatchSays
+batches_from output views begun [] = []
+batches_from output views begun (e ∷ es) =
+    batches_by output views begun e ++ batches_from output (views ++ offered_by output e) (begun_after output begun e) es
+
+-- the batches of an output that are done, in order
+abbrev pub batches : ℕ → List Entry → List BatchSays
+batches output journal = batches_from output [] None journal
+
+-- the lines of the views, in order
+abbrev pub batch_text : List Content → List ℕ
+batch_text views = flat_map line_text views
+
+-- the whole of a text where it was accepted, a prefix of it where it failed
+abbrev pub IsPart : Bool → List ℕ → List ℕ → Type 0
+IsPart true text part = part ≡ text
+IsPart false text part = (n : ℕ) × (part ≡ take n text)
+
+-- a concatenation over the batches: the whole text of each that was accepted, a prefix of the text of each that failed
+unfoldable pub AreSent : List BatchSays → List ℕ → Type 0
+AreSent [] bytes = bytes ≡ []
+AreSent (b ∷ bs) bytes = (part : List ℕ) × (rest : List ℕ) × (bytes ≡ part ++ rest) × IsPart b.ok (batch_text b.views) part × AreSent bs rest
+
+-- what was sent to an output is what its batches say
+abbrev pub Sent : List Entry → ℕ → List ℕ → Type 0
+Sent journal output bytes = AreSent (batches output journal) bytes
+
+-- known bytes grow by some of which a fact holds
+abbrev pub AppendsSo : Option (List ℕ) → Option (List ℕ) → (List ℕ → Type 0) → Type 0
+AppendsSo None new P = ⊤
+AppendsSo (Some xs) None P = ⊥
+AppendsSo (Some xs) (Some ys) P = (bytes : List ℕ) × (ys ≡ xs ++ bytes) × P bytes

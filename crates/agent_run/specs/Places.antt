@@ -20,8 +20,8 @@ abbrev pub RoseToOpen : Place → Place → Type 0
 RoseToOpen old new = Rose old.open_faults new.open_faults
 
 -- a read or a put of the part of the place failed
-abbrev pub RoseToPut : Place → Place → Type 0
-RoseToPut old new = Rose old.part_faults new.part_faults
+abbrev pub RoseToUse : Place → Place → Type 0
+RoseToUse old new = Rose old.part_faults new.part_faults
 
 -- a line was reported, or a prefix of it where the count of failed reports rose
 pub record ReportsLine (old new : Rest) (line : List ℕ) : Type 0 where

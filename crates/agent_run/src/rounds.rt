@@ -128,6 +128,8 @@ fn gather<S: Source, C: Clock>(
     ensures reading { IfOk result (λ state. state ≡ InState.Reading → IsReading run.new.core) }
     ensures going { OnOk result (run.new.core.stopped ≡ false) }
     ensures stands { StillStands result run.new.core }
+    ensures reads { S.faults source.old ≤ S.faults source.new }
+    ensures unread { result ≡ Ok InState.Faulted → Rose (S.faults source.old) (S.faults source.new) }
 {
     let moment = clock.now();
     let (group, state) = read_group(run.alloc, &mut run.pieces, source, moment)?;
@@ -290,6 +292,8 @@ fn rounds<S: Source, K: Sink, C: Clock>(
     ensures stands { StillStands result run.new.core }
     ensures faults { K.faults sink.old ≤ K.faults sink.new }
     ensures failed { IfOk result (λ r. r.1 ≡ false → Rose (K.faults sink.old) (K.faults sink.new)) }
+    ensures reads { S.faults source.old ≤ S.faults source.new }
+    ensures unread { IfOk result (λ r. r.0 ≡ InState.Faulted → Rose (S.faults source.old) (S.faults source.new)) }
 {
     for _round in 0..u64::MAX {
         let state = gather(run, source, clock)?;
@@ -389,6 +393,7 @@ pub fn run<S: Source, K: Sink, C: Clock>(
     requires some { 1 ≤ pipe.now.batch }
     requires ordered { pipe.now.batch ≤ pipe.now.limit }
     ensures left { IfOk result (λ ending. ending.left ≡ true → Rose (K.faults sink.old) (K.faults sink.new)) }
+    ensures read { IfOk result (λ ending. ending.state ≡ InState.Faulted → Rose (S.faults source.old) (S.faults source.new)) }
     ensures journal { IfOk result (λ ending. ending.journal_failed ≡ true → Rose (K.faults journal.old) (K.faults journal.new)) }
 {
     let start = clock.now();

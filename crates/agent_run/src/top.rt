@@ -3,7 +3,8 @@ ghost use Rattle.std.specs.Prelude.{◌≡◌, ◌≢◌, ◌≤◌, ◌⊎◌, 
 ghost use Rattle.agent_base.specs.Counts.{Rose};
 ghost use Rattle.agent_base.specs.Places.{AreHome, SameAtAll};
 ghost use Rattle.agent_run.specs.Command.{IsPipe, journal_place};
-ghost use Rattle.agent_run.specs.Places.{ReportsLine, IsRefused, IsUnused, RoseToPut, open_fault_line};
+ghost use Rattle.agent_run.specs.Places.{ReportsLine, IsRefused, IsUnused, RoseToUse, open_fault_line};
+ghost use Rattle.agent_run.specs.declared.reading.InState.TheVariants.{Faulted};
 ghost use Rattle.agent_run.specs.Opening.{IsRefusalAnswer, place_of};
 
 use crate::command::{JOURNAL, Pipe, read_command};
@@ -50,6 +51,7 @@ fn report_account<W: World>(ending: &Ending, world: &mut W) -> Status
     ensures config { result ≢ Status.Config }
     ensures open { result ≢ Status.OpenFault }
     ensures left { result ≡ Status.Left → ending.now.left ≡ true }
+    ensures read { result ≡ Status.ReadFault → ending.now.state ≡ Faulted }
     ensures report { result ≡ Status.ReportFault → (ending.now.journal_failed ≡ true) ⊎ Rose (W.rest world.old).report_faults (W.rest world.new).report_faults }
     ensures ins { SameAtAll (W.in_at world.old) (W.in_at world.new) }
     ensures outs { SameAtAll (W.out_at world.old) (W.out_at world.new) }
@@ -81,6 +83,7 @@ fn run_parts<W: World>(
     ensures open { result ≢ Status.OpenFault }
     ensures ins { AreHome (W.in_at world.new) }
     ensures outs { AreHome (W.out_at world.new) }
+    ensures read { result ≡ Status.ReadFault → Rose (W.In.faults parts.source) (W.in_at world.new pipe.now.input.now).part_faults }
     ensures left { result ≡ Status.Left → Rose (W.Out.faults parts.sink) (W.out_at world.new pipe.now.output.now).part_faults }
     ensures report { result ≡ Status.ReportFault → Rose (W.Out.faults parts.journal) (W.out_at world.new journal_place).part_faults
         ⊎ Rose (W.rest world.old).report_faults (W.rest world.new).report_faults }
@@ -150,8 +153,9 @@ fn run_pipe<W: World>(alloc: Global, pipe: &Pipe<'_>, world: &mut W) -> Status
     ensures open { result ≡ Status.OpenFault → IsRefused (W.in_at world.old) (W.in_at world.new) (W.out_at world.old) (W.out_at world.new) (W.rest world.old) (W.rest world.new) pipe.now.input.now pipe.now.output.now }
     ensures ins_home { AreHome (W.in_at world.new) }
     ensures outs_home { AreHome (W.out_at world.new) }
-    ensures left { result ≡ Status.Left → RoseToPut (W.out_at world.old pipe.now.output.now) (W.out_at world.new pipe.now.output.now) }
-    ensures report { result ≡ Status.ReportFault → RoseToPut (W.out_at world.old journal_place) (W.out_at world.new journal_place)
+    ensures read { result ≡ Status.ReadFault → RoseToUse (W.in_at world.old pipe.now.input.now) (W.in_at world.new pipe.now.input.now) }
+    ensures left { result ≡ Status.Left → RoseToUse (W.out_at world.old pipe.now.output.now) (W.out_at world.new pipe.now.output.now) }
+    ensures report { result ≡ Status.ReportFault → RoseToUse (W.out_at world.old journal_place) (W.out_at world.new journal_place)
         ⊎ Rose (W.rest world.old).report_faults (W.rest world.new).report_faults }
 {
     match open_parts(world, pipe.input, pipe.output) {
@@ -180,10 +184,13 @@ pub fn agent<W: World>(alloc: Global, words: &[String], world: &mut W) -> Status
     ensures open { result ≡ Status.OpenFault → (input output : List ℕ) × (batch limit : ℕ) × IsPipe words.now input output batch limit
         × IsRefused (W.in_at world.old) (W.in_at world.new) (W.out_at world.old) (W.out_at world.new) (W.rest world.old) (W.rest world.new) input output }
 
-    // Left comes only where a put to the output failed, ReportFault only where the put of the journal or the report did.
+    // ReadFault comes only where a read of the input failed, Left only where a put to the output did, ReportFault only
+    // where the put of the journal or of the report did.
+    ensures read { result ≡ Status.ReadFault → (input output : List ℕ) × (batch limit : ℕ) × IsPipe words.now input output batch limit
+        × RoseToUse (W.in_at world.old input) (W.in_at world.new input) }
     ensures left { result ≡ Status.Left → (input output : List ℕ) × (batch limit : ℕ) × IsPipe words.now input output batch limit
-        × RoseToPut (W.out_at world.old output) (W.out_at world.new output) }
-    ensures report { result ≡ Status.ReportFault → RoseToPut (W.out_at world.old journal_place) (W.out_at world.new journal_place)
+        × RoseToUse (W.out_at world.old output) (W.out_at world.new output) }
+    ensures report { result ≡ Status.ReportFault → RoseToUse (W.out_at world.old journal_place) (W.out_at world.new journal_place)
         ⊎ Rose (W.rest world.old).report_faults (W.rest world.new).report_faults }
 
     ensures ins_home { AreHome (W.in_at world.new) }

@@ -1,5 +1,5 @@
 //! Reading the next pieces of an input.
-ghost use Rattle.std.specs.Prelude.{◌≡◌, ◌<◌, ◌≤◌, ◌+◌, ◌^◌, IfOk, OnOk};
+ghost use Rattle.std.specs.Prelude.{◌≡◌, ◌<◌, ◌≤◌, ◌+◌, ◌^◌, ℤ, IfOk, OnOk};
 ghost use Rattle.agent_base.specs.Counts.{Rose};
 ghost use Rattle.agent_base.specs.Cut.{TooLong, Whole};
 ghost use Rattle.agent_run.specs.Groups.{CountsPiece, IsAllRead, ReadsGroup, ReadsNext};
@@ -39,10 +39,10 @@ pub struct Group {
 
 impl Group {
     /// Counts a piece that is too long, and so refused.
-    fn refuse(&mut self, moment: Moment)
+    fn refuse(&mut self)
         requires few { self.old.pieces < GATHER_PIECES }
         requires some { self.old.refused ≤ self.old.pieces }
-        ensures counted { CountsPiece moment TooLong self.old self.new }
+        ensures counted { (moment : ℤ) → CountsPiece moment TooLong self.old self.new }
     {
         self.pieces += 1;
         self.refused += 1;
@@ -69,7 +69,8 @@ impl Group {
     }
 }
 
-/// Reads the next piece into the group, and says whether the input is read on.
+/// Reads the next piece into the group, and says whether the input is read on: where it is, one piece was counted, else
+/// none. Nothing is promised of the group where memory ran out.
 fn read_next<S: Source>(
     alloc: Global,
     pieces: &mut Pieces,
@@ -92,7 +93,7 @@ fn read_next<S: Source>(
         }
         Ok(None) => Ok(InState::Ended),
         Err(PieceFault::TooLong) => {
-            group.refuse(moment);
+            group.refuse();
             Ok(InState::Reading)
         }
         Err(PieceFault::ReadFault) => Ok(InState::Faulted),
@@ -101,7 +102,11 @@ fn read_next<S: Source>(
     }
 }
 
-/// Reads the next pieces, at most as many as a gather has, and says whether the input is read on.
+/// Reads the next pieces, at most as many as a gather has, and says whether the input is read on. A line without a time
+/// has the moment (nanoseconds since 1970) as its time.
+///
+/// Where the input is read on the group has as many pieces as a gather may have; where it has ended no piece is left.
+/// After a failed read the bytes that were taken are kept in hand. Nothing is promised where memory ran out.
 pub fn read_group<S: Source>(
     alloc: Global,
     pieces: &mut Pieces,

@@ -1,4 +1,4 @@
-use Rattle.std.proofs.Common.{rules, arith, ◌≡◌, refl, ◌∙◌}
+use Rattle.std.proofs.Common.{rules, arith, ◌≡◌, ◌∙◌}
 use Rattle.agent_run.specs.declared.reading.InState.TheVariants as states
 use Rattle.agent_run.proofs.GroupLemmas.{reads_next, next_pieces, group_ends, group_full, at_moment}
 use Rattle.agent_run.proofs.reading.read_group.Goals as goal

@@ -8,11 +8,7 @@ use metric::Metric;
 use std::alloc::Global;
 
 /// The text of a batch, in place of what `out` held: the lines of its metrics, in order.
-pub fn write_batch(
-    alloc: Global,
-    metrics: &[Metric],
-    out: &mut Vec<u8>,
-) -> Result<(), OutOfMemory>
+pub fn write_batch(alloc: Global, metrics: &[Metric], out: &mut Vec<u8>) -> Result<(), OutOfMemory>
     ensures ok { OnOk result (out.new.items ≡ batch_text metrics.now) }
 {
     out.clear();

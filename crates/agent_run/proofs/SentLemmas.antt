@@ -1,5 +1,5 @@
 -- What an output was sent, with one entry more.
-use Rattle.std.proofs.Common.{◌≡◌, ℕ, zero, suc, ◌+◌, ◌-◌, ◌<◌, ◌≤◌, ◌==◌, min, Bool, true, false, List, [], ◌∷◌, ◌++◌, length, take, drop, if◌then◌else◌, inl, inr, Result, Ok, Err, refl, sym, ap, ◌∙◌, arith, subst, append_assoc, append-nil}
+use Rattle.std.proofs.Common.{◌≡◌, ℕ, ◌+◌, ◌-◌, ◌<◌, ◌==◌, min, Bool, true, false, List, [], ◌∷◌, ◌++◌, length, take, drop, if◌then◌else◌, inl, inr, Result, Ok, Err, refl, sym, ap, ◌∙◌, arith, subst, append_assoc, append-nil}
 use Rattle.std.proofs.lemmas.List.{length-drop, take_all}
 use Rattle.std.proofs.lemmas.Bool.{cases_lt}
 use Rattle.std.proofs.Math.ListN.{drop_of_length-le}
@@ -9,12 +9,10 @@ use Rattle.std.specs.Io.KnownBytes.{Appends, Keeps}
 use Rattle.metric.specs.declared.metric.Content.{Content}
 use Rattle.account.specs.declared.entry.Entry.{Entry}
 use Rattle.account.specs.declared.entry.Entry.TheVariants.{Gather, Ended, Take, Route, Tick, Stop, Begin, Done}
-use Rattle.account.specs.declared.entry.Verdict.{Verdict}
-use Rattle.account.specs.declared.entry.Verdict.TheVariants as verdicts
-use Rattle.out_lane.specs.Lane.{LaneState, waiting_from}
+use Rattle.out_lane.specs.Lane.{LaneState}
 use Rattle.out_lane.specs.LaneEvents.{LaneEvent, Ranges, ranges_after, ranges_from, ranges_of}
 use Rattle.out_lane.specs.LaneEvents as events
-use Rattle.out_lane.specs.LaneLaws.{IsLaneOf, IsLaneAt, no_ranges, oldest_waiting}
+use Rattle.out_lane.specs.LaneLaws.{no_ranges, oldest_waiting}
 use Rattle.agent_base.specs.Puts.{PutAppends}
 use Rattle.agent_base.specs.declared.outside.PutFault.{PutFault}
 use Rattle.agent_base.specs.declared.outside.PutFault.TheVariants.{Failed, OutOfMemory}

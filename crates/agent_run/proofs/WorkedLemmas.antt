@@ -1,18 +1,18 @@
 -- What the processors made of each item, with one entry more.
-use Rattle.std.proofs.Common.{◌≡◌, ℕ, zero, suc, List, [], ◌∷◌, ◌++◌, drop, refl, sym, ap, ◌∙◌, subst, append-nil}
+use Rattle.std.proofs.Common.{◌≡◌, ℕ, zero, suc, List, [], ◌∷◌, ◌++◌, drop, refl, sym, ap, ◌∙◌, subst}
 use Rattle.std.specs.Prelude.{slice_get}
 use Rattle.std.specs.List.{AllByRecursion}
 use Rattle.std.specs.declared.option.Option.{Option}
 use Rattle.std.specs.declared.option.Option.TheVariants.{Some, None}
 use Rattle.metric.specs.declared.metric.Content.{Content}
-use Rattle.account.specs.Items.{items, taken, raw_items, named_by}
+use Rattle.account.specs.Items.{items, taken, named_by}
 use Rattle.account.specs.declared.entry.Entry.{Entry}
 use Rattle.account.specs.declared.entry.Entry.TheVariants.{Gather, Ended, Take, Route, Tick, Stop, Begin, Done}
 use Rattle.account.specs.declared.entry.Verdict.{Verdict}
 use Rattle.pipeline_core.specs.CoreState.{CoreState}
 use Rattle.pipeline_core.specs.Stands.{Stands}
 use Rattle.pipeline_core.proofs.JournalPush.{items-push}
-use Rattle.agent_run.specs.Worked.{IsRoutedAsItIs, WorkedBy, AreWorked, Worked}
+use Rattle.agent_run.specs.Worked.{WorkedBy, AreWorked, Worked}
 
 -- an item keeps its number as more come
 pub slice_get-append : (xs ys : List Content) (k : ℕ) (m : Content) → slice_get xs k ≡ Some m → slice_get (xs ++ ys) k ≡ Some m

@@ -6,7 +6,7 @@ use Rattle.std.specs.declared.option.Option.TheVariants.{Some, None}
 use Rattle.metric.specs.declared.metric.Content.{Content}
 use Rattle.line_proto.specs.LineText.{line_text}
 use Rattle.account.specs.declared.entry.Entry.{Entry}
-use Rattle.account.specs.declared.entry.Entry.TheVariants.{Gather, Ended, Take, Route, Tick, Stop, Begin, Done}
+use Rattle.account.specs.declared.entry.Entry.TheVariants.{Begin, Done}
 use Rattle.pipeline_core.specs.Offers.{offered_by}
 
 -- a batch that is done: the views of its range, and whether it was accepted
@@ -30,6 +30,7 @@ abbrev pub batches_by : ℕ → List Content → Option (ℕ × ℕ) → Entry �
 batches_by output views begun (Done number ok reports) = if number == output then (record { views = views_in begun views; ok = ok } ∷ []) else []
 batches_by output views begun _ = []
 
+-- the batches that these entries end, where these views were offered before them and this range was begun
 unfoldable pub batches_from : ℕ → List Content → Option (ℕ × ℕ) → List Entry → List BatchSays
 batches_from output views begun [] = []
 batches_from output views begun (e ∷ es) =

@@ -1,3 +1,4 @@
 pub mod NumberWords
 pub mod PlaceLemmas
 pub mod StandingLemmas
+pub mod JournalSoFarLemmas

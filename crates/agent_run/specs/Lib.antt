@@ -3,3 +3,4 @@ pub mod Command
 pub mod Places
 pub mod Opening
 pub mod Running
+pub mod JournalSoFar

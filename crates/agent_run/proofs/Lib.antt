@@ -6,3 +6,4 @@ pub mod GroupLemmas
 pub mod GatherLemmas
 pub mod SentLemmas
 pub mod WorkedLemmas
+pub mod JournalSoFarLemmas

@@ -7,3 +7,4 @@ pub mod Gathered
 pub mod Groups
 pub mod Sent
 pub mod Worked
+pub mod JournalSoFar

@@ -1,7 +1,7 @@
 //! The rounds of a run: gather, route, send.
-ghost use Rattle.std.specs.Prelude.{◌≡◌, ◌≢◌, ◌≤◌, ◌<◌, IfOk, OnOk, Some, None, false, true, [], length, slice_get};
+ghost use Rattle.std.specs.Prelude.{ℕ, List, Option, ◌≡◌, ◌≢◌, ◌≤◌, ◌<◌, IfOk, OnOk, Some, None, false, true, [], length, slice_get};
 ghost use Rattle.pipeline_core.specs.CoreState.{CoreState, lane_at};
-ghost use Rattle.agent_run.specs.Running.{IsReady, IsReading, IsRoutable, HasJournal, StillStands};
+ghost use Rattle.agent_run.specs.Running.{IsReady, IsReading, IsRoutable, HasJournal, StillStands, HasSent};
 
 use crate::batch::write_batch;
 use crate::command::Pipe;
@@ -206,6 +206,7 @@ fn send_next<K: Sink>(run: &mut PipeRun, sink: &mut K) -> Result<Sending, OutOfM
     ensures ended { OnOk result (run.new.core.ended ≡ run.old.core.ended) }
     ensures stopped { OnOk result (run.new.core.stopped ≡ run.old.core.stopped) }
     ensures stands { StillStands result run.new.core }
+    ensures sent { (start : Option (List ℕ)) → HasSent run.old.core start (K.held sink.old) → OnOk result (HasSent run.new.core start (K.held sink.new)) }
 {
     let batch = match run.core.begin(0) {
         Ok(batch) => batch,

@@ -266,9 +266,9 @@ sent_accepted core journal output batch held mid new text h b is t a put =
     sent_more core journal output batch held mid new text (Ok tt) h b is t (λ e. absurd (let x : Ok tt ≡ Err OutOfMemory = e in cc)) a put
 
 -- and where it failed
-pub sent_failed : (core : CoreState) (journal : List Entry) (output : ℕ) (batch : Batch) (held mid new : Option (List ℕ)) (text : List ℕ) →
+pub sent_failed : (core : CoreState) (journal : List Entry) (output : ℕ) (batch : Batch) (held mid new : Option (List ℕ)) (text : List ℕ) (fault : PutFault) → fault ≡ Failed →
     Stands core journal → output < length core.setup.outputs → IsBatchOf (lane_at core.lanes output) batch → text ≡ batch_text batch.metrics →
-    AppendsSo held mid (Sent journal output) → ((n : ℕ) × Appends mid new (take n text)) →
+    AppendsSo held mid (Sent journal output) → PutAppends mid new text (Err fault) →
     AppendsSo held new (Sent ((journal ++ Begin output batch.from batch.to ∷ []) ++ Done output false [] ∷ []) output)
-sent_failed core journal output batch held mid new text h b is t a put =
-    sent_more core journal output batch held mid new text (Err Failed) h b is t (λ e. absurd (let x : Err Failed ≡ Err OutOfMemory = e in cc)) a put
+sent_failed core journal output batch held mid new text fault f h b is t a put =
+    sent_more core journal output batch held mid new text (Err fault) h b is t (λ e. absurd (let x : Err Failed ≡ Err OutOfMemory = ap (λ (k : PutFault). let r : Result (Unit {0}) PutFault = Err k in r) (sym f) ∙ e in cc)) a put

@@ -5,6 +5,7 @@ use Rattle.std.specs.declared.option.Option.TheVariants.{Some, None}
 use Rattle.account.specs.declared.entry.Entry.{Entry}
 use Rattle.pipeline_core.specs.CoreState.{CoreState, lane_at}
 use Rattle.pipeline_core.specs.Stands.{Stands}
+use Rattle.agent_run.specs.Sent.{Sent, AppendsSo}
 
 -- there is one output, no item is in hand, and no batch is in flight
 pub record IsReady (core : CoreState) : Type 0 where
@@ -37,3 +38,8 @@ pub record HasJournal (core : CoreState) : Type 0 where
 abbrev pub StillStands : {T E : Type 0} → Result T E → CoreState → Type 0
 StillStands (Ok done) core = HasJournal core
 StillStands (Err fault) core = ⊤
+
+pub record HasSent (core : CoreState) (start now : Option (List ℕ)) : Type 0 where
+  pub journal : List Entry
+  pub stands : Stands core journal
+  pub sent : AppendsSo start now (Sent journal 0)

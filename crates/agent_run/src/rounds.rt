@@ -1,8 +1,8 @@
 //! The rounds of a run: gather, route, send.
-ghost use Rattle.std.specs.Prelude.{◌≡◌, ◌≢◌, ◌≤◌, ◌⊎◌, Ok, IfOk, OnOk, Some, None, false, true, [], length, slice_get};
+ghost use Rattle.std.specs.Prelude.{ℕ, List, Option, ◌≡◌, ◌≢◌, ◌≤◌, ◌⊎◌, Ok, IfOk, OnOk, Some, None, false, true, [], length, slice_get};
 ghost use Rattle.pipeline_core.specs.CoreState.{CoreState, lane_at};
 ghost use Rattle.agent_base.specs.Counts.{Rose};
-ghost use Rattle.agent_run.specs.Running.{IsReady, IsReading, IsRoutable, HasJournal, StillStands};
+ghost use Rattle.agent_run.specs.Running.{IsReady, IsReading, IsRoutable, HasJournal, StillStands, HasSent};
 
 use crate::batch::write_batch;
 use crate::command::Pipe;
@@ -216,6 +216,7 @@ fn send_next<K: Sink>(run: &mut PipeRun, sink: &mut K) -> Result<Sending, OutOfM
     ensures stands { StillStands result run.new.core }
     ensures faults { K.faults sink.old ≤ K.faults sink.new }
     ensures failed { result ≡ Ok Sending.Failed → Rose (K.faults sink.old) (K.faults sink.new) }
+    ensures sent { (start : Option (List ℕ)) → HasSent run.old.core start (K.held sink.old) → OnOk result (HasSent run.new.core start (K.held sink.new)) }
 {
     let batch = match run.core.begin(0) {
         Ok(batch) => batch,

@@ -1,0 +1,118 @@
+"""Writes an input of line protocol: inputs.py KIND LINES FILE.
+
+KIND is telegraf or small. The same words give the same bytes, and a shorter input begins a longer one. Each
+line is as Hogzent writes it (tags sorted by key, canonical numbers with at most nine decimals, a time, no
+backslash and no double quote), so that an output must equal its input.
+"""
+
+import random
+import sys
+
+REGIONS = ["eu-west-1", "eu-central-1", "us-east-1", "us-west-2", "ap-south-1"]
+SERVICES = ["checkout", "search", "accounts", "mail", "ledger", "images"]
+TEAMS = ["platform", "storage", "payments", "network"]
+DEVICES = ["sda1", "sdb1", "nvme0n1p1", "nvme1n1p2", "dm-0"]
+PATHS = ["/", "/var", "/var/lib/data", "/home", "/srv/backup"]
+START = 1_790_000_000
+
+
+def decimal(rng, below, places):
+    """A canonical decimal from 0 to below, with at most so many decimals."""
+    text = "%.*f" % (places, rng.random() * below)
+    return text.rstrip("0").rstrip(".") if "." in text else text
+
+
+def percent(rng):
+    """A share as Telegraf writes it: often 0, or with up to nine decimals."""
+    if rng.random() < 0.1:
+        return "0"
+    return decimal(rng, 100, 9)
+
+
+def common_tags(rng):
+    """The tags that each plugin has: the host always, and most times what the operator adds."""
+    number = rng.randrange(400)
+    tags = {"host": "node-%04d.%s.example.net" % (number, REGIONS[number % 5])}
+    extra = {
+        "datacenter": REGIONS[number % 5] + "abc"[number % 3],
+        "environment": "production" if number % 8 else "staging",
+        "rack": "r%02d" % (number % 40),
+        "service": SERVICES[number % 6],
+        "team": TEAMS[number % 4],
+    }
+    for key in rng.sample(sorted(extra), rng.randint(2 + (rng.random() < 0.5), 5)):
+        tags[key] = extra[key]
+    return tags
+
+
+def cpu(rng, tags):
+    tags["cpu"] = "cpu-total" if rng.random() < 0.1 else "cpu%d" % rng.randrange(64)
+    keys = ["guest", "idle", "iowait", "irq", "softirq", "steal", "system", "user"]
+    return [("usage_" + key, percent(rng)) for key in keys[: rng.randint(6, 8)]]
+
+
+def mem(rng, tags):
+    total = rng.choice([16, 32, 64, 128]) << 30
+    keys = ["active", "available", "buffered", "cached", "free", "inactive", "total", "used"]
+    fields = [(key, "%di" % (total if key == "total" else rng.randrange(total))) for key in keys]
+    fields.append(("available_percent", percent(rng)))
+    fields.append(("used_percent", percent(rng)))
+    return fields[: 10 - rng.randrange(4)]
+
+
+def disk(rng, tags):
+    tags["device"] = rng.choice(DEVICES)
+    tags["path"] = rng.choice(PATHS)
+    if len(tags) < 8:
+        tags["fstype"] = rng.choice(["ext4", "xfs"])
+    total = rng.randrange(1 << 38, 1 << 42)
+    used = rng.randrange(total)
+    return [
+        ("total", "%di" % total),
+        ("free", "%di" % (total - used)),
+        ("used", "%di" % used),
+        ("used_percent", percent(rng)),
+        ("inodes_total", "%di" % (total >> 14)),
+        ("inodes_used", "%di" % (used >> 16)),
+    ][: rng.randint(3, 6)]
+
+
+def net(rng, tags):
+    tags["interface"] = rng.choice(["eth0", "eth1", "bond0", "lo"])
+    keys = ["bytes_sent", "bytes_recv", "packets_sent", "packets_recv", "err_in", "err_out", "drop_in", "drop_out"]
+    fields = []
+    for key in keys:
+        top = 50 if key[:3] in ("err", "dro") else 1 << 44
+        fields.append((key, "%di" % rng.randrange(top)))
+    return fields
+
+
+PLUGINS = [("cpu", cpu), ("mem", mem), ("disk", disk), ("net", net)]
+
+
+def telegraf_line(rng, number):
+    name, plugin = rng.choice(PLUGINS)
+    tags = common_tags(rng)
+    fields = plugin(rng, tags)
+    head = ",".join([name] + ["%s=%s" % pair for pair in sorted(tags.items())])
+    body = ",".join("%s=%s" % pair for pair in fields)
+    return "%s %s %d000000000\n" % (head, body, START + number // 100 * 10)
+
+
+def small_line(rng, number):
+    return "cpu,host=h%d v=%di %d000000\n" % (rng.randrange(10), rng.randrange(100), number % 10 + 1)
+
+
+KINDS = {"telegraf": telegraf_line, "small": small_line}
+
+
+def main(kind, lines, path):
+    rng = random.Random("hogzent " + kind)
+    line = KINDS[kind]
+    with open(path, "w", encoding="ascii", newline="\n") as out:
+        for number in range(int(lines)):
+            out.write(line(rng, number))
+
+
+if __name__ == "__main__":
+    main(*sys.argv[1:])

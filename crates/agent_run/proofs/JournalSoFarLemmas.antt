@@ -5,7 +5,7 @@ use Rattle.std.specs.List.{AllByRecursion, slice_get}
 use Rattle.std.specs.Option.{option_to_list}
 use Rattle.std.specs.declared.option.Option.{Option}
 use Rattle.std.specs.declared.option.Option.TheVariants.{Some, None}
-use Rattle.std.proofs.lemmas.List.{drop-drop, drop-append-le, drop_at, length-drop, drop_more, take_more, take_all}
+use Rattle.std.proofs.lemmas.List.{drop-drop, drop-append-le, drop_at, drop_more, take_more, take_all}
 use Rattle.metric.specs.declared.metric.Content.{Content}
 use Rattle.account.specs.Setup.{Setup}
 use Rattle.account.specs.declared.entry.Entry.{Entry}

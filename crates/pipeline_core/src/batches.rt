@@ -40,6 +40,7 @@ impl Core {
         requires { output < length self.old.setup.outputs }
         ensures in_flight { (result ≡ Err BeginAnswer.InFlight) ↔ (0 < length (lane_at self.old.lanes output).flight) }
         ensures nothing { (result ≡ Err BeginAnswer.NothingWaiting) ↔ ((length (lane_at self.old.lanes output).flight ≡ 0) × (length (lane_at self.old.lanes output).waiting ≡ 0)) }
+        ensures empty { result ≡ Err BeginAnswer.NothingWaiting → (output_numbers self.old.numbers output).buffered ≡ 0 }
         ensures batch { IfOk result (IsBatchOf (lane_at self.old.lanes output)) }
         ensures flies { OnOk result (0 < length (lane_at self.new.lanes output).flight) }
         ensures ok { IfOk result (λ batch. self.new ≡ after_begin self.old output batch.from batch.to) }

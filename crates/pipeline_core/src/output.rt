@@ -62,6 +62,14 @@ impl Output {
         !self.lane.flight().is_empty()
     }
 
+    /// How many views wait or are in flight.
+    pub(crate) fn buffered(&self) -> u64
+        requires few { length self.now.flight + length self.now.waiting < 2 ^ 32 }
+        ensures { result ≡ length self.now.flight + length self.now.waiting }
+    {
+        self.lane.flight().len() as u64 + u64::from(self.lane.waiting())
+    }
+
     /// Why no batch may be begun, if none may.
     pub(crate) fn ready(&self) -> Result<(), BeginAnswer>
         ensures in_flight { (result ≡ Err BeginAnswer.InFlight) ↔ (0 < length self.now.flight) }

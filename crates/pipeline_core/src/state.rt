@@ -1,5 +1,5 @@
 //! What a core keeps, and its entries.
-ghost use Rattle.std.specs.Prelude.{◌≡◌, ◌≤◌, ◌<◌, [], length, map, true, false, IfOk, OnOk, OnErr, ◌↔◌, List, IsTrue, slice_get};
+ghost use Rattle.std.specs.Prelude.{◌≡◌, ◌≤◌, ◌<◌, ◌+◌, [], length, map, true, false, IfOk, OnOk, OnErr, ◌↔◌, List, IsTrue, slice_get};
 ghost use Rattle.std.specs.List.{All};
 ghost use Rattle.pipeline_core.specs.CoreState.{first_state, lane_of, lane_at};
 ghost use Rattle.account.specs.declared.entry.Entry.{Entry};
@@ -8,6 +8,7 @@ ghost use Rattle.std.specs.Int.{int_max};
 ghost use Rattle.pipeline_core.specs.Stands.{Stands, Continues};
 ghost use Rattle.pipeline_core.specs.Totals.{totals};
 ghost use Rattle.pipeline_core.specs.Steps.{after_stop, after_cut};
+ghost use Rattle.account.specs.Numbers.{output_numbers};
 
 use crate::output::Output;
 use crate::room::make_room;
@@ -163,6 +164,14 @@ impl Core {
             Some(place) => place.is_in_flight(),
             None => false,
         }
+    }
+
+    /// How many metrics are buffered at an output: those that wait, and those of its batch in flight.
+    pub fn buffered(&self, output: u32) -> u64
+        requires { output < length self.now.setup.outputs }
+        ensures { result ≡ (output_numbers self.now.numbers output).buffered }
+    {
+        self.outputs[output as usize].buffered()
     }
 
     /// What was counted.

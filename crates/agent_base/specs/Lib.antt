@@ -1,6 +1,7 @@
 pub mod Counts
 pub mod Puts
 pub mod Moments
+pub mod Clocked
 pub mod Places
 pub mod Memory
 pub mod Slots

@@ -11,4 +11,5 @@ pub mod Lines
 pub mod Told
 pub mod Hand
 pub mod PieceAnswers
+pub mod Taken
 pub mod Buffered

@@ -43,7 +43,7 @@ first_between xs start searched end i low high within clean first =
 
 -- ---- a read
 
-read_hand : (xs ys old new : List ℕ) (start end most n : ℕ) → start ≤ end → n ≤ most → take end new ≡ take end old → xs ≡ take n (between end (end + most) new) ++ ys
+pub read_hand : (xs ys old new : List ℕ) (start end most n : ℕ) → start ≤ end → n ≤ most → take end new ≡ take end old → xs ≡ take n (between end (end + most) new) ++ ys
     → between start end old ++ xs ≡ between start (end + n) new ++ ys
 read_hand xs ys old new start end most n le fits same h =
     let m : end + most - end ≡ most = omega arith in

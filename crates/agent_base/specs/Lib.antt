@@ -1,6 +1,7 @@
 pub mod Counts
 pub mod Puts
 pub mod Moments
+pub mod Clocked
 pub mod Places
 pub mod Memory
 pub mod Slots
@@ -10,4 +11,5 @@ pub mod Lines
 pub mod Told
 pub mod Hand
 pub mod PieceAnswers
+pub mod Taken
 pub mod Buffered

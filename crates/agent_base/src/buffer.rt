@@ -6,6 +6,7 @@ ghost use Rattle.std.specs.List.{between};
 ghost use Rattle.agent_base.specs.Counts.{HasCause};
 ghost use Rattle.agent_base.specs.Cut.{HasNewline, NoNewline, FirstNewline, has_newline, without_return};
 ghost use Rattle.agent_base.specs.Hand.{empty_hand, to_come, IsSameToCome, Steps};
+ghost use Rattle.agent_base.specs.Taken.{Takes, TakesFor};
 ghost use Rattle.agent_base.specs.Told.{Told};
 ghost use Rattle.agent_base.specs.declared.buffer.TheConstants.{ROOM, MOST};
 
@@ -239,6 +240,7 @@ impl Buffer {
         requires room { self.old.end + READ ≤ ROOM }
         requires most { self.old.taken < MOST }
         ensures steps { Steps (S.left src.old) (S.left src.new) (hand_of self.old) (hand_of self.new) }
+        ensures takes { Takes (S.left src.old) (S.left src.new) (hand_of self.old) (hand_of self.new) }
         ensures end { result ≡ Ok 0 → (hand_of self.new ≡ hand_of self.old) × IsAtEnd (S.left src.new) }
         ensures failed { OnErr result (hand_of self.new ≡ hand_of self.old) }
         ensures counted { IfOk result (λ n. self.new.taken ≡ self.old.taken + n) }
@@ -293,6 +295,7 @@ impl Buffer {
         requires none { NoNewline (bytes_of self.old) }
         requires most { self.old.taken < MOST }
         ensures pieces { Told (S.left src.old) (S.left src.new) (λ xs ys. Answers result (to_come (hand_of self.old) xs) (to_come (hand_of self.new) ys)) }
+        ensures whatever_follows { Told (S.left src.old) (S.left src.new) (TakesFor result (hand_of self.old) (hand_of self.new)) }
         ensures counted { Told (S.left src.old) (S.left src.new) (λ xs ys. self.old.taken + length xs ≡ self.new.taken + length ys) }
         ensures grows { self.old.taken ≤ self.new.taken }
         ensures limited { IsLimited result self.new.taken }
@@ -322,6 +325,7 @@ impl Buffer {
     /// The next piece of the bytes in hand and those that the source has left.
     pub(crate) fn next<S: Source>(&mut self, src: &mut S) -> Result<Option<Piece>, PieceFault>
         ensures pieces { Told (S.left src.old) (S.left src.new) (λ xs ys. Answers result (to_come (hand_of self.old) xs) (to_come (hand_of self.new) ys)) }
+        ensures whatever_follows { Told (S.left src.old) (S.left src.new) (TakesFor result (hand_of self.old) (hand_of self.new)) }
         ensures counted { Told (S.left src.old) (S.left src.new) (λ xs ys. self.old.taken + length xs ≡ self.new.taken + length ys) }
         ensures grows { self.old.taken ≤ self.new.taken }
         ensures limited { IsLimited result self.new.taken }

@@ -2,6 +2,7 @@
 #![tactic(auto)]
 
 mod buffer;
+mod laws;
 mod mem_world;
 mod memory;
 mod outside;
@@ -11,6 +12,7 @@ mod slots;
 mod standard;
 mod world;
 
+pub use laws::{clocked_joins, counted_joins};
 pub use mem_world::MemWorld;
 pub use memory::{MemClock, MemSink, MemSource};
 pub use outside::{Clock, Failed, PutFault, Sink, Source};

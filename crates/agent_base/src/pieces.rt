@@ -4,6 +4,7 @@ ghost use Rattle.agent_base.specs.Cut.{HasNewline};
 ghost use Rattle.agent_base.specs.Hand.{empty_hand, to_come};
 ghost use Rattle.agent_base.specs.Lines.{CutsLines};
 ghost use Rattle.agent_base.specs.PieceAnswers.{Answers, IsLimited, HasReason};
+ghost use Rattle.agent_base.specs.Taken.{TakesFor};
 ghost use Rattle.agent_base.specs.Told.{Told};
 
 use crate::buffer::Buffer;
@@ -58,6 +59,9 @@ impl Pieces {
         ensures whole { HasNewline self.old.bytes → (left : List ℕ) → Answers result (to_come self.old left) (to_come self.new left) }
         ensures in_hand { HasNewline self.old.bytes → src.new ≡ src.old }
         ensures memory { IsErrOf result PieceFault.OutOfMemory → src.new ≡ src.old }
+
+        // What is given of the bytes that were taken stands whatever follows them, but at the end of the source.
+        ensures whatever_follows { Told (S.left src.old) (S.left src.new) (TakesFor result self.old self.new) }
     {
         self.buffer.next(src)
     }

@@ -5,6 +5,7 @@ use Rattle.agent_base.specs.Buffered.{hand_of}
 use Rattle.agent_base.specs.Cut.{has_newline}
 use Rattle.agent_base.proofs.BufferLemmas.{between_front, read_steps, keeps_steps, hand_is}
 use Rattle.agent_base.proofs.HandLemmas.{on_err, hand_zero}
+use Rattle.agent_base.proofs.TakenLemmas.{read_takes, keeps_takes}
 use Rattle.agent_base.proofs.buffer.Buffer.read_more.Goals as goal
 
 pub invariant_of-self : goal.invariant_of-self
@@ -49,3 +50,14 @@ returns-clause-end g c = λ e.
       hand_zero s.buf.items c.read_behind.new.buf.items s.start s.end c.in_ok-n.n s.taken s.passing zero_is c.in_ok-n.ensures.before,
       c.in_ok-n.ensures.bytes.1 zero_is (omega (arith, c.lent-most.ensures.some, length-take (s.end + c.lent-most.result - s.end) (drop s.end c.read_behind.new.buf.items), length-drop s.end c.read_behind.new.buf.items)),
     )
+
+pub returns-in_err-n-clause-takes : goal.returns-in_err-n-clause-takes
+returns-in_err-n-clause-takes g c =
+    let s = c.args.self.now in
+    let same = between_front s.buf.items c.read_behind.new.buf.items s.start s.end s.end (omega arith) c.in_err-n.ensures.before in
+    keeps_takes (g.S.Source.left c.args.src.now) (g.S.Source.left c.read_behind.new.src) (hand_of s) _ c.in_err-n.ensures.bytes (hand_is (between s.start s.end c.read_behind.new.buf.items) (between s.start s.end s.buf.items) s.passing s.taken same)
+
+pub returns-clause-takes : goal.returns-clause-takes
+returns-clause-takes g c =
+    let s = c.args.self.now in
+    read_takes (g.S.Source.left c.args.src.now) (g.S.Source.left c.read_behind.new.src) s.buf.items c.read_behind.new.buf.items s.start s.end c.lent-most.result c.in_ok-n.n s.taken s.passing (omega arith) c.in_ok-n.ensures.bound c.in_ok-n.ensures.before c.in_ok-n.ensures.bytes.0

@@ -2,12 +2,14 @@ use Rattle.std.proofs.Common.{◌<◌, ◌≤◌, ◌-◌}
 use Rattle.agent_base.specs.Buffered.{hand_of, bytes_of}
 use Rattle.agent_base.specs.Cut.{NoNewline}
 use Rattle.agent_base.specs.Hand.{Steps}
+use Rattle.agent_base.specs.Taken.{Takes}
 use Rattle.agent_base.specs.declared.buffer.TheConstants.{MOST}
 use Rattle.agent_base.proofs.buffer.Buffer.read_piece.Given as goal
 
 abbrev pub invariant-reads : goal.invariant-reads
 invariant-reads g l = record {
   steps : Steps (g.S.Source.left l.fn.src) (g.S.Source.left l.src) (hand_of l.fn.self) (hand_of l.self);
+  takes : Takes (g.S.Source.left l.fn.src) (g.S.Source.left l.src) (hand_of l.fn.self) (hand_of l.self);
   faults : g.S.Source.faults l.fn.src ≤ g.S.Source.faults l.src;
   grows : l.fn.self.taken ≤ l.self.taken;
   most : l.self.taken < MOST;

@@ -1,13 +1,13 @@
 -- What is given of the bytes that were taken, read by read.
-use Rattle.std.proofs.Common.{◌≡◌, ◌≤◌, ℕ, ◌+◌, Bool, true, false, cond, eqb, ltb, List, [], ◌∷◌, ◌++◌, length, take, refl, sym, ap, ◌∙◌, append_assoc, append-nil, arith, inl, inr, Option, Some, None, Result, Ok, Err}
+use Rattle.std.proofs.Common.{◌≡◌, ◌≤◌, ℕ, ◌+◌, Bool, true, false, cond, eqb, ltb, List, [], ◌∷◌, ◌++◌, length, take, refl, sym, ap, ◌∙◌, append_assoc, append-nil, arith, inr, Option, Some, None, Result, Ok, Err}
 use Rattle.std.specs.List.{between}
-use Rattle.std.specs.Io.KnownBytes.{Consumes, Keeps, IsAtEnd}
+use Rattle.std.specs.Io.KnownBytes.{Consumes, Keeps}
 use Rattle.agent_base.specs.declared.piece.Piece.{Piece}
 use Rattle.agent_base.specs.declared.piece.PieceFault.{PieceFault}
 use Rattle.agent_base.specs.declared.piece.PieceFault.TheVariants as faults
 use Rattle.agent_base.specs.Cut.{TooLong, Whole, cut, passed, unended, NoNewline}
 use Rattle.agent_base.specs.Hand.{Hand, to_come, IsSameToCome}
-use Rattle.agent_base.specs.PieceAnswers.{IsGiven, IsGivenOrUnchanged, IsLast}
+use Rattle.agent_base.specs.PieceAnswers.{IsGiven}
 use Rattle.agent_base.specs.Told.{Told}
 use Rattle.agent_base.specs.Taken.{Takes, AnswersWhatever, TakesFor}
 use Rattle.agent_base.proofs.Cuts.{last_passed, cut_nothing}
@@ -37,10 +37,7 @@ keeps_takes (Some xs) (Some ys) old new h same = record { taken = []; split = sy
 
 -- ---- reads one after another
 
-pub takes_none : (left : Option (List ℕ)) (hand : Hand) → Takes left left hand hand
-takes_none None hand = tt
-takes_none (Some xs) hand = record { taken = []; split = refl; pieces = λ more. refl }
-
+-- reads, room for one more, and that one
 pub takes_more : (before mid after : Option (List ℕ)) (old was had new : Hand) → Takes before mid old was → IsSameToCome was had → Takes mid after had new → Takes before after old new
 takes_more None mid after old was had new h same k = tt
 takes_more (Some xs) None after old was had new h same k = absurd h
@@ -53,30 +50,11 @@ takes_more (Some xs) (Some ys) (Some zs) old was had new h same k = record {
 
 -- ---- the answers
 
-pub takes_read_fault : (before after : Option (List ℕ)) (old new : Hand) → Takes before after old new → Told before after (TakesFor (Err faults.ReadFault) old new)
-takes_read_fault None after old new h = tt
-takes_read_fault (Some xs) None old new h = absurd h
-takes_read_fault (Some xs) (Some ys) old new h = record { taken = h.taken; split = h.split; given = h.pieces }
-
+-- no more bytes are taken
 pub takes_byte_limit : (before after : Option (List ℕ)) (old new : Hand) → Takes before after old new → Told before after (TakesFor (Err faults.ByteLimit) old new)
 takes_byte_limit None after old new h = tt
 takes_byte_limit (Some xs) None old new h = absurd h
 takes_byte_limit (Some xs) (Some ys) old new h = record { taken = h.taken; split = h.split; given = h.pieces }
-
-pub takes_out_of_memory : (left : Option (List ℕ)) (old new : Hand) → new ≡ old → Told left left (TakesFor (Err faults.OutOfMemory) old new)
-takes_out_of_memory None old new same = tt
-takes_out_of_memory (Some xs) old new same = record { taken = []; split = refl; given = λ more. rw same refl }
-
--- the last answer at the end of the source
-pub takes_last : (before after : Option (List ℕ)) (old mid new : Hand) (r : Result (Option Piece) PieceFault) → Takes before after old mid → IsAtEnd after → IsLast r → Told before after (TakesFor r old new)
-takes_last None after old mid new r h end last = tt
-takes_last (Some xs) None old mid new r h end last = absurd h
-takes_last (Some xs) (Some ys) old mid new (Ok (Some p)) h end last = record { taken = h.taken; split = h.split; given = inl end }
-takes_last (Some xs) (Some ys) old mid new (Ok None) h end last = record { taken = h.taken; split = h.split; given = end }
-takes_last (Some xs) (Some ys) old mid new (Err faults.TooLong) h end last = record { taken = h.taken; split = h.split; given = inl end }
-takes_last (Some xs) (Some ys) old mid new (Err faults.OutOfMemory) h end last = absurd last
-takes_last (Some xs) (Some ys) old mid new (Err faults.ReadFault) h end last = absurd last
-takes_last (Some xs) (Some ys) old mid new (Err faults.ByteLimit) h end last = absurd last
 
 -- a line that is in hand after some reads
 pub takes_line : (before after : Option (List ℕ)) (old mid new : Hand) (r : Result (Option Piece) PieceFault) → Takes before after old mid → AnswersWhatever r mid new [] → IsGiven r → Told before after (TakesFor r old new)
@@ -89,21 +67,13 @@ takes_line (Some xs) (Some ys) old mid new (Err faults.OutOfMemory) h pieces giv
 takes_line (Some xs) (Some ys) old mid new (Err faults.ReadFault) h pieces given = absurd given
 takes_line (Some xs) (Some ys) old mid new (Err faults.ByteLimit) h pieces given = absurd given
 
--- a line that was in hand without a read
-pub takes_in_hand : (left : Option (List ℕ)) (old new : Hand) (r : Result (Option Piece) PieceFault) → AnswersWhatever r old new [] → IsGivenOrUnchanged r old new → Told left left (TakesFor r old new)
-takes_in_hand None old new r pieces given = tt
-takes_in_hand (Some xs) old new (Ok (Some p)) pieces given = record { taken = []; split = refl; given = inr pieces }
-takes_in_hand (Some xs) old new (Ok None) pieces given = absurd given
-takes_in_hand (Some xs) old new (Err faults.TooLong) pieces given = record { taken = []; split = refl; given = inr pieces }
-takes_in_hand (Some xs) old new (Err faults.OutOfMemory) pieces given = record { taken = []; split = refl; given = pieces }
-takes_in_hand (Some xs) old new (Err faults.ReadFault) pieces given = absurd given
-takes_in_hand (Some xs) old new (Err faults.ByteLimit) pieces given = absurd given
-
 -- ---- what is still to come of a hand without a newline
 
+-- the bytes behind the last newline are one piece at most
 unended_one : (rest : List ℕ) → length (unended rest) ≤ 1
 unended_one rest = elim (eqb (length rest) 0) as (λ (b : Bool). length (cond b [] (cond (ltb 65536 (length rest)) TooLong (Whole rest) ∷ [])) ≤ 1) [ true ↦ omega arith | false ↦ omega arith ]
 
+-- where nothing is left, one piece at most is to come
 pub one_to_come : (hand : Hand) → NoNewline hand.bytes → length (to_come hand []) ≤ 1
 one_to_come hand clean = go hand.is_passing
   where

@@ -5,3 +5,4 @@ pub mod Views
 pub mod Draft
 pub mod Grammar
 pub mod LineText
+pub mod RoundTrip

@@ -3,6 +3,7 @@ use super::*;
 use fixed_num::OutOfMemory;
 use metric::{Metric, Value};
 use std::alloc::Global;
+use std::process::Abort;
 use std::test::Fail;
 
 /// A metric in readable form: `name key=value .. | key=value .. | time`, a number with decimals in billionths.
@@ -54,9 +55,17 @@ fn many(
     Ok(text)
 }
 
+/// Each piece reads as it is wanted.
+fn each_is_shown(rt: &impl Abort, alloc: Global, rows: &[(&str, &str)]) -> Result<(), OutOfMemory> {
+    for (piece, want) in rows {
+        let text = shown(alloc, piece.as_bytes())?;
+        assert_eq!(rt; text.as_str(), *want, "at {piece}");
+    }
+    Ok(())
+}
+
 #[test]
 fn lines_are_read(rt: HostRuntime) -> Result<(), Fail> {
-    let alloc = rt.alloc();
     let rows = [
         (
             "weather,location=us-midwest temperature=82 1465839830100400200",
@@ -75,6 +84,18 @@ fn lines_are_read(rt: HostRuntime) -> Result<(), Fail> {
             "cpu az=x host=c | a=-3i b=2u | -5",
         ),
         (
+            "  naïve=1,tag=a=b  v=1i   9  ",
+            "naïve=1 tag=a=b | v=1i | 9",
+        ),
+        ("m,t#=# #=1i", "m t#=# | #=1i | 7"),
+    ];
+    Ok(each_is_shown(&rt, rt.alloc(), rows.as_slice())?)
+}
+
+#[test]
+fn values_are_read(rt: HostRuntime) -> Result<(), Fail> {
+    let rows = [
+        (
             "m a=t,b=T,c=true,d=True,e=TRUE",
             "m | a=true b=true c=true d=true e=true | 7",
         ),
@@ -88,15 +109,24 @@ fn lines_are_read(rt: HostRuntime) -> Result<(), Fail> {
             "m v=+9223372036854775807i",
             "m | v=9223372036854775807i | 7",
         ),
-        (
-            "  naïve=1,tag=a=b  v=1i   9  ",
-            "naïve=1 tag=a=b | v=1i | 9",
-        ),
+    ];
+    Ok(each_is_shown(&rt, rt.alloc(), rows.as_slice())?)
+}
+
+#[test]
+fn blanks_and_comments_are_none(rt: HostRuntime) -> Result<(), Fail> {
+    let rows = [
         ("", "none"),
         ("   ", "none"),
         ("# a comment", "none"),
         ("  #m v=1i", "none"),
-        ("m,t#=# #=1i", "m t#=# | #=1i | 7"),
+    ];
+    Ok(each_is_shown(&rt, rt.alloc(), rows.as_slice())?)
+}
+
+#[test]
+fn faults_of_keys(rt: HostRuntime) -> Result<(), Fail> {
+    let rows = [
         ("cpu", "NoFields@3"),
         ("cpu,a=b  ", "NoFields@9"),
         ("\t", "NoFields@1"),
@@ -108,6 +138,13 @@ fn lines_are_read(rt: HostRuntime) -> Result<(), Fail> {
         ("cpu,=a v=1", "BadKey@4"),
         ("m v=1,", "BadKey@6"),
         ("m v=1, w=1", "BadKey@6"),
+    ];
+    Ok(each_is_shown(&rt, rt.alloc(), rows.as_slice())?)
+}
+
+#[test]
+fn faults_of_values(rt: HostRuntime) -> Result<(), Fail> {
+    let rows = [
         ("m,a=", "BadValue@4"),
         ("m,a= v=1", "BadValue@4"),
         ("m v=", "BadValue@4"),
@@ -122,19 +159,31 @@ fn lines_are_read(rt: HostRuntime) -> Result<(), Fail> {
         ("m v=9223372036854775808i", "NumberRange@4"),
         ("m v=18446744073709551616u", "NumberRange@4"),
         ("m fieldKey=-1.234456e+78", "NumberRange@11"),
+    ];
+    Ok(each_is_shown(&rt, rt.alloc(), rows.as_slice())?)
+}
+
+#[test]
+fn faults_of_times(rt: HostRuntime) -> Result<(), Fail> {
+    let rows = [
         ("m v=1i 5x", "BadTime@7"),
         ("m v=1i 5 6", "BadTime@9"),
         ("m v=1i 5,w=2i", "BadTime@7"),
         ("m v=1i 5\r", "BadTime@7"),
         ("m v=1 99999999999999999999 x", "NumberRange@6"),
+    ];
+    Ok(each_is_shown(&rt, rt.alloc(), rows.as_slice())?)
+}
+
+#[test]
+fn faults_of_pieces(rt: HostRuntime) -> Result<(), Fail> {
+    let alloc = rt.alloc();
+    let rows = [
         ("m v=\"a\"", "NotBuilt@0"),
         ("# say \"hi\"", "NotBuilt@0"),
         ("my\\ m v=1", "NotBuilt@0"),
     ];
-    for (piece, want) in rows {
-        let text = shown(alloc, piece.as_bytes())?;
-        assert_eq!(rt; text.as_str(), want, "at {piece}");
-    }
+    each_is_shown(&rt, alloc, rows.as_slice())?;
     let text = shown(alloc, b"# comment \xc3")?;
     assert_eq!(rt; text.as_str(), "NotUtf8@10");
     Ok(())

@@ -1,9 +1,16 @@
 pub mod NumberWords
 pub mod PlaceLemmas
 pub mod StandingLemmas
-pub mod FaultLemmas
 pub mod GroupLemmas
 pub mod GatherLemmas
 pub mod SentLemmas
 pub mod WorkedLemmas
 pub mod JournalSoFarLemmas
+pub mod DoneLemmas
+pub mod OrderLemmas
+pub mod MomentLemmas
+pub mod ProgressLemmas
+pub mod SendSteps
+pub mod GatherSteps
+pub mod FinishSteps
+pub mod HeadlineLemmas

@@ -1,5 +1,5 @@
 -- What the next pieces of an input say, and which pieces of its text they are.
-use Rattle.std.specs.Prelude.{◌≡◌, ◌≤◌, ℕ, ℤ, ◌+◌, List, [], ◌∷◌, ◌++◌, length, count_by, if◌then◌else◌}
+use Rattle.std.specs.Prelude.{◌≡◌, ◌≤◌, ◌<◌, ◌⊎◌, ◌^◌, ℕ, ℤ, ◌+◌, Bool, true, false, List, [], ◌∷◌, ◌++◌, length, count_by, if◌then◌else◌}
 use Rattle.std.specs.List.{flat_map}
 use Rattle.std.specs.declared.option.Option.{Option}
 use Rattle.agent_base.specs.Cut.{Cut}
@@ -9,6 +9,11 @@ use Rattle.agent_run.specs.declared.reading.Group.{Group}
 use Rattle.agent_run.specs.declared.reading.InState.{InState}
 use Rattle.agent_run.specs.declared.reading.InState.TheVariants as states
 use Rattle.agent_run.specs.Gathered.{is_refused, readings}
+use Rattle.account.specs.declared.entry.Entry.TheVariants.{Ended}
+use Rattle.pipeline_core.specs.CoreState.{CoreState}
+use Rattle.pipeline_core.specs.Stands.{Continues}
+use Rattle.pipeline_core.specs.Steps.{after_gather, after_ended, gather_entry}
+use Rattle.pipeline_core.specs.declared.gathering.Gathered.{Gathered}
 
 -- one piece more is counted, as refused where it is, and its reading is kept behind the others
 pub record CountsPiece (moment : ℤ) (piece : Cut) (old new : Group) : Type 0 where
@@ -52,3 +57,20 @@ pub record ReadsGroup (moment : ℤ) (group : Group) (state : InState) (before a
   pub most : length reads.read ≤ 1000
   pub full : state ≡ states.Reading → length reads.read ≡ 1000
   pub all : state ≡ states.Ended → IsAllRead left_before left_after after
+
+-- what a group says, as the core gathers it
+abbrev pub gathered_of : ℤ → Group → Gathered
+gathered_of moment group = record { input = 0; moment = moment; pieces = group.pieces; refused = group.refused; passed = 0; filtered = 0; metrics = group.metrics.items }
+
+-- what offering a group leaves: nothing where it has no piece, else it was gathered; or the run is full
+abbrev pub IsOffered : Bool → ℤ → Group → CoreState → CoreState → Type 0
+IsOffered true moment group old new =
+    ((group.pieces ≡ 0) × (new ≡ old)) ⊎ ((0 < group.pieces) × (new ≡ after_gather old (gathered_of moment group)) × Continues old new (gather_entry (gathered_of moment group)))
+IsOffered false moment group old new = (new ≡ old) × (2 ^ 32 ≤ old.gathered + length group.metrics.items)
+
+-- what the end of the input leaves
+abbrev pub IsEnding : InState → CoreState → CoreState → Type 0
+IsEnding states.Reading old new = new ≡ old
+IsEnding states.Ended old new = (new ≡ after_ended old 0) × Continues old new (Ended 0)
+IsEnding states.Faulted old new = new ≡ old
+IsEnding states.LimitReached old new = new ≡ old

@@ -8,3 +8,10 @@ pub mod Groups
 pub mod Sent
 pub mod Worked
 pub mod JournalSoFar
+pub mod PipeSetup
+pub mod Dones
+pub mod Order
+pub mod EntryMoments
+pub mod Causes
+pub mod Progress
+pub mod Headline

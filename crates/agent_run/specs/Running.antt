@@ -1,11 +1,14 @@
 -- What a core keeps between the steps of a run.
-use Rattle.std.specs.Prelude.{◌≡◌, ◌≤◌, ℕ, List, false, length, slice_get, Result, Ok, Err, ⊤}
+use Rattle.std.specs.Prelude.{◌≡◌, ◌≤◌, ℕ, List, [], ◌∷◌, false, length, slice_get, Result, Ok, Err, ⊤}
 use Rattle.std.specs.declared.option.Option.{Option}
 use Rattle.std.specs.declared.option.Option.TheVariants.{Some, None}
 use Rattle.account.specs.declared.entry.Entry.{Entry}
 use Rattle.pipeline_core.specs.CoreState.{CoreState, lane_at}
 use Rattle.pipeline_core.specs.Stands.{Stands}
-use Rattle.agent_run.specs.Sent.{Sent, AppendsSo}
+use Rattle.metric.specs.declared.metric.Content.{Content}
+use Rattle.pipeline_core.specs.Steps.{after_cut}
+use Rattle.pipeline_core.specs.declared.routing.Routed.{Routed}
+use Rattle.agent_run.specs.declared.pipe_run.PipeRun.{PipeRun}
 
 -- there is one output, no item is in hand, and no batch is in flight
 pub record IsReady (core : CoreState) : Type 0 where
@@ -39,7 +42,19 @@ abbrev pub StillStands : {T E : Type 0} → Result T E → CoreState → Type 0
 StillStands (Ok done) core = HasJournal core
 StillStands (Err fault) core = ⊤
 
-pub record HasSent (core : CoreState) (start now : Option (List ℕ)) : Type 0 where
-  pub journal : List Entry
-  pub stands : Stands core journal
-  pub sent : AppendsSo start now (Sent journal 0)
+-- batches were sent: the set-up, what is raw, in hand, ended and stopped are as before
+pub record IsSentOn (old new : CoreState) : Type 0 where
+  pub setup : new.setup ≡ old.setup
+  pub raw : new.raw ≡ old.raw
+  pub held : new.held ≡ old.held
+  pub ended : new.ended ≡ old.ended
+  pub stopped : new.stopped ≡ old.stopped
+
+-- what the core stored was spelled: none is stored, and all else of the core and the number of failed puts are as before
+pub record IsNoted (old new : PipeRun) : Type 0 where
+  pub core : new.core ≡ after_cut old.core
+  pub failed : new.failed ≡ old.failed
+
+-- an item is routed with itself as its whole and as its only view
+abbrev pub as_it_is : ℕ → Content → Routed
+as_it_is item metric = record { item = item; whole = Some metric; aggs = []; outs = Some metric ∷ [] }

@@ -3,11 +3,15 @@
 
 mod batch;
 mod command;
+mod gathering;
 mod journal;
 mod opening;
+mod pipe_run;
 mod reading;
 mod real;
 mod rounds;
+mod routing;
+mod sending;
 mod status;
 mod top;
 
@@ -29,7 +33,7 @@ fn advice(status: Status) -> &'static str {
             "hogzent: a read of the input failed; what was read before was sent on",
         Status::OpenFault => "hogzent: a place could not be opened; nothing was read or written",
         Status::Left => {
-            "hogzent: a put to the output failed; the account says how many metrics are still buffered"
+            "hogzent: the last three puts to the output failed; the account says how many metrics are still buffered"
         }
         Status::ReportFault => "hogzent: the journal or the report could not be written whole",
         Status::Limit =>
@@ -55,5 +59,11 @@ fn main(rt: HostRuntime) -> ExitCode {
     ExitCode::from(status.code())
 }
 
+#[cfg(test)]
+mod fault_tests;
+#[cfg(test)]
+mod input_tests;
+#[cfg(test)]
+mod report_tests;
 #[cfg(test)]
 mod tests;

@@ -1,5 +1,6 @@
 //! Reading the next pieces of an input.
-ghost use Rattle.std.specs.Prelude.{◌≡◌, ◌<◌, ◌≤◌, ◌+◌, ◌^◌, ℤ, IfOk, OnOk};
+ghost use Rattle.std.specs.Prelude.{◌≡◌, ◌<◌, ◌≤◌, ◌+◌, ◌^◌, ℤ, length, IfOk, OnOk};
+ghost use Rattle.agent_base.specs.Told.{Told};
 ghost use Rattle.agent_base.specs.Counts.{Rose};
 ghost use Rattle.agent_base.specs.Cut.{TooLong, Whole};
 ghost use Rattle.agent_run.specs.Groups.{CountsPiece, IsAllRead, ReadsGroup, ReadsNext};
@@ -84,6 +85,8 @@ fn read_next<S: Source>(
     ensures all { IfOk result (λ state. state ≡ InState.Ended → IsAllRead (S.left source.old) (S.left source.new) pieces.new) }
     ensures failed { IfOk result (λ state. state ≡ InState.Faulted → Rose (S.faults source.old) (S.faults source.new)) }
     ensures limit { IfOk result (λ state. state ≡ InState.LimitReached → pieces.new.taken ≡ 2 ^ 40) }
+    ensures below { IfOk result (λ state. (state ≡ InState.LimitReached → ⊥) → pieces.new.taken < 2 ^ 40) }
+    ensures counted { Told (S.left source.old) (S.left source.new) (λ xs ys. pieces.old.taken + length xs ≡ pieces.new.taken + length ys) }
     ensures faults { S.faults source.old ≤ S.faults source.new }
 {
     match pieces.next(source) {
@@ -116,6 +119,8 @@ pub fn read_group<S: Source>(
     ensures reads { IfOk result (λ answer. ReadsGroup moment answer.0 answer.1 pieces.old pieces.new (S.left source.old) (S.left source.new)) }
     ensures failed { IfOk result (λ answer. answer.1 ≡ InState.Faulted → Rose (S.faults source.old) (S.faults source.new)) }
     ensures limit { IfOk result (λ answer. answer.1 ≡ InState.LimitReached → pieces.new.taken ≡ 2 ^ 40) }
+    ensures below { IfOk result (λ answer. (answer.1 ≡ InState.LimitReached → ⊥) → pieces.new.taken < 2 ^ 40) }
+    ensures counted { Told (S.left source.old) (S.left source.new) (λ xs ys. pieces.old.taken + length xs ≡ pieces.new.taken + length ys) }
     ensures faults { S.faults source.old ≤ S.faults source.new }
 {
     let mut group = Group {

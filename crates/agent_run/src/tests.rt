@@ -9,9 +9,10 @@ use fixed_num::OutOfMemory;
 use std::alloc::{AllocError, Global};
 use std::test::Fail;
 
-/// A world with a source at `a`, and sinks at `b` and `agent.journal`.
-fn world_of(
+/// A world with a source at the first place, and sinks at the two others.
+pub fn world_at(
     alloc: Global,
+    places: (&str, &str, &str),
     source: MemSource,
     sink: MemSink,
     journal: MemSink,
@@ -20,14 +21,27 @@ fn world_of(
     ensures outs { IfOk result (λ world. AreHome (⟦<MemWorld as World>⟧.out_at world)) }
 {
     let mut world = MemWorld::new(alloc);
-    world.add_in("a", source)?;
-    world.add_out("b", sink)?;
-    world.add_out("agent.journal", journal)?;
+    world.add_in(places.0, source)?;
+    world.add_out(places.1, sink)?;
+    world.add_out(places.2, journal)?;
     Ok(world)
 }
 
+/// A world with a source at `a`, and sinks at `b` and `agent.journal`.
+pub fn world_of(
+    alloc: Global,
+    source: MemSource,
+    sink: MemSink,
+    journal: MemSink,
+) -> Result<MemWorld, OutOfMemory>
+    ensures ins { IfOk result (λ world. AreHome (⟦<MemWorld as World>⟧.in_at world)) }
+    ensures outs { IfOk result (λ world. AreHome (⟦<MemWorld as World>⟧.out_at world)) }
+{
+    world_at(alloc, ("a", "b", "agent.journal"), source, sink, journal)
+}
+
 /// The words of a line.
-fn words_of(alloc: Global, line: &str) -> Result<Vec<String>, AllocError> {
+pub fn words_of(alloc: Global, line: &str) -> Result<Vec<String>, AllocError> {
     let mut words = Vec::new(alloc);
     for word in line.split_whitespace() {
         words.push(String::from_str(alloc, word)?)?;
@@ -36,7 +50,7 @@ fn words_of(alloc: Global, line: &str) -> Result<Vec<String>, AllocError> {
 }
 
 /// A source that gives as much as is asked for, and fails the listed reads.
-fn source_of(alloc: Global, bytes: &[u8], fails: &[u64]) -> Result<MemSource, AllocError> {
+pub fn source_of(alloc: Global, bytes: &[u8], fails: &[u64]) -> Result<MemSource, AllocError> {
     Ok(MemSource::new(
         alloc,
         Vec::from_slice(alloc, bytes)?,
@@ -46,29 +60,25 @@ fn source_of(alloc: Global, bytes: &[u8], fails: &[u64]) -> Result<MemSource, Al
 }
 
 /// A sink whose listed puts fail after so many bytes.
-fn sink_of(alloc: Global, fails: &[(u64, usize)]) -> Result<MemSink, AllocError> {
+pub fn sink_of(alloc: Global, fails: &[(u64, usize)]) -> Result<MemSink, AllocError> {
     Ok(MemSink::new(alloc, Vec::from_slice(alloc, fails)?))
 }
 
 /// What a run left: how it ended, what was reported, and what stands at `b` and in the journal.
 #[derive(Drop)]
-struct Outcome {
-    status: Status,
-    report: Vec<u8>,
-    output: Vec<u8>,
-    journal: Vec<u8>,
+pub struct Outcome {
+    pub status: Status,
+    pub report: Vec<u8>,
+    pub output: Vec<u8>,
+    pub journal: Vec<u8>,
 }
 
-/// Runs a line of words.
-fn outcome_of(
-    alloc: Global,
-    line: &str,
-    source: MemSource,
-    sink: MemSink,
-    journal: MemSink,
-) -> Result<Outcome, OutOfMemory> {
+/// Runs a line of words in a world of which no part is out.
+pub fn outcome_in(alloc: Global, line: &str, mut world: MemWorld) -> Result<Outcome, OutOfMemory>
+    requires ins { AreHome (⟦<MemWorld as World>⟧.in_at world) }
+    requires outs { AreHome (⟦<MemWorld as World>⟧.out_at world) }
+{
     let words = words_of(alloc, line)?;
-    let mut world = world_of(alloc, source, sink, journal)?;
     let status = agent(alloc, words.as_slice(), &mut world);
     let report = Vec::from_slice(alloc, world.reported())?;
     let output = match world.out("b") {
@@ -87,9 +97,21 @@ fn outcome_of(
     })
 }
 
-const TWO_LINES: &[u8] = b"cpu,host=a v=1i 5\ncpu v=2.5 6\n";
+/// Runs a line of words over a source at `a`, and sinks at `b` and `agent.journal`.
+pub fn outcome_of(
+    alloc: Global,
+    line: &str,
+    source: MemSource,
+    sink: MemSink,
+    journal: MemSink,
+) -> Result<Outcome, OutOfMemory> {
+    let world = world_of(alloc, source, sink, journal)?;
+    outcome_in(alloc, line, world)
+}
 
-const TWO_LINES_REPORT: &[u8] =
+pub const TWO_LINES: &[u8] = b"cpu,host=a v=1i 5\ncpu v=2.5 6\n";
+
+pub const TWO_LINES_REPORT: &[u8] =
     b"input 0 pieces 2 refused 0 passed 0 filtered 0 gathered 2 ended\nitems made 0 removed 0 routed 2\noutput 0 filtered 0 late 0 consumed 0 written 2 buffered 0 dropped 0\n";
 
 const TWO_LINES_JOURNAL: &[u8] =
@@ -155,14 +177,7 @@ fn statuses(rt: HostRuntime) -> Result<(), Fail> {
         ),
         ("pipe a b 001 2", &[], &[], &[], 0, TWO_LINES_REPORT),
         ("pipe a b 10 100", &[], &[], &[(0, 3)], 7, TWO_LINES_REPORT),
-        (
-            "pipe a b 10 100",
-            &[],
-            &[(0, 0)],
-            &[],
-            6,
-            b"input 0 pieces 2 refused 0 passed 0 filtered 0 gathered 2 ended\nitems made 0 removed 0 routed 2\noutput 0 filtered 0 late 0 consumed 0 written 0 buffered 2 dropped 0\n",
-        ),
+        ("pipe a b 10 100", &[], &[(0, 0)], &[], 0, TWO_LINES_REPORT),
     ];
     for (line, reads, puts, journal, code, report) in cases {
         let outcome = outcome_of(

@@ -1,10 +1,9 @@
 //! The top call.
-ghost use Rattle.std.specs.Prelude.{◌≡◌, ◌≢◌, ◌≤◌, ◌⊎◌, ℕ, List, true, false, IfOk, MatchOption, string_bytes};
-ghost use Rattle.agent_base.specs.Counts.{Rose};
+ghost use Rattle.std.specs.Prelude.{◌≡◌, ◌≢◌, ◌≤◌, ◌⊎◌, ◌||◌, ℕ, List, Bool, true, false, IfOk, MatchOption, string_bytes};
 ghost use Rattle.agent_base.specs.Places.{AreHome, SameAtAll};
 ghost use Rattle.agent_run.specs.Command.{IsPipe, journal_place};
-ghost use Rattle.agent_run.specs.Places.{ReportsLine, IsRefused, IsUnused, RoseToUse, open_fault_line};
-ghost use Rattle.agent_run.specs.declared.reading.InState.TheVariants.{Faulted};
+ghost use Rattle.agent_run.specs.Places.{ReportsLine, IsRefused, IsUnused, open_fault_line};
+ghost use Rattle.agent_run.specs.Headline.{Ends, IsPutSo, PipeEnds, NothingRose, change, place_change, report_change, status_of};
 ghost use Rattle.agent_run.specs.Opening.{IsRefusalAnswer, place_of};
 
 use crate::command::{JOURNAL, Pipe, read_command};
@@ -47,12 +46,8 @@ fn open_fault_line(alloc: Global, place: &str) -> Result<String, AllocError>
 
 /// Reports the account, and says how the run ended.
 fn report_account<W: World>(ending: &Ending, world: &mut W) -> Status
-    ensures usage { result ≢ Status.Usage }
-    ensures config { result ≢ Status.Config }
-    ensures open { result ≢ Status.OpenFault }
-    ensures left { result ≡ Status.Left → ending.now.left ≡ true }
-    ensures read { result ≡ Status.ReadFault → ending.now.state ≡ Faulted }
-    ensures report { result ≡ Status.ReportFault → (ending.now.journal_failed ≡ true) ⊎ Rose (W.rest world.old).report_faults (W.rest world.new).report_faults }
+    ensures answer { (result ≡ Status.OutOfMemory) ⊎ ((failed : Bool) × (result ≡ status_of ending.now.state (ending.now.journal_failed || failed) ending.now.left)
+        × IsPutSo failed (report_change (W.rest world.old) (W.rest world.new)) ending.now.account.items) }
     ensures ins { SameAtAll (W.in_at world.old) (W.in_at world.new) }
     ensures outs { SameAtAll (W.out_at world.old) (W.out_at world.new) }
 {
@@ -78,15 +73,13 @@ fn run_parts<W: World>(
     requires ordered { pipe.now.batch ≤ pipe.now.limit }
     requires other_ins { (place : List ℕ) → place ≢ pipe.now.input.now → (W.in_at world.old place).is_out ≡ false }
     requires other_outs { (place : List ℕ) → place ≢ pipe.now.output.now → place ≢ journal_place → (W.out_at world.old place).is_out ≡ false }
-    ensures usage { result ≢ Status.Usage }
-    ensures config { result ≢ Status.Config }
-    ensures open { result ≢ Status.OpenFault }
+    ensures ends { Ends pipe.now.batch pipe.now.limit
+        (change (W.In.left parts.source) (W.in_at world.new pipe.now.input.now).bytes (W.In.faults parts.source) (W.in_at world.new pipe.now.input.now).part_faults)
+        (change (W.Out.held parts.sink) (W.out_at world.new pipe.now.output.now).bytes (W.Out.faults parts.sink) (W.out_at world.new pipe.now.output.now).part_faults)
+        (change (W.Out.held parts.journal) (W.out_at world.new journal_place).bytes (W.Out.faults parts.journal) (W.out_at world.new journal_place).part_faults)
+        (report_change (W.rest world.old) (W.rest world.new)) (W.moments world.old 0) (W.moments world.old 3) result }
     ensures ins { AreHome (W.in_at world.new) }
     ensures outs { AreHome (W.out_at world.new) }
-    ensures read { result ≡ Status.ReadFault → Rose (W.In.faults parts.source) (W.in_at world.new pipe.now.input.now).part_faults }
-    ensures left { result ≡ Status.Left → Rose (W.Out.faults parts.sink) (W.out_at world.new pipe.now.output.now).part_faults }
-    ensures report { result ≡ Status.ReportFault → Rose (W.Out.faults parts.journal) (W.out_at world.new journal_place).part_faults
-        ⊎ Rose (W.rest world.old).report_faults (W.rest world.new).report_faults }
 {
     let Parts {
         mut source,
@@ -148,15 +141,12 @@ fn run_pipe<W: World>(alloc: Global, pipe: &Pipe<'_>, world: &mut W) -> Status
     requires apart { pipe.now.output.now ≢ journal_place }
     requires some { 1 ≤ pipe.now.batch }
     requires ordered { pipe.now.batch ≤ pipe.now.limit }
-    ensures usage { result ≢ Status.Usage }
-    ensures config { result ≢ Status.Config }
     ensures open { result ≡ Status.OpenFault → IsRefused (W.in_at world.old) (W.in_at world.new) (W.out_at world.old) (W.out_at world.new) (W.rest world.old) (W.rest world.new) pipe.now.input.now pipe.now.output.now }
+    ensures ends { (result ≢ Status.OpenFault) → Ends pipe.now.batch pipe.now.limit (place_change (W.in_at world.old pipe.now.input.now) (W.in_at world.new pipe.now.input.now))
+        (place_change (W.out_at world.old pipe.now.output.now) (W.out_at world.new pipe.now.output.now)) (place_change (W.out_at world.old journal_place) (W.out_at world.new journal_place))
+        (report_change (W.rest world.old) (W.rest world.new)) (W.moments world.old 0) (W.moments world.old 3) result }
     ensures ins_home { AreHome (W.in_at world.new) }
     ensures outs_home { AreHome (W.out_at world.new) }
-    ensures read { result ≡ Status.ReadFault → RoseToUse (W.in_at world.old pipe.now.input.now) (W.in_at world.new pipe.now.input.now) }
-    ensures left { result ≡ Status.Left → RoseToUse (W.out_at world.old pipe.now.output.now) (W.out_at world.new pipe.now.output.now) }
-    ensures report { result ≡ Status.ReportFault → RoseToUse (W.out_at world.old journal_place) (W.out_at world.new journal_place)
-        ⊎ Rose (W.rest world.old).report_faults (W.rest world.new).report_faults }
 {
     match open_parts(world, pipe.input, pipe.output) {
         Ok(parts) => run_parts(alloc, pipe, parts, world),
@@ -184,14 +174,14 @@ pub fn agent<W: World>(alloc: Global, words: &[String], world: &mut W) -> Status
     ensures open { result ≡ Status.OpenFault → (input output : List ℕ) × (batch limit : ℕ) × IsPipe words.now input output batch limit
         × IsRefused (W.in_at world.old) (W.in_at world.new) (W.out_at world.old) (W.out_at world.new) (W.rest world.old) (W.rest world.new) input output }
 
-    // ReadFault comes only where a read of the input failed, Left only where a put to the output did, ReportFault only
-    // where the put of the journal or of the report did.
-    ensures read { result ≡ Status.ReadFault → (input output : List ℕ) × (batch limit : ℕ) × IsPipe words.now input output batch limit
-        × RoseToUse (W.in_at world.old input) (W.in_at world.new input) }
-    ensures left { result ≡ Status.Left → (input output : List ℕ) × (batch limit : ℕ) × IsPipe words.now input output batch limit
-        × RoseToUse (W.out_at world.old output) (W.out_at world.new output) }
-    ensures report { result ≡ Status.ReportFault → RoseToUse (W.out_at world.old journal_place) (W.out_at world.new journal_place)
-        ⊎ Rose (W.rest world.old).report_faults (W.rest world.new).report_faults }
+    // The headline: what a run that ended with one of the other statuses left behind.
+    ensures headline { (result ≢ Status.Usage) → (result ≢ Status.OpenFault) → (result ≢ Status.OutOfMemory) →
+        PipeEnds result words.now (W.in_at world.old) (W.in_at world.new) (W.out_at world.old) (W.out_at world.new) (W.rest world.old) (W.rest world.new) (W.moments world.old) }
+
+    // A command, no count of the world that rose, and no limit that was reached: Done, or out of memory.
+    ensures complete { ((input output : List ℕ) × (batch limit : ℕ) × IsPipe words.now input output batch limit) →
+        NothingRose (W.in_at world.old) (W.in_at world.new) (W.out_at world.old) (W.out_at world.new) (W.rest world.old) (W.rest world.new) →
+        (result ≢ Status.Limit) → (result ≡ Status.Done) ⊎ (result ≡ Status.OutOfMemory) }
 
     ensures ins_home { AreHome (W.in_at world.new) }
     ensures outs_home { AreHome (W.out_at world.new) }

@@ -1,6 +1,16 @@
-use Rattle.std.proofs.Common.{◌≤◌}
+use Rattle.std.proofs.Common.{◌≡◌}
+use Rattle.agent_run.specs.Progress.{RunsOn, IsSettled}
 use Rattle.agent_run.specs.Running.{IsReady, IsReading, HasJournal}
+use Rattle.agent_run.specs.declared.reading.InState.TheVariants as states
 use Rattle.agent_run.proofs.rounds.rounds.Given as goal
 
 abbrev pub invariant-loop-round : goal.invariant-loop-round
-invariant-loop-round g l = record { ready : IsReady l.run.core; reading : IsReading l.run.core; stands : HasJournal l.run.core; faults : g.K.Sink.faults l.fn.sink ≤ g.K.Sink.faults l.sink; reads : g.S.Source.faults l.fn.source ≤ g.S.Source.faults l.source }
+invariant-loop-round g l = record {
+  ready : IsReady l.run.core;
+  reading : IsReading l.run.core;
+  settled : IsSettled l.run;
+  stands : HasJournal l.run.core;
+  list : g.C.Clock.moments l.clock ≡ g.C.Clock.moments l.fn.clock;
+  runs : RunsOn l.fn.run l.run states.Reading (g.S.Source.left l.fn.source) (g.S.Source.left l.source) (g.S.Source.faults l.fn.source) (g.S.Source.faults l.source)
+      (g.C.Clock.moments l.fn.clock) (g.C.Clock.place l.fn.clock) (g.C.Clock.place l.clock) (g.K.Sink.held l.fn.sink) (g.K.Sink.held l.sink) (g.K.Sink.faults l.fn.sink) (g.K.Sink.faults l.sink);
+}

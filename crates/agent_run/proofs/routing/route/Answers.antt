@@ -1,6 +1,6 @@
 use Rattle.std.proofs.Common.{refl}
 use Rattle.agent_run.proofs.StandingLemmas.{continues, lanes_kept}
-use Rattle.agent_run.proofs.rounds.route.Goals as goal
+use Rattle.agent_run.proofs.routing.route.Goals as goal
 
 pub returns-clause-ok : goal.returns-clause-ok
 returns-clause-ok c =

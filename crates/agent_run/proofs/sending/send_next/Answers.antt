@@ -1,9 +1,8 @@
-use Rattle.std.proofs.Common.{◌≡◌, ◌<◌, List, [], ◌∷◌, ◌++◌, length, true, false, ap, ◌∙◌, arith}
-use Rattle.account.specs.declared.entry.Entry.TheVariants.{Begin, Done}
+use Rattle.std.proofs.Common.{◌≡◌, ◌<◌, length, ap, ◌∙◌, arith}
 use Rattle.agent_run.specs.Sent.{batch_text}
-use Rattle.agent_run.proofs.SentLemmas.{sent_accepted, sent_failed}
+use Rattle.agent_run.proofs.SendSteps.{went_accepted, went_failed}
 use Rattle.agent_run.proofs.StandingLemmas.{continues}
-use Rattle.agent_run.proofs.rounds.send_next.Goals as goal
+use Rattle.agent_run.proofs.sending.send_next.Goals as goal
 
 pub returns-in-Ok-put-clause-stands : goal.returns-in-Ok-put-clause-stands
 returns-in-Ok-put-clause-stands g c = continues c.done.ensures.stands (continues c.in-Ok.ensures.stands c.requires.stands)
@@ -11,24 +10,18 @@ returns-in-Ok-put-clause-stands g c = continues c.done.ensures.stands (continues
 pub returns-in-Err-Failed-clause-stands : goal.returns-in-Err-Failed-clause-stands
 returns-in-Err-Failed-clause-stands g c = continues c.done-in-Err-Failed.ensures.stands (continues c.in-Ok.ensures.stands c.requires.stands)
 
-pub returns-in-Ok-put-clause-sent : goal.returns-in-Ok-put-clause-sent
-returns-in-Ok-put-clause-sent g c start h =
+pub returns-in-Ok-put-clause-sends : goal.returns-in-Ok-put-clause-sends
+returns-in-Ok-put-clause-sends g c = λ start now w.
     let text : c.deref.result.now ≡ batch_text c.in-Ok.batch.metrics = c.deref.ensures.value ∙ c.in_ok-write_batch.ensures.ok ∙ ap batch_text c.as_slice.ensures in
     let one : 0 < length c.args.run.now.core.setup.outputs = omega (arith, c.requires.ready.one) in
-    let begin = Begin 0 c.in-Ok.batch.from c.in-Ok.batch.to in
-    record {
-      journal = (h.journal ++ begin ∷ []) ++ Done 0 true [] ∷ [];
-      stands = c.done.ensures.stands (h.journal ++ begin ∷ []) (c.in-Ok.ensures.stands h.journal h.stands);
-      sent = sent_accepted c.args.run.now.core h.journal 0 c.in-Ok.batch start (g.K.Sink.held c.args.sink.now) (g.K.Sink.held c.put.new.self) c.deref.result.now h.stands one c.in-Ok.ensures.batch text h.sent c.in-Ok-put.ensures.bytes;
-    }
+    went_accepted start c.args.run.now.core c.begin.new.self c.done.new.self c.args.run.now.journal c.args.run.now.pieces c.args.run.now.failed (record now { held = g.K.Sink.held c.args.sink.now; puts = g.K.Sink.faults c.args.sink.now })
+    c.in-Ok.batch c.deref.result.now (g.K.Sink.held c.put.new.self) (g.K.Sink.faults c.put.new.self) one c.in-Ok.ensures.batch text c.in-Ok-put.ensures.cause.later c.in-Ok.ensures.ok c.in-Ok.ensures.stands
+    c.done.ensures.after c.done.ensures.stands c.in-Ok-put.ensures.bytes w
 
-pub returns-in-Err-Failed-clause-sent : goal.returns-in-Err-Failed-clause-sent
-returns-in-Err-Failed-clause-sent g c start h =
+pub returns-in-Err-Failed-clause-sends : goal.returns-in-Err-Failed-clause-sends
+returns-in-Err-Failed-clause-sends g c = λ start now w.
     let text : c.deref.result.now ≡ batch_text c.in-Ok.batch.metrics = c.deref.ensures.value ∙ c.in_ok-write_batch.ensures.ok ∙ ap batch_text c.as_slice.ensures in
     let one : 0 < length c.args.run.now.core.setup.outputs = omega (arith, c.requires.ready.one) in
-    let begin = Begin 0 c.in-Ok.batch.from c.in-Ok.batch.to in
-    record {
-      journal = (h.journal ++ begin ∷ []) ++ Done 0 false [] ∷ [];
-      stands = c.done-in-Err-Failed.ensures.stands (h.journal ++ begin ∷ []) (c.in-Ok.ensures.stands h.journal h.stands);
-      sent = sent_failed c.args.run.now.core h.journal 0 c.in-Ok.batch start (g.K.Sink.held c.args.sink.now) (g.K.Sink.held c.put.new.self) c.deref.result.now c.in-Err-Failed.field-0 c.in-Err-Failed.field-0-is h.stands one c.in-Ok.ensures.batch text h.sent c.in-Err-Failed.ensures.bytes;
-    }
+    went_failed start c.args.run.now.core c.begin.new.self c.done-in-Err-Failed.new.self c.args.run.now.journal c.args.run.now.pieces c.args.run.now.failed (record now { held = g.K.Sink.held c.args.sink.now; puts = g.K.Sink.faults c.args.sink.now })
+    c.in-Ok.batch c.deref.result.now (g.K.Sink.held c.put.new.self) (g.K.Sink.faults c.put.new.self) one c.in-Ok.ensures.batch text c.in-Err-Failed.ensures.cause.later c.in-Ok.ensures.ok c.in-Ok.ensures.stands
+    c.saturating_add-run.result c.in-Err-Failed.field-0 c.in-Err-Failed.field-0-is (omega (arith, c.saturating_add-run.ensures)) c.done-in-Err-Failed.ensures.after c.done-in-Err-Failed.ensures.stands c.in-Err-Failed.ensures.bytes (rw c.in-Err-Failed.field-0-is at c.in-Err-Failed.ensures.cause.failed) w

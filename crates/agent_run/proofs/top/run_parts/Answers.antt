@@ -1,4 +1,6 @@
-use Rattle.std.proofs.Common.{◌≡◌, List, ℕ, ◌∙◌, refl}
+use Rattle.std.proofs.Common.{◌≡◌, List, ℕ, ◌∙◌, refl, arith}
+use Rattle.agent_run.specs.Headline.{change, report_change}
+use Rattle.agent_run.proofs.HeadlineLemmas.{ends_as, taken_in, report_is, reported_ends}
 use Rattle.agent_run.specs.Command.{journal_place}
 use Rattle.agent_run.proofs.PlaceLemmas.{ins_home, outs_home}
 use Rattle.agent_run.proofs.top.run_parts.Goals as goal
@@ -26,3 +28,33 @@ returns-clause-outs g c =
     outs_home c.args.pipe.now.output.now journal_place (g.W.World.out_at c.args.world.now) (g.W.World.out_at c.give_in.new.self) (g.W.World.out_at c.give_out.new.self) (g.W.World.out_at c.give_out-2.new.self) (g.W.World.out_at c.give_out-2.new.self)
     c.requires.other_outs (λ q. c.give_in.ensures.outs q ∙ c.clock-input_clock.ensures.outs q ∙ c.clock-clock.ensures.outs q)
     c.give_out.ensures.given.is_out c.give_out.ensures.others c.give_out-2.ensures.given.is_out c.give_out-2.ensures.others (λ q. refl)
+
+pub returns-in-Ok-clause-ends : goal.returns-in-Ok-clause-ends
+returns-in-Ok-clause-ends g c =
+    let input = c.args.pipe.now.input.now in
+    let output = c.args.pipe.now.output.now in
+    let old = c.args.world.now in
+    let last = c.report_account.new.world in
+    ends_as c.args.pipe.now.batch c.args.pipe.now.limit
+    (change (g.W.In.Source.left c.args.parts.source) (g.W.In.Source.left c.run-ran.new.source) (g.W.In.Source.faults c.args.parts.source) (g.W.In.Source.faults c.run-ran.new.source))
+    (change (g.W.Out.Sink.held c.args.parts.sink) (g.W.Out.Sink.held c.run-ran.new.sink) (g.W.Out.Sink.faults c.args.parts.sink) (g.W.Out.Sink.faults c.run-ran.new.sink))
+    (change (g.W.Out.Sink.held c.args.parts.journal) (g.W.Out.Sink.held c.run-ran.new.journal) (g.W.Out.Sink.faults c.args.parts.journal) (g.W.Out.Sink.faults c.run-ran.new.journal))
+    (report_change (g.W.World.rest c.give_out-2.new.self) (g.W.World.rest last))
+    (change (g.W.In.Source.left c.args.parts.source) (g.W.World.in_at last input).bytes (g.W.In.Source.faults c.args.parts.source) (g.W.World.in_at last input).part_faults)
+    (change (g.W.Out.Sink.held c.args.parts.sink) (g.W.World.out_at last output).bytes (g.W.Out.Sink.faults c.args.parts.sink) (g.W.World.out_at last output).part_faults)
+    (change (g.W.Out.Sink.held c.args.parts.journal) (g.W.World.out_at last journal_place).bytes (g.W.Out.Sink.faults c.args.parts.journal) (g.W.World.out_at last journal_place).part_faults)
+    (report_change (g.W.World.rest old) (g.W.World.rest last))
+    (g.W.Clk.Clock.moments c.clock-clock.result) (g.W.Clk.Clock.moments c.clock-input_clock.result) (g.W.World.moments old 0) (g.W.World.moments old 3) c.report_account.result
+    (taken_in (g.W.In.Source.left c.args.parts.source) (g.W.In.Source.left c.run-ran.new.source) (g.W.In.Source.faults c.args.parts.source) (g.W.In.Source.faults c.run-ran.new.source)
+    (g.W.World.in_at c.give_in.new.self input) (g.W.World.in_at last input) c.give_in.ensures.given.bytes c.give_in.ensures.given.faults
+    (c.report_account.ensures.ins input ∙ c.give_out-2.ensures.ins input ∙ c.give_out.ensures.ins input))
+    (taken_in (g.W.Out.Sink.held c.args.parts.sink) (g.W.Out.Sink.held c.run-ran.new.sink) (g.W.Out.Sink.faults c.args.parts.sink) (g.W.Out.Sink.faults c.run-ran.new.sink)
+    (g.W.World.out_at c.give_out.new.self output) (g.W.World.out_at last output) c.give_out.ensures.given.bytes c.give_out.ensures.given.faults
+    (c.report_account.ensures.outs output ∙ c.give_out-2.ensures.others output c.requires.apart))
+    (taken_in (g.W.Out.Sink.held c.args.parts.journal) (g.W.Out.Sink.held c.run-ran.new.journal) (g.W.Out.Sink.faults c.args.parts.journal) (g.W.Out.Sink.faults c.run-ran.new.journal)
+    (g.W.World.out_at c.give_out-2.new.self journal_place) (g.W.World.out_at last journal_place) c.give_out-2.ensures.given.bytes c.give_out-2.ensures.given.faults
+    (c.report_account.ensures.outs journal_place))
+    (report_is (g.W.World.rest c.give_out-2.new.self) (g.W.World.rest old) (g.W.World.rest last) (g.W.World.rest last)
+    (c.give_out-2.ensures.rest ∙ c.give_out.ensures.rest ∙ c.give_in.ensures.rest ∙ c.clock-input_clock.ensures.rest ∙ c.clock-clock.ensures.rest) refl)
+    c.clock-clock.ensures.told (c.clock-input_clock.ensures.told ∙ c.clock-clock.ensures.others 3 (λ e. absurd (omega (arith, e))))
+    (reported_ends c.args.pipe.now.batch c.args.pipe.now.limit _ _ _ _ _ _ c.in-Ok.ending c.report_account.result c.in-Ok.ensures.ran c.report_account.ensures.answer)

@@ -1,0 +1,237 @@
+-- What a run leaves at its end, and what it begins with.
+use Rattle.std.proofs.Common.{◌≡◌, ◌≤◌, ◌<◌, ℕ, zero, suc, ℤ, ◌+◌, ◌^◌, ◌==◌, min, Bool, true, false, List, [], ◌∷◌, ◌++◌, length, take, refl, sym, ap, ◌∙◌, subst, inl, inr, arith, append-nil}
+use Rattle.std.specs.Prelude.{◌≢◌, IfSome, not, ◌⊎◌, count_by, slice_get}
+use Rattle.std.specs.Int.{int_max}
+use Rattle.std.specs.declared.option.Option.{Option}
+use Rattle.std.specs.declared.option.Option.TheVariants.{Some, None}
+use Rattle.account.specs.AccountText.{account_text}
+use Rattle.account.specs.Numbers.{Numbers, output_numbers}
+use Rattle.account.specs.Setup.{Setup}
+use Rattle.account.specs.declared.entry.Entry.{Entry}
+use Rattle.agent_base.specs.Clocked.{Clocked, Counted}
+use Rattle.agent_base.specs.Cut.{Cut}
+use Rattle.agent_base.specs.Hand.{Hand, to_come, empty_hand}
+use Rattle.agent_base.specs.Moments.{Moments, Gives}
+use Rattle.agent_base.specs.Told.{Told}
+use Rattle.agent_base.proofs.ClockLemmas.{clocked_wider, clocked_none, counted_one_over, counted_wider}
+use Rattle.journal_text.specs.JournalText.{end_text}
+use Rattle.pipeline_core.specs.CoreState.{CoreState}
+use Rattle.pipeline_core.specs.Legal.{IsLegal, has_ended}
+use Rattle.pipeline_core.specs.Stands.{Stands}
+use Rattle.pipeline_core.specs.Totals.{totals}
+use Rattle.pipeline_core.proofs.StandsSteps.{differs}
+use Rattle.agent_run.specs.Causes.{IsFull}
+use Rattle.agent_base.specs.Counts.{RoseBy}
+use Rattle.agent_run.specs.Dones.{dones, LastFailed}
+use Rattle.agent_run.specs.EntryMoments.{gather_moments, counted_moments}
+use Rattle.agent_run.specs.Gathered.{Gathered}
+use Rattle.agent_run.specs.Headline.{Change, IsUnread, IsRun, EndsSo, IsPutSo, IsLeft, Ran, buffered_at_end, account_of, text_of}
+use Rattle.agent_run.specs.JournalSoFar.{JournalSoFar, Spells}
+use Rattle.agent_run.specs.Order.{IsDrained, NothingBuffered}
+use Rattle.agent_run.specs.PipeSetup.{pipe_setup, journal_setup_of}
+use Rattle.agent_run.specs.Progress.{Beginning, Surroundings, IsNamed, is_ended, HasState, IsClocked, Progress, GoesOn, SendsOn, ReadsOn, RunsOn, IsSettled}
+use Rattle.agent_run.specs.Running.{IsReading, IsRoutable, IsSentOn, IsNoted}
+use Rattle.agent_run.specs.declared.pipe_run.PipeRun.{PipeRun}
+use Rattle.pipeline_core.specs.Steps.{after_cut}
+use Rattle.agent_run.specs.declared.reading.InState.{InState}
+use Rattle.agent_run.specs.declared.reading.InState.TheVariants as states
+use Rattle.agent_run.specs.declared.rounds.Ending.{Ending}
+use Rattle.agent_run.proofs.DoneLemmas.{dones_none, last_none, last_fewer, last_same, rose_none}
+use Rattle.agent_run.proofs.GatherLemmas.{gathering_starts}
+use Rattle.agent_run.proofs.JournalSoFarLemmas.{ends}
+use Rattle.agent_run.proofs.MomentLemmas.{counted_none, gather_moments_none}
+use Rattle.agent_run.proofs.OrderLemmas.{in_order_first}
+use Rattle.agent_run.proofs.ProgressLemmas.{told_map, clocked_same}
+use Rattle.agent_run.proofs.SentLemmas.{sent_first}
+use Rattle.agent_run.proofs.WorkedLemmas.{worked_first}
+
+told_self : (text : Option (List ℕ)) (P : List ℕ → List ℕ → Type 0) → ((xs : List ℕ) → P xs xs) → Told text text P
+told_self None P f = tt
+told_self (Some xs) P f = f xs
+
+clock_starts : (all : Option Moments) → IfSome all (λ moments. IsClocked moments 0 [])
+clock_starts None = tt
+clock_starts (Some moments) = (omega arith, clocked_none moments 0 0 (omega arith))
+
+none_ended : has_ended 0 [] ≡ false
+unfolding has_ended
+none_ended = refl
+
+-- nothing was read yet
+abbrev pub first_surroundings : Beginning → Surroundings
+first_surroundings start = record { state = states.Reading; left = start.text; reads = start.reads; place = 0; held = start.held; puts = start.puts; stops = [] }
+
+-- nothing happened
+pub went_first : (start : Beginning) (core : CoreState) (so_far : JournalSoFar) (hand : Hand) (failed : ℕ) → Stands core [] → core.setup ≡ start.setup → core.stored ≡ [] → Spells (journal_setup_of start.setup) [] so_far → hand ≡ empty_hand → failed ≡ 0
+    → Progress start core so_far hand failed (first_surroundings start)
+went_first start core so_far hand failed stands setup stored spells empty none = record {
+  journal = [];
+  text = record { stands = stands; setup_is = setup; written = []; split = sym stored; spells = spells };
+  heard = record {
+    named = told_self start.text (λ xs ys. IsNamed states.Reading [] xs (to_come hand ys)) (λ xs. rw empty (gathering_starts 1000 0 xs));
+    counted = told_self start.text (λ xs ys. length xs ≡ hand.taken + length ys) (λ xs. omega (arith, ap (λ (h : Hand). h.taken) empty));
+    ended = none_ended;
+    later = omega arith;
+    state = omega (arith, ap (λ (h : Hand). h.taken) empty);
+    clocked = clocked_same start.moments 0 [] (gather_moments 0 []) (gather_moments_none 0) (clock_starts start.moments);
+  };
+  said = record {
+    sent = sent_first 0 start.held;
+    puts = subst (λ (bs : List Bool). RoseBy (count_by not bs) start.puts start.puts) (sym (dones_none 0)) (rose_none start.puts);
+    last = rw none (last_none (dones 0 []));
+  };
+  worked = worked_first;
+  in_order = in_order_first start.setup;
+  stops = counted_none;
+}
+
+drained_at : (start : Beginning) (core : CoreState) (so_far : JournalSoFar) (hand : Hand) (failed : ℕ) (now : Surroundings) (w : Progress start core so_far hand failed now) → ((output_numbers core.numbers 0).buffered ≡ 0) ⊎ (1 ≤ failed)
+    → NothingBuffered start.setup w.journal 0 ⊎ LastFailed 1 (dones 0 w.journal)
+drained_at start core so_far hand failed now w (inl none) =
+    inl (ap (λ (s : Setup). (output_numbers (totals s w.journal) 0).buffered) (sym w.text.setup_is) ∙ ap (λ (n : Numbers). (output_numbers n 0).buffered) (sym w.text.stands.numbers) ∙ none)
+drained_at start core so_far hand failed now w (inr some) = inr (last_fewer 1 failed (dones 0 w.journal) some w.said.last)
+
+-- no item is raw, and nothing is buffered or the last batch failed
+pub drained : (start : Beginning) (core : CoreState) (so_far : JournalSoFar) (hand : Hand) (failed : ℕ) (now : Surroundings) (w : Progress start core so_far hand failed now) → length core.setup.outputs ≡ 1 → core.raw ≡ [] → ((output_numbers core.numbers 0).buffered ≡ 0) ⊎ (1 ≤ failed)
+    → IsDrained start.setup w.journal
+drained start core so_far hand failed now w one raw sent = record {
+  none_raw = sym w.text.stands.raw ∙ raw;
+  each = λ output within.
+      let first : 0 ≡ output = omega (arith, within, one, ap (λ (s : Setup). length s.outputs) w.text.setup_is) in
+      subst (λ (o : ℕ). NothingBuffered start.setup w.journal o ⊎ LastFailed 1 (dones o w.journal)) first (drained_at start core so_far hand failed now w sent);
+}
+
+named_ends : (state : InState) (journal : List Entry) (text : List ℕ) (rest : List Cut) → (state ≢ states.Reading) → IsNamed state journal text rest → Gathered 1000 journal 0 text
+named_ends states.Reading journal text rest ne h = absurd (ne refl)
+named_ends states.Ended journal text rest ne h = h
+named_ends states.Faulted journal text rest ne h = h
+named_ends states.LimitReached journal text rest ne h = h
+
+-- the change of the input
+abbrev pub input_change : Beginning → Surroundings → Change
+input_change start now = record { before = start.text; after = now.left; faults_before = start.reads; faults_after = now.reads }
+
+abbrev pub output_change : Beginning → Surroundings → Change
+output_change start now = record { before = start.held; after = now.held; faults_before = start.puts; faults_after = now.puts }
+
+unread_by : (state : InState) (start : Beginning) (now : Surroundings) (hand : Hand) (journal : List Entry) → (state ≢ states.Reading) → HasState state start now hand journal → has_ended 0 journal ≡ is_ended state → has_ended 0 journal ≡ false → IsUnread (input_change start now) hand.taken journal
+unread_by states.Reading start now hand journal ne h e f = absurd (ne refl)
+unread_by states.Ended start now hand journal ne h e f = absurd (let x : true ≡ false = sym e ∙ f in cc)
+unread_by states.Faulted start now hand journal ne h e f = inl h.1
+unread_by states.LimitReached start now hand journal ne h e f = inr h
+
+ends_by : (state : InState) (start : Beginning) (now : Surroundings) (hand : Hand) (journal : List Entry) → (state ≢ states.Reading) → HasState state start now hand journal → has_ended 0 journal ≡ is_ended state → EndsSo state (input_change start now) hand.taken journal
+ends_by states.Reading start now hand journal ne h e = absurd (ne refl)
+ends_by states.Ended start now hand journal ne h e = (h, e)
+ends_by states.Faulted start now hand journal ne h e = (h.0, e, h.1)
+ends_by states.LimitReached start now hand journal ne h e = (e, h)
+
+clocked_ends : (all : Option Moments) (place : ℕ) (ms : List ℤ) → IfSome all (λ moments. IsClocked moments place ms) → IfSome all (λ moments. Clocked moments 0 moments.last ms)
+clocked_ends None place ms h = tt
+clocked_ends (Some moments) place ms h = clocked_wider moments 0 0 place moments.last ms (omega arith) h.0 h.1
+
+start_at : (all : Option Moments) (place : ℕ) (start : ℤ) → Gives all 0 place start → IfSome all (λ moments. start ≡ moments.at 0)
+start_at None place start g = tt
+start_at (Some moments) place start g = g.given
+
+counted_ends : (all : Option Moments) (place last : ℕ) (start moment : ℤ) (ms : List ℤ) → Gives all 0 place start → Gives all place last moment → ms ≡ int_max moment start ∷ [] → IfSome all (λ moments. Counted moments (min 1 moments.last) moments.last start ms)
+counted_ends None place last start moment ms g h e = tt
+counted_ends (Some moments) place last start moment ms g h e =
+    rw e (counted_wider moments (min 1 moments.last) place last moments.last start (int_max moment start ∷ []) (omega (arith, g.next)) (omega (arith, h.next)) (counted_one_over moments place last moment start h))
+
+left_is : (buffered : ℕ) (left : Bool) → left ≡ not (buffered == 0) → IsLeft left buffered
+left_is buffered true e = λ z. absurd (let x : true ≡ false = e ∙ ap (λ (n : ℕ). not (n == 0)) z in cc)
+left_is zero false e = refl
+left_is (suc n) false e = absurd (let x : false ≡ true = e ∙ ap not (differs (suc n) 0 (λ z. absurd (omega (arith, z)))) in cc)
+
+module _ (batch limit : ℕ) (start : ℤ) (moment : ℤ) (text : Option (List ℕ)) (reads : ℕ) (held : Option (List ℕ)) (puts : ℕ) (input_moments run_moments : Option Moments) (first last : ℕ)
+    (core : CoreState) (so_far : JournalSoFar) (hand : Hand) (failed : ℕ) (now : Surroundings) where
+  -- what the run began with
+  abbrev pub beginning : Beginning
+  beginning = record { setup = pipe_setup batch limit start; text = text; reads = reads; held = held; puts = puts; moments = input_moments }
+
+  module _ (w : Progress beginning core so_far hand failed (record now { stops = int_max moment start ∷ [] })) (gives_first : Gives run_moments 0 first start) (gives_last : Gives run_moments first last moment)
+      (stopped : core.stopped ≡ true) (raw : core.raw ≡ []) (none_held : core.held ≡ None) (stored : core.stored ≡ []) (rest : ((output_numbers core.numbers 0).buffered ≡ 0) ⊎ (3 ≤ failed)) (read : now.state ≢ states.Reading) where
+    totals_are : core.numbers ≡ totals (pipe_setup batch limit start) w.journal
+    totals_are = w.text.stands.numbers ∙ ap (λ (s : Setup). totals s w.journal) w.text.setup_is
+
+    left_failed : ((output_numbers core.numbers 0).buffered ≡ 0) ⊎ (3 ≤ failed) → buffered_at_end (pipe_setup batch limit start) w.journal ≢ 0 → LastFailed 3 (dones 0 w.journal)
+    left_failed (inl none) some = absurd (some (ap (λ (n : Numbers). (output_numbers n 0).buffered) (sym totals_are) ∙ none))
+    left_failed (inr many) some = last_fewer 3 failed (dones 0 w.journal) many w.said.last
+
+    pub is_run : IsRun (pipe_setup batch limit start) (input_change beginning now) (output_change beginning now) run_moments input_moments w.journal
+    is_run = record {
+      legal = subst (λ (s : Setup). IsLegal s w.journal) w.text.setup_is w.text.stands.legal;
+      gathered = told_map text now.left (λ xs ys. IsNamed now.state w.journal xs (to_come hand ys)) (λ xs ys. Gathered 1000 w.journal 0 xs) (λ xs ys. named_ends now.state w.journal xs (to_come hand ys) read) w.heard.named;
+      sent = w.said.sent;
+      worked = w.worked;
+      stopped = sym w.text.stands.stopped ∙ stopped;
+      none_raw = sym w.text.stands.raw ∙ raw;
+      none_held = sym w.text.stands.held ∙ none_held;
+      put_faults = w.said.puts;
+      start = start_at run_moments first start gives_first;
+      counted = counted_ends run_moments first last start moment (counted_moments w.journal) gives_first gives_last w.stops;
+      clocked = clocked_ends input_moments now.place (gather_moments 0 w.journal) w.heard.clocked;
+      taken = hand.taken;
+      bytes_taken = w.heard.counted;
+      unread = unread_by now.state beginning (record now { stops = int_max moment start ∷ [] }) hand w.journal read w.heard.state w.heard.ended;
+      left = left_failed rest;
+      in_order = w.in_order;
+    }
+
+    written_all : w.text.written ≡ w.journal
+    written_all = sym (append-nil w.text.written) ∙ sym (w.text.split ∙ ap (λ (es : List Entry). w.text.written ++ es) stored)
+
+    pub text_is : (account : List ℕ) → account ≡ account_of (pipe_setup batch limit start) w.journal → so_far.text ++ end_text account so_far.entries ≡ text_of (pipe_setup batch limit start) w.journal
+    text_is account is =
+        rw is (ends (journal_setup_of (pipe_setup batch limit start)) w.journal (account_of (pipe_setup batch limit start) w.journal) so_far (subst (λ (es : List Entry). Spells (journal_setup_of (pipe_setup batch limit start)) es so_far) written_all w.text.spells))
+
+    pub ran : (ending : Ending) (noted : Change) (account text_put : List ℕ) → ending.state ≡ now.state → ending.left ≡ not ((output_numbers core.numbers 0).buffered == 0) → ending.account.items ≡ account_text core.numbers →
+        text_put ≡ so_far.text ++ end_text (account_text core.numbers) so_far.entries → IsPutSo ending.journal_failed noted text_put → Ran batch limit ending (input_change beginning now) (output_change beginning now) noted run_moments input_moments
+    unfolding is_run
+    ran ending noted account text_put state left account_is text_put_is put =
+        let same : account_text core.numbers ≡ account_of (pipe_setup batch limit start) w.journal = ap account_text totals_are in
+        record {
+          start = start;
+          journal = w.journal;
+          run = is_run;
+          ends = rw state (ends_by now.state beginning (record now { stops = int_max moment start ∷ [] }) hand w.journal read w.heard.state w.heard.ended);
+          left = rw (sym (ap (λ (n : Numbers). (output_numbers n 0).buffered) totals_are)) (left_is ((output_numbers core.numbers 0).buffered) ending.left left);
+          account = account_is ∙ same;
+          noted = subst (IsPutSo ending.journal_failed noted) (text_put_is ∙ text_is (account_text core.numbers) same) put;
+        }
+
+-- the clock's moments by another term
+reads_at : (old new : PipeRun) (state : InState) (left new_left : Option (List ℕ)) (reads new_reads : ℕ) (moments first : Option Moments) (place new_place : ℕ) → moments ≡ first →
+    ReadsOn old new state left new_left reads new_reads moments place new_place → ReadsOn old new state left new_left reads new_reads first place new_place
+reads_at old new state left new_left reads new_reads moments first place new_place same h = subst (λ (m : Option Moments). ReadsOn old new state left new_left reads new_reads m place new_place) same h
+
+-- one round more: a group was gathered, the items were routed, batches were sent, and the entries spelled
+pub runs_more : (first old gathered routed sent new : PipeRun) (state : InState) (left0 left new_left : Option (List ℕ)) (reads0 reads new_reads : ℕ) (moments0 moments : Option Moments) (place0 place new_place : ℕ)
+    (held0 held new_held : Option (List ℕ)) (puts0 puts new_puts : ℕ) → RunsOn first old states.Reading left0 left reads0 reads moments0 place0 place held0 held puts0 puts → moments ≡ moments0 →
+    ReadsOn old gathered state left new_left reads new_reads moments place new_place → GoesOn gathered routed → SendsOn routed sent held new_held puts new_puts → GoesOn sent new
+    → RunsOn first new state left0 new_left reads0 new_reads moments0 place0 new_place held0 new_held puts0 new_puts
+runs_more first old gathered routed sent new state left0 left new_left reads0 reads new_reads moments0 moments place0 place new_place held0 held new_held puts0 puts new_puts runs same reads_on routes sends spells = λ start now w.
+    let s : Beginning = record start { moments = moments0 } in
+    let a = runs start now w in
+    let b = reads_at old gathered state left new_left reads new_reads moments moments0 place new_place same reads_on start (record now { held = held; puts = puts }) a in
+    let c = routes s (record now { state = state; left = new_left; reads = new_reads; place = new_place; held = held; puts = puts }) b in
+    let d = sends s (record now { state = state; left = new_left; reads = new_reads; place = new_place }) c in
+    spells s (record now { state = state; left = new_left; reads = new_reads; place = new_place; held = new_held; puts = new_puts }) d
+
+-- the input is still read after items were routed, batches sent and entries spelled
+pub still_reading : (gathered routed sent new : CoreState) → IsReading gathered → IsRoutable gathered routed → IsSentOn routed sent → new ≡ after_cut sent → IsReading new
+still_reading gathered routed sent new r k s is = record {
+  reading = ap (λ (c : CoreState). slice_get c.ended 0) is ∙ ap (λ (bs : List Bool). slice_get bs 0) (s.ended ∙ k.ended) ∙ r.reading;
+  going = ap (λ (c : CoreState). c.stopped) is ∙ s.stopped ∙ k.stopped ∙ r.going;
+}
+
+-- all items were routed, and nothing is buffered or the last put failed
+pub settled_after : (routed sent new : PipeRun) → routed.core.raw ≡ [] → IsSentOn routed.core sent.core → ((output_numbers sent.core.numbers 0).buffered ≡ 0) ⊎ (1 ≤ sent.failed) → IsNoted sent new → IsSettled new
+settled_after routed sent new none s either is = record {
+  none_raw = ap (λ (c : CoreState). c.raw) is.core ∙ s.raw ∙ none;
+  sent = elim either [
+    | inl e ↦ inl (ap (λ (c : CoreState). (output_numbers c.numbers 0).buffered) is.core ∙ e)
+    | inr l ↦ inr (omega (arith, l, is.failed))
+  ];
+}

@@ -1,0 +1,291 @@
+-- How far a run has come once a group was read.
+use Rattle.std.proofs.Common.{◌≡◌, ◌≤◌, ◌<◌, ℕ, ℤ, ◌+◌, ◌^◌, Bool, true, false, List, [], ◌∷◌, ◌++◌, length, refl, sym, ap, ◌∙◌, subst, inl, inr, arith, append-nil}
+use Rattle.std.specs.Prelude.{IfSome, ◌||◌, map}
+use Rattle.std.specs.List.{flat_map}
+use Rattle.std.specs.declared.option.Option.{Option}
+use Rattle.std.specs.declared.option.Option.TheVariants.{Some, None}
+use Rattle.std.proofs.Math.Bool.{or-true}
+use Rattle.metric.specs.declared.metric.Content.{Content}
+use Rattle.account.specs.declared.entry.Entry.{Entry}
+use Rattle.account.specs.declared.entry.Entry.TheVariants.{Gather, Ended}
+use Rattle.agent_base.specs.Cut.{Cut}
+use Rattle.agent_base.specs.Counts.{Rose}
+use Rattle.agent_base.specs.Hand.{Hand, to_come}
+use Rattle.agent_base.specs.Moments.{Moments, Gives}
+use Rattle.agent_base.specs.Told.{Told}
+use Rattle.agent_base.proofs.ClockLemmas.{clocked_one, clocked_joined, clocked_wider}
+use Rattle.pipeline_core.specs.CoreState.{CoreState}
+use Rattle.pipeline_core.specs.Legal.{has_ended, gathered_count}
+use Rattle.pipeline_core.specs.Stands.{Continues}
+use Rattle.pipeline_core.specs.Steps.{after_gather, after_ended, gather_entry}
+use Rattle.pipeline_core.proofs.JournalPush.{has_ended-push}
+use Rattle.agent_run.specs.declared.reading.Group.{Group}
+use Rattle.agent_run.specs.declared.reading.InState.{InState}
+use Rattle.agent_run.specs.declared.reading.InState.TheVariants as states
+use Rattle.agent_run.specs.Causes.{IsFull, IsNextGroup}
+use Rattle.agent_run.specs.EntryMoments.{gather_moments, counted_moments}
+use Rattle.agent_run.specs.Gathered.{GatherSays, gathers, gathers_by, Gathered, Gathering, GatheredTo, joined, readings}
+use Rattle.agent_run.specs.Groups.{Reads, ReadsGroup, IsAllRead, gathered_of, IsOffered, IsEnding}
+use Rattle.agent_run.specs.JournalSoFar.{JournalSoFar}
+use Rattle.agent_run.specs.Order.{InOrder, IsDrained}
+use Rattle.agent_run.specs.Progress.{Beginning, Surroundings, HasText, IsNamed, is_ended, HasState, IsClocked, Heard, Said, Progress}
+use Rattle.agent_run.specs.Worked.{Worked}
+use Rattle.agent_run.proofs.GatherLemmas.{says_of, gathers_own, gathers-push, gathers-other, has_ended-other, gathered_to_here, gathered_to_same, gathered, told_gathering, told_gathered_to}
+use Rattle.agent_run.proofs.GroupLemmas.{told_then}
+use Rattle.agent_run.proofs.MomentLemmas.{gather_moments-push, gather_moments-same, counted_moments-same}
+use Rattle.agent_run.proofs.OrderLemmas.{in_order-push}
+use Rattle.agent_run.proofs.ProgressLemmas.{told_map, text-push, said_push, clocked_same}
+use Rattle.agent_run.proofs.WorkedLemmas.{worked-push}
+
+told_both : (before after : Option (List ℕ)) (P Q : List ℕ → List ℕ → Type 0) → Told before after P → Told before after Q → Told before after (λ xs ys. P xs ys × Q xs ys)
+told_both None after P Q p q = tt
+told_both (Some xs) None P Q p q = absurd p
+told_both (Some xs) (Some ys) P Q p q = (p, q)
+
+-- while the input is read on the Gathers name full groups; else the last one needn't be full
+abbrev pub IsNamedTo : InState → List Entry → List ℕ → List Cut → Type 0
+IsNamedTo states.Reading journal text rest = Gathering 1000 journal 0 text rest
+IsNamedTo states.Ended journal text rest = GatheredTo 1000 journal 0 text rest
+IsNamedTo states.Faulted journal text rest = GatheredTo 1000 journal 0 text rest
+IsNamedTo states.LimitReached journal text rest = GatheredTo 1000 journal 0 text rest
+
+-- a group was read and offered, and the input's end isn't noted yet
+pub record HeardTo (start : Beginning) (now : Surroundings) (hand : Hand) (journal : List Entry) : Type 0 where
+  pub named : Told start.text now.left (λ xs ys. IsNamedTo now.state journal xs (to_come hand ys))
+  pub all : now.state ≡ states.Ended → Told start.text now.left (λ xs ys. to_come hand ys ≡ [])
+  pub counted : Told start.text now.left (λ xs ys. length xs ≡ hand.taken + length ys)
+  pub unended : has_ended 0 journal ≡ false
+  pub later : start.reads ≤ now.reads
+  pub state : HasState now.state start now hand journal
+  pub clocked : IfSome start.moments (λ moments. IsClocked moments now.place (gather_moments 0 journal))
+
+pub record ProgressTo (start : Beginning) (core : CoreState) (so_far : JournalSoFar) (hand : Hand) (failed : ℕ) (now : Surroundings) : Type 0 where
+  pub journal : List Entry
+  pub text : HasText start.setup core so_far journal
+  pub heard : HeardTo start now hand journal
+  pub said : Said start now failed journal
+  pub worked : Worked journal
+  pub in_order : InOrder start.setup journal
+  pub stops : counted_moments journal ≡ now.stops
+
+-- what a read of a group leaves around the run
+abbrev pub read_to : Surroundings → InState → Option (List ℕ) → ℕ → ℕ → Surroundings
+read_to now state left reads place = record now { state = state; left = left; reads = reads; place = place }
+
+clocked_wide : (all : Option Moments) (old new : ℕ) (moment : ℤ) (ms : List ℤ) → Gives all old new moment → IfSome all (λ moments. IsClocked moments old ms) → IfSome all (λ moments. IsClocked moments new ms)
+clocked_wide None old new moment ms g h = tt
+clocked_wide (Some moments) old new moment ms g h = (omega (arith, g.next), clocked_wider moments 0 0 old new ms (omega arith) (omega (arith, g.within, g.next)) h.1)
+
+clocked_more : (all : Option Moments) (old new : ℕ) (moment : ℤ) (ms : List ℤ) → Gives all old new moment → IfSome all (λ moments. IsClocked moments old ms) → IfSome all (λ moments. IsClocked moments new (ms ++ moment ∷ []))
+clocked_more None old new moment ms g h = tt
+clocked_more (Some moments) old new moment ms g h = (omega (arith, g.next), clocked_joined moments 0 old new ms (moment ∷ []) h.1 (clocked_one moments old new moment g))
+
+none_of : {X : Type 0} (xs : List X) → length xs ≡ 0 → xs ≡ []
+none_of [] l = refl
+none_of (x ∷ xs) l = absurd (omega (arith, l))
+
+rose_from : (a b c : ℕ) → a ≤ b → Rose b c → Rose a c
+rose_from a b c l r = omega arith
+
+has_state : (state : InState) (start : Beginning) (now : Surroundings) (hand : Hand) (journal : List Entry) (reads : ℕ) → start.reads ≤ reads → (state ≡ states.LimitReached → hand.taken ≡ 2 ^ 40) → ((state ≡ states.LimitReached → ⊥) → hand.taken < 2 ^ 40)
+    → (state ≡ states.Faulted → Rose reads now.reads) → HasState state start now hand journal
+has_state states.Reading start now hand journal reads l limit below failed = below (λ e. absurd (let x : states.Reading ≡ states.LimitReached = e in cc))
+has_state states.Ended start now hand journal reads l limit below failed = below (λ e. absurd (let x : states.Ended ≡ states.LimitReached = e in cc))
+has_state states.Faulted start now hand journal reads l limit below failed = (below (λ e. absurd (let x : states.Faulted ≡ states.LimitReached = e in cc)), rose_from start.reads reads now.reads l (failed refl))
+has_state states.LimitReached start now hand journal reads l limit below failed = inl (limit refl)
+
+module _ (start : Beginning) (core : CoreState) (so_far : JournalSoFar) (before after : Hand) (failed : ℕ) (now : Surroundings) (state : InState) (moment : ℤ) (group : Group) (new_left : Option (List ℕ)) (new_reads new_place : ℕ)
+    (w : Progress start core so_far before failed (record now { state = states.Reading })) (g : ReadsGroup moment group state before after now.left new_left)
+    (gives : Gives start.moments now.place new_place moment) (reads : now.reads ≤ new_reads)
+    (counted : Told now.left new_left (λ xs ys. before.taken + length xs ≡ after.taken + length ys))
+    (limit : state ≡ states.LimitReached → after.taken ≡ 2 ^ 40) (below : (state ≡ states.LimitReached → ⊥) → after.taken < 2 ^ 40) (faulted : state ≡ states.Faulted → Rose now.reads new_reads) where
+  here : Told start.text now.left (λ xs ys. Gathering 1000 w.journal 0 xs (to_come before ys))
+  here = w.heard.named
+
+  counted_all : Told start.text new_left (λ xs ys. length xs ≡ after.taken + length ys)
+  counted_all =
+      told_then start.text now.left new_left (λ xs ys. length xs ≡ before.taken + length ys) (λ ys zs. before.taken + length ys ≡ after.taken + length zs) (λ xs zs. length xs ≡ after.taken + length zs)
+      w.heard.counted counted (λ xs ys zs a b. a ∙ b)
+
+  all_read : state ≡ states.Ended → Told start.text new_left (λ xs ys. to_come after ys ≡ [])
+  all_read e =
+      told_then start.text now.left new_left (λ xs ys. Gathering 1000 w.journal 0 xs (to_come before ys)) (λ ys zs. to_come after zs ≡ []) (λ xs zs. to_come after zs ≡ [])
+      here (g.all e) (λ xs ys zs a b. b)
+
+  named_none : length g.reads.read ≡ 0 → Told start.text new_left (λ xs ys. GatheredTo 1000 w.journal 0 xs (to_come after ys))
+  named_none none =
+      told_then start.text now.left new_left (λ xs ys. Gathering 1000 w.journal 0 xs (to_come before ys)) (λ ys zs. to_come before ys ≡ g.reads.read ++ to_come after zs) (λ xs zs. GatheredTo 1000 w.journal 0 xs (to_come after zs))
+      here g.reads.consecutive
+      (λ xs ys zs a b. gathered_to_here 1000 0 w.journal xs (to_come after zs) (omega arith) (subst (Gathering 1000 w.journal 0 xs) (b ∙ ap (λ (cs : List Cut). cs ++ to_come after zs) (none_of g.reads.read none)) a))
+
+  named_by_state : (state : InState) → (state ≡ states.Reading → ⊥) → (journal : List Entry) → Told start.text new_left (λ xs ys. GatheredTo 1000 journal 0 xs (to_come after ys)) → Told start.text new_left (λ xs ys. IsNamedTo state journal xs (to_come after ys))
+  named_by_state states.Reading ne journal h = absurd (ne refl)
+  named_by_state states.Ended ne journal h = h
+  named_by_state states.Faulted ne journal h = h
+  named_by_state states.LimitReached ne journal h = h
+
+  -- no piece was read
+  pub went_none : group.pieces ≡ 0 → ProgressTo start core so_far after failed (read_to now state new_left new_reads new_place)
+  went_none empty =
+      let none : length g.reads.read ≡ 0 = sym g.reads.pieces ∙ empty in
+      record {
+        journal = w.journal;
+        text = w.text;
+        heard = record {
+          named = named_by_state state (λ e. absurd (omega (arith, g.full e, none))) w.journal (named_none none);
+          all = all_read;
+          counted = counted_all;
+          unended = w.heard.ended;
+          later = omega (arith, w.heard.later, reads);
+          state = has_state state start (read_to now state new_left new_reads new_place) after w.journal now.reads w.heard.later limit below faulted;
+          clocked = clocked_wide start.moments now.place new_place moment (gather_moments 0 w.journal) gives w.heard.clocked;
+        };
+        said = record { sent = w.said.sent; puts = w.said.puts; last = w.said.last };
+        worked = w.worked;
+        in_order = w.in_order;
+        stops = w.stops;
+      }
+
+  more_named : gathers 0 (w.journal ++ gather_entry (gathered_of moment group) ∷ []) ≡ gathers 0 w.journal ++ says_of moment group ∷ []
+  more_named =
+      gathers-push 0 w.journal (gather_entry (gathered_of moment group)) ∙ ap (λ (more : List GatherSays). gathers 0 w.journal ++ more) (gathers_own 0 moment group None [])
+
+  named_more : (s : InState) → s ≡ state → 0 < length g.reads.read → Told start.text new_left (λ xs ys. IsNamedTo s (w.journal ++ gather_entry (gathered_of moment group) ∷ []) xs (to_come after ys))
+  named_more states.Reading e some =
+      told_gathering 1000 0 w.journal (w.journal ++ gather_entry (gathered_of moment group) ∷ []) moment group before after start.text now.left new_left g.reads more_named here (g.full (sym e))
+  named_more states.Ended e some =
+      told_gathered_to 1000 0 w.journal (w.journal ++ gather_entry (gathered_of moment group) ∷ []) moment group before after start.text now.left new_left g.reads more_named here (omega arith) g.most
+  named_more states.Faulted e some =
+      told_gathered_to 1000 0 w.journal (w.journal ++ gather_entry (gathered_of moment group) ∷ []) moment group before after start.text now.left new_left g.reads more_named here (omega arith) g.most
+  named_more states.LimitReached e some =
+      told_gathered_to 1000 0 w.journal (w.journal ++ gather_entry (gathered_of moment group) ∷ []) moment group before after start.text now.left new_left g.reads more_named here (omega arith) g.most
+
+  -- the group was gathered
+  pub went_gathered : (next : CoreState) → 0 < group.pieces → next ≡ after_gather core (gathered_of moment group) → Continues core next (gather_entry (gathered_of moment group)) → IsDrained start.setup w.journal
+      → ProgressTo start next so_far after failed (read_to now state new_left new_reads new_place)
+  went_gathered next some is more drained =
+      let e : Entry = gather_entry (gathered_of moment group) in
+      record {
+        journal = w.journal ++ e ∷ [];
+        text = text-push start.setup core next so_far w.journal e w.text more (ap (λ (s : CoreState). s.stored) is) (ap (λ (s : CoreState). s.setup) is);
+        heard = record {
+          named = named_more state refl (omega (arith, some, g.reads.pieces));
+          all = all_read;
+          counted = counted_all;
+          unended = has_ended-other 0 w.journal e refl ∙ w.heard.ended;
+          later = omega (arith, w.heard.later, reads);
+          state = has_state state start (read_to now state new_left new_reads new_place) after (w.journal ++ e ∷ []) now.reads w.heard.later limit below faulted;
+          clocked = clocked_same start.moments new_place (gather_moments 0 w.journal ++ moment ∷ []) (gather_moments 0 (w.journal ++ e ∷ []))
+              (gather_moments-push 0 w.journal e ∙ ap (λ (more : List GatherSays). gather_moments 0 w.journal ++ map (λ (says : GatherSays). says.moment) more) (gathers_own 0 moment group None []))
+              (clocked_more start.moments now.place new_place moment (gather_moments 0 w.journal) gives w.heard.clocked);
+        };
+        said = said_push start (read_to now state new_left new_reads new_place) failed w.journal e tt refl (record { sent = w.said.sent; puts = w.said.puts; last = w.said.last });
+        worked = worked-push w.journal e tt w.worked;
+        in_order = in_order-push start.setup w.journal e w.in_order drained;
+        stops = counted_moments-same w.journal e refl ∙ w.stops;
+      }
+
+  -- the group was offered
+  pub went_offered : (next : CoreState) → IsOffered true moment group core next → IsDrained start.setup w.journal → ProgressTo start next so_far after failed (read_to now state new_left new_reads new_place)
+  went_offered next (inl none) drained = subst (λ (k : CoreState). ProgressTo start k so_far after failed (read_to now state new_left new_reads new_place)) (sym none.1) (went_none none.0)
+  went_offered next (inr some) drained = went_gathered next some.0 some.1 some.2 drained
+
+  -- the group was refused, since the run is full
+  pub went_full : 2 ^ 32 ≤ core.gathered + length group.metrics.items → Progress start core so_far after failed (read_to now states.LimitReached new_left new_reads new_place)
+  went_full many = record {
+    journal = w.journal;
+    text = w.text;
+    heard = record {
+      named =
+          told_then start.text now.left new_left (λ xs ys. Gathering 1000 w.journal 0 xs (to_come before ys)) (λ ys zs. to_come before ys ≡ g.reads.read ++ to_come after zs) (λ xs zs. Gathered 1000 w.journal 0 xs)
+          here g.reads.consecutive
+          (λ xs ys zs a b. gathered 1000 0 w.journal xs (to_come before ys) (gathered_to_here 1000 0 w.journal xs (to_come before ys) (omega arith) a) (λ e. absurd (let x : false ≡ true = sym w.heard.ended ∙ e in cc)));
+      counted = counted_all;
+      ended = w.heard.ended;
+      later = omega (arith, w.heard.later, reads);
+      state = inr (record {
+        count = length group.metrics.items;
+        many = omega (arith, many, w.text.stands.gathered);
+        next =
+            told_then start.text now.left new_left (λ xs ys. Gathering 1000 w.journal 0 xs (to_come before ys)) (λ ys zs. to_come before ys ≡ g.reads.read ++ to_come after zs) (λ xs zs. IsNextGroup 1000 w.journal 0 xs (length group.metrics.items))
+            here g.reads.consecutive
+            (λ xs ys zs a b. record { moment = moment; groups = a.groups; group = g.reads.read; rest = to_come after zs; consecutive = a.consecutive ∙ ap (λ (cs : List Cut). joined a.groups ++ cs) b; named = a.named; few = g.most; metrics = ap (λ (ms : List Content). length ms) g.reads.metrics });
+      });
+      clocked = clocked_wide start.moments now.place new_place moment (gather_moments 0 w.journal) gives w.heard.clocked;
+    };
+    said = record { sent = w.said.sent; puts = w.said.puts; last = w.said.last };
+    worked = w.worked;
+    in_order = w.in_order;
+    stops = w.stops;
+  }
+
+ended_here : (journal : List Entry) → has_ended 0 (journal ++ Ended 0 ∷ []) ≡ true
+ended_here journal = has_ended-push 0 journal (Ended 0) ∙ or-true (has_ended 0 journal)
+
+named_ended : (journal : List Entry) (text left : Option (List ℕ)) (hand : Hand) → Told text left (λ xs ys. GatheredTo 1000 journal 0 xs (to_come hand ys)) → Told text left (λ xs ys. to_come hand ys ≡ []) → Told text left (λ xs ys. Gathered 1000 (journal ++ Ended 0 ∷ []) 0 xs)
+named_ended journal text left hand h all =
+    told_map text left (λ xs ys. GatheredTo 1000 journal 0 xs (to_come hand ys) × (to_come hand ys ≡ [])) (λ xs ys. Gathered 1000 (journal ++ Ended 0 ∷ []) 0 xs)
+    (λ xs ys p. gathered 1000 0 (journal ++ Ended 0 ∷ []) xs (to_come hand ys) (gathered_to_same 1000 0 journal (journal ++ Ended 0 ∷ []) xs (to_come hand ys) (gathers-other 0 journal (Ended 0) refl) p.0) (λ e. p.1))
+    (told_both text left (λ xs ys. GatheredTo 1000 journal 0 xs (to_come hand ys)) (λ xs ys. to_come hand ys ≡ []) h all)
+
+named_unended : (journal : List Entry) (text left : Option (List ℕ)) (hand : Hand) → has_ended 0 journal ≡ false → Told text left (λ xs ys. GatheredTo 1000 journal 0 xs (to_come hand ys)) → Told text left (λ xs ys. Gathered 1000 journal 0 xs)
+named_unended journal text left hand none h =
+    told_map text left (λ xs ys. GatheredTo 1000 journal 0 xs (to_come hand ys)) (λ xs ys. Gathered 1000 journal 0 xs)
+    (λ xs ys p. gathered 1000 0 journal xs (to_come hand ys) p (λ e. absurd (let x : false ≡ true = sym none ∙ e in cc))) h
+
+-- the same journal
+went_unended : (start : Beginning) (core : CoreState) (so_far : JournalSoFar) (hand : Hand) (failed : ℕ) (now : Surroundings) (w : ProgressTo start core so_far hand failed now) → is_ended now.state ≡ false →
+    Told start.text now.left (λ xs ys. IsNamed now.state w.journal xs (to_come hand ys)) → Progress start core so_far hand failed now
+went_unended start core so_far hand failed now w none named = record {
+  journal = w.journal;
+  text = w.text;
+  heard = record { named = named; counted = w.heard.counted; ended = w.heard.unended ∙ sym none; later = w.heard.later; state = w.heard.state; clocked = w.heard.clocked };
+  said = w.said;
+  worked = w.worked;
+  in_order = w.in_order;
+  stops = w.stops;
+}
+
+-- the end of the input was noted, where it was reached
+pub went_ended : (state : InState) (start : Beginning) (core next : CoreState) (so_far : JournalSoFar) (hand : Hand) (failed : ℕ) (now : Surroundings) → IsEnding state core next → ProgressTo start core so_far hand failed (record now { state = state })
+    → Progress start next so_far hand failed (record now { state = state })
+went_ended states.Reading start core next so_far hand failed now is w =
+    subst (λ (s : CoreState). Progress start s so_far hand failed (record now { state = states.Reading })) (sym is) (went_unended start core so_far hand failed (record now { state = states.Reading }) w refl w.heard.named)
+went_ended states.Faulted start core next so_far hand failed now is w =
+    subst (λ (s : CoreState). Progress start s so_far hand failed (record now { state = states.Faulted })) (sym is)
+    (went_unended start core so_far hand failed (record now { state = states.Faulted }) w refl (named_unended w.journal start.text now.left hand w.heard.unended w.heard.named))
+went_ended states.LimitReached start core next so_far hand failed now is w =
+    subst (λ (s : CoreState). Progress start s so_far hand failed (record now { state = states.LimitReached })) (sym is)
+    (went_unended start core so_far hand failed (record now { state = states.LimitReached }) w refl (named_unended w.journal start.text now.left hand w.heard.unended w.heard.named))
+went_ended states.Ended start core next so_far hand failed now is w = record {
+  journal = w.journal ++ Ended 0 ∷ [];
+  text = text-push start.setup core next so_far w.journal (Ended 0) w.text is.1 (ap (λ (s : CoreState). s.stored) is.0) (ap (λ (s : CoreState). s.setup) is.0);
+  heard = record {
+    named = named_ended w.journal start.text now.left hand w.heard.named (w.heard.all refl);
+    counted = w.heard.counted;
+    ended = ended_here w.journal;
+    later = w.heard.later;
+    state = w.heard.state;
+    clocked = clocked_same start.moments now.place (gather_moments 0 w.journal) (gather_moments 0 (w.journal ++ Ended 0 ∷ [])) (gather_moments-same 0 w.journal (Ended 0) refl) w.heard.clocked;
+  };
+  said = said_push start (record now { state = states.Ended }) failed w.journal (Ended 0) tt refl w.said;
+  worked = worked-push w.journal (Ended 0) tt w.worked;
+  in_order = in_order-push start.setup w.journal (Ended 0) w.in_order tt;
+  stops = counted_moments-same w.journal (Ended 0) refl ∙ w.stops;
+}
+
+-- whether the group was accepted
+pub accepted_offer : (accepted : Bool) (moment : ℤ) (group : Group) (old new : CoreState) → accepted ≡ true → IsOffered accepted moment group old new → IsOffered true moment group old new
+accepted_offer accepted moment group old new e h = subst (λ (b : Bool). IsOffered b moment group old new) e h
+
+pub refused_offer : (accepted : Bool) (moment : ℤ) (group : Group) (old new : CoreState) → accepted ≡ false → IsOffered accepted moment group old new → IsOffered false moment group old new
+refused_offer accepted moment group old new e h = subst (λ (b : Bool). IsOffered b moment group old new) e h
+
+-- a group that was gathered, by other terms
+pub offered_some : (moment stored : ℤ) (group : Group) (metrics : List Content) (old new : CoreState) → metrics ≡ group.metrics.items → stored ≡ moment → 0 < group.pieces →
+    new ≡ after_gather old (record (gathered_of stored group) { metrics = metrics }) → Continues old new (gather_entry (record (gathered_of stored group) { metrics = metrics })) → IsOffered true moment group old new
+offered_some moment stored group metrics old new same is some after stands = inr (
+  some,
+  subst (λ (m : ℤ). new ≡ after_gather old (gathered_of m group)) is (subst (λ (ms : List Content). new ≡ after_gather old (record (gathered_of stored group) { metrics = ms })) same after),
+  subst (λ (m : ℤ). Continues old new (gather_entry (gathered_of m group))) is (subst (λ (ms : List Content). Continues old new (gather_entry (record (gathered_of stored group) { metrics = ms }))) same stands),
+)

@@ -1,0 +1,218 @@
+-- How far a run has come, with one entry more.
+use Rattle.std.proofs.Common.{◌≡◌, ◌≤◌, ◌<◌, ℕ, ℤ, ◌+◌, Bool, true, false, List, [], ◌∷◌, ◌++◌, length, refl, sym, ap, ◌∙◌, subst, inl, inr, arith, append_assoc, append-nil}
+use Rattle.std.specs.Prelude.{IfSome, not, count_by, slice_get}
+use Rattle.std.specs.Int.{int_max}
+use Rattle.std.specs.declared.option.Option.{Option}
+use Rattle.std.specs.declared.option.Option.TheVariants.{Some, None}
+use Rattle.account.specs.Setup.{Setup}
+use Rattle.account.specs.Items.{items}
+use Rattle.account.specs.declared.entry.Entry.{Entry}
+use Rattle.account.specs.declared.entry.Entry.TheVariants.{Take, Stop}
+use Rattle.account.specs.declared.entry.Verdict.TheVariants.{Passes}
+use Rattle.metric.specs.declared.metric.Content.{Content}
+use Rattle.agent_base.specs.Cut.{Cut}
+use Rattle.agent_base.specs.Clocked.{last_of}
+use Rattle.agent_base.specs.Counts.{RoseBy}
+use Rattle.agent_base.specs.Hand.{Hand, to_come}
+use Rattle.agent_base.specs.Moments.{Moments}
+use Rattle.agent_base.specs.Told.{Told}
+use Rattle.pipeline_core.specs.CoreState.{CoreState}
+use Rattle.pipeline_core.specs.Legal.{IsLegal, has_ended, is_ended_of, gathered_count, gathered_by, counted_from}
+use Rattle.pipeline_core.specs.Steps.{after_take, after_route, after_stop, after_cut, route_entry}
+use Rattle.pipeline_core.specs.declared.routing.Routed.{Routed}
+use Rattle.pipeline_core.proofs.JournalPush.{gathered_count-push}
+use Rattle.pipeline_core.specs.Stands.{Stands, Continues}
+use Rattle.agent_run.specs.declared.reading.InState.{InState}
+use Rattle.agent_run.specs.declared.reading.InState.TheVariants as states
+use Rattle.agent_run.specs.Causes.{IsFull, IsNextGroup}
+use Rattle.agent_run.specs.Dones.{dones_by, dones, LastFailed}
+use Rattle.agent_run.specs.EntryMoments.{gather_moments, counted_by, counted_moments}
+use Rattle.agent_run.specs.Gathered.{gathers_by, gathers, Gathered, Gathering, AreGroups}
+use Rattle.agent_run.specs.JournalSoFar.{JournalSoFar, Spells, SpellsOn}
+use Rattle.agent_run.specs.Order.{IsOrderly}
+use Rattle.agent_run.specs.PipeSetup.{journal_setup_of}
+use Rattle.agent_run.specs.Progress.{Beginning, Surroundings, HasText, IsNamed, is_ended, HasState, IsClocked, Heard, Said, Progress}
+use Rattle.agent_run.specs.Running.{as_it_is}
+use Rattle.agent_run.specs.Sent.{Sent, AppendsSo}
+use Rattle.agent_run.specs.Worked.{WorkedBy}
+use Rattle.agent_run.proofs.DoneLemmas.{dones-same, last_same}
+use Rattle.agent_run.proofs.GatherLemmas.{gathers-other, has_ended-other, gathering_same}
+use Rattle.agent_run.proofs.JournalSoFarLemmas.{legal_rest_in_order}
+use Rattle.agent_run.proofs.MomentLemmas.{counted_moments-push, counted_moments-same, gather_moments-same, counted_from-last}
+use Rattle.agent_run.proofs.OrderLemmas.{in_order-push}
+use Rattle.agent_run.proofs.SentLemmas.{EndsNone, sent_same}
+use Rattle.agent_run.proofs.WorkedLemmas.{worked-push, worked_route, first_raw, item_stays}
+
+-- the core stands for one entry more, and stores it
+pub text-push : (setup : Setup) (core next : CoreState) (so_far : JournalSoFar) (journal : List Entry) (e : Entry) → HasText setup core so_far journal → Continues core next e → next.stored ≡ core.stored ++ e ∷ [] → next.setup ≡ core.setup
+    → HasText setup next so_far (journal ++ e ∷ [])
+text-push setup core next so_far journal e h more stored same = record {
+  stands = more journal h.stands;
+  setup_is = same ∙ h.setup_is;
+  written = h.written;
+  split = ap (λ (es : List Entry). es ++ e ∷ []) h.split ∙ append_assoc h.written core.stored (e ∷ []) ∙ ap (λ (es : List Entry). h.written ++ es) (sym stored);
+  spells = h.spells;
+}
+
+-- the entries that the core stored are spelled
+pub text-cut : (setup : Setup) (core next : CoreState) (so_far more : JournalSoFar) (journal : List Entry) → HasText setup core so_far journal → ((es : List Entry) → Stands core es → Stands next es) → next.stored ≡ [] → next.setup ≡ core.setup → SpellsOn core.stored so_far more
+    → HasText setup next more journal
+text-cut setup core next so_far more journal h stands none same spells =
+    let legal : IsLegal core.setup (h.written ++ core.stored) = subst (IsLegal core.setup) h.split h.stands.legal in
+    record {
+      stands = stands journal h.stands;
+      setup_is = same ∙ h.setup_is;
+      written = journal;
+      split = sym (append-nil journal) ∙ ap (λ (es : List Entry). journal ++ es) (sym none);
+      spells = subst (λ (es : List Entry). Spells (journal_setup_of setup) es more) (sym h.split) (spells (journal_setup_of setup) h.written h.spells (legal_rest_in_order core.setup h.written core.stored legal));
+    }
+
+named_same : (state : InState) (old new : List Entry) (text : List ℕ) (rest : List Cut) → gathers 0 new ≡ gathers 0 old → has_ended 0 new ≡ has_ended 0 old → IsNamed state old text rest → IsNamed state new text rest
+named_same states.Reading old new text rest same ended h = gathering_same 1000 0 old new text rest same h
+named_same states.Ended old new text rest same ended h = record { groups = h.groups; rest = h.rest; consecutive = h.consecutive; named = subst (AreGroups h.groups) (sym same) h.named; full = h.full; all = λ e. h.all (sym ended ∙ e) }
+named_same states.Faulted old new text rest same ended h = record { groups = h.groups; rest = h.rest; consecutive = h.consecutive; named = subst (AreGroups h.groups) (sym same) h.named; full = h.full; all = λ e. h.all (sym ended ∙ e) }
+named_same states.LimitReached old new text rest same ended h = record { groups = h.groups; rest = h.rest; consecutive = h.consecutive; named = subst (AreGroups h.groups) (sym same) h.named; full = h.full; all = λ e. h.all (sym ended ∙ e) }
+
+-- another fact of the same bytes
+pub told_map : (before after : Option (List ℕ)) (P Q : List ℕ → List ℕ → Type 0) → ((xs ys : List ℕ) → P xs ys → Q xs ys) → Told before after P → Told before after Q
+told_map None after P Q f h = tt
+told_map (Some xs) None P Q f h = absurd h
+told_map (Some xs) (Some ys) P Q f h = f xs ys h
+
+full_same : (old new : List Entry) (text left : Option (List ℕ)) → gathers 0 new ≡ gathers 0 old → gathered_count new ≡ gathered_count old → IsFull 1000 old 0 text left → IsFull 1000 new 0 text left
+full_same old new text left same count h = record {
+  count = h.count;
+  many = omega (arith, h.many, count);
+  next = told_map text left (λ xs ys. IsNextGroup 1000 old 0 xs h.count) (λ xs ys. IsNextGroup 1000 new 0 xs h.count)
+      (λ xs ys n. record { moment = n.moment; groups = n.groups; group = n.group; rest = n.rest; consecutive = n.consecutive; named = subst (AreGroups n.groups) (sym same) n.named; few = n.few; metrics = n.metrics })
+      h.next;
+}
+
+state_same : (state : InState) (start : Beginning) (now : Surroundings) (hand : Hand) (old new : List Entry) → gathers 0 new ≡ gathers 0 old → gathered_count new ≡ gathered_count old → HasState state start now hand old → HasState state start now hand new
+state_same states.Reading start now hand old new same count h = h
+state_same states.Ended start now hand old new same count h = h
+state_same states.Faulted start now hand old new same count h = h
+state_same states.LimitReached start now hand old new same count (inl h) = inl h
+state_same states.LimitReached start now hand old new same count (inr h) = inr (full_same old new start.text now.left same count h)
+
+pub clocked_same : (all : Option Moments) (place : ℕ) (old new : List ℤ) → new ≡ old → IfSome all (λ moments. IsClocked moments place old) → IfSome all (λ moments. IsClocked moments place new)
+clocked_same None place old new same h = tt
+clocked_same (Some moments) place old new same h = subst (IsClocked moments place) (sym same) h
+
+-- a journal with the same Gathers
+pub heard_same : (start : Beginning) (now : Surroundings) (hand : Hand) (old new : List Entry) → gathers 0 new ≡ gathers 0 old → has_ended 0 new ≡ has_ended 0 old → gathered_count new ≡ gathered_count old → gather_moments 0 new ≡ gather_moments 0 old
+    → Heard start now hand old → Heard start now hand new
+heard_same start now hand old new same ended count moments h = record {
+  named = told_map start.text now.left (λ xs ys. IsNamed now.state old xs (to_come hand ys)) (λ xs ys. IsNamed now.state new xs (to_come hand ys)) (λ xs ys. named_same now.state old new xs (to_come hand ys) same ended) h.named;
+  counted = h.counted;
+  ended = ended ∙ h.ended;
+  later = h.later;
+  state = state_same now.state start now hand old new same count h.state;
+  clocked = clocked_same start.moments now.place (gather_moments 0 old) (gather_moments 0 new) moments h.clocked;
+}
+
+state_around : (state : InState) (start : Beginning) (now : Surroundings) (hand : Hand) (journal : List Entry) (stops : List ℤ) → HasState state start now hand journal → HasState state start (record now { stops = stops }) hand journal
+state_around states.Reading start now hand journal stops h = h
+state_around states.Ended start now hand journal stops h = h
+state_around states.Faulted start now hand journal stops h = h
+state_around states.LimitReached start now hand journal stops h = h
+
+-- what was counted is nothing of the input
+heard_around : (start : Beginning) (now : Surroundings) (hand : Hand) (journal : List Entry) (stops : List ℤ) → Heard start now hand journal → Heard start (record now { stops = stops }) hand journal
+heard_around start now hand journal stops h =
+    record { named = h.named; counted = h.counted; ended = h.ended; later = h.later; state = state_around now.state start now hand journal stops h.state; clocked = h.clocked }
+
+-- an entry that is no Gather, and not the Ended of the input
+pub heard_push : (start : Beginning) (now : Surroundings) (hand : Hand) (journal : List Entry) (e : Entry) → gathers_by 0 e ≡ [] → is_ended_of 0 e ≡ false → gathered_by e ≡ 0 → Heard start now hand journal → Heard start now hand (journal ++ e ∷ [])
+heard_push start now hand journal e none other count h =
+    heard_same start now hand journal (journal ++ e ∷ []) (gathers-other 0 journal e none) (has_ended-other 0 journal e other)
+    (let n : gathered_count (journal ++ e ∷ []) ≡ gathered_count journal = omega (arith, gathered_count-push journal e, count) in n) (gather_moments-same 0 journal e none) h
+
+-- a journal with the same batches
+pub said_push : (start : Beginning) (now : Surroundings) (failed : ℕ) (journal : List Entry) (e : Entry) → EndsNone 0 e → dones_by 0 e ≡ [] → Said start now failed journal → Said start now failed (journal ++ e ∷ [])
+said_push start now failed journal e ends none h =
+    let same : dones 0 (journal ++ e ∷ []) ≡ dones 0 journal = dones-same 0 journal e none in
+    record {
+      sent = sent_same 0 journal e start.held now.held ends h.sent;
+      puts = subst (λ (bs : List Bool). RoseBy (count_by not bs) start.puts now.puts) (sym same) h.puts;
+      last = last_same failed (dones 0 journal) (dones 0 (journal ++ e ∷ [])) same h.last;
+    }
+
+-- an entry that says nothing of the input and ends no batch
+pub went_quiet : (start : Beginning) (core next : CoreState) (so_far : JournalSoFar) (hand : Hand) (failed : ℕ) (now : Surroundings) (e : Entry) (w : Progress start core so_far hand failed now) →
+    Continues core next e → next.stored ≡ core.stored ++ e ∷ [] → next.setup ≡ core.setup →
+    gathers_by 0 e ≡ [] → is_ended_of 0 e ≡ false → gathered_by e ≡ 0 → EndsNone 0 e → dones_by 0 e ≡ [] → WorkedBy (items w.journal) e → IsOrderly start.setup w.journal e → counted_by e ≡ [] →
+    Progress start next so_far hand failed now
+went_quiet start core next so_far hand failed now e w more stored same none other count ends no_done worked orderly still = record {
+  journal = w.journal ++ e ∷ [];
+  text = text-push start.setup core next so_far w.journal e w.text more stored same;
+  heard = heard_push start now hand w.journal e none other count w.heard;
+  said = said_push start now failed w.journal e ends no_done w.said;
+  worked = worked-push w.journal e worked w.worked;
+  in_order = in_order-push start.setup w.journal e w.in_order orderly;
+  stops = counted_moments-same w.journal e still ∙ w.stops;
+}
+
+-- an item was taken
+pub went_take : (start : Beginning) (core next : CoreState) (so_far : JournalSoFar) (hand : Hand) (failed : ℕ) (now : Surroundings) → next ≡ after_take core → Continues core next (Take core.taken) → Progress start core so_far hand failed now → Progress start next so_far hand failed now
+went_take start core next so_far hand failed now is more w =
+    went_quiet start core next so_far hand failed now (Take core.taken) w more (ap (λ (s : CoreState). s.stored) is) (ap (λ (s : CoreState). s.setup) is) refl refl refl tt refl tt tt refl
+
+-- the first raw item was taken and routed as it is
+pub went_route : (start : Beginning) (core mid next : CoreState) (so_far : JournalSoFar) (hand : Hand) (failed : ℕ) (now : Surroundings) (metric : Content) → slice_get core.raw 0 ≡ Some metric →
+    mid ≡ after_take core → Continues core mid (Take core.taken) → next ≡ after_route mid (as_it_is core.taken metric) → Continues mid next (route_entry (as_it_is core.taken metric)) →
+    Progress start core so_far hand failed now → Progress start next so_far hand failed now
+went_route start core mid next so_far hand failed now metric first taken takes routed routes w =
+    let v : Progress start mid so_far hand failed now = went_take start core mid so_far hand failed now taken takes w in
+    let e : Entry = route_entry (as_it_is core.taken metric) in
+    let at : slice_get (items w.journal) core.taken ≡ Some metric = first_raw core w.journal metric w.text.stands first in
+    let there : slice_get (items (w.journal ++ Take core.taken ∷ [])) core.taken ≡ Some metric = item_stays w.journal (Take core.taken) core.taken metric at in
+    record {
+      journal = (w.journal ++ Take core.taken ∷ []) ++ e ∷ [];
+      text = text-push start.setup mid next so_far (w.journal ++ Take core.taken ∷ []) e
+          (text-push start.setup core mid so_far w.journal (Take core.taken) w.text takes (ap (λ (s : CoreState). s.stored) taken) (ap (λ (s : CoreState). s.setup) taken))
+          routes (ap (λ (s : CoreState). s.stored) routed) (ap (λ (s : CoreState). s.setup) routed);
+      heard = heard_push start now hand (w.journal ++ Take core.taken ∷ []) e refl refl refl (heard_push start now hand w.journal (Take core.taken) refl refl refl w.heard);
+      said = said_push start now failed (w.journal ++ Take core.taken ∷ []) e tt refl (said_push start now failed w.journal (Take core.taken) tt refl w.said);
+      worked = worked_route (w.journal ++ Take core.taken ∷ []) core.taken metric Passes [] (Some metric ∷ []) there (refl, tt) (worked-push w.journal (Take core.taken) tt w.worked);
+      in_order = in_order-push start.setup (w.journal ++ Take core.taken ∷ []) e (in_order-push start.setup w.journal (Take core.taken) w.in_order tt) tt;
+      stops = counted_moments-same (w.journal ++ Take core.taken ∷ []) e refl ∙ counted_moments-same w.journal (Take core.taken) refl ∙ w.stops;
+    }
+
+-- the stored entries were spelled
+pub went_cut : (start : Beginning) (core next : CoreState) (so_far more : JournalSoFar) (hand : Hand) (failed : ℕ) (now : Surroundings) → ((es : List Entry) → Stands core es → Stands next es) → next ≡ after_cut core → SpellsOn core.stored so_far more
+    → Progress start core so_far hand failed now → Progress start next more hand failed now
+went_cut start core next so_far more hand failed now stands is spells w = record {
+  journal = w.journal;
+  text = text-cut start.setup core next so_far more w.journal w.text stands (ap (λ (s : CoreState). s.stored) is) (ap (λ (s : CoreState). s.setup) is) spells;
+  heard = w.heard;
+  said = w.said;
+  worked = w.worked;
+  in_order = w.in_order;
+  stops = w.stops;
+}
+
+-- the run was stopped at a moment
+pub went_stop : (start : Beginning) (core next : CoreState) (so_far : JournalSoFar) (hand : Hand) (failed : ℕ) (now : Surroundings) (moment : ℤ) → next ≡ after_stop core moment → Continues core next (Stop (int_max moment core.counted) [])
+    → (w : Progress start core so_far hand failed (record now { stops = [] })) → Progress start next so_far hand failed (record now { stops = int_max moment start.setup.start ∷ [] })
+went_stop start core next so_far hand failed now moment is more w =
+    let e : Entry = Stop (int_max moment core.counted) [] in
+    let counted : core.counted ≡ start.setup.start =
+    w.text.stands.counted ∙ counted_from-last core.setup.start w.journal ∙ ap (λ (ms : List ℤ). last_of core.setup.start ms) w.stops ∙ ap (λ (s : Setup). s.start) w.text.setup_is in
+    record {
+      journal = w.journal ++ e ∷ [];
+      text = text-push start.setup core next so_far w.journal e w.text more (ap (λ (s : CoreState). s.stored) is) (ap (λ (s : CoreState). s.setup) is);
+      heard = heard_push start (record now { stops = int_max moment start.setup.start ∷ [] }) hand w.journal e refl refl refl (heard_around start (record now { stops = [] }) hand w.journal (int_max moment start.setup.start ∷ []) w.heard);
+      said = said_push start (record now { stops = int_max moment start.setup.start ∷ [] }) failed w.journal e tt refl (record { sent = w.said.sent; puts = w.said.puts; last = w.said.last });
+      worked = worked-push w.journal e tt w.worked;
+      in_order = in_order-push start.setup w.journal e w.in_order tt;
+      stops = counted_moments-push w.journal e ∙ ap (λ (ms : List ℤ). ms ++ int_max moment core.counted ∷ []) w.stops ∙ ap (λ (m : ℤ). int_max moment m ∷ []) counted;
+    }
+
+-- the same of an item with the number of the first raw one
+pub went_item : (start : Beginning) (core mid next : CoreState) (so_far : JournalSoFar) (hand : Hand) (failed : ℕ) (now : Surroundings) (number : ℕ) (metric : Content) → number ≡ core.taken → slice_get core.raw 0 ≡ Some metric →
+    mid ≡ after_take core → Continues core mid (Take core.taken) → next ≡ after_route mid (as_it_is number metric) → Continues mid next (route_entry (as_it_is number metric)) →
+    Progress start core so_far hand failed now → Progress start next so_far hand failed now
+went_item start core mid next so_far hand failed now number metric is first taken takes routed routes w =
+    went_route start core mid next so_far hand failed now metric first taken takes
+    (subst (λ (n : ℕ). next ≡ after_route mid (as_it_is n metric)) is routed) (subst (λ (n : ℕ). Continues mid next (route_entry (as_it_is n metric))) is routes) w

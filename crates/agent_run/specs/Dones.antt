@@ -1,0 +1,23 @@
+-- How the batches of an output ended.
+use Rattle.std.specs.Prelude.{◌≡◌, ℕ, ◌==◌, Bool, false, not, List, [], ◌∷◌, ◌++◌, replicate, count_by, if◌then◌else◌}
+use Rattle.account.specs.declared.entry.Entry.{Entry}
+use Rattle.account.specs.declared.entry.Entry.TheVariants.{Done}
+
+-- whether the batch that an entry ends was accepted
+abbrev pub dones_by : ℕ → Entry → List Bool
+dones_by output (Done number ok reports) = if number == output then ok ∷ [] else []
+dones_by output _ = []
+
+-- whether each batch of an output that is done was accepted, in order
+unfoldable pub dones : ℕ → List Entry → List Bool
+dones output [] = []
+dones output (e ∷ es) = dones_by output e ++ dones output es
+
+-- how many of an output's batches failed
+abbrev pub failed_count : ℕ → List Entry → ℕ
+failed_count output journal = count_by not (dones output journal)
+
+-- the last so many batches failed
+pub record LastFailed (n : ℕ) (all : List Bool) : Type 0 where
+  pub front : List Bool
+  pub is : all ≡ front ++ replicate n false

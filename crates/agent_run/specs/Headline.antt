@@ -1,0 +1,209 @@
+-- What a run says: a legal journal of what was read and sent, with its text and the account of its totals.
+use Rattle.std.specs.Prelude.{◌≡◌, ◌≢◌, ◌<◌, ◌≤◌, ◌⊎◌, ◌+◌, ◌^◌, ℕ, ℤ, min, if◌then◌else◌, Bool, true, false, List, [], String, length, take, IfSome}
+use Rattle.std.specs.declared.option.Option.{Option}
+use Rattle.std.specs.declared.option.Option.TheVariants.{None}
+use Rattle.std.specs.Io.KnownBytes.{Appends}
+use Rattle.account.specs.AccountText.{account_text}
+use Rattle.account.specs.Items.{raw_items, in_hand}
+use Rattle.account.specs.Numbers.{output_numbers}
+use Rattle.account.specs.Setup.{Setup}
+use Rattle.account.specs.declared.entry.Entry.{Entry}
+use Rattle.agent_base.specs.Clocked.{Clocked, Counted}
+use Rattle.agent_base.specs.Counts.{Rose, RoseBy}
+use Rattle.agent_base.specs.Moments.{Moments}
+use Rattle.agent_base.specs.Places.{Place, Rest}
+use Rattle.agent_base.specs.Told.{Told}
+use Rattle.journal_text.specs.JournalText.{journal_text}
+use Rattle.pipeline_core.specs.Legal.{IsLegal, has_ended, has_stop}
+use Rattle.pipeline_core.specs.Totals.{totals}
+use Rattle.agent_run.specs.Causes.{IsFull}
+use Rattle.std.specs.declared.alloc.Global.{Global}
+use Rattle.agent_run.specs.Command.{journal_place, IsPipe}
+use Rattle.agent_run.specs.Places.{RoseToOpen, RoseToUse}
+use Rattle.agent_run.specs.declared.status.Status.{Status}
+use Rattle.agent_run.specs.declared.status.Status.TheVariants as statuses
+use Rattle.agent_run.specs.Dones.{dones, failed_count, LastFailed}
+use Rattle.agent_run.specs.EntryMoments.{gather_moments, counted_moments}
+use Rattle.agent_run.specs.Gathered.{Gathered}
+use Rattle.agent_run.specs.Order.{InOrder}
+use Rattle.agent_run.specs.PipeSetup.{pipe_setup, journal_setup_of}
+use Rattle.agent_run.specs.Sent.{Sent, AppendsSo}
+use Rattle.agent_run.specs.Worked.{Worked}
+use Rattle.agent_run.specs.declared.rounds.Ending.{Ending}
+use Rattle.agent_run.specs.declared.reading.InState.{InState}
+use Rattle.agent_run.specs.declared.reading.InState.TheVariants as states
+
+-- the bytes of a place before and after, and its counts of faults
+pub record Change : Type 0 where
+  pub before : Option (List ℕ)
+  pub after : Option (List ℕ)
+  pub faults_before : ℕ
+  pub faults_after : ℕ
+
+abbrev pub change : Option (List ℕ) → Option (List ℕ) → ℕ → ℕ → Change
+change before after faults_before faults_after = record { before = before; after = after; faults_before = faults_before; faults_after = faults_after }
+
+-- how many metrics are buffered at the output at the end of a journal
+abbrev pub buffered_at_end : Setup → List Entry → ℕ
+buffered_at_end setup journal = (output_numbers (totals setup journal) 0).buffered
+
+-- the account of a journal's totals, and the journal's text with this account
+abbrev pub account_of : Setup → List Entry → List ℕ
+account_of setup journal = account_text (totals setup journal)
+
+abbrev pub text_of : Setup → List Entry → List ℕ
+text_of setup journal = journal_text (journal_setup_of setup) journal (account_of setup journal)
+
+-- why the input has no Ended: a read failed, 2^40 bytes were taken, or the run is full
+abbrev pub IsUnread : Change → ℕ → List Entry → Type 0
+IsUnread input taken journal = Rose input.faults_before input.faults_after ⊎ (taken ≡ 2 ^ 40) ⊎ IsFull 1000 journal 0 input.before input.after
+
+-- A legal journal of a run of one input and one output, given the moments of the run's clock and of the input's clock.
+pub record IsRun (setup : Setup) (input output : Change) (run_moments input_moments : Option Moments) (journal : List Entry) : Type 0 where
+  pub legal : IsLegal setup journal
+  -- the Gathers name the pieces of what was left at the input's place
+  pub gathered : Told input.before input.after (λ xs ys. Gathered 1000 journal 0 xs)
+  -- the output was sent the batches
+  pub sent : AppendsSo output.before output.after (Sent journal 0)
+  -- each item was routed as it is
+  pub worked : Worked journal
+  -- gathering was stopped, and no item is raw or in hand
+  pub stopped : has_stop journal ≡ true
+  pub none_raw : raw_items journal ≡ []
+  pub none_held : in_hand journal ≡ None
+  -- the output's count of failed puts rose by the failed batches
+  pub put_faults : RoseBy (failed_count 0 journal) output.faults_before output.faults_after
+  -- the moments are those of the clocks
+  pub start : IfSome run_moments (λ moments. setup.start ≡ moments.at 0)
+  pub counted : IfSome run_moments (λ moments. Counted moments (min 1 moments.last) moments.last setup.start (counted_moments journal))
+  pub clocked : IfSome input_moments (λ moments. Clocked moments 0 moments.last (gather_moments 0 journal))
+  -- so many bytes of the input were taken; it was read to its end, or there is a cause
+  pub taken : ℕ
+  pub bytes_taken : Told input.before input.after (λ xs ys. length xs ≡ taken + length ys)
+  pub unread : has_ended 0 journal ≡ false → IsUnread input taken journal
+  -- where a metric is left at the output, its last three batches failed
+  pub left : buffered_at_end setup journal ≢ 0 → LastFailed 3 (dones 0 journal)
+  -- before each Gather all items were routed, and all was sent or the last batch failed
+  pub in_order : InOrder setup journal
+
+-- whether the input was read to its end, or why not
+abbrev pub EndsSo : InState → Change → ℕ → List Entry → Type 0
+EndsSo states.Reading input taken journal = ⊥
+EndsSo states.Ended input taken journal = (taken < 2 ^ 40) × (has_ended 0 journal ≡ true)
+EndsSo states.Faulted input taken journal = (taken < 2 ^ 40) × (has_ended 0 journal ≡ false) × Rose input.faults_before input.faults_after
+EndsSo states.LimitReached input taken journal = (has_ended 0 journal ≡ false) × ((taken ≡ 2 ^ 40) ⊎ IsFull 1000 journal 0 input.before input.after)
+
+-- a text was appended; or a part of it, and the count of faults rose
+abbrev pub IsPutSo : Bool → Change → List ℕ → Type 0
+IsPutSo false place text = Appends place.before place.after text
+IsPutSo true place text = Rose place.faults_before place.faults_after × ((n : ℕ) × Appends place.before place.after (take n text))
+
+-- the status by why the input is read no more, whether the put of the journal or of the report failed, and whether a metric is left
+abbrev pub status_of : InState → Bool → Bool → Status
+status_of states.LimitReached failed left = statuses.Limit
+status_of states.Faulted failed left = if failed then statuses.ReportFault else statuses.ReadFault
+status_of states.Ended failed left = if failed then statuses.ReportFault else (if left then statuses.Left else statuses.Done)
+status_of states.Reading failed left = if failed then statuses.ReportFault else (if left then statuses.Left else statuses.Done)
+
+-- whether a metric is left at the output
+abbrev pub IsLeft : Bool → ℕ → Type 0
+IsLeft false buffered = buffered ≡ 0
+IsLeft true buffered = buffered ≢ 0
+
+-- what a run of one input and one output leaves, before its account is reported
+pub record Ran (batch limit : ℕ) (ending : Ending) (input output note : Change) (run_moments input_moments : Option Moments) : Type 0 where
+  pub start : ℤ
+  pub journal : List Entry
+  pub run : IsRun (pipe_setup batch limit start) input output run_moments input_moments journal
+  pub ends : EndsSo ending.state input run.taken journal
+  pub left : IsLeft ending.left (buffered_at_end (pipe_setup batch limit start) journal)
+  pub account : ending.account.items ≡ account_of (pipe_setup batch limit start) journal
+  pub noted : IsPutSo ending.journal_failed note (text_of (pipe_setup batch limit start) journal)
+
+-- The headline of a run: the journal is a legal history of what the input said and the output was sent, its text stands at the journal's place, and the account that was reported is its totals.
+pub record Headline (batch limit : ℕ) (input output note report : Change) (run_moments input_moments : Option Moments) : Type 0 where
+  pub start : ℤ
+  pub journal : List Entry
+  pub run : IsRun (pipe_setup batch limit start) input output run_moments input_moments journal
+  pub noted : Appends note.before note.after (text_of (pipe_setup batch limit start) journal)
+  pub reported : Appends report.before report.after (account_of (pipe_setup batch limit start) journal)
+
+-- the same, where the put of the journal or of the report may have failed, and then a part of the text went out
+pub record TornHeadline (batch limit : ℕ) (input output note report : Change) (run_moments input_moments : Option Moments) : Type 0 where
+  pub start : ℤ
+  pub journal : List Entry
+  pub run : IsRun (pipe_setup batch limit start) input output run_moments input_moments journal
+  pub journal_failed : Bool
+  pub report_failed : Bool
+  pub noted : IsPutSo journal_failed note (text_of (pipe_setup batch limit start) journal)
+  pub reported : IsPutSo report_failed report (account_of (pipe_setup batch limit start) journal)
+
+module _ (batch limit : ℕ) (input output note report : Change) (run_moments input_moments : Option Moments) where
+  -- the input was read to its end, and nothing is buffered
+  pub record IsDone : Type 0 where
+    pub headline : Headline batch limit input output note report run_moments input_moments
+    pub few : headline.run.taken < 2 ^ 40
+    pub ended : has_ended 0 headline.journal ≡ true
+    pub none_left : buffered_at_end (pipe_setup batch limit headline.start) headline.journal ≡ 0
+
+  -- the input was read to its end, and a metric is buffered
+  pub record IsLeftOver : Type 0 where
+    pub headline : Headline batch limit input output note report run_moments input_moments
+    pub few : headline.run.taken < 2 ^ 40
+    pub ended : has_ended 0 headline.journal ≡ true
+    pub some_left : buffered_at_end (pipe_setup batch limit headline.start) headline.journal ≢ 0
+
+  -- a read of the input failed, and it wasn't read to its end
+  pub record IsReadFault : Type 0 where
+    pub headline : Headline batch limit input output note report run_moments input_moments
+    pub few : headline.run.taken < 2 ^ 40
+    pub unended : has_ended 0 headline.journal ≡ false
+    pub rose : Rose input.faults_before input.faults_after
+
+  -- the put of the journal or of the report failed
+  pub record IsReportFault : Type 0 where
+    pub headline : TornHeadline batch limit input output note report run_moments input_moments
+    pub few : headline.run.taken < 2 ^ 40
+    pub failed : (headline.journal_failed ≡ true) ⊎ (headline.report_failed ≡ true)
+
+  -- 2^40 bytes of the input were taken, or the run is full
+  pub record IsLimit : Type 0 where
+    pub headline : TornHeadline batch limit input output note report run_moments input_moments
+    pub unended : has_ended 0 headline.journal ≡ false
+    pub reached : (headline.run.taken ≡ 2 ^ 40) ⊎ IsFull 1000 headline.journal 0 input.before input.after
+
+  -- what each status of a run says; nothing is promised where memory was short
+  abbrev pub Ends : Status → Type 0
+  Ends statuses.Done = IsDone
+  Ends statuses.Left = IsLeftOver
+  Ends statuses.ReadFault = IsReadFault
+  Ends statuses.ReportFault = IsReportFault
+  Ends statuses.Limit = IsLimit
+  Ends statuses.OutOfMemory = Unit {0}
+  Ends statuses.Usage = ⊥
+  Ends statuses.Config = ⊥
+  Ends statuses.OpenFault = ⊥
+
+-- the change of a place, and of the report
+abbrev pub place_change : Place → Place → Change
+place_change old new = change old.bytes new.bytes old.part_faults new.part_faults
+
+abbrev pub report_change : Rest → Rest → Change
+report_change old new = change old.reported new.reported old.report_faults new.report_faults
+
+-- the words are a command, and its run ended with this status
+pub record PipeEnds (status : Status) (words : List (String Global)) (ins new_ins outs new_outs : List ℕ → Place) (rest new_rest : Rest) (moments : ℕ → Option Moments) : Type 0 where
+  pub input : List ℕ
+  pub output : List ℕ
+  pub batch : ℕ
+  pub limit : ℕ
+  pub command : IsPipe words input output batch limit
+  pub ends : Ends batch limit (place_change (ins input) (new_ins input)) (place_change (outs output) (new_outs output)) (place_change (outs journal_place) (new_outs journal_place)) (report_change rest new_rest) (moments 0) (moments 3) status
+
+-- no count of the world rose
+pub record NothingRose (ins new_ins outs new_outs : List ℕ → Place) (rest new_rest : Rest) : Type 0 where
+  pub ins_opened : (place : List ℕ) → RoseToOpen (ins place) (new_ins place) → ⊥
+  pub ins_used : (place : List ℕ) → RoseToUse (ins place) (new_ins place) → ⊥
+  pub outs_opened : (place : List ℕ) → RoseToOpen (outs place) (new_outs place) → ⊥
+  pub outs_used : (place : List ℕ) → RoseToUse (outs place) (new_outs place) → ⊥
+  pub reported : Rose rest.report_faults new_rest.report_faults → ⊥

@@ -1,0 +1,133 @@
+-- How far a run has come.
+use Rattle.std.specs.Prelude.{◌≡◌, ◌<◌, ◌≤◌, ◌⊎◌, ◌+◌, ◌^◌, ℕ, ℤ, Bool, true, false, List, [], ◌∷◌, ◌++◌, length, IfSome, Result, Ok, Err, ⊤}
+use Rattle.std.specs.declared.option.Option.{Option}
+use Rattle.account.specs.Setup.{Setup}
+use Rattle.account.specs.Numbers.{output_numbers}
+use Rattle.account.specs.declared.entry.Entry.{Entry}
+use Rattle.agent_base.specs.Counts.{Rose, RoseBy}
+use Rattle.agent_base.specs.Cut.{Cut}
+use Rattle.agent_base.specs.Clocked.{Clocked}
+use Rattle.agent_base.specs.Hand.{Hand, to_come}
+use Rattle.agent_base.specs.Moments.{Moments}
+use Rattle.agent_base.specs.Told.{Told}
+use Rattle.pipeline_core.specs.CoreState.{CoreState}
+use Rattle.pipeline_core.specs.Legal.{has_ended}
+use Rattle.pipeline_core.specs.Stands.{Stands}
+use Rattle.agent_run.specs.declared.pipe_run.PipeRun.{PipeRun}
+use Rattle.agent_run.specs.declared.reading.InState.{InState}
+use Rattle.agent_run.specs.declared.reading.InState.TheVariants as states
+use Rattle.agent_run.specs.Causes.{IsFull}
+use Rattle.agent_run.specs.Dones.{dones, failed_count, LastFailed}
+use Rattle.agent_run.specs.EntryMoments.{gather_moments, counted_moments}
+use Rattle.agent_run.specs.Gathered.{Gathered, Gathering}
+use Rattle.agent_run.specs.JournalSoFar.{JournalSoFar, Spells}
+use Rattle.agent_run.specs.Order.{InOrder}
+use Rattle.agent_run.specs.PipeSetup.{journal_setup_of}
+use Rattle.agent_run.specs.Sent.{Sent, AppendsSo}
+use Rattle.agent_run.specs.Worked.{Worked}
+
+-- what a run began with: its set-up, the bytes left of the input and its count of failed reads, the bytes held by the output and its count of failed puts, and the moments of the input's clock
+pub record Beginning : Type 0 where
+  pub setup : Setup
+  pub text : Option (List ℕ)
+  pub reads : ℕ
+  pub held : Option (List ℕ)
+  pub puts : ℕ
+  pub moments : Option Moments
+
+-- what is around a run: whether the input is read on, the bytes left of it, its count of failed reads, the place of its clock, the bytes held by the output, its count of failed puts, and the moments that were counted since the start
+pub record Surroundings : Type 0 where
+  pub state : InState
+  pub left : Option (List ℕ)
+  pub reads : ℕ
+  pub place : ℕ
+  pub held : Option (List ℕ)
+  pub puts : ℕ
+  pub stops : List ℤ
+
+-- the core stands for a journal, whose entries are spelled but for those that the core stores
+pub record HasText (setup : Setup) (core : CoreState) (so_far : JournalSoFar) (journal : List Entry) : Type 0 where
+  pub stands : Stands core journal
+  pub setup_is : core.setup ≡ setup
+  pub written : List Entry
+  pub split : journal ≡ written ++ core.stored
+  pub spells : Spells (journal_setup_of setup) written so_far
+
+-- while the input is read on its Gathers name full groups up to the pieces that are to come; else they name groups of its text, all pieces where it has ended
+abbrev pub IsNamed : InState → List Entry → List ℕ → List Cut → Type 0
+IsNamed states.Reading journal text rest = Gathering 1000 journal 0 text rest
+IsNamed states.Ended journal text rest = Gathered 1000 journal 0 text
+IsNamed states.Faulted journal text rest = Gathered 1000 journal 0 text
+IsNamed states.LimitReached journal text rest = Gathered 1000 journal 0 text
+
+abbrev pub is_ended : InState → Bool
+is_ended states.Ended = true
+is_ended _ = false
+
+-- fewer than 2^40 bytes were taken; where a read failed its count rose; or so many bytes were taken, or the run is full
+abbrev pub HasState : InState → Beginning → Surroundings → Hand → List Entry → Type 0
+HasState states.Reading start now hand journal = hand.taken < 2 ^ 40
+HasState states.Ended start now hand journal = hand.taken < 2 ^ 40
+HasState states.Faulted start now hand journal = (hand.taken < 2 ^ 40) × Rose start.reads now.reads
+HasState states.LimitReached start now hand journal = (hand.taken ≡ 2 ^ 40) ⊎ IsFull 1000 journal 0 start.text now.left
+
+-- a clock came to a place of its list, and gave these moments on the way
+abbrev pub IsClocked : Moments → ℕ → List ℤ → Type 0
+IsClocked moments place all = (place ≤ moments.last) × Clocked moments 0 place all
+
+-- what the journal says of the input
+pub record Heard (start : Beginning) (now : Surroundings) (hand : Hand) (journal : List Entry) : Type 0 where
+  pub named : Told start.text now.left (λ xs ys. IsNamed now.state journal xs (to_come hand ys))
+  pub counted : Told start.text now.left (λ xs ys. length xs ≡ hand.taken + length ys)
+  pub ended : has_ended 0 journal ≡ is_ended now.state
+  pub later : start.reads ≤ now.reads
+  pub state : HasState now.state start now hand journal
+  pub clocked : IfSome start.moments (λ moments. IsClocked moments now.place (gather_moments 0 journal))
+
+-- what the journal says of the output
+pub record Said (start : Beginning) (now : Surroundings) (failed : ℕ) (journal : List Entry) : Type 0 where
+  pub sent : AppendsSo start.held now.held (Sent journal 0)
+  pub puts : RoseBy (failed_count 0 journal) start.puts now.puts
+  pub last : LastFailed failed (dones 0 journal)
+
+-- there is a journal for which the core stands, which is spelled, and which says what was read and what was sent
+pub record Progress (start : Beginning) (core : CoreState) (so_far : JournalSoFar) (hand : Hand) (failed : ℕ) (now : Surroundings) : Type 0 where
+  pub journal : List Entry
+  pub text : HasText start.setup core so_far journal
+  pub heard : Heard start now hand journal
+  pub said : Said start now failed journal
+  pub worked : Worked journal
+  pub in_order : InOrder start.setup journal
+  pub stops : counted_moments journal ≡ now.stops
+
+-- so it is for a run
+abbrev pub Went : Beginning → PipeRun → Surroundings → Type 0
+Went start run now = Progress start run.core run.journal run.pieces run.failed now
+
+-- a step of a run that changes nothing around it
+abbrev pub GoesOn : PipeRun → PipeRun → Type 0
+GoesOn old new = (start : Beginning) (now : Surroundings) → Went start old now → Went start new now
+
+-- a step that puts to the output
+abbrev pub SendsOn : PipeRun → PipeRun → Option (List ℕ) → Option (List ℕ) → ℕ → ℕ → Type 0
+SendsOn old new held new_held puts new_puts =
+    (start : Beginning) (now : Surroundings) → Went start old (record now { held = held; puts = puts }) → Went start new (record now { held = new_held; puts = new_puts })
+
+-- a step that reads the input, with the state that it leaves, the bytes left before and after, the counts of failed reads, and the clock's moments and places
+abbrev pub ReadsOn : PipeRun → PipeRun → InState → Option (List ℕ) → Option (List ℕ) → ℕ → ℕ → Option Moments → ℕ → ℕ → Type 0
+ReadsOn old new state left new_left reads new_reads moments place new_place =
+    (start : Beginning) (now : Surroundings) →
+    Went (record start { moments = moments }) old (record now { state = states.Reading; left = left; reads = reads; place = place }) →
+    Went (record start { moments = moments }) new (record now { state = state; left = new_left; reads = new_reads; place = new_place })
+
+-- rounds: they read the input and put to the output
+abbrev pub RunsOn : PipeRun → PipeRun → InState → Option (List ℕ) → Option (List ℕ) → ℕ → ℕ → Option Moments → ℕ → ℕ → Option (List ℕ) → Option (List ℕ) → ℕ → ℕ → Type 0
+RunsOn old new state left new_left reads new_reads moments place new_place held new_held puts new_puts =
+    (start : Beginning) (now : Surroundings) →
+    Went (record start { moments = moments }) old (record now { state = states.Reading; left = left; reads = reads; place = place; held = held; puts = puts }) →
+    Went (record start { moments = moments }) new (record now { state = state; left = new_left; reads = new_reads; place = new_place; held = new_held; puts = new_puts })
+
+-- all items were routed, and nothing is buffered at the output or its last put failed
+pub record IsSettled (run : PipeRun) : Type 0 where
+  pub none_raw : run.core.raw ≡ []
+  pub sent : ((output_numbers run.core.numbers 0).buffered ≡ 0) ⊎ (1 ≤ run.failed)

@@ -1,0 +1,108 @@
+//! What a run keeps between its steps.
+ghost use Rattle.std.specs.Prelude.{◌≡◌, ◌≤◌, ◌∷◌, ℕ, List, [], Option, false, IfOk, OnOk};
+ghost use Rattle.agent_base.specs.Hand.{empty_hand};
+ghost use Rattle.pipeline_core.specs.CoreState.{CoreState, setup_of};
+ghost use Rattle.pipeline_core.specs.Stands.{Stands};
+ghost use Rattle.agent_run.specs.JournalSoFar.{Spells};
+ghost use Rattle.agent_run.specs.PipeSetup.{pipe_setup, journal_setup_of};
+ghost use Rattle.agent_run.specs.Progress.{GoesOn, IsSettled};
+ghost use Rattle.agent_run.specs.Running.{IsReady, IsReading, HasJournal, StillStands, IsNoted};
+
+use crate::command::Pipe;
+use crate::journal::JournalText;
+use agent_base::{CutKind, Pieces};
+use fixed_num::{Moment, OutOfMemory, Seq};
+use journal_text::JournalSetup;
+use pipeline_core::{Core, CoreSetup, CutAnswer, InSetup, OutSetup};
+use std::alloc::Global;
+
+/// A run of one input and one output.
+#[derive(Drop)]
+pub struct PipeRun {
+    pub alloc: Global,
+    pub core: Core,
+    pub pieces: Pieces,
+    pub journal: JournalText,
+    /// The text of a batch.
+    pub text: Vec<u8>,
+    /// How many puts to the output failed in succession, up to the last one.
+    pub failed: u32,
+}
+
+/// What the journal is about.
+fn journal_setup(alloc: Global, pipe: &Pipe<'_>, start: Moment) -> Result<JournalSetup, OutOfMemory>
+    ensures { IfOk result (λ setup. setup ≡ journal_setup_of (pipe_setup pipe.now.batch pipe.now.limit start)) }
+{
+    Ok(JournalSetup {
+        start,
+        inputs: Seq::of(vec![in alloc; None]?),
+        aggs: Seq::of(Vec::new(alloc)),
+        outputs: Seq::of(vec![in alloc; (pipe.batch, pipe.limit)]?),
+    })
+}
+
+/// The set-up of the core: one input, which isn't tracked, and one output.
+fn core_setup(alloc: Global, pipe: &Pipe<'_>, start: Moment) -> Result<CoreSetup, OutOfMemory>
+    ensures setup { IfOk result (λ setup. setup_of setup ≡ pipe_setup pipe.now.batch pipe.now.limit start) }
+    ensures inputs { IfOk result (λ setup. setup.inputs ≡ record { tracked = false; max_undelivered = 0 } ∷ []) }
+    ensures outputs { IfOk result (λ setup. setup.outputs ≡ record { batch = pipe.now.batch; limit = pipe.now.limit } ∷ []) }
+{
+    Ok(CoreSetup {
+        inputs: Seq::of(vec![in alloc;
+            InSetup {
+                tracked: false,
+                max_undelivered: 0,
+            },
+        ]?),
+        outputs: Seq::of(vec![in alloc;
+            OutSetup {
+                batch: pipe.batch,
+                limit: pipe.limit,
+            },
+        ]?),
+        start,
+    })
+}
+
+/// A run in which nothing happened.
+pub fn new_run(alloc: Global, pipe: &Pipe<'_>, start: Moment) -> Result<PipeRun, OutOfMemory>
+    requires some { 1 ≤ pipe.now.batch }
+    requires ordered { pipe.now.batch ≤ pipe.now.limit }
+    ensures ready { IfOk result (λ run. IsReady run.core) }
+    ensures reading { IfOk result (λ run. IsReading run.core) }
+    ensures settled { IfOk result (λ run. IsSettled run) }
+    ensures stands { IfOk result (λ run. Stands run.core []) }
+    ensures setup { IfOk result (λ run. run.core.setup ≡ pipe_setup pipe.now.batch pipe.now.limit start) }
+    ensures stored { IfOk result (λ run. run.core.stored ≡ []) }
+    ensures spells { IfOk result (λ run. Spells (journal_setup_of (pipe_setup pipe.now.batch pipe.now.limit start)) [] run.journal) }
+    ensures pieces { IfOk result (λ run. run.pieces ≡ empty_hand) }
+    ensures failed { IfOk result (λ run. run.failed ≡ 0) }
+{
+    Ok(PipeRun {
+        alloc,
+        core: Core::new(alloc, core_setup(alloc, pipe, start)?)?,
+        pieces: Pieces::new(alloc, CutKind::Lines)?,
+        journal: JournalText::new(alloc, &journal_setup(alloc, pipe, start)?)?,
+        text: Vec::new(alloc),
+        failed: 0,
+    })
+}
+
+/// Adds the text of the entries since the last cut.
+pub fn note(run: &mut PipeRun) -> Result<(), OutOfMemory>
+    requires ready { IsReady run.old.core }
+    requires stands { HasJournal run.old.core }
+    ensures ready { OnOk result (IsReady run.new.core) }
+    ensures noted { OnOk result (IsNoted run.old run.new) }
+    ensures stands { StillStands result run.new.core }
+    ensures goes { OnOk result (GoesOn run.old run.new) }
+{
+    match run.core.cut() {
+        Ok(entries) => {
+            run.journal.write(entries.as_slice())?;
+            Ok(())
+        }
+        Err(CutAnswer::NothingNew) => Ok(()),
+        Err(CutAnswer::OutOfMemory) => Err(OutOfMemory),
+    }
+}

@@ -29,7 +29,7 @@ use Rattle.agent_run.specs.Headline.{Change, IsUnread, IsRun, EndsSo, IsPutSo, I
 use Rattle.agent_run.specs.JournalSoFar.{JournalSoFar, Spells}
 use Rattle.agent_run.specs.Order.{IsDrained, NothingBuffered}
 use Rattle.agent_run.specs.PipeSetup.{pipe_setup, journal_setup_of}
-use Rattle.agent_run.specs.Progress.{Beginning, Surroundings, IsNamed, is_ended, HasState, IsClocked, Progress, GoesOn, SendsOn, ReadsOn, RunsOn, IsSettled}
+use Rattle.agent_run.specs.Progress.{Beginning, Surroundings, IsNamed, is_ended, HasState, IsClocked, IsNamedOfTaken, Progress, GoesOn, SendsOn, ReadsOn, RunsOn, IsSettled}
 use Rattle.agent_run.specs.Running.{IsReading, IsRoutable, IsSentOn, IsNoted}
 use Rattle.agent_run.specs.declared.pipe_run.PipeRun.{PipeRun}
 use Rattle.pipeline_core.specs.Steps.{after_cut}
@@ -41,13 +41,11 @@ use Rattle.agent_run.proofs.GatherLemmas.{gathering_starts}
 use Rattle.agent_run.proofs.JournalSoFarLemmas.{ends}
 use Rattle.agent_run.proofs.MomentLemmas.{counted_none, gather_moments_none}
 use Rattle.agent_run.proofs.OrderLemmas.{in_order_first}
-use Rattle.agent_run.proofs.ProgressLemmas.{told_map, clocked_same}
+use Rattle.agent_run.proofs.ProgressLemmas.{clocked_same}
+use Rattle.agent_run.proofs.GroupLemmas.{told_map, told_self}
+use Rattle.agent_run.proofs.TakenSteps.{told_names_start}
 use Rattle.agent_run.proofs.SentLemmas.{sent_first}
 use Rattle.agent_run.proofs.WorkedLemmas.{worked_first}
-
-told_self : (text : Option (List ℕ)) (P : List ℕ → List ℕ → Type 0) → ((xs : List ℕ) → P xs xs) → Told text text P
-told_self None P f = tt
-told_self (Some xs) P f = f xs
 
 clock_starts : (all : Option Moments) → IfSome all (λ moments. IsClocked moments 0 [])
 clock_starts None = tt
@@ -69,6 +67,7 @@ went_first start core so_far hand failed stands setup stored spells empty none =
   text = record { stands = stands; setup_is = setup; written = []; split = sym stored; spells = spells };
   heard = record {
     named = told_self start.text (λ xs ys. IsNamed states.Reading [] xs (to_come hand ys)) (λ xs. rw empty (gathering_starts 1000 0 xs));
+    of_taken = told_names_start 1000 0 hand start.text empty;
     counted = told_self start.text (λ xs ys. length xs ≡ hand.taken + length ys) (λ xs. omega (arith, ap (λ (h : Hand). h.taken) empty));
     ended = none_ended;
     later = omega arith;
@@ -114,17 +113,17 @@ input_change start now = record { before = start.text; after = now.left; faults_
 abbrev pub output_change : Beginning → Surroundings → Change
 output_change start now = record { before = start.held; after = now.held; faults_before = start.puts; faults_after = now.puts }
 
-unread_by : (state : InState) (start : Beginning) (now : Surroundings) (hand : Hand) (journal : List Entry) → (state ≢ states.Reading) → HasState state start now hand journal → has_ended 0 journal ≡ is_ended state → has_ended 0 journal ≡ false → IsUnread (input_change start now) hand.taken journal
-unread_by states.Reading start now hand journal ne h e f = absurd (ne refl)
-unread_by states.Ended start now hand journal ne h e f = absurd (let x : true ≡ false = sym e ∙ f in cc)
-unread_by states.Faulted start now hand journal ne h e f = inl h.1
-unread_by states.LimitReached start now hand journal ne h e f = inr h
+unread_by : (state : InState) (start : Beginning) (now : Surroundings) (hand : Hand) (journal : List Entry) → (state ≢ states.Reading) → HasState state start now hand journal → Told start.text now.left (IsNamedOfTaken state journal hand) → has_ended 0 journal ≡ is_ended state → has_ended 0 journal ≡ false → IsUnread (input_change start now) hand.taken journal
+unread_by states.Reading start now hand journal ne h t e f = absurd (ne refl)
+unread_by states.Ended start now hand journal ne h t e f = absurd (let x : true ≡ false = sym e ∙ f in cc)
+unread_by states.Faulted start now hand journal ne h t e f = inl (h.1, t)
+unread_by states.LimitReached start now hand journal ne h t e f = inr h
 
-ends_by : (state : InState) (start : Beginning) (now : Surroundings) (hand : Hand) (journal : List Entry) → (state ≢ states.Reading) → HasState state start now hand journal → has_ended 0 journal ≡ is_ended state → EndsSo state (input_change start now) hand.taken journal
-ends_by states.Reading start now hand journal ne h e = absurd (ne refl)
-ends_by states.Ended start now hand journal ne h e = (h, e)
-ends_by states.Faulted start now hand journal ne h e = (h.0, e, h.1)
-ends_by states.LimitReached start now hand journal ne h e = (e, h)
+ends_by : (state : InState) (start : Beginning) (now : Surroundings) (hand : Hand) (journal : List Entry) → (state ≢ states.Reading) → HasState state start now hand journal → Told start.text now.left (IsNamedOfTaken state journal hand) → has_ended 0 journal ≡ is_ended state → EndsSo state (input_change start now) hand.taken journal
+ends_by states.Reading start now hand journal ne h t e = absurd (ne refl)
+ends_by states.Ended start now hand journal ne h t e = (h, e)
+ends_by states.Faulted start now hand journal ne h t e = (h.0, e, (h.1, t))
+ends_by states.LimitReached start now hand journal ne h t e = (e, h)
 
 clocked_ends : (all : Option Moments) (place : ℕ) (ms : List ℤ) → IfSome all (λ moments. IsClocked moments place ms) → IfSome all (λ moments. Clocked moments 0 moments.last ms)
 clocked_ends None place ms h = tt
@@ -174,7 +173,7 @@ module _ (batch limit : ℕ) (start : ℤ) (moment : ℤ) (text : Option (List �
       clocked = clocked_ends input_moments now.place (gather_moments 0 w.journal) w.heard.clocked;
       taken = hand.taken;
       bytes_taken = w.heard.counted;
-      unread = unread_by now.state beginning (record now { stops = int_max moment start ∷ [] }) hand w.journal read w.heard.state w.heard.ended;
+      unread = unread_by now.state beginning (record now { stops = int_max moment start ∷ [] }) hand w.journal read w.heard.state w.heard.of_taken w.heard.ended;
       left = left_failed rest;
       in_order = w.in_order;
     }
@@ -195,7 +194,7 @@ module _ (batch limit : ℕ) (start : ℤ) (moment : ℤ) (text : Option (List �
           start = start;
           journal = w.journal;
           run = is_run;
-          ends = rw state (ends_by now.state beginning (record now { stops = int_max moment start ∷ [] }) hand w.journal read w.heard.state w.heard.ended);
+          ends = rw state (ends_by now.state beginning (record now { stops = int_max moment start ∷ [] }) hand w.journal read w.heard.state w.heard.of_taken w.heard.ended);
           left = rw (sym (ap (λ (n : Numbers). (output_numbers n 0).buffered) totals_are)) (left_is ((output_numbers core.numbers 0).buffered) ending.left left);
           account = account_is ∙ same;
           noted = subst (IsPutSo ending.journal_failed noted) (text_put_is ∙ text_is (account_text core.numbers) same) put;

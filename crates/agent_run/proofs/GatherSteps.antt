@@ -28,19 +28,15 @@ use Rattle.agent_run.specs.Gathered.{GatherSays, gathers, gathers_by, Gathered, 
 use Rattle.agent_run.specs.Groups.{Reads, ReadsGroup, IsAllRead, gathered_of, IsOffered, IsEnding}
 use Rattle.agent_run.specs.JournalSoFar.{JournalSoFar}
 use Rattle.agent_run.specs.Order.{InOrder, IsDrained}
-use Rattle.agent_run.specs.Progress.{Beginning, Surroundings, HasText, IsNamed, is_ended, HasState, IsClocked, Heard, Said, Progress}
+use Rattle.agent_run.specs.Progress.{Beginning, Surroundings, HasText, IsNamed, is_ended, HasState, IsClocked, IsNamedOfTaken, Heard, Said, Progress}
 use Rattle.agent_run.specs.Worked.{Worked}
 use Rattle.agent_run.proofs.GatherLemmas.{says_of, gathers_own, gathers-push, gathers-other, has_ended-other, gathered_to_here, gathered_to_same, gathered, told_gathering, told_gathered_to}
-use Rattle.agent_run.proofs.GroupLemmas.{told_then}
+use Rattle.agent_run.proofs.GroupLemmas.{told_then, told_map, told_pair}
+use Rattle.agent_run.proofs.TakenSteps.{told_names_more, told_taken_more, told_taken_same}
 use Rattle.agent_run.proofs.MomentLemmas.{gather_moments-push, gather_moments-same, counted_moments-same}
 use Rattle.agent_run.proofs.OrderLemmas.{in_order-push}
-use Rattle.agent_run.proofs.ProgressLemmas.{told_map, text-push, said_push, clocked_same}
+use Rattle.agent_run.proofs.ProgressLemmas.{text-push, said_push, clocked_same}
 use Rattle.agent_run.proofs.WorkedLemmas.{worked-push}
-
-told_both : (before after : Option (List ℕ)) (P Q : List ℕ → List ℕ → Type 0) → Told before after P → Told before after Q → Told before after (λ xs ys. P xs ys × Q xs ys)
-told_both None after P Q p q = tt
-told_both (Some xs) None P Q p q = absurd p
-told_both (Some xs) (Some ys) P Q p q = (p, q)
 
 -- while the input is read on the Gathers name full groups; else the last one needn't be full
 abbrev pub IsNamedTo : InState → List Entry → List ℕ → List Cut → Type 0
@@ -52,6 +48,7 @@ IsNamedTo states.LimitReached journal text rest = GatheredTo 1000 journal 0 text
 -- a group was read and offered, and the input's end isn't noted yet
 pub record HeardTo (start : Beginning) (now : Surroundings) (hand : Hand) (journal : List Entry) : Type 0 where
   pub named : Told start.text now.left (λ xs ys. IsNamedTo now.state journal xs (to_come hand ys))
+  pub of_taken : Told start.text now.left (IsNamedOfTaken now.state journal hand)
   pub all : now.state ≡ states.Ended → Told start.text now.left (λ xs ys. to_come hand ys ≡ [])
   pub counted : Told start.text now.left (λ xs ys. length xs ≡ hand.taken + length ys)
   pub unended : has_ended 0 journal ≡ false
@@ -98,7 +95,7 @@ module _ (start : Beginning) (core : CoreState) (so_far : JournalSoFar) (before 
     (w : Progress start core so_far before failed (record now { state = states.Reading })) (g : ReadsGroup moment group state before after now.left new_left)
     (gives : Gives start.moments now.place new_place moment) (reads : now.reads ≤ new_reads)
     (counted : Told now.left new_left (λ xs ys. before.taken + length xs ≡ after.taken + length ys))
-    (limit : state ≡ states.LimitReached → after.taken ≡ 2 ^ 40) (below : (state ≡ states.LimitReached → ⊥) → after.taken < 2 ^ 40) (faulted : state ≡ states.Faulted → Rose now.reads new_reads) where
+    (limit : state ≡ states.LimitReached → after.taken ≡ 2 ^ 40) (below : (state ≡ states.LimitReached → ⊥) → after.taken < 2 ^ 40) (faulted : state ≡ states.Faulted → Rose now.reads new_reads) (one : state ≡ states.Faulted → length (to_come after []) ≤ 1) where
   here : Told start.text now.left (λ xs ys. Gathering 1000 w.journal 0 xs (to_come before ys))
   here = w.heard.named
 
@@ -124,6 +121,12 @@ module _ (start : Beginning) (core : CoreState) (so_far : JournalSoFar) (before 
   named_by_state states.Faulted ne journal h = h
   named_by_state states.LimitReached ne journal h = h
 
+  taken_none : (s : InState) → s ≡ state → (s ≡ states.Reading → ⊥) → group.pieces ≡ 0 → Told start.text new_left (IsNamedOfTaken s w.journal after)
+  taken_none states.Reading e ne none = absurd (ne refl)
+  taken_none states.Ended e ne none = told_map start.text new_left (λ xs ys. length xs ≡ after.taken + length ys) (IsNamedOfTaken states.Ended w.journal after) (λ xs ys h. tt) counted_all
+  taken_none states.Faulted e ne none = told_taken_same 1000 0 w.journal moment group before after start.text now.left new_left g.reads w.heard.of_taken here (one (sym e)) w.journal refl none
+  taken_none states.LimitReached e ne none = told_map start.text new_left (λ xs ys. length xs ≡ after.taken + length ys) (IsNamedOfTaken states.LimitReached w.journal after) (λ xs ys h. tt) counted_all
+
   -- no piece was read
   pub went_none : group.pieces ≡ 0 → ProgressTo start core so_far after failed (read_to now state new_left new_reads new_place)
   went_none empty =
@@ -133,6 +136,7 @@ module _ (start : Beginning) (core : CoreState) (so_far : JournalSoFar) (before 
         text = w.text;
         heard = record {
           named = named_by_state state (λ e. absurd (omega (arith, g.full e, none))) w.journal (named_none none);
+          of_taken = taken_none state refl (λ e. absurd (omega (arith, g.full e, none))) empty;
           all = all_read;
           counted = counted_all;
           unended = w.heard.ended;
@@ -160,6 +164,16 @@ module _ (start : Beginning) (core : CoreState) (so_far : JournalSoFar) (before 
   named_more states.LimitReached e some =
       told_gathered_to 1000 0 w.journal (w.journal ++ gather_entry (gathered_of moment group) ∷ []) moment group before after start.text now.left new_left g.reads more_named here (omega arith) g.most
 
+  taken_more : (s : InState) → s ≡ state → Told start.text new_left (IsNamedOfTaken s (w.journal ++ gather_entry (gathered_of moment group) ∷ []) after)
+  taken_more states.Reading e =
+      told_names_more 1000 0 w.journal moment group before after start.text now.left new_left g.reads w.heard.of_taken (w.journal ++ gather_entry (gathered_of moment group) ∷ []) more_named (g.full (sym e))
+  taken_more states.Ended e =
+      told_map start.text new_left (λ xs ys. length xs ≡ after.taken + length ys) (IsNamedOfTaken states.Ended (w.journal ++ gather_entry (gathered_of moment group) ∷ []) after) (λ xs ys h. tt) counted_all
+  taken_more states.Faulted e =
+      told_taken_more 1000 0 w.journal moment group before after start.text now.left new_left g.reads w.heard.of_taken here (one (sym e)) (w.journal ++ gather_entry (gathered_of moment group) ∷ []) more_named
+  taken_more states.LimitReached e =
+      told_map start.text new_left (λ xs ys. length xs ≡ after.taken + length ys) (IsNamedOfTaken states.LimitReached (w.journal ++ gather_entry (gathered_of moment group) ∷ []) after) (λ xs ys h. tt) counted_all
+
   -- the group was gathered
   pub went_gathered : (next : CoreState) → 0 < group.pieces → next ≡ after_gather core (gathered_of moment group) → Continues core next (gather_entry (gathered_of moment group)) → IsDrained start.setup w.journal
       → ProgressTo start next so_far after failed (read_to now state new_left new_reads new_place)
@@ -170,6 +184,7 @@ module _ (start : Beginning) (core : CoreState) (so_far : JournalSoFar) (before 
         text = text-push start.setup core next so_far w.journal e w.text more (ap (λ (s : CoreState). s.stored) is) (ap (λ (s : CoreState). s.setup) is);
         heard = record {
           named = named_more state refl (omega (arith, some, g.reads.pieces));
+          of_taken = taken_more state refl;
           all = all_read;
           counted = counted_all;
           unended = has_ended-other 0 w.journal e refl ∙ w.heard.ended;
@@ -200,6 +215,7 @@ module _ (start : Beginning) (core : CoreState) (so_far : JournalSoFar) (before 
           told_then start.text now.left new_left (λ xs ys. Gathering 1000 w.journal 0 xs (to_come before ys)) (λ ys zs. to_come before ys ≡ g.reads.read ++ to_come after zs) (λ xs zs. Gathered 1000 w.journal 0 xs)
           here g.reads.consecutive
           (λ xs ys zs a b. gathered 1000 0 w.journal xs (to_come before ys) (gathered_to_here 1000 0 w.journal xs (to_come before ys) (omega arith) a) (λ e. absurd (let x : false ≡ true = sym w.heard.ended ∙ e in cc)));
+      of_taken = told_map start.text new_left (λ xs ys. length xs ≡ after.taken + length ys) (IsNamedOfTaken states.LimitReached w.journal after) (λ xs ys h. tt) counted_all;
       counted = counted_all;
       ended = w.heard.ended;
       later = omega (arith, w.heard.later, reads);
@@ -224,9 +240,8 @@ ended_here journal = has_ended-push 0 journal (Ended 0) ∙ or-true (has_ended 0
 
 named_ended : (journal : List Entry) (text left : Option (List ℕ)) (hand : Hand) → Told text left (λ xs ys. GatheredTo 1000 journal 0 xs (to_come hand ys)) → Told text left (λ xs ys. to_come hand ys ≡ []) → Told text left (λ xs ys. Gathered 1000 (journal ++ Ended 0 ∷ []) 0 xs)
 named_ended journal text left hand h all =
-    told_map text left (λ xs ys. GatheredTo 1000 journal 0 xs (to_come hand ys) × (to_come hand ys ≡ [])) (λ xs ys. Gathered 1000 (journal ++ Ended 0 ∷ []) 0 xs)
-    (λ xs ys p. gathered 1000 0 (journal ++ Ended 0 ∷ []) xs (to_come hand ys) (gathered_to_same 1000 0 journal (journal ++ Ended 0 ∷ []) xs (to_come hand ys) (gathers-other 0 journal (Ended 0) refl) p.0) (λ e. p.1))
-    (told_both text left (λ xs ys. GatheredTo 1000 journal 0 xs (to_come hand ys)) (λ xs ys. to_come hand ys ≡ []) h all)
+    told_pair text left (λ xs ys. GatheredTo 1000 journal 0 xs (to_come hand ys)) (λ xs ys. to_come hand ys ≡ []) (λ xs ys. Gathered 1000 (journal ++ Ended 0 ∷ []) 0 xs) h all
+    (λ xs ys p q. gathered 1000 0 (journal ++ Ended 0 ∷ []) xs (to_come hand ys) (gathered_to_same 1000 0 journal (journal ++ Ended 0 ∷ []) xs (to_come hand ys) (gathers-other 0 journal (Ended 0) refl) p) (λ e. q))
 
 named_unended : (journal : List Entry) (text left : Option (List ℕ)) (hand : Hand) → has_ended 0 journal ≡ false → Told text left (λ xs ys. GatheredTo 1000 journal 0 xs (to_come hand ys)) → Told text left (λ xs ys. Gathered 1000 journal 0 xs)
 named_unended journal text left hand none h =
@@ -239,7 +254,7 @@ went_unended : (start : Beginning) (core : CoreState) (so_far : JournalSoFar) (h
 went_unended start core so_far hand failed now w none named = record {
   journal = w.journal;
   text = w.text;
-  heard = record { named = named; counted = w.heard.counted; ended = w.heard.unended ∙ sym none; later = w.heard.later; state = w.heard.state; clocked = w.heard.clocked };
+  heard = record { named = named; of_taken = w.heard.of_taken; counted = w.heard.counted; ended = w.heard.unended ∙ sym none; later = w.heard.later; state = w.heard.state; clocked = w.heard.clocked };
   said = w.said;
   worked = w.worked;
   in_order = w.in_order;
@@ -262,6 +277,7 @@ went_ended states.Ended start core next so_far hand failed now is w = record {
   text = text-push start.setup core next so_far w.journal (Ended 0) w.text is.1 (ap (λ (s : CoreState). s.stored) is.0) (ap (λ (s : CoreState). s.setup) is.0);
   heard = record {
     named = named_ended w.journal start.text now.left hand w.heard.named (w.heard.all refl);
+    of_taken = w.heard.of_taken;
     counted = w.heard.counted;
     ended = ended_here w.journal;
     later = w.heard.later;

@@ -36,7 +36,7 @@ module _ (batch limit : ℕ) (input output noted reported : Change) (run_moments
         record { headline = record { start = start; journal = journal; run = run; journal_failed = journal_failed; report_failed = failed; noted = put; reported = report }; unended = e.0; reached = e.1 }
     ends_of states.Faulted true failed left e l put report = report_fault true failed (inl refl) put report e.0
     ends_of states.Faulted false true left e l put report = report_fault false true (inr refl) put report e.0
-    ends_of states.Faulted false false left e l put report = record { headline = record { start = start; journal = journal; run = run; noted = put; reported = report }; few = e.0; unended = e.1; rose = e.2 }
+    ends_of states.Faulted false false left e l put report = record { headline = record { start = start; journal = journal; run = run; noted = put; reported = report }; few = e.0; unended = e.1; cut_short = e.2 }
     ends_of states.Ended true failed left e l put report = report_fault true failed (inl refl) put report e.0
     ends_of states.Ended false true left e l put report = report_fault false true (inr refl) put report e.0
     ends_of states.Ended false false true e l put report = record { headline = record { start = start; journal = journal; run = run; noted = put; reported = report }; few = e.0; ended = e.1; some_left = l }
@@ -69,7 +69,7 @@ module _ (batch limit : ℕ) (input output noted reported : Change) (run_moments
       let journal : List Entry = e.headline.journal in
       let many : 3 ≤ failed_count 0 journal = failed_last (dones 0 journal) (e.headline.run.left e.some_left) in
       absurd (o (rose_of (failed_count 0 journal) output.faults_before output.faults_after (omega (arith, many)) e.headline.run.put_faults))
-  done_or_short statuses.ReadFault e i o n r l = absurd (i e.rose)
+  done_or_short statuses.ReadFault e i o n r l = absurd (i e.cut_short.0)
   done_or_short statuses.ReportFault e i o n r l =
       elim e.failed [
         | inl j ↦ absurd (n (subst (λ (b : Bool). IsPutSo b noted (text_of (pipe_setup batch limit e.headline.start) e.headline.journal)) j e.headline.noted).0)

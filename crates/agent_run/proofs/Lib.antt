@@ -3,6 +3,7 @@ pub mod PlaceLemmas
 pub mod StandingLemmas
 pub mod GroupLemmas
 pub mod GatherLemmas
+pub mod TakenSteps
 pub mod SentLemmas
 pub mod WorkedLemmas
 pub mod JournalSoFarLemmas

@@ -31,11 +31,13 @@ use Rattle.agent_run.specs.Gathered.{gathers_by, gathers, Gathered, Gathering, A
 use Rattle.agent_run.specs.JournalSoFar.{JournalSoFar, Spells, SpellsOn}
 use Rattle.agent_run.specs.Order.{IsOrderly}
 use Rattle.agent_run.specs.PipeSetup.{journal_setup_of}
-use Rattle.agent_run.specs.Progress.{Beginning, Surroundings, HasText, IsNamed, is_ended, HasState, IsClocked, Heard, Said, Progress}
+use Rattle.agent_run.specs.Progress.{Beginning, Surroundings, HasText, IsNamed, is_ended, HasState, IsClocked, IsNamedOfTaken, Heard, Said, Progress}
 use Rattle.agent_run.specs.Running.{as_it_is}
 use Rattle.agent_run.specs.Sent.{Sent, AppendsSo}
 use Rattle.agent_run.specs.Worked.{WorkedBy}
 use Rattle.agent_run.proofs.DoneLemmas.{dones-same, last_same}
+use Rattle.agent_run.proofs.GroupLemmas.{told_map}
+use Rattle.agent_run.proofs.TakenSteps.{names_same}
 use Rattle.agent_run.proofs.GatherLemmas.{gathers-other, has_ended-other, gathering_same}
 use Rattle.agent_run.proofs.JournalSoFarLemmas.{legal_rest_in_order}
 use Rattle.agent_run.proofs.MomentLemmas.{counted_moments-push, counted_moments-same, gather_moments-same, counted_from-last}
@@ -73,12 +75,6 @@ named_same states.Ended old new text rest same ended h = record { groups = h.gro
 named_same states.Faulted old new text rest same ended h = record { groups = h.groups; rest = h.rest; consecutive = h.consecutive; named = subst (AreGroups h.groups) (sym same) h.named; full = h.full; all = λ e. h.all (sym ended ∙ e) }
 named_same states.LimitReached old new text rest same ended h = record { groups = h.groups; rest = h.rest; consecutive = h.consecutive; named = subst (AreGroups h.groups) (sym same) h.named; full = h.full; all = λ e. h.all (sym ended ∙ e) }
 
--- another fact of the same bytes
-pub told_map : (before after : Option (List ℕ)) (P Q : List ℕ → List ℕ → Type 0) → ((xs ys : List ℕ) → P xs ys → Q xs ys) → Told before after P → Told before after Q
-told_map None after P Q f h = tt
-told_map (Some xs) None P Q f h = absurd h
-told_map (Some xs) (Some ys) P Q f h = f xs ys h
-
 full_same : (old new : List Entry) (text left : Option (List ℕ)) → gathers 0 new ≡ gathers 0 old → gathered_count new ≡ gathered_count old → IsFull 1000 old 0 text left → IsFull 1000 new 0 text left
 full_same old new text left same count h = record {
   count = h.count;
@@ -99,11 +95,18 @@ pub clocked_same : (all : Option Moments) (place : ℕ) (old new : List ℤ) →
 clocked_same None place old new same h = tt
 clocked_same (Some moments) place old new same h = subst (IsClocked moments place) (sym same) h
 
+taken_same : (state : InState) (old new : List Entry) (hand : Hand) (text left : List ℕ) → gathers 0 new ≡ gathers 0 old → IsNamedOfTaken state old hand text left → IsNamedOfTaken state new hand text left
+taken_same states.Reading old new hand text left same h = names_same 1000 0 old new hand text left same h
+taken_same states.Ended old new hand text left same h = tt
+taken_same states.Faulted old new hand text left same h = record { taken = h.taken; split = h.split; groups = h.groups; rest = h.rest; consecutive = h.consecutive; named = subst (AreGroups h.groups) (sym same) h.named; one = h.one }
+taken_same states.LimitReached old new hand text left same h = tt
+
 -- a journal with the same Gathers
 pub heard_same : (start : Beginning) (now : Surroundings) (hand : Hand) (old new : List Entry) → gathers 0 new ≡ gathers 0 old → has_ended 0 new ≡ has_ended 0 old → gathered_count new ≡ gathered_count old → gather_moments 0 new ≡ gather_moments 0 old
     → Heard start now hand old → Heard start now hand new
 heard_same start now hand old new same ended count moments h = record {
   named = told_map start.text now.left (λ xs ys. IsNamed now.state old xs (to_come hand ys)) (λ xs ys. IsNamed now.state new xs (to_come hand ys)) (λ xs ys. named_same now.state old new xs (to_come hand ys) same ended) h.named;
+  of_taken = told_map start.text now.left (IsNamedOfTaken now.state old hand) (IsNamedOfTaken now.state new hand) (λ xs ys. taken_same now.state old new hand xs ys same) h.of_taken;
   counted = h.counted;
   ended = ended ∙ h.ended;
   later = h.later;
@@ -120,7 +123,7 @@ state_around states.LimitReached start now hand journal stops h = h
 -- what was counted is nothing of the input
 heard_around : (start : Beginning) (now : Surroundings) (hand : Hand) (journal : List Entry) (stops : List ℤ) → Heard start now hand journal → Heard start (record now { stops = stops }) hand journal
 heard_around start now hand journal stops h =
-    record { named = h.named; counted = h.counted; ended = h.ended; later = h.later; state = state_around now.state start now hand journal stops h.state; clocked = h.clocked }
+    record { named = h.named; of_taken = h.of_taken; counted = h.counted; ended = h.ended; later = h.later; state = state_around now.state start now hand journal stops h.state; clocked = h.clocked }
 
 -- an entry that is no Gather, and not the Ended of the input
 pub heard_push : (start : Beginning) (now : Surroundings) (hand : Hand) (journal : List Entry) (e : Entry) → gathers_by 0 e ≡ [] → is_ended_of 0 e ≡ false → gathered_by e ≡ 0 → Heard start now hand journal → Heard start now hand (journal ++ e ∷ [])

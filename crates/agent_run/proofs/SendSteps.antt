@@ -36,7 +36,7 @@ output_state states.LimitReached start now hand journal held puts h = h
 
 heard_output : (start : Beginning) (now : Surroundings) (hand : Hand) (journal : List Entry) (held : Option (List ℕ)) (puts : ℕ) → Heard start now hand journal → Heard start (record now { held = held; puts = puts }) hand journal
 heard_output start now hand journal held puts h =
-    record { named = h.named; counted = h.counted; ended = h.ended; later = h.later; state = output_state now.state start now hand journal held puts h.state; clocked = h.clocked }
+    record { named = h.named; of_taken = h.of_taken; counted = h.counted; ended = h.ended; later = h.later; state = output_state now.state start now hand journal held puts h.state; clocked = h.clocked }
 
 dones_of : (journal : List Entry) (from to : ℕ) (ok : Bool) → dones 0 ((journal ++ Begin 0 from to ∷ []) ++ Done 0 ok [] ∷ []) ≡ dones 0 journal ++ ok ∷ []
 dones_of journal from to ok =

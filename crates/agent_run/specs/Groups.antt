@@ -21,16 +21,24 @@ pub record CountsPiece (moment : ℤ) (piece : Cut) (old new : Group) : Type 0 w
   pub refused : new.refused ≡ old.refused + (if is_refused moment piece then 1 else 0)
   pub metrics : new.metrics.items ≡ old.metrics.items ++ readings moment piece
 
+-- bytes were taken of those that were left, and these pieces are the first to come whatever stands behind the bytes taken, or nothing is left
+pub record TakesPieces (read : List Cut) (before after : Hand) (xs ys : List ℕ) : Type 0 where
+  pub taken : List ℕ
+  pub split : xs ≡ taken ++ ys
+  pub given : (ys ≡ []) ⊎ ((more : List ℕ) → to_come before (taken ++ more) ≡ read ++ to_come after more)
+
 -- the first piece to come is counted, and the others are to come then
 pub record ReadsPiece (moment : ℤ) (old new : Group) (before after : Hand) (left_before left_after : Option (List ℕ)) : Type 0 where
   pub piece : Cut
   pub counted : CountsPiece moment piece old new
   pub first : Told left_before left_after (λ xs ys. to_come before xs ≡ piece ∷ to_come after ys)
+  pub whatever_follows : Told left_before left_after (TakesPieces (piece ∷ []) before after)
 
 -- no piece is counted, and the same pieces are to come
 pub record ReadsNone (old new : Group) (before after : Hand) (left_before left_after : Option (List ℕ)) : Type 0 where
   pub same : new ≡ old
   pub to_come_still : Told left_before left_after (λ xs ys. to_come before xs ≡ to_come after ys)
+  pub whatever_follows : Told left_before left_after (TakesPieces [] before after)
 
 -- a piece is counted where the input is read on, else none
 abbrev pub ReadsNext : InState → ℤ → Group → Group → Hand → Hand → Option (List ℕ) → Option (List ℕ) → Type 0
@@ -50,6 +58,7 @@ pub record Reads (moment : ℤ) (group : Group) (before after : Hand) (left_befo
   pub refused : group.refused ≡ count_by (is_refused moment) read
   pub metrics : group.metrics.items ≡ flat_map (readings moment) read
   pub consecutive : Told left_before left_after (λ xs ys. to_come before xs ≡ read ++ to_come after ys)
+  pub whatever_follows : Told left_before left_after (TakesPieces read before after)
 
 -- and they are at most 1,000, exactly so many where the input is read on, and all where it has ended
 pub record ReadsGroup (moment : ℤ) (group : Group) (state : InState) (before after : Hand) (left_before left_after : Option (List ℕ)) : Type 0 where

@@ -24,7 +24,7 @@ use Rattle.agent_run.specs.declared.status.Status.{Status}
 use Rattle.agent_run.specs.declared.status.Status.TheVariants as statuses
 use Rattle.agent_run.specs.Dones.{dones, failed_count, LastFailed}
 use Rattle.agent_run.specs.EntryMoments.{gather_moments, counted_moments}
-use Rattle.agent_run.specs.Gathered.{Gathered}
+use Rattle.agent_run.specs.Gathered.{Gathered, NamesTaken}
 use Rattle.agent_run.specs.Order.{InOrder}
 use Rattle.agent_run.specs.PipeSetup.{pipe_setup, journal_setup_of}
 use Rattle.agent_run.specs.Sent.{Sent, AppendsSo}
@@ -54,9 +54,13 @@ account_of setup journal = account_text (totals setup journal)
 abbrev pub text_of : Setup → List Entry → List ℕ
 text_of setup journal = journal_text (journal_setup_of setup) journal (account_of setup journal)
 
+-- a read of the input failed: its count rose, and the Gathers name all pieces of the bytes that were taken but at most the last
+abbrev pub IsCutShort : Change → List Entry → Type 0
+IsCutShort input journal = Rose input.faults_before input.faults_after × Told input.before input.after (NamesTaken journal 0)
+
 -- why the input has no Ended: a read failed, 2^40 bytes were taken, or the run is full
 abbrev pub IsUnread : Change → ℕ → List Entry → Type 0
-IsUnread input taken journal = Rose input.faults_before input.faults_after ⊎ (taken ≡ 2 ^ 40) ⊎ IsFull 1000 journal 0 input.before input.after
+IsUnread input taken journal = IsCutShort input journal ⊎ (taken ≡ 2 ^ 40) ⊎ IsFull 1000 journal 0 input.before input.after
 
 -- A legal journal of a run of one input and one output, given the moments of the run's clock and of the input's clock.
 pub record IsRun (setup : Setup) (input output : Change) (run_moments input_moments : Option Moments) (journal : List Entry) : Type 0 where
@@ -90,7 +94,7 @@ pub record IsRun (setup : Setup) (input output : Change) (run_moments input_mome
 abbrev pub EndsSo : InState → Change → ℕ → List Entry → Type 0
 EndsSo states.Reading input taken journal = ⊥
 EndsSo states.Ended input taken journal = (taken < 2 ^ 40) × (has_ended 0 journal ≡ true)
-EndsSo states.Faulted input taken journal = (taken < 2 ^ 40) × (has_ended 0 journal ≡ false) × Rose input.faults_before input.faults_after
+EndsSo states.Faulted input taken journal = (taken < 2 ^ 40) × (has_ended 0 journal ≡ false) × IsCutShort input journal
 EndsSo states.LimitReached input taken journal = (has_ended 0 journal ≡ false) × ((taken ≡ 2 ^ 40) ⊎ IsFull 1000 journal 0 input.before input.after)
 
 -- a text was appended; or a part of it, and the count of faults rose
@@ -158,7 +162,7 @@ module _ (batch limit : ℕ) (input output note report : Change) (run_moments in
     pub headline : Headline batch limit input output note report run_moments input_moments
     pub few : headline.run.taken < 2 ^ 40
     pub unended : has_ended 0 headline.journal ≡ false
-    pub rose : Rose input.faults_before input.faults_after
+    pub cut_short : IsCutShort input headline.journal
 
   -- the put of the journal or of the report failed
   pub record IsReportFault : Type 0 where

@@ -19,7 +19,7 @@ use Rattle.agent_run.specs.declared.reading.InState.TheVariants as states
 use Rattle.agent_run.specs.Causes.{IsFull}
 use Rattle.agent_run.specs.Dones.{dones, failed_count, LastFailed}
 use Rattle.agent_run.specs.EntryMoments.{gather_moments, counted_moments}
-use Rattle.agent_run.specs.Gathered.{Gathered, Gathering}
+use Rattle.agent_run.specs.Gathered.{Gathered, Gathering, NamesSoFar, NamesTaken}
 use Rattle.agent_run.specs.JournalSoFar.{JournalSoFar, Spells}
 use Rattle.agent_run.specs.Order.{InOrder}
 use Rattle.agent_run.specs.PipeSetup.{journal_setup_of}
@@ -75,9 +75,17 @@ HasState states.LimitReached start now hand journal = (hand.taken ≡ 2 ^ 40) �
 abbrev pub IsClocked : Moments → ℕ → List ℤ → Type 0
 IsClocked moments place all = (place ≤ moments.last) × Clocked moments 0 place all
 
+-- while the input is read on its Gathers name the pieces of what was taken, whatever follows; after a failed read all of these but at most the last
+abbrev pub IsNamedOfTaken : InState → List Entry → Hand → List ℕ → List ℕ → Type 0
+IsNamedOfTaken states.Reading journal hand text left = NamesSoFar 1000 journal 0 hand text left
+IsNamedOfTaken states.Ended journal hand text left = Unit {0}
+IsNamedOfTaken states.Faulted journal hand text left = NamesTaken journal 0 text left
+IsNamedOfTaken states.LimitReached journal hand text left = Unit {0}
+
 -- what the journal says of the input
 pub record Heard (start : Beginning) (now : Surroundings) (hand : Hand) (journal : List Entry) : Type 0 where
   pub named : Told start.text now.left (λ xs ys. IsNamed now.state journal xs (to_come hand ys))
+  pub of_taken : Told start.text now.left (IsNamedOfTaken now.state journal hand)
   pub counted : Told start.text now.left (λ xs ys. length xs ≡ hand.taken + length ys)
   pub ended : has_ended 0 journal ≡ is_ended now.state
   pub later : start.reads ≤ now.reads

@@ -1,5 +1,6 @@
 //! Reading the next pieces of an input.
-ghost use Rattle.std.specs.Prelude.{◌≡◌, ◌<◌, ◌≤◌, ◌+◌, ◌^◌, ℤ, length, IfOk, OnOk};
+ghost use Rattle.std.specs.Prelude.{◌≡◌, ◌<◌, ◌≤◌, ◌+◌, ◌^◌, ℤ, [], length, IfOk, OnOk};
+ghost use Rattle.agent_base.specs.Hand.{to_come};
 ghost use Rattle.agent_base.specs.Told.{Told};
 ghost use Rattle.agent_base.specs.Counts.{Rose};
 ghost use Rattle.agent_base.specs.Cut.{TooLong, Whole};
@@ -86,6 +87,7 @@ fn read_next<S: Source>(
     ensures failed { IfOk result (λ state. state ≡ InState.Faulted → Rose (S.faults source.old) (S.faults source.new)) }
     ensures limit { IfOk result (λ state. state ≡ InState.LimitReached → pieces.new.taken ≡ 2 ^ 40) }
     ensures below { IfOk result (λ state. (state ≡ InState.LimitReached → ⊥) → pieces.new.taken < 2 ^ 40) }
+    ensures one { IfOk result (λ state. state ≡ InState.Faulted → length (to_come pieces.new []) ≤ 1) }
     ensures counted { Told (S.left source.old) (S.left source.new) (λ xs ys. pieces.old.taken + length xs ≡ pieces.new.taken + length ys) }
     ensures faults { S.faults source.old ≤ S.faults source.new }
 {
@@ -109,7 +111,8 @@ fn read_next<S: Source>(
 /// has the moment (nanoseconds since 1970) as its time.
 ///
 /// Where the input is read on the group has as many pieces as a gather may have; where it has ended no piece is left.
-/// After a failed read the bytes that were taken are kept in hand. Nothing is promised where memory ran out.
+/// After a failed read the bytes that were taken are kept in hand, one piece at most. What was read of the bytes that
+/// were taken stands whatever follows them, but at the end of the source. Nothing is promised where memory ran out.
 pub fn read_group<S: Source>(
     alloc: Global,
     pieces: &mut Pieces,
@@ -120,6 +123,7 @@ pub fn read_group<S: Source>(
     ensures failed { IfOk result (λ answer. answer.1 ≡ InState.Faulted → Rose (S.faults source.old) (S.faults source.new)) }
     ensures limit { IfOk result (λ answer. answer.1 ≡ InState.LimitReached → pieces.new.taken ≡ 2 ^ 40) }
     ensures below { IfOk result (λ answer. (answer.1 ≡ InState.LimitReached → ⊥) → pieces.new.taken < 2 ^ 40) }
+    ensures one { IfOk result (λ answer. answer.1 ≡ InState.Faulted → length (to_come pieces.new []) ≤ 1) }
     ensures counted { Told (S.left source.old) (S.left source.new) (λ xs ys. pieces.old.taken + length xs ≡ pieces.new.taken + length ys) }
     ensures faults { S.faults source.old ≤ S.faults source.new }
 {

@@ -25,7 +25,8 @@ use Rattle.metric.specs.declared.value.Value.{Value}
 use Rattle.metric.specs.declared.value.Value.TheVariants.{Int, Uint, Fixed, «Bool» as Truth, Text}
 use Rattle.line_proto.specs.Grammar.{HasNone, ends_word, is_space}
 use Rattle.line_proto.specs.LineText.{value_text}
-use Rattle.line_proto.specs.RoundTrip.{IsPlainValue}
+use Rattle.line_proto.specs.OneLine.{IsTypedValue}
+use Rattle.line_proto.specs.RoundTrip.{IsNoText}
 use Rattle.line_proto.specs.Values.{value_of, number_of, time_of, typed, truth_of, begins_truth, last_byte, before_last_byte}
 use Rattle.line_proto.proofs.PlainBytes.{none-append, none-at, is_unclean, Clean, clean-append, clean_word}
 use Rattle.line_proto.proofs.Words.{no_truth}
@@ -47,11 +48,11 @@ number_digits : (ds : List ℕ) → AllDigits 10 ds → IsNumberText ds
 number_digits [] h = tt
 number_digits (d ∷ ds) h = let range = digit_from_value d h.0 in ((omega arith, omega arith), number_digits ds h.1)
 
-number_decimal : (n : ℕ) → n < 2 ^ 64 → IsNumberText (decimal n)
+pub number_decimal : (n : ℕ) → n < 2 ^ 64 → IsNumberText (decimal n)
 number_decimal n small = number_digits (decimal n) ((decimal_is_IsNumeral n small).0).1
 
 -- a number's bytes pass no test that only others pass
-number_none : (p : ℕ → Bool) → ((b : ℕ) → 45 ≤ b → b ≤ 57 → p b ≡ false) → (text : List ℕ) → IsNumberText text → HasNone p text
+pub number_none : (p : ℕ → Bool) → ((b : ℕ) → 45 ≤ b → b ≤ 57 → p b ≡ false) → (text : List ℕ) → IsNumberText text → HasNone p text
 number_none p fails [] h = tt
 number_none p fails (b ∷ text) h = (fails b (h.0).0 (h.0).1, number_none p fails text h.1)
 
@@ -83,7 +84,7 @@ clean_number text h = record { utf8 = IsUtf8-from_ascii text (number_ascii text 
 
 -- ---- whole numbers
 
-number_signed : (z : ℤ) → FitsSigned w64 z → IsNumberText (signed_decimal z)
+pub number_signed : (z : ℤ) → FitsSigned w64 z → IsNumberText (signed_decimal z)
 number_signed (pos n) h = number_decimal n (omega (arith, h.sfits))
 number_signed (negsuc n) h = ((omega arith, omega arith), number_decimal (suc n) (omega (arith, h.sfits)))
 
@@ -120,7 +121,7 @@ number_magnitude : (n : ℕ) → n < 2 ^ 64 * 10 ^ 9 → IsNumberText (decimal (
 number_magnitude n small =
     number-append (decimal (n / 10 ^ 9)) (fraction_text (n % 10 ^ 9)) (number_decimal (n / 10 ^ 9) (div_below n (10 ^ 9) (2 ^ 64) (omega arith) (omega arith))) (number_fraction (n % 10 ^ 9) (mod-lt n {m = 10 ^ 9} (omega arith)))
 
-number_canonical : (z : ℤ) → InRange z → IsNumberText (canonical_text z)
+pub number_canonical : (z : ℤ) → InRange z → IsNumberText (canonical_text z)
 number_canonical (pos n) h = number_magnitude n h
 number_canonical (negsuc n) h = ((omega arith, omega arith), number_magnitude (suc n) h)
 
@@ -191,13 +192,13 @@ unfolding value_of truth_of number_of
 truth_text true = record { none = (refl, (refl, (refl, (refl, tt)))); clean = clean_word (codes "true") refl refl; is = refl }
 truth_text false = record { none = (refl, (refl, (refl, (refl, (refl, tt))))); clean = clean_word (codes "false") refl refl; is = refl }
 
-pub plain_value : (value : Value) → IsPlainValue value → IsValueText (value_text value) value
+pub plain_value : (value : Value) → IsTypedValue value → IsNoText value → IsValueText (value_text value) value
 unfolding value_text
-plain_value (Int n) h = int_text n h
-plain_value (Uint n) h = uint_text n h
-plain_value (Fixed n) h = fixed_text n h
-plain_value (Truth b) h = truth_text b
-plain_value (Text text) h = absurd h
+plain_value (Int n) typed h = int_text n typed
+plain_value (Uint n) typed h = uint_text n typed
+plain_value (Fixed n) typed h = fixed_text n typed
+plain_value (Truth b) typed h = truth_text b
+plain_value (Text text) typed h = absurd h
 
 -- ---- times
 

@@ -9,7 +9,8 @@ use Rattle.std.proofs.lemmas.Str.{IsUtf8-append, IsUtf8-from_ascii}
 use Rattle.line_proto.specs.Grammar.{HasNone, NoHash, ends_word, ends_key, pair_text, pairs_text}
 use Rattle.line_proto.specs.LineText.{trimmed, is_bare, key_text, name_text}
 use Rattle.line_proto.specs.Reading.{needs_escapes}
-use Rattle.line_proto.specs.RoundTrip.{ends_line, is_refused, is_name_mark, is_key_mark, IsPlainText, IsPlainKey}
+use Rattle.line_proto.specs.OneLine.{ends_line}
+use Rattle.line_proto.specs.RoundTrip.{is_refused, is_name_mark, is_key_mark, IsPlainText, IsPlainKey}
 use Rattle.line_proto.proofs.WriteLemmas.{kept_key, kept_name, bare_text}
 
 -- ---- bytes that pass no test

@@ -5,4 +5,5 @@ pub mod Views
 pub mod Draft
 pub mod Grammar
 pub mod LineText
+pub mod OneLine
 pub mod RoundTrip

@@ -1,20 +1,15 @@
 -- Metrics that are read back from their lines.
-use Rattle.std.specs.Prelude.{◌≡◌, ◌<◌, ◌≤◌, ◌^◌, ℕ, ℤ, ◌==◌, ◌||◌, Bool, List, ◌++◌, length, codes, Some, Ok, FitsSigned}
-use Rattle.std.specs.Int.{w64}
+use Rattle.std.specs.Prelude.{◌≡◌, ◌≤◌, ℕ, ℤ, ◌==◌, ◌||◌, Bool, List, ◌++◌, length, codes, Some, Ok}
 use Rattle.std.specs.List.{AllByRecursion}
 use Rattle.std.specs.Str.{IsUtf8}
-use Rattle.fixed_num.specs.Range.{InRange}
 use Rattle.metric.specs.Metric.{IsMetric}
 use Rattle.metric.specs.declared.value.Value.{Value}
 use Rattle.metric.specs.declared.value.Value.TheVariants.{Int, Uint, Fixed, «Bool» as Truth, Text}
 use Rattle.metric.specs.declared.metric.Content.{Content}
 use Rattle.line_proto.specs.Grammar.{HasNone, NoHash, ends_word, ends_key}
 use Rattle.line_proto.specs.LineText.{line_text}
+use Rattle.line_proto.specs.OneLine.{ends_line, IsTyped}
 use Rattle.line_proto.specs.Reading.{Tag, Field, plain_reading}
-
--- a newline or a carriage return, in whose place a space is written
-abbrev pub ends_line : ℕ → Bool
-ends_line b = b == 10 || b == 13
 
 -- a backslash or a double quote: for now pieces that have one are refused
 abbrev pub is_refused : ℕ → Bool
@@ -37,13 +32,13 @@ pub record IsPlainText (is_mark : ℕ → Bool) (text : List ℕ) : Type 0 where
 abbrev pub IsPlainKey : List ℕ → Type 0
 IsPlainKey = IsPlainText is_key_mark
 
--- a value of its type that is no text, which would stand between double quotes
-abbrev pub IsPlainValue : Value → Type 0
-IsPlainValue (Int n) = FitsSigned w64 n
-IsPlainValue (Uint n) = n < 2 ^ 64
-IsPlainValue (Fixed n) = InRange n
-IsPlainValue (Truth b) = Unit {0}
-IsPlainValue (Text text) = ⊥
+-- a value that is no text, which would stand between double quotes
+abbrev pub IsNoText : Value → Type 0
+IsNoText (Int n) = Unit {0}
+IsNoText (Uint n) = Unit {0}
+IsNoText (Fixed n) = Unit {0}
+IsNoText (Truth b) = Unit {0}
+IsNoText (Text text) = ⊥
 
 -- what a metric says needs no escapes and no quotes, its measurement begins no comment, and it keeps the limits
 pub record IsPlain (m : Content) : Type 0 where
@@ -51,11 +46,10 @@ pub record IsPlain (m : Content) : Type 0 where
   pub no_comment : NoHash m.name
   pub tags : AllByRecursion (λ (tag : Tag). IsPlainKey tag.0 × IsPlainKey tag.1) m.tags
   pub few_tags : length m.tags ≤ 64
-  pub fields : AllByRecursion (λ (field : Field). IsPlainKey field.0 × IsPlainValue field.1) m.fields
+  pub fields : AllByRecursion (λ (field : Field). IsPlainKey field.0 × IsNoText field.1) m.fields
   pub few_fields : length m.fields ≤ 256
-  pub time : FitsSigned w64 m.time
 
 -- the text of a plain metric is one line and its newline, and the line is read as the metric at any moment
-abbrev pub IsReadBack : Type 0
-IsReadBack = (m : Content) (moment : ℤ) → IsMetric m → IsPlain m
+abbrev pub MetricIsReadBack : Type 0
+MetricIsReadBack = (m : Content) (moment : ℤ) → IsMetric m → IsTyped m → IsPlain m
     → (line : List ℕ) × (line_text m ≡ line ++ codes "\n") × HasNone ends_line line × (plain_reading line moment ≡ Ok (Some m))

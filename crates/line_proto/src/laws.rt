@@ -1,6 +1,7 @@
-//! Laws of readings.
+//! Laws of readings and lines.
 ghost use Rattle.line_proto.specs.Grammar.{WrittenIsRead, ReadIsWritten};
-ghost use Rattle.line_proto.specs.RoundTrip.{IsReadBack};
+ghost use Rattle.line_proto.specs.OneLine.{MetricIsOneLine};
+ghost use Rattle.line_proto.specs.RoundTrip.{MetricIsReadBack};
 
 /// What is written as a line, with no backslash and no double quote, is read as its metric.
 pub fn written_is_read()
@@ -12,7 +13,12 @@ pub fn read_is_written()
     ensures { ReadIsWritten }
 {}
 
-/// The text of a plain metric is one line and its newline, and the line is read as the metric.
-pub fn is_read_back()
-    ensures { IsReadBack }
+/// Whatever a metric's texts hold, its text is one line and its newline.
+pub fn metric_is_one_line()
+    ensures { MetricIsOneLine }
+{}
+
+/// The line of a plain metric is read as the metric.
+pub fn metric_is_read_back()
+    ensures { MetricIsReadBack }
 {}

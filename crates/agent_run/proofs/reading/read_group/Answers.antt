@@ -1,7 +1,10 @@
-use Rattle.std.proofs.Common.{rules, arith, ◌≡◌, ◌+◌, ◌∙◌, length, sym, inr}
+use Rattle.std.proofs.Common.{rules, arith, ◌≡◌, ◌∙◌, refl, inl, inr}
 use Rattle.agent_run.specs.declared.reading.InState.TheVariants as states
-use Rattle.agent_run.proofs.GroupLemmas.{told_then, reads_next, next_pieces, group_ends, group_full, at_moment}
+use Rattle.agent_run.proofs.GroupLemmas.{reads_nothing, reads_next, next_pieces, group_ends, group_full, at_moment, reading_on}
 use Rattle.agent_run.proofs.reading.read_group.Goals as goal
+
+pub loop-piece-init : goal.loop-piece-init
+loop-piece-init g c = record { reads = reads_nothing _ _ _ _ refl refl (search rules); count = refl; counted = search rules; below = inl refl; faults = search rules }
 
 pub returns-then-ne-clause-reads : goal.returns-then-ne-clause-reads
 returns-then-ne-clause-reads g c =
@@ -14,10 +17,8 @@ loop-piece-preserved g c =
     record {
       reads = reads_next _ _ _ _ _ _ _ _ _ _ c.loop-piece.invariant.reads c.in_ok-state.ensures.next;
       count = next_pieces _ _ _ _ _ _ _ _ c.in_ok-state.ensures.next same ∙ omega (arith, c.loop-piece.invariant.count);
-      counted =
-          told_then _ _ _ (λ xs ys. c.args.pieces.now.taken + length xs ≡ c.loop-piece.pieces.taken + length ys) (λ ys zs. c.loop-piece.pieces.taken + length ys ≡ c.read_next.new.pieces.taken + length zs)
-          (λ xs zs. c.args.pieces.now.taken + length xs ≡ c.read_next.new.pieces.taken + length zs) c.loop-piece.invariant.counted c.read_next.ensures.counted (λ xs ys zs a b. a ∙ b);
-      below = inr (c.in_ok-state.ensures.below (λ e. absurd (let x : states.Reading ≡ states.LimitReached = sym same ∙ e in cc)));
+      counted = search rules;
+      below = inr (c.in_ok-state.ensures.below (reading_on c.in_ok-state.state same));
       faults = search rules;
     }
 

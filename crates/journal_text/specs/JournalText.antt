@@ -91,6 +91,17 @@ entry_text item (Stop moment made) = codes "stop " ++ signed_text moment ++ code
 entry_text item (Begin output from to) = codes "begin " ++ decimal output ++ codes " " ++ decimal from ++ codes " " ++ decimal to ++ codes "\n"
 entry_text item (Done output ok reports) = codes "done " ++ decimal output ++ (if ok then codes " ok\n" else codes " failed\n") ++ report_lines reports
 
+-- the text of a Gather, and nothing for another entry
+unfoldable pub gather_text : Entry → List ℕ
+gather_text (Gather input moment pieces refused passed filtered metrics group reports) =
+    entry_text [] (Gather input moment pieces refused passed filtered metrics group reports)
+gather_text _ = []
+
+-- the text of a Route with its item, and nothing for another entry
+unfoldable pub route_text : List Content → Entry → List ℕ
+route_text item (Route routed whole verdict aggs outs reports) = entry_text item (Route routed whole verdict aggs outs reports)
+route_text item _ = []
+
 -- the item of an entry among all items of a journal: that of a Route
 abbrev pub item_of : List Content → Entry → List Content
 item_of all (Route routed whole verdict aggs outs reports) = option_to_list (slice_get all routed)

@@ -2,7 +2,7 @@
 ghost use Rattle.std.specs.Prelude.{◌≡◌, ◌++◌, OnOk, OnErr, length, codes, decimal, if◌then◌else◌};
 ghost use Rattle.account.specs.Extends.{Extends};
 ghost use Rattle.journal_text.specs.MetricText.{signed_text};
-ghost use Rattle.journal_text.specs.JournalText.{beside_text, whole_text, view_text, views_text, verdict_text, routed_text, metric_lines, report_line, report_lines, group_text, spaced, gather_line, entry_text, end_text, HasItem, IsWholeOrRemoved};
+ghost use Rattle.journal_text.specs.JournalText.{beside_text, whole_text, view_text, views_text, verdict_text, routed_text, metric_lines, report_line, report_lines, group_text, spaced, gather_line, gather_text, route_text, entry_text, end_text, HasItem, IsWholeOrRemoved};
 
 use crate::metrics::append_metric;
 use crate::parts::{append, append_numbers, append_signed, append_unsigned, settle};
@@ -252,8 +252,97 @@ fn done_ending(ok: bool) -> &'static str
     if ok { " ok\n" } else { " failed\n" }
 }
 
+// Appends a Gather: its line, its metrics and its reports. Another entry adds nothing.
+#[tactic(auto, unfolding(crate::specs::JournalText::gather_text, crate::specs::JournalText::entry_text))]
+fn append_gather(alloc: Global, e: &Entry, out: &mut Vec<u8>) -> Result<(), OutOfMemory>
+    ensures ok { OnOk result (out.new.items ≡ out.old.items ++ gather_text e.now) }
+    ensures kept { Extends out.old.items out.new.items }
+{
+    let Entry::Gather {
+        input,
+        moment,
+        pieces,
+        refused,
+        passed,
+        filtered,
+        metrics,
+        group,
+        reports,
+    } = e
+    else {
+        return Ok(());
+    };
+    let numbers = [
+        u64::from(*pieces),
+        u64::from(*refused),
+        u64::from(*passed),
+        u64::from(*filtered),
+        metrics.as_slice().len() as u64,
+    ];
+    append_gather_line(out, *input, moment, &numbers, *group)?;
+    append_metric_lines(alloc, out, metrics.as_slice())?;
+    append_reports(out, reports.as_slice())?;
+    Ok(())
+}
+
+// Appends a Route, beside its item: its line and its reports. Another entry adds nothing.
+#[tactic(auto, unfolding(crate::specs::JournalText::route_text, crate::specs::JournalText::entry_text))]
+fn append_route(
+    alloc: Global,
+    item: &[Metric],
+    e: &Entry,
+    out: &mut Vec<u8>,
+) -> Result<(), OutOfMemory>
+    ensures ok { OnOk result (out.new.items ≡ out.old.items ++ route_text item.now e.now) }
+    ensures kept { Extends out.old.items out.new.items }
+{
+    let Entry::Route {
+        item: number,
+        whole,
+        verdict,
+        aggs,
+        outs,
+        reports,
+    } = e
+    else {
+        return Ok(());
+    };
+    let (aggs, outs) = (aggs.as_slice(), outs.as_slice());
+    append_unsigned(out, "route ", *number)?;
+    append_routed(alloc, out, item, whole, *verdict, aggs, outs)?;
+    append_reports(out, reports.as_slice())?;
+    Ok(())
+}
+
+// Appends a Begin: its output and its positions.
+fn append_begin(out: &mut Vec<u8>, output: u32, from: u64, to: u64) -> Result<(), OutOfMemory>
+    ensures ok { OnOk result (out.new.items ≡ out.old.items
+        ++ (codes "begin " ++ decimal output ++ codes " " ++ decimal from ++ codes " " ++ decimal to ++ codes "\n")) }
+    ensures kept { Extends out.old.items out.new.items }
+{
+    let output = u64::from(output);
+    append_numbers(out, &[("begin ", output), (" ", from), (" ", to)], "\n")?;
+    Ok(())
+}
+
+// Appends a Done: its output, how it ended, and its reports.
+fn append_done(
+    out: &mut Vec<u8>,
+    output: u32,
+    ok: bool,
+    reports: &[Report],
+) -> Result<(), OutOfMemory>
+    ensures ok { OnOk result (out.new.items ≡ out.old.items
+        ++ (codes "done " ++ decimal output ++ (if ok then codes " ok\n" else codes " failed\n") ++ report_lines reports.now)) }
+    ensures kept { Extends out.old.items out.new.items }
+{
+    append_numbers(out, &[("done ", u64::from(output))], done_ending(ok))?;
+    append_reports(out, reports)?;
+    Ok(())
+}
+
 // Appends an entry, or a front of it.
-#[tactic(auto, unfolding(crate::specs::JournalText::entry_text))]
+#[tactic(auto, unfolding(crate::specs::JournalText::entry_text, crate::specs::JournalText::gather_text, crate::specs::JournalText::route_text))]
 fn append_entry(
     alloc: Global,
     item: &[Metric],
@@ -264,30 +353,7 @@ fn append_entry(
     ensures kept { Extends out.old.items out.new.items }
 {
     match e {
-        Entry::Gather {
-            input,
-            moment,
-            pieces,
-            refused,
-            passed,
-            filtered,
-            metrics,
-            group,
-            reports,
-        } => {
-            let count = metrics.as_slice().len() as u64;
-            let numbers = [
-                u64::from(*pieces),
-                u64::from(*refused),
-                u64::from(*passed),
-                u64::from(*filtered),
-                count,
-            ];
-            append_gather_line(out, *input, moment, &numbers, *group)?;
-            append_metric_lines(alloc, out, metrics.as_slice())?;
-            append_reports(out, reports.as_slice())?;
-            Ok(())
-        }
+        Entry::Gather { .. } => append_gather(alloc, e, out),
         Entry::Ended { input } => {
             append_numbers(out, &[("ended ", u64::from(*input))], "\n")?;
             Ok(())
@@ -296,52 +362,15 @@ fn append_entry(
             append_numbers(out, &[("take ", *item)], "\n")?;
             Ok(())
         }
-        Entry::Route {
-            item: number,
-            whole,
-            verdict,
-            aggs,
-            outs,
-            reports,
-        } => {
-            append_numbers(out, &[("route ", *number)], "")?;
-            append_routed(
-                alloc,
-                out,
-                item,
-                whole,
-                *verdict,
-                aggs.as_slice(),
-                outs.as_slice(),
-            )?;
-            append_reports(out, reports.as_slice())?;
-            Ok(())
-        }
-        Entry::Tick { moment, made } => {
-            append_made(alloc, out, "tick ", moment, made.as_slice())?;
-            Ok(())
-        }
-        Entry::Stop { moment, made } => {
-            append_made(alloc, out, "stop ", moment, made.as_slice())?;
-            Ok(())
-        }
-        Entry::Begin { output, from, to } => {
-            append_numbers(
-                out,
-                &[("begin ", u64::from(*output)), (" ", *from), (" ", *to)],
-                "\n",
-            )?;
-            Ok(())
-        }
+        Entry::Route { .. } => append_route(alloc, item, e, out),
+        Entry::Tick { moment, made } => append_made(alloc, out, "tick ", moment, made.as_slice()),
+        Entry::Stop { moment, made } => append_made(alloc, out, "stop ", moment, made.as_slice()),
+        Entry::Begin { output, from, to } => append_begin(out, *output, *from, *to),
         Entry::Done {
             output,
             ok,
             reports,
-        } => {
-            append_numbers(out, &[("done ", u64::from(*output))], done_ending(*ok))?;
-            append_reports(out, reports.as_slice())?;
-            Ok(())
-        }
+        } => append_done(out, *output, *ok, reports.as_slice()),
     }
 }
 

@@ -18,6 +18,7 @@ mod top;
 use real::RealWorld;
 use status::Status;
 use std::env;
+use std::io::ErrorKind;
 use std::process::ExitCode;
 use top::agent;
 
@@ -42,7 +43,7 @@ fn advice(status: Status) -> &'static str {
     }
 }
 
-/// Runs the words, and tells standard error of an end that isn't Done.
+/// Runs the words, and tells standard error of an end that isn't Done. A word that isn't UTF-8 makes them no command.
 fn main(rt: HostRuntime) -> ExitCode {
     let alloc = rt.alloc();
     let mut world = RealWorld::new(&rt, alloc, rt.stdin(), rt.stdout());
@@ -51,7 +52,10 @@ fn main(rt: HostRuntime) -> ExitCode {
             Ok(words) => agent(alloc, words.as_slice(), &mut world),
             Err(_) => Status::OutOfMemory,
         },
-        Err(_) => agent(alloc, &[], &mut world),
+        Err(fault) => match fault.kind() {
+            ErrorKind::OutOfMemory => Status::OutOfMemory,
+            _ => agent(alloc, &[], &mut world),
+        },
     };
     if status != Status::Done {
         let _ = rt.eprintln(advice(status));

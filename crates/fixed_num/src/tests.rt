@@ -1,6 +1,7 @@
 //! Texts of numbers against answers from outside: the rules in plain words, IEEE 754 shortest texts, and InfluxDB's documentation.
 use super::*;
 use std::alloc::Global;
+use std::process::Abort;
 use std::test::Fail;
 
 /// Appends what a text is read as: the canonical text of its number, or the fault's name.
@@ -12,10 +13,20 @@ fn append_read(alloc: Global, text: &str, out: &mut Vec<u8>) -> Result<(), OutOf
     }
 }
 
+/// Compares what each text is read as.
+fn assert_reads(rt: &impl Abort, alloc: Global, rows: &[(&str, &str)]) -> Result<(), OutOfMemory> {
+    for (text, want) in rows {
+        let mut out = Vec::new(alloc);
+        append_read(alloc, text, &mut out)?;
+        assert_eq!(rt; out.as_slice(), want.as_bytes(), "at {text}");
+    }
+    Ok(())
+}
+
+/// Ties to even, signs, points and powers.
 #[test]
 fn decimals(rt: HostRuntime) -> Result<(), Fail> {
     let rows = [
-        // ties to even, signs, points and powers
         ("0.30000000000000004", "0.3"),
         ("1e+06", "1000000"),
         ("0.0000000005", "0"),
@@ -33,7 +44,14 @@ fn decimals(rt: HostRuntime) -> Result<(), Fail> {
         ("0e999999999999", "0"),
         ("1e-999999999999", "0"),
         ("-1000000000e-9", "-1"),
-        // the ends of the range
+    ];
+    assert_reads(&rt, rt.alloc(), &rows)?;
+    Ok(())
+}
+
+#[test]
+fn ends_of_the_range(rt: HostRuntime) -> Result<(), Fail> {
+    let rows = [
         (
             "18446744073709551615.9999999994",
             "18446744073709551615.999999999",
@@ -45,35 +63,36 @@ fn decimals(rt: HostRuntime) -> Result<(), Fail> {
         ("18446744073709551615.9999999995", "NumberRange"),
         ("18446744073709551616.0", "NumberRange"),
         ("1e999999999999", "NumberRange"),
-        // no decimals
-        ("", "NotANumber"),
-        (".", "NotANumber"),
-        ("+", "NotANumber"),
-        ("1e", "NotANumber"),
-        ("1 ", "NotANumber"),
-        ("--1", "NotANumber"),
-        ("1.2.3", "NotANumber"),
-        ("1e5.", "NotANumber"),
-        ("inf", "NotANumber"),
-        // shortest texts of doubles
+    ];
+    assert_reads(&rt, rt.alloc(), &rows)?;
+    Ok(())
+}
+
+#[test]
+fn no_decimals(rt: HostRuntime) -> Result<(), Fail> {
+    for text in ["", ".", "+", "1e", "1 ", "--1", "1.2.3", "1e5.", "inf"] {
+        assert_reads(&rt, rt.alloc(), &[(text, "NotANumber")])?;
+    }
+    Ok(())
+}
+
+/// Shortest texts of doubles, and examples of InfluxDB's documentation.
+#[test]
+fn doubles(rt: HostRuntime) -> Result<(), Fail> {
+    let rows = [
         ("1.7976931348623157e+308", "NumberRange"),
         ("5e-324", "0"),
         ("2.2250738585072014e-308", "0"),
         ("0.1", "0.1"),
         ("123456789.123456789", "123456789.123456789"),
         ("9007199254740993", "9007199254740993"),
-        // InfluxDB's documentation
         ("1", "1"),
         ("1.0", "1"),
         ("1.e+78", "NumberRange"),
         ("1.E+6", "1000000"),
         ("-1.234456e+78", "NumberRange"),
     ];
-    for (text, want) in rows {
-        let mut out = Vec::new(rt.alloc());
-        append_read(rt.alloc(), text, &mut out)?;
-        assert_eq!(rt; out.as_slice(), want.as_bytes(), "at {text}");
-    }
+    assert_reads(&rt, rt.alloc(), &rows)?;
     Ok(())
 }
 

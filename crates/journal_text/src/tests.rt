@@ -60,7 +60,8 @@ fn half(alloc: Global) -> Result<Metric, BuildFault> {
     plain(alloc, "cpu", Value::Fixed(value), 6)
 }
 
-fn write_example(alloc: Global, out: &mut Vec<u8>) -> Result<(), BuildFault> {
+/// The head of a journal with one input and one output, and what is gathered.
+fn write_front(alloc: Global, out: &mut Vec<u8>) -> Result<(), BuildFault> {
     let setup = JournalSetup {
         start: 0,
         inputs: one(alloc, None)?,
@@ -68,8 +69,6 @@ fn write_example(alloc: Global, out: &mut Vec<u8>) -> Result<(), BuildFault> {
         outputs: one(alloc, (10, 100))?,
     };
     write_setup(alloc, &setup, out)?;
-    let first = [tagged(alloc)?];
-    let second = [half(alloc)?];
     let gather = Entry::Gather {
         input: 0,
         moment: 0,
@@ -83,7 +82,13 @@ fn write_example(alloc: Global, out: &mut Vec<u8>) -> Result<(), BuildFault> {
     };
     write_entry(alloc, &[], &gather, out)?;
     write_entry(alloc, &[], &Entry::Ended { input: 0 }, out)?;
+    Ok(())
+}
+
+/// Both items are taken and pass as they are.
+fn write_routes(alloc: Global, out: &mut Vec<u8>) -> Result<(), BuildFault> {
     write_entry(alloc, &[], &Entry::Take { item: 0 }, out)?;
+    let first = [tagged(alloc)?];
     let route = Entry::Route {
         item: 0,
         whole: Some(tagged(alloc)?),
@@ -94,6 +99,7 @@ fn write_example(alloc: Global, out: &mut Vec<u8>) -> Result<(), BuildFault> {
     };
     write_entry(alloc, &first, &route, out)?;
     write_entry(alloc, &[], &Entry::Take { item: 1 }, out)?;
+    let second = [half(alloc)?];
     let route = Entry::Route {
         item: 1,
         whole: Some(half(alloc)?),
@@ -103,16 +109,17 @@ fn write_example(alloc: Global, out: &mut Vec<u8>) -> Result<(), BuildFault> {
         reports: none(alloc),
     };
     write_entry(alloc, &second, &route, out)?;
-    write_entry(
-        alloc,
-        &[],
-        &Entry::Begin {
-            output: 0,
-            from: 0,
-            to: 2,
-        },
-        out,
-    )?;
+    Ok(())
+}
+
+/// They are written in one batch, and the journal ends.
+fn write_back(alloc: Global, out: &mut Vec<u8>) -> Result<(), OutOfMemory> {
+    let begin = Entry::Begin {
+        output: 0,
+        from: 0,
+        to: 2,
+    };
+    write_entry(alloc, &[], &begin, out)?;
     let done = Entry::Done {
         output: 0,
         ok: true,
@@ -127,11 +134,11 @@ fn write_example(alloc: Global, out: &mut Vec<u8>) -> Result<(), BuildFault> {
     let account = b"input 0 pieces 2 refused 0 passed 0 filtered 0 gathered 2 ended\n\
         items made 0 removed 0 routed 2\n\
         output 0 filtered 0 late 0 consumed 0 written 2 buffered 0 dropped 0\n";
-    write_end(alloc, account, 9, out)?;
-    Ok(())
+    write_end(alloc, account, 9, out)
 }
 
-fn write_setups(alloc: Global, out: &mut Vec<u8>) -> Result<(), OutOfMemory> {
+/// Aggregators of all four kinds; two keep the metrics that they take from the outputs.
+fn agg_lines() -> [AggLine; 4] {
     let kept = AggLine {
         kind: AggWord::MinMax,
         period: 10,
@@ -152,13 +159,6 @@ fn write_setups(alloc: Global, out: &mut Vec<u8>) -> Result<(), OutOfMemory> {
         grace: 2,
         dropping: true,
     };
-    let setup = JournalSetup {
-        start: -1,
-        inputs: both(alloc, None, Some(7))?,
-        aggs: both(alloc, kept, dropped)?,
-        outputs: both(alloc, (1, 1), (2, 20))?,
-    };
-    write_setup(alloc, &setup, out)?;
     let merge = AggLine {
         kind: AggWord::Merge,
         ..kept
@@ -167,6 +167,18 @@ fn write_setups(alloc: Global, out: &mut Vec<u8>) -> Result<(), OutOfMemory> {
         kind: AggWord::Final(30),
         ..dropped
     };
+    [kept, dropped, merge, last]
+}
+
+fn write_setups(alloc: Global, out: &mut Vec<u8>) -> Result<(), OutOfMemory> {
+    let [kept, dropped, merge, last] = agg_lines();
+    let setup = JournalSetup {
+        start: -1,
+        inputs: both(alloc, None, Some(7))?,
+        aggs: both(alloc, kept, dropped)?,
+        outputs: both(alloc, (1, 1), (2, 20))?,
+    };
+    write_setup(alloc, &setup, out)?;
     let setup = JournalSetup {
         start: 0,
         inputs: none(alloc),
@@ -176,17 +188,16 @@ fn write_setups(alloc: Global, out: &mut Vec<u8>) -> Result<(), OutOfMemory> {
     write_setup(alloc, &setup, out)
 }
 
-fn write_others(alloc: Global, out: &mut Vec<u8>) -> Result<(), BuildFault> {
-    let delivered = Report {
-        group: 3,
+fn report(group: u64, delivered: bool) -> Report {
+    Report {
+        group,
         input: 1,
-        delivered: true,
-    };
-    let rejected = Report {
-        group: 4,
-        input: 1,
-        delivered: false,
-    };
+        delivered,
+    }
+}
+
+/// A Gather of a tracked input with reports.
+fn write_gather(alloc: Global, out: &mut Vec<u8>) -> Result<(), BuildFault> {
     let gather = Entry::Gather {
         input: 1,
         moment: -5,
@@ -196,9 +207,14 @@ fn write_others(alloc: Global, out: &mut Vec<u8>) -> Result<(), BuildFault> {
         filtered: 3,
         metrics: one(alloc, odd(alloc)?)?,
         group: Some(3),
-        reports: both(alloc, delivered, rejected)?,
+        reports: both(alloc, report(3, true), report(4, false))?,
     };
     write_entry(alloc, &[], &gather, out)?;
+    Ok(())
+}
+
+/// The Route of an item that is removed.
+fn write_removed(alloc: Global, out: &mut Vec<u8>) -> Result<(), BuildFault> {
     let item = [odd(alloc)?];
     let removed = Entry::Route {
         item: 0,
@@ -206,9 +222,15 @@ fn write_others(alloc: Global, out: &mut Vec<u8>) -> Result<(), BuildFault> {
         verdict: Verdict::Removed,
         aggs: one(alloc, None)?,
         outs: one(alloc, None)?,
-        reports: one(alloc, rejected)?,
+        reports: one(alloc, report(4, false))?,
     };
     write_entry(alloc, &item, &removed, out)?;
+    Ok(())
+}
+
+/// The Route of an item that an aggregator keeps.
+fn write_consumed(alloc: Global, out: &mut Vec<u8>) -> Result<(), BuildFault> {
+    let item = [odd(alloc)?];
     let consumed = Entry::Route {
         item: 1,
         whole: Some(tagged(alloc)?),
@@ -218,6 +240,12 @@ fn write_others(alloc: Global, out: &mut Vec<u8>) -> Result<(), BuildFault> {
         reports: none(alloc),
     };
     write_entry(alloc, &item, &consumed, out)?;
+    Ok(())
+}
+
+/// The Route of an item that comes too late.
+fn write_late(alloc: Global, out: &mut Vec<u8>) -> Result<(), BuildFault> {
+    let item = [odd(alloc)?];
     let late = Entry::Route {
         item: 2,
         whole: Some(odd(alloc)?),
@@ -227,6 +255,11 @@ fn write_others(alloc: Global, out: &mut Vec<u8>) -> Result<(), BuildFault> {
         reports: none(alloc),
     };
     write_entry(alloc, &item, &late, out)?;
+    Ok(())
+}
+
+/// Metrics that are made, and a batch that failed.
+fn write_made(alloc: Global, out: &mut Vec<u8>) -> Result<(), BuildFault> {
     let tick = Entry::Tick {
         moment: 8,
         made: both(
@@ -244,7 +277,7 @@ fn write_others(alloc: Global, out: &mut Vec<u8>) -> Result<(), BuildFault> {
     let done = Entry::Done {
         output: 1,
         ok: false,
-        reports: one(alloc, delivered)?,
+        reports: one(alloc, report(3, true))?,
     };
     write_entry(alloc, &[], &done, out)?;
     Ok(())
@@ -254,7 +287,9 @@ fn write_others(alloc: Global, out: &mut Vec<u8>) -> Result<(), BuildFault> {
 fn writes_a_journal(rt: HostRuntime) -> Result<(), BuildFault> {
     let alloc = rt.alloc();
     let mut out = Vec::new(alloc);
-    write_example(alloc, &mut out)?;
+    write_front(alloc, &mut out)?;
+    write_routes(alloc, &mut out)?;
+    write_back(alloc, &mut out)?;
     let want = "journal 1\n\
         start 0\n\
         input 0 plain\n\
@@ -284,7 +319,11 @@ fn writes_every_form(rt: HostRuntime) -> Result<(), BuildFault> {
     let alloc = rt.alloc();
     let mut out = Vec::new(alloc);
     write_setups(alloc, &mut out)?;
-    write_others(alloc, &mut out)?;
+    write_gather(alloc, &mut out)?;
+    write_removed(alloc, &mut out)?;
+    write_consumed(alloc, &mut out)?;
+    write_late(alloc, &mut out)?;
+    write_made(alloc, &mut out)?;
     let want = "journal 1\n\
         start -1\n\
         input 0 plain\n\

@@ -101,23 +101,29 @@ fn route(
     Ok(())
 }
 
+fn gather(alloc: Global, core: &mut Core, input: u32, count: u32) -> Result<(), Fail> {
+    let g = gathered(alloc, input, count)?;
+    if !(core.is_reading(input) && !core.is_stopped()) {
+        return Err(Fail::new(format_args!("the call may not come")));
+    }
+    if !(core.gather(g).is_ok()) {
+        return Err(Fail::new(format_args!("the call may not come")));
+    }
+    Ok(())
+}
+
+fn end(core: &mut Core, input: u32) -> Result<(), Fail> {
+    if !(core.is_reading(input) && !core.is_stopped()) {
+        return Err(Fail::new(format_args!("the call may not come")));
+    }
+    core.ended(input)?;
+    Ok(())
+}
+
 fn make(alloc: Global, core: &mut Core, call: Call) -> Result<(), Fail> {
     match call {
-        Call::Gather(input, count) => {
-            let g = gathered(alloc, input, count)?;
-            if !(core.is_reading(input) && !core.is_stopped()) {
-                return Err(Fail::new(format_args!("the call may not come")));
-            }
-            if !(core.gather(g).is_ok()) {
-                return Err(Fail::new(format_args!("the call may not come")));
-            }
-        }
-        Call::Ended(input) => {
-            if !(core.is_reading(input) && !core.is_stopped()) {
-                return Err(Fail::new(format_args!("the call may not come")));
-            }
-            core.ended(input)?;
-        }
+        Call::Gather(input, count) => gather(alloc, core, input, count)?,
+        Call::Ended(input) => end(core, input)?,
         Call::Take => {
             let _ = core.take();
         }

@@ -213,8 +213,8 @@ fn write_gather(alloc: Global, out: &mut Vec<u8>) -> Result<(), BuildFault> {
     Ok(())
 }
 
-/// Routes of items that don't pass.
-fn write_verdicts(alloc: Global, out: &mut Vec<u8>) -> Result<(), BuildFault> {
+/// The Route of an item that is removed.
+fn write_removed(alloc: Global, out: &mut Vec<u8>) -> Result<(), BuildFault> {
     let item = [odd(alloc)?];
     let removed = Entry::Route {
         item: 0,
@@ -225,6 +225,12 @@ fn write_verdicts(alloc: Global, out: &mut Vec<u8>) -> Result<(), BuildFault> {
         reports: one(alloc, report(4, false))?,
     };
     write_entry(alloc, &item, &removed, out)?;
+    Ok(())
+}
+
+/// The Route of an item that an aggregator keeps.
+fn write_consumed(alloc: Global, out: &mut Vec<u8>) -> Result<(), BuildFault> {
+    let item = [odd(alloc)?];
     let consumed = Entry::Route {
         item: 1,
         whole: Some(tagged(alloc)?),
@@ -234,6 +240,12 @@ fn write_verdicts(alloc: Global, out: &mut Vec<u8>) -> Result<(), BuildFault> {
         reports: none(alloc),
     };
     write_entry(alloc, &item, &consumed, out)?;
+    Ok(())
+}
+
+/// The Route of an item that comes too late.
+fn write_late(alloc: Global, out: &mut Vec<u8>) -> Result<(), BuildFault> {
+    let item = [odd(alloc)?];
     let late = Entry::Route {
         item: 2,
         whole: Some(odd(alloc)?),
@@ -308,7 +320,9 @@ fn writes_every_form(rt: HostRuntime) -> Result<(), BuildFault> {
     let mut out = Vec::new(alloc);
     write_setups(alloc, &mut out)?;
     write_gather(alloc, &mut out)?;
-    write_verdicts(alloc, &mut out)?;
+    write_removed(alloc, &mut out)?;
+    write_consumed(alloc, &mut out)?;
+    write_late(alloc, &mut out)?;
     write_made(alloc, &mut out)?;
     let want = "journal 1\n\
         start -1\n\

@@ -1,12 +1,12 @@
 -- How the batches of an output ended, with one entry more.
-use Rattle.std.proofs.Common.{◌≡◌, ◌≤◌, ℕ, zero, suc, ◌+◌, ◌-◌, ◌==◌, Bool, true, false, List, [], ◌∷◌, ◌++◌, length, replicate, refl, sym, ap, ◌∙◌, subst, arith, append_assoc, append-nil, if◌then◌else◌, cond, min}
+use Rattle.std.proofs.Common.{◌≡◌, ◌≤◌, ℕ, zero, suc, ◌+◌, ◌-◌, Bool, false, List, [], ◌∷◌, ◌++◌, replicate, refl, sym, ap, ◌∙◌, arith, append_assoc, append-nil, if◌then◌else◌, cond}
 use Rattle.std.specs.Prelude.{not, count_by}
 use Rattle.std.proofs.lemmas.List.Sums.{sum_by-append}
 use Rattle.account.specs.declared.entry.Entry.{Entry}
-use Rattle.account.specs.declared.entry.Entry.TheVariants.{Gather, Ended, Take, Route, Tick, Stop, Begin, Done}
+use Rattle.account.specs.declared.entry.Entry.TheVariants.{Done}
 use Rattle.agent_base.specs.Counts.{Rose, RoseBy}
 use Rattle.pipeline_core.proofs.StandsSteps.{same_number}
-use Rattle.agent_run.specs.Dones.{dones_by, dones, failed_count, LastFailed}
+use Rattle.agent_run.specs.Dones.{dones_by, dones, LastFailed}
 
 pub dones-push : (output : ℕ) (es : List Entry) (e : Entry) → dones output (es ++ e ∷ []) ≡ dones output es ++ dones_by output e
 unfolding dones

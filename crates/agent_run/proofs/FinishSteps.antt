@@ -1,5 +1,5 @@
 -- What a run leaves at its end, and what it begins with.
-use Rattle.std.proofs.Common.{◌≡◌, ◌≤◌, ◌<◌, ℕ, zero, suc, ℤ, ◌+◌, ◌^◌, ◌==◌, min, Bool, true, false, List, [], ◌∷◌, ◌++◌, length, take, refl, sym, ap, ◌∙◌, subst, inl, inr, arith, append-nil}
+use Rattle.std.proofs.Common.{◌≡◌, ◌≤◌, ℕ, zero, suc, ℤ, ◌+◌, ◌==◌, min, Bool, true, false, List, [], ◌∷◌, ◌++◌, length, refl, sym, ap, ◌∙◌, subst, inl, inr, arith, append-nil}
 use Rattle.std.specs.Prelude.{◌≢◌, IfSome, not, ◌⊎◌, count_by, slice_get}
 use Rattle.std.specs.Int.{int_max}
 use Rattle.std.specs.declared.option.Option.{Option}
@@ -20,7 +20,6 @@ use Rattle.pipeline_core.specs.Legal.{IsLegal, has_ended}
 use Rattle.pipeline_core.specs.Stands.{Stands}
 use Rattle.pipeline_core.specs.Totals.{totals}
 use Rattle.pipeline_core.proofs.StandsSteps.{differs}
-use Rattle.agent_run.specs.Causes.{IsFull}
 use Rattle.agent_base.specs.Counts.{RoseBy}
 use Rattle.agent_run.specs.Dones.{dones, LastFailed}
 use Rattle.agent_run.specs.EntryMoments.{gather_moments, counted_moments}
@@ -36,7 +35,7 @@ use Rattle.pipeline_core.specs.Steps.{after_cut}
 use Rattle.agent_run.specs.declared.reading.InState.{InState}
 use Rattle.agent_run.specs.declared.reading.InState.TheVariants as states
 use Rattle.agent_run.specs.declared.rounds.Ending.{Ending}
-use Rattle.agent_run.proofs.DoneLemmas.{dones_none, last_none, last_fewer, last_same, rose_none}
+use Rattle.agent_run.proofs.DoneLemmas.{dones_none, last_none, last_fewer, rose_none}
 use Rattle.agent_run.proofs.GatherLemmas.{gathering_starts}
 use Rattle.agent_run.proofs.JournalSoFarLemmas.{ends}
 use Rattle.agent_run.proofs.MomentLemmas.{counted_none, gather_moments_none}

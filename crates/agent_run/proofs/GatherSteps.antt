@@ -1,13 +1,12 @@
 -- How far a run has come once a group was read.
-use Rattle.std.proofs.Common.{◌≡◌, ◌≤◌, ◌<◌, ℕ, ℤ, ◌+◌, ◌^◌, Bool, true, false, List, [], ◌∷◌, ◌++◌, length, refl, sym, ap, ◌∙◌, subst, inl, inr, arith, append-nil}
-use Rattle.std.specs.Prelude.{IfSome, ◌||◌, map}
-use Rattle.std.specs.List.{flat_map}
+use Rattle.std.proofs.Common.{◌≡◌, ◌≤◌, ◌<◌, ℕ, ℤ, ◌+◌, ◌^◌, Bool, true, false, List, [], ◌∷◌, ◌++◌, length, refl, sym, ap, ◌∙◌, subst, inl, inr, arith}
+use Rattle.std.specs.Prelude.{IfSome, map}
 use Rattle.std.specs.declared.option.Option.{Option}
 use Rattle.std.specs.declared.option.Option.TheVariants.{Some, None}
 use Rattle.std.proofs.Math.Bool.{or-true}
 use Rattle.metric.specs.declared.metric.Content.{Content}
 use Rattle.account.specs.declared.entry.Entry.{Entry}
-use Rattle.account.specs.declared.entry.Entry.TheVariants.{Gather, Ended}
+use Rattle.account.specs.declared.entry.Entry.TheVariants.{Ended}
 use Rattle.agent_base.specs.Cut.{Cut}
 use Rattle.agent_base.specs.Counts.{Rose}
 use Rattle.agent_base.specs.Hand.{Hand, to_come}
@@ -15,23 +14,23 @@ use Rattle.agent_base.specs.Moments.{Moments, Gives}
 use Rattle.agent_base.specs.Told.{Told}
 use Rattle.agent_base.proofs.ClockLemmas.{clocked_one, clocked_joined, clocked_wider}
 use Rattle.pipeline_core.specs.CoreState.{CoreState}
-use Rattle.pipeline_core.specs.Legal.{has_ended, gathered_count}
+use Rattle.pipeline_core.specs.Legal.{has_ended}
 use Rattle.pipeline_core.specs.Stands.{Continues}
-use Rattle.pipeline_core.specs.Steps.{after_gather, after_ended, gather_entry}
+use Rattle.pipeline_core.specs.Steps.{after_gather, gather_entry}
 use Rattle.pipeline_core.proofs.JournalPush.{has_ended-push}
 use Rattle.agent_run.specs.declared.reading.Group.{Group}
 use Rattle.agent_run.specs.declared.reading.InState.{InState}
 use Rattle.agent_run.specs.declared.reading.InState.TheVariants as states
-use Rattle.agent_run.specs.Causes.{IsFull, IsNextGroup}
+use Rattle.agent_run.specs.Causes.{IsNextGroup}
 use Rattle.agent_run.specs.EntryMoments.{gather_moments, counted_moments}
-use Rattle.agent_run.specs.Gathered.{GatherSays, gathers, gathers_by, Gathered, Gathering, GatheredTo, joined, readings}
-use Rattle.agent_run.specs.Groups.{Reads, ReadsGroup, IsAllRead, gathered_of, IsOffered, IsEnding}
+use Rattle.agent_run.specs.Gathered.{GatherSays, gathers, Gathered, Gathering, GatheredTo, joined}
+use Rattle.agent_run.specs.Groups.{ReadsGroup, gathered_of, IsOffered, IsEnding}
 use Rattle.agent_run.specs.JournalSoFar.{JournalSoFar}
 use Rattle.agent_run.specs.Order.{InOrder, IsDrained}
-use Rattle.agent_run.specs.Progress.{Beginning, Surroundings, HasText, IsNamed, is_ended, HasState, IsClocked, IsNamedOfTaken, Heard, Said, Progress}
+use Rattle.agent_run.specs.Progress.{Beginning, Surroundings, HasText, IsNamed, is_ended, HasState, IsClocked, IsNamedOfTaken, Said, Progress}
 use Rattle.agent_run.specs.Worked.{Worked}
 use Rattle.agent_run.proofs.GatherLemmas.{says_of, gathers_own, gathers-push, gathers-other, has_ended-other, gathered_to_here, gathered_to_same, gathered, told_gathering, told_gathered_to}
-use Rattle.agent_run.proofs.GroupLemmas.{told_then, told_map, told_pair}
+use Rattle.agent_run.proofs.GroupLemmas.{told_then, told_map, told_pair, few_readings}
 use Rattle.agent_run.proofs.TakenSteps.{told_names_more, told_taken_more, told_taken_same}
 use Rattle.agent_run.proofs.MomentLemmas.{gather_moments-push, gather_moments-same, counted_moments-same}
 use Rattle.agent_run.proofs.OrderLemmas.{in_order-push}
@@ -221,6 +220,7 @@ module _ (start : Beginning) (core : CoreState) (so_far : JournalSoFar) (before 
       later = omega (arith, w.heard.later, reads);
       state = inr (record {
         count = length group.metrics.items;
+        few = omega (arith, g.most, ap (λ (ms : List Content). length ms) g.reads.metrics, few_readings moment g.reads.read);
         many = omega (arith, many, w.text.stands.gathered);
         next =
             told_then start.text now.left new_left (λ xs ys. Gathering 1000 w.journal 0 xs (to_come before ys)) (λ ys zs. to_come before ys ≡ g.reads.read ++ to_come after zs) (λ xs zs. IsNextGroup 1000 w.journal 0 xs (length group.metrics.items))

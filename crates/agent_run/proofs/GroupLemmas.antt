@@ -1,6 +1,6 @@
 -- Groups with one piece more.
 use Rattle.std.proofs.Common.{◌≡◌, ◌<◌, ◌+◌, ◌⊎◌, ℕ, ℤ, cond, List, [], ◌∷◌, ◌++◌, refl, sym, ap, subst, inl, inr, ◌∙◌, arith, append_assoc, append-nil, length-append}
-use Rattle.std.specs.Prelude.{count_by}
+use Rattle.std.specs.Prelude.{count_by, ◌≤◌, length, Result, Ok, Err}
 use Rattle.std.specs.List.{flat_map}
 use Rattle.std.specs.declared.option.Option.{Option}
 use Rattle.std.specs.declared.option.Option.TheVariants.{Some, None}
@@ -10,13 +10,16 @@ use mir.Val.{SFits, of_z, to_z}
 use Rattle.std.proofs.lemmas.List.Sums.{sum_by-append}
 use Rattle.std.proofs.lemmas.Grind.{flat_map-append}
 use Rattle.metric.specs.declared.metric.Content.{Content}
-use Rattle.agent_base.specs.Cut.{Cut}
+use Rattle.agent_base.specs.Cut.{Cut, TooLong, Whole}
 use Rattle.agent_base.specs.Hand.{Hand, to_come}
 use Rattle.agent_base.specs.Told.{Told}
 use Rattle.agent_run.specs.declared.reading.Group.{Group}
 use Rattle.agent_run.specs.declared.reading.InState.{InState}
 use Rattle.agent_run.specs.declared.reading.InState.TheVariants as states
-use Rattle.agent_run.specs.Gathered.{is_refused, readings}
+use Rattle.agent_run.specs.Gathered.{is_refused, metric_of, readings}
+use Rattle.line_proto.specs.Reading.{plain_reading}
+use Rattle.line_proto.specs.declared.fault.LineFault.{LineFault}
+use Rattle.std.proofs.lemmas.List.Concat.{flat_map-cons, length-flat_map}
 use Rattle.agent_run.specs.Groups.{TakesPieces, ReadsPiece, ReadsNone, ReadsNext, IsAllRead, Reads, ReadsGroup}
 
 -- what is told of two steps holds of both
@@ -77,6 +80,21 @@ takes_then read others before between after left_before left_between left_after 
 
 counted_more : (moment : ℤ) (read : List Cut) (piece : Cut) → count_by (is_refused moment) (read ++ piece ∷ []) ≡ count_by (is_refused moment) read + cond (is_refused moment piece) 1 0
 counted_more moment read piece = omega (arith, sum_by-append (λ (x : Cut). cond (is_refused moment x) 1 0) read (piece ∷ []))
+
+few_metrics : (reading : Result (Option Content) LineFault) → length (metric_of reading) ≤ 1
+few_metrics (Ok None) = omega arith
+few_metrics (Ok (Some metric)) = omega arith
+few_metrics (Err fault) = omega arith
+
+few_of : (moment : ℤ) (piece : Cut) → length (readings moment piece) ≤ 1
+few_of moment TooLong = omega arith
+few_of moment (Whole piece) = few_metrics (plain_reading piece moment)
+
+-- pieces have at most as many readings as they are
+pub few_readings : (moment : ℤ) (pieces : List Cut) → length (flat_map (readings moment) pieces) ≤ length pieces
+few_readings moment [] = omega (arith, length-flat_map (readings moment) [])
+few_readings moment (piece ∷ pieces) =
+    omega (arith, ap (λ (ms : List Content). length ms) (flat_map-cons (readings moment) piece pieces), length-append (readings moment piece) (flat_map (readings moment) pieces), few_of moment piece, few_readings moment pieces)
 
 read_more : (moment : ℤ) (read : List Cut) (piece : Cut) → flat_map (readings moment) (read ++ piece ∷ []) ≡ flat_map (readings moment) read ++ readings moment piece
 read_more moment read piece = flat_map-append (readings moment) read (piece ∷ []) ∙ ap (λ (ms : List Content). flat_map (readings moment) read ++ ms) (append-nil (readings moment piece))

@@ -1,5 +1,5 @@
 -- What each status of a run says.
-use Rattle.std.proofs.Common.{◌≡◌, ◌≤◌, ◌<◌, ℕ, ℤ, ◌+◌, ◌^◌, Bool, true, false, List, [], ◌∷◌, ◌++◌, length, refl, sym, ap, ◌∙◌, subst, inl, inr, arith, cond, replicate}
+use Rattle.std.proofs.Common.{◌≡◌, ◌≤◌, ◌<◌, ℕ, ℤ, ◌^◌, Bool, true, false, List, refl, sym, ap, ◌∙◌, subst, inl, inr, arith, cond, replicate}
 use Rattle.std.specs.Prelude.{◌≢◌, not, ◌⊎◌, ◌||◌, count_by}
 use Rattle.std.specs.declared.option.Option.{Option}
 use Rattle.std.proofs.lemmas.List.Sums.{sum_by-append}
@@ -9,9 +9,9 @@ use Rattle.agent_base.specs.Places.{Place, Rest}
 use Rattle.account.specs.declared.entry.Entry.{Entry}
 use Rattle.agent_run.specs.Command.{journal_place}
 use Rattle.agent_run.specs.Dones.{dones, failed_count, LastFailed}
-use Rattle.agent_run.specs.Headline.{Change, change, IsRun, EndsSo, IsPutSo, IsLeft, Ran, Headline, TornHeadline, IsDone, IsLeftOver, IsReadFault, IsReportFault, IsLimit, Ends, status_of, buffered_at_end, account_of, text_of, place_change, report_change, NothingRose}
+use Rattle.agent_run.specs.Headline.{Change, change, IsRun, EndsSo, IsPutSo, IsLeft, Ran, IsReportFault, Ends, status_of, buffered_at_end, account_of, text_of, place_change, report_change, NothingRose}
 use Rattle.agent_run.specs.PipeSetup.{pipe_setup}
-use Rattle.agent_run.specs.Places.{IsRefused, RoseToOpen, RoseToUse}
+use Rattle.agent_run.specs.Places.{IsRefused}
 use Rattle.agent_run.specs.declared.reading.InState.{InState}
 use Rattle.agent_run.specs.declared.reading.InState.TheVariants as states
 use Rattle.agent_run.specs.declared.rounds.Ending.{Ending}
@@ -109,9 +109,9 @@ ends_as batch limit input output noted reported new_input new_output new_noted n
 -- a place of a refusal whose count didn't rise
 not_refused : (ins new_ins outs new_outs : List ℕ → Place) (rest new_rest : Rest) (input output : List ℕ) → NothingRose ins new_ins outs new_outs rest new_rest → IsRefused ins new_ins outs new_outs rest new_rest input output → ⊥
 not_refused ins new_ins outs new_outs rest new_rest input output nothing refused =
-    elim refused.rose [
-      | inl i ↦ nothing.ins_opened refused.place i.1
-      | inr o ↦ nothing.outs_opened refused.place o.1
+    elim refused.unopened [
+      | inl i ↦ nothing.ins_opened refused.place i.1.failed.rose
+      | inr o ↦ nothing.outs_opened refused.place o.2.failed.rose
     ]
 
 -- a command whose run no fault and no limit ended

@@ -1,5 +1,5 @@
 -- How far a run has come, with one entry more.
-use Rattle.std.proofs.Common.{◌≡◌, ◌≤◌, ◌<◌, ℕ, ℤ, ◌+◌, Bool, true, false, List, [], ◌∷◌, ◌++◌, length, refl, sym, ap, ◌∙◌, subst, inl, inr, arith, append_assoc, append-nil}
+use Rattle.std.proofs.Common.{◌≡◌, ℕ, ℤ, Bool, false, List, [], ◌∷◌, ◌++◌, refl, sym, ap, ◌∙◌, subst, inl, inr, arith, append_assoc, append-nil}
 use Rattle.std.specs.Prelude.{IfSome, not, count_by, slice_get}
 use Rattle.std.specs.Int.{int_max}
 use Rattle.std.specs.declared.option.Option.{Option}
@@ -15,25 +15,22 @@ use Rattle.agent_base.specs.Clocked.{last_of}
 use Rattle.agent_base.specs.Counts.{RoseBy}
 use Rattle.agent_base.specs.Hand.{Hand, to_come}
 use Rattle.agent_base.specs.Moments.{Moments}
-use Rattle.agent_base.specs.Told.{Told}
 use Rattle.pipeline_core.specs.CoreState.{CoreState}
-use Rattle.pipeline_core.specs.Legal.{IsLegal, has_ended, is_ended_of, gathered_count, gathered_by, counted_from}
+use Rattle.pipeline_core.specs.Legal.{IsLegal, has_ended, is_ended_of, gathered_count, gathered_by}
 use Rattle.pipeline_core.specs.Steps.{after_take, after_route, after_stop, after_cut, route_entry}
-use Rattle.pipeline_core.specs.declared.routing.Routed.{Routed}
 use Rattle.pipeline_core.proofs.JournalPush.{gathered_count-push}
 use Rattle.pipeline_core.specs.Stands.{Stands, Continues}
 use Rattle.agent_run.specs.declared.reading.InState.{InState}
 use Rattle.agent_run.specs.declared.reading.InState.TheVariants as states
 use Rattle.agent_run.specs.Causes.{IsFull, IsNextGroup}
-use Rattle.agent_run.specs.Dones.{dones_by, dones, LastFailed}
-use Rattle.agent_run.specs.EntryMoments.{gather_moments, counted_by, counted_moments}
-use Rattle.agent_run.specs.Gathered.{gathers_by, gathers, Gathered, Gathering, AreGroups}
+use Rattle.agent_run.specs.Dones.{dones_by, dones}
+use Rattle.agent_run.specs.EntryMoments.{gather_moments, counted_by}
+use Rattle.agent_run.specs.Gathered.{gathers_by, gathers, AreGroups}
 use Rattle.agent_run.specs.JournalSoFar.{JournalSoFar, Spells, SpellsOn}
 use Rattle.agent_run.specs.Order.{IsOrderly}
 use Rattle.agent_run.specs.PipeSetup.{journal_setup_of}
-use Rattle.agent_run.specs.Progress.{Beginning, Surroundings, HasText, IsNamed, is_ended, HasState, IsClocked, IsNamedOfTaken, Heard, Said, Progress}
+use Rattle.agent_run.specs.Progress.{Beginning, Surroundings, HasText, IsNamed, HasState, IsClocked, IsNamedOfTaken, Heard, Said, Progress}
 use Rattle.agent_run.specs.Running.{as_it_is}
-use Rattle.agent_run.specs.Sent.{Sent, AppendsSo}
 use Rattle.agent_run.specs.Worked.{WorkedBy}
 use Rattle.agent_run.proofs.DoneLemmas.{dones-same, last_same}
 use Rattle.agent_run.proofs.GroupLemmas.{told_map}
@@ -78,6 +75,7 @@ named_same states.LimitReached old new text rest same ended h = record { groups 
 full_same : (old new : List Entry) (text left : Option (List ℕ)) → gathers 0 new ≡ gathers 0 old → gathered_count new ≡ gathered_count old → IsFull 1000 old 0 text left → IsFull 1000 new 0 text left
 full_same old new text left same count h = record {
   count = h.count;
+  few = h.few;
   many = omega (arith, h.many, count);
   next = told_map text left (λ xs ys. IsNextGroup 1000 old 0 xs h.count) (λ xs ys. IsNextGroup 1000 new 0 xs h.count)
       (λ xs ys n. record { moment = n.moment; groups = n.groups; group = n.group; rest = n.rest; consecutive = n.consecutive; named = subst (AreGroups n.groups) (sym same) n.named; few = n.few; metrics = n.metrics })

@@ -1,5 +1,5 @@
 -- How far a run has come once a batch was sent.
-use Rattle.std.proofs.Common.{◌≡◌, ◌≤◌, ◌<◌, ℕ, ◌+◌, Bool, true, false, List, [], ◌∷◌, ◌++◌, length, refl, sym, ap, ◌∙◌, subst, arith, cond, Ok, Err}
+use Rattle.std.proofs.Common.{◌≡◌, ◌≤◌, ◌<◌, ℕ, ◌+◌, Bool, true, false, List, [], ◌∷◌, ◌++◌, length, refl, sym, ap, ◌∙◌, subst, arith, Err}
 use Rattle.std.specs.Prelude.{not, count_by}
 use Rattle.std.specs.declared.option.Option.{Option}
 use Rattle.std.specs.Io.KnownBytes.{Appends}
@@ -11,12 +11,12 @@ use Rattle.agent_base.specs.Puts.{PutAppends}
 use Rattle.agent_base.specs.declared.outside.PutFault.{PutFault}
 use Rattle.agent_base.specs.declared.outside.PutFault.TheVariants.{Failed}
 use Rattle.pipeline_core.specs.CoreState.{CoreState, lane_at}
-use Rattle.pipeline_core.specs.Stands.{Stands, Continues}
+use Rattle.pipeline_core.specs.Stands.{Continues}
 use Rattle.pipeline_core.specs.Steps.{IsBatchOf, after_begin, after_done}
 use Rattle.pipeline_core.specs.declared.batches.Batch.{Batch}
-use Rattle.agent_run.specs.Dones.{dones, LastFailed}
+use Rattle.agent_run.specs.Dones.{dones}
 use Rattle.agent_run.specs.JournalSoFar.{JournalSoFar}
-use Rattle.agent_run.specs.Progress.{Beginning, Surroundings, HasText, HasState, Heard, Said, Progress}
+use Rattle.agent_run.specs.Progress.{Beginning, Surroundings, HasState, Heard, Said, Progress}
 use Rattle.agent_run.specs.declared.reading.InState.{InState}
 use Rattle.agent_run.specs.declared.reading.InState.TheVariants as states
 use Rattle.agent_run.specs.Sent.{batch_text}

@@ -19,8 +19,9 @@ pub record IsNextGroup (most : ℕ) (journal : List Entry) (input : ℕ) (text :
   pub few : length group ≤ most
   pub metrics : count ≡ length (flat_map (readings moment) group)
 
--- the gathered metrics with those of the next group would reach 2^32
+-- the gathered metrics with those of the next group, which are at most as many as its pieces, would reach 2^32
 pub record IsFull (most : ℕ) (journal : List Entry) (input : ℕ) (text left : Option (List ℕ)) : Type 0 where
   pub count : ℕ
+  pub few : count ≤ most
   pub many : 2 ^ 32 ≤ gathered_count journal + count
   pub next : Told text left (λ xs ys. IsNextGroup most journal input xs count)

@@ -1,5 +1,5 @@
 -- What a run says: a legal journal of what was read and sent, with its text and the account of its totals.
-use Rattle.std.specs.Prelude.{◌≡◌, ◌≢◌, ◌<◌, ◌≤◌, ◌⊎◌, ◌+◌, ◌^◌, ℕ, ℤ, min, if◌then◌else◌, Bool, true, false, List, [], String, length, take, IfSome}
+use Rattle.std.specs.Prelude.{◌≡◌, ◌≢◌, ◌<◌, ◌⊎◌, ◌+◌, ◌^◌, ℕ, ℤ, min, if◌then◌else◌, Bool, true, false, List, [], String, length, take, IfSome}
 use Rattle.std.specs.declared.option.Option.{Option}
 use Rattle.std.specs.declared.option.Option.TheVariants.{None}
 use Rattle.std.specs.Io.KnownBytes.{Appends}
@@ -19,7 +19,7 @@ use Rattle.pipeline_core.specs.Totals.{totals}
 use Rattle.agent_run.specs.Causes.{IsFull}
 use Rattle.std.specs.declared.alloc.Global.{Global}
 use Rattle.agent_run.specs.Command.{journal_place, IsPipe}
-use Rattle.agent_run.specs.Places.{RoseToOpen, RoseToUse}
+use Rattle.agent_run.specs.Places.{AreOpensSame, RoseToOpen, RoseToUse}
 use Rattle.agent_run.specs.declared.status.Status.{Status}
 use Rattle.agent_run.specs.declared.status.Status.TheVariants as statuses
 use Rattle.agent_run.specs.Dones.{dones, failed_count, LastFailed}
@@ -202,6 +202,9 @@ pub record PipeEnds (status : Status) (words : List (String Global)) (ins new_in
   pub batch : ℕ
   pub limit : ℕ
   pub command : IsPipe words input output batch limit
+  -- each place that was opened was opened at once
+  pub ins_opened : AreOpensSame ins new_ins
+  pub outs_opened : AreOpensSame outs new_outs
   pub ends : Ends batch limit (place_change (ins input) (new_ins input)) (place_change (outs output) (new_outs output)) (place_change (outs journal_place) (new_outs journal_place)) (report_change rest new_rest) (moments 0) (moments 3) status
 
 -- no count of the world rose

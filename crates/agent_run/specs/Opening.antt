@@ -1,41 +1,27 @@
 -- What is left where a place of a pipe wasn't opened.
 use Rattle.std.specs.Prelude.{◌≡◌, ◌≢◌, ◌⊎◌, ℕ, List, []}
-use Rattle.agent_base.specs.Places.{Place, Rest}
+use Rattle.agent_base.specs.Places.{Place, Rest, SameAtAll}
 use Rattle.agent_run.specs.Command.{journal_place}
-use Rattle.agent_run.specs.Places.{AreBack, RoseToOpen, ReportsLine, open_fault_line}
+use Rattle.agent_run.specs.Places.{IsUnopened, ReportsLine, open_fault_line}
 use Rattle.agent_run.specs.declared.status.Status.{Status}
 use Rattle.agent_run.specs.declared.status.Status.TheVariants.{OpenFault}
 use Rattle.agent_run.specs.declared.status.Status.TheVariants as statuses
 use Rattle.agent_run.specs.declared.opening.Refusal.{Refusal}
 use Rattle.agent_run.specs.declared.opening.Refusal.TheVariants.{Input, Output, Journal, OutOfMemory}
 
--- all is the same but at two places
-abbrev pub SameButTwo : {K X : Type 0} → K → K → (K → X) → (K → X) → Type 0
-SameButTwo {K} place second old new = (other : K) → other ≢ place → other ≢ second → new other ≡ old other
+-- what is left of the output places where one of them wasn't opened; where memory was short they are as before
+abbrev pub OutsRefused : Refusal → List ℕ → (List ℕ → Place) → (List ℕ → Place) → Type 0
+OutsRefused Input output outs new_outs = ⊥
+OutsRefused Output output outs new_outs = IsUnopened output outs new_outs
+OutsRefused Journal output outs new_outs = IsUnopened journal_place outs new_outs
+OutsRefused OutOfMemory output outs new_outs = SameAtAll outs new_outs
 
--- the place that wasn't opened has a count of failed opens that rose
-abbrev pub HasRisen : Refusal → List ℕ → List ℕ → (List ℕ → Place) → (List ℕ → Place) → (List ℕ → Place) → (List ℕ → Place) → Type 0
-HasRisen Input input output ins new_ins outs new_outs = RoseToOpen (ins input) (new_ins input)
-HasRisen Output input output ins new_ins outs new_outs = RoseToOpen (outs output) (new_outs output)
-HasRisen Journal input output ins new_ins outs new_outs = RoseToOpen (outs journal_place) (new_outs journal_place)
-HasRisen OutOfMemory input output ins new_ins outs new_outs = Unit {0}
-
--- one of the two output places wasn't opened
-abbrev pub HasRisenOut : Refusal → List ℕ → (List ℕ → Place) → (List ℕ → Place) → Type 0
-HasRisenOut Input output outs new_outs = ⊥
-HasRisenOut Output output outs new_outs = RoseToOpen (outs output) (new_outs output)
-HasRisenOut Journal output outs new_outs = RoseToOpen (outs journal_place) (new_outs journal_place)
-HasRisenOut OutOfMemory output outs new_outs = Unit {0}
-
-pub record OutsRefused (refusal : Refusal) (output : List ℕ) (outs new_outs : List ℕ → Place) : Type 0 where
-  pub rose : HasRisenOut refusal output outs new_outs
-  pub back : AreBack outs new_outs
-
--- one of the three places wasn't opened, and every place has its bytes again
-pub record PartsRefused (refusal : Refusal) (input output : List ℕ) (ins new_ins outs new_outs : List ℕ → Place) : Type 0 where
-  pub rose : HasRisen refusal input output ins new_ins outs new_outs
-  pub ins_back : AreBack ins new_ins
-  pub outs_back : AreBack outs new_outs
+-- what is left of all places where one of the three wasn't opened
+abbrev pub PartsRefused : Refusal → List ℕ → List ℕ → (List ℕ → Place) → (List ℕ → Place) → (List ℕ → Place) → (List ℕ → Place) → Type 0
+PartsRefused Input input output ins new_ins outs new_outs = IsUnopened input ins new_ins × SameAtAll outs new_outs
+PartsRefused Output input output ins new_ins outs new_outs = SameAtAll ins new_ins × IsUnopened output outs new_outs
+PartsRefused Journal input output ins new_ins outs new_outs = SameAtAll ins new_ins × IsUnopened journal_place outs new_outs
+PartsRefused OutOfMemory input output ins new_ins outs new_outs = SameAtAll ins new_ins × SameAtAll outs new_outs
 
 -- the place of a refusal
 abbrev pub place_of : Refusal → List ℕ → List ℕ → List ℕ

@@ -1,19 +1,22 @@
 -- What a run leaves of the places that it opened.
-use Rattle.std.specs.Prelude.{◌≡◌, ◌≢◌, ◌≤◌, ℕ, List, take, false, ◌++◌, ◌⊎◌, codes}
+use Rattle.std.specs.Prelude.{◌≡◌, ◌≢◌, ◌≤◌, ℕ, List, take, ◌++◌, ◌⊎◌, codes}
 use Rattle.std.specs.Io.KnownBytes.{Appends}
 use Rattle.agent_base.specs.Counts.{Rose}
-use Rattle.agent_base.specs.Places.{Place, Rest}
+use Rattle.agent_base.specs.Places.{Place, Rest, FailsToOpen, SameBut, SameAtAll}
 use Rattle.agent_run.specs.Command.{journal_place}
 
--- a place has its bytes and its count of faults again, and isn't out
-pub record IsBack (old new : Place) : Type 0 where
-  pub bytes : new.bytes ≡ old.bytes
-  pub part_faults : new.part_faults ≡ old.part_faults
-  pub is_out : new.is_out ≡ false
+-- all is the same but at two places
+abbrev pub SameButTwo : {K X : Type 0} → K → K → (K → X) → (K → X) → Type 0
+SameButTwo {K} place second old new = (other : K) → other ≢ place → other ≢ second → new other ≡ old other
 
--- each place does
-abbrev pub AreBack : (List ℕ → Place) → (List ℕ → Place) → Type 0
-AreBack old new = (place : List ℕ) → IsBack (old place) (new place)
+-- opening a place failed, which was counted; it has its bytes again, and every other place is as before
+pub record IsUnopened (place : List ℕ) (old new : List ℕ → Place) : Type 0 where
+  pub failed : FailsToOpen (old place) (new place)
+  pub others : SameBut place old new
+
+-- at no place did the count of failed opens change
+abbrev pub AreOpensSame : (List ℕ → Place) → (List ℕ → Place) → Type 0
+AreOpensSame old new = (place : List ℕ) → (new place).open_faults ≡ (old place).open_faults
 
 -- opening the place failed
 abbrev pub RoseToOpen : Place → Place → Type 0
@@ -36,16 +39,19 @@ usage_line = codes "usage\n"
 abbrev pub open_fault_line : List ℕ → List ℕ
 open_fault_line place = codes "fault: open " ++ place ++ codes "\n"
 
--- one of the three places of a pipe wasn't opened: it has the line's place, its count of failed opens rose, and every place has its bytes again
+-- the place at which the input stands wasn't opened, or one of the two output places, and every other place is as before
+abbrev pub IsUnopenedOf : List ℕ → List ℕ → List ℕ → (List ℕ → Place) → (List ℕ → Place) → (List ℕ → Place) → (List ℕ → Place) → Type 0
+IsUnopenedOf place input output ins new_ins outs new_outs =
+    ((place ≡ input) × IsUnopened place ins new_ins × SameAtAll outs new_outs) ⊎ (((place ≡ output) ⊎ (place ≡ journal_place)) × SameAtAll ins new_ins × IsUnopened place outs new_outs)
+
+-- one of the three places of a pipe wasn't opened, and the line that names it was reported
 pub record IsRefused (ins new_ins outs new_outs : List ℕ → Place) (rest new_rest : Rest) (input output : List ℕ) : Type 0 where
   pub place : List ℕ
-  pub rose : ((place ≡ input) × RoseToOpen (ins place) (new_ins place)) ⊎ (((place ≡ output) ⊎ (place ≡ journal_place)) × RoseToOpen (outs place) (new_outs place))
-  pub ins_back : AreBack ins new_ins
-  pub outs_back : AreBack outs new_outs
+  pub unopened : IsUnopenedOf place input output ins new_ins outs new_outs
   pub told : ReportsLine rest new_rest (open_fault_line place)
 
--- the words were no command: every place has its bytes again, and the line of usage was reported
+-- the words were no command: every place is as before, and the line of usage was reported
 pub record IsUnused (ins new_ins outs new_outs : List ℕ → Place) (rest new_rest : Rest) : Type 0 where
-  pub ins_back : AreBack ins new_ins
-  pub outs_back : AreBack outs new_outs
+  pub ins_same : SameAtAll ins new_ins
+  pub outs_same : SameAtAll outs new_outs
   pub told : ReportsLine rest new_rest usage_line

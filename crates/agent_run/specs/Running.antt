@@ -1,6 +1,5 @@
 -- What a core keeps between the steps of a run.
 use Rattle.std.specs.Prelude.{◌≡◌, ◌≤◌, ℕ, List, [], ◌∷◌, false, length, slice_get, Result, Ok, Err, ⊤}
-use Rattle.std.specs.declared.option.Option.{Option}
 use Rattle.std.specs.declared.option.Option.TheVariants.{Some, None}
 use Rattle.account.specs.declared.entry.Entry.{Entry}
 use Rattle.pipeline_core.specs.CoreState.{CoreState, lane_at}

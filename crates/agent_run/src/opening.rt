@@ -2,8 +2,8 @@
 ghost use Rattle.std.specs.Prelude.{◌≡◌, ◌≢◌, ℕ, List, true, IfOk, IfErr, OnErr};
 ghost use Rattle.agent_base.specs.Places.{AreHome, Opens, SameBut, SameAtAll};
 ghost use Rattle.agent_run.specs.Command.{journal_place};
-ghost use Rattle.agent_run.specs.Places.{AreBack};
-ghost use Rattle.agent_run.specs.Opening.{SameButTwo, OutsRefused, PartsRefused};
+ghost use Rattle.agent_run.specs.Opening.{OutsRefused, PartsRefused};
+ghost use Rattle.agent_run.specs.Places.{SameButTwo};
 
 use crate::command::JOURNAL;
 use agent_base::{OpenFault, World};

@@ -1,8 +1,8 @@
 //! The top call.
 ghost use Rattle.std.specs.Prelude.{◌≡◌, ◌≢◌, ◌≤◌, ◌⊎◌, ◌||◌, ℕ, List, Bool, true, false, IfOk, MatchOption, string_bytes};
-ghost use Rattle.agent_base.specs.Places.{AreHome, SameAtAll};
+ghost use Rattle.agent_base.specs.Places.{AreHome, SameAtAll, SameBut};
 ghost use Rattle.agent_run.specs.Command.{IsPipe, journal_place};
-ghost use Rattle.agent_run.specs.Places.{ReportsLine, IsRefused, IsUnused, open_fault_line};
+ghost use Rattle.agent_run.specs.Places.{AreOpensSame, ReportsLine, IsRefused, IsUnused, SameButTwo, open_fault_line};
 ghost use Rattle.agent_run.specs.Headline.{Ends, IsPutSo, PipeEnds, NothingRose, change, place_change, report_change, status_of};
 ghost use Rattle.agent_run.specs.Opening.{IsRefusalAnswer, place_of};
 
@@ -30,6 +30,7 @@ fn report_line<W: World>(world: &mut W, line: &[u8], status: Status) -> Status
     ensures answer { ((result ≡ status) × ReportsLine (W.rest world.old) (W.rest world.new) line.now) ⊎ (result ≡ Status.OutOfMemory) }
     ensures ins { SameAtAll (W.in_at world.old) (W.in_at world.new) }
     ensures outs { SameAtAll (W.out_at world.old) (W.out_at world.new) }
+    ensures moments { SameAtAll (W.moments world.old) (W.moments world.new) }
 {
     match world.report(line) {
         Err(PutFault::OutOfMemory) => Status::OutOfMemory,
@@ -50,6 +51,7 @@ fn report_account<W: World>(ending: &Ending, world: &mut W) -> Status
         × IsPutSo failed (report_change (W.rest world.old) (W.rest world.new)) ending.now.account.items) }
     ensures ins { SameAtAll (W.in_at world.old) (W.in_at world.new) }
     ensures outs { SameAtAll (W.out_at world.old) (W.out_at world.new) }
+    ensures moments { SameAtAll (W.moments world.old) (W.moments world.new) }
 {
     match world.report(&ending.account) {
         Ok(()) => ending.status(false),
@@ -78,6 +80,11 @@ fn run_parts<W: World>(
         (change (W.Out.held parts.sink) (W.out_at world.new pipe.now.output.now).bytes (W.Out.faults parts.sink) (W.out_at world.new pipe.now.output.now).part_faults)
         (change (W.Out.held parts.journal) (W.out_at world.new journal_place).bytes (W.Out.faults parts.journal) (W.out_at world.new journal_place).part_faults)
         (report_change (W.rest world.old) (W.rest world.new)) (W.moments world.old 0) (W.moments world.old 3) result }
+    ensures other_ins { SameBut pipe.now.input.now (W.in_at world.old) (W.in_at world.new) }
+    ensures other_outs { SameButTwo pipe.now.output.now journal_place (W.out_at world.old) (W.out_at world.new) }
+    ensures other_clocks { SameButTwo 0 3 (W.moments world.old) (W.moments world.new) }
+    ensures ins_opened { AreOpensSame (W.in_at world.old) (W.in_at world.new) }
+    ensures outs_opened { AreOpensSame (W.out_at world.old) (W.out_at world.new) }
     ensures ins { AreHome (W.in_at world.new) }
     ensures outs { AreHome (W.out_at world.new) }
 {
@@ -124,6 +131,7 @@ fn refuse<W: World>(alloc: Global, pipe: &Pipe<'_>, refusal: Refusal, world: &mu
     ensures answer { IsRefusalAnswer result refusal pipe.now.input.now pipe.now.output.now (W.rest world.old) (W.rest world.new) }
     ensures ins { SameAtAll (W.in_at world.old) (W.in_at world.new) }
     ensures outs { SameAtAll (W.out_at world.old) (W.out_at world.new) }
+    ensures moments { SameAtAll (W.moments world.old) (W.moments world.new) }
 {
     let Some(place) = refused_place(pipe, refusal) else {
         return Status::OutOfMemory;
@@ -145,6 +153,11 @@ fn run_pipe<W: World>(alloc: Global, pipe: &Pipe<'_>, world: &mut W) -> Status
     ensures ends { (result ≢ Status.OpenFault) → Ends pipe.now.batch pipe.now.limit (place_change (W.in_at world.old pipe.now.input.now) (W.in_at world.new pipe.now.input.now))
         (place_change (W.out_at world.old pipe.now.output.now) (W.out_at world.new pipe.now.output.now)) (place_change (W.out_at world.old journal_place) (W.out_at world.new journal_place))
         (report_change (W.rest world.old) (W.rest world.new)) (W.moments world.old 0) (W.moments world.old 3) result }
+    ensures other_ins { SameBut pipe.now.input.now (W.in_at world.old) (W.in_at world.new) }
+    ensures other_outs { SameButTwo pipe.now.output.now journal_place (W.out_at world.old) (W.out_at world.new) }
+    ensures other_clocks { SameButTwo 0 3 (W.moments world.old) (W.moments world.new) }
+    ensures ins_opened { (result ≢ Status.OpenFault) → (result ≢ Status.OutOfMemory) → AreOpensSame (W.in_at world.old) (W.in_at world.new) }
+    ensures outs_opened { (result ≢ Status.OpenFault) → (result ≢ Status.OutOfMemory) → AreOpensSame (W.out_at world.old) (W.out_at world.new) }
     ensures ins_home { AreHome (W.in_at world.new) }
     ensures outs_home { AreHome (W.out_at world.new) }
 {
@@ -170,7 +183,7 @@ pub fn agent<W: World>(alloc: Global, words: &[String], world: &mut W) -> Status
 
     ensures config { result ≢ Status.Config }
 
-    // OpenFault comes only where one of the three places wasn't opened; every place then has its bytes.
+    // OpenFault comes only where one of the three places wasn't opened: that is counted there, and all else is as before.
     ensures open { result ≡ Status.OpenFault → (input output : List ℕ) × (batch limit : ℕ) × IsPipe words.now input output batch limit
         × IsRefused (W.in_at world.old) (W.in_at world.new) (W.out_at world.old) (W.out_at world.new) (W.rest world.old) (W.rest world.new) input output }
 
@@ -182,6 +195,14 @@ pub fn agent<W: World>(alloc: Global, words: &[String], world: &mut W) -> Status
     ensures complete { ((input output : List ℕ) × (batch limit : ℕ) × IsPipe words.now input output batch limit) →
         NothingRose (W.in_at world.old) (W.in_at world.new) (W.out_at world.old) (W.out_at world.new) (W.rest world.old) (W.rest world.new) →
         (result ≢ Status.Limit) → (result ≡ Status.Done) ⊎ (result ≡ Status.OutOfMemory) }
+
+    // Whatever the status: words that are no command change nothing but the report, and a command leaves every place and
+    // every clock that it doesn't name as it was.
+    ensures no_command_leaves { ((input output : List ℕ) (batch limit : ℕ) → IsPipe words.now input output batch limit → ⊥) →
+        SameAtAll (W.in_at world.old) (W.in_at world.new) × SameAtAll (W.out_at world.old) (W.out_at world.new) × SameAtAll (W.moments world.old) (W.moments world.new) }
+    ensures other_ins { (input output : List ℕ) (batch limit : ℕ) → IsPipe words.now input output batch limit → SameBut input (W.in_at world.old) (W.in_at world.new) }
+    ensures other_outs { (input output : List ℕ) (batch limit : ℕ) → IsPipe words.now input output batch limit → SameButTwo output journal_place (W.out_at world.old) (W.out_at world.new) }
+    ensures other_clocks { SameButTwo 0 3 (W.moments world.old) (W.moments world.new) }
 
     ensures ins_home { AreHome (W.in_at world.new) }
     ensures outs_home { AreHome (W.out_at world.new) }

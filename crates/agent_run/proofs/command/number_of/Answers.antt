@@ -1,4 +1,4 @@
-use Rattle.std.proofs.Common.{◌≡◌, ◌<◌, ◌≤◌, ℕ, List, Bool, Ok, Err, sym, ap, ◌∙◌, arith}
+use Rattle.std.proofs.Common.{◌≡◌, Ok, Err, arith}
 use Rattle.agent_run.proofs.NumberWords.{word_is, word_reads, word_fails}
 use Rattle.fixed_num.specs.Whole.{uint_read_as}
 use Rattle.agent_run.proofs.command.number_of.Goals as goal

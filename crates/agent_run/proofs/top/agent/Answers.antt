@@ -17,6 +17,8 @@ returns-in-Some-clause-headline g c = λ usage opened memory. record {
   batch = c.in-Some.pipe.batch;
   limit = c.in-Some.pipe.limit;
   command = c.in-Some.ensures;
+  ins_opened = c.run_pipe.ensures.ins_opened opened memory;
+  outs_opened = c.run_pipe.ensures.outs_opened opened memory;
   ends = c.run_pipe.ensures.ends opened;
 }
 

@@ -1,8 +1,8 @@
-use Rattle.std.proofs.Common.{◌≡◌, List, ℕ, ◌∙◌, refl, arith}
+use Rattle.std.proofs.Common.{◌∙◌, refl, arith}
 use Rattle.agent_run.specs.Headline.{change, report_change}
 use Rattle.agent_run.proofs.HeadlineLemmas.{ends_as, taken_in, report_is, reported_ends}
 use Rattle.agent_run.specs.Command.{journal_place}
-use Rattle.agent_run.proofs.PlaceLemmas.{ins_home, outs_home}
+use Rattle.agent_run.proofs.PlaceLemmas.{given_opens, two_given_opens, ins_home, outs_home}
 use Rattle.agent_run.proofs.top.run_parts.Goals as goal
 
 pub returns-in-Ok-clause-ins : goal.returns-in-Ok-clause-ins
@@ -58,3 +58,27 @@ returns-in-Ok-clause-ends g c =
     (c.give_out-2.ensures.rest ∙ c.give_out.ensures.rest ∙ c.give_in.ensures.rest ∙ c.clock-input_clock.ensures.rest ∙ c.clock-clock.ensures.rest) refl)
     c.clock-clock.ensures.told (c.clock-input_clock.ensures.told ∙ c.clock-clock.ensures.others 3 (λ e. absurd (omega (arith, e))))
     (reported_ends c.args.pipe.now.batch c.args.pipe.now.limit _ _ _ _ _ _ c.in-Ok.ending c.report_account.result c.in-Ok.ensures.ran c.report_account.ensures.answer)
+
+pub returns-in-Ok-clause-ins_opened : goal.returns-in-Ok-clause-ins_opened
+returns-in-Ok-clause-ins_opened g c =
+    given_opens c.args.pipe.now.input.now (g.W.World.in_at c.args.world.now) (g.W.World.in_at c.clock-input_clock.new.self) (g.W.World.in_at c.give_in.new.self) (g.W.World.in_at c.report_account.new.world)
+    (λ q. c.clock-input_clock.ensures.ins q ∙ c.clock-clock.ensures.ins q) c.give_in.ensures.given.open_faults c.give_in.ensures.others
+    (λ q. c.report_account.ensures.ins q ∙ c.give_out-2.ensures.ins q ∙ c.give_out.ensures.ins q)
+
+pub returns-in-Ok-clause-outs_opened : goal.returns-in-Ok-clause-outs_opened
+returns-in-Ok-clause-outs_opened g c =
+    two_given_opens c.args.pipe.now.output.now journal_place (g.W.World.out_at c.args.world.now) (g.W.World.out_at c.give_in.new.self) (g.W.World.out_at c.give_out.new.self) (g.W.World.out_at c.give_out-2.new.self) (g.W.World.out_at c.report_account.new.world)
+    (λ q. c.give_in.ensures.outs q ∙ c.clock-input_clock.ensures.outs q ∙ c.clock-clock.ensures.outs q)
+    c.give_out.ensures.given.open_faults c.give_out.ensures.others c.give_out-2.ensures.given.open_faults c.give_out-2.ensures.others c.report_account.ensures.outs
+
+pub returns-clause-ins_opened : goal.returns-clause-ins_opened
+returns-clause-ins_opened g c =
+    given_opens c.args.pipe.now.input.now (g.W.World.in_at c.args.world.now) (g.W.World.in_at c.clock-input_clock.new.self) (g.W.World.in_at c.give_in.new.self) (g.W.World.in_at c.give_out-2.new.self)
+    (λ q. c.clock-input_clock.ensures.ins q ∙ c.clock-clock.ensures.ins q) c.give_in.ensures.given.open_faults c.give_in.ensures.others
+    (λ q. c.give_out-2.ensures.ins q ∙ c.give_out.ensures.ins q)
+
+pub returns-clause-outs_opened : goal.returns-clause-outs_opened
+returns-clause-outs_opened g c =
+    two_given_opens c.args.pipe.now.output.now journal_place (g.W.World.out_at c.args.world.now) (g.W.World.out_at c.give_in.new.self) (g.W.World.out_at c.give_out.new.self) (g.W.World.out_at c.give_out-2.new.self) (g.W.World.out_at c.give_out-2.new.self)
+    (λ q. c.give_in.ensures.outs q ∙ c.clock-input_clock.ensures.outs q ∙ c.clock-clock.ensures.outs q)
+    c.give_out.ensures.given.open_faults c.give_out.ensures.others c.give_out-2.ensures.given.open_faults c.give_out-2.ensures.others (λ q. refl)

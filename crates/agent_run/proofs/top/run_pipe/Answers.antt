@@ -1,8 +1,8 @@
-use Rattle.std.proofs.Common.{◌≡◌, inl, inr, sym, refl}
+use Rattle.std.proofs.Common.{inl, inr, refl}
 use Rattle.agent_run.specs.Command.{journal_place}
 use Rattle.agent_run.specs.Headline.{change, place_change, report_change}
 use Rattle.agent_run.proofs.HeadlineLemmas.{ends_as, opened, report_is, never_open, short_ends}
-use Rattle.agent_run.proofs.PlaceLemmas.{is_refused}
+use Rattle.agent_run.proofs.PlaceLemmas.{is_refused, opened_opens, two_opened_opens}
 use Rattle.agent_run.proofs.top.run_pipe.Goals as goal
 
 pub returns-in-Err-clause-open : goal.returns-in-Err-clause-open
@@ -45,3 +45,19 @@ returns-in-Ok-clause-ends g c = λ other.
     (report_is (g.W.World.rest c.open_parts.new.world) (g.W.World.rest old) (g.W.World.rest last) (g.W.World.rest last) c.open_parts.ensures.rest refl)
     (c.open_parts.ensures.moments 0) (c.open_parts.ensures.moments 3)
     c.run_parts.ensures.ends
+
+pub returns-in-Ok-clause-ins_opened : goal.returns-in-Ok-clause-ins_opened
+returns-in-Ok-clause-ins_opened g c = λ other short.
+    opened_opens c.args.pipe.now.input.now (g.W.World.in_at c.args.world.now) (g.W.World.in_at c.open_parts.new.world) (g.W.World.in_at c.run_parts.new.world)
+    c.in-Ok.ensures.source.open_faults c.in-Ok.ensures.other_ins c.run_parts.ensures.ins_opened
+
+pub returns-in-Ok-clause-outs_opened : goal.returns-in-Ok-clause-outs_opened
+returns-in-Ok-clause-outs_opened g c = λ other short.
+    two_opened_opens c.args.pipe.now.output.now journal_place (g.W.World.out_at c.args.world.now) (g.W.World.out_at c.open_parts.new.world) (g.W.World.out_at c.run_parts.new.world)
+    c.in-Ok.ensures.sink.open_faults c.in-Ok.ensures.journal.open_faults c.in-Ok.ensures.other_outs c.run_parts.ensures.outs_opened
+
+pub returns-in-Err-clause-ins_opened : goal.returns-in-Err-clause-ins_opened
+returns-in-Err-clause-ins_opened g c = λ other short. elim c.refuse.ensures.answer [ inl told ↦ absurd (other told.0) | inr memory ↦ absurd (short memory) ]
+
+pub returns-in-Err-clause-outs_opened : goal.returns-in-Err-clause-outs_opened
+returns-in-Err-clause-outs_opened g c = λ other short. elim c.refuse.ensures.answer [ inl told ↦ absurd (other told.0) | inr memory ↦ absurd (short memory) ]

@@ -32,7 +32,9 @@ fn advice(status: Status) -> &'static str {
         Status::Config => "hogzent: the configuration was refused",
         Status::ReadFault =>
             "hogzent: a read of the input failed; what was read before was sent on",
-        Status::OpenFault => "hogzent: a place could not be opened; nothing was read or written",
+        Status::OpenFault => {
+            "hogzent: a place could not be opened; no line was read or written (an output may not be the file that is read, or another output)"
+        }
         Status::Left => {
             "hogzent: the last three puts to the output failed; the account says how many metrics are still buffered"
         }

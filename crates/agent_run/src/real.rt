@@ -2,10 +2,11 @@
 ghost use Rattle.std.specs.Prelude.{◌≡◌, None, Some, false};
 
 use agent_base::{Clock, MemWorld, OpenFault, PutFault, Sink, Source, StdSink, StdSource, World};
-use fixed_num::Moment;
+use fixed_num::{Moment, OutOfMemory};
 use std::alloc::Global;
-use std::fs::File;
+use std::fs::{self, File, Metadata};
 use std::io::{Read, Stdin, Stdout, Write};
+use std::os::unix::fs::MetadataExt;
 use std::rt::Files;
 use std::time::{Duration, SystemTime};
 use std::{io, thread};
@@ -93,6 +94,62 @@ impl<R: std::rt::Clock> Clock for RealClock<'_, R> {
     }
 }
 
+/// Which regular file of the system a place is, whatever name it has: its device, and its number there.
+#[derive(Clone, Copy, Debug, PartialEq, Eq)]
+struct FileIdentity {
+    device: u64,
+    number: u64,
+}
+
+impl FileIdentity {
+    /// None of a device, a pipe or a folder.
+    fn of(found: &Metadata) -> Option<FileIdentity> {
+        if !found.is_file() {
+            return None;
+        }
+        Some(FileIdentity {
+            device: found.dev(),
+            number: found.ino(),
+        })
+    }
+
+    /// None where nothing is at the path.
+    fn at<R: Files>(rt: &R, path: &str) -> Option<FileIdentity> {
+        match fs::metadata(rt, path) {
+            Ok(found) => FileIdentity::of(&found),
+            Err(_) => None,
+        }
+    }
+}
+
+/// Notes the file at a path as opened.
+fn note<R: Files>(rt: &R, opened: &mut Vec<FileIdentity>, path: &str) -> Result<(), OutOfMemory> {
+    if let Some(identity) = FileIdentity::at(rt, path) {
+        opened.push(identity)?;
+    }
+    Ok(())
+}
+
+/// Whether an output place is a file that was opened before.
+fn is_opened<R: Files>(rt: &R, opened: &[FileIdentity], place: &str) -> bool {
+    if place == "stdout" {
+        return false;
+    }
+    match FileIdentity::at(rt, place) {
+        Some(identity) => opened.contains(&identity),
+        None => false,
+    }
+}
+
+/// The path of an input place; of standard input that at which the system shows it.
+fn path_of(place: &str) -> &str {
+    if place == "stdin" {
+        "/dev/stdin"
+    } else {
+        place
+    }
+}
+
 /// What is read at a place, where it can be opened.
 fn reader_at<R: Files<File = File>>(rt: &R, stdin: Stdin, place: &str) -> Option<Reader> {
     if place == "stdin" {
@@ -118,11 +175,15 @@ fn writer_at<R: Files<File = File>>(rt: &R, stdout: Stdout, place: &str) -> Opti
 /// The real world. The place `stdin` is standard input and `stdout` standard output; every other
 /// place is a file, and an output file is made new as it is opened. The report goes to standard
 /// output. A part that was given back is handed out again where its place is opened once more.
+///
+/// An output place that is a regular file which was opened before, at whatever place, isn't opened: making it new would
+/// lose what is read there, or was written.
 #[derive(Drop)]
 pub struct RealWorld<'r, R> {
     rt: &'r R,
     stdin: Stdin,
     stdout: Stdout,
+    opened: Vec<FileIdentity>,
     parts: MemWorld<StdSource<Reader>, StdSink<Writer>>,
     report: StdSink<Stdout>,
 }
@@ -139,6 +200,7 @@ impl<'r, R: Files<File = File> + std::rt::Clock + Sync> RealWorld<'r, R> {
             rt,
             stdin,
             stdout,
+            opened: Vec::new(alloc),
             parts: MemWorld::new(alloc),
             report: StdSink::new(stdout),
         }
@@ -163,7 +225,8 @@ impl<'r, R: Files<File = File> + std::rt::Clock + Sync> World for RealWorld<'r, 
     fn open_in(&mut self, place: &str) -> Result<StdSource<Reader>, OpenFault> {
         if !self.parts.has_in(place) {
             if let Some(reader) = reader_at(self.rt, self.stdin, place) {
-                if self.parts.add_in(place, StdSource::new(reader)).is_err() {
+                let noted = note(self.rt, &mut self.opened, path_of(place));
+                if noted.is_err() || self.parts.add_in(place, StdSource::new(reader)).is_err() {
                     return Err(OpenFault::OutOfMemory);
                 }
             }
@@ -172,9 +235,10 @@ impl<'r, R: Files<File = File> + std::rt::Clock + Sync> World for RealWorld<'r, 
     }
 
     fn open_out(&mut self, place: &str) -> Result<StdSink<Writer>, OpenFault> {
-        if !self.parts.has_out(place) {
+        if !self.parts.has_out(place) && !is_opened(self.rt, &self.opened, place) {
             if let Some(writer) = writer_at(self.rt, self.stdout, place) {
-                if self.parts.add_out(place, StdSink::new(writer)).is_err() {
+                let noted = note(self.rt, &mut self.opened, place);
+                if noted.is_err() || self.parts.add_out(place, StdSink::new(writer)).is_err() {
                     return Err(OpenFault::OutOfMemory);
                 }
             }

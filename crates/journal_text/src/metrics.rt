@@ -9,12 +9,23 @@ use fixed_num::OutOfMemory;
 use metric::{Metric, Text, Value};
 use std::alloc::Global;
 
+// Each plain byte stands at its own place, and a comma, which isn't plain, at every other place.
+static PLAIN: [u8; 256] = *b"\
+    ,,,,,,,,,,,,,,,,,,,,,,,,,,,,,,,,\
+    ,,,,,,,,,,,,,-.,0123456789:,,,,,\
+    ,ABCDEFGHIJKLMNOPQRSTUVWXYZ,,,,_\
+    ,abcdefghijklmnopqrstuvwxyz,,,,,\
+    ,,,,,,,,,,,,,,,,,,,,,,,,,,,,,,,,\
+    ,,,,,,,,,,,,,,,,,,,,,,,,,,,,,,,,\
+    ,,,,,,,,,,,,,,,,,,,,,,,,,,,,,,,,\
+    ,,,,,,,,,,,,,,,,,,,,,,,,,,,,,,,,";
+
 // Is it an upper-case letter, a lower-case letter, a digit, or one of `_ . - :`?
-#[tactic(auto, unfolding(crate::specs::MetricText::is_plain))]
+#[inline]
 fn is_plain(b: u8) -> bool
     ensures { result ≡ is_plain b }
 {
-    matches!(b, b'A'..=b'Z' | b'a'..=b'z' | b'0'..=b'9' | b'_' | b'.' | b'-' | b':')
+    PLAIN[b as usize] != b','
 }
 
 // An upper-case hexadecimal digit.

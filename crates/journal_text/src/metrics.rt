@@ -38,6 +38,8 @@ fn hex_digit(n: u8) -> u8
 }
 
 // Appends `%` and the two hexadecimal digits of a byte that isn't plain.
+#[cold]
+#[inline(never)]
 #[tactic(auto, unfolding(crate::specs::MetricText::byte_text))]
 fn append_escape(out: &mut Vec<u8>, b: u8) -> Result<(), OutOfMemory>
     requires { is_plain b ≡ false }

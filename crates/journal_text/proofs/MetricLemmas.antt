@@ -1,5 +1,5 @@
 use Rattle.std.proofs.Common.{◌≡◌, ℕ, suc, ◌+◌, true, false, List, [], ◌∷◌, ◌++◌, length, get_or, take, drop, refl, sym, ◌∙◌, ap, append_assoc, arith}
-use Rattle.std.specs.List.{prefix_len}
+use Rattle.std.specs.List.{prefix_len, list_all}
 use Rattle.std.proofs.lemmas.List.{append-nil, nil_from_length}
 use Rattle.journal_text.specs.MetricText.{is_plain, byte_text, escaped}
 
@@ -72,3 +72,16 @@ escaped_more {bytes = bytes} {first = first} {behind = behind} cut b others e ou
     ∙ append_assoc out first (byte_text b ++ escaped others)
     ∙ ap (λ t. out ++ (first ++ escaped t)) (sym e)
     ∙ ap (λ t. out ++ t) (parts_are cut) ∙ before
+
+plain_more : (b : ℕ) (bs : List ℕ) → is_plain b ≡ true → escaped bs ≡ bs → escaped (b ∷ bs) ≡ b ∷ bs
+unfolding escaped
+plain_more b bs plain others = ap (λ t. byte_text b ++ t) others ∙ ap (λ t. t ++ bs) (byte_plain b plain)
+
+-- plain bytes stand as they are
+pub plain_text : (bs : List ℕ) → list_all is_plain bs ≡ true → escaped bs ≡ bs
+unfolding escaped
+plain_text [] all = refl
+plain_text (b ∷ bs) all = elim (is_plain b) as (λ t. is_plain b ≡ t → escaped (b ∷ bs) ≡ b ∷ bs) [
+  | true ↦ λ plain. plain_more b bs plain (plain_text bs (rw plain at all))
+  | false ↦ λ no. let none : false ≡ true = rw no at all in absurd (cc)
+] refl

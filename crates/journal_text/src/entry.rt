@@ -5,7 +5,7 @@ ghost use Rattle.journal_text.specs.MetricText.{signed_text};
 ghost use Rattle.journal_text.specs.JournalText.{beside_text, whole_text, view_text, views_text, verdict_text, routed_text, metric_lines, report_line, report_lines, group_text, spaced, gather_line, gather_text, route_text, entry_text, end_text, HasItem, IsWholeOrRemoved};
 
 use crate::metrics::append_metric;
-use crate::parts::{append, append_numbers, append_signed, append_unsigned, settle};
+use crate::parts::{append, append_line, append_numbers, append_signed, append_unsigned, settle};
 use account::{Entry, Report, Verdict};
 use fixed_num::{Moment, OutOfMemory};
 use metric::Metric;
@@ -191,7 +191,7 @@ fn append_group(out: &mut Vec<u8>, group: Option<u64>) -> Result<(), OutOfMemory
             Ok(())
         }
         Some(group) => {
-            append_numbers(out, &[(" ", group)], "\n")?;
+            append_line(out, " ", group)?;
             Ok(())
         }
     }
@@ -240,7 +240,7 @@ fn append_made(
     ensures kept { Extends out.old.items out.new.items }
 {
     append_signed(out, words, moment)?;
-    append_numbers(out, &[(" ", made.len() as u64)], "\n")?;
+    append_line(out, " ", made.len() as u64)?;
     append_metric_lines(alloc, out, made)?;
     Ok(())
 }
@@ -355,11 +355,11 @@ fn append_entry(
     match e {
         Entry::Gather { .. } => append_gather(alloc, e, out),
         Entry::Ended { input } => {
-            append_numbers(out, &[("ended ", u64::from(*input))], "\n")?;
+            append_line(out, "ended ", u64::from(*input))?;
             Ok(())
         }
         Entry::Take { item } => {
-            append_numbers(out, &[("take ", *item)], "\n")?;
+            append_line(out, "take ", *item)?;
             Ok(())
         }
         Entry::Route { .. } => append_route(alloc, item, e, out),
@@ -400,7 +400,7 @@ fn append_end(account: &[u8], entries: u64, out: &mut Vec<u8>) -> Result<(), Out
     ensures kept { Extends out.old.items out.new.items }
 {
     out.extend_from_slice(account)?;
-    append_numbers(out, &[("end ", entries)], "\n")?;
+    append_line(out, "end ", entries)?;
     Ok(())
 }
 

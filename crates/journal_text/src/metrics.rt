@@ -1,6 +1,6 @@
 //! The text of a metric.
 ghost use Rattle.std.specs.Prelude.{◌≡◌, ◌++◌, ◌<◌, ◌≤◌, false, OnOk, length, codes};
-ghost use Rattle.std.specs.List.{flat_map, prefix_len};
+ghost use Rattle.std.specs.List.{flat_map, list_all, prefix_len};
 ghost use Rattle.account.specs.Extends.{Extends};
 ghost use Rattle.journal_text.specs.MetricText.{is_plain, hex_digit, byte_text, escaped, value_text, tag_text, field_text, fields_text, metric_text};
 
@@ -9,12 +9,23 @@ use fixed_num::OutOfMemory;
 use metric::{Metric, Text, Value};
 use std::alloc::Global;
 
+// Each plain byte stands at its own place, and a comma, which isn't plain, at every other place.
+static PLAIN: [u8; 256] = *b"\
+    ,,,,,,,,,,,,,,,,,,,,,,,,,,,,,,,,\
+    ,,,,,,,,,,,,,-.,0123456789:,,,,,\
+    ,ABCDEFGHIJKLMNOPQRSTUVWXYZ,,,,_\
+    ,abcdefghijklmnopqrstuvwxyz,,,,,\
+    ,,,,,,,,,,,,,,,,,,,,,,,,,,,,,,,,\
+    ,,,,,,,,,,,,,,,,,,,,,,,,,,,,,,,,\
+    ,,,,,,,,,,,,,,,,,,,,,,,,,,,,,,,,\
+    ,,,,,,,,,,,,,,,,,,,,,,,,,,,,,,,,";
+
 // Is it an upper-case letter, a lower-case letter, a digit, or one of `_ . - :`?
-#[tactic(auto, unfolding(crate::specs::MetricText::is_plain))]
+#[inline]
 fn is_plain(b: u8) -> bool
     ensures { result ≡ is_plain b }
 {
-    matches!(b, b'A'..=b'Z' | b'a'..=b'z' | b'0'..=b'9' | b'_' | b'.' | b'-' | b':')
+    PLAIN[b as usize] != b','
 }
 
 // An upper-case hexadecimal digit.
@@ -27,6 +38,8 @@ fn hex_digit(n: u8) -> u8
 }
 
 // Appends `%` and the two hexadecimal digits of a byte that isn't plain.
+#[cold]
+#[inline(never)]
 #[tactic(auto, unfolding(crate::specs::MetricText::byte_text))]
 fn append_escape(out: &mut Vec<u8>, b: u8) -> Result<(), OutOfMemory>
     requires { is_plain b ≡ false }
@@ -45,7 +58,8 @@ fn plain_len(bytes: &[u8]) -> usize
     bytes.iter().take_while(|b| is_plain(**b)).count()
 }
 
-// Appends a name, a key or a text: plain bytes as they are, others escaped.
+// Appends bytes: plain ones as they are, others escaped.
+#[inline(never)]
 fn append_escaped(out: &mut Vec<u8>, bytes: &[u8]) -> Result<(), OutOfMemory>
     ensures ok { OnOk result (out.new.items ≡ out.old.items ++ escaped bytes.now) }
     ensures kept { Extends out.old.items out.new.items }
@@ -64,12 +78,24 @@ fn append_escaped(out: &mut Vec<u8>, bytes: &[u8]) -> Result<(), OutOfMemory>
     }
 }
 
-// Appends a text.
+// Are all bytes plain?
+fn are_plain(bytes: &[u8]) -> bool
+    ensures { result ≡ list_all is_plain bytes.now }
+{
+    bytes.iter().all(|b| is_plain(*b))
+}
+
+// Appends a name, a key or a text. Most are plain.
 fn append_text(out: &mut Vec<u8>, text: &Text) -> Result<(), OutOfMemory>
     ensures ok { OnOk result (out.new.items ≡ out.old.items ++ escaped text.now) }
     ensures kept { Extends out.old.items out.new.items }
 {
-    append_escaped(out, text.as_str().as_bytes())?;
+    let bytes = text.as_str().as_bytes();
+    if are_plain(bytes) {
+        out.extend_from_slice(bytes)?;
+    } else {
+        append_escaped(out, bytes)?;
+    }
     Ok(())
 }
 

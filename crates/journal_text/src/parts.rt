@@ -1,5 +1,5 @@
 //! Parts of lines.
-ghost use Rattle.std.specs.Prelude.{◌≡◌, ◌++◌, OnOk, OnErr, decimal, take, length};
+ghost use Rattle.std.specs.Prelude.{◌≡◌, ◌++◌, OnOk, OnErr, codes, decimal, take, length};
 ghost use Rattle.std.specs.List.{flat_map};
 ghost use Rattle.account.specs.Extends.{Extends};
 ghost use Rattle.journal_text.specs.MetricText.{signed_text};
@@ -34,26 +34,60 @@ pub fn append_numbers(
     Ok(())
 }
 
-// Appends words and a number.
-pub fn append_unsigned(out: &mut Vec<u8>, words: &str, n: u64) -> Result<(), OutOfMemory>
-    ensures ok { OnOk result (out.new.items ≡ out.old.items ++ (words.now ++ decimal n)) }
+// Appends a number.
+#[inline(never)]
+fn append_unsigned_number(out: &mut Vec<u8>, n: u64) -> Result<(), OutOfMemory>
+    ensures ok { OnOk result (out.new.items ≡ out.old.items ++ decimal n) }
     ensures kept { Extends out.old.items out.new.items }
 {
     let mut buffer = itoa::Buffer::new();
-    out.extend_from_slice(words.as_bytes())?;
     out.extend_from_slice(buffer.format(n).as_bytes())?;
     Ok(())
 }
 
-// Appends words and a signed number.
+// Appends words and a number.
+#[inline(always)]
+pub fn append_unsigned(out: &mut Vec<u8>, words: &str, n: u64) -> Result<(), OutOfMemory>
+    ensures ok { OnOk result (out.new.items ≡ out.old.items ++ (words.now ++ decimal n)) }
+    ensures kept { Extends out.old.items out.new.items }
+{
+    append(out, words)?;
+    append_unsigned_number(out, n)?;
+    Ok(())
+}
+
+// Appends words, a number and a newline.
+#[inline(always)]
+pub fn append_line(out: &mut Vec<u8>, words: &str, n: u64) -> Result<(), OutOfMemory>
+    ensures ok { OnOk result (out.new.items ≡ out.old.items ++ (words.now ++ decimal n ++ codes "\n")) }
+    ensures kept { Extends out.old.items out.new.items }
+{
+    append(out, words)?;
+    append_unsigned_number(out, n)?;
+    append(out, "\n")?;
+    Ok(())
+}
+
+// Appends a signed number.
+#[inline(never)]
 #[tactic(auto, unfolding(crate::specs::MetricText::signed_text))]
+fn append_signed_number(out: &mut Vec<u8>, n: &i64) -> Result<(), OutOfMemory>
+    ensures ok { OnOk result (out.new.items ≡ out.old.items ++ signed_text n.now) }
+    ensures kept { Extends out.old.items out.new.items }
+{
+    let mut buffer = itoa::Buffer::new();
+    out.extend_from_slice(buffer.format(*n).as_bytes())?;
+    Ok(())
+}
+
+// Appends words and a signed number.
+#[inline(always)]
 pub fn append_signed(out: &mut Vec<u8>, words: &str, n: &i64) -> Result<(), OutOfMemory>
     ensures ok { OnOk result (out.new.items ≡ out.old.items ++ (words.now ++ signed_text n.now)) }
     ensures kept { Extends out.old.items out.new.items }
 {
-    let mut buffer = itoa::Buffer::new();
-    out.extend_from_slice(words.as_bytes())?;
-    out.extend_from_slice(buffer.format(*n).as_bytes())?;
+    append(out, words)?;
+    append_signed_number(out, n)?;
     Ok(())
 }
 

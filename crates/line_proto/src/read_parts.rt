@@ -22,10 +22,7 @@ pub(crate) fn fault(kind: LineKind, place: usize) -> ReadError<LineFault>
 fn word_end(bytes: &[u8]) -> Option<usize>
     ensures { result ≡ position (λ b. b == 44 || b == 32) bytes.now }
 {
-    // Letters and digits, which most bytes are, come behind both.
-    bytes
-        .iter()
-        .position(|b| *b <= b',' && (*b == b',' || *b == b' '))
+    bytes.iter().position(|b| *b == b',' || *b == b' ')
 }
 
 /// The first equals sign, comma or space.

@@ -5,5 +5,6 @@ pub mod Views
 pub mod Draft
 pub mod Grammar
 pub mod LineText
+pub mod Marks
 pub mod OneLine
 pub mod RoundTrip

@@ -14,6 +14,7 @@ use crate::read_items::{read_fields, read_tags};
 use crate::read_parts::{behind_spaces, fault, name_at};
 use crate::read_value::time_at;
 use fixed_num::Moment;
+use memchr::memchr2;
 use metric::Metric;
 use std::alloc::Global;
 use text_parts::ReadError;
@@ -81,7 +82,7 @@ fn read_text(
 fn needs_escapes(piece: &[u8]) -> bool
     ensures { result ≡ needs_escapes piece.now }
 {
-    piece.iter().any(|b| *b == b'\\' || *b == b'"')
+    memchr2(b'\\', b'"', piece).is_some()
 }
 
 /// Reads a piece without its newline as a line of line protocol. `None` exactly where it is blank (nothing but

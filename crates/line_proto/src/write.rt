@@ -1,7 +1,8 @@
 //! Metrics as lines of InfluxDB line protocol.
-ghost use Rattle.std.specs.Prelude.{◌≡◌, ◌++◌, flat_map, codes, OnOk, OnErr};
-ghost use Rattle.std.specs.List.{list_all, join_by};
+ghost use Rattle.std.specs.Prelude.{◌≡◌, ◌==◌, ◌++◌, flat_map, codes, OnOk, OnErr};
+ghost use Rattle.std.specs.List.{list_all, list_any, join_by};
 ghost use Rattle.line_proto.specs.LineText.{Adds, spaced, on_one_line, trimmed, escaped_byte, escaped, is_bare, name_text, key_text, value_text, tag_text, field_text, head_text, line_text};
+ghost use Rattle.line_proto.specs.Marks.{marks_of};
 
 use fixed_num::OutOfMemory;
 use metric::{Metric, Text, Value};
@@ -145,7 +146,7 @@ fn append_quoted(text: &Text, out: &mut Vec<u8>) -> Result<(), OutOfMemory>
     ensures { Adds result out.old.items out.new.items (codes "\"" ++ escaped (codes "\"\\") (on_one_line text.now) ++ codes "\"") }
 {
     out.push(b'"')?;
-    append_escaped(b"\"\\", text.as_str().as_bytes(), out)?;
+    append_escaped(Marks::Quoted, text.as_str().as_bytes(), out)?;
     out.push(b'"')?;
     Ok(())
 }
@@ -161,9 +162,9 @@ fn append_name(name: &Text, out: &mut Vec<u8>) -> Result<(), OutOfMemory>
     }
     if kept[0] == b'#' {
         out.push(b'_')?;
-        return append_escaped(b", ", &kept[1..], out);
+        return append_escaped(Marks::Name, &kept[1..], out);
     }
-    append_escaped(b", ", kept, out)
+    append_escaped(Marks::Name, kept, out)
 }
 
 /// Appends a key or the value of a tag.
@@ -175,7 +176,7 @@ fn append_key(key: &Text, out: &mut Vec<u8>) -> Result<(), OutOfMemory>
     if kept.is_empty() {
         return Ok(out.push(b'_')?);
     }
-    append_escaped(b",= ", kept, out)
+    append_escaped(Marks::Key, kept, out)
 }
 
 /// The text without the backslashes at its end.
@@ -189,9 +190,62 @@ fn trim(text: &[u8]) -> &[u8]
     &text[..end]
 }
 
+/// The kinds of text, each with its marks: the bytes that are escaped by a backslash.
+#[derive(Clone, Copy)]
+enum Marks {
+    /// A measurement.
+    Name,
+    /// A key or the value of a tag.
+    Key,
+    /// A text between double quotes.
+    Quoted,
+}
+
+/// Is a byte a mark?
+fn is_mark(marks: Marks, byte: u8) -> bool
+    ensures { result ≡ list_any (λ mark. mark == byte) (marks_of marks) }
+{
+    match marks {
+        Marks::Name => matches!(byte, b',' | b' '),
+        Marks::Key => matches!(byte, b',' | b'=' | b' '),
+        Marks::Quoted => matches!(byte, b'"' | b'\\'),
+    }
+}
+
+fn is_bare_name(text: &[u8]) -> bool
+    ensures { result ≡ list_all (is_bare (codes ", ")) text.now }
+{
+    text.iter()
+        .all(|byte| !matches!(*byte, b'\n' | b'\r' | b',' | b' '))
+}
+
+fn is_bare_key(text: &[u8]) -> bool
+    ensures { result ≡ list_all (is_bare (codes ",= ")) text.now }
+{
+    text.iter().all(|byte| !matches!(*byte, b'\n' | b'\r' | b',' | b'=' | b' '))
+}
+
+fn is_bare_quoted(text: &[u8]) -> bool
+    ensures { result ≡ list_all (is_bare (codes "\"\\")) text.now }
+{
+    text.iter()
+        .all(|byte| !matches!(*byte, b'\n' | b'\r' | b'"' | b'\\'))
+}
+
+/// Does the text have neither marks nor ends of lines?
+fn all_bare(marks: Marks, text: &[u8]) -> bool
+    ensures { result ≡ list_all (is_bare (marks_of marks)) text.now }
+{
+    match marks {
+        Marks::Name => is_bare_name(text),
+        Marks::Key => is_bare_key(text),
+        Marks::Quoted => is_bare_quoted(text),
+    }
+}
+
 /// Appends a text in one line with its marks escaped. A text that needs no change is copied whole.
-fn append_escaped(marks: &[u8], text: &[u8], out: &mut Vec<u8>) -> Result<(), OutOfMemory>
-    ensures { Adds result out.old.items out.new.items (escaped marks.now (on_one_line text.now)) }
+fn append_escaped(marks: Marks, text: &[u8], out: &mut Vec<u8>) -> Result<(), OutOfMemory>
+    ensures { Adds result out.old.items out.new.items (escaped (marks_of marks) (on_one_line text.now)) }
 {
     if all_bare(marks, text) {
         return Ok(out.extend_from_slice(text)?);
@@ -202,22 +256,15 @@ fn append_escaped(marks: &[u8], text: &[u8], out: &mut Vec<u8>) -> Result<(), Ou
     Ok(())
 }
 
-/// Does the text have neither marks nor ends of lines?
-fn all_bare(marks: &[u8], text: &[u8]) -> bool
-    ensures { result ≡ list_all (is_bare marks.now) text.now }
-{
-    text.iter().all(|byte| *byte != b'\n' && *byte != b'\r' && !marks.contains(byte))
-}
-
-fn append_byte(marks: &[u8], byte: u8, out: &mut Vec<u8>) -> Result<(), OutOfMemory>
-    ensures { Adds result out.old.items out.new.items (escaped_byte marks.now (spaced byte)) }
+fn append_byte(marks: Marks, byte: u8, out: &mut Vec<u8>) -> Result<(), OutOfMemory>
+    ensures { Adds result out.old.items out.new.items (escaped_byte (marks_of marks) (spaced byte)) }
 {
     let byte = if byte == b'\n' || byte == b'\r' {
         b' '
     } else {
         byte
     };
-    if marks.contains(&byte) {
+    if is_mark(marks, byte) {
         out.push(b'\\')?;
     }
     out.push(byte)?;

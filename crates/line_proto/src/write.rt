@@ -201,7 +201,7 @@ enum Marks {
     Quoted,
 }
 
-/// Is a byte a mark?
+/// Is a byte one of the marks?
 fn is_mark(marks: Marks, byte: u8) -> bool
     ensures { result ≡ list_any (λ mark. mark == byte) (marks_of marks) }
 {
@@ -212,6 +212,7 @@ fn is_mark(marks: Marks, byte: u8) -> bool
     }
 }
 
+/// Does a measurement have neither marks nor ends of lines?
 fn is_bare_name(text: &[u8]) -> bool
     ensures { result ≡ list_all (is_bare (codes ", ")) text.now }
 {
@@ -219,12 +220,14 @@ fn is_bare_name(text: &[u8]) -> bool
         .all(|byte| !matches!(*byte, b'\n' | b'\r' | b',' | b' '))
 }
 
+/// Does a key or the value of a tag have neither marks nor ends of lines?
 fn is_bare_key(text: &[u8]) -> bool
     ensures { result ≡ list_all (is_bare (codes ",= ")) text.now }
 {
     text.iter().all(|byte| !matches!(*byte, b'\n' | b'\r' | b',' | b'=' | b' '))
 }
 
+/// Does a text between double quotes have neither marks nor ends of lines?
 fn is_bare_quoted(text: &[u8]) -> bool
     ensures { result ≡ list_all (is_bare (codes "\"\\")) text.now }
 {

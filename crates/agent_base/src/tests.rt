@@ -67,7 +67,7 @@ fn pieces(rt: HostRuntime) -> Result<(), Fail> {
             assert_eq!(rt; answers(alloc, bytes, &[], most)?.as_slice(), expected);
         }
     }
-    for most in [7, 100_000] {
+    for most in [1, 7, 100_000] {
         for (count, end, expected) in [
             (65_536, b"\n".as_slice(), b"65536|.".as_slice()),
             (65_536, b"", b"65536|."),

@@ -39,7 +39,7 @@ usage_line = codes "usage\n"
 abbrev pub open_fault_line : List ℕ → List ℕ
 open_fault_line place = codes "fault: open " ++ place ++ codes "\n"
 
--- the place at which the input stands wasn't opened, or one of the two output places, and every other place is as before
+-- a place that wasn't opened: that of the input, or one of the two output places; every other place is as before
 abbrev pub IsUnopenedOf : List ℕ → List ℕ → List ℕ → (List ℕ → Place) → (List ℕ → Place) → (List ℕ → Place) → (List ℕ → Place) → Type 0
 IsUnopenedOf place input output ins new_ins outs new_outs =
     ((place ≡ input) × IsUnopened place ins new_ins × SameAtAll outs new_outs) ⊎ (((place ≡ output) ⊎ (place ≡ journal_place)) × SameAtAll ins new_ins × IsUnopened place outs new_outs)

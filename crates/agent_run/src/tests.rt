@@ -117,6 +117,9 @@ pub const TWO_LINES_REPORT: &[u8] =
 const TWO_LINES_JOURNAL: &[u8] =
     b"journal 1\nstart 0\ninput 0 plain\noutput 0 10 100\ngather 0 0 2 0 0 0 2 -\nm cpu;host=a|v=i1|5\nm cpu|v=f2.5|6\nended 0\ntake 0\nroute 0 = passes / =\ntake 1\nroute 1 = passes / =\nbegin 0 0 2\ndone 0 ok\nstop 0 0\ninput 0 pieces 2 refused 0 passed 0 filtered 0 gathered 2 ended\nitems made 0 removed 0 routed 2\noutput 0 filtered 0 late 0 consumed 0 written 2 buffered 0 dropped 0\nend 9\n";
 
+const ONE_DROPPED_REPORT: &[u8] =
+    b"input 0 pieces 2 refused 0 passed 0 filtered 0 gathered 2 ended\nitems made 0 removed 0 routed 2\noutput 0 filtered 0 late 0 consumed 0 written 1 buffered 0 dropped 1\n";
+
 const NOTHING_JOURNAL: &[u8] =
     b"journal 1\nstart 0\ninput 0 plain\noutput 0 10 100\nended 0\nstop 0 0\ninput 0 pieces 0 refused 0 passed 0 filtered 0 gathered 0 ended\nitems made 0 removed 0 routed 0\noutput 0 filtered 0 late 0 consumed 0 written 0 buffered 0 dropped 0\nend 2\n";
 
@@ -175,7 +178,7 @@ fn statuses(rt: HostRuntime) -> Result<(), Fail> {
             5,
             b"fault: open nowhere\n",
         ),
-        ("pipe a b 001 2", &[], &[], &[], 0, TWO_LINES_REPORT),
+        ("pipe a b 001 1", &[], &[], &[], 0, ONE_DROPPED_REPORT),
         ("pipe a b 10 100", &[], &[], &[(0, 3)], 7, TWO_LINES_REPORT),
         ("pipe a b 10 100", &[], &[(0, 0)], &[], 0, TWO_LINES_REPORT),
     ];

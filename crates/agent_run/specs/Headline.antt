@@ -202,7 +202,7 @@ pub record PipeEnds (status : Status) (words : List (String Global)) (ins new_in
   pub batch : ℕ
   pub limit : ℕ
   pub command : IsPipe words input output batch limit
-  -- each place that was opened was opened at once
+  -- no count of failed opens changed
   pub ins_opened : AreOpensSame ins new_ins
   pub outs_opened : AreOpensSame outs new_outs
   pub ends : Ends batch limit (place_change (ins input) (new_ins input)) (place_change (outs output) (new_outs output)) (place_change (outs journal_place) (new_outs journal_place)) (report_change rest new_rest) (moments 0) (moments 3) status

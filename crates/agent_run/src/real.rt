@@ -130,21 +130,27 @@ fn note<R: Files>(rt: &R, opened: &mut Vec<FileIdentity>, path: &str) -> Result<
     Ok(())
 }
 
-/// Whether an output place is a file that was opened before.
-fn is_opened<R: Files>(rt: &R, opened: &[FileIdentity], place: &str) -> bool {
-    if place == "stdout" {
-        return false;
-    }
-    match FileIdentity::at(rt, place) {
+/// Whether the file at a path was opened before.
+fn is_opened<R: Files>(rt: &R, opened: &[FileIdentity], path: &str) -> bool {
+    match FileIdentity::at(rt, path) {
         Some(identity) => opened.contains(&identity),
         None => false,
     }
 }
 
 /// The path of an input place; of standard input that at which the system shows it.
-fn path_of(place: &str) -> &str {
+fn input_path(place: &str) -> &str {
     if place == "stdin" {
         "/dev/stdin"
+    } else {
+        place
+    }
+}
+
+/// The path of an output place; of standard output that at which the system shows it.
+fn output_path(place: &str) -> &str {
+    if place == "stdout" {
+        "/dev/stdout"
     } else {
         place
     }
@@ -177,7 +183,7 @@ fn writer_at<R: Files<File = File>>(rt: &R, stdout: Stdout, place: &str) -> Opti
 /// output. A part that was given back is handed out again where its place is opened once more.
 ///
 /// An output place that is a regular file which was opened before, at whatever place, isn't opened: making it new would
-/// lose what is read there, or was written.
+/// lose what is read there, or was written. So it is with standard output where it goes to such a file.
 #[derive(Drop)]
 pub struct RealWorld<'r, R> {
     rt: &'r R,
@@ -225,7 +231,7 @@ impl<'r, R: Files<File = File> + std::rt::Clock + Sync> World for RealWorld<'r, 
     fn open_in(&mut self, place: &str) -> Result<StdSource<Reader>, OpenFault> {
         if !self.parts.has_in(place) {
             if let Some(reader) = reader_at(self.rt, self.stdin, place) {
-                let noted = note(self.rt, &mut self.opened, path_of(place));
+                let noted = note(self.rt, &mut self.opened, input_path(place));
                 if noted.is_err() || self.parts.add_in(place, StdSource::new(reader)).is_err() {
                     return Err(OpenFault::OutOfMemory);
                 }
@@ -235,9 +241,9 @@ impl<'r, R: Files<File = File> + std::rt::Clock + Sync> World for RealWorld<'r, 
     }
 
     fn open_out(&mut self, place: &str) -> Result<StdSink<Writer>, OpenFault> {
-        if !self.parts.has_out(place) && !is_opened(self.rt, &self.opened, place) {
+        if !self.parts.has_out(place) && !is_opened(self.rt, &self.opened, output_path(place)) {
             if let Some(writer) = writer_at(self.rt, self.stdout, place) {
-                let noted = note(self.rt, &mut self.opened, place);
+                let noted = note(self.rt, &mut self.opened, output_path(place));
                 if noted.is_err() || self.parts.add_out(place, StdSink::new(writer)).is_err() {
                     return Err(OpenFault::OutOfMemory);
                 }

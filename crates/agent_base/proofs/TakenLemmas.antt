@@ -10,7 +10,7 @@ use Rattle.agent_base.specs.Hand.{Hand, to_come, IsSameToCome}
 use Rattle.agent_base.specs.PieceAnswers.{IsGiven}
 use Rattle.agent_base.specs.Told.{Told}
 use Rattle.agent_base.specs.Taken.{Takes, AnswersWhatever, TakesFor}
-use Rattle.agent_base.proofs.Cuts.{last_passed, cut_nothing}
+use Rattle.agent_base.proofs.Cuts.{cut_line, passed_line, last_passed, cut_nothing}
 use Rattle.agent_base.proofs.LineLaws.{cuts_lines}
 use Rattle.agent_base.proofs.BufferLemmas.{read_hand}
 
@@ -80,3 +80,11 @@ one_to_come hand clean = go hand.is_passing
     go : (b : Bool) → length (cond b (TooLong ∷ passed (hand.bytes ++ [])) (cut (hand.bytes ++ []))) ≤ 1
     go true = rw (append-nil, last_passed hand.bytes clean, cut_nothing) (omega arith)
     go false = rw (append-nil, cuts_lines [] hand.bytes tt clean) (unended_one hand.bytes)
+
+-- where a newline alone is left, one piece at most is to come
+pub line_to_come : (hand : Hand) → NoNewline hand.bytes → length (to_come hand (10 ∷ [])) ≤ 1
+line_to_come hand clean = go hand.is_passing
+  where
+    go : (b : Bool) → length (cond b (TooLong ∷ passed (hand.bytes ++ 10 ∷ [])) (cut (hand.bytes ++ 10 ∷ []))) ≤ 1
+    go true = rw (passed_line hand.bytes [] clean, cut_nothing) (omega arith)
+    go false = rw (cut_line [] hand.bytes [] clean, cut_nothing) (omega arith)

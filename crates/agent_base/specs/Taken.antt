@@ -21,11 +21,15 @@ Takes before after old new = Told before after (IsTaking old new)
 abbrev pub AnswersWhatever : Result (Option Piece) PieceFault → Hand → Hand → List ℕ → Type 0
 AnswersWhatever result old new taken = (more : List ℕ) → Answers result (to_come old (taken ++ more)) (to_come new more)
 
--- where no piece is given the answer tells so; a piece and a too long one do, or nothing is left; none is given where nothing is left
+-- nothing is left, and no piece is to come
+abbrev pub IsSpent : Hand → List ℕ → Type 0
+IsSpent hand left = (left ≡ []) × (to_come hand [] ≡ [])
+
+-- the answer tells the pieces to come, whatever stands behind the bytes taken; or nothing is left and none is to come, as it is where none is given
 abbrev pub GivenOf : Result (Option Piece) PieceFault → Hand → Hand → List ℕ → List ℕ → Type 0
-GivenOf (Ok (Some p)) old new taken ys = (ys ≡ []) ⊎ AnswersWhatever (Ok (Some p)) old new taken
-GivenOf (Ok None) old new taken ys = ys ≡ []
-GivenOf (Err faults.TooLong) old new taken ys = (ys ≡ []) ⊎ AnswersWhatever (Err faults.TooLong) old new taken
+GivenOf (Ok (Some p)) old new taken ys = IsSpent new ys ⊎ AnswersWhatever (Ok (Some p)) old new taken
+GivenOf (Ok None) old new taken ys = IsSpent new ys
+GivenOf (Err faults.TooLong) old new taken ys = IsSpent new ys ⊎ AnswersWhatever (Err faults.TooLong) old new taken
 GivenOf (Err faults.OutOfMemory) old new taken ys = AnswersWhatever (Err faults.OutOfMemory) old new taken
 GivenOf (Err faults.ReadFault) old new taken ys = AnswersWhatever (Err faults.ReadFault) old new taken
 GivenOf (Err faults.ByteLimit) old new taken ys = AnswersWhatever (Err faults.ByteLimit) old new taken

@@ -262,6 +262,7 @@ impl Buffer {
         ensures pieces { Answers result (to_come (hand_of self.old) []) (to_come (hand_of self.new) []) }
         ensures last { IsLast result }
         ensures empty { bytes_of self.new ≡ [] }
+        ensures spent { to_come (hand_of self.new) [] ≡ [] }
         ensures counted { self.new.taken ≡ self.old.taken }
     {
         if self.passing {

@@ -17,16 +17,17 @@ use Rattle.agent_base.proofs.ClockLemmas.{clocked_wider, clocked_none, counted_o
 use Rattle.journal_text.specs.JournalText.{end_text}
 use Rattle.pipeline_core.specs.CoreState.{CoreState}
 use Rattle.pipeline_core.specs.Legal.{IsLegal, has_ended}
+use Rattle.pipeline_core.specs.Offers.{lane_events}
 use Rattle.pipeline_core.specs.Stands.{Stands}
 use Rattle.pipeline_core.specs.Totals.{totals}
 use Rattle.pipeline_core.proofs.StandsSteps.{differs}
 use Rattle.agent_base.specs.Counts.{RoseBy}
-use Rattle.agent_run.specs.Dones.{dones, LastFailed}
+use Rattle.agent_run.specs.Dones.{dones, behind_stop, LastFailed}
 use Rattle.agent_run.specs.EntryMoments.{gather_moments, counted_moments}
 use Rattle.agent_run.specs.Gathered.{Gathered}
 use Rattle.agent_run.specs.Headline.{Change, IsUnread, IsRun, EndsSo, IsPutSo, IsLeft, Ran, buffered_at_end, account_of, text_of}
 use Rattle.agent_run.specs.JournalSoFar.{JournalSoFar, Spells}
-use Rattle.agent_run.specs.Order.{IsDrained, NothingBuffered}
+use Rattle.agent_run.specs.Order.{EndsFailed, IsDrained, NothingBuffered}
 use Rattle.agent_run.specs.PipeSetup.{pipe_setup, journal_setup_of}
 use Rattle.agent_run.specs.Progress.{Beginning, Surroundings, IsNamed, is_ended, HasState, IsClocked, IsNamedOfTaken, Progress, GoesOn, SendsOn, ReadsOn, RunsOn, IsSettled}
 use Rattle.agent_run.specs.Running.{IsReading, IsRoutable, IsSentOn, IsNoted}
@@ -76,7 +77,8 @@ went_first start core so_far hand failed stands setup stored spells empty none =
   said = record {
     sent = sent_first 0 start.held;
     puts = subst (λ (bs : List Bool). RoseBy (count_by not bs) start.puts start.puts) (sym (dones_none 0)) (rose_none start.puts);
-    last = rw none (last_none (dones 0 []));
+    stuck = λ some. absurd (omega (arith, some, none));
+    last = λ stopped. rw none (last_none (dones 0 (behind_stop [])));
   };
   worked = worked_first;
   in_order = in_order_first start.setup;
@@ -84,10 +86,10 @@ went_first start core so_far hand failed stands setup stored spells empty none =
 }
 
 drained_at : (start : Beginning) (core : CoreState) (so_far : JournalSoFar) (hand : Hand) (failed : ℕ) (now : Surroundings) (w : Progress start core so_far hand failed now) → ((output_numbers core.numbers 0).buffered ≡ 0) ⊎ (1 ≤ failed)
-    → NothingBuffered start.setup w.journal 0 ⊎ LastFailed 1 (dones 0 w.journal)
+    → NothingBuffered start.setup w.journal 0 ⊎ EndsFailed (lane_events 0 w.journal)
 drained_at start core so_far hand failed now w (inl none) =
     inl (ap (λ (s : Setup). (output_numbers (totals s w.journal) 0).buffered) (sym w.text.setup_is) ∙ ap (λ (n : Numbers). (output_numbers n 0).buffered) (sym w.text.stands.numbers) ∙ none)
-drained_at start core so_far hand failed now w (inr some) = inr (last_fewer 1 failed (dones 0 w.journal) some w.said.last)
+drained_at start core so_far hand failed now w (inr some) = inr (w.said.stuck some)
 
 -- no item is raw, and nothing is buffered or the last batch failed
 pub drained : (start : Beginning) (core : CoreState) (so_far : JournalSoFar) (hand : Hand) (failed : ℕ) (now : Surroundings) (w : Progress start core so_far hand failed now) → length core.setup.outputs ≡ 1 → core.raw ≡ [] → ((output_numbers core.numbers 0).buffered ≡ 0) ⊎ (1 ≤ failed)
@@ -96,7 +98,7 @@ drained start core so_far hand failed now w one raw sent = record {
   none_raw = sym w.text.stands.raw ∙ raw;
   each = λ output within.
       let first : 0 ≡ output = omega (arith, within, one, ap (λ (s : Setup). length s.outputs) w.text.setup_is) in
-      subst (λ (o : ℕ). NothingBuffered start.setup w.journal o ⊎ LastFailed 1 (dones o w.journal)) first (drained_at start core so_far hand failed now w sent);
+      subst (λ (o : ℕ). NothingBuffered start.setup w.journal o ⊎ EndsFailed (lane_events o w.journal)) first (drained_at start core so_far hand failed now w sent);
 }
 
 named_ends : (state : InState) (journal : List Entry) (text : List ℕ) (rest : List Cut) → (state ≢ states.Reading) → IsNamed state journal text rest → Gathered 1000 journal 0 text
@@ -153,9 +155,9 @@ module _ (batch limit : ℕ) (start : ℤ) (moment : ℤ) (text : Option (List �
     totals_are : core.numbers ≡ totals (pipe_setup batch limit start) w.journal
     totals_are = w.text.stands.numbers ∙ ap (λ (s : Setup). totals s w.journal) w.text.setup_is
 
-    left_failed : ((output_numbers core.numbers 0).buffered ≡ 0) ⊎ (3 ≤ failed) → buffered_at_end (pipe_setup batch limit start) w.journal ≢ 0 → LastFailed 3 (dones 0 w.journal)
+    left_failed : ((output_numbers core.numbers 0).buffered ≡ 0) ⊎ (3 ≤ failed) → buffered_at_end (pipe_setup batch limit start) w.journal ≢ 0 → LastFailed 3 (dones 0 (behind_stop w.journal))
     left_failed (inl none) some = absurd (some (ap (λ (n : Numbers). (output_numbers n 0).buffered) (sym totals_are) ∙ none))
-    left_failed (inr many) some = last_fewer 3 failed (dones 0 w.journal) many w.said.last
+    left_failed (inr many) some = last_fewer 3 failed (dones 0 (behind_stop w.journal)) many (w.said.last (sym w.text.stands.stopped ∙ stopped))
 
     pub is_run : IsRun (pipe_setup batch limit start) (input_change beginning now) (output_change beginning now) run_moments input_moments w.journal
     is_run = record {

@@ -24,7 +24,7 @@ use Rattle.agent_run.specs.declared.reading.InState.TheVariants as states
 use Rattle.agent_run.specs.Causes.{IsNextGroup}
 use Rattle.agent_run.specs.EntryMoments.{gather_moments, counted_moments}
 use Rattle.agent_run.specs.Gathered.{GatherSays, gathers, Gathered, Gathering, GatheredTo, joined}
-use Rattle.agent_run.specs.Groups.{ReadsGroup, gathered_of, IsOffered, IsEnding}
+use Rattle.agent_run.specs.Groups.{ReadsGroup, gathered_of, IsOffered, IsEnding, IsGathered}
 use Rattle.agent_run.specs.JournalSoFar.{JournalSoFar}
 use Rattle.agent_run.specs.Order.{InOrder, IsDrained}
 use Rattle.agent_run.specs.Progress.{Beginning, Surroundings, HasText, IsNamed, is_ended, HasState, IsClocked, IsNamedOfTaken, Said, Progress}
@@ -94,7 +94,7 @@ module _ (start : Beginning) (core : CoreState) (so_far : JournalSoFar) (before 
     (w : Progress start core so_far before failed (record now { state = states.Reading })) (g : ReadsGroup moment group state before after now.left new_left)
     (gives : Gives start.moments now.place new_place moment) (reads : now.reads ≤ new_reads)
     (counted : Told now.left new_left (λ xs ys. before.taken + length xs ≡ after.taken + length ys))
-    (limit : state ≡ states.LimitReached → after.taken ≡ 2 ^ 40) (below : (state ≡ states.LimitReached → ⊥) → after.taken < 2 ^ 40) (faulted : state ≡ states.Faulted → Rose now.reads new_reads) (one : state ≡ states.Faulted → length (to_come after []) ≤ 1) where
+    (limit : state ≡ states.LimitReached → after.taken ≡ 2 ^ 40) (below : (state ≡ states.LimitReached → ⊥) → after.taken < 2 ^ 40) (faulted : state ≡ states.Faulted → Rose now.reads new_reads) (one : state ≡ states.Faulted → length (to_come after []) ≤ 1) (line : state ≡ states.Faulted → length (to_come after (10 ∷ [])) ≤ 1) where
   here : Told start.text now.left (λ xs ys. Gathering 1000 w.journal 0 xs (to_come before ys))
   here = w.heard.named
 
@@ -123,7 +123,7 @@ module _ (start : Beginning) (core : CoreState) (so_far : JournalSoFar) (before 
   taken_none : (s : InState) → s ≡ state → (s ≡ states.Reading → ⊥) → group.pieces ≡ 0 → Told start.text new_left (IsNamedOfTaken s w.journal after)
   taken_none states.Reading e ne none = absurd (ne refl)
   taken_none states.Ended e ne none = told_map start.text new_left (λ xs ys. length xs ≡ after.taken + length ys) (IsNamedOfTaken states.Ended w.journal after) (λ xs ys h. tt) counted_all
-  taken_none states.Faulted e ne none = told_taken_same 1000 0 w.journal moment group before after start.text now.left new_left g.reads w.heard.of_taken here (one (sym e)) w.journal refl none
+  taken_none states.Faulted e ne none = told_taken_same 1000 0 w.journal moment group before after start.text now.left new_left g.reads w.heard.of_taken here (one (sym e)) (line (sym e)) w.journal refl none
   taken_none states.LimitReached e ne none = told_map start.text new_left (λ xs ys. length xs ≡ after.taken + length ys) (IsNamedOfTaken states.LimitReached w.journal after) (λ xs ys h. tt) counted_all
 
   -- no piece was read
@@ -143,7 +143,7 @@ module _ (start : Beginning) (core : CoreState) (so_far : JournalSoFar) (before 
           state = has_state state start (read_to now state new_left new_reads new_place) after w.journal now.reads w.heard.later limit below faulted;
           clocked = clocked_wide start.moments now.place new_place moment (gather_moments 0 w.journal) gives w.heard.clocked;
         };
-        said = record { sent = w.said.sent; puts = w.said.puts; last = w.said.last };
+        said = record { sent = w.said.sent; puts = w.said.puts; stuck = w.said.stuck; last = w.said.last };
         worked = w.worked;
         in_order = w.in_order;
         stops = w.stops;
@@ -169,7 +169,7 @@ module _ (start : Beginning) (core : CoreState) (so_far : JournalSoFar) (before 
   taken_more states.Ended e =
       told_map start.text new_left (λ xs ys. length xs ≡ after.taken + length ys) (IsNamedOfTaken states.Ended (w.journal ++ gather_entry (gathered_of moment group) ∷ []) after) (λ xs ys h. tt) counted_all
   taken_more states.Faulted e =
-      told_taken_more 1000 0 w.journal moment group before after start.text now.left new_left g.reads w.heard.of_taken here (one (sym e)) (w.journal ++ gather_entry (gathered_of moment group) ∷ []) more_named
+      told_taken_more 1000 0 w.journal moment group before after start.text now.left new_left g.reads w.heard.of_taken here (one (sym e)) (line (sym e)) (w.journal ++ gather_entry (gathered_of moment group) ∷ []) more_named
   taken_more states.LimitReached e =
       told_map start.text new_left (λ xs ys. length xs ≡ after.taken + length ys) (IsNamedOfTaken states.LimitReached (w.journal ++ gather_entry (gathered_of moment group) ∷ []) after) (λ xs ys h. tt) counted_all
 
@@ -193,7 +193,7 @@ module _ (start : Beginning) (core : CoreState) (so_far : JournalSoFar) (before 
               (gather_moments-push 0 w.journal e ∙ ap (λ (more : List GatherSays). gather_moments 0 w.journal ++ map (λ (says : GatherSays). says.moment) more) (gathers_own 0 moment group None []))
               (clocked_more start.moments now.place new_place moment (gather_moments 0 w.journal) gives w.heard.clocked);
         };
-        said = said_push start (read_to now state new_left new_reads new_place) failed w.journal e tt refl (record { sent = w.said.sent; puts = w.said.puts; last = w.said.last });
+        said = said_push start (read_to now state new_left new_reads new_place) failed w.journal e tt refl refl refl (record { sent = w.said.sent; puts = w.said.puts; stuck = w.said.stuck; last = w.said.last });
         worked = worked-push w.journal e tt w.worked;
         in_order = in_order-push start.setup w.journal e w.in_order drained;
         stops = counted_moments-same w.journal e refl ∙ w.stops;
@@ -229,7 +229,7 @@ module _ (start : Beginning) (core : CoreState) (so_far : JournalSoFar) (before 
       });
       clocked = clocked_wide start.moments now.place new_place moment (gather_moments 0 w.journal) gives w.heard.clocked;
     };
-    said = record { sent = w.said.sent; puts = w.said.puts; last = w.said.last };
+    said = record { sent = w.said.sent; puts = w.said.puts; stuck = w.said.stuck; last = w.said.last };
     worked = w.worked;
     in_order = w.in_order;
     stops = w.stops;
@@ -284,7 +284,7 @@ went_ended states.Ended start core next so_far hand failed now is w = record {
     state = w.heard.state;
     clocked = clocked_same start.moments now.place (gather_moments 0 w.journal) (gather_moments 0 (w.journal ++ Ended 0 ∷ [])) (gather_moments-same 0 w.journal (Ended 0) refl) w.heard.clocked;
   };
-  said = said_push start (record now { state = states.Ended }) failed w.journal (Ended 0) tt refl w.said;
+  said = said_push start (record now { state = states.Ended }) failed w.journal (Ended 0) tt refl refl refl w.said;
   worked = worked-push w.journal (Ended 0) tt w.worked;
   in_order = in_order-push start.setup w.journal (Ended 0) w.in_order tt;
   stops = counted_moments-same w.journal (Ended 0) refl ∙ w.stops;
@@ -305,3 +305,18 @@ offered_some moment stored group metrics old new same is some after stands = inr
   subst (λ (m : ℤ). new ≡ after_gather old (gathered_of m group)) is (subst (λ (ms : List Content). new ≡ after_gather old (record (gathered_of stored group) { metrics = ms })) same after),
   subst (λ (m : ℤ). Continues old new (gather_entry (gathered_of m group))) is (subst (λ (ms : List Content). Continues old new (gather_entry (record (gathered_of stored group) { metrics = ms }))) same stands),
 )
+
+-- where the input is read on a whole group was gathered
+pub gathered_full : (state : InState) (moment : ℤ) (group : Group) (old offered new : CoreState) (before after : Hand) (left_before left_after : Option (List ℕ)) → state ≡ states.Reading → ReadsGroup moment group state before after left_before left_after →
+    IsOffered true moment group old offered → IsEnding state offered new → IsGathered 1000 old new
+gathered_full state moment group old offered new before after left_before left_after reading g accepted ending = go accepted
+  where
+    count : group.pieces ≡ 1000
+    count = g.reads.pieces ∙ g.full reading
+
+    same : new ≡ offered
+    same = subst (λ (s : InState). IsEnding s offered new) reading ending
+
+    go : IsOffered true moment group old offered → IsGathered 1000 old new
+    go (inl none) = absurd (omega (arith, count, none.0))
+    go (inr some) = record { moment = moment; group = group; count = count; is = same ∙ some.1 }

@@ -12,6 +12,7 @@ use Rattle.std.proofs.lemmas.Grind.{flat_map-append}
 use Rattle.metric.specs.declared.metric.Content.{Content}
 use Rattle.agent_base.specs.Cut.{Cut, TooLong, Whole}
 use Rattle.agent_base.specs.Hand.{Hand, to_come}
+use Rattle.agent_base.specs.Taken.{IsSpent}
 use Rattle.agent_base.specs.Told.{Told}
 use Rattle.agent_run.specs.declared.reading.Group.{Group}
 use Rattle.agent_run.specs.declared.reading.InState.{InState}
@@ -46,13 +47,24 @@ pub told_self : (text : Option (List ℕ)) (P : List ℕ → List ℕ → Type 0
 told_self None P f = tt
 told_self (Some xs) P f = f xs
 
-front_none : (front back : List ℕ) → front ++ back ≡ [] → back ≡ []
+front_none : {X : Type 0} (front back : List X) → front ++ back ≡ [] → back ≡ []
 front_none [] back e = e
 front_none (x ∷ front) back e = absurd (let z : x ∷ (front ++ back) ≡ [] = e in cc)
 
 -- where nothing was left, nothing is left after more bytes were taken
 pub none_left : (taken ys zs : List ℕ) → ys ≡ taken ++ zs → ys ≡ [] → zs ≡ []
 none_left taken ys zs split none = front_none taken zs (sym split ∙ none)
+
+both_none : (front back : List ℕ) → front ++ back ≡ [] → front ≡ []
+both_none [] back e = refl
+both_none (x ∷ front) back e = absurd (let z : x ∷ (front ++ back) ≡ [] = e in cc)
+
+-- where nothing was left and no piece was to come, so it is after more bytes were taken
+pub still_spent : (read : List Cut) (before after : Hand) (taken ys zs : List ℕ) → ys ≡ taken ++ zs → IsSpent before ys → IsSpent after zs ⊎ ((more : List ℕ) → to_come before (taken ++ more) ≡ read ++ to_come after more) → IsSpent after zs
+still_spent read before after taken ys zs split spent (inl none) = none
+still_spent read before after taken ys zs split spent (inr given) =
+    let nothing : taken ≡ [] = both_none taken zs (sym split ∙ spent.0) in
+    (none_left taken ys zs split spent.0, front_none read (to_come after []) (sym (given []) ∙ ap (λ (bs : List ℕ). to_come before (bs ++ [])) nothing ∙ spent.1))
 
 -- no piece was read, and nothing was taken
 pub takes_nothing : (hand : Hand) (text : Option (List ℕ)) → Told text text (TakesPieces [] hand hand)
@@ -66,9 +78,9 @@ takes_both read others before between after xs ys zs h k = record {
   given = go h.given k.given;
 }
   where
-    go : (ys ≡ []) ⊎ ((more : List ℕ) → to_come before (h.taken ++ more) ≡ read ++ to_come between more) → (zs ≡ []) ⊎ ((more : List ℕ) → to_come between (k.taken ++ more) ≡ others ++ to_come after more)
-        → (zs ≡ []) ⊎ ((more : List ℕ) → to_come before ((h.taken ++ k.taken) ++ more) ≡ (read ++ others) ++ to_come after more)
-    go (inl none) given = inl (none_left k.taken ys zs k.split none)
+    go : IsSpent between ys ⊎ ((more : List ℕ) → to_come before (h.taken ++ more) ≡ read ++ to_come between more) → IsSpent after zs ⊎ ((more : List ℕ) → to_come between (k.taken ++ more) ≡ others ++ to_come after more)
+        → IsSpent after zs ⊎ ((more : List ℕ) → to_come before ((h.taken ++ k.taken) ++ more) ≡ (read ++ others) ++ to_come after more)
+    go (inl none) given = inl (still_spent others between after k.taken ys zs k.split none given)
     go (inr first) (inl none) = inl none
     go (inr first) (inr second) =
         inr (λ more. ap (to_come before) (append_assoc h.taken k.taken more) ∙ first (k.taken ++ more) ∙ ap (λ (rest : List Cut). read ++ rest) (second more) ∙ sym (append_assoc read others (to_come after more)))

@@ -8,7 +8,7 @@ use Rattle.agent_base.specs.Moments.{Moments}
 use Rattle.agent_base.specs.Places.{Place, Rest}
 use Rattle.account.specs.declared.entry.Entry.{Entry}
 use Rattle.agent_run.specs.Command.{journal_place}
-use Rattle.agent_run.specs.Dones.{dones, failed_count, LastFailed}
+use Rattle.agent_run.specs.Dones.{dones, behind_stop, failed_count, LastFailed}
 use Rattle.agent_run.specs.Headline.{Change, change, IsRun, EndsSo, IsPutSo, IsLeft, Ran, IsReportFault, Ends, status_of, buffered_at_end, account_of, text_of, place_change, report_change, NothingRose}
 use Rattle.agent_run.specs.PipeSetup.{pipe_setup}
 use Rattle.agent_run.specs.Places.{IsRefused}
@@ -17,6 +17,7 @@ use Rattle.agent_run.specs.declared.reading.InState.TheVariants as states
 use Rattle.agent_run.specs.declared.rounds.Ending.{Ending}
 use Rattle.agent_run.specs.declared.status.Status.{Status}
 use Rattle.agent_run.specs.declared.status.Status.TheVariants as statuses
+use Rattle.agent_run.proofs.DoneLemmas.{behind_fewer}
 
 module _ (batch limit : ℕ) (input output noted reported : Change) (run_moments input_moments : Option Moments) where
   module _ (start : ℤ) (journal : List Entry) (run : IsRun (pipe_setup batch limit start) input output run_moments input_moments journal) where
@@ -67,7 +68,8 @@ module _ (batch limit : ℕ) (input output noted reported : Change) (run_moments
   done_or_short statuses.OutOfMemory e i o n r l = inr refl
   done_or_short statuses.Left e i o n r l =
       let journal : List Entry = e.headline.journal in
-      let many : 3 ≤ failed_count 0 journal = failed_last (dones 0 journal) (e.headline.run.left e.some_left) in
+      let behind : 3 ≤ failed_count 0 (behind_stop journal) = failed_last (dones 0 (behind_stop journal)) (e.headline.run.left e.some_left) in
+      let many : 3 ≤ failed_count 0 journal = omega (arith, behind, behind_fewer 0 journal) in
       absurd (o (rose_of (failed_count 0 journal) output.faults_before output.faults_after (omega (arith, many)) e.headline.run.put_faults))
   done_or_short statuses.ReadFault e i o n r l = absurd (i e.cut_short.0)
   done_or_short statuses.ReportFault e i o n r l =

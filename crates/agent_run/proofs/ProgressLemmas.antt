@@ -1,5 +1,5 @@
 -- How far a run has come, with one entry more.
-use Rattle.std.proofs.Common.{◌≡◌, ℕ, ℤ, Bool, false, List, [], ◌∷◌, ◌++◌, refl, sym, ap, ◌∙◌, subst, inl, inr, arith, append_assoc, append-nil}
+use Rattle.std.proofs.Common.{◌≡◌, ◌≤◌, ℕ, ℤ, Bool, true, false, List, [], ◌∷◌, ◌++◌, refl, sym, ap, ◌∙◌, subst, inl, inr, arith, append_assoc, append-nil}
 use Rattle.std.specs.Prelude.{IfSome, not, count_by, slice_get}
 use Rattle.std.specs.Int.{int_max}
 use Rattle.std.specs.declared.option.Option.{Option}
@@ -16,23 +16,25 @@ use Rattle.agent_base.specs.Counts.{RoseBy}
 use Rattle.agent_base.specs.Hand.{Hand, to_come}
 use Rattle.agent_base.specs.Moments.{Moments}
 use Rattle.pipeline_core.specs.CoreState.{CoreState}
-use Rattle.pipeline_core.specs.Legal.{IsLegal, has_ended, is_ended_of, gathered_count, gathered_by}
+use Rattle.out_lane.specs.LaneEvents.{LaneEvent}
+use Rattle.pipeline_core.specs.Legal.{IsLegal, has_ended, is_ended_of, has_stop, is_stop, gathered_count, gathered_by}
+use Rattle.pipeline_core.specs.Offers.{lane_events, lane_events_by}
 use Rattle.pipeline_core.specs.Steps.{after_take, after_route, after_stop, after_cut, route_entry}
-use Rattle.pipeline_core.proofs.JournalPush.{gathered_count-push}
+use Rattle.pipeline_core.proofs.JournalPush.{gathered_count-push, lane_events-push}
 use Rattle.pipeline_core.specs.Stands.{Stands, Continues}
 use Rattle.agent_run.specs.declared.reading.InState.{InState}
 use Rattle.agent_run.specs.declared.reading.InState.TheVariants as states
 use Rattle.agent_run.specs.Causes.{IsFull, IsNextGroup}
-use Rattle.agent_run.specs.Dones.{dones_by, dones}
+use Rattle.agent_run.specs.Dones.{dones_by, dones, behind_stop}
 use Rattle.agent_run.specs.EntryMoments.{gather_moments, counted_by}
 use Rattle.agent_run.specs.Gathered.{gathers_by, gathers, AreGroups}
 use Rattle.agent_run.specs.JournalSoFar.{JournalSoFar, Spells, SpellsOn}
-use Rattle.agent_run.specs.Order.{IsOrderly}
+use Rattle.agent_run.specs.Order.{EndsFailed, IsOrderly}
 use Rattle.agent_run.specs.PipeSetup.{journal_setup_of}
 use Rattle.agent_run.specs.Progress.{Beginning, Surroundings, HasText, IsNamed, HasState, IsClocked, IsNamedOfTaken, Heard, Said, Progress}
 use Rattle.agent_run.specs.Running.{as_it_is}
 use Rattle.agent_run.specs.Worked.{WorkedBy}
-use Rattle.agent_run.proofs.DoneLemmas.{dones-same, last_same}
+use Rattle.agent_run.proofs.DoneLemmas.{dones-same, last_none, last_same, behind_stop-push, stop_before}
 use Rattle.agent_run.proofs.GroupLemmas.{told_map}
 use Rattle.agent_run.proofs.TakenSteps.{names_same}
 use Rattle.agent_run.proofs.GatherLemmas.{gathers-other, has_ended-other, gathering_same}
@@ -96,7 +98,7 @@ clocked_same (Some moments) place old new same h = subst (IsClocked moments plac
 taken_same : (state : InState) (old new : List Entry) (hand : Hand) (text left : List ℕ) → gathers 0 new ≡ gathers 0 old → IsNamedOfTaken state old hand text left → IsNamedOfTaken state new hand text left
 taken_same states.Reading old new hand text left same h = names_same 1000 0 old new hand text left same h
 taken_same states.Ended old new hand text left same h = tt
-taken_same states.Faulted old new hand text left same h = record { taken = h.taken; split = h.split; groups = h.groups; rest = h.rest; consecutive = h.consecutive; named = subst (AreGroups h.groups) (sym same) h.named; one = h.one }
+taken_same states.Faulted old new hand text left same h = record { taken = h.taken; split = h.split; groups = h.groups; named = subst (AreGroups h.groups) (sym same) h.named; all = h.all }
 taken_same states.LimitReached old new hand text left same h = tt
 
 -- a journal with the same Gathers
@@ -130,25 +132,38 @@ heard_push start now hand journal e none other count h =
     (let n : gathered_count (journal ++ e ∷ []) ≡ gathered_count journal = omega (arith, gathered_count-push journal e, count) in n) (gather_moments-same 0 journal e none) h
 
 -- a journal with the same batches
-pub said_push : (start : Beginning) (now : Surroundings) (failed : ℕ) (journal : List Entry) (e : Entry) → EndsNone 0 e → dones_by 0 e ≡ [] → Said start now failed journal → Said start now failed (journal ++ e ∷ [])
-said_push start now failed journal e ends none h =
+pub said_push : (start : Beginning) (now : Surroundings) (failed : ℕ) (journal : List Entry) (e : Entry) → EndsNone 0 e → dones_by 0 e ≡ [] → lane_events_by 0 e ≡ [] → is_stop e ≡ false → Said start now failed journal → Said start now failed (journal ++ e ∷ [])
+said_push start now failed journal e ends none quiet going h =
     let same : dones 0 (journal ++ e ∷ []) ≡ dones 0 journal = dones-same 0 journal e none in
     record {
       sent = sent_same 0 journal e start.held now.held ends h.sent;
       puts = subst (λ (bs : List Bool). RoseBy (count_by not bs) start.puts now.puts) (sym same) h.puts;
-      last = last_same failed (dones 0 journal) (dones 0 (journal ++ e ∷ [])) same h.last;
+      stuck = λ some. subst EndsFailed (sym (lane_events-push 0 journal e ∙ ap (λ (es : List LaneEvent). lane_events 0 journal ++ es) quiet ∙ append-nil (lane_events 0 journal))) (h.stuck some);
+      last = λ stopped.
+          let before : has_stop journal ≡ true = stop_before journal e going stopped in
+          last_same failed (dones 0 (behind_stop journal)) (dones 0 (behind_stop (journal ++ e ∷ [])))
+          (ap (dones 0) (behind_stop-push journal e before) ∙ dones-same 0 (behind_stop journal) e none) (h.last before);
     }
+
+-- the same where no put failed in succession, whatever came to the output
+pub said_anew : (start : Beginning) (now : Surroundings) (failed : ℕ) (journal : List Entry) (e : Entry) → EndsNone 0 e → dones_by 0 e ≡ [] → Said start now failed journal → Said start now 0 (journal ++ e ∷ [])
+said_anew start now failed journal e ends none h = record {
+  sent = sent_same 0 journal e start.held now.held ends h.sent;
+  puts = subst (λ (bs : List Bool). RoseBy (count_by not bs) start.puts now.puts) (sym (dones-same 0 journal e none)) h.puts;
+  stuck = λ some. absurd (omega (arith, some));
+  last = λ stopped. last_none (dones 0 (behind_stop (journal ++ e ∷ [])));
+}
 
 -- an entry that says nothing of the input and ends no batch
 pub went_quiet : (start : Beginning) (core next : CoreState) (so_far : JournalSoFar) (hand : Hand) (failed : ℕ) (now : Surroundings) (e : Entry) (w : Progress start core so_far hand failed now) →
     Continues core next e → next.stored ≡ core.stored ++ e ∷ [] → next.setup ≡ core.setup →
-    gathers_by 0 e ≡ [] → is_ended_of 0 e ≡ false → gathered_by e ≡ 0 → EndsNone 0 e → dones_by 0 e ≡ [] → WorkedBy (items w.journal) e → IsOrderly start.setup w.journal e → counted_by e ≡ [] →
+    gathers_by 0 e ≡ [] → is_ended_of 0 e ≡ false → gathered_by e ≡ 0 → EndsNone 0 e → dones_by 0 e ≡ [] → lane_events_by 0 e ≡ [] → is_stop e ≡ false → WorkedBy (items w.journal) e → IsOrderly start.setup w.journal e → counted_by e ≡ [] →
     Progress start next so_far hand failed now
-went_quiet start core next so_far hand failed now e w more stored same none other count ends no_done worked orderly still = record {
+went_quiet start core next so_far hand failed now e w more stored same none other count ends no_done quiet going worked orderly still = record {
   journal = w.journal ++ e ∷ [];
   text = text-push start.setup core next so_far w.journal e w.text more stored same;
   heard = heard_push start now hand w.journal e none other count w.heard;
-  said = said_push start now failed w.journal e ends no_done w.said;
+  said = said_push start now failed w.journal e ends no_done quiet going w.said;
   worked = worked-push w.journal e worked w.worked;
   in_order = in_order-push start.setup w.journal e w.in_order orderly;
   stops = counted_moments-same w.journal e still ∙ w.stops;
@@ -157,12 +172,12 @@ went_quiet start core next so_far hand failed now e w more stored same none othe
 -- an item was taken
 pub went_take : (start : Beginning) (core next : CoreState) (so_far : JournalSoFar) (hand : Hand) (failed : ℕ) (now : Surroundings) → next ≡ after_take core → Continues core next (Take core.taken) → Progress start core so_far hand failed now → Progress start next so_far hand failed now
 went_take start core next so_far hand failed now is more w =
-    went_quiet start core next so_far hand failed now (Take core.taken) w more (ap (λ (s : CoreState). s.stored) is) (ap (λ (s : CoreState). s.setup) is) refl refl refl tt refl tt tt refl
+    went_quiet start core next so_far hand failed now (Take core.taken) w more (ap (λ (s : CoreState). s.stored) is) (ap (λ (s : CoreState). s.setup) is) refl refl refl tt refl refl refl tt tt refl
 
 -- the first raw item was taken and routed as it is
 pub went_route : (start : Beginning) (core mid next : CoreState) (so_far : JournalSoFar) (hand : Hand) (failed : ℕ) (now : Surroundings) (metric : Content) → slice_get core.raw 0 ≡ Some metric →
     mid ≡ after_take core → Continues core mid (Take core.taken) → next ≡ after_route mid (as_it_is core.taken metric) → Continues mid next (route_entry (as_it_is core.taken metric)) →
-    Progress start core so_far hand failed now → Progress start next so_far hand failed now
+    Progress start core so_far hand failed now → Progress start next so_far hand 0 now
 went_route start core mid next so_far hand failed now metric first taken takes routed routes w =
     let v : Progress start mid so_far hand failed now = went_take start core mid so_far hand failed now taken takes w in
     let e : Entry = route_entry (as_it_is core.taken metric) in
@@ -174,7 +189,7 @@ went_route start core mid next so_far hand failed now metric first taken takes r
           (text-push start.setup core mid so_far w.journal (Take core.taken) w.text takes (ap (λ (s : CoreState). s.stored) taken) (ap (λ (s : CoreState). s.setup) taken))
           routes (ap (λ (s : CoreState). s.stored) routed) (ap (λ (s : CoreState). s.setup) routed);
       heard = heard_push start now hand (w.journal ++ Take core.taken ∷ []) e refl refl refl (heard_push start now hand w.journal (Take core.taken) refl refl refl w.heard);
-      said = said_push start now failed (w.journal ++ Take core.taken ∷ []) e tt refl (said_push start now failed w.journal (Take core.taken) tt refl w.said);
+      said = said_anew start now failed (w.journal ++ Take core.taken ∷ []) e tt refl (said_push start now failed w.journal (Take core.taken) tt refl refl refl w.said);
       worked = worked_route (w.journal ++ Take core.taken ∷ []) core.taken metric Passes [] (Some metric ∷ []) there (refl, tt) (worked-push w.journal (Take core.taken) tt w.worked);
       in_order = in_order-push start.setup (w.journal ++ Take core.taken ∷ []) e (in_order-push start.setup w.journal (Take core.taken) w.in_order tt) tt;
       stops = counted_moments-same (w.journal ++ Take core.taken ∷ []) e refl ∙ counted_moments-same w.journal (Take core.taken) refl ∙ w.stops;
@@ -195,7 +210,7 @@ went_cut start core next so_far more hand failed now stands is spells w = record
 
 -- the run was stopped at a moment
 pub went_stop : (start : Beginning) (core next : CoreState) (so_far : JournalSoFar) (hand : Hand) (failed : ℕ) (now : Surroundings) (moment : ℤ) → next ≡ after_stop core moment → Continues core next (Stop (int_max moment core.counted) [])
-    → (w : Progress start core so_far hand failed (record now { stops = [] })) → Progress start next so_far hand failed (record now { stops = int_max moment start.setup.start ∷ [] })
+    → (w : Progress start core so_far hand failed (record now { stops = [] })) → Progress start next so_far hand 0 (record now { stops = int_max moment start.setup.start ∷ [] })
 went_stop start core next so_far hand failed now moment is more w =
     let e : Entry = Stop (int_max moment core.counted) [] in
     let counted : core.counted ≡ start.setup.start =
@@ -204,7 +219,7 @@ went_stop start core next so_far hand failed now moment is more w =
       journal = w.journal ++ e ∷ [];
       text = text-push start.setup core next so_far w.journal e w.text more (ap (λ (s : CoreState). s.stored) is) (ap (λ (s : CoreState). s.setup) is);
       heard = heard_push start (record now { stops = int_max moment start.setup.start ∷ [] }) hand w.journal e refl refl refl (heard_around start (record now { stops = [] }) hand w.journal (int_max moment start.setup.start ∷ []) w.heard);
-      said = said_push start (record now { stops = int_max moment start.setup.start ∷ [] }) failed w.journal e tt refl (record { sent = w.said.sent; puts = w.said.puts; last = w.said.last });
+      said = said_anew start (record now { stops = int_max moment start.setup.start ∷ [] }) failed w.journal e tt refl (record { sent = w.said.sent; puts = w.said.puts; stuck = w.said.stuck; last = w.said.last });
       worked = worked-push w.journal e tt w.worked;
       in_order = in_order-push start.setup w.journal e w.in_order tt;
       stops = counted_moments-push w.journal e ∙ ap (λ (ms : List ℤ). ms ++ int_max moment core.counted ∷ []) w.stops ∙ ap (λ (m : ℤ). int_max moment m ∷ []) counted;
@@ -213,7 +228,7 @@ went_stop start core next so_far hand failed now moment is more w =
 -- the same of an item with the number of the first raw one
 pub went_item : (start : Beginning) (core mid next : CoreState) (so_far : JournalSoFar) (hand : Hand) (failed : ℕ) (now : Surroundings) (number : ℕ) (metric : Content) → number ≡ core.taken → slice_get core.raw 0 ≡ Some metric →
     mid ≡ after_take core → Continues core mid (Take core.taken) → next ≡ after_route mid (as_it_is number metric) → Continues mid next (route_entry (as_it_is number metric)) →
-    Progress start core so_far hand failed now → Progress start next so_far hand failed now
+    Progress start core so_far hand failed now → Progress start next so_far hand 0 now
 went_item start core mid next so_far hand failed now number metric is first taken takes routed routes w =
     went_route start core mid next so_far hand failed now metric first taken takes
     (subst (λ (n : ℕ). next ≡ after_route mid (as_it_is n metric)) is routed) (subst (λ (n : ℕ). Continues mid next (route_entry (as_it_is n metric))) is routes) w

@@ -11,16 +11,19 @@ use Rattle.agent_base.specs.Puts.{PutAppends}
 use Rattle.agent_base.specs.declared.outside.PutFault.{PutFault}
 use Rattle.agent_base.specs.declared.outside.PutFault.TheVariants.{Failed}
 use Rattle.pipeline_core.specs.CoreState.{CoreState, lane_at}
+use Rattle.pipeline_core.specs.Legal.{has_stop}
+use Rattle.pipeline_core.specs.Offers.{lane_events}
+use Rattle.pipeline_core.proofs.JournalPush.{lane_events-push}
 use Rattle.pipeline_core.specs.Stands.{Continues}
 use Rattle.pipeline_core.specs.Steps.{IsBatchOf, after_begin, after_done}
 use Rattle.pipeline_core.specs.declared.batches.Batch.{Batch}
-use Rattle.agent_run.specs.Dones.{dones}
+use Rattle.agent_run.specs.Dones.{dones, behind_stop}
 use Rattle.agent_run.specs.JournalSoFar.{JournalSoFar}
 use Rattle.agent_run.specs.Progress.{Beginning, Surroundings, HasState, Heard, Said, Progress}
 use Rattle.agent_run.specs.declared.reading.InState.{InState}
 use Rattle.agent_run.specs.declared.reading.InState.TheVariants as states
 use Rattle.agent_run.specs.Sent.{batch_text}
-use Rattle.agent_run.proofs.DoneLemmas.{dones-same, dones-more, failed-more, last_none, last_more, last_fewer, last_same, rose_later, rose_more}
+use Rattle.agent_run.proofs.DoneLemmas.{dones-same, dones-more, failed-more, last_none, last_more, last_fewer, last_same, rose_later, rose_more, behind_stop-push, stop_before}
 use Rattle.agent_run.proofs.MomentLemmas.{counted_moments-same}
 use Rattle.agent_run.proofs.OrderLemmas.{in_order-push}
 use Rattle.agent_run.proofs.ProgressLemmas.{text-push, heard_push}
@@ -43,7 +46,7 @@ dones_of journal from to ok =
     dones-more 0 (journal ++ Begin 0 from to ∷ []) ok ∙ ap (λ (bs : List Bool). bs ++ ok ∷ []) (dones-same 0 journal (Begin 0 from to) refl)
 
 module _ (start : Beginning) (core mid next : CoreState) (so_far : JournalSoFar) (hand : Hand) (failed : ℕ) (now : Surroundings) (batch : Batch) (text : List ℕ) (new_held : Option (List ℕ)) (new_puts : ℕ)
-    (one : 0 < length core.setup.outputs) (is : IsBatchOf (lane_at core.lanes 0) batch) (spelled : text ≡ batch_text batch.metrics) (later : now.puts ≤ new_puts)
+    (one : 0 < length core.setup.outputs) (routed : core.raw ≡ []) (is : IsBatchOf (lane_at core.lanes 0) batch) (spelled : text ≡ batch_text batch.metrics) (later : now.puts ≤ new_puts)
     (began : mid ≡ after_begin core 0 batch.from batch.to) (begins : Continues core mid (Begin 0 batch.from batch.to)) where
   went_done : (ok : Bool) (more : ℕ) (w : Progress start core so_far hand failed now) → next ≡ after_done mid 0 ok → Continues mid next (Done 0 ok []) →
       Said start (record now { held = new_held; puts = new_puts }) more ((w.journal ++ Begin 0 batch.from batch.to ∷ []) ++ Done 0 ok [] ∷ []) → Progress start next so_far hand more (record now { held = new_held; puts = new_puts })
@@ -59,7 +62,7 @@ module _ (start : Beginning) (core mid next : CoreState) (so_far : JournalSoFar)
         heard = heard_output start now hand (between ++ end ∷ []) new_held new_puts (heard_push start now hand between end refl refl refl (heard_push start now hand w.journal begin refl refl refl w.heard));
         said = said;
         worked = worked-push between end tt (worked-push w.journal begin tt w.worked);
-        in_order = in_order-push start.setup between end (in_order-push start.setup w.journal begin w.in_order tt) tt;
+        in_order = in_order-push start.setup between end (in_order-push start.setup w.journal begin w.in_order (sym w.text.stands.raw ∙ routed)) tt;
         stops = counted_moments-same between end refl ∙ counted_moments-same w.journal begin refl ∙ w.stops;
       }
 
@@ -72,7 +75,8 @@ module _ (start : Beginning) (core mid next : CoreState) (so_far : JournalSoFar)
         puts = subst (λ (bs : List Bool). RoseBy (count_by not bs) start.puts new_puts) (sym same)
             (let n : count_by not (dones 0 w.journal ++ true ∷ []) ≡ count_by not (dones 0 w.journal) = omega (arith, failed-more (dones 0 w.journal) true) in
             subst (λ (k : ℕ). RoseBy k start.puts new_puts) (sym n) (rose_later (count_by not (dones 0 w.journal)) start.puts now.puts new_puts w.said.puts later));
-        last = last_none (dones 0 ((w.journal ++ Begin 0 batch.from batch.to ∷ []) ++ Done 0 true [] ∷ []));
+        stuck = λ some. absurd (omega (arith, some));
+        last = λ stopped. last_none (dones 0 (behind_stop ((w.journal ++ Begin 0 batch.from batch.to ∷ []) ++ Done 0 true [] ∷ [])));
       })
 
   -- its put failed
@@ -85,6 +89,13 @@ module _ (start : Beginning) (core mid next : CoreState) (so_far : JournalSoFar)
         puts = subst (λ (bs : List Bool). RoseBy (count_by not bs) start.puts new_puts) (sym same)
             (let n : count_by not (dones 0 w.journal ++ false ∷ []) ≡ count_by not (dones 0 w.journal) + 1 = omega (arith, failed-more (dones 0 w.journal) false) in
             subst (λ (k : ℕ). RoseBy k start.puts new_puts) (sym n) (rose_more (count_by not (dones 0 w.journal)) start.puts now.puts new_puts w.said.puts rose));
-        last = last_fewer more (failed + 1) (dones 0 ((w.journal ++ Begin 0 batch.from batch.to ∷ []) ++ Done 0 false [] ∷ [])) few
-            (last_same (failed + 1) (dones 0 w.journal ++ false ∷ []) (dones 0 ((w.journal ++ Begin 0 batch.from batch.to ∷ []) ++ Done 0 false [] ∷ [])) same (last_more failed (dones 0 w.journal) w.said.last));
+        stuck = λ some. record { front = lane_events 0 (w.journal ++ Begin 0 batch.from batch.to ∷ []); is = lane_events-push 0 (w.journal ++ Begin 0 batch.from batch.to ∷ []) (Done 0 false []) };
+        last = λ stopped.
+            let mid_stopped : has_stop (w.journal ++ Begin 0 batch.from batch.to ∷ []) ≡ true = stop_before (w.journal ++ Begin 0 batch.from batch.to ∷ []) (Done 0 false []) refl stopped in
+            let before : has_stop w.journal ≡ true = stop_before w.journal (Begin 0 batch.from batch.to) refl mid_stopped in
+            let behind : behind_stop ((w.journal ++ Begin 0 batch.from batch.to ∷ []) ++ Done 0 false [] ∷ []) ≡ (behind_stop w.journal ++ Begin 0 batch.from batch.to ∷ []) ++ Done 0 false [] ∷ [] =
+            behind_stop-push (w.journal ++ Begin 0 batch.from batch.to ∷ []) (Done 0 false []) mid_stopped ∙ ap (λ (es : List Entry). es ++ Done 0 false [] ∷ []) (behind_stop-push w.journal (Begin 0 batch.from batch.to) before) in
+            last_fewer more (failed + 1) (dones 0 (behind_stop ((w.journal ++ Begin 0 batch.from batch.to ∷ []) ++ Done 0 false [] ∷ []))) few
+            (last_same (failed + 1) (dones 0 (behind_stop w.journal) ++ false ∷ []) (dones 0 (behind_stop ((w.journal ++ Begin 0 batch.from batch.to ∷ []) ++ Done 0 false [] ∷ [])))
+            (ap (dones 0) behind ∙ dones_of (behind_stop w.journal) batch.from batch.to false) (last_more failed (dones 0 (behind_stop w.journal)) (w.said.last before)));
       })

@@ -1,5 +1,6 @@
 -- How the batches of an output ended.
 use Rattle.std.specs.Prelude.{◌≡◌, ℕ, ◌==◌, Bool, false, not, List, [], ◌∷◌, ◌++◌, replicate, count_by, if◌then◌else◌}
+use Rattle.pipeline_core.specs.Legal.{is_stop}
 use Rattle.account.specs.declared.entry.Entry.{Entry}
 use Rattle.account.specs.declared.entry.Entry.TheVariants.{Done}
 
@@ -16,6 +17,11 @@ dones output (e ∷ es) = dones_by output e ++ dones output es
 -- how many of an output's batches failed
 abbrev pub failed_count : ℕ → List Entry → ℕ
 failed_count output journal = count_by not (dones output journal)
+
+-- the entries behind the Stop; none where there is no Stop
+unfoldable pub behind_stop : List Entry → List Entry
+behind_stop [] = []
+behind_stop (e ∷ es) = if is_stop e then es else behind_stop es
 
 -- the last so many batches failed
 pub record LastFailed (n : ℕ) (all : List Bool) : Type 0 where

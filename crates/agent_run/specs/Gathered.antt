@@ -5,6 +5,8 @@ use Rattle.std.specs.declared.option.Option.{Option}
 use Rattle.std.specs.declared.option.Option.TheVariants.{Some, None}
 use Rattle.agent_base.specs.Cut.{Cut, TooLong, Whole, cut}
 use Rattle.agent_base.specs.Hand.{Hand, to_come}
+use Rattle.agent_base.specs.Lines.{AreAllButRest}
+use Rattle.agent_base.specs.Taken.{IsSpent}
 use Rattle.metric.specs.declared.metric.Content.{Content}
 use Rattle.line_proto.specs.declared.fault.LineFault.{LineFault}
 use Rattle.line_proto.specs.Reading.{plain_reading}
@@ -107,18 +109,16 @@ pub record GatheredTo (most : ℕ) (journal : List Entry) (input : ℕ) (text : 
   pub named : AreGroups groups (gathers input journal)
   pub full : AreFull most groups
 
--- the Gathers of an input name all pieces of the bytes that were taken of its text but at most the last, so many bytes being left
+-- so many bytes being left, the Gathers of an input name all pieces of the bytes that were taken of its text, but perhaps that of the last line: what they don't name holds no newline
 pub record NamesTaken (journal : List Entry) (input : ℕ) (text left : List ℕ) : Type 0 where
   pub taken : List ℕ
   pub split : text ≡ taken ++ left
   pub groups : List (List Cut)
-  pub rest : List Cut
-  pub consecutive : cut taken ≡ joined groups ++ rest
   pub named : AreGroups groups (gathers input journal)
-  pub one : length rest ≤ 1
+  pub all : AreAllButRest taken (joined groups)
 
--- so far the Gathers of an input name full groups of the bytes that were taken of its text, whatever follows them, or nothing is left
+-- so far the Gathers of an input name full groups of the bytes that were taken of its text, whatever follows them; or nothing is left and no piece is to come
 pub record NamesSoFar (most : ℕ) (journal : List Entry) (input : ℕ) (hand : Hand) (text left : List ℕ) : Type 0 where
   pub taken : List ℕ
   pub split : text ≡ taken ++ left
-  pub named : (left ≡ []) ⊎ ((more : List ℕ) → Gathering most journal input (taken ++ more) (to_come hand more))
+  pub named : IsSpent hand left ⊎ ((more : List ℕ) → Gathering most journal input (taken ++ more) (to_come hand more))

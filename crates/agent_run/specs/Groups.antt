@@ -4,6 +4,7 @@ use Rattle.std.specs.List.{flat_map}
 use Rattle.std.specs.declared.option.Option.{Option}
 use Rattle.agent_base.specs.Cut.{Cut}
 use Rattle.agent_base.specs.Hand.{Hand, to_come}
+use Rattle.agent_base.specs.Taken.{IsSpent}
 use Rattle.agent_base.specs.Told.{Told}
 use Rattle.agent_run.specs.declared.reading.Group.{Group}
 use Rattle.agent_run.specs.declared.reading.InState.{InState}
@@ -21,11 +22,11 @@ pub record CountsPiece (moment : ℤ) (piece : Cut) (old new : Group) : Type 0 w
   pub refused : new.refused ≡ old.refused + (if is_refused moment piece then 1 else 0)
   pub metrics : new.metrics.items ≡ old.metrics.items ++ readings moment piece
 
--- bytes were taken of those that were left, and these pieces are the first to come whatever stands behind the bytes taken, or nothing is left
+-- bytes were taken of those that were left, and these pieces are the first to come whatever stands behind the bytes taken; or nothing is left and no piece is to come
 pub record TakesPieces (read : List Cut) (before after : Hand) (xs ys : List ℕ) : Type 0 where
   pub taken : List ℕ
   pub split : xs ≡ taken ++ ys
-  pub given : (ys ≡ []) ⊎ ((more : List ℕ) → to_come before (taken ++ more) ≡ read ++ to_come after more)
+  pub given : IsSpent after ys ⊎ ((more : List ℕ) → to_come before (taken ++ more) ≡ read ++ to_come after more)
 
 -- the first piece to come is counted, and the others are to come then
 pub record ReadsPiece (moment : ℤ) (old new : Group) (before after : Hand) (left_before left_after : Option (List ℕ)) : Type 0 where
@@ -76,6 +77,13 @@ abbrev pub IsOffered : Bool → ℤ → Group → CoreState → CoreState → Ty
 IsOffered true moment group old new =
     ((group.pieces ≡ 0) × (new ≡ old)) ⊎ ((0 < group.pieces) × (new ≡ after_gather old (gathered_of moment group)) × Continues old new (gather_entry (gathered_of moment group)))
 IsOffered false moment group old new = (new ≡ old) × (2 ^ 32 ≤ old.gathered + length group.metrics.items)
+
+-- a group of so many pieces was gathered
+pub record IsGathered (pieces : ℕ) (old new : CoreState) : Type 0 where
+  pub moment : ℤ
+  pub group : Group
+  pub count : group.pieces ≡ pieces
+  pub is : new ≡ after_gather old (gathered_of moment group)
 
 -- what the end of the input leaves
 abbrev pub IsEnding : InState → CoreState → CoreState → Type 0

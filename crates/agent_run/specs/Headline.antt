@@ -22,7 +22,7 @@ use Rattle.agent_run.specs.Command.{journal_place, IsPipe}
 use Rattle.agent_run.specs.Places.{AreOpensSame, RoseToOpen, RoseToUse}
 use Rattle.agent_run.specs.declared.status.Status.{Status}
 use Rattle.agent_run.specs.declared.status.Status.TheVariants as statuses
-use Rattle.agent_run.specs.Dones.{dones, failed_count, LastFailed}
+use Rattle.agent_run.specs.Dones.{dones, behind_stop, failed_count, LastFailed}
 use Rattle.agent_run.specs.EntryMoments.{gather_moments, counted_moments}
 use Rattle.agent_run.specs.Gathered.{Gathered, NamesTaken}
 use Rattle.agent_run.specs.Order.{InOrder}
@@ -85,9 +85,9 @@ pub record IsRun (setup : Setup) (input output : Change) (run_moments input_mome
   pub taken : ℕ
   pub bytes_taken : Told input.before input.after (λ xs ys. length xs ≡ taken + length ys)
   pub unread : has_ended 0 journal ≡ false → IsUnread input taken journal
-  -- where a metric is left at the output, its last three batches failed
-  pub left : buffered_at_end setup journal ≢ 0 → LastFailed 3 (dones 0 journal)
-  -- before each Gather all items were routed, and all was sent or the last batch failed
+  -- where a metric is left at the output, its last three batches behind the Stop failed
+  pub left : buffered_at_end setup journal ≢ 0 → LastFailed 3 (dones 0 (behind_stop journal))
+  -- before each Begin all items were routed; before each Gather too, and all was sent or the last put had failed
   pub in_order : InOrder setup journal
 
 -- whether the input was read to its end, or why not

@@ -11,17 +11,18 @@ use Rattle.agent_base.specs.Hand.{Hand, to_come}
 use Rattle.agent_base.specs.Moments.{Moments}
 use Rattle.agent_base.specs.Told.{Told}
 use Rattle.pipeline_core.specs.CoreState.{CoreState}
-use Rattle.pipeline_core.specs.Legal.{has_ended}
+use Rattle.pipeline_core.specs.Legal.{has_ended, has_stop}
+use Rattle.pipeline_core.specs.Offers.{lane_events}
 use Rattle.pipeline_core.specs.Stands.{Stands}
 use Rattle.agent_run.specs.declared.pipe_run.PipeRun.{PipeRun}
 use Rattle.agent_run.specs.declared.reading.InState.{InState}
 use Rattle.agent_run.specs.declared.reading.InState.TheVariants as states
 use Rattle.agent_run.specs.Causes.{IsFull}
-use Rattle.agent_run.specs.Dones.{dones, failed_count, LastFailed}
+use Rattle.agent_run.specs.Dones.{dones, behind_stop, failed_count, LastFailed}
 use Rattle.agent_run.specs.EntryMoments.{gather_moments, counted_moments}
 use Rattle.agent_run.specs.Gathered.{Gathered, Gathering, NamesSoFar, NamesTaken}
 use Rattle.agent_run.specs.JournalSoFar.{JournalSoFar, Spells}
-use Rattle.agent_run.specs.Order.{InOrder}
+use Rattle.agent_run.specs.Order.{EndsFailed, InOrder}
 use Rattle.agent_run.specs.PipeSetup.{journal_setup_of}
 use Rattle.agent_run.specs.Sent.{Sent, AppendsSo}
 use Rattle.agent_run.specs.Worked.{Worked}
@@ -96,7 +97,10 @@ pub record Heard (start : Beginning) (now : Surroundings) (hand : Hand) (journal
 pub record Said (start : Beginning) (now : Surroundings) (failed : ℕ) (journal : List Entry) : Type 0 where
   pub sent : AppendsSo start.held now.held (Sent journal 0)
   pub puts : RoseBy (failed_count 0 journal) start.puts now.puts
-  pub last : LastFailed failed (dones 0 journal)
+  -- where puts failed in succession, the last event at the output is that a batch failed
+  pub stuck : 1 ≤ failed → EndsFailed (lane_events 0 journal)
+  -- and behind the Stop so many of the last batches failed
+  pub last : has_stop journal ≡ true → LastFailed failed (dones 0 (behind_stop journal))
 
 -- there is a journal for which the core stands, which is spelled, and which says what was read and what was sent
 pub record Progress (start : Beginning) (core : CoreState) (so_far : JournalSoFar) (hand : Hand) (failed : ℕ) (now : Surroundings) : Type 0 where

@@ -1,12 +1,12 @@
 //! Gathering the next pieces of the input.
 ghost use Rattle.std.specs.Prelude.{◌≡◌, ◌≤◌, ◌⊎◌, ℕ, [], Ok, IfOk, OnOk, Some, None, false, true, slice_get};
 ghost use Rattle.agent_base.specs.Counts.{Rose};
-ghost use Rattle.agent_run.specs.Groups.{IsOffered, IsEnding};
+ghost use Rattle.agent_run.specs.Groups.{IsOffered, IsEnding, IsGathered};
 ghost use Rattle.agent_run.specs.Progress.{ReadsOn, IsSettled};
 ghost use Rattle.agent_run.specs.Running.{IsReady, IsReading, HasJournal, StillStands};
 
 use crate::pipe_run::PipeRun;
-use crate::reading::{Group, InState, read_group};
+use crate::reading::{GATHER_PIECES, Group, InState, read_group};
 use agent_base::{Clock, Source};
 use fixed_num::{Moment, OutOfMemory, Seq};
 use pipeline_core::{Core, GatherRefused, Gathered};
@@ -74,6 +74,7 @@ pub fn gather<S: Source, C: Clock>(
     requires stands { HasJournal run.old.core }
     ensures ready { OnOk result (IsReady run.new.core) }
     ensures reading { IfOk result (λ state. state ≡ InState.Reading → IsReading run.new.core) }
+    ensures further { IfOk result (λ state. state ≡ InState.Reading → IsGathered GATHER_PIECES run.old.core run.new.core) }
     ensures going { OnOk result (run.new.core.stopped ≡ false) }
     ensures stands { StillStands result run.new.core }
     ensures reads { IfOk result (λ state. ReadsOn run.old run.new state (S.left source.old) (S.left source.new) (S.faults source.old) (S.faults source.new)

@@ -25,7 +25,7 @@ pub struct PipeRun {
     pub journal: JournalText,
     /// The text of a batch.
     pub text: Vec<u8>,
-    /// How many puts to the output failed in succession, up to the last one.
+    /// How many puts to the output failed in succession since the last item was routed, or the run was stopped.
     pub failed: u32,
 }
 

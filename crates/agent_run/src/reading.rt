@@ -1,5 +1,5 @@
 //! Reading the next pieces of an input.
-ghost use Rattle.std.specs.Prelude.{◌≡◌, ◌<◌, ◌≤◌, ◌+◌, ◌^◌, ℤ, [], length, IfOk, OnOk};
+ghost use Rattle.std.specs.Prelude.{◌≡◌, ◌<◌, ◌≤◌, ◌+◌, ◌^◌, ◌∷◌, ℤ, [], length, IfOk, OnOk};
 ghost use Rattle.agent_base.specs.Hand.{to_come};
 ghost use Rattle.agent_base.specs.Told.{Told};
 ghost use Rattle.agent_base.specs.Counts.{Rose};
@@ -88,6 +88,7 @@ fn read_next<S: Source>(
     ensures limit { IfOk result (λ state. state ≡ InState.LimitReached → pieces.new.taken ≡ 2 ^ 40) }
     ensures below { IfOk result (λ state. (state ≡ InState.LimitReached → ⊥) → pieces.new.taken < 2 ^ 40) }
     ensures one { IfOk result (λ state. state ≡ InState.Faulted → length (to_come pieces.new []) ≤ 1) }
+    ensures line { IfOk result (λ state. state ≡ InState.Faulted → length (to_come pieces.new (10 ∷ [])) ≤ 1) }
     ensures counted { Told (S.left source.old) (S.left source.new) (λ xs ys. pieces.old.taken + length xs ≡ pieces.new.taken + length ys) }
     ensures faults { S.faults source.old ≤ S.faults source.new }
 {
@@ -124,6 +125,7 @@ pub fn read_group<S: Source>(
     ensures limit { IfOk result (λ answer. answer.1 ≡ InState.LimitReached → pieces.new.taken ≡ 2 ^ 40) }
     ensures below { IfOk result (λ answer. (answer.1 ≡ InState.LimitReached → ⊥) → pieces.new.taken < 2 ^ 40) }
     ensures one { IfOk result (λ answer. answer.1 ≡ InState.Faulted → length (to_come pieces.new []) ≤ 1) }
+    ensures line { IfOk result (λ answer. answer.1 ≡ InState.Faulted → length (to_come pieces.new (10 ∷ [])) ≤ 1) }
     ensures counted { Told (S.left source.old) (S.left source.new) (λ xs ys. pieces.old.taken + length xs ≡ pieces.new.taken + length ys) }
     ensures faults { S.faults source.old ≤ S.faults source.new }
 {

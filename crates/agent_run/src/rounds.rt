@@ -95,6 +95,7 @@ fn finish<K: Sink>(run: &mut PipeRun, sink: &mut K, moment: Moment) -> Result<()
         Went start run.new (record now { held = K.held sink.new; puts = K.faults sink.new; stops = int_max moment start.setup.start ∷ [] })) }
 {
     run.core.stop(moment)?;
+    run.failed = 0;
     route_all(run)?;
     send_rest(run, sink)?;
     note(run)?;

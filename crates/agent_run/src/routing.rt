@@ -1,5 +1,5 @@
 //! Routing the items to the output.
-ghost use Rattle.std.specs.Prelude.{◌≡◌, ◌≤◌, ℕ, [], Ok, OnOk, Some, None, false, length};
+ghost use Rattle.std.specs.Prelude.{◌≡◌, ◌≤◌, ◌+◌, ℕ, [], Ok, OnOk, Some, None, false, true, length};
 ghost use Rattle.pipeline_core.specs.CoreState.{CoreState};
 ghost use Rattle.pipeline_core.specs.Stands.{Continues};
 ghost use Rattle.pipeline_core.specs.Steps.{after_route, route_entry};
@@ -40,12 +40,14 @@ fn route_next(run: &mut PipeRun) -> Result<bool, OutOfMemory>
     ensures ready { OnOk result (IsReady run.new.core) }
     ensures kept { OnOk result (IsRoutable run.old.core run.new.core) }
     ensures none { result ≡ Ok false → run.new.core.raw ≡ [] }
+    ensures fewer { result ≡ Ok true → length run.new.core.raw + 1 ≡ length run.old.core.raw }
     ensures stands { StillStands result run.new.core }
     ensures goes { OnOk result (GoesOn run.old run.new) }
 {
     match run.core.take() {
         Ok(item) => {
             route(run.alloc, &mut run.core, item)?;
+            run.failed = 0;
             Ok(true)
         }
         Err(TakeAnswer::OutOfMemory) => Err(OutOfMemory),

@@ -1,5 +1,5 @@
 //! Sending batches to the output.
-ghost use Rattle.std.specs.Prelude.{◌≡◌, ◌<◌, ◌≤◌, ◌+◌, ◌-◌, ◌^◌, ◌⊎◌, ℕ, Ok, IfOk, OnOk, min};
+ghost use Rattle.std.specs.Prelude.{◌≡◌, ◌≢◌, ◌<◌, ◌≤◌, ◌+◌, ◌-◌, ◌^◌, ◌⊎◌, ℕ, [], Ok, IfOk, OnOk, min};
 ghost use Rattle.account.specs.Numbers.{output_numbers};
 ghost use Rattle.pipeline_core.specs.CoreState.{CoreState};
 ghost use Rattle.agent_run.specs.Progress.{SendsOn};
@@ -39,6 +39,7 @@ pub enum Flush {
 /// Sends the next batch.
 fn send_next<K: Sink>(run: &mut PipeRun, sink: &mut K) -> Result<Sending, OutOfMemory>
     requires ready { IsReady run.old.core }
+    requires routed { run.old.core.raw ≡ [] }
     requires stands { HasJournal run.old.core }
     ensures ready { OnOk result (IsReady run.new.core) }
     ensures kept { OnOk result (IsSentOn run.old.core run.new.core) }
@@ -72,6 +73,7 @@ fn send_next<K: Sink>(run: &mut PipeRun, sink: &mut K) -> Result<Sending, OutOfM
 /// Sends batches until nothing waits or a put fails.
 pub fn send_all<K: Sink>(run: &mut PipeRun, sink: &mut K) -> Result<Flush, OutOfMemory>
     requires ready { IsReady run.old.core }
+    requires routed { run.old.core.raw ≡ [] }
     requires stands { HasJournal run.old.core }
     ensures ready { OnOk result (IsReady run.new.core) }
     ensures kept { OnOk result (IsSentOn run.old.core run.new.core) }
@@ -100,7 +102,8 @@ pub fn send_all<K: Sink>(run: &mut PipeRun, sink: &mut K) -> Result<Flush, OutOf
 /// How many repeats in succession sent nothing.
 fn tries_after(tries: u32, flush: Flush) -> u32
     requires { tries < FINAL_TRIES }
-    ensures { (result ≡ 0) ⊎ ((flush ≡ Flush.Stuck) × (result ≡ tries + 1)) }
+    ensures stuck { flush ≡ Flush.Stuck → result ≡ tries + 1 }
+    ensures other { flush ≢ Flush.Stuck → result ≡ 0 }
 {
     match flush {
         Flush::Stuck => tries + 1,
@@ -112,6 +115,7 @@ fn tries_after(tries: u32, flush: Flush) -> u32
 /// waits, or three repeats in succession sent nothing.
 pub fn send_rest<K: Sink>(run: &mut PipeRun, sink: &mut K) -> Result<(), OutOfMemory>
     requires ready { IsReady run.old.core }
+    requires routed { run.old.core.raw ≡ [] }
     requires stands { HasJournal run.old.core }
     ensures ready { OnOk result (IsReady run.new.core) }
     ensures kept { OnOk result (IsSentOn run.old.core run.new.core) }

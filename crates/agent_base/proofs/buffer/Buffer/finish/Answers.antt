@@ -23,3 +23,17 @@ returns-clause-pieces c =
     ends_last (hand_of s) (hand_of c.skip_all-2.new.self) c.of.result c.if-self.false (c.skip_all-2.ensures.passing ∙ c.if-self.false) c.requires.none
     (omega (arith, length-take (s.end - s.start) (drop s.start s.buf.items), length-drop s.start s.buf.items)) (omega (arith, length-take (s.end - s.start) (drop s.start s.buf.items), length-drop s.start s.buf.items))
     (c.of.ensures ∙ c.filled-bytes.ensures ∙ rw c.deref.ensures.value refl) c.skip_all-2.ensures.bytes
+
+pub returns-then-self-clause-spent : goal.returns-then-self-clause-spent
+returns-then-self-clause-spent c =
+    let t = c.skip_all.new.self in
+    let after : Hand = record { bytes = bytes_of t; is_passing = false; taken = t.taken } in
+    ends_empty after refl c.skip_all.ensures.bytes
+
+pub returns-then-self-2-clause-spent : goal.returns-then-self-2-clause-spent
+returns-then-self-2-clause-spent c =
+    let s = c.args.self.now in
+    ends_empty (hand_of s) c.if-self.false (empty_bytes s.buf.items s.start s.end (omega arith))
+
+pub returns-clause-spent : goal.returns-clause-spent
+returns-clause-spent c = ends_empty (hand_of c.skip_all-2.new.self) (c.skip_all-2.ensures.passing ∙ c.if-self.false) c.skip_all-2.ensures.bytes

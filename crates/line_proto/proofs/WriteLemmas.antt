@@ -7,33 +7,9 @@ use Rattle.std.proofs.lemmas.List.{map-append, length-map, reverse-append, take_
 use Rattle.std.proofs.Math.Seq.{take-append_seam}
 use Rattle.std.proofs.lemmas.List.Folds.{flat_map-map}
 use Rattle.std.specs.List.{take-map}
-use Rattle.std.specs.Prelude.{Result, Ok, Err, IsErr, codes}
+use Rattle.std.specs.Prelude.{codes}
 use Rattle.metric.specs.declared.value.Value.{Value}
-use Rattle.fixed_num.specs.declared.memory.OutOfMemory.{OutOfMemory}
-use Rattle.line_proto.specs.LineText.{spaced, on_one_line, trimmed, or_underscore, without_hash, escaped, escaped_byte, key_text, name_text, field_text, is_bare, Adds, Extends}
-
--- ---- a part that was appended
-
-pub extends_after : (old mid new more : List ℕ) → mid ≡ old ++ more → Extends mid new → Extends old new
-extends_after old mid new more e h =
-    let longer : length old ≤ length mid = omega (arith, ap length e, length-append old more) in
-    let front : take (length old) mid ≡ old = rw e (take-append_seam old more) in
-    let within : take (length old) (take (length mid) new) ≡ take (length old) new = grind (arith, common_steps) in
-    sym within ∙ ap (take (length old)) h ∙ front
-
--- a call that failed
-pub fails : (result : Result (Unit {0}) OutOfMemory) (old new text : List ℕ) → IsErr result → Extends old new → Adds result old new text
-fails (Ok done) old new text e h = search rules
-fails (Err fault) old new text e h = h
-
--- one text after another
-pub after : (old mid new front back : List ℕ) → mid ≡ old ++ front → new ≡ mid ++ back → new ≡ old ++ (front ++ back)
-after old mid new front back first second = second ∙ ap (λ text. text ++ back) first ∙ append_assoc old front back
-
--- a text, and then what a last call appends
-pub adds_after : (result : Result (Unit {0}) OutOfMemory) (old mid new front text : List ℕ) → mid ≡ old ++ front → Adds result mid new text → Adds result old new (front ++ text)
-adds_after (Ok done) old mid new front text first last = after old mid new front text first last
-adds_after (Err fault) old mid new front text first last = extends_after old mid new front first last
+use Rattle.line_proto.specs.LineText.{spaced, on_one_line, trimmed, or_underscore, without_hash, escaped, escaped_byte, key_text, name_text, field_text, is_bare}
 
 -- ---- bytes that are written as they are
 

@@ -1,9 +1,8 @@
 -- The text of a metric in line protocol.
-use Rattle.std.specs.Prelude.{◌≡◌, ◌==◌, ◌||◌, ◌&&◌, not, ◌-◌, ℕ, Bool, List, [], ◌∷◌, ◌++◌, length, take, map, flat_map, codes, Result, Ok, Err, if◌then◌else◌}
+use Rattle.std.specs.Prelude.{◌==◌, ◌||◌, ◌&&◌, not, ◌-◌, ℕ, Bool, List, [], ◌∷◌, ◌++◌, length, take, map, flat_map, codes, if◌then◌else◌}
 use Rattle.std.specs.List.{list_any, suffix_len, join_by}
 use Rattle.std.specs.Fmt.{decimal, signed_decimal}
 use Rattle.fixed_num.specs.Canonical.{canonical_text}
-use Rattle.fixed_num.specs.declared.memory.OutOfMemory.{OutOfMemory}
 use Rattle.metric.specs.declared.value.Value.{Value}
 use Rattle.metric.specs.declared.value.Value.TheVariants.{Int, Uint, Fixed, «Bool» as Truth, Text}
 use Rattle.metric.specs.declared.metric.Content.{Content}
@@ -71,12 +70,3 @@ head_text m = name_text m.name ++ flat_map tag_text m.tags ++ codes " " ++ join_
 -- a metric's line
 unfoldable pub line_text : Content → List ℕ
 line_text m = head_text m ++ codes " " ++ signed_decimal m.time ++ codes "\n"
-
--- a list that begins with another
-abbrev pub Extends : List ℕ → List ℕ → Type 0
-Extends old new = take (length old) new ≡ old
-
--- a text was appended, or, where memory was wanting, perhaps a part of it
-abbrev pub Adds : Result (Unit {0}) OutOfMemory → List ℕ → List ℕ → List ℕ → Type 0
-Adds (Ok done) old new text = new ≡ old ++ text
-Adds (Err fault) old new text = Extends old new

@@ -1,12 +1,14 @@
 //! Metrics as lines of InfluxDB line protocol.
 ghost use Rattle.std.specs.Prelude.{◌≡◌, ◌==◌, ◌++◌, flat_map, codes, OnOk, OnErr};
 ghost use Rattle.std.specs.List.{list_all, list_any, join_by};
-ghost use Rattle.line_proto.specs.LineText.{Adds, spaced, on_one_line, trimmed, escaped_byte, escaped, is_bare, name_text, key_text, value_text, tag_text, field_text, head_text, line_text};
+ghost use Rattle.line_proto.specs.LineText.{spaced, on_one_line, trimmed, escaped_byte, escaped, is_bare, name_text, key_text, value_text, tag_text, field_text, head_text, line_text};
 ghost use Rattle.line_proto.specs.Marks.{marks_of};
+ghost use Rattle.text_parts.specs.Adds.{Adds};
 
 use fixed_num::OutOfMemory;
 use metric::{Metric, Text, Value};
 use std::alloc::Global;
+use text_parts::{append_int, append_signed, append_uint, append_words, settle};
 
 /// Appends a metric's line: `measurement,key=value.. field=value,.. time` and a newline, the tags in the order of
 /// their keys, the fields in theirs, the time in nanoseconds since 1970. A newline or carriage return inside a text is
@@ -18,25 +20,20 @@ pub fn write_line(alloc: Global, metric: &Metric, out: &mut Vec<u8>) -> Result<(
     ensures err { OnErr result (out.new.items ≡ out.old.items) }
 {
     let before = out.len();
-    let written = append_line(alloc, metric, out);
-    if written.is_err() {
-        out.truncate(before);
-    }
-    written
+    let written = append_metric(alloc, metric, out);
+    settle(out, before, written)
 }
 
 /// Bytes for which room is made before a line is written, so that most lines grow the text once at most.
 const LIKELY: usize = 256;
 
 #[tactic(auto, unfolding(crate::specs::LineText::line_text))]
-fn append_line(alloc: Global, metric: &Metric, out: &mut Vec<u8>) -> Result<(), OutOfMemory>
+fn append_metric(alloc: Global, metric: &Metric, out: &mut Vec<u8>) -> Result<(), OutOfMemory>
     ensures { Adds result out.old.items out.new.items (line_text metric.now) }
 {
     out.reserve(LIKELY)?;
     append_head(alloc, metric, out)?;
-    out.push(b' ')?;
-    let mut buffer = itoa::Buffer::new();
-    out.extend_from_slice(buffer.format(metric.time()).as_bytes())?;
+    append_signed(out, " ", &metric.time())?;
     out.push(b'\n')?;
     Ok(())
 }
@@ -124,18 +121,16 @@ fn append_value(alloc: Global, value: &Value, out: &mut Vec<u8>) -> Result<(), O
 {
     match value {
         Value::Int(n) => {
-            let mut buffer = itoa::Buffer::new();
-            out.extend_from_slice(buffer.format(*n).as_bytes())?;
+            append_int(out, n)?;
             out.push(b'i')?;
         }
         Value::Uint(n) => {
-            let mut buffer = itoa::Buffer::new();
-            out.extend_from_slice(buffer.format(*n).as_bytes())?;
+            append_uint(out, *n)?;
             out.push(b'u')?;
         }
         Value::Fixed(n) => n.append(alloc, out)?,
-        Value::Bool(true) => out.extend_from_slice(b"true")?,
-        Value::Bool(false) => out.extend_from_slice(b"false")?,
+        Value::Bool(true) => append_words(out, "true")?,
+        Value::Bool(false) => append_words(out, "false")?,
         Value::Text(text) => return append_quoted(text, out),
     }
     Ok(())

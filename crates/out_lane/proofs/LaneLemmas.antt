@@ -1,14 +1,14 @@
 -- The laws of the calls.
-use Rattle.std.proofs.Common.{◌≡◌, ℕ, ◌+◌, ◌-◌, ◌<◌, ◌≤◌, ◌==◌, eqb, leb, min, max, true, false, ◌||◌, ◌↔◌, inl, inr, List, [], ◌∷◌, ◌++◌, length, take, drop, slice_get, if◌then◌else◌, Option, Some, None, Result, Ok, Err, refl, sym, ◌∙◌, ap, subst, arith, length-drop}
+use Rattle.std.proofs.Common.{◌≡◌, ℕ, ◌+◌, ◌-◌, ◌<◌, ◌≤◌, ◌==◌, eqb, leb, min, max, true, false, ◌||◌, ◌↔◌, inl, inr, List, [], ◌∷◌, ◌++◌, length, take, drop, slice_get, is_some, IsSome, if◌then◌else◌, Option, Some, None, Result, Ok, Err, refl, sym, ◌∙◌, ap, subst, arith, length-drop}
 use Rattle.std.specs.Option.{option_to_list}
 use Rattle.std.specs.List.{list_any}
 use Rattle.std.proofs.lemmas.Bool.{cases_eq, eq-eqb, ne_eqb, or_cases, or_left, leb-true, lt-leb}
 use Rattle.std.proofs.lemmas.List.{length_push, drop_all}
 use Rattle.out_lane.specs.declared.BeginAnswer.{BeginAnswer}
 use Rattle.out_lane.specs.declared.BeginAnswer.TheVariants.{InFlight, NothingWaiting}
-use Rattle.out_lane.specs.Lane.{LaneState, newest, older, waiting_from, after_push, after_begin, begin_answer, after_accept, after_fail}
+use Rattle.out_lane.specs.Lane.{LaneState, newest, older, waiting_from, batch_items, flying, after_push, after_begin, begin_answer, after_accept, after_fail}
 use Rattle.out_lane.specs.LaneEvents.{LaneEvent, Push, Begin, Done, Ranges, reached, ranges_after, ranges_from, ranges_of, next_from, open_end, IsNextRange, IsOpen, MeetsLane, AreLaneEvents, holds, is_in_open, is_written, Buffered, fate_at}
-use Rattle.out_lane.specs.LaneLaws.{no_ranges, oldest_waiting, items_between, IsFlight, IsLaneAt, IsLaneOf, Pushes, Begins, Answers, Accepts, Fails, IsKept, NewIsLane}
+use Rattle.out_lane.specs.LaneLaws.{no_ranges, oldest_waiting, items_between, IsFlight, IsOfBatch, IsLaneAt, IsLaneOf, Pushes, Begins, Answers, Accepts, Fails, IsKept, NewIsLane}
 use Rattle.out_lane.proofs.RangeLemmas.{OpenIn, IsOpenIn, Steady, steady_from, steady_none, ranges_from-push, AreLaneEvents-push, newly}
 use Rattle.out_lane.proofs.FateLemmas.{holds_inside, holds_parts, buffered_by, fate_is, from_buffered, is_unwritten}
 use Rattle.out_lane.proofs.EventLemmas.{buffered_above}
@@ -51,7 +51,8 @@ module _ {X : Type 0} where
   -- a push
   flight-push : (n : ℕ) (limit w : ℕ) (o : Option (ℕ × ℕ)) (offers : List X) (item : X) (lane : LaneState X) → length offers ≡ n → IsOpenIn limit n w o → IsFlight o offers lane → IsFlight o (offers ++ item ∷ []) (after_push lane item)
   flight-push n limit w None offers item lane e s f = f
-  flight-push n limit w (Some range) offers item lane e s f = (f.0, f.1 ∙ sym (items_between-push range.0 range.1 offers item (omega arith) (omega arith)))
+  flight-push n limit w (Some range) offers item lane e s f =
+      f ∙ ap (λ (xs : List X). Some (range.0, xs)) (sym (items_between-push range.0 range.1 offers item (omega arith) (omega arith)))
 
   push_at : (batch limit : ℕ) (r : Ranges) (offers : List X) (lane : LaneState X) (item : X) → Steady limit r → IsLaneAt batch limit r offers lane → IsLaneAt batch limit (ranges_after r Push) (offers ++ item ∷ []) (after_push lane item)
   push_at batch limit r offers lane item s a =
@@ -105,16 +106,8 @@ module _ {X : Type 0} where
       }
 
   -- a batch that is begun
-  flight_length : (limit n w : ℕ) (range : ℕ × ℕ) (offers : List X) (lane : LaneState X) → length offers ≡ n → OpenIn limit n w range → IsFlight (Some range) offers lane → length lane.flight ≡ range.1 - range.0
-  flight_length limit n w range offers lane e s f = ap length f.1 ∙ length-items_between range.0 range.1 offers (omega arith)
-
-  is_open : (o : Option (ℕ × ℕ)) (offers : List X) (lane : LaneState X) → IsFlight o offers lane → (length lane.flight ≡ 0 → ⊥) → IsOpen o
-  is_open None offers lane f n = n (ap length f)
-  is_open (Some range) offers lane f n = tt
-
-  is_closed : (limit n w : ℕ) (o : Option (ℕ × ℕ)) (offers : List X) (lane : LaneState X) → length offers ≡ n → IsOpenIn limit n w o → IsFlight o offers lane → length lane.flight ≡ 0 → o ≡ None
-  is_closed limit n w None offers lane e s f z = refl
-  is_closed limit n w (Some range) offers lane e s f z = let k = flight_length limit n w range offers lane e s f in absurd (omega arith)
+  flight_length : (limit n w : ℕ) (range : ℕ × ℕ) (offers : List X) (lane : LaneState X) → length offers ≡ n → OpenIn limit n w range → IsFlight (Some range) offers lane → length (flying lane) ≡ range.1 - range.0
+  flight_length limit n w range offers lane e s f = ap (λ (o : Option (ℕ × List X)). length (batch_items o)) f ∙ length-items_between range.0 range.1 offers (omega arith)
 
   pub waiting_length : (batch limit : ℕ) (r : Ranges) (offers : List X) (lane : LaneState X) → IsLaneAt batch limit r offers lane → length lane.waiting ≡ r.pushed - oldest_waiting limit r
   waiting_length batch limit r offers lane a = ap length a.waiting ∙ length-drop (oldest_waiting limit r) offers ∙ ap (λ k. k - oldest_waiting limit r) a.offered
@@ -127,18 +120,19 @@ module _ {X : Type 0} where
       let p = a.pushed in
       omega arith
 
-  in_flight_answer : (lane : LaneState X) → (length lane.flight ≡ 0 → ⊥) → begin_answer lane ≡ Err InFlight
-  in_flight_answer lane n = let t : eqb (length lane.flight) 0 ≡ false = ne_eqb (length lane.flight) 0 n in rw t refl
+  in_flight_answer : (lane : LaneState X) → IsSome lane.flight → begin_answer lane ≡ Err InFlight
+  in_flight_answer lane t = rw t refl
 
-  nothing_answer : (lane : LaneState X) → length lane.flight ≡ 0 → length lane.waiting ≡ 0 → begin_answer lane ≡ Err NothingWaiting
+  nothing_answer : (lane : LaneState X) → lane.flight ≡ None → length lane.waiting ≡ 0 → begin_answer lane ≡ Err NothingWaiting
   nothing_answer lane z y =
-      let t : eqb (length lane.flight) 0 ≡ true = eq-eqb (length lane.flight) 0 z in
+      let t : is_some lane.flight ≡ false = ap is_some z in
       let u : eqb (length lane.waiting) 0 ≡ true = eq-eqb (length lane.waiting) 0 y in
       rw (t, u) refl
 
-  begun_answer : (lane : LaneState X) → length lane.flight ≡ 0 → (length lane.waiting ≡ 0 → ⊥) → begin_answer lane ≡ Ok (waiting_from lane, waiting_from lane + min lane.batch (length lane.waiting))
+  pub begun_answer : (lane : LaneState X) → lane.flight ≡ None → (length lane.waiting ≡ 0 → ⊥) →
+      begin_answer lane ≡ Ok (waiting_from lane, waiting_from lane + min lane.batch (length lane.waiting))
   begun_answer lane z y =
-      let t : eqb (length lane.flight) 0 ≡ true = eq-eqb (length lane.flight) 0 z in
+      let t : is_some lane.flight ≡ false = ap is_some z in
       let u : eqb (length lane.waiting) 0 ≡ false = ne_eqb (length lane.waiting) 0 y in
       rw (t, u) refl
 
@@ -167,14 +161,13 @@ module _ {X : Type 0} where
           limit = a.state.limit;
           pushed = a.state.pushed;
           offered = a.state.offered;
-          flight = (
-            refl,
-            ap (λ k. take k lane.waiting) size
-                ∙ ap (λ (xs : List X). take batch xs) a.state.waiting
-                ∙ begun_items batch start offers (omega arith)
-                ∙ ap (λ k. items_between start k offers) end'
-                ∙ ap (λ k. items_between k to offers) (sym first),
-          );
+          flight =
+              ap (λ (xs : List X). Some (from, xs))
+              (ap (λ k. take k lane.waiting) size
+              ∙ ap (λ (xs : List X). take batch xs) a.state.waiting
+              ∙ begun_items batch start offers (omega arith)
+              ∙ ap (λ k. items_between start k offers) end'
+              ∙ ap (λ k. items_between k to offers) (sym first));
           waiting =
               ap (λ k. drop k lane.waiting) size
               ∙ ap (λ (xs : List X). drop batch xs) a.state.waiting
@@ -187,36 +180,45 @@ module _ {X : Type 0} where
             ∙ sym (ap (λ (o : Option (ℕ × ℕ)). is_in_open p o || leb start p) closed));
       }
 
-  pub begin_meets : (batch limit : ℕ) (es : List LaneEvent) (offers : List X) (lane : LaneState X) → IsLaneOf batch limit es offers lane → Answers batch limit es offers lane (begin_answer lane)
-  begin_meets batch limit es offers lane a =
+  -- what begin answers where this range is open, or none
+  answers : (batch limit : ℕ) (es : List LaneEvent) (offers : List X) (lane : LaneState X) (o : Option (ℕ × ℕ)) →
+      (ranges_of es).begun ≡ o → IsFlight o offers lane → IsLaneOf batch limit es offers lane →
+      Answers batch limit es offers lane (begin_answer lane)
+  answers batch limit es offers lane (Some range) opened f a =
+      subst (Answers batch limit es offers lane) (sym (in_flight_answer lane (ap is_some f))) (subst IsOpen (sym opened) tt)
+  answers batch limit es offers lane None closed f a =
       let r : Ranges = ranges_of es in
       let s : Steady limit r = steady_of batch limit es offers lane a in
       let P : Result (ℕ × ℕ) BeginAnswer → Type 0 = Answers batch limit es offers lane in
-      elim (cases_eq (length lane.flight) 0) [
-        | inl z ↦
-            (let closed : r.begun ≡ None = is_closed limit r.pushed r.written_to r.begun offers lane a.state.offered s.open_range a.state.flight z in
-            elim (cases_eq (length lane.waiting) 0) [
-              | inl y ↦
-                  (let k = waiting_length batch limit r offers lane a.state in
-                  let zero : open_end r.begun ≡ 0 = ap open_end closed in
-                  let none : r.pushed ≤ next_from limit r = omega arith in
-                  subst P (sym (nothing_answer lane z y)) (closed, none))
-              | inr y ↦ subst P (sym (begun_answer lane z y)) (begins batch limit es offers lane a closed y)
-            ])
-        | inr z ↦ subst P (sym (in_flight_answer lane z)) (is_open r.begun offers lane a.state.flight z)
+      elim (cases_eq (length lane.waiting) 0) [
+        | inl y ↦
+            (let k = waiting_length batch limit r offers lane a.state in
+            let zero : open_end r.begun ≡ 0 = ap open_end closed in
+            let none : r.pushed ≤ next_from limit r = omega arith in
+            subst P (sym (nothing_answer lane f y)) (closed, none))
+        | inr y ↦ subst P (sym (begun_answer lane f y)) (begins batch limit es offers lane a closed y)
       ]
 
-  -- a batch that is done
-  flying : (o : Option (ℕ × ℕ)) (offers : List X) (lane : LaneState X) → IsFlight o offers lane → 0 < length lane.flight → (range : ℕ × ℕ) × (o ≡ Some range)
-  flying None offers lane f h = let z = ap length f in absurd (omega arith)
-  flying (Some range) offers lane f h = (range, refl)
+  pub begin_meets : (batch limit : ℕ) (es : List LaneEvent) (offers : List X) (lane : LaneState X) →
+      IsLaneOf batch limit es offers lane → Answers batch limit es offers lane (begin_answer lane)
+  begin_meets batch limit es offers lane a = answers batch limit es offers lane (ranges_of es).begun refl a.state.flight a
 
-  pub accept_meets : (batch limit : ℕ) (es : List LaneEvent) (offers : List X) (lane : LaneState X) → IsLaneOf batch limit es offers lane → 0 < length lane.flight → Accepts batch limit es offers lane
+  -- a batch that is done
+  none_flies : (o : Option (ℕ × List X)) → o ≡ None → IsSome o → ⊥
+  none_flies None h s = cc
+  none_flies (Some batch) h s = cc
+
+  open_range : (o : Option (ℕ × ℕ)) (offers : List X) (lane : LaneState X) → IsFlight o offers lane → IsSome lane.flight →
+      (range : ℕ × ℕ) × (o ≡ Some range)
+  open_range None offers lane f h = absurd (none_flies lane.flight f h)
+  open_range (Some range) offers lane f h = (range, refl)
+
+  pub accept_meets : (batch limit : ℕ) (es : List LaneEvent) (offers : List X) (lane : LaneState X) → IsLaneOf batch limit es offers lane → IsSome lane.flight → Accepts batch limit es offers lane
   accept_meets batch limit es offers lane a g =
       let r : Ranges = ranges_of es in
       let s : Steady limit r = steady_of batch limit es offers lane a in
       let n : length offers ≡ r.pushed = a.state.offered in
-      let flew = flying r.begun offers lane a.state.flight g in
+      let flew = open_range r.begun offers lane a.state.flight g in
       let range : ℕ × ℕ = flew.0 in
       let opened : r.begun ≡ Some range = flew.1 in
       let open_in : OpenIn limit r.pushed r.written_to range = subst (λ (o : Option (ℕ × ℕ)). IsOpenIn limit r.pushed r.written_to o) opened s.open_range in
@@ -246,19 +248,19 @@ module _ {X : Type 0} where
           to = range.1;
           ordered = omega arith;
           within = omega arith;
-          are = flight.1;
+          are = ap batch_items flight;
           were = λ p l m. was_buffered limit es p (is_unwritten batch limit es p a.some a.legal (omega arith)) (was_is p ∙ inside_is_buffered range.0 range.1 start p l m);
           become = λ p l m. is_now_written limit es (Done true) p (new_is p ∙ holds_inside range.0 range.1 p l m);
           others = λ p l o. stays limit es (Done true) p (new_is p ∙ outside_is_no_more range.0 range.1 p o) (accept_same range.0 range.1 start next p same o ∙ sym (was_is p));
         };
       }
 
-  pub fail_meets : (batch limit : ℕ) (es : List LaneEvent) (offers : List X) (lane : LaneState X) → IsLaneOf batch limit es offers lane → 0 < length lane.flight → Fails batch limit es offers lane
+  pub fail_meets : (batch limit : ℕ) (es : List LaneEvent) (offers : List X) (lane : LaneState X) → IsLaneOf batch limit es offers lane → IsSome lane.flight → Fails batch limit es offers lane
   fail_meets batch limit es offers lane a g =
       let r : Ranges = ranges_of es in
       let s : Steady limit r = steady_of batch limit es offers lane a in
       let n : length offers ≡ r.pushed = a.state.offered in
-      let flew = flying r.begun offers lane a.state.flight g in
+      let flew = open_range r.begun offers lane a.state.flight g in
       let range : ℕ × ℕ = flew.0 in
       let opened : r.begun ≡ Some range = flew.1 in
       let open_in : OpenIn limit r.pushed r.written_to range = subst (λ (o : Option (ℕ × ℕ)). IsOpenIn limit r.pushed r.written_to o) opened s.open_range in
@@ -283,8 +285,8 @@ module _ {X : Type 0} where
           offered = a.state.offered;
           flight = refl;
           waiting =
-              ap (λ k. newest k (lane.flight ++ lane.waiting)) a.state.limit
-              ∙ ap (λ (xs : List X). newest limit (xs ++ lane.waiting)) flight.1
+              ap (λ k. newest k (flying lane ++ lane.waiting)) a.state.limit
+              ∙ ap (λ (xs : List X). newest limit (xs ++ lane.waiting)) (ap batch_items flight)
               ∙ ap (λ (xs : List X). newest limit (items_between range.0 range.1 offers ++ xs)) a.state.waiting
               ∙ newest_failed limit range.0 range.1 start offers (omega arith) (omega arith) starts'
               ∙ ap (λ k. drop k offers) (let e : max range.0 (length offers - limit) ≡ next = omega arith in e);
@@ -295,8 +297,8 @@ module _ {X : Type 0} where
           ordered = omega arith;
           within = omega arith;
           are =
-              ap (λ k. older k (lane.flight ++ lane.waiting)) a.state.limit
-              ∙ ap (λ (xs : List X). older limit (xs ++ lane.waiting)) flight.1
+              ap (λ k. older k (flying lane ++ lane.waiting)) a.state.limit
+              ∙ ap (λ (xs : List X). older limit (xs ++ lane.waiting)) (ap batch_items flight)
               ∙ ap (λ (xs : List X). older limit (items_between range.0 range.1 offers ++ xs)) a.state.waiting
               ∙ older_failed limit range.0 range.1 start offers (omega arith) (omega arith) starts'
               ∙ ap (λ k. items_between range.0 k offers) (let e : min range.1 (max range.0 (length offers - limit)) ≡ to = omega arith in e);
@@ -307,20 +309,22 @@ module _ {X : Type 0} where
       }
 
   -- what is kept is what is buffered
-  kept_in_flight : (limit n w p : ℕ) (o : Option (ℕ × ℕ)) (offers : List X) (lane : LaneState X) → length offers ≡ n → IsOpenIn limit n w o → IsFlight o offers lane → is_in_open p o ≡ true → (lane.first ≤ p) × (p < lane.first + length lane.flight)
+  kept_in_flight : (limit n w p : ℕ) (o : Option (ℕ × ℕ)) (offers : List X) (lane : LaneState X) → length offers ≡ n →
+      IsOpenIn limit n w o → IsFlight o offers lane → is_in_open p o ≡ true → IsOfBatch lane.flight p
   kept_in_flight limit n w p None offers lane e s f h = cc
   kept_in_flight limit n w p (Some range) offers lane e s f h =
-      let k = flight_length limit n w range offers lane e s f in
+      let k = length-items_between range.0 range.1 offers (omega arith) in
       let at = holds_parts range.0 range.1 p h in
-      let first = f.0 in
-      (omega arith, omega arith)
+      subst (λ (b : Option (ℕ × List X)). IsOfBatch b p) (sym f) (omega arith, omega arith)
 
-  in_flight_kept : (limit n w p : ℕ) (o : Option (ℕ × ℕ)) (offers : List X) (lane : LaneState X) → length offers ≡ n → IsOpenIn limit n w o → IsFlight o offers lane → lane.first ≤ p → p < lane.first + length lane.flight → is_in_open p o ≡ true
-  in_flight_kept limit n w p None offers lane e s f l m = let z = ap length f in absurd (omega arith)
-  in_flight_kept limit n w p (Some range) offers lane e s f l m =
-      let k = flight_length limit n w range offers lane e s f in
-      let first = f.0 in
-      holds_inside range.0 range.1 p (omega arith) (omega arith)
+  in_flight_kept : (limit n w p : ℕ) (o : Option (ℕ × ℕ)) (offers : List X) (lane : LaneState X) → length offers ≡ n →
+      IsOpenIn limit n w o → IsFlight o offers lane → IsOfBatch lane.flight p → is_in_open p o ≡ true
+  in_flight_kept limit n w p None offers lane e s f m = absurd (subst (λ (b : Option (ℕ × List X)). IsOfBatch b p) f m)
+  in_flight_kept limit n w p (Some range) offers lane e s f m =
+      let k = length-items_between range.0 range.1 offers (omega arith) in
+      let at : (range.0 ≤ p) × (p < range.0 + length (items_between range.0 range.1 offers)) =
+      subst (λ (b : Option (ℕ × List X)). IsOfBatch b p) f m in
+      holds_inside range.0 range.1 p (omega (arith, at.0)) (omega (arith, at.1))
 
   pub keeps_buffered : (batch limit : ℕ) (es : List LaneEvent) (offers : List X) (lane : LaneState X) → IsLaneOf batch limit es offers lane → (p : ℕ) → p < length offers → (fate_at limit es p ≡ Buffered) ↔ IsKept lane p
   keeps_buffered batch limit es offers lane a p l =
@@ -337,7 +341,7 @@ module _ {X : Type 0} where
           | inr b ↦ inr (let k = leb-true start p b in (omega arith, omega arith))
         ],
         λ k. elim k [
-          | inl i ↦ buffered (or_left (is_in_open p r.begun) (leb start p) (in_flight_kept limit r.pushed r.written_to p r.begun offers lane n s.open_range a.state.flight i.0 i.1))
+          | inl i ↦ buffered (or_left (is_in_open p r.begun) (leb start p) (in_flight_kept limit r.pushed r.written_to p r.begun offers lane n s.open_range a.state.flight i))
           | inr w ↦ buffered (behind_start r.begun start p (omega arith))
         ],
       )

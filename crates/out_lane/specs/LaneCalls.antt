@@ -1,5 +1,5 @@
 -- A list of calls of a lane, one after another, and the events that they are at the output.
-use Rattle.std.specs.Prelude.{ℕ, ◌≤◌, ◌<◌, true, false, List, [], ◌∷◌, ◌++◌, length, Result, Ok, Err}
+use Rattle.std.specs.Prelude.{ℕ, ◌≤◌, true, false, IsSome, List, [], ◌∷◌, ◌++◌, Result, Ok, Err}
 use Rattle.out_lane.specs.declared.BeginAnswer.{BeginAnswer}
 use Rattle.out_lane.specs.Lane.{LaneState, empty_lane, after_push, after_begin, begin_answer, after_accept, after_fail}
 use Rattle.out_lane.specs.LaneEvents.{LaneEvent, Push, Begin, Done}
@@ -34,8 +34,8 @@ module _ {X : Type 0} where
   abbrev pub MayCall : LaneState X → LaneCall X → Type 0
   MayCall lane (Pushing item) = Unit {0}
   MayCall lane Beginning = Unit {0}
-  MayCall lane Accepting = 0 < length lane.flight
-  MayCall lane Failing = 0 < length lane.flight
+  MayCall lane Accepting = IsSome lane.flight
+  MayCall lane Failing = IsSome lane.flight
 
   -- the events that a call is, and the items that it pushes
   abbrev pub events_of_call : LaneState X → LaneCall X → List LaneEvent
@@ -70,4 +70,7 @@ module _ {X : Type 0} where
 
 -- After each list of calls that may come, a new lane is the lane of their events.
 abbrev pub CallsMeet : (X : Type 0) → Type 0
-CallsMeet X = (batch limit : ℕ) (calls : List (LaneCall X)) → 1 ≤ batch → batch ≤ limit → MayCallAll (empty_lane batch limit) calls → IsLaneOf batch limit (events_of_calls (empty_lane batch limit) calls) (pushed_by_all calls) (after_calls (empty_lane batch limit) calls)
+CallsMeet X =
+    (batch limit : ℕ) (calls : List (LaneCall X)) → 1 ≤ batch → batch ≤ limit → MayCallAll (empty_lane batch limit) calls →
+    IsLaneOf batch limit (events_of_calls (empty_lane batch limit) calls) (pushed_by_all calls)
+    (after_calls (empty_lane batch limit) calls)

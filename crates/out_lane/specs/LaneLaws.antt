@@ -1,9 +1,9 @@
 -- A lane against the events at its output: what waits and what is in flight, and what becomes of each item.
-use Rattle.std.specs.Prelude.{◌≡◌, ℕ, ◌+◌, ◌-◌, ◌<◌, ◌≤◌, max, true, false, ◌⊎◌, ◌↔◌, List, [], ◌∷◌, ◌++◌, length, take, drop, Option, Some, None, Result, Ok, Err}
+use Rattle.std.specs.Prelude.{◌≡◌, ℕ, ◌+◌, ◌-◌, ◌<◌, ◌≤◌, max, true, false, ◌⊎◌, ◌↔◌, IsSome, List, [], ◌∷◌, ◌++◌, length, take, drop, Option, Some, None, Result, Ok, Err}
 use Rattle.std.specs.Option.{option_to_list}
 use Rattle.out_lane.specs.declared.BeginAnswer.{BeginAnswer}
 use Rattle.out_lane.specs.declared.BeginAnswer.TheVariants.{InFlight, NothingWaiting}
-use Rattle.out_lane.specs.Lane.{LaneState, empty_lane, waiting_from, after_push, pushed_out, after_begin, begin_answer, after_accept, after_fail, failed_out}
+use Rattle.out_lane.specs.Lane.{LaneState, empty_lane, waiting_from, after_push, pushed_out, after_begin, begin_answer, after_accept, after_fail, failed_out, flying}
 use Rattle.out_lane.specs.LaneEvents.{LaneEvent, Push, Begin, Done, Ranges, ranges_of, next_from, open_end, IsOpen, MeetsLane, AreLaneEvents, LaneFate, Written, Buffered, Dropped, fate_at}
 
 -- the ranges before any event
@@ -19,10 +19,10 @@ module _ {X : Type 0} where
   abbrev pub items_between : ℕ → ℕ → List X → List X
   items_between from to offers = take (to - from) (drop from offers)
 
-  -- in flight are the items of the open range, and none where no range is open
+  -- in flight are the items of the open range, from its first position on; nothing is where no range is open
   abbrev pub IsFlight : Option (ℕ × ℕ) → List X → LaneState X → Type 0
-  IsFlight None offers lane = lane.flight ≡ []
-  IsFlight (Some range) offers lane = (lane.first ≡ range.0) × (lane.flight ≡ items_between range.0 range.1 offers)
+  IsFlight None offers lane = lane.flight ≡ None
+  IsFlight (Some range) offers lane = lane.flight ≡ Some (range.0, items_between range.0 range.1 offers)
 
   -- the lane where these items were pushed, and these are the ranges
   pub record IsLaneAt (batch_size buffer_limit : ℕ) (ranges : Ranges) (offers : List X) (lane : LaneState X) : Type 0 where
@@ -77,7 +77,7 @@ module _ {X : Type 0} where
   pub record Accepts (batch_size buffer_limit : ℕ) (es : List LaneEvent) (offers : List X) (lane : LaneState X) : Type 0 where
     pub meets : MeetsLane batch_size buffer_limit (ranges_of es) (Done true)
     pub state : IsLaneOf batch_size buffer_limit (es ++ Done true ∷ []) offers (after_accept lane)
-    pub written : Becomes buffer_limit es (es ++ Done true ∷ []) offers Written lane.flight
+    pub written : Becomes buffer_limit es (es ++ Done true ∷ []) offers Written (flying lane)
 
   -- what a failed batch does: what is handed back becomes Dropped
   pub record Fails (batch_size buffer_limit : ℕ) (es : List LaneEvent) (offers : List X) (lane : LaneState X) : Type 0 where
@@ -85,11 +85,14 @@ module _ {X : Type 0} where
     pub state : IsLaneOf batch_size buffer_limit (es ++ Done false ∷ []) offers (after_fail lane)
     pub dropped : Becomes buffer_limit es (es ++ Done false ∷ []) offers Dropped (failed_out lane)
 
+  -- the position is one of an item of a batch in flight
+  abbrev pub IsOfBatch : Option (ℕ × List X) → ℕ → Type 0
+  IsOfBatch None position = ⊥
+  IsOfBatch (Some batch) position = (batch.0 ≤ position) × (position < batch.0 + length batch.1)
+
   -- the position is one of an item in flight, or of one that waits
   abbrev pub IsKept : LaneState X → ℕ → Type 0
-  IsKept lane position =
-      ((lane.first ≤ position) × (position < lane.first + length lane.flight))
-      ⊎ ((waiting_from lane ≤ position) × (position < lane.pushed))
+  IsKept lane position = IsOfBatch lane.flight position ⊎ ((waiting_from lane ≤ position) × (position < lane.pushed))
 
 module _ (X : Type 0) where
   -- a lane to which nothing was pushed is the lane of no events
@@ -103,10 +106,10 @@ module _ (X : Type 0) where
   BeginMeets = (batch limit : ℕ) (es : List LaneEvent) (offers : List X) (lane : LaneState X) → IsLaneOf batch limit es offers lane → Answers batch limit es offers lane (begin_answer lane)
 
   abbrev pub AcceptMeets : Type 0
-  AcceptMeets = (batch limit : ℕ) (es : List LaneEvent) (offers : List X) (lane : LaneState X) → IsLaneOf batch limit es offers lane → 0 < length lane.flight → Accepts batch limit es offers lane
+  AcceptMeets = (batch limit : ℕ) (es : List LaneEvent) (offers : List X) (lane : LaneState X) → IsLaneOf batch limit es offers lane → IsSome lane.flight → Accepts batch limit es offers lane
 
   abbrev pub FailMeets : Type 0
-  FailMeets = (batch limit : ℕ) (es : List LaneEvent) (offers : List X) (lane : LaneState X) → IsLaneOf batch limit es offers lane → 0 < length lane.flight → Fails batch limit es offers lane
+  FailMeets = (batch limit : ℕ) (es : List LaneEvent) (offers : List X) (lane : LaneState X) → IsLaneOf batch limit es offers lane → IsSome lane.flight → Fails batch limit es offers lane
 
   -- what waits or is in flight is exactly what is Buffered
   abbrev pub KeepsBuffered : Type 0

@@ -1,6 +1,6 @@
 //! The items that wait at one output, and the batch in flight.
-ghost use Rattle.std.specs.Prelude.{◌≡◌, ℕ, ◌+◌, ◌^◌, ◌<◌, ◌≤◌, ◌++◌, length, vec_len, vec_capacity, IfOk, OnOk, OnErr};
-ghost use Rattle.out_lane.specs.Lane.{empty_lane, after_push, pushed_out, after_begin, begin_answer, after_accept, after_fail, failed_out};
+ghost use Rattle.std.specs.Prelude.{◌≡◌, ℕ, ◌+◌, ◌^◌, ◌<◌, ◌≤◌, ◌↔◌, ◌++◌, IsTrue, IsSome, length, vec_len, vec_capacity, IfOk, OnOk, OnErr};
+ghost use Rattle.out_lane.specs.Lane.{empty_lane, after_push, pushed_out, after_begin, begin_answer, after_accept, after_fail, failed_out, flying};
 
 use crate::BeginAnswer;
 use crate::moves::{append_within, move_back, move_oldest};
@@ -17,18 +17,25 @@ use std::marker::Model;
 pub struct Lane<T: Drop> {
     batch: u32,
     pushed: u64,
-    first: u64,
+    // The position of the first item in flight, where a batch is.
+    first: Option<u64>,
     flight: Vec<T>,
     waiting: HeapCircularBuffer<T>,
 }
 
 impl<T: Drop> Model for Lane<T> {
-    ghost use Rattle.std.specs.Prelude.{◌+◌, ◌≤◌, ◌<◌, ◌^◌, length, vec_capacity};
-    ghost use Rattle.out_lane.specs.Lane.{LaneState};
+    ghost use Rattle.std.specs.Prelude.{◌≡◌, ◌+◌, ◌≤◌, ◌<◌, ◌^◌, [], IsNone, length, vec_capacity};
+    ghost use Rattle.out_lane.specs.Lane.{LaneState, batch_from};
 
     ghost Value = { LaneState T };
 
-    ghost view = { λ lane. record { batch = lane.batch; limit = lane.waiting.capacity; pushed = lane.pushed; first = lane.first; flight = lane.flight.items; waiting = lane.waiting.items } };
+    ghost view = { λ lane. record {
+      batch = lane.batch;
+      limit = lane.waiting.capacity;
+      pushed = lane.pushed;
+      flight = batch_from lane.first lane.flight.items;
+      waiting = lane.waiting.items;
+    } };
 
     ghost invariant = { λ lane. record {
       some : 1 ≤ lane.batch;
@@ -38,6 +45,7 @@ impl<T: Drop> Model for Lane<T> {
       newest : length lane.flight.items + length lane.waiting.items ≤ lane.pushed;
       flies : length lane.flight.items ≤ lane.batch;
       room : lane.batch ≤ vec_capacity lane.flight;
+      none : IsNone lane.first → lane.flight.items ≡ [];
     } };
 }
 
@@ -53,7 +61,7 @@ impl<T: Drop> Lane<T> {
         Ok(Lane {
             batch,
             pushed: 0,
-            first: 0,
+            first: None,
             flight,
             waiting,
         })
@@ -76,21 +84,29 @@ impl<T: Drop> Lane<T> {
         ensures ok { OnOk result (self.new ≡ after_begin self.old) }
         ensures err { OnErr result (self.new ≡ self.old) }
     {
-        if !self.flight.is_empty() {
+        if self.first.is_some() {
             return Err(BeginAnswer::InFlight);
         }
         let waits = self.waiting.len();
         if waits == 0 {
             return Err(BeginAnswer::NothingWaiting);
         }
-        self.first = self.pushed - waits as u64;
+        let first = self.pushed - waits as u64;
+        self.first = Some(first);
         move_oldest(&mut self.waiting, &mut self.flight, self.batch as usize);
-        Ok((self.first, self.first + self.flight.len() as u64))
+        Ok((first, first + self.flight.len() as u64))
+    }
+
+    /// Whether a batch is in flight.
+    pub fn is_in_flight(&self) -> bool
+        ensures { IsTrue result ↔ IsSome self.now.flight }
+    {
+        self.first.is_some()
     }
 
     /// The items of the batch in flight, oldest first; none where no batch is.
     pub fn flight(&self) -> &[T]
-        ensures { result.now ≡ self.now.flight }
+        ensures { result.now ≡ flying self.now }
     {
         self.flight.as_slice()
     }
@@ -104,22 +120,24 @@ impl<T: Drop> Lane<T> {
 
     /// Ends the batch in flight: its items move to the end of `out`, oldest first.
     pub fn accept(&mut self, out: &mut Vec<T>)
-        requires begun { 0 < length self.old.flight }
+        requires begun { IsSome self.old.flight }
         requires room { vec_len out.old + self.old.batch ≤ vec_capacity out.old }
         ensures lane { self.new ≡ after_accept self.old }
-        ensures out { out.new.items ≡ out.old.items ++ self.old.flight }
+        ensures out { out.new.items ≡ out.old.items ++ flying self.old }
     {
+        self.first = None;
         append_within(out, &mut self.flight);
     }
 
     /// Lets the batch in flight wait again, before the items that wait. All but the newest of these,
     /// as many as may wait, move to the end of `out`, oldest first.
     pub fn fail(&mut self, out: &mut Vec<T>)
-        requires begun { 0 < length self.old.flight }
+        requires begun { IsSome self.old.flight }
         requires room { vec_len out.old + self.old.batch ≤ vec_capacity out.old }
         ensures lane { self.new ≡ after_fail self.old }
         ensures out { out.new.items ≡ out.old.items ++ failed_out self.old }
     {
+        self.first = None;
         let flight = &mut self.flight;
         move_back(flight, &mut self.waiting);
         append_within(out, flight);

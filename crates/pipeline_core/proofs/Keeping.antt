@@ -1,5 +1,5 @@
 -- What a core keeps agrees after each step.
-use Rattle.std.proofs.Common.{◌≡◌, ◌<◌, ◌≤◌, ℕ, ℤ, ◌+◌, ◌-◌, ◌^◌, ◌==◌, Bool, true, false, List, [], ◌∷◌, ◌++◌, length, take, drop, map, refl, sym, ap, ◌∙◌, subst, inl, inr, arith, get_or, set, replicate, if◌then◌else◌, length-append, length-drop}
+use Rattle.std.proofs.Common.{◌≡◌, ◌<◌, ◌≤◌, ℕ, ℤ, ◌+◌, ◌-◌, ◌^◌, ◌==◌, Bool, true, false, List, [], ◌∷◌, ◌++◌, length, take, drop, map, refl, sym, ap, ◌∙◌, subst, inl, inr, arith, get_or, set, replicate, is_some, IsSome, if◌then◌else◌, length-append, length-drop}
 use Rattle.std.proofs.Math.Nat.{eq-or-lt_of_le}
 use Rattle.std.proofs.lemmas.List.{get_or-set_same, get_or-set_other, length-take, length-take-le, length-map, set-get_or, get_or-map, length-replicate, get_or-replicate}
 use Rattle.std.proofs.lemmas.Bool.{cases_lt}
@@ -25,7 +25,7 @@ use Rattle.pipeline_core.specs.declared.gathering.Gathered.{Gathered}
 use Rattle.pipeline_core.specs.Steps.{after_gather, after_ended, after_take, lanes_routed, numbers_routed, HasFew, lane_with, numbers_with, buffered_more, lane_done, count_done, counted_done, HasNumbers}
 
 in_flight-le : (x : LaneState Content) → in_flight x ≤ 1
-in_flight-le x = elim (length x.flight == 0) as (λ b. (if b then 0 else 1) ≤ 1) [ true ↦ omega arith | false ↦ omega arith ]
+in_flight-le x = elim (is_some x.flight) as (λ b. (if b then 1 else 0) ≤ 1) [ true ↦ omega arith | false ↦ omega arith ]
 
 -- no more batches are in flight than there are outputs
 pub flights-le : (lanes : List (LaneState Content)) → flights lanes ≤ length lanes
@@ -96,11 +96,11 @@ kept_take s stored h empty some =
 pub few_routed : (s : CoreState) (item : ℕ) → IsCore s → s.held ≡ Some item → s.numbers.removed + s.numbers.routed < 2 ^ 32
 few_routed s item h held = omega (arith, h.routed, h.counted, h.below, ap held_count held)
 
-none_flies : (x : LaneState Content) → length x.flight ≡ 0 → in_flight x ≡ 0
-none_flies x h = grind (arith, nat_tests)
+none_flies : (x : LaneState Content) → x.flight ≡ None → in_flight x ≡ 0
+none_flies x h = ap (λ (o : Option (ℕ × List Content)). if is_some o then 1 else 0) h
 
-one_flies : (x : LaneState Content) → 0 < length x.flight → in_flight x ≡ 1
-one_flies x h = grind (arith, nat_tests)
+one_flies : (x : LaneState Content) → IsSome x.flight → in_flight x ≡ 1
+one_flies x h = ap (λ (b : Bool). if b then 1 else 0) h
 
 pub not_full : (m n : ℕ) → m < n → (m == n) ≡ false
 not_full m n h = grind (arith, nat_tests)
@@ -137,17 +137,17 @@ output_offered size routed x at (Some view) h =
     ]
 
 -- an output agrees once its batch was begun
-pub output_begun : (size : ℕ × ℕ) (routed : ℕ) (x : OutputNumbers) (at : LaneState Content) → length at.flight ≡ 0 → IsOutput size routed x at → IsOutput size routed x (lane.after_begin at)
+pub output_begun : (size : ℕ × ℕ) (routed : ℕ) (x : OutputNumbers) (at : LaneState Content) → at.flight ≡ None → IsOutput size routed x at → IsOutput size routed x (lane.after_begin at)
 output_begun size routed x at none h =
-    record { batch = h.batch; limit = h.limit; some = h.some; fits = h.fits; waits = omega (arith, length-drop at.batch at.waiting, h.waits); buffered = omega (arith, length-drop at.batch at.waiting, length-take at.batch at.waiting, h.buffered); all = h.all; pushed = h.pushed }
+    record { batch = h.batch; limit = h.limit; some = h.some; fits = h.fits; waits = omega (arith, length-drop at.batch at.waiting, h.waits); buffered = omega (arith, length-drop at.batch at.waiting, length-take at.batch at.waiting, h.buffered, ap (λ (o : Option (ℕ × List Content)). length (lane.batch_items o)) none); all = h.all; pushed = h.pushed }
 
 -- an output agrees once its batch was accepted, or failed
 pub output_done : (ok : Bool) (size : ℕ × ℕ) (routed : ℕ) (x : OutputNumbers) (at : LaneState Content) → IsOutput size routed x at → IsOutput size routed (counted_done ok (count_done ok at) x) (lane_done ok at)
 output_done true size routed x at h =
     record { batch = h.batch; limit = h.limit; some = h.some; fits = h.fits; waits = h.waits; buffered = omega (arith, h.buffered); all = omega (arith, h.all, h.buffered); pushed = h.pushed }
 output_done false size routed x at h =
-    let all = at.flight ++ at.waiting in
-    let whole : length all ≡ length at.flight + length at.waiting = length-append at.flight at.waiting in
+    let all = lane.flying at ++ at.waiting in
+    let whole : length all ≡ length (lane.flying at) + length at.waiting = length-append (lane.flying at) at.waiting in
     let kept : length (drop (length all - at.limit) all) ≡ length all - (length all - at.limit) = length-drop (length all - at.limit) all in
     let gone : length (take (length all - at.limit) all) ≡ length all - at.limit = length-take-le (length all - at.limit) all (omega arith) in
     record { batch = h.batch; limit = h.limit; some = h.some; fits = h.fits; waits = omega (arith, kept); buffered = omega (arith, kept, gone, whole, h.buffered); all = omega (arith, h.all, h.buffered, gone, whole); pushed = h.pushed }
@@ -216,7 +216,7 @@ has_few s item held h o b =
     record { filtered = omega (arith, few, e.all); buffered = omega (arith, few, e.all); dropped = omega (arith, few, e.all); pushed = omega (arith, few, e.pushed) }
 
 -- a batch is begun
-pub kept_begin : (s : CoreState) (o : ℕ) (at : LaneState Content) (stored : List Entry) → o < length s.setup.outputs → length (lane_at s.lanes o).flight ≡ 0 → at ≡ lane.after_begin (lane_at s.lanes o) → IsCore s → IsCore (record s { lanes = set s.lanes o at; stored = stored })
+pub kept_begin : (s : CoreState) (o : ℕ) (at : LaneState Content) (stored : List Entry) → o < length s.setup.outputs → (lane_at s.lanes o).flight ≡ None → at ≡ lane.after_begin (lane_at s.lanes o) → IsCore s → IsCore (record s { lanes = set s.lanes o at; stored = stored })
 kept_begin s o at stored b none e h =
     record {
       lanes = length-set s.lanes o at ∙ h.lanes;
@@ -254,11 +254,11 @@ kept_done s o ok at numbers stored b e n h =
     })
 
 -- one batch fewer is in flight
-pub flights_done : (lanes : List (LaneState Content)) (o : ℕ) (at : LaneState Content) → o < length lanes → 0 < length (lane_at lanes o).flight → length at.flight ≡ 0 → flights (set lanes o at) + 1 ≡ flights lanes
+pub flights_done : (lanes : List (LaneState Content)) (o : ℕ) (at : LaneState Content) → o < length lanes → IsSome (lane_at lanes o).flight → at.flight ≡ None → flights (set lanes o at) + 1 ≡ flights lanes
 flights_done lanes o at b some none = omega (arith, sum_by-set in_flight lanes o at (empty_lane 0 0) b, one_flies (lane_at lanes o) some, none_flies at none)
 
 -- once a batch is done none is in flight
-pub none_left : (ok : Bool) (at : LaneState Content) → length (lane_done ok at).flight ≡ 0
+pub none_left : (ok : Bool) (at : LaneState Content) → (lane_done ok at).flight ≡ None
 none_left true at = refl
 none_left false at = refl
 
@@ -314,7 +314,16 @@ pub kept_gathered : (s : CoreState) (g : Gathered) (raw : List Content) (numbers
 kept_gathered s g raw numbers gathered stored h few r n e = rw (r, n, e) (kept_gather s g stored h few)
 
 -- a batch that is begun is in flight
-pub flies : (s : CoreState) (o : ℕ) (at : LaneState Content) → IsCore s → o < length s.setup.outputs → at ≡ lane.after_begin (lane_at s.lanes o) → 0 < length (lane_at s.lanes o).waiting → 0 < length (lane_at (set s.lanes o at) o).flight
-flies s o at h b e some =
+pub flies : (s : CoreState) (o : ℕ) (at : LaneState Content) → IsCore s → o < length s.setup.outputs →
+    at ≡ lane.after_begin (lane_at s.lanes o) → IsSome (lane_at (set s.lanes o at) o).flight
+flies s o at h b e =
+    subst (λ (y : LaneState Content). IsSome y.flight)
+    (sym (get_or-set_same s.lanes o at (empty_lane 0 0) (omega (arith, h.lanes)) ∙ e)) refl
+
+-- a batch has metrics
+pub some_begun : (s : CoreState) (o : ℕ) (metrics : List Content) → IsCore s → o < length s.setup.outputs →
+    metrics ≡ take (lane_at s.lanes o).batch (lane_at s.lanes o).waiting → 0 < length (lane_at s.lanes o).waiting →
+    0 < length metrics
+some_begun s o metrics h b e some =
     let x : LaneState Content = lane_at s.lanes o in
-    subst (λ (y : LaneState Content). 0 < length y.flight) (sym (get_or-set_same s.lanes o at (empty_lane 0 0) (omega (arith, h.lanes)) ∙ e)) (omega (arith, length-take x.batch x.waiting, (h.each o b).some))
+    omega (arith, ap length e, length-take x.batch x.waiting, (h.each o b).some)

@@ -11,7 +11,7 @@ use Rattle.account.specs.declared.numbers.OutputNumbers.{OutputNumbers}
 use Rattle.account.specs.declared.entry.Entry.{Entry}
 use Rattle.out_lane.specs.LaneEvents.{LaneEvent, LaneFate}
 use Rattle.out_lane.specs.LaneEvents as lane
-use Rattle.out_lane.specs.Lane.{LaneState, pushed_out, failed_out}
+use Rattle.out_lane.specs.Lane.{LaneState, flying, pushed_out, failed_out}
 use Rattle.out_lane.specs.LaneCounts.{ones}
 use Rattle.out_lane.specs.LaneLaws.{KeepsFates, Becomes, Pushes, Accepts, Fails}
 use Rattle.pipeline_core.specs.Offers.{offers, offered_by, lane_events, lane_events_by}
@@ -92,12 +92,12 @@ pub output_accepts : (batch limit o : ℕ) (es : List Entry) (e : Entry) (at : L
     Accepts batch limit (lane_events o es) (offers o es) at → output_total limit o (es ++ e ∷ []) ≡ counted_done true (count_done true at) (output_total limit o es)
 output_accepts batch limit o es e at l v k h =
     same_numbers (output_total limit o (es ++ e ∷ [])) (counted_done true (count_done true at) (output_total limit o es))
-    (omega (arith, count-become is_filtered limit o es e (lane.Done true) lane.Written at.flight l v (k is_filtered) h.written))
-    (omega (arith, count-become is_late limit o es e (lane.Done true) lane.Written at.flight l v (k is_late) h.written))
-    (omega (arith, count-become is_consumed limit o es e (lane.Done true) lane.Written at.flight l v (k is_consumed) h.written))
-    (omega (arith, count-become is_written limit o es e (lane.Done true) lane.Written at.flight l v (k is_written) h.written))
-    (omega (arith, count-become is_buffered limit o es e (lane.Done true) lane.Written at.flight l v (k is_buffered) h.written))
-    (omega (arith, count-become is_dropped limit o es e (lane.Done true) lane.Written at.flight l v (k is_dropped) h.written))
+    (omega (arith, count-become is_filtered limit o es e (lane.Done true) lane.Written (flying at) l v (k is_filtered) h.written))
+    (omega (arith, count-become is_late limit o es e (lane.Done true) lane.Written (flying at) l v (k is_late) h.written))
+    (omega (arith, count-become is_consumed limit o es e (lane.Done true) lane.Written (flying at) l v (k is_consumed) h.written))
+    (omega (arith, count-become is_written limit o es e (lane.Done true) lane.Written (flying at) l v (k is_written) h.written))
+    (omega (arith, count-become is_buffered limit o es e (lane.Done true) lane.Written (flying at) l v (k is_buffered) h.written))
+    (omega (arith, count-become is_dropped limit o es e (lane.Done true) lane.Written (flying at) l v (k is_dropped) h.written))
 
 -- a batch fails
 pub output_fails : (batch limit o : ℕ) (es : List Entry) (e : Entry) (at : LaneState Content) → lane_events_by o e ≡ lane.Done false ∷ [] → offered_by o e ≡ [] → ((t : Fate → Bool) → kept_out t o e ≡ 0) →

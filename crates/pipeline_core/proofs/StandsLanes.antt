@@ -1,5 +1,5 @@
 -- A core that stands for a journal stands for it once an item was routed, or a batch was begun or done.
-use Rattle.std.proofs.Common.{◌≡◌, ◌≢◌, ◌<◌, ◌≤◌, ℕ, ◌+◌, ◌==◌, Bool, true, false, List, [], ◌∷◌, ◌++◌, length, min, inl, inr, refl, sym, ap, ◌∙◌, subst, arith, append-nil, set, get_or, if◌then◌else◌, Ok, Err, Result}
+use Rattle.std.proofs.Common.{◌≡◌, ◌≢◌, ◌<◌, ◌≤◌, ℕ, ◌+◌, Bool, true, false, List, [], ◌∷◌, ◌++◌, length, min, inl, inr, refl, sym, ap, ◌∙◌, subst, arith, append-nil, set, get_or, IsSome, if◌then◌else◌}
 use Rattle.std.proofs.Math.Bool.{or-false}
 use Rattle.std.proofs.Math.Nat.{eq-or-lt_of_le}
 use Rattle.std.proofs.lemmas.Bool.{cases_lt}
@@ -17,11 +17,8 @@ use Rattle.out_lane.specs.LaneEvents.{LaneEvent, Ranges, ranges_of, IsOpen}
 use Rattle.out_lane.specs.LaneEvents as events
 use Rattle.out_lane.specs.Lane.{LaneState, empty_lane, waiting_from, begin_answer}
 use Rattle.out_lane.specs.Lane as lane
-use Rattle.out_lane.specs.declared.BeginAnswer.{BeginAnswer}
-use Rattle.out_lane.specs.declared.BeginAnswer.TheVariants.{InFlight, NothingWaiting}
-use Rattle.out_lane.specs.LaneLaws.{IsLaneOf, IsFlight, Answers, Begins, no_ranges}
-use Rattle.out_lane.proofs.LaneLemmas.{push_meets, begin_meets, accept_meets, fail_meets}
-use Rattle.out_lane.proofs.RangeLemmas.{ranges_from-push}
+use Rattle.out_lane.specs.LaneLaws.{IsLaneOf, Answers, Begins}
+use Rattle.out_lane.proofs.LaneLemmas.{begun_answer, push_meets, begin_meets, accept_meets, fail_meets}
 use Rattle.pipeline_core.specs.Fates.{Fate}
 use Rattle.pipeline_core.specs.Offers.{offers, offered_by, lane_events, lane_events_by, view_at, pushes}
 use Rattle.pipeline_core.specs.Legal.{verdict_of, HasViews}
@@ -32,37 +29,16 @@ use Rattle.pipeline_core.specs.Steps.{after_begin, after_done, after_route, rout
 use Rattle.pipeline_core.specs.declared.routing.Routed.{Routed}
 use Rattle.account.specs.declared.entry.Verdict.TheVariants as verdicts
 use Rattle.pipeline_core.proofs.FateCounts.{kept_out, kept_out_by}
-use Rattle.pipeline_core.proofs.Keeping.{full}
 use Rattle.pipeline_core.proofs.Offering.{lanes_with-at, outputs_with-at, length-lanes_with, length-outputs_with}
 use Rattle.pipeline_core.proofs.TotalPush.{inputs-same, outputs-same, outputs-set, outputs-as, outputs-at}
 use Rattle.pipeline_core.proofs.OutputPush.{output_stays, output_filters, output_begins, output_pushes, output_accepts, output_fails, totals-push}
 use Rattle.pipeline_core.proofs.Standing.{stands_grows, lanes_stay, ended_stays}
 use Rattle.pipeline_core.proofs.StandsSteps.{differs, same_number, outputs_stay}
 
--- where no batch is in flight, the first position of the last one doesn't count
-unfirst : (b l : ℕ) (es : List LaneEvent) (offs : List Content) (x : LaneState Content) → (ranges_of es).begun ≡ None → IsLaneOf b l es offs x → IsLaneOf b l es offs (record x { first = 0 })
-unfirst b l es offs x none h =
-    record {
-      some = h.some;
-      fits = h.fits;
-      legal = h.legal;
-      state = record {
-        batch = h.state.batch;
-        limit = h.state.limit;
-        pushed = h.state.pushed;
-        offered = h.state.offered;
-        flight = subst (λ (r : Option (ℕ × ℕ)). IsFlight r offs (record x { first = 0 })) (sym none) (let f : x.flight ≡ [] = subst (λ (r : Option (ℕ × ℕ)). IsFlight r offs x) none h.state.flight in f);
-        waiting = h.state.waiting;
-      };
-    }
-
-closed : (es : List LaneEvent) (ok : Bool) → (ranges_of (es ++ events.Done ok ∷ [])).begun ≡ None
-closed es ok = ap (λ (r : Ranges). r.begun) (ranges_from-push no_ranges es (events.Done ok))
-
 -- a batch that is done, at its output's lane
-lane_is_done : (ok : Bool) (b l : ℕ) (es : List LaneEvent) (offs : List Content) (x : LaneState Content) → 0 < length x.flight → IsLaneOf b l es offs x → IsLaneOf b l (es ++ events.Done ok ∷ []) offs (lane_done ok x)
-lane_is_done true b l es offs x some h = unfirst b l (es ++ events.Done true ∷ []) offs (lane.after_accept x) (closed es true) (accept_meets b l es offs x h some).state
-lane_is_done false b l es offs x some h = unfirst b l (es ++ events.Done false ∷ []) offs (lane.after_fail x) (closed es false) (fail_meets b l es offs x h some).state
+lane_is_done : (ok : Bool) (b l : ℕ) (es : List LaneEvent) (offs : List Content) (x : LaneState Content) → IsSome x.flight → IsLaneOf b l es offs x → IsLaneOf b l (es ++ events.Done ok ∷ []) offs (lane_done ok x)
+lane_is_done true b l es offs x some h = (accept_meets b l es offs x h some).state
+lane_is_done false b l es offs x some h = (fail_meets b l es offs x h some).state
 
 -- entries of one output
 lanes_one : (s : CoreState) (journal : List Entry) (e : Entry) (o : ℕ) (x : LaneState Content) (event : LaneEvent) → Stands s journal → o < length s.setup.outputs → lane_events_by o e ≡ event ∷ [] →
@@ -85,15 +61,7 @@ lanes_one s journal e o x event h b here others none new k c =
       ]
     ]
 
-begins_ok : (x : LaneState Content) → length x.flight ≡ 0 → 0 < length x.waiting → begin_answer x ≡ Ok (waiting_from x, waiting_from x + min x.batch (length x.waiting))
-begins_ok x none some =
-    let R : Type 0 = Result (ℕ × ℕ) BeginAnswer in
-    let good : R = Ok (waiting_from x, waiting_from x + min x.batch (length x.waiting)) in
-    let empty : R = Err NothingWaiting in
-    let busy : R = Err InFlight in
-    ap (λ (t : Bool). if t then (if length x.waiting == 0 then empty else good) else busy) (full (length x.flight) 0 none) ∙ ap (λ (t : Bool). if t then empty else good) (differs (length x.waiting) 0 (omega arith))
-
-pub stands_begin : (s : CoreState) (o from to : ℕ) → o < length s.setup.outputs → length (lane_at s.lanes o).flight ≡ 0 → 0 < length (lane_at s.lanes o).waiting →
+pub stands_begin : (s : CoreState) (o from to : ℕ) → o < length s.setup.outputs → (lane_at s.lanes o).flight ≡ None → 0 < length (lane_at s.lanes o).waiting →
     from ≡ waiting_from (lane_at s.lanes o) → to ≡ waiting_from (lane_at s.lanes o) + min (lane_at s.lanes o).batch (length (lane_at s.lanes o).waiting) → Continues s (after_begin s o from to) (Begin o from to)
 stands_begin s o from to b none some f t journal h =
     let e : Entry = Begin o from to in
@@ -101,7 +69,7 @@ stands_begin s o from to b none some f t journal h =
     let es : List LaneEvent = lane_events o journal in
     let batch : ℕ = (sizes_at s.setup o).0 in
     let limit : ℕ = (sizes_at s.setup o).1 in
-    let raw : Begins batch limit es (offers o journal) x (waiting_from x, waiting_from x + min x.batch (length x.waiting)) = subst (Answers batch limit es (offers o journal) x) (begins_ok x none some) (begin_meets batch limit es (offers o journal) x (h.lanes o b)) in
+    let raw : Begins batch limit es (offers o journal) x (waiting_from x, waiting_from x + min x.batch (length x.waiting)) = subst (Answers batch limit es (offers o journal) x) (begun_answer x none (λ z. absurd (omega (arith, z)))) (begin_meets batch limit es (offers o journal) x (h.lanes o b)) in
     let got : Begins batch limit es (offers o journal) x (from, to) =
     subst (λ (n : ℕ). Begins batch limit es (offers o journal) x (n, to)) (sym f) (subst (λ (n : ℕ). Begins batch limit es (offers o journal) x (waiting_from x, n)) (sym t) raw) in
     let here : lane_events_by o e ≡ events.Begin from to ∷ [] = ap (λ (q : Bool). if q then events.Begin from to ∷ [] else []) (same_number o) in
@@ -133,11 +101,11 @@ stands_begin s o from to b none some f t journal h =
 
 -- the numbers of a batch that is done
 total_is_done : (ok : Bool) (b l o : ℕ) (journal : List Entry) (e : Entry) (x : LaneState Content) → lane_events_by o e ≡ events.Done ok ∷ [] → offered_by o e ≡ [] → ((t : Fate → Bool) → kept_out t o e ≡ 0) →
-    0 < length x.flight → IsLaneOf b l (lane_events o journal) (offers o journal) x → output_total l o (journal ++ e ∷ []) ≡ counted_done ok (count_done ok x) (output_total l o journal)
+    IsSome x.flight → IsLaneOf b l (lane_events o journal) (offers o journal) x → output_total l o (journal ++ e ∷ []) ≡ counted_done ok (count_done ok x) (output_total l o journal)
 total_is_done true b l o journal e x v w k some h = output_accepts b l o journal e x v w k (accept_meets b l (lane_events o journal) (offers o journal) x h some)
 total_is_done false b l o journal e x v w k some h = output_fails b l o journal e x v w k (fail_meets b l (lane_events o journal) (offers o journal) x h some)
 
-pub stands_done : (s : CoreState) (o : ℕ) (ok : Bool) → o < length s.setup.outputs → 0 < length (lane_at s.lanes o).flight → Continues s (after_done s o ok) (Done o ok [])
+pub stands_done : (s : CoreState) (o : ℕ) (ok : Bool) → o < length s.setup.outputs → IsSome (lane_at s.lanes o).flight → Continues s (after_done s o ok) (Done o ok [])
 stands_done s o ok b some journal h =
     let e : Entry = Done o ok [] in
     let x : LaneState Content = lane_at s.lanes o in
@@ -233,9 +201,9 @@ stands_routed (Some whole) s item aggs outs core held none count views journal h
 pub route_stands : (s n : CoreState) (r : Routed) → n ≡ after_route s r → IsCore s → s.held ≡ Some r.item → r.aggs ≡ [] → length r.outs ≡ length s.setup.outputs → HasViews r.whole r.outs → Continues s n (route_entry r)
 route_stands s n r q core held none count views = subst (λ (m : CoreState). Continues s m (route_entry r)) (sym q) (stands_routed r.whole s r.item r.aggs r.outs core held none count views)
 
-pub begin_stands : (s n : CoreState) (o from to : ℕ) → n ≡ after_begin s o from to → o < length s.setup.outputs → length (lane_at s.lanes o).flight ≡ 0 → 0 < length (lane_at s.lanes o).waiting →
+pub begin_stands : (s n : CoreState) (o from to : ℕ) → n ≡ after_begin s o from to → o < length s.setup.outputs → (lane_at s.lanes o).flight ≡ None → 0 < length (lane_at s.lanes o).waiting →
     from ≡ waiting_from (lane_at s.lanes o) → to ≡ waiting_from (lane_at s.lanes o) + min (lane_at s.lanes o).batch (length (lane_at s.lanes o).waiting) → Continues s n (Begin o from to)
 begin_stands s n o from to q b none some f t = subst (λ (m : CoreState). Continues s m (Begin o from to)) (sym q) (stands_begin s o from to b none some f t)
 
-pub done_stands : (s n : CoreState) (o : ℕ) (ok : Bool) → n ≡ after_done s o ok → o < length s.setup.outputs → 0 < length (lane_at s.lanes o).flight → Continues s n (Done o ok [])
+pub done_stands : (s n : CoreState) (o : ℕ) (ok : Bool) → n ≡ after_done s o ok → o < length s.setup.outputs → IsSome (lane_at s.lanes o).flight → Continues s n (Done o ok [])
 done_stands s n o ok q b some = subst (λ (m : CoreState). Continues s m (Done o ok [])) (sym q) (stands_done s o ok b some)

@@ -1,5 +1,5 @@
 -- What a core keeps, as contracts see it.
-use Rattle.std.specs.Prelude.{◌≡◌, ◌<◌, ◌≤◌, ℕ, ℤ, ◌+◌, ◌^◌, ◌==◌, Bool, false, List, [], map, length, replicate, slice_index_or, All, if◌then◌else◌}
+use Rattle.std.specs.Prelude.{◌≡◌, ◌<◌, ◌≤◌, ℕ, ℤ, ◌+◌, ◌^◌, Bool, false, is_some, List, [], map, length, replicate, slice_index_or, All, if◌then◌else◌}
 use Rattle.std.specs.List.{sum_by}
 use Rattle.std.specs.declared.option.Option.{Option}
 use Rattle.std.specs.declared.option.Option.TheVariants.{Some, None}
@@ -8,7 +8,7 @@ use Rattle.account.specs.Setup.{Setup}
 use Rattle.account.specs.Numbers.{Numbers, no_numbers, output_numbers, fates}
 use Rattle.account.specs.declared.numbers.OutputNumbers.{OutputNumbers}
 use Rattle.account.specs.declared.entry.Entry.{Entry}
-use Rattle.out_lane.specs.Lane.{LaneState, empty_lane}
+use Rattle.out_lane.specs.Lane.{LaneState, empty_lane, flying}
 use Rattle.pipeline_core.specs.declared.setup.CoreSetup.{CoreSetup}
 use Rattle.pipeline_core.specs.declared.setup.InSetup.{InSetup}
 use Rattle.pipeline_core.specs.declared.setup.OutSetup.{OutSetup}
@@ -80,7 +80,7 @@ held_count (Some item) = 1
 
 -- one where a batch is in flight
 abbrev pub in_flight : LaneState Content → ℕ
-in_flight lane = if length lane.flight == 0 then 0 else 1
+in_flight lane = if is_some lane.flight then 1 else 0
 
 -- how many batches are in flight
 abbrev pub flights : List (LaneState Content) → ℕ
@@ -93,7 +93,7 @@ pub record IsOutput (size : ℕ × ℕ) (routed : ℕ) (x : OutputNumbers) (lane
   pub some : 1 ≤ lane.batch
   pub fits : lane.batch ≤ lane.limit
   pub waits : length lane.waiting ≤ lane.limit
-  pub buffered : x.buffered ≡ length lane.flight + length lane.waiting
+  pub buffered : x.buffered ≡ length (flying lane) + length lane.waiting
   pub all : fates x ≡ routed
   pub pushed : lane.pushed ≤ routed
 

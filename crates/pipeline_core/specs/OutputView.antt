@@ -1,12 +1,12 @@
 -- How an output is seen.
-use Rattle.std.specs.Prelude.{◌≡◌, ◌<◌, ◌≤◌, ◌==◌, [], length, vec_capacity, if◌then◌else◌}
+use Rattle.std.specs.Prelude.{◌≡◌, ◌≤◌, [], IsSome, length, vec_capacity}
 use Rattle.metric.specs.declared.metric.Content.{Content}
 use Rattle.out_lane.specs.Lane.{LaneState}
 use Rattle.pipeline_core.specs.declared.output.Output.TheInside.{Inside}
 
--- The first position of a batch counts while the batch is in flight.
+-- an output is seen as its lane
 abbrev pub output_state : Inside → LaneState Content
-output_state o = record o.lane { first = if length o.lane.flight == 0 then 0 else o.lane.first }
+output_state o = o.lane
 
 -- no more wait than may, and what comes back of a batch in flight has room
 pub record IsOutputKept (o : Inside) : Type 0 where
@@ -15,4 +15,4 @@ pub record IsOutputKept (o : Inside) : Type 0 where
   pub waits : length o.lane.waiting ≤ o.lane.limit
   pub most : 1 ≤ o.lane.limit
   pub none : o.back.items ≡ []
-  pub room : 0 < length o.lane.flight → o.lane.batch ≤ vec_capacity o.back
+  pub room : IsSome o.lane.flight → o.lane.batch ≤ vec_capacity o.back

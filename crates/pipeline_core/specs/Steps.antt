@@ -139,8 +139,8 @@ after_begin state output from to = record state {
 
 -- an output's lane, once its batch was accepted, or failed
 abbrev pub lane_done : Bool → LaneState Content → LaneState Content
-lane_done true x = record (lane.after_accept x) { first = 0 }
-lane_done false x = record (lane.after_fail x) { first = 0 }
+lane_done true x = lane.after_accept x
+lane_done false x = lane.after_fail x
 
 -- the oldest waiting metrics, as many as a batch has at most, with their positions
 pub record IsBatchOf (x : LaneState Content) (batch : Batch) : Type 0 where
@@ -150,7 +150,7 @@ pub record IsBatchOf (x : LaneState Content) (batch : Batch) : Type 0 where
 
 -- how many metrics leave an output as its batch is accepted, or fails
 abbrev pub count_done : Bool → LaneState Content → ℕ
-count_done true x = length x.flight
+count_done true x = length (lane.flying x)
 count_done false x = length (lane.failed_out x)
 
 -- an output's numbers, once so many buffered metrics left as its batch was accepted, or failed

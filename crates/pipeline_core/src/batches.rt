@@ -1,5 +1,5 @@
 //! Batches of an output.
-ghost use Rattle.std.specs.Prelude.{◌≡◌, ◌<◌, ◌≤◌, ◌^◌, ◌↔◌, [], length, IfOk, OnOk, OnErr};
+ghost use Rattle.std.specs.Prelude.{◌≡◌, ◌<◌, ◌≤◌, ◌^◌, ◌↔◌, [], length, IfOk, OnOk, OnErr, IsSome};
 ghost use Rattle.account.specs.Numbers.{with_output, output_numbers, IsOutputBelow};
 ghost use Rattle.pipeline_core.specs.CoreState.{lane_at};
 ghost use Rattle.account.specs.declared.entry.Entry.TheVariants as entries;
@@ -38,11 +38,13 @@ impl Core {
     /// Begins the next batch of an output: its oldest waiting metrics. An error leaves all as it was.
     pub fn begin(&mut self, output: u32) -> Result<Batch, BeginAnswer>
         requires { output < length self.old.setup.outputs }
-        ensures in_flight { (result ≡ Err BeginAnswer.InFlight) ↔ (0 < length (lane_at self.old.lanes output).flight) }
-        ensures nothing { (result ≡ Err BeginAnswer.NothingWaiting) ↔ ((length (lane_at self.old.lanes output).flight ≡ 0) × (length (lane_at self.old.lanes output).waiting ≡ 0)) }
+        ensures in_flight { (result ≡ Err BeginAnswer.InFlight) ↔ IsSome (lane_at self.old.lanes output).flight }
+        ensures nothing { let lane = lane_at self.old.lanes output in
+            (result ≡ Err BeginAnswer.NothingWaiting) ↔ ((lane.flight ≡ None) × (length lane.waiting ≡ 0)) }
         ensures empty { result ≡ Err BeginAnswer.NothingWaiting → (output_numbers self.old.numbers output).buffered ≡ 0 }
         ensures batch { IfOk result (IsBatchOf (lane_at self.old.lanes output)) }
-        ensures flies { OnOk result (0 < length (lane_at self.new.lanes output).flight) }
+        ensures some { IfOk result (λ batch. 0 < length batch.metrics) }
+        ensures flies { OnOk result (IsSome (lane_at self.new.lanes output).flight) }
         ensures ok { IfOk result (λ batch. self.new ≡ after_begin self.old output batch.from batch.to) }
         ensures stands { IfOk result (λ batch. Continues self.old self.new (entries.Begin output batch.from batch.to)) }
         ensures err { OnErr result (self.new ≡ self.old) }
@@ -67,7 +69,7 @@ impl Core {
     /// Ends an output's batch in flight: accepted, or failed. Takes no memory.
     pub fn done(&mut self, output: u32, ok: bool)
         requires known { output < length self.old.setup.outputs }
-        requires begun { 0 < length (lane_at self.old.lanes output).flight }
+        requires begun { IsSome (lane_at self.old.lanes output).flight }
         ensures after { self.new ≡ after_done self.old output ok }
         ensures stands { Continues self.old self.new (entries.Done output ok []) }
     {

@@ -1,6 +1,6 @@
 //! What waits at an output, and its batch in flight.
-ghost use Rattle.std.specs.Prelude.{◌≡◌, ◌≢◌, ◌<◌, ◌≤◌, ◌+◌, ◌^◌, ◌==◌, ◌↔◌, [], true, false, length, slice_set, IfOk, OnOk, OnErr, IsTrue};
-ghost use Rattle.out_lane.specs.Lane.{empty_lane, after_push, after_begin};
+ghost use Rattle.std.specs.Prelude.{◌≡◌, ◌≢◌, ◌<◌, ◌≤◌, ◌+◌, ◌^◌, ◌==◌, ◌↔◌, [], true, false, length, slice_set, IfOk, OnOk, OnErr, IsSome, IsTrue};
+ghost use Rattle.out_lane.specs.Lane.{empty_lane, after_push, after_begin, flying};
 ghost use Rattle.pipeline_core.specs.Steps.{IsBatchOf, lane_done, count_done};
 
 use crate::batches::{Batch, BeginAnswer};
@@ -57,27 +57,27 @@ impl Output {
 
     /// Whether a batch is in flight.
     pub(crate) fn is_in_flight(&self) -> bool
-        ensures { IsTrue result ↔ (0 < length self.now.flight) }
+        ensures { IsTrue result ↔ IsSome self.now.flight }
     {
-        !self.lane.flight().is_empty()
+        self.lane.is_in_flight()
     }
 
     /// How many views wait or are in flight.
     pub(crate) fn buffered(&self) -> u64
-        requires few { length self.now.flight + length self.now.waiting < 2 ^ 32 }
-        ensures { result ≡ length self.now.flight + length self.now.waiting }
+        requires few { length (flying self.now) + length self.now.waiting < 2 ^ 32 }
+        ensures { result ≡ length (flying self.now) + length self.now.waiting }
     {
         self.lane.flight().len() as u64 + u64::from(self.lane.waiting())
     }
 
     /// Why no batch may be begun, if none may.
     pub(crate) fn ready(&self) -> Result<(), BeginAnswer>
-        ensures in_flight { (result ≡ Err BeginAnswer.InFlight) ↔ (0 < length self.now.flight) }
-        ensures nothing { (result ≡ Err BeginAnswer.NothingWaiting) ↔ ((length self.now.flight ≡ 0) × (length self.now.waiting ≡ 0)) }
-        ensures ok { OnOk result ((length self.now.flight ≡ 0) × (0 < length self.now.waiting)) }
+        ensures in_flight { (result ≡ Err BeginAnswer.InFlight) ↔ IsSome self.now.flight }
+        ensures nothing { (result ≡ Err BeginAnswer.NothingWaiting) ↔ ((self.now.flight ≡ None) × (length self.now.waiting ≡ 0)) }
+        ensures ok { OnOk result ((self.now.flight ≡ None) × (0 < length self.now.waiting)) }
         ensures memory { result ≢ Err BeginAnswer.OutOfMemory }
     {
-        if !self.lane.flight().is_empty() {
+        if self.lane.is_in_flight() {
             return Err(BeginAnswer::InFlight);
         }
         if self.lane.waiting() == 0 {
@@ -88,7 +88,7 @@ impl Output {
 
     /// Begins a batch of the oldest waiting views. Without memory all stays as it was.
     pub(crate) fn begin(&mut self, alloc: Global) -> Result<Batch, OutOfMemory>
-        requires empty { length self.old.flight ≡ 0 }
+        requires none { self.old.flight ≡ None }
         requires some { 0 < length self.old.waiting }
         ensures batch { IfOk result (IsBatchOf self.old) }
         ensures ok { OnOk result (self.new ≡ after_begin self.old) }
@@ -112,8 +112,8 @@ impl Output {
 
     /// Ends the batch in flight, accepted or failed, and answers how many views leave by it.
     pub(crate) fn done(&mut self, ok: bool) -> u32
-        requires begun { 0 < length self.old.flight }
-        requires few { length self.old.flight + length self.old.waiting < 2 ^ 32 }
+        requires begun { IsSome self.old.flight }
+        requires few { length (flying self.old) + length self.old.waiting < 2 ^ 32 }
         ensures lane { self.new ≡ lane_done ok self.old }
         ensures count { result ≡ count_done ok self.old }
     {

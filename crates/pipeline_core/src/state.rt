@@ -1,5 +1,5 @@
 //! What a core keeps, and its entries.
-ghost use Rattle.std.specs.Prelude.{◌≡◌, ◌≤◌, ◌<◌, ◌+◌, [], length, map, true, false, IfOk, OnOk, OnErr, ◌↔◌, List, IsTrue, slice_get};
+ghost use Rattle.std.specs.Prelude.{◌≡◌, ◌≤◌, ◌<◌, ◌+◌, [], length, map, true, false, IfOk, OnOk, OnErr, ◌↔◌, List, IsTrue, IsSome, slice_get};
 ghost use Rattle.std.specs.List.{All};
 ghost use Rattle.pipeline_core.specs.CoreState.{first_state, lane_of, lane_at};
 ghost use Rattle.account.specs.declared.entry.Entry.{Entry};
@@ -158,10 +158,10 @@ impl Core {
 
     /// Whether the output is one of the core's and its batch is in flight.
     pub fn is_in_flight(&self, output: u32) -> bool
-        ensures { IsTrue result ↔ ((output < length self.now.setup.outputs) × (0 < length (lane_at self.now.lanes output).flight)) }
+        ensures { IsTrue result ↔ ((output < length self.now.setup.outputs) × IsSome (lane_at self.now.lanes output).flight) }
     {
         match self.outputs.get(output as usize) {
-            Some(place) => place.is_in_flight(),
+            Some(output) => output.is_in_flight(),
             None => false,
         }
     }

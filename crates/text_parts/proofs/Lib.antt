@@ -3,3 +3,4 @@ pub mod Marks
 pub mod Utf8
 pub mod Items
 pub mod Bare
+pub mod Adding

@@ -4,3 +4,4 @@ pub mod Kinds
 pub mod Many
 pub mod Grammar
 pub mod Bare
+pub mod Adds

@@ -1,10 +1,16 @@
-//! What readers of text formats share: parts that end before given bytes, with escapes, and the chain of first faults.
+//! What readers and writers of text formats share: parts that end before given bytes, with escapes, the chain of
+//! first faults, and writing by appending.
 #![tactic(auto)]
 
+mod append;
 mod error;
 mod laws;
 mod part;
 
+pub use append::{
+    append_bytes, append_int, append_line, append_numbers, append_signed, append_uint,
+    append_unsigned, append_words, settle,
+};
 pub use error::ReadError;
 pub use laws::{part_is_read, read_is_part};
 pub use part::{Part, part_len, part_text, plain_bytes};

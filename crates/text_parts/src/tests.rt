@@ -1,4 +1,5 @@
 use super::*;
+use fixed_num::OutOfMemory;
 use std::test::Fail;
 
 const KEY: Part = Part {
@@ -41,5 +42,22 @@ fn parts_are_read(rt: HostRuntime) -> Result<(), Fail> {
     }
     let text = part_text(rt.alloc(), &KEY, r"tag\ Key3=value", 0)?;
     assert_eq!(rt; text.as_str(), "tag Key3");
+    Ok(())
+}
+
+// What is appended, in the order of the calls; and what a call that failed leaves.
+#[test]
+fn text_grows(rt: HostRuntime) -> Result<(), Fail> {
+    let mut out = Vec::from_slice(rt.alloc(), b"old ")?;
+    append_words(&mut out, "words ")?;
+    append_bytes(&mut out, b"bytes")?;
+    append_numbers(&mut out, &[(" a ", 0), (" b ", 10)], " end")?;
+    append_unsigned(&mut out, " u ", u64::MAX)?;
+    append_signed(&mut out, " i ", &i64::MIN)?;
+    append_line(&mut out, " n ", 7)?;
+    let text = "old words bytes a 0 b 10 end u 18446744073709551615 i -9223372036854775808 n 7\n";
+    assert_eq!(rt; out.as_slice(), text.as_bytes());
+    assert!(rt; settle(&mut out, 4, Err(OutOfMemory)).is_err());
+    assert_eq!(rt; out.as_slice(), b"old ".as_slice());
     Ok(())
 }

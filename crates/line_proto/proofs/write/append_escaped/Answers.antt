@@ -1,5 +1,6 @@
 use Rattle.std.proofs.Common.{sym, ap, ◌∙◌, ◌++◌}
-use Rattle.line_proto.proofs.WriteLemmas.{bare_text, all_written, extends_after, fails}
+use Rattle.line_proto.proofs.WriteLemmas.{bare_text, all_written}
+use Rattle.text_parts.proofs.Adding.{extends_after, fails}
 use Rattle.line_proto.proofs.write.append_escaped.Goals as goal
 
 pub returns-then-all_bare : goal.returns-then-all_bare

@@ -1,8 +1,10 @@
 use Rattle.std.proofs.Common.{◌++◌, take, drop, length, ◌-◌, arith, subst}
 use Rattle.std.specs.List.{flat_map}
 use Rattle.std.specs.Prelude.{codes, List, ℕ}
-use Rattle.line_proto.specs.LineText.{field_text, Adds}
-use Rattle.line_proto.proofs.WriteLemmas.{adds_after, first_field}
+use Rattle.line_proto.specs.LineText.{field_text}
+use Rattle.text_parts.specs.Adds.{Adds}
+use Rattle.line_proto.proofs.WriteLemmas.{first_field}
+use Rattle.text_parts.proofs.Adding.{adds_after}
 use Rattle.line_proto.proofs.write.append_fields.Goals as goal
 
 pub returns-in_ok-append_field-in-len1-up : goal.returns-in_ok-append_field-in-len1-up

@@ -2,7 +2,7 @@ use Rattle.std.proofs.Common.{◌++◌}
 use Rattle.std.specs.List.{flat_map, join_by}
 use Rattle.std.specs.Prelude.{codes}
 use Rattle.line_proto.specs.LineText.{head_text, name_text, tag_text, field_text}
-use Rattle.line_proto.proofs.WriteLemmas.{after, adds_after}
+use Rattle.text_parts.proofs.Adding.{after, adds_after}
 use Rattle.line_proto.proofs.write.append_head.Goals as goal
 
 pub returns : goal.returns

@@ -1,7 +1,8 @@
 use Rattle.std.proofs.Common.{◌++◌, ◌≡◌, length, ap, sym, ◌∙◌, arith, subst}
 use Rattle.std.specs.Prelude.{List, ℕ}
 use Rattle.std.proofs.lemmas.Bool.{eqb-true, eqb-false}
-use Rattle.line_proto.specs.LineText.{trimmed, Adds}
+use Rattle.line_proto.specs.LineText.{trimmed}
+use Rattle.text_parts.specs.Adds.{Adds}
 use Rattle.line_proto.proofs.WriteLemmas.{empty_key, kept_key}
 use Rattle.line_proto.proofs.write.append_key.Goals as goal
 

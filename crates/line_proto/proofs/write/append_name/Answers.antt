@@ -1,8 +1,10 @@
 use Rattle.std.proofs.Common.{◌++◌, ◌∷◌, [], ◌≡◌, length, take, drop, ◌-◌, ap, sym, ◌∙◌, arith, subst}
 use Rattle.std.specs.Prelude.{List, ℕ, codes}
 use Rattle.std.proofs.lemmas.Bool.{eqb-true, eqb-false, ne_eqb}
-use Rattle.line_proto.specs.LineText.{trimmed, escaped, on_one_line, Adds}
-use Rattle.line_proto.proofs.WriteLemmas.{empty_name, hashed_name, kept_name, adds_after}
+use Rattle.line_proto.specs.LineText.{trimmed, escaped, on_one_line}
+use Rattle.text_parts.specs.Adds.{Adds}
+use Rattle.line_proto.proofs.WriteLemmas.{empty_name, hashed_name, kept_name}
+use Rattle.text_parts.proofs.Adding.{adds_after}
 use Rattle.line_proto.proofs.write.append_name.Goals as goal
 
 pub returns-then-is_empty : goal.returns-then-is_empty

@@ -1,4 +1,4 @@
-use Rattle.line_proto.proofs.WriteLemmas.{extends_after, fails}
+use Rattle.text_parts.proofs.Adding.{extends_after, fails}
 use Rattle.line_proto.proofs.write.append_rest.Goals as goal
 
 pub returns-in_err-append_next : goal.returns-in_err-append_next

@@ -1,7 +1,7 @@
 use Rattle.std.proofs.Common.{◌++◌}
 use Rattle.std.specs.Prelude.{codes}
 use Rattle.line_proto.specs.LineText.{key_text, tag_text}
-use Rattle.line_proto.proofs.WriteLemmas.{after, adds_after}
+use Rattle.text_parts.proofs.Adding.{after, adds_after}
 use Rattle.line_proto.proofs.write.append_tag.Goals as goal
 
 pub returns : goal.returns

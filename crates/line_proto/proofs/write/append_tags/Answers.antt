@@ -1,4 +1,4 @@
-use Rattle.line_proto.proofs.WriteLemmas.{extends_after, fails}
+use Rattle.text_parts.proofs.Adding.{extends_after, fails}
 use Rattle.line_proto.proofs.write.append_tags.Goals as goal
 
 pub returns-in_err-append_tag : goal.returns-in_err-append_tag

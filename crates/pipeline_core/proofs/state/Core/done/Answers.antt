@@ -1,4 +1,4 @@
-use Rattle.std.proofs.Common.{◌≡◌, ◌<◌, ◌∙◌, ℕ, ap, sym, length, arith}
+use Rattle.std.proofs.Common.{◌≡◌, ◌<◌, ◌∙◌, ℕ, ap, sym, subst, length, IsSome, arith}
 use Rattle.std.proofs.lemmas.Grind.{common_steps}
 use Rattle.metric.specs.declared.metric.Content.{Content}
 use Rattle.account.specs.Numbers.{with_output, output_numbers}
@@ -24,8 +24,8 @@ invariant_of-self c =
       spare = omega (
         arith,
         flights_done c.self.inside.outputs.items c.args.output c.done-count.new.self within
-            (omega (arith, ap (λ (s : CoreState). length (lane_at s.lanes c.args.output).flight) c.self.view_is, c.requires.begun))
-            (ap (λ (x : LaneState Content). length x.flight) lane ∙ none_left c.args.ok (lane_at c.self.inside.outputs.items c.args.output)),
+            (subst (λ (s : CoreState). IsSome (lane_at s.lanes c.args.output).flight) (sym c.self.view_is) c.requires.begun)
+            (ap (λ (x : LaneState Content). x.flight) lane ∙ none_left c.args.ok (lane_at c.self.inside.outputs.items c.args.output)),
         c.self.invariant.spare,
       );
     }

@@ -1,20 +1,20 @@
 -- Cores that stand for a journal, and the entries that they keep.
-use Rattle.std.proofs.Common.{◌≡◌, ◌≤◌, ◌<◌, ◌+◌, ℕ, zero, suc, List, [], ◌∷◌, ◌++◌, length, take, refl, sym, ap, ◌∙◌, arith, subst}
-use Rattle.std.specs.Prelude.{All, ◌↔◌, map}
+use Rattle.std.proofs.Common.{◌≡◌, ◌≤◌, ◌<◌, ◌+◌, ℕ, zero, suc, true, List, [], ◌∷◌, ◌++◌, length, take, refl, sym, ap, ◌∙◌, arith, subst}
+use Rattle.std.specs.Prelude.{All, ◌↔◌, map, slice_set}
 use Rattle.std.specs.List.{AllByRecursion, enumerate_from}
 use Rattle.std.specs.declared.option.Option.{Option}
 use Rattle.std.specs.declared.option.Option.TheVariants.{Some, None}
-use Rattle.std.proofs.lemmas.List.{length-take}
+use Rattle.std.proofs.lemmas.List.{length-drop, length-take}
 use Rattle.metric.specs.declared.metric.Content.{Content}
 use Rattle.account.specs.Setup.{Setup}
 use Rattle.account.specs.declared.entry.Entry.{Entry}
 use Rattle.account.specs.declared.entry.Entry.TheVariants.{Gather, Ended, Take, Route, Tick, Stop, Begin, Done}
 use Rattle.account.specs.declared.entry.Verdict.{Verdict}
 use Rattle.account.specs.declared.entry.Verdict.TheVariants as verdicts
-use Rattle.out_lane.specs.Lane.{LaneState}
+use Rattle.out_lane.specs.Lane.{LaneState, after_begin}
 use Rattle.pipeline_core.specs.CoreState.{CoreState, lane_at}
 use Rattle.pipeline_core.specs.Offers.{view_at}
-use Rattle.pipeline_core.specs.Steps.{lane_with, lanes_with}
+use Rattle.pipeline_core.specs.Steps.{lane_done, lane_with, lanes_with}
 use Rattle.pipeline_core.specs.Legal.{AreLegal, Meets, HasViews, verdict_of}
 use Rattle.pipeline_core.specs.Stands.{Stands}
 use Rattle.journal_text.specs.JournalText.{IsWholeOrRemoved, HasViewsOf}
@@ -107,3 +107,14 @@ lanes_kept outs (x ∷ xs) = record {
   batch = with_batch (view_at 0 outs) x;
   flight = with_flight (view_at 0 outs) x;
 }
+
+some_wait : (xs : List Content) → (length xs ≡ 0 → ⊥) → 0 < length xs
+some_wait [] ne = absurd (ne refl)
+some_wait (x ∷ xs) ne = omega arith
+
+-- a batch that was begun and accepted: fewer items wait
+pub fewer_wait : (lanes : List (LaneState Content)) → length lanes ≡ 1 → 1 ≤ (lane_at lanes 0).batch → (length (lane_at lanes 0).waiting ≡ 0 → ⊥) →
+    (let begun : List (LaneState Content) = slice_set lanes 0 (after_begin (lane_at lanes 0)) in
+    length (lane_at (slice_set begun 0 (lane_done true (lane_at begun 0))) 0).waiting < length (lane_at lanes 0).waiting)
+fewer_wait [] one some ne = absurd (omega (arith, one))
+fewer_wait (x ∷ xs) one some ne = omega (arith, length-drop x.batch x.waiting, some, some_wait x.waiting ne)

@@ -15,7 +15,7 @@ pub record IsReady (core : CoreState) : Type 0 where
   pub lane_count : length core.lanes ≡ 1
   pub some : 1 ≤ (lane_at core.lanes 0).batch
   pub empty_handed : core.held ≡ None
-  pub landed : length (lane_at core.lanes 0).flight ≡ 0
+  pub landed : (lane_at core.lanes 0).flight ≡ None
 
 -- the input hasn't ended, and nothing is stopped
 pub record IsReading (core : CoreState) : Type 0 where

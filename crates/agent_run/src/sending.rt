@@ -1,7 +1,7 @@
 //! Sending batches to the output.
-ghost use Rattle.std.specs.Prelude.{◌≡◌, ◌≢◌, ◌<◌, ◌≤◌, ◌+◌, ◌-◌, ◌^◌, ◌⊎◌, ℕ, [], Ok, IfOk, OnOk, min};
+ghost use Rattle.std.specs.Prelude.{◌≡◌, ◌≢◌, ◌<◌, ◌≤◌, ◌+◌, ◌-◌, ◌^◌, ◌⊎◌, ℕ, [], Ok, IfOk, OnOk, length, min};
 ghost use Rattle.account.specs.Numbers.{output_numbers};
-ghost use Rattle.pipeline_core.specs.CoreState.{CoreState};
+ghost use Rattle.pipeline_core.specs.CoreState.{CoreState, lane_at};
 ghost use Rattle.agent_run.specs.Progress.{SendsOn};
 ghost use Rattle.agent_run.specs.Running.{IsReady, HasJournal, StillStands, IsSentOn};
 
@@ -45,6 +45,7 @@ fn send_next<K: Sink>(run: &mut PipeRun, sink: &mut K) -> Result<Sending, OutOfM
     ensures kept { OnOk result (IsSentOn run.old.core run.new.core) }
     ensures stands { StillStands result run.new.core }
     ensures nothing { result ≡ Ok Sending.Nothing → (output_numbers run.new.core.numbers 0).buffered ≡ 0 }
+    ensures fewer { result ≡ Ok Sending.Accepted → length (lane_at run.new.core.lanes 0).waiting < length (lane_at run.old.core.lanes 0).waiting }
     ensures failed { result ≡ Ok Sending.Failed → run.new.failed ≡ min (run.old.failed + 1) (2 ^ 32 - 1) }
     ensures sends { OnOk result (SendsOn run.old run.new (K.held sink.old) (K.held sink.new) (K.faults sink.old) (K.faults sink.new)) }
 {

@@ -1,7 +1,7 @@
 use Rattle.std.proofs.Common.{◌≡◌, ◌<◌, length, ap, ◌∙◌, arith}
 use Rattle.agent_run.specs.Sent.{batch_text}
 use Rattle.agent_run.proofs.SendSteps.{went_accepted, went_failed}
-use Rattle.agent_run.proofs.StandingLemmas.{continues}
+use Rattle.agent_run.proofs.StandingLemmas.{continues, fewer_wait}
 use Rattle.agent_run.proofs.sending.send_next.Goals as goal
 
 pub returns-in-Ok-put-clause-stands : goal.returns-in-Ok-put-clause-stands
@@ -25,3 +25,8 @@ returns-in-Err-Failed-clause-sends g c = λ start now w.
     went_failed start c.args.run.now.core c.begin.new.self c.done-in-Err-Failed.new.self c.args.run.now.journal c.args.run.now.pieces c.args.run.now.failed (record now { held = g.K.Sink.held c.args.sink.now; puts = g.K.Sink.faults c.args.sink.now })
     c.in-Ok.batch c.deref.result.now (g.K.Sink.held c.put.new.self) (g.K.Sink.faults c.put.new.self) one c.requires.routed c.in-Ok.ensures.batch text c.in-Err-Failed.ensures.cause.later c.in-Ok.ensures.ok c.in-Ok.ensures.stands
     c.saturating_add-run.result c.in-Err-Failed.field-0 c.in-Err-Failed.field-0-is (omega (arith, c.saturating_add-run.ensures)) c.done-in-Err-Failed.ensures.after c.done-in-Err-Failed.ensures.stands c.in-Err-Failed.ensures.bytes (rw c.in-Err-Failed.field-0-is at c.in-Err-Failed.ensures.cause.failed) w
+
+pub returns-in-Ok-put-clause-fewer : goal.returns-in-Ok-put-clause-fewer
+returns-in-Ok-put-clause-fewer g c = λ accepted.
+    rw (c.done.ensures.after, c.in-Ok.ensures.ok)
+    (fewer_wait c.args.run.now.core.lanes c.requires.ready.lane_count c.requires.ready.some (λ none. absurd (let x = c.in-Ok.ensures.nothing.1 (c.requires.ready.landed, none) in cc)))

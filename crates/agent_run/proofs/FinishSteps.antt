@@ -14,7 +14,7 @@ use Rattle.agent_base.specs.Hand.{Hand, to_come, empty_hand}
 use Rattle.agent_base.specs.Moments.{Moments, Gives}
 use Rattle.agent_base.specs.Told.{Told}
 use Rattle.agent_base.proofs.ClockLemmas.{clocked_wider, clocked_none, counted_one_over, counted_wider}
-use Rattle.journal_text.specs.JournalText.{end_text}
+use Rattle.journal_text.specs.JournalText.{journal_text}
 use Rattle.pipeline_core.specs.CoreState.{CoreState}
 use Rattle.pipeline_core.specs.Legal.{IsLegal, has_ended}
 use Rattle.pipeline_core.specs.Offers.{lane_events}
@@ -26,10 +26,10 @@ use Rattle.agent_run.specs.Dones.{dones, behind_stop, LastFailed}
 use Rattle.agent_run.specs.EntryMoments.{gather_moments, counted_moments}
 use Rattle.agent_run.specs.Gathered.{Gathered}
 use Rattle.agent_run.specs.Headline.{Change, IsUnread, IsRun, EndsSo, IsPutSo, IsLeft, Ran, buffered_at_end, account_of, text_of}
-use Rattle.agent_run.specs.JournalSoFar.{JournalSoFar, Spells}
+use Rattle.agent_run.specs.Noted.{JournalPart, Notes}
 use Rattle.agent_run.specs.Order.{EndsFailed, IsDrained, NothingBuffered}
 use Rattle.agent_run.specs.PipeSetup.{pipe_setup, journal_setup_of}
-use Rattle.agent_run.specs.Progress.{Beginning, Surroundings, IsNamed, is_ended, HasState, IsClocked, IsNamedOfTaken, Progress, GoesOn, SendsOn, ReadsOn, RunsOn, IsSettled}
+use Rattle.agent_run.specs.Progress.{Beginning, Surroundings, IsNamed, is_ended, HasState, IsClocked, IsNamedOfTaken, Progress, GoesOn, SendsOn, ReadsOn, RunsOn, NotesRun, IsSettled}
 use Rattle.agent_run.specs.Running.{IsReading, IsRoutable, IsSentOn, IsNoted}
 use Rattle.agent_run.specs.declared.pipe_run.PipeRun.{PipeRun}
 use Rattle.pipeline_core.specs.Steps.{after_cut}
@@ -38,7 +38,6 @@ use Rattle.agent_run.specs.declared.reading.InState.TheVariants as states
 use Rattle.agent_run.specs.declared.rounds.Ending.{Ending}
 use Rattle.agent_run.proofs.DoneLemmas.{dones_none, last_none, last_fewer, rose_none}
 use Rattle.agent_run.proofs.GatherLemmas.{gathering_starts}
-use Rattle.agent_run.proofs.JournalSoFarLemmas.{ends}
 use Rattle.agent_run.proofs.MomentLemmas.{counted_none, gather_moments_none}
 use Rattle.agent_run.proofs.OrderLemmas.{in_order_first}
 use Rattle.agent_run.proofs.ProgressLemmas.{clocked_same}
@@ -56,15 +55,15 @@ unfolding has_ended
 none_ended = refl
 
 -- nothing was read yet
-abbrev pub first_surroundings : Beginning → Surroundings
-first_surroundings start = record { state = states.Reading; left = start.text; reads = start.reads; place = 0; held = start.held; puts = start.puts; stops = [] }
+abbrev pub first_surroundings : Beginning → JournalPart → Surroundings
+first_surroundings start part = record { state = states.Reading; left = start.text; reads = start.reads; place = 0; held = start.held; puts = start.puts; journal = part; stops = [] }
 
 -- nothing happened
-pub went_first : (start : Beginning) (core : CoreState) (so_far : JournalSoFar) (hand : Hand) (failed : ℕ) → Stands core [] → core.setup ≡ start.setup → core.stored ≡ [] → Spells (journal_setup_of start.setup) [] so_far → hand ≡ empty_hand → failed ≡ 0
-    → Progress start core so_far hand failed (first_surroundings start)
-went_first start core so_far hand failed stands setup stored spells empty none = record {
+pub went_first : (start : Beginning) (core : CoreState) (hand : Hand) (failed : ℕ) (part : JournalPart) → Stands core [] → core.setup ≡ start.setup → core.stored ≡ [] → Notes (journal_setup_of start.setup) start.noted start.note_faults [] part → hand ≡ empty_hand → failed ≡ 0
+    → Progress start core hand failed (first_surroundings start part)
+went_first start core hand failed part stands setup stored notes empty none = record {
   journal = [];
-  text = record { stands = stands; setup_is = setup; written = []; split = sym stored; spells = spells };
+  text = record { stands = stands; setup_is = setup; written = []; split = sym stored; notes = notes };
   heard = record {
     named = told_self start.text (λ xs ys. IsNamed states.Reading [] xs (to_come hand ys)) (λ xs. rw empty (gathering_starts 1000 0 xs));
     of_taken = told_names_start 1000 0 hand start.text empty;
@@ -85,20 +84,20 @@ went_first start core so_far hand failed stands setup stored spells empty none =
   stops = counted_none;
 }
 
-drained_at : (start : Beginning) (core : CoreState) (so_far : JournalSoFar) (hand : Hand) (failed : ℕ) (now : Surroundings) (w : Progress start core so_far hand failed now) → ((output_numbers core.numbers 0).buffered ≡ 0) ⊎ (1 ≤ failed)
+drained_at : (start : Beginning) (core : CoreState) (hand : Hand) (failed : ℕ) (now : Surroundings) (w : Progress start core hand failed now) → ((output_numbers core.numbers 0).buffered ≡ 0) ⊎ (1 ≤ failed)
     → NothingBuffered start.setup w.journal 0 ⊎ EndsFailed (lane_events 0 w.journal)
-drained_at start core so_far hand failed now w (inl none) =
+drained_at start core hand failed now w (inl none) =
     inl (ap (λ (s : Setup). (output_numbers (totals s w.journal) 0).buffered) (sym w.text.setup_is) ∙ ap (λ (n : Numbers). (output_numbers n 0).buffered) (sym w.text.stands.numbers) ∙ none)
-drained_at start core so_far hand failed now w (inr some) = inr (w.said.stuck some)
+drained_at start core hand failed now w (inr some) = inr (w.said.stuck some)
 
 -- no item is raw, and nothing is buffered or the last batch failed
-pub drained : (start : Beginning) (core : CoreState) (so_far : JournalSoFar) (hand : Hand) (failed : ℕ) (now : Surroundings) (w : Progress start core so_far hand failed now) → length core.setup.outputs ≡ 1 → core.raw ≡ [] → ((output_numbers core.numbers 0).buffered ≡ 0) ⊎ (1 ≤ failed)
+pub drained : (start : Beginning) (core : CoreState) (hand : Hand) (failed : ℕ) (now : Surroundings) (w : Progress start core hand failed now) → length core.setup.outputs ≡ 1 → core.raw ≡ [] → ((output_numbers core.numbers 0).buffered ≡ 0) ⊎ (1 ≤ failed)
     → IsDrained start.setup w.journal
-drained start core so_far hand failed now w one raw sent = record {
+drained start core hand failed now w one raw sent = record {
   none_raw = sym w.text.stands.raw ∙ raw;
   each = λ output within.
       let first : 0 ≡ output = omega (arith, within, one, ap (λ (s : Setup). length s.outputs) w.text.setup_is) in
-      subst (λ (o : ℕ). NothingBuffered start.setup w.journal o ⊎ EndsFailed (lane_events o w.journal)) first (drained_at start core so_far hand failed now w sent);
+      subst (λ (o : ℕ). NothingBuffered start.setup w.journal o ⊎ EndsFailed (lane_events o w.journal)) first (drained_at start core hand failed now w sent);
 }
 
 named_ends : (state : InState) (journal : List Entry) (text : List ℕ) (rest : List Cut) → (state ≢ states.Reading) → IsNamed state journal text rest → Gathered 1000 journal 0 text
@@ -114,13 +113,13 @@ input_change start now = record { before = start.text; after = now.left; faults_
 abbrev pub output_change : Beginning → Surroundings → Change
 output_change start now = record { before = start.held; after = now.held; faults_before = start.puts; faults_after = now.puts }
 
-unread_by : (state : InState) (start : Beginning) (now : Surroundings) (hand : Hand) (journal : List Entry) → (state ≢ states.Reading) → HasState state start now hand journal → Told start.text now.left (IsNamedOfTaken state journal hand) → has_ended 0 journal ≡ is_ended state → has_ended 0 journal ≡ false → IsUnread (input_change start now) hand.taken journal
+unread_by : (state : InState) (start : Beginning) (now : Surroundings) (hand : Hand) (journal : List Entry) → (state ≢ states.Reading) → HasState state start now.reads now.left hand journal → Told start.text now.left (IsNamedOfTaken state journal hand) → has_ended 0 journal ≡ is_ended state → has_ended 0 journal ≡ false → IsUnread (input_change start now) hand.taken journal
 unread_by states.Reading start now hand journal ne h t e f = absurd (ne refl)
 unread_by states.Ended start now hand journal ne h t e f = absurd (let x : true ≡ false = sym e ∙ f in cc)
 unread_by states.Faulted start now hand journal ne h t e f = inl (h.1, t)
 unread_by states.LimitReached start now hand journal ne h t e f = inr h
 
-ends_by : (state : InState) (start : Beginning) (now : Surroundings) (hand : Hand) (journal : List Entry) → (state ≢ states.Reading) → HasState state start now hand journal → Told start.text now.left (IsNamedOfTaken state journal hand) → has_ended 0 journal ≡ is_ended state → EndsSo state (input_change start now) hand.taken journal
+ends_by : (state : InState) (start : Beginning) (now : Surroundings) (hand : Hand) (journal : List Entry) → (state ≢ states.Reading) → HasState state start now.reads now.left hand journal → Told start.text now.left (IsNamedOfTaken state journal hand) → has_ended 0 journal ≡ is_ended state → EndsSo state (input_change start now) hand.taken journal
 ends_by states.Reading start now hand journal ne h t e = absurd (ne refl)
 ends_by states.Ended start now hand journal ne h t e = (h, e)
 ends_by states.Faulted start now hand journal ne h t e = (h.0, e, (h.1, t))
@@ -144,14 +143,14 @@ left_is buffered true e = λ z. absurd (let x : true ≡ false = e ∙ ap (λ (n
 left_is zero false e = refl
 left_is (suc n) false e = absurd (let x : false ≡ true = e ∙ ap not (differs (suc n) 0 (λ z. absurd (omega (arith, z)))) in cc)
 
-module _ (batch limit : ℕ) (start : ℤ) (moment : ℤ) (text : Option (List ℕ)) (reads : ℕ) (held : Option (List ℕ)) (puts : ℕ) (input_moments run_moments : Option Moments) (first last : ℕ)
-    (core : CoreState) (so_far : JournalSoFar) (hand : Hand) (failed : ℕ) (now : Surroundings) where
+module _ (batch limit : ℕ) (start : ℤ) (moment : ℤ) (text : Option (List ℕ)) (reads : ℕ) (held : Option (List ℕ)) (puts : ℕ) (noted : Option (List ℕ)) (note_faults : ℕ) (input_moments run_moments : Option Moments) (first last : ℕ)
+    (core : CoreState) (hand : Hand) (failed : ℕ) (now : Surroundings) where
   -- what the run began with
   abbrev pub beginning : Beginning
-  beginning = record { setup = pipe_setup batch limit start; text = text; reads = reads; held = held; puts = puts; moments = input_moments }
+  beginning = record { setup = pipe_setup batch limit start; text = text; reads = reads; held = held; puts = puts; noted = noted; note_faults = note_faults; moments = input_moments }
 
-  module _ (w : Progress beginning core so_far hand failed (record now { stops = int_max moment start ∷ [] })) (gives_first : Gives run_moments 0 first start) (gives_last : Gives run_moments first last moment)
-      (stopped : core.stopped ≡ true) (raw : core.raw ≡ []) (none_held : core.held ≡ None) (stored : core.stored ≡ []) (rest : ((output_numbers core.numbers 0).buffered ≡ 0) ⊎ (3 ≤ failed)) (read : now.state ≢ states.Reading) where
+  module _ (w : Progress beginning core hand failed (record now { stops = int_max moment start ∷ [] })) (gives_first : Gives run_moments 0 first start) (gives_last : Gives run_moments first last moment)
+      (stopped : core.stopped ≡ true) (raw : core.raw ≡ []) (none_held : core.held ≡ None) (rest : ((output_numbers core.numbers 0).buffered ≡ 0) ⊎ (3 ≤ failed)) (read : now.state ≢ states.Reading) where
     totals_are : core.numbers ≡ totals (pipe_setup batch limit start) w.journal
     totals_are = w.text.stands.numbers ∙ ap (λ (s : Setup). totals s w.journal) w.text.setup_is
 
@@ -179,17 +178,10 @@ module _ (batch limit : ℕ) (start : ℤ) (moment : ℤ) (text : Option (List �
       in_order = w.in_order;
     }
 
-    written_all : w.text.written ≡ w.journal
-    written_all = sym (append-nil w.text.written) ∙ sym (w.text.split ∙ ap (λ (es : List Entry). w.text.written ++ es) stored)
-
-    pub text_is : (account : List ℕ) → account ≡ account_of (pipe_setup batch limit start) w.journal → so_far.text ++ end_text account so_far.entries ≡ text_of (pipe_setup batch limit start) w.journal
-    text_is account is =
-        rw is (ends (journal_setup_of (pipe_setup batch limit start)) w.journal (account_of (pipe_setup batch limit start) w.journal) so_far (subst (λ (es : List Entry). Spells (journal_setup_of (pipe_setup batch limit start)) es so_far) written_all w.text.spells))
-
-    pub ran : (ending : Ending) (noted : Change) (account text_put : List ℕ) → ending.state ≡ now.state → ending.left ≡ not ((output_numbers core.numbers 0).buffered == 0) → ending.account.items ≡ account_text core.numbers →
-        text_put ≡ so_far.text ++ end_text (account_text core.numbers) so_far.entries → IsPutSo ending.journal_failed noted text_put → Ran batch limit ending (input_change beginning now) (output_change beginning now) noted run_moments input_moments
+    pub ran : (ending : Ending) (put : Change) → ending.state ≡ now.state → ending.left ≡ not ((output_numbers core.numbers 0).buffered == 0) → ending.account.items ≡ account_text core.numbers →
+        IsPutSo ending.journal_failed put (journal_text (journal_setup_of (pipe_setup batch limit start)) (w.text.written ++ core.stored) (account_text core.numbers)) → Ran batch limit ending (input_change beginning now) (output_change beginning now) put run_moments input_moments
     unfolding is_run
-    ran ending noted account text_put state left account_is text_put_is put =
+    ran ending put state left account_is noted =
         let same : account_text core.numbers ≡ account_of (pipe_setup batch limit start) w.journal = ap account_text totals_are in
         record {
           start = start;
@@ -198,7 +190,8 @@ module _ (batch limit : ℕ) (start : ℤ) (moment : ℤ) (text : Option (List �
           ends = rw state (ends_by now.state beginning (record now { stops = int_max moment start ∷ [] }) hand w.journal read w.heard.state w.heard.of_taken w.heard.ended);
           left = rw (sym (ap (λ (n : Numbers). (output_numbers n 0).buffered) totals_are)) (left_is ((output_numbers core.numbers 0).buffered) ending.left left);
           account = account_is ∙ same;
-          noted = subst (IsPutSo ending.journal_failed noted) (text_put_is ∙ text_is (account_text core.numbers) same) put;
+          noted = subst (λ (account : List ℕ). IsPutSo ending.journal_failed put (journal_text (journal_setup_of (pipe_setup batch limit start)) w.journal account)) same
+              (subst (λ (es : List Entry). IsPutSo ending.journal_failed put (journal_text (journal_setup_of (pipe_setup batch limit start)) es (account_text core.numbers))) (sym w.text.split) noted);
         }
 
 -- the clock's moments by another term
@@ -208,16 +201,16 @@ reads_at old new state left new_left reads new_reads moments first place new_pla
 
 -- one round more: a group was gathered, the items were routed, batches were sent, and the entries spelled
 pub runs_more : (first old gathered routed sent new : PipeRun) (state : InState) (left0 left new_left : Option (List ℕ)) (reads0 reads new_reads : ℕ) (moments0 moments : Option Moments) (place0 place new_place : ℕ)
-    (held0 held new_held : Option (List ℕ)) (puts0 puts new_puts : ℕ) → RunsOn first old states.Reading left0 left reads0 reads moments0 place0 place held0 held puts0 puts → moments ≡ moments0 →
-    ReadsOn old gathered state left new_left reads new_reads moments place new_place → GoesOn gathered routed → SendsOn routed sent held new_held puts new_puts → GoesOn sent new
-    → RunsOn first new state left0 new_left reads0 new_reads moments0 place0 new_place held0 new_held puts0 new_puts
-runs_more first old gathered routed sent new state left0 left new_left reads0 reads new_reads moments0 moments place0 place new_place held0 held new_held puts0 puts new_puts runs same reads_on routes sends spells = λ start now w.
+    (held0 held new_held : Option (List ℕ)) (puts0 puts new_puts : ℕ) (part0 part new_part : JournalPart) → RunsOn first old states.Reading left0 left reads0 reads moments0 place0 place held0 held puts0 puts part0 part → moments ≡ moments0 →
+    ReadsOn old gathered state left new_left reads new_reads moments place new_place → GoesOn gathered routed → SendsOn routed sent held new_held puts new_puts → NotesRun sent new part new_part
+    → RunsOn first new state left0 new_left reads0 new_reads moments0 place0 new_place held0 new_held puts0 new_puts part0 new_part
+runs_more first old gathered routed sent new state left0 left new_left reads0 reads new_reads moments0 moments place0 place new_place held0 held new_held puts0 puts new_puts part0 part new_part runs same reads_on routes sends notes = λ start now w.
     let s : Beginning = record start { moments = moments0 } in
     let a = runs start now w in
-    let b = reads_at old gathered state left new_left reads new_reads moments moments0 place new_place same reads_on start (record now { held = held; puts = puts }) a in
-    let c = routes s (record now { state = state; left = new_left; reads = new_reads; place = new_place; held = held; puts = puts }) b in
-    let d = sends s (record now { state = state; left = new_left; reads = new_reads; place = new_place }) c in
-    spells s (record now { state = state; left = new_left; reads = new_reads; place = new_place; held = new_held; puts = new_puts }) d
+    let b = reads_at old gathered state left new_left reads new_reads moments moments0 place new_place same reads_on start (record now { held = held; puts = puts; journal = part }) a in
+    let c = routes s (record now { state = state; left = new_left; reads = new_reads; place = new_place; held = held; puts = puts; journal = part }) b in
+    let d = sends s (record now { state = state; left = new_left; reads = new_reads; place = new_place; journal = part }) c in
+    notes s (record now { state = state; left = new_left; reads = new_reads; place = new_place; held = new_held; puts = new_puts }) d
 
 -- the input is still read after items were routed, batches sent and entries spelled
 pub still_reading : (gathered routed sent new : CoreState) → IsReading gathered → IsRoutable gathered routed → IsSentOn routed sent → new ≡ after_cut sent → IsReading new

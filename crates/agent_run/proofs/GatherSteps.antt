@@ -25,7 +25,6 @@ use Rattle.agent_run.specs.Causes.{IsNextGroup}
 use Rattle.agent_run.specs.EntryMoments.{gather_moments, counted_moments}
 use Rattle.agent_run.specs.Gathered.{GatherSays, gathers, Gathered, Gathering, GatheredTo, joined}
 use Rattle.agent_run.specs.Groups.{ReadsGroup, gathered_of, IsOffered, IsEnding, IsGathered}
-use Rattle.agent_run.specs.JournalSoFar.{JournalSoFar}
 use Rattle.agent_run.specs.Order.{InOrder, IsDrained}
 use Rattle.agent_run.specs.Progress.{Beginning, Surroundings, HasText, IsNamed, is_ended, HasState, IsClocked, IsNamedOfTaken, Said, Progress}
 use Rattle.agent_run.specs.Worked.{Worked}
@@ -52,12 +51,12 @@ pub record HeardTo (start : Beginning) (now : Surroundings) (hand : Hand) (journ
   pub counted : Told start.text now.left (λ xs ys. length xs ≡ hand.taken + length ys)
   pub unended : has_ended 0 journal ≡ false
   pub later : start.reads ≤ now.reads
-  pub state : HasState now.state start now hand journal
+  pub state : HasState now.state start now.reads now.left hand journal
   pub clocked : IfSome start.moments (λ moments. IsClocked moments now.place (gather_moments 0 journal))
 
-pub record ProgressTo (start : Beginning) (core : CoreState) (so_far : JournalSoFar) (hand : Hand) (failed : ℕ) (now : Surroundings) : Type 0 where
+pub record ProgressTo (start : Beginning) (core : CoreState) (hand : Hand) (failed : ℕ) (now : Surroundings) : Type 0 where
   pub journal : List Entry
-  pub text : HasText start.setup core so_far journal
+  pub text : HasText start core now.journal journal
   pub heard : HeardTo start now hand journal
   pub said : Said start now failed journal
   pub worked : Worked journal
@@ -83,15 +82,15 @@ none_of (x ∷ xs) l = absurd (omega (arith, l))
 rose_from : (a b c : ℕ) → a ≤ b → Rose b c → Rose a c
 rose_from a b c l r = omega arith
 
-has_state : (state : InState) (start : Beginning) (now : Surroundings) (hand : Hand) (journal : List Entry) (reads : ℕ) → start.reads ≤ reads → (state ≡ states.LimitReached → hand.taken ≡ 2 ^ 40) → ((state ≡ states.LimitReached → ⊥) → hand.taken < 2 ^ 40)
-    → (state ≡ states.Faulted → Rose reads now.reads) → HasState state start now hand journal
-has_state states.Reading start now hand journal reads l limit below failed = below (λ e. absurd (let x : states.Reading ≡ states.LimitReached = e in cc))
-has_state states.Ended start now hand journal reads l limit below failed = below (λ e. absurd (let x : states.Ended ≡ states.LimitReached = e in cc))
-has_state states.Faulted start now hand journal reads l limit below failed = (below (λ e. absurd (let x : states.Faulted ≡ states.LimitReached = e in cc)), rose_from start.reads reads now.reads l (failed refl))
-has_state states.LimitReached start now hand journal reads l limit below failed = inl (limit refl)
+has_state : (state : InState) (start : Beginning) (new_reads : ℕ) (left : Option (List ℕ)) (hand : Hand) (journal : List Entry) (reads : ℕ) → start.reads ≤ reads → (state ≡ states.LimitReached → hand.taken ≡ 2 ^ 40) → ((state ≡ states.LimitReached → ⊥) → hand.taken < 2 ^ 40)
+    → (state ≡ states.Faulted → Rose reads new_reads) → HasState state start new_reads left hand journal
+has_state states.Reading start new_reads left hand journal reads l limit below failed = below (λ e. absurd (let x : states.Reading ≡ states.LimitReached = e in cc))
+has_state states.Ended start new_reads left hand journal reads l limit below failed = below (λ e. absurd (let x : states.Ended ≡ states.LimitReached = e in cc))
+has_state states.Faulted start new_reads left hand journal reads l limit below failed = (below (λ e. absurd (let x : states.Faulted ≡ states.LimitReached = e in cc)), rose_from start.reads reads new_reads l (failed refl))
+has_state states.LimitReached start new_reads left hand journal reads l limit below failed = inl (limit refl)
 
-module _ (start : Beginning) (core : CoreState) (so_far : JournalSoFar) (before after : Hand) (failed : ℕ) (now : Surroundings) (state : InState) (moment : ℤ) (group : Group) (new_left : Option (List ℕ)) (new_reads new_place : ℕ)
-    (w : Progress start core so_far before failed (record now { state = states.Reading })) (g : ReadsGroup moment group state before after now.left new_left)
+module _ (start : Beginning) (core : CoreState) (before after : Hand) (failed : ℕ) (now : Surroundings) (state : InState) (moment : ℤ) (group : Group) (new_left : Option (List ℕ)) (new_reads new_place : ℕ)
+    (w : Progress start core before failed (record now { state = states.Reading })) (g : ReadsGroup moment group state before after now.left new_left)
     (gives : Gives start.moments now.place new_place moment) (reads : now.reads ≤ new_reads)
     (counted : Told now.left new_left (λ xs ys. before.taken + length xs ≡ after.taken + length ys))
     (limit : state ≡ states.LimitReached → after.taken ≡ 2 ^ 40) (below : (state ≡ states.LimitReached → ⊥) → after.taken < 2 ^ 40) (faulted : state ≡ states.Faulted → Rose now.reads new_reads) (one : state ≡ states.Faulted → length (to_come after []) ≤ 1) (line : state ≡ states.Faulted → length (to_come after (10 ∷ [])) ≤ 1) where
@@ -127,7 +126,7 @@ module _ (start : Beginning) (core : CoreState) (so_far : JournalSoFar) (before 
   taken_none states.LimitReached e ne none = told_map start.text new_left (λ xs ys. length xs ≡ after.taken + length ys) (IsNamedOfTaken states.LimitReached w.journal after) (λ xs ys h. tt) counted_all
 
   -- no piece was read
-  pub went_none : group.pieces ≡ 0 → ProgressTo start core so_far after failed (read_to now state new_left new_reads new_place)
+  pub went_none : group.pieces ≡ 0 → ProgressTo start core after failed (read_to now state new_left new_reads new_place)
   went_none empty =
       let none : length g.reads.read ≡ 0 = sym g.reads.pieces ∙ empty in
       record {
@@ -140,7 +139,7 @@ module _ (start : Beginning) (core : CoreState) (so_far : JournalSoFar) (before 
           counted = counted_all;
           unended = w.heard.ended;
           later = omega (arith, w.heard.later, reads);
-          state = has_state state start (read_to now state new_left new_reads new_place) after w.journal now.reads w.heard.later limit below faulted;
+          state = has_state state start new_reads new_left after w.journal now.reads w.heard.later limit below faulted;
           clocked = clocked_wide start.moments now.place new_place moment (gather_moments 0 w.journal) gives w.heard.clocked;
         };
         said = record { sent = w.said.sent; puts = w.said.puts; stuck = w.said.stuck; last = w.said.last };
@@ -175,12 +174,12 @@ module _ (start : Beginning) (core : CoreState) (so_far : JournalSoFar) (before 
 
   -- the group was gathered
   pub went_gathered : (next : CoreState) → 0 < group.pieces → next ≡ after_gather core (gathered_of moment group) → Continues core next (gather_entry (gathered_of moment group)) → IsDrained start.setup w.journal
-      → ProgressTo start next so_far after failed (read_to now state new_left new_reads new_place)
+      → ProgressTo start next after failed (read_to now state new_left new_reads new_place)
   went_gathered next some is more drained =
       let e : Entry = gather_entry (gathered_of moment group) in
       record {
         journal = w.journal ++ e ∷ [];
-        text = text-push start.setup core next so_far w.journal e w.text more (ap (λ (s : CoreState). s.stored) is) (ap (λ (s : CoreState). s.setup) is);
+        text = text-push start core next now.journal w.journal e w.text more (ap (λ (s : CoreState). s.stored) is) (ap (λ (s : CoreState). s.setup) is);
         heard = record {
           named = named_more state refl (omega (arith, some, g.reads.pieces));
           of_taken = taken_more state refl;
@@ -188,7 +187,7 @@ module _ (start : Beginning) (core : CoreState) (so_far : JournalSoFar) (before 
           counted = counted_all;
           unended = has_ended-other 0 w.journal e refl ∙ w.heard.ended;
           later = omega (arith, w.heard.later, reads);
-          state = has_state state start (read_to now state new_left new_reads new_place) after (w.journal ++ e ∷ []) now.reads w.heard.later limit below faulted;
+          state = has_state state start new_reads new_left after (w.journal ++ e ∷ []) now.reads w.heard.later limit below faulted;
           clocked = clocked_same start.moments new_place (gather_moments 0 w.journal ++ moment ∷ []) (gather_moments 0 (w.journal ++ e ∷ []))
               (gather_moments-push 0 w.journal e ∙ ap (λ (more : List GatherSays). gather_moments 0 w.journal ++ map (λ (says : GatherSays). says.moment) more) (gathers_own 0 moment group None []))
               (clocked_more start.moments now.place new_place moment (gather_moments 0 w.journal) gives w.heard.clocked);
@@ -200,12 +199,12 @@ module _ (start : Beginning) (core : CoreState) (so_far : JournalSoFar) (before 
       }
 
   -- the group was offered
-  pub went_offered : (next : CoreState) → IsOffered true moment group core next → IsDrained start.setup w.journal → ProgressTo start next so_far after failed (read_to now state new_left new_reads new_place)
-  went_offered next (inl none) drained = subst (λ (k : CoreState). ProgressTo start k so_far after failed (read_to now state new_left new_reads new_place)) (sym none.1) (went_none none.0)
+  pub went_offered : (next : CoreState) → IsOffered true moment group core next → IsDrained start.setup w.journal → ProgressTo start next after failed (read_to now state new_left new_reads new_place)
+  went_offered next (inl none) drained = subst (λ (k : CoreState). ProgressTo start k after failed (read_to now state new_left new_reads new_place)) (sym none.1) (went_none none.0)
   went_offered next (inr some) drained = went_gathered next some.0 some.1 some.2 drained
 
   -- the group was refused, since the run is full
-  pub went_full : 2 ^ 32 ≤ core.gathered + length group.metrics.items → Progress start core so_far after failed (read_to now states.LimitReached new_left new_reads new_place)
+  pub went_full : 2 ^ 32 ≤ core.gathered + length group.metrics.items → Progress start core after failed (read_to now states.LimitReached new_left new_reads new_place)
   went_full many = record {
     journal = w.journal;
     text = w.text;
@@ -249,9 +248,9 @@ named_unended journal text left hand none h =
     (λ xs ys p. gathered 1000 0 journal xs (to_come hand ys) p (λ e. absurd (let x : false ≡ true = sym none ∙ e in cc))) h
 
 -- the same journal
-went_unended : (start : Beginning) (core : CoreState) (so_far : JournalSoFar) (hand : Hand) (failed : ℕ) (now : Surroundings) (w : ProgressTo start core so_far hand failed now) → is_ended now.state ≡ false →
-    Told start.text now.left (λ xs ys. IsNamed now.state w.journal xs (to_come hand ys)) → Progress start core so_far hand failed now
-went_unended start core so_far hand failed now w none named = record {
+went_unended : (start : Beginning) (core : CoreState) (hand : Hand) (failed : ℕ) (now : Surroundings) (w : ProgressTo start core hand failed now) → is_ended now.state ≡ false →
+    Told start.text now.left (λ xs ys. IsNamed now.state w.journal xs (to_come hand ys)) → Progress start core hand failed now
+went_unended start core hand failed now w none named = record {
   journal = w.journal;
   text = w.text;
   heard = record { named = named; of_taken = w.heard.of_taken; counted = w.heard.counted; ended = w.heard.unended ∙ sym none; later = w.heard.later; state = w.heard.state; clocked = w.heard.clocked };
@@ -262,19 +261,19 @@ went_unended start core so_far hand failed now w none named = record {
 }
 
 -- the end of the input was noted, where it was reached
-pub went_ended : (state : InState) (start : Beginning) (core next : CoreState) (so_far : JournalSoFar) (hand : Hand) (failed : ℕ) (now : Surroundings) → IsEnding state core next → ProgressTo start core so_far hand failed (record now { state = state })
-    → Progress start next so_far hand failed (record now { state = state })
-went_ended states.Reading start core next so_far hand failed now is w =
-    subst (λ (s : CoreState). Progress start s so_far hand failed (record now { state = states.Reading })) (sym is) (went_unended start core so_far hand failed (record now { state = states.Reading }) w refl w.heard.named)
-went_ended states.Faulted start core next so_far hand failed now is w =
-    subst (λ (s : CoreState). Progress start s so_far hand failed (record now { state = states.Faulted })) (sym is)
-    (went_unended start core so_far hand failed (record now { state = states.Faulted }) w refl (named_unended w.journal start.text now.left hand w.heard.unended w.heard.named))
-went_ended states.LimitReached start core next so_far hand failed now is w =
-    subst (λ (s : CoreState). Progress start s so_far hand failed (record now { state = states.LimitReached })) (sym is)
-    (went_unended start core so_far hand failed (record now { state = states.LimitReached }) w refl (named_unended w.journal start.text now.left hand w.heard.unended w.heard.named))
-went_ended states.Ended start core next so_far hand failed now is w = record {
+pub went_ended : (state : InState) (start : Beginning) (core next : CoreState) (hand : Hand) (failed : ℕ) (now : Surroundings) → IsEnding state core next → ProgressTo start core hand failed (record now { state = state })
+    → Progress start next hand failed (record now { state = state })
+went_ended states.Reading start core next hand failed now is w =
+    subst (λ (s : CoreState). Progress start s hand failed (record now { state = states.Reading })) (sym is) (went_unended start core hand failed (record now { state = states.Reading }) w refl w.heard.named)
+went_ended states.Faulted start core next hand failed now is w =
+    subst (λ (s : CoreState). Progress start s hand failed (record now { state = states.Faulted })) (sym is)
+    (went_unended start core hand failed (record now { state = states.Faulted }) w refl (named_unended w.journal start.text now.left hand w.heard.unended w.heard.named))
+went_ended states.LimitReached start core next hand failed now is w =
+    subst (λ (s : CoreState). Progress start s hand failed (record now { state = states.LimitReached })) (sym is)
+    (went_unended start core hand failed (record now { state = states.LimitReached }) w refl (named_unended w.journal start.text now.left hand w.heard.unended w.heard.named))
+went_ended states.Ended start core next hand failed now is w = record {
   journal = w.journal ++ Ended 0 ∷ [];
-  text = text-push start.setup core next so_far w.journal (Ended 0) w.text is.1 (ap (λ (s : CoreState). s.stored) is.0) (ap (λ (s : CoreState). s.setup) is.0);
+  text = text-push start core next now.journal w.journal (Ended 0) w.text is.1 (ap (λ (s : CoreState). s.stored) is.0) (ap (λ (s : CoreState). s.setup) is.0);
   heard = record {
     named = named_ended w.journal start.text now.left hand w.heard.named (w.heard.all refl);
     of_taken = w.heard.of_taken;

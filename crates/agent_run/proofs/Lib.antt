@@ -6,7 +6,8 @@ pub mod GatherLemmas
 pub mod TakenSteps
 pub mod SentLemmas
 pub mod WorkedLemmas
-pub mod JournalSoFarLemmas
+pub mod RouteLemmas
+pub mod NotedLemmas
 pub mod DoneLemmas
 pub mod OrderLemmas
 pub mod MomentLemmas

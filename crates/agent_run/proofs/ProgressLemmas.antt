@@ -28,9 +28,10 @@ use Rattle.agent_run.specs.Causes.{IsFull, IsNextGroup}
 use Rattle.agent_run.specs.Dones.{dones_by, dones, behind_stop}
 use Rattle.agent_run.specs.EntryMoments.{gather_moments, counted_by}
 use Rattle.agent_run.specs.Gathered.{gathers_by, gathers, AreGroups}
-use Rattle.agent_run.specs.JournalSoFar.{JournalSoFar, Spells, SpellsOn}
+use Rattle.agent_run.specs.Noted.{JournalPart, Notes, NotesOn}
 use Rattle.agent_run.specs.Order.{EndsFailed, IsOrderly}
 use Rattle.agent_run.specs.PipeSetup.{journal_setup_of}
+use Rattle.agent_run.specs.Routes.{RouteOnInOrder}
 use Rattle.agent_run.specs.Progress.{Beginning, Surroundings, HasText, IsNamed, HasState, IsClocked, IsNamedOfTaken, Heard, Said, Progress}
 use Rattle.agent_run.specs.Running.{as_it_is}
 use Rattle.agent_run.specs.Worked.{WorkedBy}
@@ -38,35 +39,38 @@ use Rattle.agent_run.proofs.DoneLemmas.{dones-same, last_none, last_same, behind
 use Rattle.agent_run.proofs.GroupLemmas.{told_map}
 use Rattle.agent_run.proofs.TakenSteps.{names_same}
 use Rattle.agent_run.proofs.GatherLemmas.{gathers-other, has_ended-other, gathering_same}
-use Rattle.agent_run.proofs.JournalSoFarLemmas.{legal_rest_in_order}
+use Rattle.agent_run.proofs.RouteLemmas.{legal_rest_in_order}
 use Rattle.agent_run.proofs.MomentLemmas.{counted_moments-push, counted_moments-same, gather_moments-same, counted_from-last}
 use Rattle.agent_run.proofs.OrderLemmas.{in_order-push}
 use Rattle.agent_run.proofs.SentLemmas.{EndsNone, sent_same}
 use Rattle.agent_run.proofs.WorkedLemmas.{worked-push, worked_route, first_raw, item_stays}
 
 -- the core stands for one entry more, and stores it
-pub text-push : (setup : Setup) (core next : CoreState) (so_far : JournalSoFar) (journal : List Entry) (e : Entry) → HasText setup core so_far journal → Continues core next e → next.stored ≡ core.stored ++ e ∷ [] → next.setup ≡ core.setup
-    → HasText setup next so_far (journal ++ e ∷ [])
-text-push setup core next so_far journal e h more stored same = record {
+pub text-push : (start : Beginning) (core next : CoreState) (part : JournalPart) (journal : List Entry) (e : Entry) → HasText start core part journal → Continues core next e → next.stored ≡ core.stored ++ e ∷ [] → next.setup ≡ core.setup
+    → HasText start next part (journal ++ e ∷ [])
+text-push start core next part journal e h more stored same = record {
   stands = more journal h.stands;
   setup_is = same ∙ h.setup_is;
   written = h.written;
   split = ap (λ (es : List Entry). es ++ e ∷ []) h.split ∙ append_assoc h.written core.stored (e ∷ []) ∙ ap (λ (es : List Entry). h.written ++ es) (sym stored);
-  spells = h.spells;
+  notes = h.notes;
 }
 
--- the entries that the core stored are spelled
-pub text-cut : (setup : Setup) (core next : CoreState) (so_far more : JournalSoFar) (journal : List Entry) → HasText setup core so_far journal → ((es : List Entry) → Stands core es → Stands next es) → next.stored ≡ [] → next.setup ≡ core.setup → SpellsOn core.stored so_far more
-    → HasText setup next more journal
-text-cut setup core next so_far more journal h stands none same spells =
-    let legal : IsLegal core.setup (h.written ++ core.stored) = subst (IsLegal core.setup) h.split h.stands.legal in
-    record {
-      stands = stands journal h.stands;
-      setup_is = same ∙ h.setup_is;
-      written = journal;
-      split = sym (append-nil journal) ∙ ap (λ (es : List Entry). journal ++ es) (sym none);
-      spells = subst (λ (es : List Entry). Spells (journal_setup_of setup) es more) (sym h.split) (spells (journal_setup_of setup) h.written h.spells (legal_rest_in_order core.setup h.written core.stored legal));
-    }
+-- the Routes of the entries that the core stores come in order
+pub stored_in_order : (start : Beginning) (core : CoreState) (part : JournalPart) (journal : List Entry) (h : HasText start core part journal) → RouteOnInOrder h.written core.stored
+stored_in_order start core part journal h = legal_rest_in_order core.setup h.written core.stored (subst (IsLegal core.setup) h.split h.stands.legal)
+
+-- the entries that the core stored are noted
+pub text-cut : (start : Beginning) (core next : CoreState) (part more : JournalPart) (journal : List Entry) → HasText start core part journal → ((es : List Entry) → Stands core es → Stands next es) → next.stored ≡ [] → next.setup ≡ core.setup → NotesOn core.stored part more
+    → HasText start next more journal
+text-cut start core next part more journal h stands none same notes = record {
+  stands = stands journal h.stands;
+  setup_is = same ∙ h.setup_is;
+  written = journal;
+  split = sym (append-nil journal) ∙ ap (λ (es : List Entry). journal ++ es) (sym none);
+  notes = subst (λ (es : List Entry). Notes (journal_setup_of start.setup) start.noted start.note_faults es more) (sym h.split)
+      (notes (journal_setup_of start.setup) start.noted start.note_faults h.written h.notes (stored_in_order start core part journal h));
+}
 
 named_same : (state : InState) (old new : List Entry) (text : List ℕ) (rest : List Cut) → gathers 0 new ≡ gathers 0 old → has_ended 0 new ≡ has_ended 0 old → IsNamed state old text rest → IsNamed state new text rest
 named_same states.Reading old new text rest same ended h = gathering_same 1000 0 old new text rest same h
@@ -84,12 +88,12 @@ full_same old new text left same count h = record {
       h.next;
 }
 
-state_same : (state : InState) (start : Beginning) (now : Surroundings) (hand : Hand) (old new : List Entry) → gathers 0 new ≡ gathers 0 old → gathered_count new ≡ gathered_count old → HasState state start now hand old → HasState state start now hand new
-state_same states.Reading start now hand old new same count h = h
-state_same states.Ended start now hand old new same count h = h
-state_same states.Faulted start now hand old new same count h = h
-state_same states.LimitReached start now hand old new same count (inl h) = inl h
-state_same states.LimitReached start now hand old new same count (inr h) = inr (full_same old new start.text now.left same count h)
+state_same : (state : InState) (start : Beginning) (reads : ℕ) (left : Option (List ℕ)) (hand : Hand) (old new : List Entry) → gathers 0 new ≡ gathers 0 old → gathered_count new ≡ gathered_count old → HasState state start reads left hand old → HasState state start reads left hand new
+state_same states.Reading start reads left hand old new same count h = h
+state_same states.Ended start reads left hand old new same count h = h
+state_same states.Faulted start reads left hand old new same count h = h
+state_same states.LimitReached start reads left hand old new same count (inl h) = inl h
+state_same states.LimitReached start reads left hand old new same count (inr h) = inr (full_same old new start.text left same count h)
 
 pub clocked_same : (all : Option Moments) (place : ℕ) (old new : List ℤ) → new ≡ old → IfSome all (λ moments. IsClocked moments place old) → IfSome all (λ moments. IsClocked moments place new)
 clocked_same None place old new same h = tt
@@ -110,20 +114,15 @@ heard_same start now hand old new same ended count moments h = record {
   counted = h.counted;
   ended = ended ∙ h.ended;
   later = h.later;
-  state = state_same now.state start now hand old new same count h.state;
+  state = state_same now.state start now.reads now.left hand old new same count h.state;
   clocked = clocked_same start.moments now.place (gather_moments 0 old) (gather_moments 0 new) moments h.clocked;
 }
 
-state_around : (state : InState) (start : Beginning) (now : Surroundings) (hand : Hand) (journal : List Entry) (stops : List ℤ) → HasState state start now hand journal → HasState state start (record now { stops = stops }) hand journal
-state_around states.Reading start now hand journal stops h = h
-state_around states.Ended start now hand journal stops h = h
-state_around states.Faulted start now hand journal stops h = h
-state_around states.LimitReached start now hand journal stops h = h
-
--- what was counted is nothing of the input
-heard_around : (start : Beginning) (now : Surroundings) (hand : Hand) (journal : List Entry) (stops : List ℤ) → Heard start now hand journal → Heard start (record now { stops = stops }) hand journal
-heard_around start now hand journal stops h =
-    record { named = h.named; of_taken = h.of_taken; counted = h.counted; ended = h.ended; later = h.later; state = state_around now.state start now hand journal stops h.state; clocked = h.clocked }
+-- what is put and what was counted is nothing of the input
+pub heard_beside : (start : Beginning) (now : Surroundings) (hand : Hand) (journal : List Entry) (held : Option (List ℕ)) (puts : ℕ) (part : JournalPart) (stops : List ℤ) → Heard start now hand journal
+    → Heard start (record now { held = held; puts = puts; journal = part; stops = stops }) hand journal
+heard_beside start now hand journal held puts part stops h =
+    record { named = h.named; of_taken = h.of_taken; counted = h.counted; ended = h.ended; later = h.later; state = h.state; clocked = h.clocked }
 
 -- an entry that is no Gather, and not the Ended of the input
 pub heard_push : (start : Beginning) (now : Surroundings) (hand : Hand) (journal : List Entry) (e : Entry) → gathers_by 0 e ≡ [] → is_ended_of 0 e ≡ false → gathered_by e ≡ 0 → Heard start now hand journal → Heard start now hand (journal ++ e ∷ [])
@@ -155,13 +154,13 @@ said_anew start now failed journal e ends none h = record {
 }
 
 -- an entry that says nothing of the input and ends no batch
-pub went_quiet : (start : Beginning) (core next : CoreState) (so_far : JournalSoFar) (hand : Hand) (failed : ℕ) (now : Surroundings) (e : Entry) (w : Progress start core so_far hand failed now) →
+pub went_quiet : (start : Beginning) (core next : CoreState) (hand : Hand) (failed : ℕ) (now : Surroundings) (e : Entry) (w : Progress start core hand failed now) →
     Continues core next e → next.stored ≡ core.stored ++ e ∷ [] → next.setup ≡ core.setup →
     gathers_by 0 e ≡ [] → is_ended_of 0 e ≡ false → gathered_by e ≡ 0 → EndsNone 0 e → dones_by 0 e ≡ [] → lane_events_by 0 e ≡ [] → is_stop e ≡ false → WorkedBy (items w.journal) e → IsOrderly start.setup w.journal e → counted_by e ≡ [] →
-    Progress start next so_far hand failed now
-went_quiet start core next so_far hand failed now e w more stored same none other count ends no_done quiet going worked orderly still = record {
+    Progress start next hand failed now
+went_quiet start core next hand failed now e w more stored same none other count ends no_done quiet going worked orderly still = record {
   journal = w.journal ++ e ∷ [];
-  text = text-push start.setup core next so_far w.journal e w.text more stored same;
+  text = text-push start core next now.journal w.journal e w.text more stored same;
   heard = heard_push start now hand w.journal e none other count w.heard;
   said = said_push start now failed w.journal e ends no_done quiet going w.said;
   worked = worked-push w.journal e worked w.worked;
@@ -170,23 +169,23 @@ went_quiet start core next so_far hand failed now e w more stored same none othe
 }
 
 -- an item was taken
-pub went_take : (start : Beginning) (core next : CoreState) (so_far : JournalSoFar) (hand : Hand) (failed : ℕ) (now : Surroundings) → next ≡ after_take core → Continues core next (Take core.taken) → Progress start core so_far hand failed now → Progress start next so_far hand failed now
-went_take start core next so_far hand failed now is more w =
-    went_quiet start core next so_far hand failed now (Take core.taken) w more (ap (λ (s : CoreState). s.stored) is) (ap (λ (s : CoreState). s.setup) is) refl refl refl tt refl refl refl tt tt refl
+pub went_take : (start : Beginning) (core next : CoreState) (hand : Hand) (failed : ℕ) (now : Surroundings) → next ≡ after_take core → Continues core next (Take core.taken) → Progress start core hand failed now → Progress start next hand failed now
+went_take start core next hand failed now is more w =
+    went_quiet start core next hand failed now (Take core.taken) w more (ap (λ (s : CoreState). s.stored) is) (ap (λ (s : CoreState). s.setup) is) refl refl refl tt refl refl refl tt tt refl
 
 -- the first raw item was taken and routed as it is
-pub went_route : (start : Beginning) (core mid next : CoreState) (so_far : JournalSoFar) (hand : Hand) (failed : ℕ) (now : Surroundings) (metric : Content) → slice_get core.raw 0 ≡ Some metric →
+pub went_route : (start : Beginning) (core mid next : CoreState) (hand : Hand) (failed : ℕ) (now : Surroundings) (metric : Content) → slice_get core.raw 0 ≡ Some metric →
     mid ≡ after_take core → Continues core mid (Take core.taken) → next ≡ after_route mid (as_it_is core.taken metric) → Continues mid next (route_entry (as_it_is core.taken metric)) →
-    Progress start core so_far hand failed now → Progress start next so_far hand 0 now
-went_route start core mid next so_far hand failed now metric first taken takes routed routes w =
-    let v : Progress start mid so_far hand failed now = went_take start core mid so_far hand failed now taken takes w in
+    Progress start core hand failed now → Progress start next hand 0 now
+went_route start core mid next hand failed now metric first taken takes routed routes w =
+    let v : Progress start mid hand failed now = went_take start core mid hand failed now taken takes w in
     let e : Entry = route_entry (as_it_is core.taken metric) in
     let at : slice_get (items w.journal) core.taken ≡ Some metric = first_raw core w.journal metric w.text.stands first in
     let there : slice_get (items (w.journal ++ Take core.taken ∷ [])) core.taken ≡ Some metric = item_stays w.journal (Take core.taken) core.taken metric at in
     record {
       journal = (w.journal ++ Take core.taken ∷ []) ++ e ∷ [];
-      text = text-push start.setup mid next so_far (w.journal ++ Take core.taken ∷ []) e
-          (text-push start.setup core mid so_far w.journal (Take core.taken) w.text takes (ap (λ (s : CoreState). s.stored) taken) (ap (λ (s : CoreState). s.setup) taken))
+      text = text-push start mid next now.journal (w.journal ++ Take core.taken ∷ []) e
+          (text-push start core mid now.journal w.journal (Take core.taken) w.text takes (ap (λ (s : CoreState). s.stored) taken) (ap (λ (s : CoreState). s.setup) taken))
           routes (ap (λ (s : CoreState). s.stored) routed) (ap (λ (s : CoreState). s.setup) routed);
       heard = heard_push start now hand (w.journal ++ Take core.taken ∷ []) e refl refl refl (heard_push start now hand w.journal (Take core.taken) refl refl refl w.heard);
       said = said_anew start now failed (w.journal ++ Take core.taken ∷ []) e tt refl (said_push start now failed w.journal (Take core.taken) tt refl refl refl w.said);
@@ -195,30 +194,34 @@ went_route start core mid next so_far hand failed now metric first taken takes r
       stops = counted_moments-same (w.journal ++ Take core.taken ∷ []) e refl ∙ counted_moments-same w.journal (Take core.taken) refl ∙ w.stops;
     }
 
--- the stored entries were spelled
-pub went_cut : (start : Beginning) (core next : CoreState) (so_far more : JournalSoFar) (hand : Hand) (failed : ℕ) (now : Surroundings) → ((es : List Entry) → Stands core es → Stands next es) → next ≡ after_cut core → SpellsOn core.stored so_far more
-    → Progress start core so_far hand failed now → Progress start next more hand failed now
-went_cut start core next so_far more hand failed now stands is spells w = record {
+-- the stored entries were noted
+pub went_cut : (start : Beginning) (core next : CoreState) (part more : JournalPart) (hand : Hand) (failed : ℕ) (now : Surroundings) → ((es : List Entry) → Stands core es → Stands next es) → next ≡ after_cut core → NotesOn core.stored part more
+    → Progress start core hand failed (record now { journal = part }) → Progress start next hand failed (record now { journal = more })
+went_cut start core next part more hand failed now stands is notes w = record {
   journal = w.journal;
-  text = text-cut start.setup core next so_far more w.journal w.text stands (ap (λ (s : CoreState). s.stored) is) (ap (λ (s : CoreState). s.setup) is) spells;
-  heard = w.heard;
-  said = w.said;
+  text = text-cut start core next part more w.journal w.text stands (ap (λ (s : CoreState). s.stored) is) (ap (λ (s : CoreState). s.setup) is) notes;
+  heard = heard_beside start (record now { journal = part }) hand w.journal now.held now.puts more now.stops w.heard;
+  said = record { sent = w.said.sent; puts = w.said.puts; stuck = w.said.stuck; last = w.said.last };
   worked = w.worked;
   in_order = w.in_order;
   stops = w.stops;
 }
 
+-- no entry was stored
+pub went_uncut : (start : Beginning) (core next : CoreState) (hand : Hand) (failed : ℕ) (now : Surroundings) → next ≡ core → Progress start core hand failed now → Progress start next hand failed now
+went_uncut start core next hand failed now is w = subst (λ (s : CoreState). Progress start s hand failed now) (sym is) w
+
 -- the run was stopped at a moment
-pub went_stop : (start : Beginning) (core next : CoreState) (so_far : JournalSoFar) (hand : Hand) (failed : ℕ) (now : Surroundings) (moment : ℤ) → next ≡ after_stop core moment → Continues core next (Stop (int_max moment core.counted) [])
-    → (w : Progress start core so_far hand failed (record now { stops = [] })) → Progress start next so_far hand 0 (record now { stops = int_max moment start.setup.start ∷ [] })
-went_stop start core next so_far hand failed now moment is more w =
+pub went_stop : (start : Beginning) (core next : CoreState) (hand : Hand) (failed : ℕ) (now : Surroundings) (moment : ℤ) → next ≡ after_stop core moment → Continues core next (Stop (int_max moment core.counted) [])
+    → (w : Progress start core hand failed (record now { stops = [] })) → Progress start next hand 0 (record now { stops = int_max moment start.setup.start ∷ [] })
+went_stop start core next hand failed now moment is more w =
     let e : Entry = Stop (int_max moment core.counted) [] in
     let counted : core.counted ≡ start.setup.start =
     w.text.stands.counted ∙ counted_from-last core.setup.start w.journal ∙ ap (λ (ms : List ℤ). last_of core.setup.start ms) w.stops ∙ ap (λ (s : Setup). s.start) w.text.setup_is in
     record {
       journal = w.journal ++ e ∷ [];
-      text = text-push start.setup core next so_far w.journal e w.text more (ap (λ (s : CoreState). s.stored) is) (ap (λ (s : CoreState). s.setup) is);
-      heard = heard_push start (record now { stops = int_max moment start.setup.start ∷ [] }) hand w.journal e refl refl refl (heard_around start (record now { stops = [] }) hand w.journal (int_max moment start.setup.start ∷ []) w.heard);
+      text = text-push start core next now.journal w.journal e w.text more (ap (λ (s : CoreState). s.stored) is) (ap (λ (s : CoreState). s.setup) is);
+      heard = heard_push start (record now { stops = int_max moment start.setup.start ∷ [] }) hand w.journal e refl refl refl (heard_beside start (record now { stops = [] }) hand w.journal now.held now.puts now.journal (int_max moment start.setup.start ∷ []) w.heard);
       said = said_anew start (record now { stops = int_max moment start.setup.start ∷ [] }) failed w.journal e tt refl (record { sent = w.said.sent; puts = w.said.puts; stuck = w.said.stuck; last = w.said.last });
       worked = worked-push w.journal e tt w.worked;
       in_order = in_order-push start.setup w.journal e w.in_order tt;
@@ -226,9 +229,9 @@ went_stop start core next so_far hand failed now moment is more w =
     }
 
 -- the same of an item with the number of the first raw one
-pub went_item : (start : Beginning) (core mid next : CoreState) (so_far : JournalSoFar) (hand : Hand) (failed : ℕ) (now : Surroundings) (number : ℕ) (metric : Content) → number ≡ core.taken → slice_get core.raw 0 ≡ Some metric →
+pub went_item : (start : Beginning) (core mid next : CoreState) (hand : Hand) (failed : ℕ) (now : Surroundings) (number : ℕ) (metric : Content) → number ≡ core.taken → slice_get core.raw 0 ≡ Some metric →
     mid ≡ after_take core → Continues core mid (Take core.taken) → next ≡ after_route mid (as_it_is number metric) → Continues mid next (route_entry (as_it_is number metric)) →
-    Progress start core so_far hand failed now → Progress start next so_far hand 0 now
-went_item start core mid next so_far hand failed now number metric is first taken takes routed routes w =
-    went_route start core mid next so_far hand failed now metric first taken takes
+    Progress start core hand failed now → Progress start next hand 0 now
+went_item start core mid next hand failed now number metric is first taken takes routed routes w =
+    went_route start core mid next hand failed now metric first taken takes
     (subst (λ (n : ℕ). next ≡ after_route mid (as_it_is n metric)) is routed) (subst (λ (n : ℕ). Continues mid next (route_entry (as_it_is n metric))) is routes) w

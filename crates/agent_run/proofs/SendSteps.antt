@@ -18,48 +18,34 @@ use Rattle.pipeline_core.specs.Stands.{Continues}
 use Rattle.pipeline_core.specs.Steps.{IsBatchOf, after_begin, after_done}
 use Rattle.pipeline_core.specs.declared.batches.Batch.{Batch}
 use Rattle.agent_run.specs.Dones.{dones, behind_stop}
-use Rattle.agent_run.specs.JournalSoFar.{JournalSoFar}
-use Rattle.agent_run.specs.Progress.{Beginning, Surroundings, HasState, Heard, Said, Progress}
-use Rattle.agent_run.specs.declared.reading.InState.{InState}
-use Rattle.agent_run.specs.declared.reading.InState.TheVariants as states
+use Rattle.agent_run.specs.Progress.{Beginning, Surroundings, Said, Progress}
 use Rattle.agent_run.specs.Sent.{batch_text}
 use Rattle.agent_run.proofs.DoneLemmas.{dones-same, dones-more, failed-more, last_none, last_more, last_fewer, last_same, rose_later, rose_more, behind_stop-push, stop_before}
 use Rattle.agent_run.proofs.MomentLemmas.{counted_moments-same}
 use Rattle.agent_run.proofs.OrderLemmas.{in_order-push}
-use Rattle.agent_run.proofs.ProgressLemmas.{text-push, heard_push}
+use Rattle.agent_run.proofs.ProgressLemmas.{text-push, heard_push, heard_beside}
 use Rattle.agent_run.proofs.SentLemmas.{sent_accepted, sent_failed}
 use Rattle.agent_run.proofs.WorkedLemmas.{worked-push}
-
--- what holds of the input, whatever was put
-output_state : (state : InState) (start : Beginning) (now : Surroundings) (hand : Hand) (journal : List Entry) (held : Option (List ℕ)) (puts : ℕ) → HasState state start now hand journal → HasState state start (record now { held = held; puts = puts }) hand journal
-output_state states.Reading start now hand journal held puts h = h
-output_state states.Ended start now hand journal held puts h = h
-output_state states.Faulted start now hand journal held puts h = h
-output_state states.LimitReached start now hand journal held puts h = h
-
-heard_output : (start : Beginning) (now : Surroundings) (hand : Hand) (journal : List Entry) (held : Option (List ℕ)) (puts : ℕ) → Heard start now hand journal → Heard start (record now { held = held; puts = puts }) hand journal
-heard_output start now hand journal held puts h =
-    record { named = h.named; of_taken = h.of_taken; counted = h.counted; ended = h.ended; later = h.later; state = output_state now.state start now hand journal held puts h.state; clocked = h.clocked }
 
 dones_of : (journal : List Entry) (from to : ℕ) (ok : Bool) → dones 0 ((journal ++ Begin 0 from to ∷ []) ++ Done 0 ok [] ∷ []) ≡ dones 0 journal ++ ok ∷ []
 dones_of journal from to ok =
     dones-more 0 (journal ++ Begin 0 from to ∷ []) ok ∙ ap (λ (bs : List Bool). bs ++ ok ∷ []) (dones-same 0 journal (Begin 0 from to) refl)
 
-module _ (start : Beginning) (core mid next : CoreState) (so_far : JournalSoFar) (hand : Hand) (failed : ℕ) (now : Surroundings) (batch : Batch) (text : List ℕ) (new_held : Option (List ℕ)) (new_puts : ℕ)
+module _ (start : Beginning) (core mid next : CoreState) (hand : Hand) (failed : ℕ) (now : Surroundings) (batch : Batch) (text : List ℕ) (new_held : Option (List ℕ)) (new_puts : ℕ)
     (one : 0 < length core.setup.outputs) (routed : core.raw ≡ []) (is : IsBatchOf (lane_at core.lanes 0) batch) (spelled : text ≡ batch_text batch.metrics) (later : now.puts ≤ new_puts)
     (began : mid ≡ after_begin core 0 batch.from batch.to) (begins : Continues core mid (Begin 0 batch.from batch.to)) where
-  went_done : (ok : Bool) (more : ℕ) (w : Progress start core so_far hand failed now) → next ≡ after_done mid 0 ok → Continues mid next (Done 0 ok []) →
-      Said start (record now { held = new_held; puts = new_puts }) more ((w.journal ++ Begin 0 batch.from batch.to ∷ []) ++ Done 0 ok [] ∷ []) → Progress start next so_far hand more (record now { held = new_held; puts = new_puts })
+  went_done : (ok : Bool) (more : ℕ) (w : Progress start core hand failed now) → next ≡ after_done mid 0 ok → Continues mid next (Done 0 ok []) →
+      Said start (record now { held = new_held; puts = new_puts }) more ((w.journal ++ Begin 0 batch.from batch.to ∷ []) ++ Done 0 ok [] ∷ []) → Progress start next hand more (record now { held = new_held; puts = new_puts })
   went_done ok more w done ends said =
       let begin : Entry = Begin 0 batch.from batch.to in
       let end : Entry = Done 0 ok [] in
       let between : List Entry = w.journal ++ begin ∷ [] in
       record {
         journal = between ++ end ∷ [];
-        text = text-push start.setup mid next so_far between end
-            (text-push start.setup core mid so_far w.journal begin w.text begins (ap (λ (s : CoreState). s.stored) began) (ap (λ (s : CoreState). s.setup) began))
+        text = text-push start mid next now.journal between end
+            (text-push start core mid now.journal w.journal begin w.text begins (ap (λ (s : CoreState). s.stored) began) (ap (λ (s : CoreState). s.setup) began))
             ends (ap (λ (s : CoreState). s.stored) done) (ap (λ (s : CoreState). s.setup) done);
-        heard = heard_output start now hand (between ++ end ∷ []) new_held new_puts (heard_push start now hand between end refl refl refl (heard_push start now hand w.journal begin refl refl refl w.heard));
+        heard = heard_beside start now hand (between ++ end ∷ []) new_held new_puts now.journal now.stops (heard_push start now hand between end refl refl refl (heard_push start now hand w.journal begin refl refl refl w.heard));
         said = said;
         worked = worked-push between end tt (worked-push w.journal begin tt w.worked);
         in_order = in_order-push start.setup between end (in_order-push start.setup w.journal begin w.in_order (sym w.text.stands.raw ∙ routed)) tt;
@@ -67,7 +53,7 @@ module _ (start : Beginning) (core mid next : CoreState) (so_far : JournalSoFar)
       }
 
   -- the batch was accepted
-  pub went_accepted : next ≡ after_done mid 0 true → Continues mid next (Done 0 true []) → Appends now.held new_held text → Progress start core so_far hand failed now → Progress start next so_far hand 0 (record now { held = new_held; puts = new_puts })
+  pub went_accepted : next ≡ after_done mid 0 true → Continues mid next (Done 0 true []) → Appends now.held new_held text → Progress start core hand failed now → Progress start next hand 0 (record now { held = new_held; puts = new_puts })
   went_accepted done ends put w =
       let same = dones_of w.journal batch.from batch.to true in
       went_done true 0 w done ends (record {
@@ -81,7 +67,7 @@ module _ (start : Beginning) (core mid next : CoreState) (so_far : JournalSoFar)
 
   -- its put failed
   pub went_failed : (more : ℕ) (fault : PutFault) → fault ≡ Failed → more ≤ failed + 1 → next ≡ after_done mid 0 false → Continues mid next (Done 0 false []) → PutAppends now.held new_held text (Err fault) → Rose now.puts new_puts
-      → Progress start core so_far hand failed now → Progress start next so_far hand more (record now { held = new_held; puts = new_puts })
+      → Progress start core hand failed now → Progress start next hand more (record now { held = new_held; puts = new_puts })
   went_failed more fault f few done ends put rose w =
       let same = dones_of w.journal batch.from batch.to false in
       went_done false more w done ends (record {

@@ -7,7 +7,8 @@ pub mod Gathered
 pub mod Groups
 pub mod Sent
 pub mod Worked
-pub mod JournalSoFar
+pub mod Routes
+pub mod Noted
 pub mod PipeSetup
 pub mod Dones
 pub mod Order

@@ -21,22 +21,24 @@ use Rattle.agent_run.specs.Causes.{IsFull}
 use Rattle.agent_run.specs.Dones.{dones, behind_stop, failed_count, LastFailed}
 use Rattle.agent_run.specs.EntryMoments.{gather_moments, counted_moments}
 use Rattle.agent_run.specs.Gathered.{Gathered, Gathering, NamesSoFar, NamesTaken}
-use Rattle.agent_run.specs.JournalSoFar.{JournalSoFar, Spells}
+use Rattle.agent_run.specs.Noted.{JournalPart, Notes}
 use Rattle.agent_run.specs.Order.{EndsFailed, InOrder}
 use Rattle.agent_run.specs.PipeSetup.{journal_setup_of}
 use Rattle.agent_run.specs.Sent.{Sent, AppendsSo}
 use Rattle.agent_run.specs.Worked.{Worked}
 
--- what a run began with: its set-up, the bytes left of the input and its count of failed reads, the bytes held by the output and its count of failed puts, and the moments of the input's clock
+-- what a run began with: its set-up, the bytes left of the input and its count of failed reads, the bytes held by the output and by the journal's place and their counts of failed puts, and the moments of the input's clock
 pub record Beginning : Type 0 where
   pub setup : Setup
   pub text : Option (List ℕ)
   pub reads : ℕ
   pub held : Option (List ℕ)
   pub puts : ℕ
+  pub noted : Option (List ℕ)
+  pub note_faults : ℕ
   pub moments : Option Moments
 
--- what is around a run: whether the input is read on, the bytes left of it, its count of failed reads, the place of its clock, the bytes held by the output, its count of failed puts, and the moments that were counted since the start
+-- what is around a run: whether the input is read on, the bytes left of it, its count of failed reads, the place of its clock, the bytes held by the output, its count of failed puts, the journal's part, and the moments that were counted since the start
 pub record Surroundings : Type 0 where
   pub state : InState
   pub left : Option (List ℕ)
@@ -44,15 +46,16 @@ pub record Surroundings : Type 0 where
   pub place : ℕ
   pub held : Option (List ℕ)
   pub puts : ℕ
+  pub journal : JournalPart
   pub stops : List ℤ
 
--- the core stands for a journal, whose entries are spelled but for those that the core stores
-pub record HasText (setup : Setup) (core : CoreState) (so_far : JournalSoFar) (journal : List Entry) : Type 0 where
+-- the core stands for a journal, whose entries are noted but for those that the core stores
+pub record HasText (start : Beginning) (core : CoreState) (part : JournalPart) (journal : List Entry) : Type 0 where
   pub stands : Stands core journal
-  pub setup_is : core.setup ≡ setup
+  pub setup_is : core.setup ≡ start.setup
   pub written : List Entry
   pub split : journal ≡ written ++ core.stored
-  pub spells : Spells (journal_setup_of setup) written so_far
+  pub notes : Notes (journal_setup_of start.setup) start.noted start.note_faults written part
 
 -- while the input is read on its Gathers name full groups up to the pieces that are to come; else they name groups of its text, all pieces where it has ended
 abbrev pub IsNamed : InState → List Entry → List ℕ → List Cut → Type 0
@@ -66,11 +69,11 @@ is_ended states.Ended = true
 is_ended _ = false
 
 -- fewer than 2^40 bytes were taken; where a read failed its count rose; or so many bytes were taken, or the run is full
-abbrev pub HasState : InState → Beginning → Surroundings → Hand → List Entry → Type 0
-HasState states.Reading start now hand journal = hand.taken < 2 ^ 40
-HasState states.Ended start now hand journal = hand.taken < 2 ^ 40
-HasState states.Faulted start now hand journal = (hand.taken < 2 ^ 40) × Rose start.reads now.reads
-HasState states.LimitReached start now hand journal = (hand.taken ≡ 2 ^ 40) ⊎ IsFull 1000 journal 0 start.text now.left
+abbrev pub HasState : InState → Beginning → ℕ → Option (List ℕ) → Hand → List Entry → Type 0
+HasState states.Reading start reads left hand journal = hand.taken < 2 ^ 40
+HasState states.Ended start reads left hand journal = hand.taken < 2 ^ 40
+HasState states.Faulted start reads left hand journal = (hand.taken < 2 ^ 40) × Rose start.reads reads
+HasState states.LimitReached start reads left hand journal = (hand.taken ≡ 2 ^ 40) ⊎ IsFull 1000 journal 0 start.text left
 
 -- a clock came to a place of its list, and gave these moments on the way
 abbrev pub IsClocked : Moments → ℕ → List ℤ → Type 0
@@ -90,7 +93,7 @@ pub record Heard (start : Beginning) (now : Surroundings) (hand : Hand) (journal
   pub counted : Told start.text now.left (λ xs ys. length xs ≡ hand.taken + length ys)
   pub ended : has_ended 0 journal ≡ is_ended now.state
   pub later : start.reads ≤ now.reads
-  pub state : HasState now.state start now hand journal
+  pub state : HasState now.state start now.reads now.left hand journal
   pub clocked : IfSome start.moments (λ moments. IsClocked moments now.place (gather_moments 0 journal))
 
 -- what the journal says of the output
@@ -102,10 +105,10 @@ pub record Said (start : Beginning) (now : Surroundings) (failed : ℕ) (journal
   -- and behind the Stop so many of the last batches failed
   pub last : has_stop journal ≡ true → LastFailed failed (dones 0 (behind_stop journal))
 
--- there is a journal for which the core stands, which is spelled, and which says what was read and what was sent
-pub record Progress (start : Beginning) (core : CoreState) (so_far : JournalSoFar) (hand : Hand) (failed : ℕ) (now : Surroundings) : Type 0 where
+-- there is a journal for which the core stands, which is noted, and which says what was read and what was sent
+pub record Progress (start : Beginning) (core : CoreState) (hand : Hand) (failed : ℕ) (now : Surroundings) : Type 0 where
   pub journal : List Entry
-  pub text : HasText start.setup core so_far journal
+  pub text : HasText start core now.journal journal
   pub heard : Heard start now hand journal
   pub said : Said start now failed journal
   pub worked : Worked journal
@@ -114,7 +117,7 @@ pub record Progress (start : Beginning) (core : CoreState) (so_far : JournalSoFa
 
 -- so it is for a run
 abbrev pub Went : Beginning → PipeRun → Surroundings → Type 0
-Went start run now = Progress start run.core run.journal run.pieces run.failed now
+Went start run now = Progress start run.core run.pieces run.failed now
 
 -- a step of a run that changes nothing around it
 abbrev pub GoesOn : PipeRun → PipeRun → Type 0
@@ -132,12 +135,17 @@ ReadsOn old new state left new_left reads new_reads moments place new_place =
     Went (record start { moments = moments }) old (record now { state = states.Reading; left = left; reads = reads; place = place }) →
     Went (record start { moments = moments }) new (record now { state = state; left = new_left; reads = new_reads; place = new_place })
 
--- rounds: they read the input and put to the output
-abbrev pub RunsOn : PipeRun → PipeRun → InState → Option (List ℕ) → Option (List ℕ) → ℕ → ℕ → Option Moments → ℕ → ℕ → Option (List ℕ) → Option (List ℕ) → ℕ → ℕ → Type 0
-RunsOn old new state left new_left reads new_reads moments place new_place held new_held puts new_puts =
+-- a step that puts to the journal's place
+abbrev pub NotesRun : PipeRun → PipeRun → JournalPart → JournalPart → Type 0
+NotesRun old new part new_part =
+    (start : Beginning) (now : Surroundings) → Went start old (record now { journal = part }) → Went start new (record now { journal = new_part })
+
+-- rounds: they read the input, and put to the output and to the journal's place
+abbrev pub RunsOn : PipeRun → PipeRun → InState → Option (List ℕ) → Option (List ℕ) → ℕ → ℕ → Option Moments → ℕ → ℕ → Option (List ℕ) → Option (List ℕ) → ℕ → ℕ → JournalPart → JournalPart → Type 0
+RunsOn old new state left new_left reads new_reads moments place new_place held new_held puts new_puts part new_part =
     (start : Beginning) (now : Surroundings) →
-    Went (record start { moments = moments }) old (record now { state = states.Reading; left = left; reads = reads; place = place; held = held; puts = puts }) →
-    Went (record start { moments = moments }) new (record now { state = state; left = new_left; reads = new_reads; place = new_place; held = new_held; puts = new_puts })
+    Went (record start { moments = moments }) old (record now { state = states.Reading; left = left; reads = reads; place = place; held = held; puts = puts; journal = part }) →
+    Went (record start { moments = moments }) new (record now { state = state; left = new_left; reads = new_reads; place = new_place; held = new_held; puts = new_puts; journal = new_part })
 
 -- all items were routed, and nothing is buffered at the output or its last put failed
 pub record IsSettled (run : PipeRun) : Type 0 where

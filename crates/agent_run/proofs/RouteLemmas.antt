@@ -1,23 +1,20 @@
--- A journal's text with more entries, and the order of its Routes.
-use Rattle.std.proofs.Common.{◌≡◌, ◌≤◌, ◌<◌, ◌+◌, ◌-◌, ℕ, zero, suc, List, [], ◌∷◌, ◌++◌, length, drop, take, get_or, refl, sym, ap, ◌∙◌, arith, subst, append_assoc, append-nil, length-append, zero-add, add-zero}
-use Rattle.std.specs.Prelude.{MatchOption}
-use Rattle.std.specs.List.{AllByRecursion, slice_get}
+-- The order in which items get their Routes, entry by entry.
+use Rattle.std.proofs.Common.{◌≡◌, ◌≤◌, ◌<◌, ◌+◌, ◌-◌, ℕ, zero, suc, List, [], ◌∷◌, ◌++◌, length, drop, refl, sym, ap, ◌∙◌, arith, subst, append-nil, length-append, zero-add, add-zero}
+use Rattle.std.specs.List.{slice_get}
 use Rattle.std.specs.Option.{option_to_list}
 use Rattle.std.specs.declared.option.Option.{Option}
 use Rattle.std.specs.declared.option.Option.TheVariants.{Some, None}
-use Rattle.std.proofs.lemmas.List.{drop-drop, drop-append-le, drop_at, drop_more, take_more, take_all}
+use Rattle.std.proofs.lemmas.List.{drop-drop, drop-append-le}
 use Rattle.metric.specs.declared.metric.Content.{Content}
 use Rattle.account.specs.Setup.{Setup}
 use Rattle.account.specs.declared.entry.Entry.{Entry}
 use Rattle.account.specs.declared.entry.Entry.TheVariants.{Gather, Ended, Take, Route, Tick, Stop, Begin, Done}
 use Rattle.account.specs.Items.{named_by, items, takes_by, taken, held_after, in_hand_from, in_hand}
+use Rattle.account.proofs.ItemLemmas.{items-push}
 use Rattle.pipeline_core.specs.Legal.{Meets, AreLegal, IsLegal}
 use Rattle.pipeline_core.proofs.JournalPush.{taken-push, in_hand-push, few_taken, IsLegal-push}
-use Rattle.journal_text.specs.declared.setup.JournalSetup.{JournalSetup}
-use Rattle.journal_text.specs.SetupText.{setup_text}
-use Rattle.journal_text.specs.JournalText.{entry_text, item_of, entries_text, end_text, journal_text, HasItem, IsItemBelow, AreItemsKnown}
-use Rattle.journal_text.proofs.JournalLemmas.{items-push, text_grows}
-use Rattle.agent_run.specs.JournalSoFar.{JournalSoFar, routes_by, routes, IsNextRoute, RoutesInOrder, RouteOnInOrder, Spells, SpellsOn}
+use Rattle.journal_text.specs.JournalText.{item_of, HasItem}
+use Rattle.agent_run.specs.Routes.{routes_by, routes, unrouted, IsNextRoute, RoutesInOrder, RouteOnInOrder}
 
 routes-push : (es : List Entry) (e : Entry) → routes (es ++ e ∷ []) ≡ routes es + routes_by e
 unfolding routes
@@ -28,32 +25,8 @@ known-push : (es : List Entry) (e : Entry) → length (items (es ++ e ∷ [])) �
 known-push es e = ap length (items-push es e) ∙ length-append (items es) (named_by e)
 
 -- what follows stays in order
-order_after : (journal : List Entry) (e : Entry) (es : List Entry) → RoutesInOrder (routes journal + routes_by e) (length (items journal) + length (named_by e)) es → RouteOnInOrder (journal ++ e ∷ []) es
+pub order_after : (journal : List Entry) (e : Entry) (es : List Entry) → RoutesInOrder (routes journal + routes_by e) (length (items journal) + length (named_by e)) es → RouteOnInOrder (journal ++ e ∷ []) es
 order_after journal e es h = rw (routes-push journal e, known-push journal e) h
-
--- a Route's item is among those that are known, then and later
-below_of : (routed known more : ℕ) (e : Entry) → IsNextRoute routed known e → IsItemBelow (known + more) e
-below_of routed known more (Gather input moment pieces refused passed filtered metrics group reports) h = tt
-below_of routed known more (Ended input) h = tt
-below_of routed known more (Take item) h = tt
-below_of routed known more (Route item whole verdict aggs outs reports) h = omega (arith, h.0, h.1)
-below_of routed known more (Tick moment made) h = tt
-below_of routed known more (Stop moment made) h = tt
-below_of routed known more (Begin output from to) h = tt
-below_of routed known more (Done output ok reports) h = tt
-
-known_of : (routed known all : ℕ) (es : List Entry) → RoutesInOrder routed known es → known + length (items es) ≤ all → AllByRecursion (IsItemBelow all) es
-unfolding RoutesInOrder items
-known_of routed known all [] h l = tt
-known_of routed known all (e ∷ es) h l =
-    let split : length (items (e ∷ es)) ≡ length (named_by e) + length (items es) = length-append (named_by e) (items es) in
-    let within : known + (length (named_by e) + length (items es)) ≤ all = omega (arith, l, split) in
-    let P : ℕ → Type 0 = λ n. IsItemBelow n e in
-    let whole : known + (all - known) ≡ all = omega (arith, within) in
-    (subst P whole (below_of routed known (all - known) e h.0), known_of (routed + routes_by e) (known + length (named_by e)) all es h.1 (omega (arith, within)))
-
-are_known : (es : List Entry) → RoutesInOrder 0 0 es → AreItemsKnown es
-are_known es h = known_of 0 0 (length (items es)) es h (omega arith)
 
 one_routed : (routed known : ℕ) (e : Entry) → IsNextRoute routed known e → routed ≤ known → routed + routes_by e ≤ known + length (named_by e)
 one_routed routed known (Gather input moment pieces refused passed filtered metrics group reports) h l = omega (arith, l)
@@ -86,11 +59,11 @@ order-push routed known (x ∷ es) e h m = (
 )
 
 -- one entry more comes in order
-in_order-push : (es : List Entry) (e : Entry) → RoutesInOrder 0 0 es → IsNextRoute (routes es) (length (items es)) e → RoutesInOrder 0 0 (es ++ e ∷ [])
+pub in_order-push : (es : List Entry) (e : Entry) → RoutesInOrder 0 0 es → IsNextRoute (routes es) (length (items es)) e → RoutesInOrder 0 0 (es ++ e ∷ [])
 in_order-push es e h m = order-push 0 0 es e h (rw (zero-add (routes es), zero-add (length (items es))) m)
 
 -- the items that aren't routed with one entry more
-unrouted-push : (es : List Entry) (e : Entry) → RoutesInOrder 0 0 es → drop (routes (es ++ e ∷ [])) (items (es ++ e ∷ [])) ≡ drop (routes_by e) (drop (routes es) (items es) ++ named_by e)
+pub unrouted-push : (es : List Entry) (e : Entry) → RoutesInOrder 0 0 es → unrouted (es ++ e ∷ []) ≡ drop (routes_by e) (unrouted es ++ named_by e)
 unrouted-push es e h =
     ap (drop (routes (es ++ e ∷ []))) (items-push es e) ∙ ap (λ (n : ℕ). drop n (items es ++ named_by e)) (routes-push es e) ∙ sym (drop-drop (routes_by e) (routes es) (items es ++ named_by e))
     ∙ ap (drop (routes_by e)) (drop-append-le (routes es) (items es) (named_by e) (few_routes es h))
@@ -110,7 +83,7 @@ none_of [] l = refl
 none_of (x ∷ xs) l = absurd (omega (arith, l))
 
 -- the item at hand is that of the entry
-item_is : (all item rest : List Content) (routed known : ℕ) (e : Entry) → IsNextRoute routed known e → HasItem item e → drop routed all ++ named_by e ≡ item ++ rest → item ≡ item_of all e
+pub item_is : (all item rest : List Content) (routed known : ℕ) (e : Entry) → IsNextRoute routed known e → HasItem item e → drop routed all ++ named_by e ≡ item ++ rest → item ≡ item_of all e
 item_is all item rest routed known (Gather input moment pieces refused passed filtered metrics group reports) h i e = none_of item i
 item_is all item rest routed known (Ended input) h i e = none_of item i
 item_is all item rest routed known (Take taken) h i e = none_of item i
@@ -121,7 +94,7 @@ item_is all item rest routed known (Stop moment made) h i e = none_of item i
 item_is all item rest routed known (Begin output from to) h i e = none_of item i
 item_is all item rest routed known (Done output ok reports) h i e = none_of item i
 
-has_length : (item : List Content) (e : Entry) → HasItem item e → length item ≡ routes_by e
+pub has_length : (item : List Content) (e : Entry) → HasItem item e → length item ≡ routes_by e
 has_length item (Gather input moment pieces refused passed filtered metrics group reports) i = i
 has_length item (Ended input) i = i
 has_length item (Take taken) i = i
@@ -131,75 +104,14 @@ has_length item (Stop moment made) i = i
 has_length item (Begin output from to) i = i
 has_length item (Done output ok reports) i = i
 
--- one entry more is spelled
-spells_one : (e : Entry) (item : List Content) (old new : JournalSoFar) → HasItem item e → old.unrouted ++ named_by e ≡ item ++ new.unrouted → new.text ≡ old.text ++ entry_text item e → new.entries ≡ old.entries + 1
-    → (setup : JournalSetup) (journal : List Entry) → Spells setup journal old → IsNextRoute (routes journal) (length (items journal)) e → Spells setup (journal ++ e ∷ []) new
-spells_one e item old new has left text entries setup journal s next =
-    let at_hand : drop (routes journal) (items journal) ++ named_by e ≡ item ++ new.unrouted = ap (λ (xs : List Content). xs ++ named_by e) (sym s.unrouted) ∙ left in
-    let is : item ≡ item_of (items journal) e = item_is (items journal) item new.unrouted (routes journal) (length (items journal)) e next has at_hand in
-    record {
-      text = text ∙ ap (λ (i : List Content). old.text ++ entry_text i e) is ∙ ap (λ (t : List ℕ). t ++ entry_text (item_of (items journal) e) e) s.text
-          ∙ append_assoc (setup_text setup) (entries_text (items journal) journal) (entry_text (item_of (items journal) e) e)
-          ∙ ap (λ (t : List ℕ). setup_text setup ++ t) (sym (text_grows journal e (are_known journal s.in_order)));
-      entries = entries ∙ ap (λ (n : ℕ). n + 1) s.entries ∙ sym (length-append journal (e ∷ []));
-      unrouted = sym (drop_at item new.unrouted (routes_by e) (has_length item e has)) ∙ ap (drop (routes_by e)) (sym at_hand) ∙ sym (unrouted-push journal e s.in_order);
-      in_order = in_order-push journal e s.in_order next;
-    }
-
--- the whole text, with the end
-pub ends : (setup : JournalSetup) (journal : List Entry) (account : List ℕ) (so_far : JournalSoFar) → Spells setup journal so_far → so_far.text ++ end_text account so_far.entries ≡ journal_text setup journal account
-unfolding journal_text
-ends setup journal account so_far s =
-    ap (λ (n : ℕ). so_far.text ++ end_text account n) s.entries ∙ ap (λ (t : List ℕ). t ++ end_text account (length journal)) s.text
-
--- a set-up with no entry
-pub spells_none : (setup : JournalSetup) (so_far : JournalSoFar) → so_far.text ≡ setup_text setup → so_far.entries ≡ 0 → so_far.unrouted ≡ [] → Spells setup [] so_far
-unfolding items routes entries_text RoutesInOrder
-spells_none setup so_far text entries unrouted = record { text = text ∙ sym (append-nil (setup_text setup)); entries = entries; unrouted = unrouted; in_order = tt }
-
--- the first so many of the entries are spelled, and the Routes of the others come in order
-abbrev pub SpellsFirst : ℕ → List Entry → JournalSoFar → JournalSoFar → Type 0
-SpellsFirst n entries old new =
-    (setup : JournalSetup) (journal : List Entry) → Spells setup journal old → RouteOnInOrder journal entries
-    → Spells setup (journal ++ take n entries) new × RouteOnInOrder (journal ++ take n entries) (drop n entries)
-
-pub spells_no_more : (entries : List Entry) (old : JournalSoFar) → SpellsFirst 0 entries old old
-spells_no_more entries old setup journal s h =
-    (subst (λ (p : List Entry). Spells setup p old) (sym (append-nil journal)) s, subst (λ (p : List Entry). RouteOnInOrder p entries) (sym (append-nil journal)) h)
-
 -- the first entry's Route comes in order, and so do those that follow it
-next_of : (routed known : ℕ) (e : Entry) (es : List Entry) → RoutesInOrder routed known (e ∷ es) → IsNextRoute routed known e × RoutesInOrder (routed + routes_by e) (known + length (named_by e)) es
+pub next_of : (routed known : ℕ) (e : Entry) (es : List Entry) → RoutesInOrder routed known (e ∷ es) → IsNextRoute routed known e × RoutesInOrder (routed + routes_by e) (known + length (named_by e)) es
 unfolding RoutesInOrder
 next_of routed known e es h = h
 
-alone : (routed known : ℕ) (e : Entry) → IsNextRoute routed known e → RoutesInOrder routed known (e ∷ [])
+pub alone : (routed known : ℕ) (e : Entry) → IsNextRoute routed known e → RoutesInOrder routed known (e ∷ [])
 unfolding RoutesInOrder
 alone routed known e h = (h, tt)
-
-pub spells_more : (n : ℕ) (entries : List Entry) (e : Entry) (old mid new : JournalSoFar) → n < length entries → e ≡ get_or entries n e → SpellsFirst n entries old mid → SpellsOn (e ∷ []) mid new → SpellsFirst (n + 1) entries old new
-spells_more n entries e old mid new l is first one setup journal s h =
-    let so = first setup journal s h in
-    let front : List Entry = journal ++ take n entries in
-    let split : drop n entries ≡ e ∷ drop (n + 1) entries = drop_more entries n e l ∙ ap (λ (x : Entry). x ∷ drop (n + 1) entries) (sym is) in
-    let next = next_of (routes front) (length (items front)) e (drop (n + 1) entries) (subst (λ (es : List Entry). RouteOnInOrder front es) split so.1) in
-    let grown : front ++ e ∷ [] ≡ journal ++ take (n + 1) entries =
-    append_assoc journal (take n entries) (e ∷ []) ∙ ap (λ (es : List Entry). journal ++ es) (ap (λ (x : Entry). take n entries ++ x ∷ []) is ∙ sym (take_more entries n e l)) in (
-      subst (λ (p : List Entry). Spells setup p new) grown (one setup front so.0 (alone (routes front) (length (items front)) e next.0)),
-      subst (λ (p : List Entry). RouteOnInOrder p (drop (n + 1) entries)) grown (order_after front e (drop (n + 1) entries) next.1),
-    )
-
-pub spells_all : (n : ℕ) (entries : List Entry) (old new : JournalSoFar) → length entries ≤ n → SpellsFirst n entries old new → SpellsOn entries old new
-spells_all n entries old new l first setup journal s h = subst (λ (es : List Entry). Spells setup (journal ++ es) new) (take_all n entries l) (first setup journal s h).0
-
--- one entry more is spelled, where its item is at hand
-pub spells_entry : (e : Entry) (item : List Content) (old new : JournalSoFar) → HasItem item e → old.unrouted ++ named_by e ≡ item ++ new.unrouted → new.text ≡ old.text ++ entry_text item e → new.entries ≡ old.entries + 1 → SpellsOn (e ∷ []) old new
-spells_entry e item old new has left text entries setup journal s h =
-    spells_one e item old new has left text entries setup journal s (next_of (routes journal) (length (items journal)) e [] h).0
-
--- an option's slice is its list
-pub slice_is : {X : Type 0} (x : Option X) (xs : List X) → MatchOption x (xs ≡ []) (λ y. xs ≡ y ∷ []) → xs ≡ option_to_list x
-slice_is None xs h = h
-slice_is (Some y) xs h = h
 
 -- what is in hand, by how many items were routed and how many taken: nothing where all taken ones were routed, else the last one taken, which is the next to be routed
 abbrev HandFits : Option ℕ → ℕ → ℕ → Type 0

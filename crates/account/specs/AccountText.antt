@@ -12,18 +12,32 @@ counted counts = flat_map (λ (count : List ℕ × ℕ). count.0 ++ decimal coun
 -- the line of an input
 unfoldable pub input_line : ℕ → InputNumbers → List ℕ
 input_line input x =
-    counted ((codes "input ", input) ∷ (codes " pieces ", x.pieces) ∷ (codes " refused ", x.refused) ∷ (codes " passed ", x.passed) ∷ (codes " filtered ", x.filtered) ∷ (codes " gathered ", x.gathered) ∷ [])
+    counted (
+    (codes "input ", input)
+    ∷ (codes " pieces ", x.pieces)
+    ∷ (codes " refused ", x.refused)
+    ∷ (codes " passed ", x.passed)
+    ∷ (codes " filtered ", x.filtered)
+    ∷ (codes " gathered ", x.gathered)
+    ∷ []
+    )
     ++ (if x.has_ended then codes " ended\n" else codes " unread\n")
 
--- the line of a tracked input's groups
+-- the line of an input's groups
 unfoldable pub groups_line : ℕ → InputNumbers → List ℕ
 groups_line input x =
-    counted ((codes "groups ", input) ∷ (codes " delivered ", x.delivered) ∷ (codes " rejected ", x.rejected) ∷ (codes " undelivered ", x.undelivered) ∷ [])
+    counted (
+    (codes "groups ", input)
+    ∷ (codes " delivered ", x.delivered)
+    ∷ (codes " rejected ", x.rejected)
+    ∷ (codes " undelivered ", x.undelivered)
+    ∷ []
+    )
     ++ codes "\n"
 
--- what is said of an input: its line, and where it is tracked its groups' line
-unfoldable pub input_text : ℕ → InputNumbers → List ℕ
-input_text input x = input_line input x ++ (if x.tracked then groups_line input x else [])
+-- the line of an input's groups where it is tracked, and nothing where it isn't
+abbrev pub tracked_groups : ℕ → InputNumbers → List ℕ
+tracked_groups input x = if x.tracked then groups_line input x else []
 
 -- the line of the items
 unfoldable pub items_line : ℕ → ℕ → ℕ → List ℕ
@@ -32,9 +46,18 @@ items_line made removed routed =
     ++ codes "\n"
 
 -- the line of an output
-unfoldable pub output_text : ℕ → OutputNumbers → List ℕ
-output_text output x =
-    counted ((codes "output ", output) ∷ (codes " filtered ", x.filtered) ∷ (codes " late ", x.late) ∷ (codes " consumed ", x.consumed) ∷ (codes " written ", x.written) ∷ (codes " buffered ", x.buffered) ∷ (codes " dropped ", x.dropped) ∷ [])
+unfoldable pub output_line : ℕ → OutputNumbers → List ℕ
+output_line output x =
+    counted (
+    (codes "output ", output)
+    ∷ (codes " filtered ", x.filtered)
+    ∷ (codes " late ", x.late)
+    ∷ (codes " consumed ", x.consumed)
+    ∷ (codes " written ", x.written)
+    ∷ (codes " buffered ", x.buffered)
+    ∷ (codes " dropped ", x.dropped)
+    ∷ []
+    )
     ++ codes "\n"
 
 -- the texts of elements one after the other, each with its number; the first one has this number
@@ -42,9 +65,10 @@ unfoldable pub numbered : {X : Type 0} → (ℕ → X → List ℕ) → ℕ → 
 numbered text n [] = []
 numbered text n (x ∷ xs) = text n x ++ numbered text (n + 1) xs
 
--- the account of a run: its inputs, its items and its outputs
+-- the account of a run: the lines of its inputs, those of the groups of tracked inputs, its items, and its outputs
 unfoldable pub account_text : Numbers → List ℕ
 account_text numbers =
-    numbered input_text 0 numbers.inputs
+    numbered input_line 0 numbers.inputs
+    ++ numbered tracked_groups 0 numbers.inputs
     ++ items_line numbers.made numbers.removed numbers.routed
-    ++ numbered output_text 0 numbers.outputs
+    ++ numbered output_line 0 numbers.outputs

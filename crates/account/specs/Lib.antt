@@ -1,5 +1,5 @@
 pub mod Setup
 pub mod Items
+pub mod Views
 pub mod Numbers
-pub mod Extends
 pub mod AccountText

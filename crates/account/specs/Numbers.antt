@@ -82,5 +82,5 @@ pub record AreBelow (limit : ℕ) (numbers : Numbers) : Type 0 where
   pub outputs : All (IsOutputBelow limit) numbers.outputs
 
 -- how many routed metrics an output's numbers tell of
-abbrev pub fates : OutputNumbers → ℕ
-fates x = x.filtered + x.late + x.consumed + x.written + x.buffered + x.dropped
+abbrev pub sum_of_fates : OutputNumbers → ℕ
+sum_of_fates x = x.filtered + x.late + x.consumed + x.written + x.buffered + x.dropped

@@ -1,14 +1,16 @@
 //! What is counted of a run.
 ghost use Rattle.std.specs.Prelude.{◌≡◌, ◌+◌, ◌<◌, ◌≤◌, ◌^◌, ◌↔◌, true, ◌++◌, length, IfOk, OnOk, OnErr, IsTrue};
 ghost use Rattle.account.specs.Numbers.{Numbers, no_numbers, input_numbers, output_numbers, with_input, with_output, gathered_more, written_more, dropped_more, IsInputBelow, AreBelow};
-ghost use Rattle.account.specs.Extends.{Extends};
+ghost use Rattle.text_parts.specs.Adds.{Adds};
 ghost use Rattle.account.specs.AccountText.{account_text};
 
-use crate::text::{append_inputs, append_items, append_outputs};
+use crate::numbers::LARGE;
+use crate::text::{append_groups, append_inputs, append_items, append_outputs};
 use crate::{InputNumbers, OutputNumbers};
 use fixed_num::OutOfMemory;
 use std::alloc::Global;
 use std::marker::Model;
+use text_parts::settle;
 
 /// The numbers of a run: what was read of each input, how many items were made, removed and
 /// routed, and what became of the routed ones at each output.
@@ -47,36 +49,31 @@ impl Account {
     pub fn has_room(&self) -> bool
         ensures { IsTrue result ↔ AreBelow (2 ^ 63) self.now }
     {
-        self.made < 1 << 63
-            && self.removed < 1 << 63
-            && self.routed < 1 << 63
+        self.made < LARGE
+            && self.removed < LARGE
+            && self.routed < LARGE
             && self.inputs.iter().all(|x| x.has_room())
             && self.outputs.iter().all(|x| x.has_room())
     }
 
-    /// Appends the account's text: a line for each input, and one for the groups of each tracked
-    /// one, a line for the items, and a line for each output.
-    pub fn text(&self, _alloc: Global, out: &mut Vec<u8>) -> Result<(), OutOfMemory>
+    /// Appends the account's text: a line for each input, then one for the groups of each tracked
+    /// one, a line for the items, and a line for each output. `OutOfMemory` leaves `out` as it was.
+    pub fn text(&self, out: &mut Vec<u8>) -> Result<(), OutOfMemory>
         ensures ok { OnOk result (out.new.items ≡ out.old.items ++ account_text self.now) }
         ensures err { OnErr result (out.new.items ≡ out.old.items) }
     {
         let len = out.len();
-        match self.append_text(out) {
-            Ok(()) => Ok(()),
-            Err(fault) => {
-                out.truncate(len);
-                Err(fault)
-            }
-        }
+        let written = self.append_text(out);
+        settle(out, len, written)
     }
 
     // Appends the account's text, or a front of it.
     #[tactic(auto, unfolding(crate::specs::AccountText::account_text))]
     fn append_text(&self, out: &mut Vec<u8>) -> Result<(), OutOfMemory>
-        ensures ok { OnOk result (out.new.items ≡ out.old.items ++ account_text self.now) }
-        ensures kept { Extends out.old.items out.new.items }
+        ensures { Adds result out.old.items out.new.items (account_text self.now) }
     {
         append_inputs(out, &self.inputs)?;
+        append_groups(out, &self.inputs)?;
         append_items(out, self.made, self.removed, self.routed)?;
         append_outputs(out, &self.outputs)?;
         Ok(())
@@ -94,7 +91,8 @@ impl Account {
         metrics: u32,
     )
         requires within { input < length self.old.inputs }
-        requires room { IsInputBelow (2 ^ 64) (gathered_more (input_numbers self.old input) pieces refused passed filtered metrics) }
+        requires room { let x = input_numbers self.old input in
+            IsInputBelow (2 ^ 64) (gathered_more x pieces refused passed filtered metrics) }
         ensures { let x = input_numbers self.old input in
             self.new ≡ with_input self.old input (gathered_more x pieces refused passed filtered metrics) }
     {
@@ -109,17 +107,18 @@ impl Account {
     /// Notes that an input was read to its end.
     pub fn ended(&mut self, input: u32)
         requires { input < length self.old.inputs }
-        ensures { self.new ≡ with_input self.old input (record (input_numbers self.old input) { has_ended = true }) }
+        ensures { let x = input_numbers self.old input in
+            self.new ≡ with_input self.old input (record x { has_ended = true }) }
     {
         self.inputs[input as usize].has_ended = true;
     }
 
     /// Counts metrics that were made.
-    pub fn made(&mut self, n: u32)
+    pub fn made(&mut self, n: u64)
         requires { self.old.made + n < 2 ^ 64 }
         ensures { self.new ≡ record self.old { made = self.old.made + n } }
     {
-        self.made += u64::from(n);
+        self.made += n;
     }
 
     /// Counts an item that was removed.
@@ -168,7 +167,7 @@ impl Account {
         self.outputs[output as usize].consumed += 1;
     }
 
-    /// Counts a metric that an output took.
+    /// Counts a metric that waits at an output.
     pub fn buffered(&mut self, output: u32)
         requires within { output < length self.old.outputs }
         requires room { (output_numbers self.old output).buffered + 1 < 2 ^ 64 }
@@ -218,6 +217,13 @@ fn unread_inputs(alloc: Global, tracked: &[bool]) -> Result<Vec<InputNumbers>, O
 mod tests {
     use super::*;
 
+    /// Which inputs are tracked, and the lines of their groups.
+    #[derive(Clone, Copy)]
+    struct Case {
+        tracked: [bool; 2],
+        groups: &'static str,
+    }
+
     #[test]
     fn prints_what_was_counted(rt: HostRuntime) -> Result<(), OutOfMemory> {
         let alloc = rt.alloc();
@@ -238,7 +244,7 @@ mod tests {
         account.written(1, 1);
         account.dropped(1, 1);
         let mut out = Vec::from_slice(alloc, b"> ")?;
-        account.text(alloc, &mut out)?;
+        account.text(&mut out)?;
         let want = "> input 0 pieces 6 refused 1 passed 2 filtered 3 gathered 5 ended\n\
             input 1 pieces 0 refused 0 passed 0 filtered 0 gathered 0 unread\n\
             groups 1 delivered 0 rejected 0 undelivered 0\n\
@@ -246,6 +252,35 @@ mod tests {
             output 0 filtered 1 late 1 consumed 1 written 0 buffered 0 dropped 0\n\
             output 1 filtered 0 late 0 consumed 0 written 1 buffered 1 dropped 1\n";
         assert_eq!(rt; out.as_slice(), want.as_bytes());
+        Ok(())
+    }
+
+    #[test]
+    fn groups_stand_behind_all_inputs(rt: HostRuntime) -> Result<(), OutOfMemory> {
+        let alloc = rt.alloc();
+        let cases = [
+            Case {
+                tracked: [true, false],
+                groups: "groups 0 delivered 0 rejected 0 undelivered 0\n",
+            },
+            Case {
+                tracked: [true, true],
+                groups: "groups 0 delivered 0 rejected 0 undelivered 0\n\
+                    groups 1 delivered 0 rejected 0 undelivered 0\n",
+            },
+        ];
+        for case in &cases {
+            let account = Account::new(alloc, &case.tracked, 0)?;
+            let mut out = Vec::new(alloc);
+            account.text(&mut out)?;
+            let want = format!(in alloc;
+                "input 0 pieces 0 refused 0 passed 0 filtered 0 gathered 0 unread\n\
+                input 1 pieces 0 refused 0 passed 0 filtered 0 gathered 0 unread\n\
+                {}items made 0 removed 0 routed 0\n",
+                case.groups,
+            )?;
+            assert_eq!(rt; out.as_slice(), want.as_bytes());
+        }
         Ok(())
     }
 }

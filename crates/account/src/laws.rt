@@ -1,11 +1,11 @@
 //! What the numbers of an output mean together.
 ghost use Rattle.std.specs.Prelude.{◌≡◌, ◌≤◌, ℕ};
 ghost use Rattle.account.specs.declared.numbers.OutputNumbers.{OutputNumbers};
-ghost use Rattle.account.specs.Numbers.{fates, written_more, dropped_more};
+ghost use Rattle.account.specs.Numbers.{sum_of_fates, written_more, dropped_more};
 
 /// Metrics that are written or dropped were buffered: an output's six numbers tell of as many
 /// routed metrics as before.
 pub fn moves_keep_the_sum()
-    ensures written { (x : OutputNumbers) (n : ℕ) → n ≤ x.buffered → fates (written_more x n) ≡ fates x }
-    ensures dropped { (x : OutputNumbers) (n : ℕ) → n ≤ x.buffered → fates (dropped_more x n) ≡ fates x }
+    ensures written { (x : OutputNumbers) (n : ℕ) → n ≤ x.buffered → sum_of_fates (written_more x n) ≡ sum_of_fates x }
+    ensures dropped { (x : OutputNumbers) (n : ℕ) → n ≤ x.buffered → sum_of_fates (dropped_more x n) ≡ sum_of_fates x }
 {}

@@ -44,8 +44,8 @@ pub struct OutputNumbers {
     pub dropped: u64,
 }
 
-/// The first number that is large: 2^63.
-const LARGE: u64 = 1 << 63;
+/// A number of an account has room while it is below this, 2^63: what one call adds then fits in a `u64`.
+pub(crate) const LARGE: u64 = 1 << 63;
 
 impl InputNumbers {
     /// An input of which nothing was read.

@@ -1,26 +1,12 @@
 //! The text of what was counted.
-ghost use Rattle.std.specs.Prelude.{◌≡◌, ◌++◌, ◌<◌, ◌+◌, OnOk, decimal, codes, if◌then◌else◌};
-ghost use Rattle.std.specs.List.{flat_map};
-ghost use Rattle.account.specs.Extends.{Extends};
-ghost use Rattle.account.specs.AccountText.{input_line, groups_line, input_text, items_line, output_text, numbered};
+ghost use Rattle.std.specs.Prelude.{◌≡◌, codes, if◌then◌else◌};
+ghost use Rattle.text_parts.specs.Adds.{Adds};
+ghost use Rattle.account.specs.AccountText.{input_line, groups_line, tracked_groups, items_line, output_line};
+ghost use Rattle.account.specs.AccountText.{numbered};
 
 use crate::{InputNumbers, OutputNumbers};
 use fixed_num::OutOfMemory;
-
-// Appends labels, each with a number, and an end.
-fn append_line(out: &mut Vec<u8>, counts: &[(&str, u64)], end: &str) -> Result<(), OutOfMemory>
-    ensures ok { OnOk result (out.new.items ≡ out.old.items
-        ++ (flat_map (λ count. count.0.now ++ decimal count.1) counts.now ++ end.now)) }
-    ensures kept { Extends out.old.items out.new.items }
-{
-    let mut buffer = itoa::Buffer::new();
-    for (label, n) in counts {
-        out.extend_from_slice(label.as_bytes())?;
-        out.extend_from_slice(buffer.format(*n).as_bytes())?;
-    }
-    out.extend_from_slice(end.as_bytes())?;
-    Ok(())
-}
+use text_parts::append_numbers;
 
 // How the line of an input ends.
 fn ending(has_ended: bool) -> &'static str
@@ -31,11 +17,10 @@ fn ending(has_ended: bool) -> &'static str
 
 // Appends the line of an input.
 #[tactic(auto, unfolding(crate::specs::AccountText::input_line))]
-fn append_input_line(out: &mut Vec<u8>, input: u64, x: &InputNumbers) -> Result<(), OutOfMemory>
-    ensures ok { OnOk result (out.new.items ≡ out.old.items ++ input_line input x.now) }
-    ensures kept { Extends out.old.items out.new.items }
+fn append_input(out: &mut Vec<u8>, input: u64, x: &InputNumbers) -> Result<(), OutOfMemory>
+    ensures { Adds result out.old.items out.new.items (input_line input x.now) }
 {
-    append_line(
+    append_numbers(
         out,
         &[
             ("input ", input),
@@ -46,17 +31,18 @@ fn append_input_line(out: &mut Vec<u8>, input: u64, x: &InputNumbers) -> Result<
             (" gathered ", x.gathered),
         ],
         ending(x.has_ended),
-    )?;
-    Ok(())
+    )
 }
 
-// Appends the line of a tracked input's groups.
+// Appends the line of an input's groups where it is tracked.
 #[tactic(auto, unfolding(crate::specs::AccountText::groups_line))]
-fn append_groups_line(out: &mut Vec<u8>, input: u64, x: &InputNumbers) -> Result<(), OutOfMemory>
-    ensures ok { OnOk result (out.new.items ≡ out.old.items ++ groups_line input x.now) }
-    ensures kept { Extends out.old.items out.new.items }
+fn append_tracked(out: &mut Vec<u8>, input: u64, x: &InputNumbers) -> Result<(), OutOfMemory>
+    ensures { Adds result out.old.items out.new.items (tracked_groups input x.now) }
 {
-    append_line(
+    if !x.tracked {
+        return Ok(());
+    }
+    append_numbers(
         out,
         &[
             ("groups ", input),
@@ -65,21 +51,7 @@ fn append_groups_line(out: &mut Vec<u8>, input: u64, x: &InputNumbers) -> Result
             (" undelivered ", x.undelivered),
         ],
         "\n",
-    )?;
-    Ok(())
-}
-
-// Appends what is said of an input.
-#[tactic(auto, unfolding(crate::specs::AccountText::input_text))]
-fn append_input(out: &mut Vec<u8>, input: u64, x: &InputNumbers) -> Result<(), OutOfMemory>
-    ensures ok { OnOk result (out.new.items ≡ out.old.items ++ input_text input x.now) }
-    ensures kept { Extends out.old.items out.new.items }
-{
-    append_input_line(out, input, x)?;
-    if x.tracked {
-        append_groups_line(out, input, x)?;
-    }
-    Ok(())
+    )
 }
 
 // Appends the line of the items.
@@ -90,10 +62,9 @@ pub(crate) fn append_items(
     removed: u64,
     routed: u64,
 ) -> Result<(), OutOfMemory>
-    ensures ok { OnOk result (out.new.items ≡ out.old.items ++ items_line made removed routed) }
-    ensures kept { Extends out.old.items out.new.items }
+    ensures { Adds result out.old.items out.new.items (items_line made removed routed) }
 {
-    append_line(
+    append_numbers(
         out,
         &[
             ("items made ", made),
@@ -101,17 +72,15 @@ pub(crate) fn append_items(
             (" routed ", routed),
         ],
         "\n",
-    )?;
-    Ok(())
+    )
 }
 
 // Appends the line of an output.
-#[tactic(auto, unfolding(crate::specs::AccountText::output_text))]
+#[tactic(auto, unfolding(crate::specs::AccountText::output_line))]
 fn append_output(out: &mut Vec<u8>, output: u64, x: &OutputNumbers) -> Result<(), OutOfMemory>
-    ensures ok { OnOk result (out.new.items ≡ out.old.items ++ output_text output x.now) }
-    ensures kept { Extends out.old.items out.new.items }
+    ensures { Adds result out.old.items out.new.items (output_line output x.now) }
 {
-    append_line(
+    append_numbers(
         out,
         &[
             ("output ", output),
@@ -123,14 +92,12 @@ fn append_output(out: &mut Vec<u8>, output: u64, x: &OutputNumbers) -> Result<()
             (" dropped ", x.dropped),
         ],
         "\n",
-    )?;
-    Ok(())
+    )
 }
 
-// Appends what is said of inputs, counted from 0.
+// Appends the lines of inputs, counted from 0.
 pub(crate) fn append_inputs(out: &mut Vec<u8>, inputs: &[InputNumbers]) -> Result<(), OutOfMemory>
-    ensures ok { OnOk result (out.new.items ≡ out.old.items ++ numbered input_text 0 inputs.now) }
-    ensures kept { Extends out.old.items out.new.items }
+    ensures { Adds result out.old.items out.new.items (numbered input_line 0 inputs.now) }
 {
     for (i, x) in inputs.iter().enumerate() {
         append_input(out, i as u64, x)?;
@@ -138,13 +105,22 @@ pub(crate) fn append_inputs(out: &mut Vec<u8>, inputs: &[InputNumbers]) -> Resul
     Ok(())
 }
 
-// Appends what is said of outputs, counted from 0.
+// Appends the lines of the groups of those inputs that are tracked; all inputs are counted from 0.
+pub(crate) fn append_groups(out: &mut Vec<u8>, inputs: &[InputNumbers]) -> Result<(), OutOfMemory>
+    ensures { Adds result out.old.items out.new.items (numbered tracked_groups 0 inputs.now) }
+{
+    for (i, x) in inputs.iter().enumerate() {
+        append_tracked(out, i as u64, x)?;
+    }
+    Ok(())
+}
+
+// Appends the lines of outputs, counted from 0.
 pub(crate) fn append_outputs(
     out: &mut Vec<u8>,
     outputs: &[OutputNumbers],
 ) -> Result<(), OutOfMemory>
-    ensures ok { OnOk result (out.new.items ≡ out.old.items ++ numbered output_text 0 outputs.now) }
-    ensures kept { Extends out.old.items out.new.items }
+    ensures { Adds result out.old.items out.new.items (numbered output_line 0 outputs.now) }
 {
     for (i, x) in outputs.iter().enumerate() {
         append_output(out, i as u64, x)?;

@@ -1,3 +1,2 @@
-pub mod ExtendsLemmas
 pub mod MetricLemmas
 pub mod JournalLemmas

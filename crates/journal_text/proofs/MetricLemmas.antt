@@ -1,7 +1,23 @@
+-- Bytes that are written as they are, and bytes that are escaped.
 use Rattle.std.proofs.Common.{◌≡◌, ℕ, suc, ◌+◌, true, false, List, [], ◌∷◌, ◌++◌, length, get_or, take, drop, refl, sym, ◌∙◌, ap, append_assoc, arith}
 use Rattle.std.specs.List.{prefix_len, list_all}
 use Rattle.std.proofs.lemmas.List.{append-nil, nil_from_length}
 use Rattle.journal_text.specs.MetricText.{is_plain, byte_text, escaped}
+use Rattle.std.proofs.Common.{◌≤◌, length-take}
+use Rattle.std.proofs.lemmas.Grind.{common_steps}
+use Rattle.std.proofs.Math.Seq.{take-append_seam}
+use Rattle.text_parts.specs.Adds.{Extends}
+
+-- what was appended leaves the old text at the front
+pub extends_by : (old new more : List ℕ) → new ≡ old ++ more → Extends old new
+extends_by old new more e = rw e (take-append_seam old more)
+
+-- what stands at the front of what stands at the front
+pub extends_trans : (old mid new : List ℕ) → Extends old mid → Extends mid new → Extends old new
+extends_trans old mid new first then =
+    let longer : length old ≤ length mid = omega (arith, ap length first, length-take (length old) mid) in
+    let within : take (length old) (take (length mid) new) ≡ take (length old) new = grind (arith, common_steps) in
+    sym within ∙ ap (take (length old)) then ∙ first
 
 byte_plain : (b : ℕ) → is_plain b ≡ true → byte_text b ≡ b ∷ []
 unfolding byte_text

@@ -1,6 +1,6 @@
 -- The text of a journal.
-use Rattle.std.specs.Prelude.{◌≡◌, ◌<◌, ◌↔◌, ℕ, ℤ, Bool, List, [], ◌∷◌, ◌++◌, length, codes, decimal, slice_get, IsTrue, if◌then◌else◌}
-use Rattle.std.specs.List.{flat_map, AllByRecursion}
+use Rattle.std.specs.Prelude.{◌≡◌, ◌↔◌, ℕ, ℤ, Bool, List, [], ◌∷◌, ◌++◌, length, codes, decimal, slice_get, IsTrue, if◌then◌else◌}
+use Rattle.std.specs.List.{flat_map}
 use Rattle.std.specs.Option.{option_to_list}
 use Rattle.std.specs.declared.option.Option.{Option}
 use Rattle.std.specs.declared.option.Option.TheVariants.{Some, None}
@@ -11,8 +11,10 @@ use Rattle.account.specs.declared.entry.Verdict.TheVariants.{Passes, Consumed, L
 use Rattle.account.specs.declared.entry.Report.{Report}
 use Rattle.account.specs.declared.entry.Entry.{Entry}
 use Rattle.account.specs.declared.entry.Entry.TheVariants.{Gather, Ended, Take, Route, Tick, Stop, Begin, Done}
-use Rattle.account.specs.Items.{items}
-use Rattle.journal_text.specs.MetricText.{signed_text, metric_text}
+use Rattle.account.specs.Items.{items, named_by}
+use Rattle.account.specs.Views.{HasViews}
+use Rattle.std.specs.Fmt.{signed_decimal}
+use Rattle.journal_text.specs.MetricText.{metric_text}
 use Rattle.journal_text.specs.SetupText.{setup_text}
 use Rattle.journal_text.specs.declared.setup.JournalSetup.{JournalSetup}
 
@@ -75,7 +77,7 @@ spaced numbers = flat_map (λ (n : ℕ). codes " " ++ decimal n) numbers
 -- the line of a Gather: the input, the moment, the numbers and the group
 unfoldable pub gather_line : ℕ → ℤ → List ℕ → Option ℕ → List ℕ
 gather_line input moment numbers group =
-    codes "gather " ++ decimal input ++ codes " " ++ signed_text moment ++ spaced numbers ++ codes " " ++ group_text group ++ codes "\n"
+    codes "gather " ++ decimal input ++ codes " " ++ signed_decimal moment ++ spaced numbers ++ codes " " ++ group_text group ++ codes "\n"
 
 -- an entry, with the item of a Route: its line, its metrics and its reports
 unfoldable pub entry_text : List Content → Entry → List ℕ
@@ -86,8 +88,8 @@ entry_text item (Ended input) = codes "ended " ++ decimal input ++ codes "\n"
 entry_text item (Take taken) = codes "take " ++ decimal taken ++ codes "\n"
 entry_text item (Route routed whole verdict aggs outs reports) =
     codes "route " ++ decimal routed ++ routed_text item whole verdict aggs outs ++ report_lines reports
-entry_text item (Tick moment made) = codes "tick " ++ signed_text moment ++ codes " " ++ decimal (length made) ++ codes "\n" ++ metric_lines made
-entry_text item (Stop moment made) = codes "stop " ++ signed_text moment ++ codes " " ++ decimal (length made) ++ codes "\n" ++ metric_lines made
+entry_text item (Tick moment made) = codes "tick " ++ signed_decimal moment ++ codes " " ++ decimal (length made) ++ codes "\n" ++ metric_lines made
+entry_text item (Stop moment made) = codes "stop " ++ signed_decimal moment ++ codes " " ++ decimal (length made) ++ codes "\n" ++ metric_lines made
 entry_text item (Begin output from to) = codes "begin " ++ decimal output ++ codes " " ++ decimal from ++ codes " " ++ decimal to ++ codes "\n"
 entry_text item (Done output ok reports) = codes "done " ++ decimal output ++ (if ok then codes " ok\n" else codes " failed\n") ++ report_lines reports
 
@@ -102,15 +104,15 @@ unfoldable pub route_text : List Content → Entry → List ℕ
 route_text item (Route routed whole verdict aggs outs reports) = entry_text item (Route routed whole verdict aggs outs reports)
 route_text item _ = []
 
--- the item of an entry among all items of a journal: that of a Route
+-- the item of an entry among these: that of a Route
 abbrev pub item_of : List Content → Entry → List Content
-item_of all (Route routed whole verdict aggs outs reports) = option_to_list (slice_get all routed)
-item_of all _ = []
+item_of known (Route routed whole verdict aggs outs reports) = option_to_list (slice_get known routed)
+item_of known _ = []
 
--- entries, given all items of their journal
+-- entries, each with the items that those before it named; these are known at first
 unfoldable pub entries_text : List Content → List Entry → List ℕ
-entries_text all [] = []
-entries_text all (e ∷ es) = entry_text (item_of all e) e ++ entries_text all es
+entries_text known [] = []
+entries_text known (e ∷ es) = entry_text (item_of known e) e ++ entries_text (known ++ named_by e) es
 
 -- the end: the account's text, and the number of entries
 unfoldable pub end_text : List ℕ → ℕ → List ℕ
@@ -118,36 +120,28 @@ end_text account entries = account ++ codes "end " ++ decimal entries ++ codes "
 
 -- a whole journal, with the text of its account
 unfoldable pub journal_text : JournalSetup → List Entry → List ℕ → List ℕ
-journal_text s es account = setup_text s ++ entries_text (items es) es ++ end_text account (length es)
+journal_text s es account = setup_text s ++ entries_text [] es ++ end_text account (length es)
 
 -- one metric is at hand for a Route, its item, and none for another entry
 abbrev pub HasItem : List Content → Entry → Type 0
 HasItem metrics (Route routed whole verdict aggs outs reports) = length metrics ≡ 1
 HasItem metrics _ = length metrics ≡ 0
 
--- an item without a whole has no views
-abbrev pub HasViewsOf : Option Content → List (Option Content) → Type 0
-HasViewsOf None views = AllByRecursion (λ (view : Option Content). view ≡ None) views
-HasViewsOf (Some whole) views = Unit {0}
-
 -- a Route is Removed exactly where it has no whole, and then has no views
 abbrev pub IsWholeOrRemoved : Entry → Type 0
 IsWholeOrRemoved (Route routed whole verdict aggs outs reports) =
-    ((verdict ≡ Removed) ↔ (whole ≡ None)) × HasViewsOf whole aggs × HasViewsOf whole outs
+    ((verdict ≡ Removed) ↔ (whole ≡ None)) × HasViews whole aggs × HasViews whole outs
 IsWholeOrRemoved _ = Unit {0}
 
--- a Route's item is among the first so many
-abbrev pub IsItemBelow : ℕ → Entry → Type 0
-IsItemBelow n (Route routed whole verdict aggs outs reports) = routed < n
-IsItemBelow n _ = Unit {0}
-
--- each Route's item is among the items of the journal
-abbrev pub AreItemsKnown : List Entry → Type 0
-AreItemsKnown es = AllByRecursion (IsItemBelow (length (items es))) es
-
--- one more entry adds its text, beside its item among those that were there before
+-- one more entry adds its text, beside its item among those that entries before it named
 abbrev pub TextGrows : Type 0
-TextGrows = (es : List Entry) (e : Entry) → AreItemsKnown es → entries_text (items (es ++ e ∷ [])) (es ++ e ∷ []) ≡ entries_text (items es) es ++ entry_text (item_of (items es) e) e
+TextGrows = (es : List Entry) (e : Entry) →
+    entries_text [] (es ++ e ∷ []) ≡ entries_text [] es ++ entry_text (item_of (items es) e) e
+
+-- the text of a front of a journal is a front of the journal's text: what follows it only adds to it
+abbrev pub FrontsStay : Type 0
+FrontsStay = (front rest : List Entry) →
+    entries_text [] (front ++ rest) ≡ entries_text [] front ++ entries_text (items front) rest
 
 -- metrics are equal, part by part, exactly where they are the same
 abbrev pub EqualAreSame : Type 0

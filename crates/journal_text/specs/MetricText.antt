@@ -1,15 +1,11 @@
 -- The text of a metric in a journal.
-use Rattle.std.specs.Prelude.{ℕ, ℤ, ◌+◌, ◌/◌, ◌%◌, ◌==◌, ◌&&◌, ◌||◌, nat_lt, nat_le, Bool, List, [], ◌∷◌, ◌++◌, codes, decimal, if◌then◌else◌}
+use Rattle.std.specs.Prelude.{ℕ, ◌+◌, ◌/◌, ◌%◌, ◌==◌, ◌&&◌, ◌||◌, nat_lt, nat_le, Bool, List, [], ◌∷◌, ◌++◌, codes, decimal, if◌then◌else◌}
 use Rattle.std.specs.Fmt.{signed_decimal}
 use Rattle.std.specs.List.{flat_map}
 use Rattle.fixed_num.specs.Canonical.{canonical_text}
 use Rattle.metric.specs.declared.value.Value.{Value}
 use Rattle.metric.specs.declared.value.Value.TheVariants as value
 use Rattle.metric.specs.declared.metric.Content.{Content}
-
--- a whole number, with `-` before it where it is negative
-unfoldable pub signed_text : ℤ → List ℕ
-signed_text z = signed_decimal z
 
 -- an upper-case letter, a lower-case letter, a digit, or one of `_ . - :`
 unfoldable pub is_plain : ℕ → Bool
@@ -31,7 +27,7 @@ escaped bytes = flat_map byte_text bytes
 
 -- a value: a letter that tells its type, and what it is
 unfoldable pub value_text : Value → List ℕ
-value_text (value.Int n) = codes "i" ++ signed_text n
+value_text (value.Int n) = codes "i" ++ signed_decimal n
 value_text (value.Uint n) = codes "u" ++ decimal n
 value_text (value.Fixed z) = codes "f" ++ canonical_text z
 value_text (value.Bool b) = if b then codes "bt" else codes "bf"
@@ -55,4 +51,4 @@ unfoldable pub metric_text : Content → List ℕ
 metric_text m =
     escaped m.name ++ flat_map tag_text m.tags
     ++ codes "|" ++ fields_text m.fields
-    ++ (codes "|" ++ signed_text m.time)
+    ++ (codes "|" ++ signed_decimal m.time)

@@ -3,7 +3,7 @@ use Rattle.std.specs.Prelude.{ℕ, ℤ, Bool, List, [], ◌++◌, codes, decimal
 use Rattle.std.specs.declared.option.Option.{Option}
 use Rattle.std.specs.declared.option.Option.TheVariants.{Some, None}
 use Rattle.account.specs.AccountText.{numbered}
-use Rattle.journal_text.specs.MetricText.{signed_text}
+use Rattle.std.specs.Fmt.{signed_decimal}
 use Rattle.journal_text.specs.declared.setup.AggWord.{AggWord}
 use Rattle.journal_text.specs.declared.setup.AggWord.TheVariants.{MinMax, Basic, Merge, Final}
 use Rattle.journal_text.specs.declared.setup.AggLine.{AggLine}
@@ -27,11 +27,11 @@ unfoldable pub kind_text : AggWord → List ℕ
 kind_text MinMax = codes "minmax"
 kind_text (Basic sum count min max) = codes "basicstats:" ++ letters_text sum count min max
 kind_text Merge = codes "merge"
-kind_text (Final timeout) = codes "final:" ++ signed_text timeout
+kind_text (Final timeout) = codes "final:" ++ signed_decimal timeout
 
 -- an aggregator's period, delay and grace, each behind a space
 unfoldable pub times_text : AggLine → List ℕ
-times_text line = (codes " " ++ signed_text line.period) ++ (codes " " ++ signed_text line.delay) ++ (codes " " ++ signed_text line.grace)
+times_text line = (codes " " ++ signed_decimal line.period) ++ (codes " " ++ signed_decimal line.delay) ++ (codes " " ++ signed_decimal line.grace)
 
 -- the line of an aggregator: its kind, its period, delay and grace, and whether it keeps or drops the metrics that it takes
 unfoldable pub agg_line : ℕ → AggLine → List ℕ
@@ -45,7 +45,7 @@ output_line output sizes = codes "output " ++ decimal output ++ codes " " ++ dec
 
 -- the version, and the moment of the start
 unfoldable pub start_lines : ℤ → List ℕ
-start_lines start = codes "journal 1\nstart " ++ signed_text start ++ codes "\n"
+start_lines start = codes "journal 1\nstart " ++ signed_decimal start ++ codes "\n"
 
 -- the head: the version, the moment of the start, the inputs, the aggregators and the outputs
 unfoldable pub setup_text : JournalSetup → List ℕ

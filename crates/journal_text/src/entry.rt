@@ -1,15 +1,17 @@
 //! The entries of a journal, and its end.
 ghost use Rattle.std.specs.Prelude.{◌≡◌, ◌++◌, OnOk, OnErr, length, codes, decimal, if◌then◌else◌};
-ghost use Rattle.account.specs.Extends.{Extends};
-ghost use Rattle.journal_text.specs.MetricText.{signed_text};
+ghost use Rattle.text_parts.specs.Adds.{Adds};
+ghost use Rattle.std.specs.Fmt.{signed_decimal};
 ghost use Rattle.journal_text.specs.JournalText.{beside_text, whole_text, view_text, views_text, verdict_text, routed_text, metric_lines, report_line, report_lines, group_text, spaced, gather_line, gather_text, route_text, entry_text, end_text, HasItem, IsWholeOrRemoved};
 
 use crate::metrics::append_metric;
-use crate::parts::{append, append_line, append_numbers, append_signed, append_unsigned, settle};
 use account::{Entry, Report, Verdict};
 use fixed_num::{Moment, OutOfMemory};
 use metric::Metric;
 use std::alloc::Global;
+use text_parts::{
+    append_bytes, append_line, append_numbers, append_signed, append_unsigned, append_words, settle,
+};
 
 // Appends a metric beside one that is known: `=` where they are equal, else its text.
 #[tactic(auto, unfolding(crate::specs::JournalText::beside_text))]
@@ -19,11 +21,10 @@ fn append_beside(
     known: &Metric,
     metric: &Metric,
 ) -> Result<(), OutOfMemory>
-    ensures ok { OnOk result (out.new.items ≡ out.old.items ++ beside_text known.now metric.now) }
-    ensures kept { Extends out.old.items out.new.items }
+    ensures { Adds result out.old.items out.new.items (beside_text known.now metric.now) }
 {
     if metric == known {
-        append(out, "=")?;
+        append_words(out, "=")?;
         Ok(())
     } else {
         append_metric(alloc, out, metric)?;
@@ -39,8 +40,7 @@ fn append_whole(
     item: &[Metric],
     whole: &Metric,
 ) -> Result<(), OutOfMemory>
-    ensures ok { OnOk result (out.new.items ≡ out.old.items ++ whole_text item.now whole.now) }
-    ensures kept { Extends out.old.items out.new.items }
+    ensures { Adds result out.old.items out.new.items (whole_text item.now whole.now) }
 {
     match item {
         [item, ..] => append_beside(alloc, out, item, whole),
@@ -56,11 +56,10 @@ fn append_view(
     whole: &Metric,
     view: &Option<Metric>,
 ) -> Result<(), OutOfMemory>
-    ensures ok { OnOk result (out.new.items ≡ out.old.items ++ view_text whole.now view.now) }
-    ensures kept { Extends out.old.items out.new.items }
+    ensures { Adds result out.old.items out.new.items (view_text whole.now view.now) }
 {
     match view {
-        None => append(out, "-"),
+        None => append_words(out, "-"),
         Some(view) => append_beside(alloc, out, whole, view),
     }
 }
@@ -72,11 +71,10 @@ fn append_views(
     whole: &Metric,
     views: &[Option<Metric>],
 ) -> Result<(), OutOfMemory>
-    ensures ok { OnOk result (out.new.items ≡ out.old.items ++ views_text whole.now views.now) }
-    ensures kept { Extends out.old.items out.new.items }
+    ensures { Adds result out.old.items out.new.items (views_text whole.now views.now) }
 {
     for view in views {
-        append(out, " ")?;
+        append_words(out, " ")?;
         append_view(alloc, out, whole, view)?;
     }
     Ok(())
@@ -101,12 +99,12 @@ fn append_outs(
     whole: &Metric,
     outs: &[Option<Metric>],
 ) -> Result<(), OutOfMemory>
-    ensures ok { OnOk result (out.new.items ≡ out.old.items ++ (codes " /" ++ views_text whole.now outs.now ++ codes "\n")) }
-    ensures kept { Extends out.old.items out.new.items }
+    ensures { Adds result out.old.items out.new.items
+        (codes " /" ++ views_text whole.now outs.now ++ codes "\n") }
 {
-    append(out, " /")?;
+    append_words(out, " /")?;
     append_views(alloc, out, whole, outs)?;
-    append(out, "\n")?;
+    append_words(out, "\n")?;
     Ok(())
 }
 
@@ -121,16 +119,16 @@ fn append_routed(
     aggs: &[Option<Metric>],
     outs: &[Option<Metric>],
 ) -> Result<(), OutOfMemory>
-    ensures ok { OnOk result (out.new.items ≡ out.old.items ++ routed_text item.now whole.now verdict aggs.now outs.now) }
-    ensures kept { Extends out.old.items out.new.items }
+    ensures { Adds result out.old.items out.new.items
+        (routed_text item.now whole.now verdict aggs.now outs.now) }
 {
     let Some(whole) = whole else {
-        append(out, " - removed\n")?;
+        append_words(out, " - removed\n")?;
         return Ok(());
     };
-    append(out, " ")?;
+    append_words(out, " ")?;
     append_whole(alloc, out, item, whole)?;
-    append(out, word_of(verdict))?;
+    append_words(out, word_of(verdict))?;
     append_views(alloc, out, whole, aggs)?;
     append_outs(alloc, out, whole, outs)?;
     Ok(())
@@ -142,13 +140,12 @@ fn append_metric_lines(
     out: &mut Vec<u8>,
     metrics: &[Metric],
 ) -> Result<(), OutOfMemory>
-    ensures ok { OnOk result (out.new.items ≡ out.old.items ++ metric_lines metrics.now) }
-    ensures kept { Extends out.old.items out.new.items }
+    ensures { Adds result out.old.items out.new.items (metric_lines metrics.now) }
 {
     for metric in metrics {
-        append(out, "m ")?;
+        append_words(out, "m ")?;
         append_metric(alloc, out, metric)?;
-        append(out, "\n")?;
+        append_words(out, "\n")?;
     }
     Ok(())
 }
@@ -167,8 +164,7 @@ fn report_ending(delivered: bool) -> &'static str
 // Appends the lines of reports.
 #[tactic(auto, unfolding(crate::specs::JournalText::report_line))]
 fn append_reports(out: &mut Vec<u8>, reports: &[Report]) -> Result<(), OutOfMemory>
-    ensures ok { OnOk result (out.new.items ≡ out.old.items ++ report_lines reports.now) }
-    ensures kept { Extends out.old.items out.new.items }
+    ensures { Adds result out.old.items out.new.items (report_lines reports.now) }
 {
     for report in reports {
         append_numbers(
@@ -182,12 +178,11 @@ fn append_reports(out: &mut Vec<u8>, reports: &[Report]) -> Result<(), OutOfMemo
 
 // The number of a group, and what follows it in the line of a Gather.
 fn append_group(out: &mut Vec<u8>, group: Option<u64>) -> Result<(), OutOfMemory>
-    ensures ok { OnOk result (out.new.items ≡ out.old.items ++ (codes " " ++ group_text group ++ codes "\n")) }
-    ensures kept { Extends out.old.items out.new.items }
+    ensures { Adds result out.old.items out.new.items (codes " " ++ group_text group ++ codes "\n") }
 {
     match group {
         None => {
-            append(out, " -\n")?;
+            append_words(out, " -\n")?;
             Ok(())
         }
         Some(group) => {
@@ -199,8 +194,7 @@ fn append_group(out: &mut Vec<u8>, group: Option<u64>) -> Result<(), OutOfMemory
 
 // Appends numbers, each behind a space.
 fn append_spaced(out: &mut Vec<u8>, numbers: &[u64]) -> Result<(), OutOfMemory>
-    ensures ok { OnOk result (out.new.items ≡ out.old.items ++ spaced numbers.now) }
-    ensures kept { Extends out.old.items out.new.items }
+    ensures { Adds result out.old.items out.new.items (spaced numbers.now) }
 {
     for n in numbers {
         append_unsigned(out, " ", *n)?;
@@ -217,8 +211,7 @@ fn append_gather_line(
     numbers: &[u64],
     group: Option<u64>,
 ) -> Result<(), OutOfMemory>
-    ensures ok { OnOk result (out.new.items ≡ out.old.items ++ gather_line input moment.now numbers.now group) }
-    ensures kept { Extends out.old.items out.new.items }
+    ensures { Adds result out.old.items out.new.items (gather_line input moment.now numbers.now group) }
 {
     append_unsigned(out, "gather ", u64::from(input))?;
     append_signed(out, " ", moment)?;
@@ -235,9 +228,8 @@ fn append_made(
     moment: &Moment,
     made: &[Metric],
 ) -> Result<(), OutOfMemory>
-    ensures ok { OnOk result (out.new.items ≡ out.old.items
-        ++ (words.now ++ signed_text moment.now ++ codes " " ++ decimal (length made.now) ++ codes "\n" ++ metric_lines made.now)) }
-    ensures kept { Extends out.old.items out.new.items }
+    ensures { Adds result out.old.items out.new.items
+        (words.now ++ signed_decimal moment.now ++ codes " " ++ decimal (length made.now) ++ codes "\n" ++ metric_lines made.now) }
 {
     append_signed(out, words, moment)?;
     append_line(out, " ", made.len() as u64)?;
@@ -255,8 +247,7 @@ fn done_ending(ok: bool) -> &'static str
 // Appends a Gather: its line, its metrics and its reports. Another entry adds nothing.
 #[tactic(auto, unfolding(crate::specs::JournalText::gather_text, crate::specs::JournalText::entry_text))]
 fn append_gather(alloc: Global, e: &Entry, out: &mut Vec<u8>) -> Result<(), OutOfMemory>
-    ensures ok { OnOk result (out.new.items ≡ out.old.items ++ gather_text e.now) }
-    ensures kept { Extends out.old.items out.new.items }
+    ensures { Adds result out.old.items out.new.items (gather_text e.now) }
 {
     let Entry::Gather {
         input,
@@ -293,8 +284,7 @@ fn append_route(
     e: &Entry,
     out: &mut Vec<u8>,
 ) -> Result<(), OutOfMemory>
-    ensures ok { OnOk result (out.new.items ≡ out.old.items ++ route_text item.now e.now) }
-    ensures kept { Extends out.old.items out.new.items }
+    ensures { Adds result out.old.items out.new.items (route_text item.now e.now) }
 {
     let Entry::Route {
         item: number,
@@ -316,9 +306,8 @@ fn append_route(
 
 // Appends a Begin: its output and its positions.
 fn append_begin(out: &mut Vec<u8>, output: u32, from: u64, to: u64) -> Result<(), OutOfMemory>
-    ensures ok { OnOk result (out.new.items ≡ out.old.items
-        ++ (codes "begin " ++ decimal output ++ codes " " ++ decimal from ++ codes " " ++ decimal to ++ codes "\n")) }
-    ensures kept { Extends out.old.items out.new.items }
+    ensures { Adds result out.old.items out.new.items
+        (codes "begin " ++ decimal output ++ codes " " ++ decimal from ++ codes " " ++ decimal to ++ codes "\n") }
 {
     let output = u64::from(output);
     append_numbers(out, &[("begin ", output), (" ", from), (" ", to)], "\n")?;
@@ -332,9 +321,8 @@ fn append_done(
     ok: bool,
     reports: &[Report],
 ) -> Result<(), OutOfMemory>
-    ensures ok { OnOk result (out.new.items ≡ out.old.items
-        ++ (codes "done " ++ decimal output ++ (if ok then codes " ok\n" else codes " failed\n") ++ report_lines reports.now)) }
-    ensures kept { Extends out.old.items out.new.items }
+    ensures { Adds result out.old.items out.new.items
+        (codes "done " ++ decimal output ++ (if ok then codes " ok\n" else codes " failed\n") ++ report_lines reports.now) }
 {
     append_numbers(out, &[("done ", u64::from(output))], done_ending(ok))?;
     append_reports(out, reports)?;
@@ -349,8 +337,7 @@ fn append_entry(
     e: &Entry,
     out: &mut Vec<u8>,
 ) -> Result<(), OutOfMemory>
-    ensures ok { OnOk result (out.new.items ≡ out.old.items ++ entry_text item.now e.now) }
-    ensures kept { Extends out.old.items out.new.items }
+    ensures { Adds result out.old.items out.new.items (entry_text item.now e.now) }
 {
     match e {
         Entry::Gather { .. } => append_gather(alloc, e, out),
@@ -396,10 +383,9 @@ pub fn write_entry(
 // Appends the end, or a front of it.
 #[tactic(auto, unfolding(crate::specs::JournalText::end_text))]
 fn append_end(account: &[u8], entries: u64, out: &mut Vec<u8>) -> Result<(), OutOfMemory>
-    ensures ok { OnOk result (out.new.items ≡ out.old.items ++ end_text account.now entries) }
-    ensures kept { Extends out.old.items out.new.items }
+    ensures { Adds result out.old.items out.new.items (end_text account.now entries) }
 {
-    out.extend_from_slice(account)?;
+    append_bytes(out, account)?;
     append_line(out, "end ", entries)?;
     Ok(())
 }

@@ -1,10 +1,11 @@
 //! What the text of a journal means.
-ghost use Rattle.journal_text.specs.JournalText.{TextGrows, EqualAreSame};
+ghost use Rattle.journal_text.specs.JournalText.{TextGrows, FrontsStay, EqualAreSame};
 
 /// A journal grows by the text of each entry: with one more entry its text is the text before,
-/// followed by that of the entry, though its items may have grown.
+/// followed by that of the entry. So the text of a front of a journal is a front of its text.
 pub fn text_grows()
-    ensures { TextGrows }
+    ensures one { TextGrows }
+    ensures fronts { FrontsStay }
 {}
 
 /// `=` stands exactly where two metrics are the same.

@@ -4,7 +4,6 @@
 mod entry;
 mod laws;
 mod metrics;
-mod parts;
 mod setup;
 #[cfg(test)]
 mod tests;

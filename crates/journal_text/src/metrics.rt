@@ -1,13 +1,13 @@
 //! The text of a metric.
 ghost use Rattle.std.specs.Prelude.{◌≡◌, ◌++◌, ◌<◌, ◌≤◌, false, OnOk, length, codes};
 ghost use Rattle.std.specs.List.{flat_map, list_all, prefix_len};
-ghost use Rattle.account.specs.Extends.{Extends};
+ghost use Rattle.text_parts.specs.Adds.{Adds};
 ghost use Rattle.journal_text.specs.MetricText.{is_plain, hex_digit, byte_text, escaped, value_text, tag_text, field_text, fields_text, metric_text};
 
-use crate::parts::{append, append_signed, append_unsigned};
 use fixed_num::OutOfMemory;
 use metric::{Metric, Text, Value};
 use std::alloc::Global;
+use text_parts::{append_signed, append_unsigned, append_words};
 
 // Each plain byte stands at its own place, and a comma, which isn't plain, at every other place.
 static PLAIN: [u8; 256] = *b"\
@@ -43,8 +43,7 @@ fn hex_digit(n: u8) -> u8
 #[tactic(auto, unfolding(crate::specs::MetricText::byte_text))]
 fn append_escape(out: &mut Vec<u8>, b: u8) -> Result<(), OutOfMemory>
     requires { is_plain b ≡ false }
-    ensures ok { OnOk result (out.new.items ≡ out.old.items ++ byte_text b) }
-    ensures kept { Extends out.old.items out.new.items }
+    ensures { Adds result out.old.items out.new.items (byte_text b) }
 {
     out.extend_from_slice(&[b'%', hex_digit(b / 16), hex_digit(b % 16)])?;
     Ok(())
@@ -61,8 +60,7 @@ fn plain_len(bytes: &[u8]) -> usize
 // Appends bytes: plain ones as they are, others escaped.
 #[inline(never)]
 fn append_escaped(out: &mut Vec<u8>, bytes: &[u8]) -> Result<(), OutOfMemory>
-    ensures ok { OnOk result (out.new.items ≡ out.old.items ++ escaped bytes.now) }
-    ensures kept { Extends out.old.items out.new.items }
+    ensures { Adds result out.old.items out.new.items (escaped bytes.now) }
 {
     let mut rest = bytes;
     loop {
@@ -87,8 +85,7 @@ fn are_plain(bytes: &[u8]) -> bool
 
 // Appends a name, a key or a text. Most are plain.
 fn append_text(out: &mut Vec<u8>, text: &Text) -> Result<(), OutOfMemory>
-    ensures ok { OnOk result (out.new.items ≡ out.old.items ++ escaped text.now) }
-    ensures kept { Extends out.old.items out.new.items }
+    ensures { Adds result out.old.items out.new.items (escaped text.now) }
 {
     let bytes = text.as_str().as_bytes();
     if are_plain(bytes) {
@@ -102,21 +99,20 @@ fn append_text(out: &mut Vec<u8>, text: &Text) -> Result<(), OutOfMemory>
 // Appends a value: a letter that tells its type, and what it is.
 #[tactic(auto, unfolding(crate::specs::MetricText::value_text))]
 fn append_value(alloc: Global, out: &mut Vec<u8>, value: &Value) -> Result<(), OutOfMemory>
-    ensures ok { OnOk result (out.new.items ≡ out.old.items ++ value_text value.now) }
-    ensures kept { Extends out.old.items out.new.items }
+    ensures { Adds result out.old.items out.new.items (value_text value.now) }
 {
     match value {
         Value::Int(n) => append_signed(out, "i", n),
         Value::Uint(n) => append_unsigned(out, "u", *n),
         Value::Fixed(x) => {
-            append(out, "f")?;
+            append_words(out, "f")?;
             x.append(alloc, out)?;
             Ok(())
         }
-        Value::Bool(true) => append(out, "bt"),
-        Value::Bool(false) => append(out, "bf"),
+        Value::Bool(true) => append_words(out, "bt"),
+        Value::Bool(false) => append_words(out, "bf"),
         Value::Text(text) => {
-            append(out, "s")?;
+            append_words(out, "s")?;
             append_text(out, text)?;
             Ok(())
         }
@@ -126,12 +122,11 @@ fn append_value(alloc: Global, out: &mut Vec<u8>, value: &Value) -> Result<(), O
 // Appends a tag, behind a semicolon.
 #[tactic(auto, unfolding(crate::specs::MetricText::tag_text))]
 fn append_tag(out: &mut Vec<u8>, key: &Text, value: &Text) -> Result<(), OutOfMemory>
-    ensures ok { OnOk result (out.new.items ≡ out.old.items ++ tag_text (key.now, value.now)) }
-    ensures kept { Extends out.old.items out.new.items }
+    ensures { Adds result out.old.items out.new.items (tag_text (key.now, value.now)) }
 {
-    append(out, ";")?;
+    append_words(out, ";")?;
     append_text(out, key)?;
-    append(out, "=")?;
+    append_words(out, "=")?;
     append_text(out, value)?;
     Ok(())
 }
@@ -144,19 +139,17 @@ fn append_field(
     key: &Text,
     value: &Value,
 ) -> Result<(), OutOfMemory>
-    ensures ok { OnOk result (out.new.items ≡ out.old.items ++ field_text (key.now, value.now)) }
-    ensures kept { Extends out.old.items out.new.items }
+    ensures { Adds result out.old.items out.new.items (field_text (key.now, value.now)) }
 {
     append_text(out, key)?;
-    append(out, "=")?;
+    append_words(out, "=")?;
     append_value(alloc, out, value)?;
     Ok(())
 }
 
 // Appends tags, each behind a semicolon.
 fn append_tags(out: &mut Vec<u8>, tags: &[(Text, Text)]) -> Result<(), OutOfMemory>
-    ensures ok { OnOk result (out.new.items ≡ out.old.items ++ flat_map tag_text tags.now) }
-    ensures kept { Extends out.old.items out.new.items }
+    ensures { Adds result out.old.items out.new.items (flat_map tag_text tags.now) }
 {
     for (key, value) in tags {
         append_tag(out, key, value)?;
@@ -170,11 +163,11 @@ fn append_other_fields(
     out: &mut Vec<u8>,
     fields: &[(Text, Value)],
 ) -> Result<(), OutOfMemory>
-    ensures ok { OnOk result (out.new.items ≡ out.old.items ++ flat_map (λ other. codes ";" ++ field_text other) fields.now) }
-    ensures kept { Extends out.old.items out.new.items }
+    ensures { Adds result out.old.items out.new.items
+        (flat_map (λ other. codes ";" ++ field_text other) fields.now) }
 {
     for (key, value) in fields {
-        append(out, ";")?;
+        append_words(out, ";")?;
         append_field(alloc, out, key, value)?;
     }
     Ok(())
@@ -187,8 +180,7 @@ fn append_fields(
     out: &mut Vec<u8>,
     fields: &[(Text, Value)],
 ) -> Result<(), OutOfMemory>
-    ensures ok { OnOk result (out.new.items ≡ out.old.items ++ fields_text fields.now) }
-    ensures kept { Extends out.old.items out.new.items }
+    ensures { Adds result out.old.items out.new.items (fields_text fields.now) }
 {
     if let [(key, value), others @ ..] = fields {
         append_field(alloc, out, key, value)?;
@@ -200,12 +192,11 @@ fn append_fields(
 // Appends a metric: its name with its tags, its fields and its time.
 #[tactic(auto, unfolding(crate::specs::MetricText::metric_text))]
 pub fn append_metric(alloc: Global, out: &mut Vec<u8>, metric: &Metric) -> Result<(), OutOfMemory>
-    ensures ok { OnOk result (out.new.items ≡ out.old.items ++ metric_text metric.now) }
-    ensures kept { Extends out.old.items out.new.items }
+    ensures { Adds result out.old.items out.new.items (metric_text metric.now) }
 {
     append_text(out, metric.name())?;
     append_tags(out, metric.tags())?;
-    append(out, "|")?;
+    append_words(out, "|")?;
     append_fields(alloc, out, metric.fields())?;
     append_signed(out, "|", &metric.time())?;
     Ok(())

@@ -1,12 +1,12 @@
 //! The head of a journal.
 ghost use Rattle.std.specs.Prelude.{◌≡◌, ◌++◌, [], OnOk, OnErr, codes, if◌then◌else◌};
-ghost use Rattle.account.specs.Extends.{Extends};
+ghost use Rattle.text_parts.specs.Adds.{Adds};
 ghost use Rattle.account.specs.AccountText.{numbered};
 ghost use Rattle.journal_text.specs.SetupText.{input_line, letters_text, kind_text, times_text, agg_line, output_line, start_lines, setup_text};
 
-use crate::parts::{append, append_numbers, append_signed, settle};
 use fixed_num::{Moment, OutOfMemory, Seq};
 use std::alloc::Global;
+use text_parts::{append_numbers, append_signed, append_words, settle};
 
 /// What a journal is about.
 #[derive(Drop)]
@@ -61,8 +61,7 @@ pub enum AggWord {
 // Appends the line of an input.
 #[tactic(auto, unfolding(crate::specs::SetupText::input_line))]
 fn append_input(out: &mut Vec<u8>, input: u64, most: Option<u32>) -> Result<(), OutOfMemory>
-    ensures ok { OnOk result (out.new.items ≡ out.old.items ++ input_line input most) }
-    ensures kept { Extends out.old.items out.new.items }
+    ensures { Adds result out.old.items out.new.items (input_line input most) }
 {
     match most {
         None => {
@@ -82,10 +81,13 @@ fn append_input(out: &mut Vec<u8>, input: u64, most: Option<u32>) -> Result<(), 
 
 // Appends a letter where its statistic is set.
 fn append_letter(out: &mut Vec<u8>, letter: &str, wanted: bool) -> Result<(), OutOfMemory>
-    ensures ok { OnOk result (out.new.items ≡ out.old.items ++ (if wanted then letter.now else [])) }
-    ensures kept { Extends out.old.items out.new.items }
+    ensures { Adds result out.old.items out.new.items (if wanted then letter.now else []) }
 {
-    if wanted { append(out, letter) } else { Ok(()) }
+    if wanted {
+        append_words(out, letter)
+    } else {
+        Ok(())
+    }
 }
 
 // Appends the letters of the statistics that are set.
@@ -97,8 +99,7 @@ fn append_letters(
     min: bool,
     max: bool,
 ) -> Result<(), OutOfMemory>
-    ensures ok { OnOk result (out.new.items ≡ out.old.items ++ letters_text sum count min max) }
-    ensures kept { Extends out.old.items out.new.items }
+    ensures { Adds result out.old.items out.new.items (letters_text sum count min max) }
 {
     append_letter(out, "s", sum)?;
     append_letter(out, "c", count)?;
@@ -110,22 +111,21 @@ fn append_letters(
 // Appends the kind of an aggregator.
 #[tactic(auto, unfolding(crate::specs::SetupText::kind_text))]
 fn append_kind(out: &mut Vec<u8>, kind: &AggWord) -> Result<(), OutOfMemory>
-    ensures ok { OnOk result (out.new.items ≡ out.old.items ++ kind_text kind.now) }
-    ensures kept { Extends out.old.items out.new.items }
+    ensures { Adds result out.old.items out.new.items (kind_text kind.now) }
 {
     match kind {
-        AggWord::MinMax => append(out, "minmax"),
+        AggWord::MinMax => append_words(out, "minmax"),
         AggWord::Basic {
             sum,
             count,
             min,
             max,
         } => {
-            append(out, "basicstats:")?;
+            append_words(out, "basicstats:")?;
             append_letters(out, *sum, *count, *min, *max)?;
             Ok(())
         }
-        AggWord::Merge => append(out, "merge"),
+        AggWord::Merge => append_words(out, "merge"),
         AggWord::Final(timeout) => append_signed(out, "final:", timeout),
     }
 }
@@ -140,8 +140,7 @@ fn ending(dropping: bool) -> &'static str
 // Appends an aggregator's period, delay and grace, each behind a space.
 #[tactic(auto, unfolding(crate::specs::SetupText::times_text))]
 fn append_times(out: &mut Vec<u8>, line: &AggLine) -> Result<(), OutOfMemory>
-    ensures ok { OnOk result (out.new.items ≡ out.old.items ++ times_text line.now) }
-    ensures kept { Extends out.old.items out.new.items }
+    ensures { Adds result out.old.items out.new.items (times_text line.now) }
 {
     append_signed(out, " ", &line.period)?;
     append_signed(out, " ", &line.delay)?;
@@ -152,21 +151,19 @@ fn append_times(out: &mut Vec<u8>, line: &AggLine) -> Result<(), OutOfMemory>
 // Appends the line of an aggregator.
 #[tactic(auto, unfolding(crate::specs::SetupText::agg_line))]
 fn append_agg(out: &mut Vec<u8>, agg: u64, line: &AggLine) -> Result<(), OutOfMemory>
-    ensures ok { OnOk result (out.new.items ≡ out.old.items ++ agg_line agg line.now) }
-    ensures kept { Extends out.old.items out.new.items }
+    ensures { Adds result out.old.items out.new.items (agg_line agg line.now) }
 {
     append_numbers(out, &[("aggregator ", agg)], " ")?;
     append_kind(out, &line.kind)?;
     append_times(out, line)?;
-    append(out, ending(line.dropping))?;
+    append_words(out, ending(line.dropping))?;
     Ok(())
 }
 
 // Appends the line of an output.
 #[tactic(auto, unfolding(crate::specs::SetupText::output_line))]
 fn append_output(out: &mut Vec<u8>, output: u64, batch: u32, limit: u32) -> Result<(), OutOfMemory>
-    ensures ok { OnOk result (out.new.items ≡ out.old.items ++ output_line output (batch, limit)) }
-    ensures kept { Extends out.old.items out.new.items }
+    ensures { Adds result out.old.items out.new.items (output_line output (batch, limit)) }
 {
     append_numbers(
         out,
@@ -182,8 +179,7 @@ fn append_output(out: &mut Vec<u8>, output: u64, batch: u32, limit: u32) -> Resu
 
 // Appends the lines of inputs, counted from 0.
 fn append_inputs(out: &mut Vec<u8>, inputs: &[Option<u32>]) -> Result<(), OutOfMemory>
-    ensures ok { OnOk result (out.new.items ≡ out.old.items ++ numbered input_line 0 inputs.now) }
-    ensures kept { Extends out.old.items out.new.items }
+    ensures { Adds result out.old.items out.new.items (numbered input_line 0 inputs.now) }
 {
     for (i, most) in inputs.iter().enumerate() {
         append_input(out, i as u64, *most)?;
@@ -193,8 +189,7 @@ fn append_inputs(out: &mut Vec<u8>, inputs: &[Option<u32>]) -> Result<(), OutOfM
 
 // Appends the lines of aggregators, counted from 0.
 fn append_aggs(out: &mut Vec<u8>, aggs: &[AggLine]) -> Result<(), OutOfMemory>
-    ensures ok { OnOk result (out.new.items ≡ out.old.items ++ numbered agg_line 0 aggs.now) }
-    ensures kept { Extends out.old.items out.new.items }
+    ensures { Adds result out.old.items out.new.items (numbered agg_line 0 aggs.now) }
 {
     for (i, line) in aggs.iter().enumerate() {
         append_agg(out, i as u64, line)?;
@@ -204,8 +199,7 @@ fn append_aggs(out: &mut Vec<u8>, aggs: &[AggLine]) -> Result<(), OutOfMemory>
 
 // Appends the lines of outputs, counted from 0.
 fn append_outputs(out: &mut Vec<u8>, outputs: &[(u32, u32)]) -> Result<(), OutOfMemory>
-    ensures ok { OnOk result (out.new.items ≡ out.old.items ++ numbered output_line 0 outputs.now) }
-    ensures kept { Extends out.old.items out.new.items }
+    ensures { Adds result out.old.items out.new.items (numbered output_line 0 outputs.now) }
 {
     for (i, sizes) in outputs.iter().enumerate() {
         append_output(out, i as u64, sizes.0, sizes.1)?;
@@ -216,19 +210,17 @@ fn append_outputs(out: &mut Vec<u8>, outputs: &[(u32, u32)]) -> Result<(), OutOf
 // Appends the version, and the moment of the start.
 #[tactic(auto, unfolding(crate::specs::SetupText::start_lines))]
 fn append_start(out: &mut Vec<u8>, start: &Moment) -> Result<(), OutOfMemory>
-    ensures ok { OnOk result (out.new.items ≡ out.old.items ++ start_lines start.now) }
-    ensures kept { Extends out.old.items out.new.items }
+    ensures { Adds result out.old.items out.new.items (start_lines start.now) }
 {
     append_signed(out, "journal 1\nstart ", start)?;
-    append(out, "\n")?;
+    append_words(out, "\n")?;
     Ok(())
 }
 
 // Appends the head of a journal, or a front of it.
 #[tactic(auto, unfolding(crate::specs::SetupText::setup_text))]
 fn append_setup(s: &JournalSetup, out: &mut Vec<u8>) -> Result<(), OutOfMemory>
-    ensures ok { OnOk result (out.new.items ≡ out.old.items ++ setup_text s.now) }
-    ensures kept { Extends out.old.items out.new.items }
+    ensures { Adds result out.old.items out.new.items (setup_text s.now) }
 {
     append_start(out, &s.start)?;
     append_inputs(out, s.inputs.as_slice())?;

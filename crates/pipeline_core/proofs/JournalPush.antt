@@ -7,16 +7,12 @@ use Rattle.std.specs.declared.option.Option.TheVariants.{None}
 use Rattle.metric.specs.declared.metric.Content.{Content}
 use Rattle.account.specs.Setup.{Setup}
 use Rattle.account.specs.Items.{named_by, items, takes_by, taken, raw_items, held_after, in_hand_from, in_hand}
+use Rattle.account.proofs.ItemLemmas.{items-push}
 use Rattle.account.specs.declared.entry.Entry.{Entry}
 use Rattle.account.specs.declared.entry.Entry.TheVariants.{Gather, Ended, Take, Route, Tick, Stop, Begin, Done}
 use Rattle.out_lane.specs.LaneEvents.{LaneEvent}
 use Rattle.pipeline_core.specs.Offers.{offers, offered_by, lane_events, lane_events_by}
 use Rattle.pipeline_core.specs.Legal.{has_stop, is_stop, has_ended, is_ended_of, gathered_count, gathered_by, counted_from, moment_after, Meets, AreLegal, IsLegal}
-
-pub items-push : (es : List Entry) (e : Entry) → items (es ++ e ∷ []) ≡ items es ++ named_by e
-unfolding items
-items-push [] e = append-nil (named_by e)
-items-push (x ∷ es) e = ap (λ (ms : List Content). named_by x ++ ms) (items-push es e) ∙ sym (append_assoc (named_by x) (items es) (named_by e))
 
 pub taken-push : (es : List Entry) (e : Entry) → taken (es ++ e ∷ []) ≡ taken es + takes_by e
 unfolding taken

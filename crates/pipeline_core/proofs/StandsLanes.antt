@@ -21,7 +21,8 @@ use Rattle.out_lane.specs.LaneLaws.{IsLaneOf, Answers, Begins}
 use Rattle.out_lane.proofs.LaneLemmas.{begun_answer, push_meets, begin_meets, accept_meets, fail_meets}
 use Rattle.pipeline_core.specs.Fates.{Fate}
 use Rattle.pipeline_core.specs.Offers.{offers, offered_by, lane_events, lane_events_by, view_at, pushes}
-use Rattle.pipeline_core.specs.Legal.{verdict_of, HasViews}
+use Rattle.account.specs.Views.{HasViews}
+use Rattle.pipeline_core.specs.Legal.{verdict_of}
 use Rattle.pipeline_core.specs.Totals.{totals, output_total}
 use Rattle.pipeline_core.specs.CoreState.{CoreState, IsCore, lane_at, sizes_at}
 use Rattle.pipeline_core.specs.Stands.{Stands, Continues}

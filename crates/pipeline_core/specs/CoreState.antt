@@ -5,7 +5,7 @@ use Rattle.std.specs.declared.option.Option.{Option}
 use Rattle.std.specs.declared.option.Option.TheVariants.{Some, None}
 use Rattle.metric.specs.declared.metric.Content.{Content}
 use Rattle.account.specs.Setup.{Setup}
-use Rattle.account.specs.Numbers.{Numbers, no_numbers, output_numbers, fates}
+use Rattle.account.specs.Numbers.{Numbers, no_numbers, output_numbers, sum_of_fates}
 use Rattle.account.specs.declared.numbers.OutputNumbers.{OutputNumbers}
 use Rattle.account.specs.declared.entry.Entry.{Entry}
 use Rattle.out_lane.specs.Lane.{LaneState, empty_lane, flying}
@@ -94,7 +94,7 @@ pub record IsOutput (size : ℕ × ℕ) (routed : ℕ) (x : OutputNumbers) (lane
   pub fits : lane.batch ≤ lane.limit
   pub waits : length lane.waiting ≤ lane.limit
   pub buffered : x.buffered ≡ length (flying lane) + length lane.waiting
-  pub all : fates x ≡ routed
+  pub all : sum_of_fates x ≡ routed
   pub pushed : lane.pushed ≤ routed
 
 -- what a core keeps agrees

@@ -1,11 +1,11 @@
 -- What a journal may say, entry by entry.
 use Rattle.std.specs.Prelude.{◌≡◌, ◌<◌, ◌≤◌, ◌⊎◌, ℕ, ℤ, ◌≤ℤ◌, ◌+◌, ◌^◌, ◌==◌, ◌||◌, Bool, true, false, List, [], ◌∷◌, ◌++◌, length, slice_get}
-use Rattle.std.specs.List.{AllByRecursion}
 use Rattle.std.specs.declared.option.Option.{Option}
 use Rattle.std.specs.declared.option.Option.TheVariants.{Some, None}
 use Rattle.metric.specs.declared.metric.Content.{Content}
 use Rattle.account.specs.Setup.{Setup}
 use Rattle.account.specs.Items.{items, taken, raw_items, in_hand}
+use Rattle.account.specs.Views.{HasViews}
 use Rattle.account.specs.declared.entry.Entry.{Entry}
 use Rattle.account.specs.declared.entry.Entry.TheVariants.{Gather, Ended, Take, Route, Tick, Stop, Begin, Done}
 use Rattle.account.specs.declared.entry.Report.{Report}
@@ -54,11 +54,6 @@ counted_from counted (e ∷ es) = counted_from (moment_after counted e) es
 abbrev pub verdict_of : Option Content → Verdict
 verdict_of None = verdicts.Removed
 verdict_of (Some whole) = verdicts.Passes
-
--- all views are none where the whole is none
-abbrev pub HasViews : Option Content → List (Option Content) → Type 0
-HasViews None outs = AllByRecursion (λ (view : Option Content). view ≡ None) outs
-HasViews (Some whole) outs = Unit {0}
 
 -- the next pieces of an input that isn't tracked: it hasn't ended, and nothing is stopped; all gathered metrics are fewer than 2^32, and no item is raw or the raw ones with these are at most 10,000
 pub record MeetsGather (setup : Setup) (before : List Entry) (input : ℕ) (metrics : List Content) (group : Option ℕ) (reports : List Report) : Type 0 where

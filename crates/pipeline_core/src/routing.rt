@@ -2,7 +2,8 @@
 ghost use Rattle.std.specs.Prelude.{◌≡◌, ℕ, ◌<◌, ◌≤◌, ◌+◌, ◌^◌, [], true, false, length, slice_set, IfOk, OnOk, OnErr};
 ghost use Rattle.account.specs.Numbers.{with_output, output_numbers};
 ghost use Rattle.pipeline_core.specs.CoreState.{lane_at};
-ghost use Rattle.pipeline_core.specs.Legal.{HasViews, verdict_of};
+ghost use Rattle.account.specs.Views.{HasViews};
+ghost use Rattle.pipeline_core.specs.Legal.{verdict_of};
 ghost use Rattle.pipeline_core.specs.Stands.{Continues};
 ghost use Rattle.pipeline_core.specs.Steps.{route_entry, after_route, lane_with, numbers_with, lanes_with, outputs_with, lanes_routed, numbers_routed, HasFew};
 

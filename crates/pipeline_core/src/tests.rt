@@ -1,7 +1,7 @@
 //! A run with two inputs and two outputs.
 ghost use Rattle.std.specs.Prelude.{◌≡◌, ◌≤◌, length, IfOk, true, false};
 ghost use Rattle.std.specs.List.{All};
-ghost use Rattle.pipeline_core.specs.Legal.{HasViews};
+ghost use Rattle.account.specs.Views.{HasViews};
 
 use crate::{Core, CoreSetup, Gathered, InSetup, OutSetup, Routed};
 use account::Entry;
@@ -256,7 +256,7 @@ fn two_inputs_and_two_outputs(rt: HostRuntime) -> Result<(), Fail> {
     }
     assert_eq!(rt; text.as_str(), entries());
     let mut account = Vec::new(rt.alloc());
-    core.account().text(rt.alloc(), &mut account)?;
+    core.account().text(&mut account)?;
     assert_eq!(rt; account.as_slice(), numbers());
     Ok(())
 }

@@ -1,5 +1,5 @@
 use Rattle.std.proofs.Common.{◌≡◌, ◌++◌, length}
-use Rattle.account.specs.Extends.{Extends}
+use Rattle.text_parts.specs.Adds.{Extends}
 use Rattle.journal_text.specs.MetricText.{escaped}
 use Rattle.journal_text.proofs.metrics.append_escaped.Given as goal
 

@@ -3,8 +3,8 @@ use Rattle.journal_text.specs.MetricText.{escaped}
 use Rattle.journal_text.proofs.MetricLemmas.{plain_text}
 use Rattle.journal_text.proofs.metrics.append_text.Goals as goal
 
-pub returns-in_ok-extend_from_slice-clause-ok : goal.returns-in_ok-extend_from_slice-clause-ok
-returns-in_ok-extend_from_slice-clause-ok c =
+pub returns-in_ok-extend_from_slice : goal.returns-in_ok-extend_from_slice
+returns-in_ok-extend_from_slice c =
     let plain : escaped c.as_bytes-bytes.result.now ≡ c.as_bytes-bytes.result.now = plain_text _ (sym c.are_plain.ensures ∙ c.if-are_plain.true) in
     let same : c.as_bytes-bytes.result.now ≡ c.args.text.now = search rules in
     c.in_ok-extend_from_slice.ensures.items ∙ ap (λ t. c.args.out.now.items ++ t) (sym plain ∙ ap escaped same)

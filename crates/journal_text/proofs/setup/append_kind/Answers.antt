@@ -1,7 +1,8 @@
 use Rattle.journal_text.specs.SetupText.{kind_text}
-use Rattle.journal_text.proofs.ExtendsLemmas.{joins}
+use Rattle.text_parts.proofs.Adding.{after}
 use Rattle.journal_text.proofs.setup.append_kind.Goals as goal
 
-pub returns-in_ok-append_letters-in-Basic-clause-ok : goal.returns-in_ok-append_letters-in-Basic-clause-ok
+pub returns-in_ok-append_letters-in-Basic : goal.returns-in_ok-append_letters-in-Basic
 unfolding kind_text
-returns-in_ok-append_letters-in-Basic-clause-ok c = rw c.in-Basic.is (joins _ _ _ _ _ c.in_ok-append-in-Basic.ensures.ok c.in_ok-append_letters-in-Basic.ensures.ok)
+returns-in_ok-append_letters-in-Basic c =
+    rw c.in-Basic.is (after c.args.out.now.items c.append_words-in-Basic.new.out.items _ _ _ c.in_ok-append_words-in-Basic.ensures c.in_ok-append_letters-in-Basic.ensures)

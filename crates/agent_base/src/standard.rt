@@ -73,6 +73,13 @@ impl<W: Write + Drop> StdSink<W> {
     {
         StdSink { writer, faults }
     }
+
+    /// The writer, and how many puts have failed.
+    pub fn into_parts(self) -> (W, u64)
+        ensures { result.1 ≡ ⟦<StdSink<W> as Sink>⟧.faults self }
+    {
+        (self.writer, self.faults)
+    }
 }
 
 // Writes all bytes and flushes them; whether both went well.

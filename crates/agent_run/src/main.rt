@@ -5,6 +5,7 @@ mod batch;
 mod command;
 mod gathering;
 mod journal;
+mod losses;
 mod opening;
 mod pipe_run;
 mod reading;
@@ -15,8 +16,10 @@ mod sending;
 mod status;
 mod top;
 
-use real::RealWorld;
+use losses::losses;
+use real::{RealWorld, StandardStreams, open_standard};
 use status::Status;
+use std::alloc::Global;
 use std::env;
 use std::io::ErrorKind;
 use std::process::ExitCode;
@@ -27,29 +30,43 @@ fn advice(status: Status) -> &'static str {
     match status {
         Status::Done => "",
         Status::Usage => {
-            "hogzent: usage: hogzent pipe IN OUT BATCH LIMIT, with 1 <= BATCH <= LIMIT <= 10000, and OUT not agent.journal"
+            "hogzent: usage: hogzent pipe IN OUT BATCH LIMIT, with 1 <= BATCH <= LIMIT <= 10000, \
+            and OUT not agent.journal"
         }
         Status::Config => "hogzent: the configuration was refused",
-        Status::ReadFault =>
-            "hogzent: a read of the input failed; what was read before was sent on",
+        Status::ReadFault => {
+            "hogzent: a read of the input failed; what was read before was sent, buffered or dropped, \
+            as the account says"
+        }
         Status::OpenFault => {
-            "hogzent: a place could not be opened; no line was read or written (an output may not be the file that is read, or another output)"
+            "hogzent: a place could not be opened; no line was read or written \
+            (an output may not be a file that is open already)"
         }
         Status::Left => {
-            "hogzent: the last three puts to the output failed; the account says how many metrics are still buffered"
+            "hogzent: the last three puts to the output failed; \
+            the account says how many metrics are still buffered"
         }
         Status::ReportFault => "hogzent: the journal or the report could not be written whole",
-        Status::Limit =>
-            "hogzent: a limit of the run was reached, and the input was not read to its end",
+        Status::Limit => {
+            "hogzent: a limit of the run was reached, and the input was not read to its end"
+        }
         Status::OutOfMemory => "hogzent: out of memory; nothing is promised of what was written",
     }
 }
 
-/// Runs the words, and tells standard error of an end that isn't Done. A word that isn't UTF-8 makes them no command.
-fn main(rt: HostRuntime) -> ExitCode {
+/// What standard error is told of an end that is Done, given the account: what was refused or dropped.
+fn losses_in(alloc: Global, account: &[u8]) -> Option<String> {
+    let text = str::from_utf8(account).ok()?;
+    losses(alloc, text).ok()?
+}
+
+/// Runs the words in the real world, given what stands behind the standard streams, and tells standard
+/// error of an end that isn't Done, or of what was refused or dropped. A word that isn't UTF-8 makes the
+/// words no command.
+fn run_words(rt: &HostRuntime, standard: StandardStreams) -> Status {
     let alloc = rt.alloc();
-    let mut world = RealWorld::new(&rt, alloc, rt.stdin(), rt.stdout());
-    let status = match env::args(&rt) {
+    let mut world = RealWorld::new(rt, alloc, rt.stdin(), rt.stdout(), standard);
+    let status = match env::args(rt) {
         Ok(words) => match words.skip(1).collect::<Vec<String>>(alloc) {
             Ok(words) => agent(alloc, words.as_slice(), &mut world),
             Err(_) => Status::OutOfMemory,
@@ -59,9 +76,30 @@ fn main(rt: HostRuntime) -> ExitCode {
             _ => agent(alloc, &[], &mut world),
         },
     };
+    if world.not_emptied() != 0 {
+        let _ = rt.eprintln(
+            "hogzent: an output file that nothing was written to could not be made empty",
+        );
+    }
     if status != Status::Done {
         let _ = rt.eprintln(advice(status));
+    } else if let Some(text) = losses_in(alloc, world.reported()) {
+        let _ = rt.eprintln(text);
     }
+    status
+}
+
+/// Opens the standard streams that were closed, before anything else is opened, and runs the words.
+fn main(rt: HostRuntime) -> ExitCode {
+    let status = match open_standard(&rt) {
+        Ok(standard) => run_words(&rt, standard),
+        Err(_) => {
+            let _ = rt.eprintln(
+                "hogzent: /dev/null or /proc/self/fd could not be opened; no place was opened",
+            );
+            Status::OpenFault
+        }
+    };
     ExitCode::from(status.code())
 }
 
@@ -69,6 +107,8 @@ fn main(rt: HostRuntime) -> ExitCode {
 mod fault_tests;
 #[cfg(test)]
 mod input_tests;
+#[cfg(test)]
+mod losses_tests;
 #[cfg(test)]
 mod report_tests;
 #[cfg(test)]

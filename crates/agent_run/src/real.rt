@@ -1,204 +1,140 @@
 //! The real world: files, the standard streams, and the clock.
-ghost use Rattle.std.specs.Prelude.{◌≡◌, None, Some, false};
+ghost use Rattle.std.specs.Prelude.{◌≡◌, None};
 
-use agent_base::{Clock, MemWorld, OpenFault, PutFault, Sink, Source, StdSink, StdSource, World};
-use fixed_num::{Moment, OutOfMemory};
+mod clock;
+mod files;
+mod streams;
+
+use agent_base::{MemWorld, OpenFault, PutFault, Sink, StdSink, StdSource, World};
+pub use clock::RealClock;
+pub use files::{StandardStreams, open_standard};
+use files::{FileIdentity, OpenFiles};
 use std::alloc::Global;
-use std::fs::{self, File, Metadata};
-use std::io::{Read, Stdin, Stdout, Write};
-use std::os::unix::fs::MetadataExt;
+use std::fs::{File, OpenOptions};
+use std::io::{Stdin, Stdout};
 use std::rt::Files;
-use std::time::{Duration, SystemTime};
-use std::{io, thread};
+use streams::{Reader, Writer};
 
-/// What is read: standard input or a file.
+/// What was opened at a place, and which regular file it is.
 #[derive(Drop)]
-pub enum Reader {
-    Standard(Stdin),
-    File(File),
-}
-
-impl Read for Reader {
-    fn read(&mut self, buf: &mut [u8]) -> io::Result<usize> {
-        match self {
-            Reader::Standard(stdin) => stdin.read(buf),
-            Reader::File(file) => file.read(buf),
-        }
-    }
-}
-
-/// What is written: standard output or a file.
-#[derive(Drop)]
-pub enum Writer {
-    Standard(Stdout),
-    File(File),
-}
-
-impl Write for Writer {
-    fn write(&mut self, buf: &[u8]) -> io::Result<usize> {
-        match self {
-            Writer::Standard(stdout) => stdout.write(buf),
-            Writer::File(file) => file.write(buf),
-        }
-    }
-
-    fn flush(&mut self) -> io::Result<()> {
-        match self {
-            Writer::Standard(stdout) => stdout.flush(),
-            Writer::File(file) => file.flush(),
-        }
-    }
-}
-
-/// The clock of the system. Where it can't be read it gives again the last moment that it gave, 0
-/// at first; a moment outside the type is given as the nearest one of the type.
-#[derive(Drop)]
-pub struct RealClock<'r, R> {
-    rt: &'r R,
-    pause: i64,
-    last: Moment,
-    waits: u64,
-}
-
-/// Nanoseconds since 1970, where the clock can be read.
-fn moment_of<R: std::rt::Clock>(rt: &R) -> Option<Moment> {
-    let now = SystemTime::now(rt).ok()?;
-    match now.duration_since(SystemTime::UNIX_EPOCH) {
-        Ok(since) => Some(i64::try_from(since.as_nanos()).unwrap_or(i64::MAX)),
-        Err(_) => None,
-    }
-}
-
-impl<R: std::rt::Clock> Clock for RealClock<'_, R> {
-    ghost moments = { λ _. None };
-
-    ghost place = { λ _. 0 };
-
-    ghost stopped = { λ _. false };
-
-    ghost waits = { λ c. c.waits };
-
-    fn now(&mut self) -> Moment {
-        if let Some(moment) = moment_of(self.rt) {
-            self.last = moment;
-        }
-        self.last
-    }
-
-    fn wait(&mut self) -> Option<Moment> {
-        if let Ok(pause) = u64::try_from(self.pause) {
-            thread::sleep(self.rt, Duration::from_nanos(pause));
-        }
-        self.waits = self.waits.saturating_add(1);
-        Some(self.now())
-    }
-}
-
-/// Which regular file of the system a place is, whatever name it has: its device, and its number there.
-#[derive(Clone, Copy, Debug, PartialEq, Eq)]
-struct FileIdentity {
-    device: u64,
-    number: u64,
-}
-
-impl FileIdentity {
-    /// None of a device, a pipe or a folder.
-    fn of(found: &Metadata) -> Option<FileIdentity> {
-        if !found.is_file() {
-            return None;
-        }
-        Some(FileIdentity {
-            device: found.dev(),
-            number: found.ino(),
-        })
-    }
-
-    /// None where nothing is at the path.
-    fn at<R: Files>(rt: &R, path: &str) -> Option<FileIdentity> {
-        match fs::metadata(rt, path) {
-            Ok(found) => FileIdentity::of(&found),
-            Err(_) => None,
-        }
-    }
-}
-
-/// Notes the file at a path as opened.
-fn note<R: Files>(rt: &R, opened: &mut Vec<FileIdentity>, path: &str) -> Result<(), OutOfMemory> {
-    if let Some(identity) = FileIdentity::at(rt, path) {
-        opened.push(identity)?;
-    }
-    Ok(())
-}
-
-/// Whether the file at a path was opened before.
-fn is_opened<R: Files>(rt: &R, opened: &[FileIdentity], path: &str) -> bool {
-    match FileIdentity::at(rt, path) {
-        Some(identity) => opened.contains(&identity),
-        None => false,
-    }
-}
-
-/// The path of an input place; of standard input that at which the system shows it.
-fn input_path(place: &str) -> &str {
-    if place == "stdin" {
-        "/dev/stdin"
-    } else {
-        place
-    }
-}
-
-/// The path of an output place; of standard output that at which the system shows it.
-fn output_path(place: &str) -> &str {
-    if place == "stdout" {
-        "/dev/stdout"
-    } else {
-        place
-    }
+struct Opened<T> {
+    stream: T,
+    file: Option<FileIdentity>,
 }
 
 /// What is read at a place, where it can be opened.
-fn reader_at<R: Files<File = File>>(rt: &R, stdin: Stdin, place: &str) -> Option<Reader> {
+fn reader_at<R: Files<File = File>>(
+    rt: &R,
+    stdin: Stdin,
+    files: &OpenFiles,
+    place: &str,
+) -> Option<Opened<Reader>> {
     if place == "stdin" {
-        return Some(Reader::Standard(stdin));
+        let input = files.standard.input;
+        if input.was_closed {
+            return None;
+        }
+        return Some(Opened {
+            stream: Reader::Standard(stdin),
+            file: input.file,
+        });
     }
-    match File::open(rt, place) {
-        Ok(file) => Some(Reader::File(file)),
-        Err(_) => None,
-    }
+    let opened = File::open(rt, place).ok()?;
+    let file = FileIdentity::of(&opened.metadata().ok()?);
+    Some(Opened {
+        stream: Reader::File(opened),
+        file,
+    })
 }
 
-/// What is written at a place, where it can be opened.
-fn writer_at<R: Files<File = File>>(rt: &R, stdout: Stdout, place: &str) -> Option<Writer> {
+/// What is written at a place, where it can be opened, and is no regular file that is open. No byte of a
+/// file that is there changes.
+fn writer_at<R: Files<File = File>>(
+    rt: &R,
+    stdout: Stdout,
+    files: &OpenFiles,
+    place: &str,
+) -> Option<Opened<Writer>> {
     if place == "stdout" {
-        return Some(Writer::Standard(stdout));
+        let output = files.standard.output;
+        if output.was_closed || files.is_place(output.file) {
+            return None;
+        }
+        return Some(Opened {
+            stream: Writer::standard(stdout, output.file.is_some()),
+            file: output.file,
+        });
     }
-    match File::create(rt, place) {
-        Ok(file) => Some(Writer::File(file)),
-        Err(_) => None,
+    let opened = OpenOptions::new()
+        .write(true)
+        .create(true)
+        .open(rt, place)
+        .ok()?;
+    let file = FileIdentity::of(&opened.metadata().ok()?);
+    if files.is_open(file) {
+        return None;
+    }
+    Some(Opened {
+        stream: Writer::file(opened, file.is_some()),
+        file,
+    })
+}
+
+/// Where the report goes: to standard output, or nowhere if that was closed as the run began.
+fn report_writer(stdout: Stdout, standard: StandardStreams) -> Writer {
+    if standard.output.was_closed {
+        Writer::nowhere()
+    } else {
+        Writer::standard(stdout, standard.output.file.is_some())
     }
 }
 
-/// The real world. The place `stdin` is standard input and `stdout` standard output; every other
-/// place is a file, and an output file is made new as it is opened. The report goes to standard
-/// output. A part that was given back is handed out again where its place is opened once more.
+/// A part whose file is made empty, if it wasn't yet; whether that failed.
+fn emptied(part: StdSink<Writer>) -> (StdSink<Writer>, bool)
+    ensures { ⟦<StdSink<Writer> as Sink>⟧.faults result.0 ≡ ⟦<StdSink<Writer> as Sink>⟧.faults part }
+{
+    let (mut writer, faults) = part.into_parts();
+    let has_failed = writer.make_empty().is_err();
+    (StdSink::with_faults(writer, faults), has_failed)
+}
+
+/// The real world. The place `stdin` is standard input and `stdout` standard output; every other place is a
+/// file. The report goes to standard output. A part that was given back is handed out again where its place
+/// is opened once more.
 ///
-/// An output place that is a regular file which was opened before, at whatever place, isn't opened: making it new would
-/// lose what is read there, or was written. So it is with standard output where it goes to such a file.
+/// An output place that is a regular file which is open already isn't opened, whatever name it has: that of
+/// a place, or one behind a standard stream. Making it empty would lose what is read there, or was written.
+/// So it is with the place `stdout` where standard output goes to the file of a place. A standard stream
+/// that was closed as the run began is no place.
+///
+/// The file of an output place is made empty at the first put, or as its part is given back; but where the
+/// run never began, since a place wasn't opened, it keeps what it has.
 #[derive(Drop)]
 pub struct RealWorld<'r, R> {
     rt: &'r R,
     stdin: Stdin,
     stdout: Stdout,
-    opened: Vec<FileIdentity>,
+    files: OpenFiles,
+    /// A clock was asked for, which a run does once all its places are open, and a start that is refused
+    /// never does.
+    has_begun: bool,
+    /// How many files could not be made empty as their parts were given back.
+    not_emptied: u64,
     parts: MemWorld<StdSource<Reader>, StdSink<Writer>>,
-    report: StdSink<Stdout>,
+    report: StdSink<Writer>,
 }
 
 impl<'r, R: Files<File = File> + std::rt::Clock + Sync> RealWorld<'r, R> {
     ghost use Rattle.agent_base.specs.Places.{AreHome};
 
-    /// The world in which nothing is opened yet.
-    pub fn new(rt: &'r R, alloc: Global, stdin: Stdin, stdout: Stdout) -> RealWorld<'r, R>
+    /// The world in which nothing is opened yet but the standard streams.
+    pub fn new(
+        rt: &'r R,
+        alloc: Global,
+        stdin: Stdin,
+        stdout: Stdout,
+        standard: StandardStreams,
+    ) -> RealWorld<'r, R>
         ensures ins { AreHome (⟦<RealWorld<'r, R> as World>⟧.in_at result) }
         ensures outs { AreHome (⟦<RealWorld<'r, R> as World>⟧.out_at result) }
     {
@@ -206,10 +142,22 @@ impl<'r, R: Files<File = File> + std::rt::Clock + Sync> RealWorld<'r, R> {
             rt,
             stdin,
             stdout,
-            opened: Vec::new(alloc),
+            files: OpenFiles::new(alloc, standard),
+            has_begun: false,
+            not_emptied: 0,
             parts: MemWorld::new(alloc),
-            report: StdSink::new(stdout),
+            report: StdSink::new(report_writer(stdout, standard)),
         }
+    }
+
+    /// What was reported, as far as there was memory to keep it.
+    pub fn reported(&self) -> &[u8] {
+        self.parts.reported()
+    }
+
+    /// How many output files that nothing was put to could not be made empty.
+    pub fn not_emptied(&self) -> u64 {
+        self.not_emptied
     }
 }
 
@@ -220,19 +168,23 @@ impl<'r, R: Files<File = File> + std::rt::Clock + Sync> World for RealWorld<'r, 
 
     type Clk = RealClock<'r, R>;
 
-    ghost in_at = { λ w place. ⟦<MemWorld<StdSource<Reader>, StdSink<Writer>> as World>⟧.in_at w.parts place };
+    ghost in_at = { λ w place.
+        ⟦<MemWorld<StdSource<Reader>, StdSink<Writer>> as World>⟧.in_at w.parts place };
 
-    ghost out_at = { λ w place. ⟦<MemWorld<StdSource<Reader>, StdSink<Writer>> as World>⟧.out_at w.parts place };
+    ghost out_at = { λ w place.
+        ⟦<MemWorld<StdSource<Reader>, StdSink<Writer>> as World>⟧.out_at w.parts place };
 
-    ghost rest = { λ w. record { reported = None; report_faults = ⟦<StdSink<Stdout> as Sink>⟧.faults w.report } };
+    ghost rest = { λ w.
+        record { reported = None; report_faults = ⟦<StdSink<Writer> as Sink>⟧.faults w.report } };
 
     ghost moments = { λ w who. None };
 
     fn open_in(&mut self, place: &str) -> Result<StdSource<Reader>, OpenFault> {
         if !self.parts.has_in(place) {
-            if let Some(reader) = reader_at(self.rt, self.stdin, place) {
-                let noted = note(self.rt, &mut self.opened, input_path(place));
-                if noted.is_err() || self.parts.add_in(place, StdSource::new(reader)).is_err() {
+            if let Some(opened) = reader_at(self.rt, self.stdin, &self.files, place) {
+                let noted = self.files.note(opened.file);
+                let source = StdSource::new(opened.stream);
+                if noted.is_err() || self.parts.add_in(place, source).is_err() {
                     return Err(OpenFault::OutOfMemory);
                 }
             }
@@ -241,10 +193,11 @@ impl<'r, R: Files<File = File> + std::rt::Clock + Sync> World for RealWorld<'r, 
     }
 
     fn open_out(&mut self, place: &str) -> Result<StdSink<Writer>, OpenFault> {
-        if !self.parts.has_out(place) && !is_opened(self.rt, &self.opened, output_path(place)) {
-            if let Some(writer) = writer_at(self.rt, self.stdout, place) {
-                let noted = note(self.rt, &mut self.opened, output_path(place));
-                if noted.is_err() || self.parts.add_out(place, StdSink::new(writer)).is_err() {
+        if !self.parts.has_out(place) {
+            if let Some(opened) = writer_at(self.rt, self.stdout, &self.files, place) {
+                let noted = self.files.note(opened.file);
+                let sink = StdSink::new(opened.stream);
+                if noted.is_err() || self.parts.add_out(place, sink).is_err() {
                     return Err(OpenFault::OutOfMemory);
                 }
             }
@@ -257,19 +210,26 @@ impl<'r, R: Files<File = File> + std::rt::Clock + Sync> World for RealWorld<'r, 
     }
 
     fn give_out(&mut self, place: &str, part: StdSink<Writer>) {
+        if !self.has_begun {
+            self.parts.give_out(place, part);
+            return;
+        }
+        let (part, has_failed) = emptied(part);
+        if has_failed {
+            self.not_emptied = self.not_emptied.saturating_add(1);
+        }
         self.parts.give_out(place, part);
     }
 
     fn clock(&mut self, _who: u32, pause: i64) -> RealClock<'r, R> {
-        RealClock {
-            rt: self.rt,
-            pause,
-            last: 0,
-            waits: 0,
-        }
+        self.has_begun = true;
+        RealClock::new(self.rt, pause)
     }
 
     fn report(&mut self, bytes: &[u8]) -> Result<(), PutFault> {
-        self.report.put(bytes)
+        self.report.put(bytes)?;
+        // A copy, for what standard error is told.
+        let _ = self.parts.report(bytes);
+        Ok(())
     }
 }

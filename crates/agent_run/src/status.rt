@@ -5,7 +5,8 @@ ghost use Rattle.agent_run.specs.Status.{code_of};
 /// How a run ended.
 #[derive(Clone, Copy, Debug, PartialEq, Eq)]
 pub enum Status {
-    /// All that was read was written or told as refused.
+    /// The input was read to its end, and nothing is buffered: what was read was written, dropped or
+    /// refused, as the account says.
     Done,
     /// The words are no command.
     Usage,

@@ -1,0 +1,648 @@
+"""Runs the program in a temporary folder of files, links and devices, and compares what it left.
+
+A case is a shell line, in which `hogzent` is the program, with the files that lie there before. What is
+expected is written out: all files that lie there afterwards, the status, the report on standard output where
+that is no file, and the line on standard error. In a journal the moments count as 0.
+"""
+
+import array
+import fcntl
+import os
+import re
+import resource
+import signal
+import subprocess
+import sys
+import tempfile
+import termios
+import time
+from dataclasses import dataclass, field
+from functools import partial
+
+SECONDS = 20
+
+LINES = b"cpu,host=a v=1i 5\ncpu v=2.5 6\n"
+OLD = b"what was here before, and is longer than the two lines together\n"
+ACCOUNT = b"""input 0 pieces 2 refused 0 passed 0 filtered 0 gathered 2 ended
+items made 0 removed 0 routed 2
+output 0 filtered 0 late 0 consumed 0 written 2 buffered 0 dropped 0
+"""
+JOURNAL = b"""journal 1
+start 0
+input 0 plain
+output 0 10 100
+gather 0 0 2 0 0 0 2 -
+m cpu;host=a|v=i1|5
+m cpu|v=f2.5|6
+ended 0
+take 0
+route 0 = passes / =
+take 1
+route 1 = passes / =
+begin 0 0 2
+done 0 ok
+stop 0 0
+""" + ACCOUNT + b"end 9\n"
+NOTHING = b"""input 0 pieces 0 refused 0 passed 0 filtered 0 gathered 0 ended
+items made 0 removed 0 routed 0
+output 0 filtered 0 late 0 consumed 0 written 0 buffered 0 dropped 0
+"""
+SET_UP = b"journal 1\nstart 0\ninput 0 plain\noutput 0 10 100\n"
+NOTHING_JOURNAL = SET_UP + b"ended 0\nstop 0 0\n" + NOTHING + b"end 2\n"
+UNREAD = NOTHING.replace(b"ended", b"unread")
+UNREAD_JOURNAL = SET_UP + b"stop 0 0\n" + UNREAD + b"end 1\n"
+
+USAGE = (
+    b"hogzent: usage: hogzent pipe IN OUT BATCH LIMIT, with 1 <= BATCH <= LIMIT <= 10000,"
+    b" and OUT not agent.journal\n"
+)
+READ_FAULT = (
+    b"hogzent: a read of the input failed;"
+    b" what was read before was sent, buffered or dropped, as the account says\n"
+)
+OPEN_FAULT = (
+    b"hogzent: a place could not be opened; no line was read or written"
+    b" (an output may not be a file that is open already)\n"
+)
+LEFT = (
+    b"hogzent: the last three puts to the output failed;"
+    b" the account says how many metrics are still buffered\n"
+)
+REPORT_FAULT = b"hogzent: the journal or the report could not be written whole\n"
+REFUSED = b"input 0: pieces refused: %d (no line protocol, or longer than 65536 bytes)"
+DROPPED = b"output 0: metrics dropped: %d (more waited than the buffer limit)"
+
+
+@dataclass(frozen=True)
+class Link:
+    """A second name of a file: a symbolic link, or a hard one."""
+
+    to: str
+    is_hard: bool = False
+
+
+class Folder:
+    """A folder with nothing in it."""
+
+
+@dataclass
+class Case:
+    """A shell line, what lies in its folder before, and what is expected of it."""
+
+    name: str
+    line: str
+    before: dict = field(default_factory=lambda: {"in": LINES})
+    # What lies there afterwards, beside what is expected to be as before.
+    after: dict = field(default_factory=dict)
+    status: int = 0
+    report: bytes = ACCOUNT
+    told: bytes = b""
+
+
+def refused(name, line, place, before, **others):
+    """A case in which a place isn't opened: each file is as before, but where the report or the line goes."""
+    others = {"report": open_fault(place), "told": OPEN_FAULT, **others}
+    return Case(name, line, before, status=5, **others)
+
+
+def open_fault(place):
+    """The report of a start that is refused."""
+    return b"fault: open %b\n" % place.encode()
+
+
+WHOLE = {"out": LINES, "agent.journal": JOURNAL}
+OLD_OUT = {"in": LINES, "out": OLD}
+OLD_BOTH = {**OLD_OUT, "agent.journal": OLD}
+NEVER_SENT = ACCOUNT.replace(b"written 2 buffered 0", b"written 0 buffered 2")
+ONE_DROPPED = ACCOUNT.replace(b"written 2", b"written 1").replace(b"dropped 0", b"dropped 1")
+TWO_REFUSED = ONE_DROPPED.replace(b"pieces 2 refused 0", b"pieces 4 refused 2")
+FAILED_BATCH = b"begin 0 0 2\ndone 0 failed\n"
+NEVER_SENT_JOURNAL = (
+    JOURNAL.replace(b"begin 0 0 2\ndone 0 ok\nstop 0 0\n", FAILED_BATCH + b"stop 0 0\n" + FAILED_BATCH * 3)
+    .replace(ACCOUNT, NEVER_SENT)
+    .replace(b"end 9\n", b"end 15\n")
+)
+
+RUNS_WELL = [
+    Case("a file is read, and one is made", "hogzent pipe in out 10 100", after=WHOLE),
+    Case("files that were there are made new", "hogzent pipe in out 10 100", OLD_BOTH, WHOLE),
+    Case(
+        "a file that nothing is put to is made empty",
+        "hogzent pipe /dev/null out 10 100",
+        {"out": OLD, "agent.journal": OLD},
+        {"out": b"", "agent.journal": NOTHING_JOURNAL},
+        report=NOTHING,
+    ),
+    Case(
+        "standard input and standard output",
+        "hogzent pipe stdin stdout 10 100 < in",
+        after={"agent.journal": JOURNAL},
+        report=LINES + ACCOUNT,
+    ),
+    Case(
+        "the report is appended",
+        "hogzent pipe in out 10 100 >> log",
+        {"in": LINES, "log": OLD},
+        {**WHOLE, "log": OLD + ACCOUNT},
+        report=b"",
+    ),
+    Case(
+        "lines and report stand between what other programs write",
+        "(echo first; hogzent pipe in stdout 10 100; echo last) > log",
+        after={"agent.journal": JOURNAL, "log": b"first\n" + LINES + ACCOUNT + b"last\n"},
+        report=b"",
+    ),
+    Case(
+        "words that are no command",
+        "hogzent pipe in agent.journal 10 100",
+        {"in": LINES, "agent.journal": OLD},
+        status=2,
+        report=b"usage\n",
+        told=USAGE,
+    ),
+    Case(
+        "a metric is dropped",
+        "hogzent pipe in out 1 1 && rm agent.journal",
+        after={"out": b"cpu v=2.5 6\n"},
+        report=ONE_DROPPED,
+        told=b"hogzent: " + DROPPED % 1 + b"\n",
+    ),
+    Case(
+        "pieces are refused, one since it is too long, and a metric is dropped",
+        "hogzent pipe in out 1 1 && rm agent.journal",
+        {"in": LINES + b"no line protocol\n" + b"x" * 65_537 + b"\n"},
+        {"out": b"cpu v=2.5 6\n"},
+        report=TWO_REFUSED,
+        told=b"hogzent: " + REFUSED % 2 + b"; " + DROPPED % 1 + b"\n",
+    ),
+]
+
+# An output that is an input, or another output, under whatever name.
+REFUSED_BY_PLACES = [
+    refused("the input as the output", "hogzent pipe a a 10 100", "a", {"a": LINES}),
+    refused("the input by another spelling", "hogzent pipe a ./a 10 100", "./a", {"a": LINES}),
+    refused(
+        "the input by a hard link",
+        "hogzent pipe a b 10 100",
+        "b",
+        {"a": LINES, "b": Link("a", is_hard=True)},
+    ),
+    refused("the input by a symbolic link", "hogzent pipe a b 10 100", "b", {"a": LINES, "b": Link("a")}),
+    refused("a symbolic link to the output", "hogzent pipe b a 10 100", "a", {"a": LINES, "b": Link("a")}),
+    refused("the input is standard input", "hogzent pipe stdin a 10 100 < a", "a", {"a": LINES}),
+    refused(
+        "the input as the journal",
+        "hogzent pipe agent.journal out 1 1",
+        "agent.journal",
+        {"agent.journal": LINES, "out": OLD},
+    ),
+    refused(
+        "the input as the journal, and an output that wasn't there",
+        "hogzent pipe agent.journal out 1 1",
+        "agent.journal",
+        {"agent.journal": LINES},
+        after={"out": b""},
+    ),
+    refused(
+        "the input as the journal, by a symbolic link",
+        "hogzent pipe in out 10 100",
+        "agent.journal",
+        {**OLD_OUT, "agent.journal": Link("in")},
+    ),
+    refused(
+        "the output as the journal, by a hard link",
+        "hogzent pipe in out 10 100",
+        "agent.journal",
+        {**OLD_OUT, "agent.journal": Link("out", is_hard=True)},
+    ),
+]
+
+# An output or the journal that stands behind a standard stream; the report goes to standard output.
+REFUSED_BY_STREAMS = [
+    refused("the output is standard input", "hogzent pipe in out 10 100 < out", "out", OLD_OUT),
+    refused(
+        "the output is standard output",
+        "hogzent pipe in out 10 100 > out",
+        "out",
+        OLD_OUT,
+        after={"out": open_fault("out")},
+        report=b"",
+    ),
+    refused(
+        "the output is standard output, which appends",
+        "hogzent pipe in out 10 100 >> out",
+        "out",
+        OLD_OUT,
+        after={"out": OLD + open_fault("out")},
+        report=b"",
+    ),
+    refused(
+        "the output is standard error",
+        "hogzent pipe in out 10 100 2>> out",
+        "out",
+        OLD_OUT,
+        after={"out": OLD + OPEN_FAULT},
+        told=b"",
+    ),
+    refused(
+        "/dev/stdout as the output, where it is a file",
+        "hogzent pipe in /dev/stdout 10 100 > out",
+        "/dev/stdout",
+        {"in": LINES},
+        after={"out": open_fault("/dev/stdout")},
+        report=b"",
+    ),
+    refused(
+        "standard output appends to the input",
+        "hogzent pipe a stdout 10 100 >> a",
+        "stdout",
+        {"a": LINES},
+        after={"a": LINES + open_fault("stdout")},
+        report=b"",
+    ),
+    refused(
+        "standard output appends to standard input",
+        "hogzent pipe stdin stdout 10 100 < a >> a",
+        "stdout",
+        {"a": LINES},
+        after={"a": LINES + open_fault("stdout")},
+        report=b"",
+    ),
+    refused(
+        "the journal is standard input",
+        "hogzent pipe in out 10 100 < agent.journal",
+        "agent.journal",
+        OLD_BOTH,
+    ),
+    refused(
+        "the journal is standard output",
+        "hogzent pipe in out 10 100 > agent.journal",
+        "agent.journal",
+        OLD_BOTH,
+        after={"agent.journal": open_fault("agent.journal")},
+        report=b"",
+    ),
+    refused(
+        "the journal is standard error",
+        "hogzent pipe in out 10 100 2>> agent.journal",
+        "agent.journal",
+        OLD_BOTH,
+        after={"agent.journal": OLD + OPEN_FAULT},
+        told=b"",
+    ),
+]
+
+# Devices, pipes and folders.
+NO_FILES = [
+    Case(
+        "/dev/stdout as the output, where it is a pipe",
+        "hogzent pipe in /dev/stdout 10 100 | cat",
+        after={"agent.journal": JOURNAL},
+        report=LINES + ACCOUNT,
+    ),
+    Case(
+        "/dev/null twice",
+        "hogzent pipe /dev/null /dev/null 10 100",
+        {},
+        {"agent.journal": NOTHING_JOURNAL},
+        report=NOTHING,
+    ),
+    Case(
+        "/dev/null as the output and behind each standard stream",
+        "hogzent pipe in /dev/null 10 100 < /dev/null > /dev/null 2> /dev/null",
+        after={"agent.journal": JOURNAL},
+        report=b"",
+    ),
+    Case(
+        "/dev/full as the output",
+        "hogzent pipe in /dev/full 10 100",
+        after={"agent.journal": NEVER_SENT_JOURNAL},
+        status=6,
+        report=NEVER_SENT,
+        told=LEFT,
+    ),
+    Case(
+        "/dev/full as the journal",
+        "hogzent pipe in out 10 100",
+        {"in": LINES, "agent.journal": Link("/dev/full")},
+        {"out": LINES},
+        status=7,
+        told=REPORT_FAULT,
+    ),
+    Case(
+        "/dev/full as standard output",
+        "hogzent pipe in out 10 100 > /dev/full",
+        after=WHOLE,
+        status=7,
+        report=b"",
+        told=REPORT_FAULT,
+    ),
+    Case(
+        "a folder as the input",
+        "hogzent pipe . out 10 100",
+        {"out": OLD},
+        {"out": b"", "agent.journal": UNREAD_JOURNAL},
+        status=4,
+        report=UNREAD,
+        told=READ_FAULT,
+    ),
+    refused("a folder as the output", "hogzent pipe in . 10 100", ".", {"in": LINES}),
+    refused(
+        "a folder as the journal",
+        "hogzent pipe in out 10 100",
+        "agent.journal",
+        {**OLD_OUT, "agent.journal": Folder()},
+    ),
+    refused("an input that isn't there", "hogzent pipe nowhere out 10 100", "nowhere", {"out": OLD}),
+]
+
+CLOSED = [
+    Case("standard input is closed", "hogzent pipe in out 10 100 <&-", after=WHOLE),
+    Case("standard error is closed", "hogzent pipe in out 10 100 2>&-", after=WHOLE),
+    Case(
+        "standard output is closed",
+        "hogzent pipe in out 10 100 >&-",
+        after=WHOLE,
+        status=7,
+        report=b"",
+        told=REPORT_FAULT,
+    ),
+    Case(
+        "all three are closed",
+        "hogzent pipe in out 10 100 <&- >&- 2>&-",
+        after=WHOLE,
+        status=7,
+        report=b"",
+    ),
+    Case("no command, and standard output is closed", "hogzent >&-", status=2, report=b"", told=USAGE),
+    refused("closed standard input as the input", "hogzent pipe stdin out 10 100 <&-", "stdin", {"out": OLD}),
+    refused(
+        "closed standard output as the output",
+        "hogzent pipe in stdout 10 100 >&-",
+        "stdout",
+        {"in": LINES},
+        report=b"",
+    ),
+]
+
+CASES = [*RUNS_WELL, *REFUSED_BY_PLACES, *REFUSED_BY_STREAMS, *NO_FILES, *CLOSED]
+
+
+def lay(folder, files):
+    """Lays files, links and folders into a folder; hard links last."""
+    for name, what in sorted(files.items(), key=lambda it: isinstance(it[1], Link)):
+        path = os.path.join(folder, name)
+        if isinstance(what, Folder):
+            os.mkdir(path)
+        elif isinstance(what, Link) and what.is_hard:
+            os.link(os.path.join(folder, what.to), path)
+        elif isinstance(what, Link):
+            os.symlink(what.to, path)
+        else:
+            with open(path, "wb") as file:
+                file.write(what)
+
+
+def found_in(folder):
+    """What lies in a folder: the bytes of files, a journal's moments as 0, and None for what is no file."""
+    found = {}
+    for name in sorted(os.listdir(folder)):
+        path = os.path.join(folder, name)
+        found[name] = None
+        if os.path.isfile(path):
+            with open(path, "rb") as file:
+                found[name] = re.sub(rb"^(start|stop|gather 0) \d+", rb"\1 0", file.read(), flags=re.M)
+    return found
+
+
+def expected_in(case):
+    """What is to lie in the folder of a case afterwards."""
+    expected = {**case.before, **case.after}
+    for name, what in expected.items():
+        if isinstance(what, Link):
+            expected[name] = expected.get(what.to)
+        elif isinstance(what, Folder):
+            expected[name] = None
+    return expected
+
+
+def differences(*compared):
+    """A text for each of the compared (name, found, expected) that differ."""
+    return [f"{name}: {found!r}, and not {wanted!r}" for name, found, wanted in compared if found != wanted]
+
+
+def run_case(case, folder, program):
+    """What differs from what a case expects."""
+    lay(folder, case.before)
+    words = {**os.environ, "PATH": f"{os.path.dirname(program)}:{os.environ['PATH']}"}
+    ran = subprocess.run(
+        ["bash", "-c", "set -o pipefail; " + case.line],
+        cwd=folder,
+        env=words,
+        stdin=subprocess.DEVNULL,
+        capture_output=True,
+        timeout=SECONDS,
+        check=False,
+    )
+    return differences(
+        ("status", ran.returncode, case.status),
+        ("standard output", ran.stdout, case.report),
+        ("standard error", ran.stderr, case.told),
+        ("files", found_in(folder), expected_in(case)),
+    )
+
+
+def numbered_lines(begin, end):
+    """Lines of 16 bytes each, with so many numbers."""
+    return b"".join(b"m v=%07di %03d\n" % (number, number % 1000) for number in range(begin, end))
+
+
+def account_of(count, written, buffered):
+    """The account of so many lines that were read and kept."""
+    return (
+        b"input 0 pieces %d refused 0 passed 0 filtered 0 gathered %d ended\n" % (count, count)
+        + b"items made 0 removed 0 routed %d\n" % count
+        + b"output 0 filtered 0 late 0 consumed 0 written %d buffered %d dropped 0\n" % (written, buffered)
+    )
+
+
+def full_pipe(folder, program):
+    """Standard output is a pipe that doesn't block, and is full for a while."""
+    lines = numbered_lines(0, 9_000)
+    lay(folder, {"in": lines, "agent.journal": Link("/dev/null")})
+    reading, writing = os.pipe()
+    os.set_blocking(writing, False)
+    started = subprocess.Popen(
+        [program, "pipe", "in", "stdout", "5000", "10000"],
+        cwd=folder,
+        stdin=subprocess.DEVNULL,
+        stdout=writing,
+        stderr=subprocess.PIPE,
+    )
+    os.close(writing)
+    time.sleep(0.5)
+    still_runs = started.poll() is None
+    with os.fdopen(reading, "rb") as file:
+        written = file.read()
+    told = started.communicate(timeout=SECONDS)[1]
+    return differences(
+        ("waited", still_runs, True),
+        ("status", started.returncode, 0),
+        ("standard output", written, shortest(lines) + account_of(9_000, 9_000, 0)),
+        ("standard error", told, b""),
+    )
+
+
+def shortest(lines):
+    """The lines as they are written: numbers without zeros before them."""
+    return re.sub(rb"(=| )0+(?=\d)", rb"\1", lines)
+
+
+def slow_input(folder, program):
+    """Standard input is a pipe that doesn't block, and is empty for a while."""
+    lay(folder, {"agent.journal": Link("/dev/null")})
+    reading, writing = os.pipe()
+    os.set_blocking(reading, False)
+    started = subprocess.Popen(
+        [program, "pipe", "stdin", "out", "10", "100"],
+        cwd=folder,
+        stdin=reading,
+        stdout=subprocess.PIPE,
+        stderr=subprocess.PIPE,
+    )
+    os.close(reading)
+    for part in (LINES[:7], LINES[7:]):
+        time.sleep(0.2)
+        os.write(writing, part)
+    os.close(writing)
+    report, told = started.communicate(timeout=SECONDS)
+    return differences(
+        ("status", started.returncode, 0),
+        ("standard output", report, ACCOUNT),
+        ("standard error", told, b""),
+        ("out", found_in(folder)["out"], LINES),
+    )
+
+
+def limit_files(most):
+    """For a child: no file may grow beyond so many bytes, and a write that would is a fault."""
+
+    def limit():
+        signal.signal(signal.SIGXFSZ, signal.SIG_IGN)
+        resource.setrlimit(resource.RLIMIT_FSIZE, (most, resource.RLIM_INFINITY))
+
+    return limit
+
+
+def wait_for_input(started, pipe):
+    """Waits until a child has read all of a pipe and waits for more."""
+    for _ in range(SECONDS * 50):
+        left = array.array("i", [0])
+        fcntl.ioctl(pipe, termios.FIONREAD, left)
+        with open(f"/proc/{started.pid}/stat", encoding="ascii") as file:
+            is_asleep = file.read().rpartition(") ")[2].startswith("S")
+        if left[0] == 0 and is_asleep:
+            return
+        time.sleep(0.02)
+
+
+def torn_then_whole(folder, program):
+    """A put to a file fails behind a part, and those that follow succeed: no line is torn or comes twice."""
+    first, second = numbered_lines(0, 1_000), numbered_lines(1_000, 1_200)
+    written = shortest(first + second)
+    lay(folder, {"agent.journal": b""})
+    started = subprocess.Popen(
+        [program, "pipe", "stdin", "out", "100", "10000"],
+        cwd=folder,
+        stdin=subprocess.PIPE,
+        stdout=subprocess.PIPE,
+        stderr=subprocess.PIPE,
+        preexec_fn=limit_files(3_005),
+    )
+    os.write(started.stdin.fileno(), first)
+    wait_for_input(started, started.stdin.fileno())
+    between = found_in(folder)["out"]
+    resource.prlimit(started.pid, resource.RLIMIT_FSIZE, (resource.RLIM_INFINITY, resource.RLIM_INFINITY))
+    report, told = started.communicate(second, timeout=SECONDS)
+    found = found_in(folder)
+    return differences(
+        ("status", started.returncode, 0),
+        ("standard output", report, account_of(1_200, 1_200, 0)),
+        ("standard error", told, b""),
+        ("out behind the put that failed", between, shortest(first)[: len(between)]),
+        ("the end of out behind the put that failed", between[-1:], b"\n"),
+        ("failed puts in the journal", found["agent.journal"].count(b"done 0 failed\n"), 1),
+        ("out", found["out"], written),
+    )
+
+
+def torn_at_standard_output(folder, program, place, mode, most, after, status):
+    """Standard output is a file that can't grow beyond so many bytes: of a put that fails nothing stays."""
+    lay(folder, {"in": numbered_lines(0, 300), "log": b"first\n", "agent.journal": Link("/dev/null")})
+    with open(os.path.join(folder, "log"), mode) as log:
+        log.seek(0, os.SEEK_END)
+        ran = subprocess.run(
+            [program, "pipe", "in", place, "100", "10000"],
+            cwd=folder,
+            stdin=subprocess.DEVNULL,
+            stdout=log,
+            stderr=subprocess.PIPE,
+            preexec_fn=limit_files(most),
+            timeout=SECONDS,
+            check=False,
+        )
+    return differences(
+        ("status", ran.returncode, status),
+        ("standard error", ran.stderr, {6: LEFT, 7: REPORT_FAULT}[status]),
+        ("log", found_in(folder)["log"], b"first\n" + after),
+    )
+
+
+def torn_batch(mode):
+    """Two batches fit and the third doesn't; the account does, in its place."""
+    sent = shortest(numbered_lines(0, 200)) + account_of(300, 200, 100)
+
+    def run(folder, program):
+        return torn_at_standard_output(folder, program, "stdout", mode, 3_005, sent, 6)
+
+    return run
+
+
+def torn_report(mode):
+    """The account doesn't fit."""
+
+    def run(folder, program):
+        return torn_at_standard_output(folder, program, "/dev/null", mode, 105, b"", 7)
+
+    return run
+
+
+RUNS = [
+    ("standard output is a full pipe that doesn't block", full_pipe),
+    ("standard input is an empty pipe that doesn't block", slow_input),
+    ("a torn put to a file is undone, and made again", torn_then_whole),
+    ("a torn put to standard output, a file, is undone", torn_batch("r+b")),
+    ("a torn put to standard output, which appends to a file, is undone", torn_batch("ab")),
+    ("a torn report is undone", torn_report("r+b")),
+    ("a torn report that is appended is undone", torn_report("ab")),
+]
+
+
+def main(program):
+    """Runs each case in a folder of its own, and prints a line for each and one for all."""
+    runs = [(case.name, partial(run_case, case)) for case in CASES] + RUNS
+    failed = 0
+    for name, run in runs:
+        with tempfile.TemporaryDirectory() as folder:
+            try:
+                wrong = run(folder, program)
+            except (subprocess.TimeoutExpired, OSError, KeyError) as fault:
+                wrong = [repr(fault)]
+        failed += bool(wrong)
+        print(f"edge: {'FAILED' if wrong else 'ok'}: {name}", *wrong, sep="\n  ", flush=True)
+    print(f"edge: {len(runs) - failed} passed, {failed} failed", flush=True)
+    return 1 if failed else 0
+
+
+if __name__ == "__main__":
+    sys.exit(main(*sys.argv[1:]))

@@ -57,7 +57,8 @@ impl Fixed {
 
     /// How many billionths it is.
     pub fn billionths(self) -> i128
-        ensures { result ≡ self }
+        ensures value { result ≡ self }
+        ensures range { InRange self }
     {
         self.billionths
     }
@@ -82,9 +83,9 @@ impl Fixed {
     }
 
     /// Appends the canonical text: `-` where the number is negative, the whole digits without leading zeros
-    /// (`0` where there are none) and,
-    /// where the fraction is not zero, `.` and its digits without the zeros at their end. `OutOfMemory`,
-    /// which comes only where `out` has no room for the text, leaves it as it was.
+    /// (`0` where there are none) and, where the fraction is not zero, `.` and its digits without the zeros
+    /// at their end. `OutOfMemory`, which comes only where `out` has no room for the text, leaves it as it
+    /// was.
     pub fn append(self, _alloc: Global, out: &mut Vec<u8>) -> Result<(), OutOfMemory>
         ensures added { OnOk result (out.new.items ≡ out.old.items ++ canonical_text self) }
         ensures kept { OnErr result (out.new.items ≡ out.old.items) }

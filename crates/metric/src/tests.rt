@@ -80,28 +80,44 @@ struct Case {
     want: Option<BuildFault>,
 }
 
-/// The cases for the order of faults.
-fn cases() -> [Case; 6] {
-    let case = |name, tag, field, want| Case {
-        name,
-        tag,
-        field,
-        want,
-    };
-    [
-        case("", "", None, Some(BuildFault::EmptyName)),
-        case("cpu", "", None, Some(BuildFault::EmptyKey)),
-        case("cpu", "", Some("v"), Some(BuildFault::EmptyKey)),
-        case("cpu", "host", None, Some(BuildFault::NoFields)),
-        case("cpu", "host", Some(""), Some(BuildFault::EmptyKey)),
-        case("cpu", "host", Some("v"), None),
-    ]
-}
+/// The first fault counts.
+const CASES: [Case; 5] = [
+    Case {
+        name: "",
+        tag: "",
+        field: None,
+        want: Some(BuildFault::EmptyName),
+    },
+    Case {
+        name: "cpu",
+        tag: "",
+        field: Some("v"),
+        want: Some(BuildFault::EmptyKey),
+    },
+    Case {
+        name: "cpu",
+        tag: "host",
+        field: Some(""),
+        want: Some(BuildFault::EmptyKey),
+    },
+    Case {
+        name: "cpu",
+        tag: "host",
+        field: None,
+        want: Some(BuildFault::NoFields),
+    },
+    Case {
+        name: "cpu",
+        tag: "host",
+        field: Some("v"),
+        want: None,
+    },
+];
 
 #[test]
 fn faults_come_in_order(rt: HostRuntime) -> Result<(), Fail> {
     let alloc = rt.alloc();
-    for case in cases() {
+    for case in CASES {
         let mut builder = Builder::new(alloc, case.name)?;
         builder.tag(case.tag, "")?;
         if let Some(key) = case.field {

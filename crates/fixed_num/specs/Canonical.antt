@@ -1,5 +1,6 @@
 -- The canonical text of a number of billionths.
-use Rattle.std.specs.Prelude.{◌≡◌, ℕ, zero, suc, ◌+◌, ◌/◌, ◌%◌, ◌^◌, Bool, true, false, ◌==◌, List, [], ◌∷◌, ◌++◌, if◌then◌else◌, pos, negsuc, Ok, ℤ}
+use Rattle.std.specs.Prelude.{◌≡◌, ℕ, zero, suc, ◌+◌, ◌/◌, ◌%◌, ◌^◌, Bool, true, false, ◌==◌, List, [], ◌∷◌}
+use Rattle.std.specs.Prelude.{◌++◌, if◌then◌else◌, pos, negsuc, Ok, ℤ}
 use Rattle.std.specs.Fmt.{decimal}
 use Rattle.fixed_num.specs.Fixed.{read_as}
 use Rattle.fixed_num.specs.Range.{InRange}

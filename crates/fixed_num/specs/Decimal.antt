@@ -1,11 +1,13 @@
 -- What a decimal is, and the number that it spells.
-use Rattle.std.specs.Prelude.{ℕ, ◌+◌, ◌*◌, ◌^◌, Bool, false, ◌||◌, ◌==◌, List, [], ◌++◌, length, take, drop, Option, Some, None, slice_index, if◌then◌else◌}
+use Rattle.std.specs.Prelude.{ℕ, ◌+◌, ◌*◌, ◌^◌, Bool, false, ◌||◌, ◌==◌, List, [], ◌++◌, length, take, drop}
+use Rattle.std.specs.Prelude.{Option, Some, None, slice_index, if◌then◌else◌}
 use Rattle.std.specs.List.{prefix_len}
 use Rattle.std.specs.Char.{is_ascii_digit}
 use Rattle.std.specs.Str.Parse.{digits_value, AllDigits}
 use Rattle.fixed_num.specs.Rounded.{rounded}
 
--- a decimal: whether it is negative, its digits before and behind the point, whether its power of ten is negative, and the digits of that
+-- a decimal: whether it is negative, its digits before and behind the point, whether its power of ten is
+-- negative, and the digits of that
 pub record Decimal : Type 0 where
   pub negative : Bool
   pub whole : List ℕ
@@ -45,7 +47,13 @@ decimal_of text =
     let behind = drop (point_len after) after in
     let fraction = take (digits_len behind) behind in
     if length whole + length fraction == 0 then None else
-    with_exponent (record { negative = slice_index text 0 == 45; whole = whole; fraction = fraction; shrinks = false; exponent = [] }) (drop (digits_len behind) behind)
+    with_exponent (record {
+      negative = slice_index text 0 == 45;
+      whole = whole;
+      fraction = fraction;
+      shrinks = false;
+      exponent = [];
+    }) (drop (digits_len behind) behind)
 
 -- ---- the number
 

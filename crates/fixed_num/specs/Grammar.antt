@@ -1,5 +1,6 @@
 -- A decimal is a concatenation of parts.
-use Rattle.std.specs.Prelude.{◌≡◌, ℕ, ◌+◌, ◌<◌, Bool, true, false, List, [], ◌∷◌, ◌++◌, length, Some, Err, ◌≢◌}
+use Rattle.std.specs.Prelude.{◌≡◌, ℕ, ◌+◌, ◌<◌, Bool, true, false, List, [], ◌∷◌, ◌++◌, length, Some, Err}
+use Rattle.std.specs.Prelude.{◌≢◌}
 use Rattle.std.specs.Str.Parse.{AllDigits, IsNumeral, digits_value}
 use Rattle.fixed_num.specs.Decimal.{Decimal, decimal_of}
 use Rattle.fixed_num.specs.declared.fixed.NumFault.TheVariants.{NotANumber}
@@ -87,7 +88,13 @@ pub record IsDecimal (s : Spelled) : Type 0 where
 
 -- the decimal that is spelled
 abbrev pub meaning : Spelled → Decimal
-meaning s = record { negative = is_minus s.sign; whole = whole_of s.digits; fraction = fraction_of s.digits; shrinks = shrinks_of s.power; exponent = digits_of_power s.power }
+meaning s = record {
+  negative = is_minus s.sign;
+  whole = whole_of s.digits;
+  fraction = fraction_of s.digits;
+  shrinks = shrinks_of s.power;
+  exponent = digits_of_power s.power;
+}
 
 -- what is spelled as a decimal is read as its meaning
 abbrev pub ReadsSpelled : Type 0
@@ -95,19 +102,27 @@ ReadsSpelled = (s : Spelled) → IsDecimal s → decimal_of (spelling s) ≡ Som
 
 -- what is read is spelled as a decimal of that meaning
 abbrev pub SpelledIsRead : Type 0
-SpelledIsRead = (text : List ℕ) (d : Decimal) → decimal_of text ≡ Some d → (s : Spelled) × IsDecimal s × (text ≡ spelling s) × (meaning s ≡ d)
+SpelledIsRead = (text : List ℕ) (d : Decimal)
+    → decimal_of text ≡ Some d → (s : Spelled) × IsDecimal s × (text ≡ spelling s) × (meaning s ≡ d)
 
 -- a sign and at least one digit are read as the number that they spell
 abbrev pub ReadsInts : Type 0
-ReadsInts = (s : Sign) (ds : List ℕ) → IsNumeral 10 ds → int_read_as (sign_text s ++ ds) ≡ as_int (is_minus s) (digits_value 10 ds)
+ReadsInts = (s : Sign) (ds : List ℕ)
+    → IsNumeral 10 ds → int_read_as (sign_text s ++ ds) ≡ as_int (is_minus s) (digits_value 10 ds)
 
 -- and what is read is a sign and at least one digit
 abbrev pub IntsAreSpelled : Type 0
-IntsAreSpelled = (text : List ℕ) → int_read_as text ≢ Err NotANumber → (s : Sign) × (ds : List ℕ) × IsNumeral 10 ds × (text ≡ sign_text s ++ ds)
+IntsAreSpelled = (text : List ℕ)
+    → int_read_as text ≢ Err NotANumber → (s : Sign) × (ds : List ℕ) × IsNumeral 10 ds
+    × (text ≡ sign_text s ++ ds)
 
 -- the same without a minus
 abbrev pub ReadsUints : Type 0
-ReadsUints = (s : Sign) (ds : List ℕ) → is_minus s ≡ false → IsNumeral 10 ds → uint_read_as (sign_text s ++ ds) ≡ as_uint (digits_value 10 ds)
+ReadsUints = (s : Sign) (ds : List ℕ)
+    → is_minus s ≡ false → IsNumeral 10 ds → uint_read_as (sign_text s ++ ds) ≡ as_uint (digits_value 10 ds)
 
 abbrev pub UintsAreSpelled : Type 0
-UintsAreSpelled = (text : List ℕ) → uint_read_as text ≢ Err NotANumber → (s : Sign) × (ds : List ℕ) × (is_minus s ≡ false) × IsNumeral 10 ds × (text ≡ sign_text s ++ ds)
+UintsAreSpelled = (text : List ℕ)
+    → uint_read_as text ≢ Err NotANumber → (s : Sign) × (ds : List ℕ)
+    × (is_minus s ≡ false) × IsNumeral 10 ds
+    × (text ≡ sign_text s ++ ds)

@@ -1,5 +1,6 @@
 -- What a whole number text is, and the number that it spells.
-use Rattle.std.specs.Prelude.{ℕ, ◌+◌, ◌^◌, Bool, false, ◌==◌, List, length, drop, Result, Ok, Err, slice_index, nat_lt, if◌then◌else◌, ℤ, pos, neg_ℤ}
+use Rattle.std.specs.Prelude.{ℕ, ◌+◌, ◌^◌, Bool, false, ◌==◌, List, length, drop, Result, Ok, Err}
+use Rattle.std.specs.Prelude.{slice_index, nat_lt, if◌then◌else◌, ℤ, pos, neg_ℤ}
 use Rattle.std.specs.Str.Parse.{digits_value}
 use Rattle.fixed_num.specs.declared.fixed.NumFault.{NumFault}
 use Rattle.fixed_num.specs.declared.fixed.NumFault.TheVariants.{NotANumber, NumberRange}
@@ -27,8 +28,14 @@ uint_read_as text = if slice_index text 0 == 45 then Err NotANumber else numeral
 
 -- the number, or its negative, where it is from -2^63 on and below 2^63
 abbrev pub as_int : Bool → ℕ → Result ℤ NumFault
-as_int negative n = if nat_lt n (if negative then 2 ^ 63 + 1 else 2 ^ 63) then Ok (if negative then neg_ℤ (pos n) else pos n) else Err NumberRange
+as_int negative n =
+    if nat_lt n (if negative then 2 ^ 63 + 1 else 2 ^ 63)
+    then Ok (if negative then neg_ℤ (pos n) else pos n)
+    else Err NumberRange
 
 -- the number that the text spells
 abbrev pub int_read_as : List ℕ → Result ℤ NumFault
-int_read_as text = if is_numeral (behind_sign text) then as_int (slice_index text 0 == 45) (digits_value 10 (behind_sign text)) else Err NotANumber
+int_read_as text =
+    if is_numeral (behind_sign text)
+    then as_int (slice_index text 0 == 45) (digits_value 10 (behind_sign text))
+    else Err NotANumber

@@ -57,13 +57,15 @@ impl Fixed {
 
     /// How many billionths it is.
     pub fn billionths(self) -> i128
-        ensures { result ≡ self }
+        ensures value { result ≡ self }
+        ensures range { InRange self }
     {
         self.billionths
     }
 
     /// The number that a decimal spells, rounded half to even to a whole number of billionths.
-    /// A decimal is an optional sign, then digits with at most one `.` and at least one digit, then optionally `e` or `E`, an optional sign and at least one digit.
+    /// A decimal is an optional sign, then digits with at most one `.` and at least one digit, then
+    /// optionally `e` or `E`, an optional sign and at least one digit.
     /// `NotANumber` where the text is no decimal, `NumberRange` where the rounded number is out of range.
     pub fn read(text: &[u8]) -> Result<Fixed, NumFault>
         ensures { result ≡ read_as text.now }
@@ -80,8 +82,10 @@ impl Fixed {
         })
     }
 
-    /// Appends the canonical text: `-` where the number is negative, the whole digits without leading zeros (`0` where there are none) and,
-    /// where the fraction is not zero, `.` and its digits without the zeros at their end. `OutOfMemory`, which comes only where `out` has no room for the text, leaves it as it was.
+    /// Appends the canonical text: `-` where the number is negative, the whole digits without leading zeros
+    /// (`0` where there are none) and, where the fraction is not zero, `.` and its digits without the zeros
+    /// at their end. `OutOfMemory`, which comes only where `out` has no room for the text, leaves it as it
+    /// was.
     pub fn append(self, _alloc: Global, out: &mut Vec<u8>) -> Result<(), OutOfMemory>
         ensures added { OnOk result (out.new.items ≡ out.old.items ++ canonical_text self) }
         ensures kept { OnErr result (out.new.items ≡ out.old.items) }

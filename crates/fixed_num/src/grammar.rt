@@ -1,10 +1,12 @@
 //! The grammar of decimals: a sign, digits with a point, and a power of ten.
 ghost use Rattle.std.specs.Prelude.{◌≡◌, ◌≤◌, length, take, option_map, List, IfSome};
 ghost use Rattle.std.specs.Str.Parse.{AllDigits};
-ghost use Rattle.fixed_num.specs.Decimal.{digits_len, sign_len, point_len, decimal_of, with_exponent, IsDigital};
+ghost use Rattle.fixed_num.specs.Decimal.{digits_len, sign_len, point_len, decimal_of, with_exponent};
+ghost use Rattle.fixed_num.specs.Decimal.{IsDigital};
 ghost use Rattle.fixed_num.specs.View.{decimal};
 
-/// The parts of a decimal: whether it is negative, the digits before and behind the point, whether the power of ten is negative, and its digits.
+/// The parts of a decimal: whether it is negative, the digits before and behind the point, whether the power
+/// of ten is negative, and its digits.
 #[derive(Clone, Copy)]
 pub struct Parts<'a> {
     pub negative: bool,
@@ -51,7 +53,8 @@ fn point_at(bytes: &[u8]) -> usize
     }
 }
 
-/// The parts with the power of ten that the rest of the text spells; None where it spells none and is not empty.
+/// The parts with the power of ten that the rest of the text spells; None where it spells none and is not
+/// empty.
 #[tactic(auto, unfolding(crate::specs::Decimal::with_exponent))]
 fn with_exponent_at<'a>(parts: Parts<'a>, bytes: &'a [u8]) -> Option<Parts<'a>>
     requires { IsDigital (decimal parts) }

@@ -1,6 +1,8 @@
 //! Laws of the texts of numbers.
-ghost use Rattle.fixed_num.specs.Grammar.{ReadsSpelled, SpelledIsRead, ReadsInts, IntsAreSpelled, ReadsUints, UintsAreSpelled};
+ghost use Rattle.fixed_num.specs.Grammar.{ReadsSpelled, SpelledIsRead, ReadsInts, IntsAreSpelled, ReadsUints};
+ghost use Rattle.fixed_num.specs.Grammar.{UintsAreSpelled};
 ghost use Rattle.fixed_num.specs.Canonical.{ReadsCanonical};
+ghost use Rattle.fixed_num.specs.Rounded.{RoundsToNearest};
 
 /// What is spelled as a decimal is read as what it means.
 pub fn reads_spelled()
@@ -27,4 +29,9 @@ pub fn reads_ints()
 pub fn reads_uints()
     ensures reads { ReadsUints }
     ensures spelled { UintsAreSpelled }
+{}
+
+/// A rounded quotient is the nearest whole number, and of two that are as near the even one.
+pub fn rounds_to_nearest()
+    ensures { RoundsToNearest }
 {}

@@ -11,7 +11,9 @@ mod value;
 mod whole;
 
 pub use fixed::{Fixed, NumFault};
-pub use laws::{reads_canonical, reads_ints, reads_spelled, reads_uints, spelled_is_read};
+pub use laws::{
+    reads_canonical, reads_ints, reads_spelled, reads_uints, rounds_to_nearest, spelled_is_read,
+};
 pub use memory::OutOfMemory;
 pub use seq::Seq;
 pub use whole::{read_int, read_uint};

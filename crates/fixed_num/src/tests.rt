@@ -1,4 +1,5 @@
-//! Texts of numbers against answers from outside: the rules in plain words, IEEE 754 shortest texts, and InfluxDB's documentation.
+//! Texts of numbers against answers from outside: the rules in plain words, IEEE 754 shortest texts, and
+//! InfluxDB's documentation.
 use super::*;
 use std::alloc::Global;
 use std::process::Abort;

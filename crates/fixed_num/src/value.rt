@@ -1,5 +1,6 @@
 //! How many billionths a decimal is, rounded half to even.
-ghost use Rattle.std.specs.Prelude.{◌≡◌, ℕ, ◌+◌, ◌-◌, ◌*◌, ◌^◌, ◌<◌, ◌≤◌, ◌++◌, List, length, take, drop, min, IfOk, IfSome, SomeIff, IsTrue, ◌↔◌, MatchBool, if◌then◌else◌};
+ghost use Rattle.std.specs.Prelude.{◌≡◌, ℕ, ◌+◌, ◌-◌, ◌*◌, ◌^◌, ◌<◌, ◌≤◌, ◌++◌, List, length, take, drop};
+ghost use Rattle.std.specs.Prelude.{min, IfOk, IfSome, SomeIff, IsTrue, ◌↔◌, MatchBool, if◌then◌else◌};
 ghost use Rattle.std.specs.Str.Parse.{digits_value_after, digits_value, AllDigits};
 ghost use Rattle.fixed_num.specs.Rounded.{rounded, AgreesBelow};
 ghost use Rattle.fixed_num.specs.Decimal.{billionths, IsDigital};
@@ -104,7 +105,8 @@ fn shrunk(whole: &[u8], fraction: &[u8], cut: u128) -> u128
 /// The number of the digits, times one power of ten and divided by another, where it is in range.
 fn spelled(whole: &[u8], fraction: &[u8], up: u128, down: u128) -> u128
     requires { AllDigits 10 whole.now × AllDigits 10 fraction.now }
-    ensures { AgreesBelow LIMIT (rounded (digits_value 10 (whole.now ++ fraction.now) * 10 ^ up) (10 ^ down)) result }
+    ensures { AgreesBelow LIMIT (rounded (digits_value 10 (whole.now ++ fraction.now) * 10 ^ up) (10 ^ down))
+        result }
 {
     if down <= up {
         grown(capped(capped(0, whole), fraction), up - down)
@@ -165,7 +167,8 @@ fn nearest_quotient(number: u64, divisor: u64) -> u64
     }
 }
 
-/// How many billionths the digits spell, all of whose number fits 64 bits, with so many of them behind the point.
+/// How many billionths the digits spell, all of whose number fits 64 bits, with so many of them behind the
+/// point.
 fn scaled(number: u64, places: usize) -> u128
     requires { places ≤ 27 }
     ensures { result ≡ rounded (number * 10 ^ 9) (10 ^ places) }

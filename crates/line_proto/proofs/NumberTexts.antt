@@ -25,7 +25,7 @@ use Rattle.metric.specs.declared.value.Value.{Value}
 use Rattle.metric.specs.declared.value.Value.TheVariants.{Int, Uint, Fixed, «Bool» as Truth, Text}
 use Rattle.line_proto.specs.Grammar.{HasNone, ends_word, is_space}
 use Rattle.line_proto.specs.LineText.{value_text}
-use Rattle.line_proto.specs.OneLine.{IsTypedValue}
+use Rattle.metric.specs.Metric.{IsValue}
 use Rattle.line_proto.specs.RoundTrip.{IsNoText}
 use Rattle.line_proto.specs.Values.{value_of, number_of, time_of, typed, truth_of, begins_truth, last_byte, before_last_byte}
 use Rattle.line_proto.proofs.PlainBytes.{none-append, none-at, is_unclean, Clean, clean-append, clean_word}
@@ -192,7 +192,7 @@ unfolding value_of truth_of number_of
 truth_text true = record { none = (refl, (refl, (refl, (refl, tt)))); clean = clean_word (codes "true") refl refl; is = refl }
 truth_text false = record { none = (refl, (refl, (refl, (refl, (refl, tt))))); clean = clean_word (codes "false") refl refl; is = refl }
 
-pub plain_value : (value : Value) → IsTypedValue value → IsNoText value → IsValueText (value_text value) value
+pub plain_value : (value : Value) → IsValue value → IsNoText value → IsValueText (value_text value) value
 unfolding value_text
 plain_value (Int n) typed h = int_text n typed
 plain_value (Uint n) typed h = uint_text n typed

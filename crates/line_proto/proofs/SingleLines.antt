@@ -10,7 +10,8 @@ use Rattle.metric.specs.declared.value.Value.TheVariants.{Int, Uint, Fixed, «Bo
 use Rattle.metric.specs.declared.metric.Content.{Content}
 use Rattle.line_proto.specs.Grammar.{HasNone}
 use Rattle.line_proto.specs.LineText.{spaced, on_one_line, trimmed, or_underscore, without_hash, escaped_byte, escaped, name_text, key_text, value_text, tag_text, field_text, head_text, line_text}
-use Rattle.line_proto.specs.OneLine.{ends_line, IsTypedValue, IsTyped}
+use Rattle.line_proto.specs.OneLine.{ends_line}
+use Rattle.metric.specs.Metric.{IsMetric, IsValue, IsField}
 use Rattle.line_proto.specs.Reading.{Tag, Field}
 use Rattle.line_proto.proofs.NumberTexts.{number_none, number_signed, number_decimal, number_canonical}
 use Rattle.line_proto.proofs.PlainBytes.{none-append}
@@ -68,7 +69,7 @@ none_truth : (b : Bool) → HasNone ends_line (cond b (codes "true") (codes "fal
 none_truth true = (refl, (refl, (refl, (refl, tt))))
 none_truth false = (refl, (refl, (refl, (refl, (refl, tt)))))
 
-none_value : (value : Value) → IsTypedValue value → HasNone ends_line (value_text value)
+none_value : (value : Value) → IsValue value → HasNone ends_line (value_text value)
 unfolding value_text
 none_value (Int n) h = none-append ends_line (signed_decimal n) (105 ∷ []) (number_none ends_line no_line (signed_decimal n) (number_signed n h)) (refl, tt)
 none_value (Uint n) h = none-append ends_line (decimal n) (117 ∷ []) (number_none ends_line no_line (decimal n) (number_decimal n h)) (refl, tt)
@@ -86,27 +87,27 @@ none_tags : (tags : List Tag) → HasNone ends_line (flat_map tag_text tags)
 none_tags [] = tt
 none_tags (tag ∷ tags) = none-append ends_line (tag_text tag) (flat_map tag_text tags) (none_tag tag) (none_tags tags)
 
-none_field : (field : Field) → IsTypedValue field.1 → HasNone ends_line (field_text field)
+none_field : (field : Field) → IsValue field.1 → HasNone ends_line (field_text field)
 unfolding field_text
 none_field field h = none-append ends_line (key_text field.0 ++ 61 ∷ []) (value_text field.1) (none-append ends_line (key_text field.0) (61 ∷ []) (none_key field.0) (refl, tt)) (none_value field.1 h)
 
-none_others : (fields : List Field) → AllByRecursion (λ (field : Field). IsTypedValue field.1) fields → HasNone ends_line (flat_map (λ (field : Field). codes "," ++ field_text field) fields)
+none_others : (fields : List Field) → AllByRecursion IsField fields → HasNone ends_line (flat_map (λ (field : Field). codes "," ++ field_text field) fields)
 none_others [] h = tt
 none_others (field ∷ fields) h =
-    none-append ends_line (44 ∷ field_text field) (flat_map (λ (field : Field). codes "," ++ field_text field) fields) (refl, none_field field h.0) (none_others fields h.1)
+    none-append ends_line (44 ∷ field_text field) (flat_map (λ (field : Field). codes "," ++ field_text field) fields) (refl, none_field field (h.0).1) (none_others fields h.1)
 
-none_fields : (fields : List Field) → AllByRecursion (λ (field : Field). IsTypedValue field.1) fields → HasNone ends_line (join_by field_text (codes ",") fields)
+none_fields : (fields : List Field) → AllByRecursion IsField fields → HasNone ends_line (join_by field_text (codes ",") fields)
 none_fields [] h = tt
-none_fields (field ∷ fields) h = none-append ends_line (field_text field) (flat_map (λ (field : Field). codes "," ++ field_text field) fields) (none_field field h.0) (none_others fields h.1)
+none_fields (field ∷ fields) h = none-append ends_line (field_text field) (flat_map (λ (field : Field). codes "," ++ field_text field) fields) (none_field field (h.0).1) (none_others fields h.1)
 
-none_head : (m : Content) → IsTyped m → HasNone ends_line (head_text m)
+none_head : (m : Content) → IsMetric m → HasNone ends_line (head_text m)
 unfolding head_text
 none_head m h =
     none-append ends_line ((name_text m.name ++ flat_map tag_text m.tags) ++ 32 ∷ []) (join_by field_text (codes ",") m.fields)
     (none-append ends_line (name_text m.name ++ flat_map tag_text m.tags) (32 ∷ []) (none-append ends_line (name_text m.name) (flat_map tag_text m.tags) (none_name m.name) (none_tags m.tags)) (refl, tt))
     (none_fields m.fields h.fields)
 
-pub is_one_line : (m : Content) → IsTyped m → (line : List ℕ) × (line_text m ≡ line ++ codes "\n") × HasNone ends_line line
+pub is_one_line : (m : Content) → IsMetric m → (line : List ℕ) × (line_text m ≡ line ++ codes "\n") × HasNone ends_line line
 unfolding line_text
 is_one_line m h = (
   (head_text m ++ codes " ") ++ signed_decimal m.time,

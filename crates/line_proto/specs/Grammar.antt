@@ -1,5 +1,6 @@
 -- Lines as they are written, of pieces without a backslash and a double quote.
-use Rattle.std.specs.Prelude.{◌≡◌, ◌<◌, ℕ, ℤ, ◌==◌, ◌||◌, Bool, false, List, [], ◌∷◌, ◌++◌, length, replicate, Option, Some, None, Ok}
+use Rattle.std.specs.Prelude.{◌≡◌, ◌<◌, ℕ, ℤ, ◌==◌, ◌||◌, Bool, false, List, [], ◌∷◌, ◌++◌, length, replicate}
+use Rattle.std.specs.Prelude.{Option, Some, None, Ok}
 use Rattle.std.specs.Str.{IsUtf8}
 use Rattle.metric.specs.declared.metric.Content.{Content}
 use Rattle.line_proto.specs.Values.{value_of, time_of}

@@ -1,5 +1,6 @@
 -- The text of a metric in line protocol.
-use Rattle.std.specs.Prelude.{◌==◌, ◌||◌, ◌&&◌, not, ◌-◌, ℕ, Bool, List, [], ◌∷◌, ◌++◌, length, take, map, flat_map, codes, if◌then◌else◌}
+use Rattle.std.specs.Prelude.{◌==◌, ◌||◌, ◌&&◌, not, ◌-◌, ℕ, Bool, List, [], ◌∷◌, ◌++◌, length, take, map}
+use Rattle.std.specs.Prelude.{flat_map, codes, if◌then◌else◌}
 use Rattle.std.specs.List.{list_any, suffix_len, join_by}
 use Rattle.std.specs.Fmt.{decimal, signed_decimal}
 use Rattle.fixed_num.specs.Canonical.{canonical_text}

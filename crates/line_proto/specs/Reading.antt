@@ -1,5 +1,6 @@
 -- Reading a line from left to right, with the first fault that is met.
-use Rattle.std.specs.Prelude.{ℕ, ℤ, ◌+◌, ◌==◌, ◌||◌, not, Bool, List, ◌∷◌, length, take, drop, Option, Some, None, Result, Ok, Err, slice_index, nat_lt, if◌then◌else◌}
+use Rattle.std.specs.Prelude.{ℕ, ℤ, ◌+◌, ◌==◌, ◌||◌, not, Bool, List, ◌∷◌, length, take, drop, Option, Some}
+use Rattle.std.specs.Prelude.{None, Result, Ok, Err, slice_index, nat_lt, if◌then◌else◌}
 use Rattle.std.specs.List.{position_or_len, list_any}
 use Rattle.std.specs.Str.{is_utf8}
 use Rattle.std.specs.Str.Lossy.{utf8_valid_len}
@@ -12,7 +13,8 @@ use Rattle.metric.specs.declared.metric.Content.{Content}
 use Rattle.metric.specs.Pairs.{in_key_order, in_first_order, with_values}
 use Rattle.line_proto.specs.declared.fault.LineFault.{LineFault}
 use Rattle.line_proto.specs.declared.fault.LineKind.{LineKind}
-use Rattle.line_proto.specs.declared.fault.LineKind.TheVariants.{NoFields, BadKey, BadValue, BadTime, NotUtf8, TooMany, NotBuilt}
+use Rattle.line_proto.specs.declared.fault.LineKind.TheVariants.{NoFields, BadKey, BadValue, BadTime, NotUtf8}
+use Rattle.line_proto.specs.declared.fault.LineKind.TheVariants.{TooMany, NotBuilt}
 use Rattle.line_proto.specs.Kinds.{name_part, key_part, tag_value_part, text_part, value_part}
 use Rattle.line_proto.specs.Values.{value_of, time_of}
 
@@ -152,7 +154,8 @@ unfoldable pub text_reading : List ℕ → ℤ → Result (Option Content) LineF
 text_reading piece moment =
     if is_blank_or_comment piece then Ok None else metric_at piece (behind_spaces piece 0) moment
 
--- the metric that a piece is; the piece has to be UTF-8, else the fault is at the end of its longest front that is
+-- the metric that a piece is; the piece has to be UTF-8, else the fault is at the end of its longest front
+-- that is
 unfoldable pub reading : List ℕ → ℤ → Result (Option Content) LineFault
 reading piece moment = if is_utf8 piece then text_reading piece moment else fault NotUtf8 (utf8_valid_len piece)
 

@@ -8,7 +8,7 @@ use Rattle.metric.specs.declared.value.Value.TheVariants.{Int, Uint, Fixed, «Bo
 use Rattle.metric.specs.declared.metric.Content.{Content}
 use Rattle.line_proto.specs.Grammar.{HasNone, NoHash, ends_word, ends_key}
 use Rattle.line_proto.specs.LineText.{line_text}
-use Rattle.line_proto.specs.OneLine.{ends_line, IsTyped}
+use Rattle.line_proto.specs.OneLine.{ends_line}
 use Rattle.line_proto.specs.Reading.{Tag, Field, plain_reading}
 
 -- a backslash or a double quote: for now pieces that have one are refused
@@ -40,7 +40,8 @@ IsNoText (Fixed n) = Unit {0}
 IsNoText (Truth b) = Unit {0}
 IsNoText (Text text) = ⊥
 
--- what a metric says needs no escapes and no quotes, its measurement begins no comment, and it keeps the limits
+-- what a metric says needs no escapes and no quotes, its measurement begins no comment, and it keeps the
+-- limits
 pub record IsPlain (m : Content) : Type 0 where
   pub name : IsPlainText is_name_mark m.name
   pub no_comment : NoHash m.name
@@ -51,5 +52,5 @@ pub record IsPlain (m : Content) : Type 0 where
 
 -- the text of a plain metric is one line and its newline, and the line is read as the metric at any moment
 abbrev pub MetricIsReadBack : Type 0
-MetricIsReadBack = (m : Content) (moment : ℤ) → IsMetric m → IsTyped m → IsPlain m
+MetricIsReadBack = (m : Content) (moment : ℤ) → IsMetric m → IsPlain m
     → (line : List ℕ) × (line_text m ≡ line ++ codes "\n") × HasNone ends_line line × (plain_reading line moment ≡ Ok (Some m))

@@ -5,7 +5,8 @@ ghost use Rattle.std.specs.Str.{IsCharBoundary};
 ghost use Rattle.text_parts.specs.Bare.{IsBare};
 ghost use Rattle.text_parts.specs.Chain.{Gives};
 ghost use Rattle.line_proto.specs.Draft.{IsUnquoted, StandsFor, HasFields};
-ghost use Rattle.line_proto.specs.Reading.{Tag, spaced_fields_at, metric_at, text_reading, needs_escapes, plain_reading};
+ghost use Rattle.line_proto.specs.Reading.{Tag, spaced_fields_at, metric_at, text_reading, needs_escapes};
+ghost use Rattle.line_proto.specs.Reading.{plain_reading};
 ghost use Rattle.line_proto.specs.Views.{Answers};
 
 use crate::draft::Draft;
@@ -85,9 +86,10 @@ fn needs_escapes(piece: &[u8]) -> bool
     memchr2(b'\\', b'"', piece).is_some()
 }
 
-/// Reads a piece without its newline as a line of line protocol. `None` exactly where it is blank (nothing but
-/// spaces) or a comment (its first byte other than a space is `#`). Where the line has no time, the moment is its time.
-/// The first fault from left to right counts, with its place; `OutOfMemory` may come in place of any answer.
+/// Reads a piece without its newline as a line of line protocol. `None` exactly where it is blank (nothing
+/// but spaces) or a comment (its first byte other than a space is `#`). Where the line has no time, the
+/// moment is its time. The first fault from left to right counts, with its place; `OutOfMemory` may come in
+/// place of any answer.
 pub fn read_line(alloc: Global, piece: &[u8], moment: Moment) -> Result<Option<Metric>, LineFault>
     ensures { Answers result (plain_reading piece.now moment) }
 {

@@ -5,7 +5,8 @@ ghost use Rattle.text_parts.specs.Bare.{IsBare};
 ghost use Rattle.text_parts.specs.Chain.{Gives};
 ghost use Rattle.fixed_num.specs.Fixed.{read_as};
 ghost use Rattle.fixed_num.specs.Whole.{int_read_as, uint_read_as};
-ghost use Rattle.line_proto.specs.Values.{is_one_of, true_words, false_words, truth_of, begins_truth, typed, number_of, value_of, time_of};
+ghost use Rattle.line_proto.specs.Values.{is_one_of, true_words, false_words, truth_of, begins_truth, typed};
+ghost use Rattle.line_proto.specs.Values.{number_of, value_of, time_of};
 ghost use Rattle.line_proto.specs.Reading.{plain_value_at, value_at, field_at, time_at, written_time_at};
 ghost use Rattle.line_proto.specs.Draft.{IsUnquoted};
 

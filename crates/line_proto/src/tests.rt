@@ -6,7 +6,8 @@ use std::alloc::Global;
 use std::process::Abort;
 use std::test::Fail;
 
-/// A metric in readable form: `name key=value .. | key=value .. | time`, a number with decimals in billionths.
+/// A metric in readable form: `name key=value .. | key=value .. | time`, a number with decimals in
+/// billionths.
 fn spelled(alloc: Global, metric: &Metric) -> Result<String, OutOfMemory> {
     let mut text = format!(in alloc; "{}", metric.name().as_str())?;
     for (key, value) in metric.tags() {

@@ -1,7 +1,9 @@
 //! Metrics as lines of InfluxDB line protocol.
 ghost use Rattle.std.specs.Prelude.{◌≡◌, ◌==◌, ◌++◌, flat_map, codes, OnOk, OnErr};
 ghost use Rattle.std.specs.List.{list_all, list_any, join_by};
-ghost use Rattle.line_proto.specs.LineText.{spaced, on_one_line, trimmed, escaped_byte, escaped, is_bare, name_text, key_text, value_text, tag_text, field_text, head_text, line_text};
+ghost use Rattle.line_proto.specs.LineText.{spaced, on_one_line, trimmed, escaped_byte, escaped, is_bare};
+ghost use Rattle.line_proto.specs.LineText.{name_text, key_text, value_text, tag_text, field_text, head_text};
+ghost use Rattle.line_proto.specs.LineText.{line_text};
 ghost use Rattle.line_proto.specs.Marks.{marks_of};
 ghost use Rattle.text_parts.specs.Adds.{Adds};
 
@@ -10,11 +12,11 @@ use metric::{Metric, Text, Value};
 use std::alloc::Global;
 use text_parts::{append_int, append_signed, append_uint, append_words, settle};
 
-/// Appends a metric's line: `measurement,key=value.. field=value,.. time` and a newline, the tags in the order of
-/// their keys, the fields in theirs, the time in nanoseconds since 1970. A newline or carriage return inside a text is
-/// written as a space. In the measurement, in keys and in tag values backslashes at the end are left out, and `_` is
-/// written where nothing stays; a `#` at the front of the measurement is written as `_`. After OutOfMemory `out` is as
-/// before.
+/// Appends a metric's line: `measurement,key=value.. field=value,.. time` and a newline, the tags in the
+/// order of their keys, the fields in theirs, the time in nanoseconds since 1970. A newline or carriage
+/// return inside a text is written as a space. In the measurement, in keys and in tag values backslashes at
+/// the end are left out, and `_` is written where nothing stays; a `#` at the front of the measurement is
+/// written as `_`. After OutOfMemory `out` is as before.
 pub fn write_line(alloc: Global, metric: &Metric, out: &mut Vec<u8>) -> Result<(), OutOfMemory>
     ensures ok { OnOk result (out.new.items ≡ out.old.items ++ line_text metric.now) }
     ensures err { OnErr result (out.new.items ≡ out.old.items) }

@@ -1,8 +1,9 @@
 -- What the lists of keys with values mean.
-use Rattle.std.proofs.Common.{◌≡◌, ◌≤◌, ℕ, true, false, cond, List, [], ◌∷◌, ◌++◌, length, reverse, refl, sym, ap, ◌∙◌, arith, Some, None}
+use Rattle.std.proofs.Common.{◌≡◌, ◌≤◌, ℕ, true, false, cond, List, [], ◌∷◌, ◌++◌, length, reverse, refl, sym}
+use Rattle.std.proofs.Common.{ap, ◌∙◌, arith, Some, None, append_assoc, Bool, not, ◌||◌}
 use Rattle.std.specs.declared.cmp.Ordering.TheVariants.{Less, Equal, Greater}
 use Rattle.std.specs.Cmp.Lexicographic.{pointwise}
-use Rattle.std.specs.List.{IsDistinct, find}
+use Rattle.std.specs.List.{IsDistinct, find, filter, list_any}
 use Rattle.std.specs.List.Sorted.{IsStrictlySortedBy}
 use Rattle.std.specs.Map.{keys_of}
 use Rattle.std.specs.Ordering.{is_eq}
@@ -10,12 +11,65 @@ use Rattle.std.specs.Option.{option_or, option_map}
 use Rattle.std.specs.Prelude.{nat_eq, Option}
 use Rattle.std.specs.Str.{bytes_eq}
 use Rattle.std.proofs.lemmas.Cmp.{nat_list_eq_equiv}
-use Rattle.std.proofs.lemmas.List.{reverse-append}
+use Rattle.std.proofs.lemmas.List.{reverse-append, append-nil}
 use Rattle.std.proofs.lemmas.List.Folds.{find-append}
 use Rattle.std.proofs.lemmas.Map.Text.{is_eq-slice_cmp}
 use Rattle.std.proofs.lemmas.Slice.Eq.{bytes_eq-Decides}
-use Rattle.metric.specs.Pairs.{with_pair, with_sorted, beside, in_first_order, in_first_order_on, in_key_order, in_key_order_on, value_at, last_value, IsInKeyOrder}
+use Rattle.metric.specs.Pairs.{with_pair, with_sorted, beside, first_of_each, in_first_order}
+use Rattle.metric.specs.Pairs.{in_first_order_on, in_key_order, in_key_order_on, value_at, last_value}
+use Rattle.metric.specs.Pairs.{IsInKeyOrder}
 use Rattle.metric.proofs.PairLemmas.{key_cmp, with_pair-distinct, with_sorted-ordered}
+
+-- ---- where each key stands first
+
+abbrev among : List (List ℕ) → List ℕ → Bool
+among keys key = list_any (λ other. bytes_eq other key) keys
+
+-- the texts that aren't among the keys
+abbrev others : List (List ℕ) → List (List ℕ) → List (List ℕ)
+others keys texts = filter (λ text. not (among keys text)) texts
+
+-- keys with one more, at the end, where it isn't among them
+abbrev with_key : List (List ℕ) → List ℕ → List (List ℕ)
+with_key keys key = cond (among keys key) keys (keys ++ key ∷ [])
+
+among-push : (keys : List (List ℕ)) (key text : List ℕ) → among (keys ++ key ∷ []) text ≡ (bytes_eq key text || among keys text)
+among-push [] key text = refl
+among-push (k ∷ keys) key text =
+    ap (λ t. bytes_eq k text || t) (among-push keys key text) ∙ swapped (bytes_eq k text) (bytes_eq key text) (among keys text)
+  where
+    swapped : (a b c : Bool) → (a || (b || c)) ≡ (b || (a || c))
+    swapped true true c = refl
+    swapped true false c = refl
+    swapped false b c = refl
+
+among-with_key : (keys : List (List ℕ)) (key text : List ℕ) → among (with_key keys key) text ≡ (bytes_eq key text || among keys text)
+among-with_key keys key text =
+    elim (among keys key) as (λ t. among keys key ≡ t
+    → among (cond t keys (keys ++ key ∷ [])) text ≡ (bytes_eq key text || among keys text)) [
+      | true ↦ λ e. elim (bytes_eq key text) as (λ t. bytes_eq key text ≡ t → among keys text ≡ (t || among keys text)) [
+        | true ↦ λ is. ap (among keys) (sym ((bytes_eq-Decides key text).0 is)) ∙ e
+        | false ↦ λ is. refl
+      ] refl
+      | false ↦ λ e. among-push keys key text
+    ] refl
+
+without_key : (t s : Bool) (text : List ℕ) (left texts : List (List ℕ)) (keys : List (List ℕ)) → among keys text ≡ s
+    → left ≡ others keys texts → cond (not (t || s)) (text ∷ left) left ≡ others keys (cond (not t) (text ∷ texts) texts)
+without_key true s text left texts keys e h = h
+without_key false true text left texts keys e h = rw e h
+without_key false false text left texts keys e h = rw e (ap (λ ts. text ∷ ts) h)
+
+others-with_key : (keys : List (List ℕ)) (key : List ℕ) (texts : List (List ℕ))
+    → others (with_key keys key) texts ≡ others keys (filter (λ other. not (bytes_eq key other)) texts)
+others-with_key keys key [] = refl
+others-with_key keys key (text ∷ texts) =
+    rw (among-with_key keys key text)
+    (without_key (bytes_eq key text) (among keys text) text _ _ keys refl (others-with_key keys key texts))
+
+others-none : (texts : List (List ℕ)) → others [] texts ≡ texts
+others-none [] = refl
+others-none (text ∷ texts) = ap (λ ts. text ∷ ts) (others-none texts)
 
 module _ {X : Type 0} where
   -- what a key has after one more pair
@@ -100,6 +154,43 @@ module _ {X : Type 0} where
   pub in_key_order-last : (given : List (List ℕ × X)) (asked : List ℕ) → value_at (in_key_order given) asked ≡ last_value given asked
   unfolding in_key_order_on
   in_key_order-last given asked = last_on with_sorted in_key_order_on (λ kept. refl) (λ kept pair given. refl) with_sorted-value [] given asked ∙ or_none (last_value given asked)
+
+  with_pair-keys : (pairs : List (List ℕ × X)) (key : List ℕ) (value : X)
+      → keys_of (with_pair pairs key value) ≡ with_key (keys_of pairs) key
+  unfolding with_pair
+  with_pair-keys [] key value = refl
+  with_pair-keys (pair ∷ pairs) key value =
+      elim (bytes_eq pair.0 key) as (λ t. bytes_eq pair.0 key ≡ t
+      → keys_of (cond t ((key, value) ∷ pairs) (pair ∷ with_pair pairs key value))
+      ≡ cond (t || among (keys_of pairs) key) (keys_of (pair ∷ pairs)) (keys_of (pair ∷ pairs) ++ key ∷ [])) [
+        | true ↦ λ e. ap (λ k. k ∷ keys_of pairs) (sym ((bytes_eq-Decides pair.0 key).0 e))
+        | false ↦ λ e. ap (λ ks. pair.0 ∷ ks) (with_pair-keys pairs key value) ∙ behind (among (keys_of pairs) key)
+      ] refl
+    where
+      behind : (t : Bool) → pair.0 ∷ cond t (keys_of pairs) (keys_of pairs ++ key ∷ [])
+          ≡ cond t (keys_of (pair ∷ pairs)) (keys_of (pair ∷ pairs) ++ key ∷ [])
+      behind true = refl
+      behind false = refl
+
+  keys_on : (kept given : List (List ℕ × X))
+      → keys_of (in_first_order_on kept given) ≡ keys_of kept ++ others (keys_of kept) (first_of_each (keys_of given))
+  unfolding in_first_order_on first_of_each
+  keys_on kept [] = sym (append-nil (keys_of kept))
+  keys_on kept (pair ∷ given) =
+      keys_on (with_pair kept pair.0 pair.1) given
+      ∙ ap (λ keys. keys ++ others keys (first_of_each (keys_of given))) (with_pair-keys kept pair.0 pair.1)
+      ∙ ap (λ ts. with_key (keys_of kept) pair.0 ++ ts) (others-with_key (keys_of kept) pair.0 (first_of_each (keys_of given)))
+      ∙ joined (among (keys_of kept) pair.0)
+    where
+      rest : List (List ℕ)
+      rest = others (keys_of kept) (filter (λ other. not (bytes_eq pair.0 other)) (first_of_each (keys_of given)))
+
+      joined : (t : Bool) → cond t (keys_of kept) (keys_of kept ++ pair.0 ∷ []) ++ rest ≡ keys_of kept ++ cond (not t) (pair.0 ∷ rest) rest
+      joined true = refl
+      joined false = append_assoc (keys_of kept) (pair.0 ∷ []) rest
+
+  pub in_first_order-keys : (given : List (List ℕ × X)) → keys_of (in_first_order given) ≡ first_of_each (keys_of given)
+  in_first_order-keys given = keys_on [] given ∙ others-none (first_of_each (keys_of given))
 
   distinct_on : (kept given : List (List ℕ × X)) → IsDistinct (pointwise nat_eq) (keys_of kept) → IsDistinct (pointwise nat_eq) (keys_of (in_first_order_on kept given))
   unfolding in_first_order_on

@@ -1,22 +1,29 @@
 -- How a metric is made of parts.
-use Rattle.std.specs.Prelude.{◌≡◌, ◌==◌, ◌||◌, ℕ, ℤ, List, length, Result, Ok, Err, IsOk, nat_eq, if◌then◌else◌}
-use Rattle.std.specs.List.{IsDistinct}
+use Rattle.std.specs.Prelude.{◌≡◌, ◌==◌, ◌||◌, ℕ, ℤ, List, length, Result, Ok, Err, IsOk, nat_eq}
+use Rattle.std.specs.Prelude.{if◌then◌else◌}
+use Rattle.std.specs.List.{AllByRecursion, IsDistinct}
+use Rattle.std.specs.Str.{IsUtf8}
 use Rattle.std.specs.Map.{keys_of}
 use Rattle.std.specs.Cmp.Lexicographic.{pointwise}
+use Rattle.metric.specs.Metric.{IsValue}
 use Rattle.metric.specs.Pairs.{has_empty_key, with_values, IsInKeyOrder}
 use Rattle.metric.specs.declared.value.Value.{Value}
 use Rattle.metric.specs.declared.metric.Content.{Content}
 use Rattle.metric.specs.declared.builder.BuildFault.{BuildFault}
 use Rattle.metric.specs.declared.builder.BuildFault.TheVariants.{OutOfMemory, EmptyName, EmptyKey, NoFields}
 
--- what a metric in the making has so far: tags in the order of their keys, fields in the order in which they came
+-- what a metric in the making has so far: tags in the order of their keys, fields in the order in which they
+-- came
 pub record Parts : Type 0 where
   pub name : List ℕ
   pub tags : List (List ℕ × List ℕ)
   pub fields : List (List ℕ × Value)
 
--- what is true of the parts at each time
+-- what is true of the parts at each time: keys and values may be empty so far
 pub record IsBuilt (p : Parts) : Type 0 where
+  pub name : IsUtf8 p.name
+  pub tags : AllByRecursion (λ (tag : List ℕ × List ℕ). IsUtf8 tag.0 × IsUtf8 tag.1) p.tags
+  pub fields : AllByRecursion (λ (field : List ℕ × Value). IsUtf8 field.0 × IsValue field.1) p.fields
   pub sorted : IsInKeyOrder p.tags
   pub distinct : IsDistinct (pointwise nat_eq) (keys_of p.fields)
 

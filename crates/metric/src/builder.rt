@@ -3,8 +3,10 @@ ghost use Rattle.std.specs.Prelude.{◌≡◌, [], length, OnOk, OnErr, IfOk};
 ghost use Rattle.std.specs.List.{position};
 ghost use Rattle.std.specs.Str.{bytes_eq};
 ghost use Rattle.metric.specs.Building.{finished, Finishes};
+ghost use Rattle.metric.specs.Metric.{IsValue};
 ghost use Rattle.metric.specs.declared.builder.BuildFault.TheVariants.{OutOfMemory};
-ghost use Rattle.metric.specs.Pairs.{with_pair, with_sorted, has_empty_key, with_values, HasPlace, IsInKeyOrder};
+ghost use Rattle.metric.specs.Pairs.{with_pair, with_sorted, has_empty_key, with_values, HasPlace};
+ghost use Rattle.metric.specs.Pairs.{IsInKeyOrder};
 
 use crate::{Content, Metric, Text, Value};
 use fixed_num::{Moment, OutOfMemory, Seq};
@@ -61,7 +63,8 @@ impl Model for Builder {
 
     ghost view = { λ b. record { name = b.name; tags = b.tags.items; fields = b.fields.items } };
 
-    ghost invariant = { λ b. IsBuilt (record { name = b.name; tags = b.tags.items; fields = b.fields.items }) };
+    ghost invariant = { λ b. IsBuilt
+        (record { name = b.name; tags = b.tags.items; fields = b.fields.items }) };
 }
 
 /// Tags and fields that find room before memory is asked for again.
@@ -80,10 +83,11 @@ impl Builder {
         })
     }
 
-    /// One more tag: a key that was given before keeps its place and takes this value. An empty value counts until
-    /// the metric is made, and is left out then.
+    /// One more tag: a key that was given before keeps its place and takes this value. An empty value counts
+    /// until the metric is made, and is left out then.
     pub fn tag(&mut self, key: &str, value: &str) -> Result<(), OutOfMemory>
-        ensures ok { OnOk result (self.new ≡ record self.old { tags = with_sorted self.old.tags key.now value.now }) }
+        ensures ok { OnOk result
+            (self.new ≡ record self.old { tags = with_sorted self.old.tags key.now value.now }) }
         ensures err { OnErr result (self.new ≡ self.old) }
     {
         put_tag(self.alloc, &mut self.tags, key, value)
@@ -91,9 +95,11 @@ impl Builder {
 
     /// One more field: a key that was given before keeps its place and takes this value.
     pub fn field(&mut self, key: &str, value: Value) -> Result<(), OutOfMemory>
-        ensures ok { OnOk result (self.new ≡ record self.old { fields = with_pair self.old.fields key.now value }) }
+        ensures ok { OnOk result
+            (self.new ≡ record self.old { fields = with_pair self.old.fields key.now value }) }
         ensures err { OnErr result (self.new ≡ self.old) }
     {
+        in_range(&value);
         put_field(self.alloc, &mut self.fields, key, value)
     }
 
@@ -111,8 +117,8 @@ impl Builder {
         self.fields.len()
     }
 
-    /// The metric at a time, without the tags whose value is empty. EmptyName exactly where the name is empty; else
-    /// EmptyKey exactly where a key is; else NoFields exactly where there is no field.
+    /// The metric at a time, without the tags whose value is empty. EmptyName exactly where the name is
+    /// empty; else EmptyKey exactly where a key is; else NoFields exactly where there is no field.
     pub fn finish(self, time: Moment) -> Result<Metric, BuildFault>
         ensures { Finishes result (finished self time) }
     {
@@ -141,6 +147,28 @@ impl Builder {
                 time,
             },
         )?)
+    }
+}
+
+/// Says that a value is in the range of its type, and UTF-8 where it is a text.
+#[inline(always)]
+fn in_range(value: &Value)
+    ensures { IsValue value.now }
+{
+    match value {
+        Value::Int(n) => {
+            let _n = *n;
+        }
+        Value::Uint(n) => {
+            let _n = *n;
+        }
+        Value::Fixed(n) => {
+            let _n = n.billionths();
+        }
+        Value::Bool(_) => {}
+        Value::Text(text) => {
+            let _text = text.as_str();
+        }
     }
 }
 
@@ -186,8 +214,8 @@ fn put_field(
     Ok(())
 }
 
-/// Where the tag of a key stands, or where one has to be put, among tags sorted by key. It is looked for from the
-/// end, since tags mostly come in order.
+/// Where the tag of a key stands, or where one has to be put, among tags sorted by key. It is looked for from
+/// the end, since tags mostly come in order.
 fn place_of(tags: &[(Text, Text)], key: &str) -> Result<usize, usize>
     requires { IsInKeyOrder tags.now }
     ensures { HasPlace tags.now key.now result }

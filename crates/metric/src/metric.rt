@@ -54,6 +54,15 @@ impl Metric {
         })
     }
 
+    /// Says to a caller's proof what is true of each metric: its texts are UTF-8, its name, its keys and the
+    /// values of its tags are filled, its keys are distinct, it has a field, and its numbers are in the
+    /// ranges of their types.
+    pub fn is_metric(&self)
+        ensures { IsMetric self.now }
+    {
+        let _content = &self.content;
+    }
+
     /// The name, which isn't empty.
     pub fn name(&self) -> &Text
         ensures name { result.now ≡ self.now.name }

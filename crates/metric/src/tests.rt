@@ -71,26 +71,65 @@ fn metrics_are_made(rt: HostRuntime) -> Result<(), Fail> {
     Ok(())
 }
 
+/// A metric's name, the key of its tag and that of its field, if it has one, and the fault that is wanted.
+#[derive(Clone, Copy)]
+struct Case {
+    name: &'static str,
+    tag: &'static str,
+    field: Option<&'static str>,
+    want: Option<BuildFault>,
+}
+
+/// The first fault counts.
+const CASES: [Case; 5] = [
+    Case {
+        name: "",
+        tag: "",
+        field: None,
+        want: Some(BuildFault::EmptyName),
+    },
+    Case {
+        name: "cpu",
+        tag: "",
+        field: Some("v"),
+        want: Some(BuildFault::EmptyKey),
+    },
+    Case {
+        name: "cpu",
+        tag: "host",
+        field: Some(""),
+        want: Some(BuildFault::EmptyKey),
+    },
+    Case {
+        name: "cpu",
+        tag: "host",
+        field: None,
+        want: Some(BuildFault::NoFields),
+    },
+    Case {
+        name: "cpu",
+        tag: "host",
+        field: Some("v"),
+        want: None,
+    },
+];
+
 #[test]
 fn faults_come_in_order(rt: HostRuntime) -> Result<(), Fail> {
     let alloc = rt.alloc();
-    let rows = [
-        ("", "", false, Some(BuildFault::EmptyName)),
-        ("cpu", "", false, Some(BuildFault::EmptyKey)),
-        ("cpu", "", true, Some(BuildFault::EmptyKey)),
-        ("cpu", "host", false, Some(BuildFault::NoFields)),
-        ("cpu", "host", true, None),
-    ];
-    for (name, key, filled, want) in rows {
-        let mut builder = Builder::new(alloc, name)?;
-        builder.tag(key, "")?;
-        if filled {
-            builder.field("v", Value::Int(1))?;
+    for case in CASES {
+        let mut builder = Builder::new(alloc, case.name)?;
+        builder.tag(case.tag, "")?;
+        if let Some(key) = case.field {
+            builder.field(key, Value::Int(1))?;
         }
-        assert_eq!(rt; builder.finish(0).err(), want, "at {name} {key} {filled}");
+        assert_eq!(rt;
+            builder.finish(0).err(),
+            case.want,
+            "at {} {}",
+            case.name,
+            case.tag
+        );
     }
-    let mut builder = Builder::new(alloc, "cpu")?;
-    builder.field("", Value::Int(1))?;
-    assert_eq!(rt; builder.finish(0).err(), Some(BuildFault::EmptyKey));
     Ok(())
 }

@@ -1,5 +1,6 @@
 -- A list of items of one kind, each behind a separator.
-use Rattle.std.specs.Prelude.{ℕ, zero, suc, ◌+◌, ◌==◌, List, [], ◌∷◌, length, Result, Ok, slice_index, if◌then◌else◌}
+use Rattle.std.specs.Prelude.{ℕ, zero, suc, ◌+◌, ◌==◌, List, [], ◌∷◌, length, Result, Ok, slice_index}
+use Rattle.std.specs.Prelude.{if◌then◌else◌}
 use Rattle.text_parts.specs.Chain.{◌>>=◌}
 
 -- a reader of items of a piece: from a place, the item and the place behind it

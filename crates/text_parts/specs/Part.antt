@@ -1,5 +1,6 @@
 -- A part of a text: what ends it, and what a backslash hides.
-use Rattle.std.specs.Prelude.{◌≡◌, ℕ, ◌+◌, Bool, false, ◌==◌, ◌&&◌, List, [], ◌∷◌, length, take, drop, if◌then◌else◌}
+use Rattle.std.specs.Prelude.{◌≡◌, ℕ, ◌+◌, Bool, false, ◌==◌, ◌&&◌, List, [], ◌∷◌, length, take, drop}
+use Rattle.std.specs.Prelude.{if◌then◌else◌}
 
 -- a kind of part: the bytes that end it, those that a backslash hides, and what a hidden one means
 pub record Kind : Type 0 where

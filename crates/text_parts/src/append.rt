@@ -1,5 +1,5 @@
-//! Writing by appending to a lent text. A call that fails leaves the old text at the front, and perhaps a part of
-//! what it writes behind it; `settle` cuts that off.
+//! Writing by appending to a lent text. A call that fails leaves the old text at the front, and perhaps a
+//! part of what it writes behind it; `settle` cuts that off.
 ghost use Rattle.std.specs.Prelude.{◌≡◌, ◌++◌, OnOk, OnErr, codes, decimal, take, flat_map};
 ghost use Rattle.std.specs.Fmt.{signed_decimal};
 ghost use Rattle.text_parts.specs.Adds.{Adds};
@@ -91,8 +91,8 @@ pub fn append_signed(out: &mut Vec<u8>, words: &str, n: &i64) -> Result<(), OutO
     Ok(())
 }
 
-/// Ends a writing, given the length that the text had before it: where memory was wanting the text is cut back to that
-/// length, and so is as before. Gives what was given.
+/// Ends a writing, given the length that the text had before it: where memory was wanting the text is cut
+/// back to that length, and so is as before. Gives what was given.
 pub fn settle(
     out: &mut Vec<u8>,
     len: usize,

@@ -14,7 +14,8 @@ const LABEL: Part = Part {
     newlines: true,
 };
 
-// Keys from the examples of line protocol's documentation, label values from those of the OpenMetrics text format.
+// Keys from the examples of line protocol's documentation, label values from those of the OpenMetrics text
+// format.
 #[test]
 fn parts_are_read(rt: HostRuntime) -> Result<(), Fail> {
     let rows = [

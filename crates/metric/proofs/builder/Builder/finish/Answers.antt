@@ -1,3 +1,5 @@
+use Rattle.std.specs.Int.{w64}
+use Rattle.std.proofs.lemmas.Int.{to_z-of_z}
 use Rattle.std.proofs.Common.{arith, sym, ap, ◌∙◌, length}
 use Rattle.std.specs.Prelude.{◌==◌, ◌≡◌, List, ℕ, vec_len}
 use Rattle.std.proofs.lemmas.Bool.{eqb-false}
@@ -9,8 +11,8 @@ use Rattle.metric.proofs.builder.Builder.finish.Goals as goal
 pub of-requires-3 : goal.of-requires-3
 of-requires-3 c =
     let some : vec_len c.self.inside.fields ≡ 0 → ⊥ = eqb-false (vec_len c.self.inside.fields) 0 (sym c.is_empty-2.ensures ∙ c.if-is_empty-2.false) in
-    rw (c.of.ensures, c.keep_valued.ensures, c.of-2.ensures)
-    (is_metric _ _ c.self.invariant
+    rw (c.of.ensures, c.keep_valued.ensures, c.of-2.ensures, to_z-of_z w64 c.args.time c.ranges.time)
+    (is_metric _ _ c.self.invariant c.ranges.time
     (ap (λ (t : List ℕ). length t == 0) (sym c.as_str.ensures) ∙ sym c.is_empty.ensures ∙ c.if-is_empty.false)
     (ap has_empty_key (sym c.as_slice.ensures.value) ∙ sym c.tag_without_key.ensures ∙ c.if-tag_without_key.false)
     (ap has_empty_key (sym c.as_slice-else-tag_without_key.ensures.value) ∙ sym c.field_without_key.ensures ∙ c.if-field_without_key.false)

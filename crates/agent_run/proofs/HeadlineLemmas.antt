@@ -1,6 +1,7 @@
 -- What each status of a run says.
 use Rattle.std.proofs.Common.{◌≡◌, ◌≤◌, ◌<◌, ℕ, ℤ, ◌^◌, Bool, true, false, List, refl, sym, ap, ◌∙◌, subst, inl, inr, arith, cond, replicate}
-use Rattle.std.specs.Prelude.{◌≢◌, not, ◌⊎◌, ◌||◌, count_by}
+use Rattle.std.specs.Prelude.{◌≢◌, not, ◌⊎◌, ◌||◌, count_by, IfOk, Result, Ok}
+use Rattle.fixed_num.specs.declared.memory.OutOfMemory.{OutOfMemory}
 use Rattle.std.specs.declared.option.Option.{Option}
 use Rattle.std.proofs.lemmas.List.Sums.{sum_by-append}
 use Rattle.agent_base.specs.Counts.{Rose, RoseBy}
@@ -140,3 +141,15 @@ module _ (batch limit : ℕ) (input output noted reported : Change) (run_moments
   -- where memory was short nothing is promised
   pub short_ends : status ≡ statuses.OutOfMemory → Ends batch limit input output noted reported run_moments input_moments status
   short_ends e = rw e tt
+
+-- what a run left, by other terms
+pub ran_as : (batch limit : ℕ) (r : Result Ending OutOfMemory) (input output noted other : Change) (run_moments other_moments input_moments : Option Moments) → noted ≡ other → run_moments ≡ other_moments →
+    IfOk r (λ ending. Ran batch limit ending input output noted run_moments input_moments) → IfOk r (λ ending. Ran batch limit ending input output other other_moments input_moments)
+ran_as batch limit r input output noted other run_moments other_moments input_moments n m h =
+    subst (λ (x : Option Moments). IfOk r (λ ending. Ran batch limit ending input output other x input_moments)) m
+    (subst (λ (x : Change). IfOk r (λ ending. Ran batch limit ending input output x run_moments input_moments)) n h)
+
+-- of a run that ended
+pub ran_of : (batch limit : ℕ) (r : Result Ending OutOfMemory) (ending : Ending) (input output noted : Change) (run_moments input_moments : Option Moments) → r ≡ Ok ending → IfOk r (λ e. Ran batch limit e input output noted run_moments input_moments)
+    → Ran batch limit ending input output noted run_moments input_moments
+ran_of batch limit r ending input output noted run_moments input_moments is h = subst (λ (x : Result Ending OutOfMemory). IfOk x (λ e. Ran batch limit e input output noted run_moments input_moments)) is h

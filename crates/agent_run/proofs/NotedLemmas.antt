@@ -5,6 +5,7 @@ use Rattle.std.specs.Io.KnownBytes.{Appends}
 use Rattle.std.specs.Option.{option_to_list}
 use Rattle.std.specs.declared.option.Option.{Option}
 use Rattle.std.specs.declared.option.Option.TheVariants.{Some, None}
+use Rattle.std.proofs.lemmas.Bool.{ne_eqb}
 use Rattle.std.proofs.lemmas.List.{drop_at, drop_more, take_more, take_all, take-take}
 use Rattle.std.proofs.Math.Seq.{take-append_seam}
 use Rattle.metric.specs.declared.metric.Content.{Content}
@@ -115,7 +116,9 @@ none_known = refl
 part_text : (setup : JournalSetup) (count : ℕ) (journal entries : List Entry) → count ≡ length journal → noted_text setup journal ++ (front_text setup count ++ entries_text (items journal) entries) ≡ text_so_far setup (journal ++ entries)
 part_text setup count [] entries none = rw (none, none_known) refl
 part_text setup zero (e ∷ journal) entries some = absurd (omega (arith, some))
-part_text setup (suc n) (e ∷ journal) entries some = sym (so_far_more setup (e ∷ journal) entries)
+part_text setup (suc n) (e ∷ journal) entries some =
+    let later : (suc n == 0) ≡ false = ne_eqb (suc n) 0 (λ z. absurd (omega (arith, z))) in
+    rw later (sym (so_far_more setup (e ∷ journal) entries))
 
 -- some entries: the text so far is what is put
 noted_some : (setup : JournalSetup) (journal entries : List Entry) → length entries ≢ 0 → noted_text setup (journal ++ entries) ≡ text_so_far setup (journal ++ entries)
@@ -124,15 +127,15 @@ noted_some setup [] (e ∷ entries) some = refl
 noted_some setup (x ∷ journal) entries some = refl
 
 -- a prefix of a front is one of the whole
-prefix_more : (n : ℕ) (front rest : List ℕ) → take n front ≡ take (min n (length front)) (front ++ rest)
-prefix_more zero front rest = refl
-prefix_more (suc n) [] rest = refl
-prefix_more (suc n) (x ∷ front) rest = ap (λ (t : List ℕ). x ∷ t) (prefix_more n front rest)
+prefix_more : (n : ℕ) (front rest : List ℕ) → (m : ℕ) × (take n front ≡ take m (front ++ rest))
+prefix_more zero front rest = (0, refl)
+prefix_more (suc n) [] rest = (0, refl)
+prefix_more (suc n) (x ∷ front) rest = let p = prefix_more n front rest in (suc p.0, ap (λ (t : List ℕ). x ∷ t) p.1)
 
 -- a front and a prefix of what follows it
-prefix_behind : (n : ℕ) (front rest : List ℕ) → front ++ take n rest ≡ take (length front + n) (front ++ rest)
-prefix_behind n [] rest = refl
-prefix_behind n (x ∷ front) rest = ap (λ (t : List ℕ). x ∷ t) (prefix_behind n front rest)
+prefix_behind : (n : ℕ) (front rest : List ℕ) → (m : ℕ) × (front ++ take n rest ≡ take m (front ++ rest))
+prefix_behind n [] rest = (n, refl)
+prefix_behind n (x ∷ front) rest = let p = prefix_behind n front rest in (suc p.0, ap (λ (t : List ℕ). x ∷ t) p.1)
 
 appends_same : (before after : Option (List ℕ)) (text other : List ℕ) → text ≡ other → Appends before after text → Appends before after other
 appends_same before after text other same h = subst (Appends before after) same h
@@ -149,6 +152,15 @@ appends_none (Some xs) = sym (append-nil xs)
 
 rose_from : (a b c : ℕ) → a ≤ b → Rose b c → Rose a c
 rose_from a b c l r = omega arith
+
+-- the same put, by other terms
+pub part_put_as : (was first now : Bool) (text other : List ℕ) (held first_held new_held : Option (List ℕ)) (faults first_faults new_faults : ℕ) → was ≡ first → text ≡ other → held ≡ first_held → faults ≡ first_faults →
+    IsPartPut was now text held new_held faults new_faults → IsPartPut first now other first_held new_held first_faults new_faults
+part_put_as was first now text other held first_held new_held faults first_faults new_faults e t h f put =
+    subst (λ (b : Bool). IsPartPut b now other first_held new_held first_faults new_faults) e
+    (subst (λ (xs : List ℕ). IsPartPut was now xs first_held new_held first_faults new_faults) t
+    (subst (λ (x : Option (List ℕ)). IsPartPut was now text x new_held first_faults new_faults) h
+    (subst (λ (n : ℕ). IsPartPut was now text held new_held n new_faults) f put)))
 
 -- ---- a part without an entry
 
@@ -172,34 +184,36 @@ module _ (entries : List Entry) (old : JournalPart) (setup : JournalSetup) (held
   put_more true now text whole new_held new_faults was is rest put =
       let before = subst (λ (failed : Bool). IsNotedSo failed (change held old.held faults old.faults) setup journal) (sym was) h.put in
       let later : faults ≤ new_faults = omega (arith, h.later, put.2) in
+      let p = prefix_more before.1.0 (text_so_far setup journal) rest.0 in
       let torn : IsPutSo true (change held new_held faults new_faults) whole = (
         omega (arith, before.0, put.2),
         (
-          min before.1.0 (length (text_so_far setup journal)),
-          subst (λ (after : Option (List ℕ)). Appends held after (take (min before.1.0 (length (text_so_far setup journal))) whole)) (sym put.1)
-              (appends_same held old.held _ _ (prefix_more before.1.0 (text_so_far setup journal) rest.0 ∙ ap (take (min before.1.0 (length (text_so_far setup journal)))) (sym rest.1)) before.1.1),
+          p.0,
+          subst (λ (after : Option (List ℕ)). Appends held after (take p.0 whole)) (sym put.1)
+              (appends_same held old.held (take before.1.0 (text_so_far setup journal)) (take p.0 whole) (p.1 ∙ ap (take p.0) (sym rest.1)) before.1.1),
         ),
       ) in
       (subst (λ (failed : Bool). IsPutSo failed (change held new_held faults new_faults) whole) (sym put.0) torn, later)
   put_more false true text whole new_held new_faults was is rest put =
       let before = subst (λ (failed : Bool). IsNotedSo failed (change held old.held faults old.faults) setup journal) (sym was) h.put in
-      let n = put.0.1.0 in (
+      let n = put.0.1.0 in
+      let p = prefix_behind n (noted_text setup journal) text in (
         (
           rose_from faults old.faults new_faults h.later put.0.0,
           (
-            length (noted_text setup journal) + n,
-            appends_same held new_held _ _ (prefix_behind n (noted_text setup journal) text ∙ ap (take (length (noted_text setup journal) + n)) is) (appends_then held old.held new_held (noted_text setup journal) (take n text) before put.0.1.1),
+            p.0,
+            appends_same held new_held (noted_text setup journal ++ take n text) (take p.0 whole) (p.1 ∙ ap (take p.0) is) (appends_then held old.held new_held (noted_text setup journal) (take n text) before put.0.1.1),
           ),
         ),
         omega (arith, h.later, put.1),
       )
   put_more false false text whole new_held new_faults was is rest put =
       let before = subst (λ (failed : Bool). IsNotedSo failed (change held old.held faults old.faults) setup journal) (sym was) h.put in
-      (appends_same held new_held _ _ is (appends_then held old.held new_held (noted_text setup journal) text before put.0), omega (arith, h.later, put.1))
+      (appends_same held new_held (noted_text setup journal ++ text) whole is (appends_then held old.held new_held (noted_text setup journal) text before put.0), omega (arith, h.later, put.1))
 
   noted_by : (now : Bool) (new_held : Option (List ℕ)) (new_faults : ℕ) → length entries ≢ 0 → IsPutSo now (change held new_held faults new_faults) (text_so_far setup (journal ++ entries)) → IsNotedSo now (change held new_held faults new_faults) setup (journal ++ entries)
   noted_by true new_held new_faults some put = put
-  noted_by false new_held new_faults some put = appends_same held new_held _ _ (sym (noted_some setup journal entries some)) put
+  noted_by false new_held new_faults some put = appends_same held new_held (text_so_far setup (journal ++ entries)) (noted_text setup (journal ++ entries)) (sym (noted_some setup journal entries some)) put
 
 -- entries were spelled and put
 pub notes_more : (entries : List Entry) (old new : JournalPart) (text : List ℕ) → length entries ≢ 0 → SpellsOn entries old.kept new.kept (front_text old.setup old.entries) text → new.entries ≡ old.entries + length entries → new.setup ≡ old.setup →

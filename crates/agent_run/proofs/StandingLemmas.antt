@@ -7,6 +7,7 @@ use Rattle.std.specs.declared.option.Option.TheVariants.{Some, None}
 use Rattle.std.proofs.lemmas.List.{length-drop, length-take}
 use Rattle.metric.specs.declared.metric.Content.{Content}
 use Rattle.account.specs.Setup.{Setup}
+use Rattle.account.specs.Views.{HasViews}
 use Rattle.account.specs.declared.entry.Entry.{Entry}
 use Rattle.account.specs.declared.entry.Entry.TheVariants.{Gather, Ended, Take, Route, Tick, Stop, Begin, Done}
 use Rattle.account.specs.declared.entry.Verdict.{Verdict}
@@ -15,9 +16,9 @@ use Rattle.out_lane.specs.Lane.{LaneState, after_begin}
 use Rattle.pipeline_core.specs.CoreState.{CoreState, lane_at}
 use Rattle.pipeline_core.specs.Offers.{view_at}
 use Rattle.pipeline_core.specs.Steps.{lane_done, lane_with, lanes_with}
-use Rattle.pipeline_core.specs.Legal.{AreLegal, Meets, HasViews, verdict_of}
+use Rattle.pipeline_core.specs.Legal.{AreLegal, Meets, verdict_of}
 use Rattle.pipeline_core.specs.Stands.{Stands}
-use Rattle.journal_text.specs.JournalText.{IsWholeOrRemoved, HasViewsOf}
+use Rattle.journal_text.specs.JournalText.{IsWholeOrRemoved}
 use Rattle.agent_run.specs.Running.{HasJournal}
 
 pub has : {core : CoreState} {journal : List Entry} → Stands core journal → HasJournal core
@@ -31,11 +32,7 @@ whole_or_none : (whole : Option Content) (verdict : Verdict) → verdict ≡ ver
 whole_or_none None verdict e = (λ k. refl, λ k. e)
 whole_or_none (Some whole) verdict e = (λ k. absurd (let x : verdicts.Passes ≡ verdicts.Removed = sym e ∙ k in cc), λ k. absurd (let x : Some whole ≡ None = k in cc))
 
-views_of : (whole : Option Content) (outs : List (Option Content)) → HasViews whole outs → HasViewsOf whole outs
-views_of None outs h = h
-views_of (Some whole) outs h = h
-
-no_views : (whole : Option Content) (aggs : List (Option Content)) → aggs ≡ [] → HasViewsOf whole aggs
+no_views : (whole : Option Content) (aggs : List (Option Content)) → aggs ≡ [] → HasViews whole aggs
 no_views None aggs e = rw e tt
 no_views (Some whole) aggs e = tt
 
@@ -43,7 +40,7 @@ meets_whole : (setup : Setup) (before : List Entry) (e : Entry) → Meets setup 
 meets_whole setup before (Gather input moment pieces refused passed filtered metrics group reports) h = tt
 meets_whole setup before (Ended input) h = tt
 meets_whole setup before (Take item) h = tt
-meets_whole setup before (Route item whole verdict aggs outs reports) h = (whole_or_none whole verdict h.judged, no_views whole aggs h.aggregators, views_of whole outs h.views)
+meets_whole setup before (Route item whole verdict aggs outs reports) h = (whole_or_none whole verdict h.judged, no_views whole aggs h.aggregators, h.views)
 meets_whole setup before (Tick moment made) h = tt
 meets_whole setup before (Stop moment made) h = tt
 meets_whole setup before (Begin output from to) h = tt

@@ -11,7 +11,7 @@ use Rattle.account.specs.declared.entry.Entry.TheVariants.{Gather, Ended, Take, 
 use Rattle.account.specs.declared.entry.Verdict.{Verdict}
 use Rattle.pipeline_core.specs.CoreState.{CoreState}
 use Rattle.pipeline_core.specs.Stands.{Stands}
-use Rattle.pipeline_core.proofs.JournalPush.{items-push}
+use Rattle.account.proofs.ItemLemmas.{items-push}
 use Rattle.agent_run.specs.Worked.{WorkedBy, AreWorked, Worked}
 
 -- an item keeps its number as more come

@@ -3,14 +3,15 @@ ghost use Rattle.std.specs.Prelude.{◌≡◌, ◌≤◌, ◌∷◌, ℕ, List, 
 ghost use Rattle.agent_base.specs.Hand.{empty_hand};
 ghost use Rattle.pipeline_core.specs.CoreState.{CoreState, setup_of};
 ghost use Rattle.pipeline_core.specs.Stands.{Stands};
-ghost use Rattle.agent_run.specs.JournalSoFar.{Spells};
+ghost use Rattle.agent_run.specs.Noted.{part_of};
 ghost use Rattle.agent_run.specs.PipeSetup.{pipe_setup, journal_setup_of};
-ghost use Rattle.agent_run.specs.Progress.{GoesOn, IsSettled};
+ghost use Rattle.agent_run.specs.Progress.{NotesRun, IsSettled};
 ghost use Rattle.agent_run.specs.Running.{IsReady, IsReading, HasJournal, StillStands, IsNoted};
 
 use crate::command::Pipe;
-use crate::journal::JournalText;
-use agent_base::{CutKind, Pieces};
+use crate::journal::JournalJob;
+use account::Entry;
+use agent_base::{CutKind, Pieces, Sink};
 use fixed_num::{Moment, OutOfMemory, Seq};
 use journal_text::JournalSetup;
 use pipeline_core::{Core, CoreSetup, CutAnswer, InSetup, OutSetup};
@@ -22,15 +23,18 @@ pub struct PipeRun {
     pub alloc: Global,
     pub core: Core,
     pub pieces: Pieces,
-    pub journal: JournalText,
-    /// The text of a batch.
+    /// The text that is put: of a batch, or of a part of the journal.
     pub text: Vec<u8>,
     /// How many puts to the output failed in succession since the last item was routed, or the run was stopped.
     pub failed: u32,
 }
 
 /// What the journal is about.
-fn journal_setup(alloc: Global, pipe: &Pipe<'_>, start: Moment) -> Result<JournalSetup, OutOfMemory>
+pub fn journal_setup(
+    alloc: Global,
+    pipe: &Pipe<'_>,
+    start: Moment,
+) -> Result<JournalSetup, OutOfMemory>
     ensures { IfOk result (λ setup. setup ≡ journal_setup_of (pipe_setup pipe.now.batch pipe.now.limit start)) }
 {
     Ok(JournalSetup {
@@ -74,7 +78,6 @@ pub fn new_run(alloc: Global, pipe: &Pipe<'_>, start: Moment) -> Result<PipeRun,
     ensures stands { IfOk result (λ run. Stands run.core []) }
     ensures setup { IfOk result (λ run. run.core.setup ≡ pipe_setup pipe.now.batch pipe.now.limit start) }
     ensures stored { IfOk result (λ run. run.core.stored ≡ []) }
-    ensures spells { IfOk result (λ run. Spells (journal_setup_of (pipe_setup pipe.now.batch pipe.now.limit start)) [] run.journal) }
     ensures pieces { IfOk result (λ run. run.pieces ≡ empty_hand) }
     ensures failed { IfOk result (λ run. run.failed ≡ 0) }
 {
@@ -82,27 +85,37 @@ pub fn new_run(alloc: Global, pipe: &Pipe<'_>, start: Moment) -> Result<PipeRun,
         alloc,
         core: Core::new(alloc, core_setup(alloc, pipe, start)?)?,
         pieces: Pieces::new(alloc, CutKind::Lines)?,
-        journal: JournalText::new(alloc, &journal_setup(alloc, pipe, start)?)?,
         text: Vec::new(alloc),
         failed: 0,
     })
 }
 
-/// Adds the text of the entries since the last cut.
-pub fn note(run: &mut PipeRun) -> Result<(), OutOfMemory>
+/// Puts the text of the entries since the last cut, where there are any.
+pub fn note<K: Sink + Drop>(run: &mut PipeRun, journal: &mut JournalJob<K>) -> Result<(), OutOfMemory>
     requires ready { IsReady run.old.core }
     requires stands { HasJournal run.old.core }
     ensures ready { OnOk result (IsReady run.new.core) }
     ensures noted { OnOk result (IsNoted run.old run.new) }
     ensures stands { StillStands result run.new.core }
-    ensures goes { OnOk result (GoesOn run.old run.new) }
+    ensures notes { OnOk result (NotesRun run.old run.new (part_of K.held K.faults journal.old) (part_of K.held K.faults journal.new)) }
 {
     match run.core.cut() {
         Ok(entries) => {
-            run.journal.write(entries.as_slice())?;
+            journal.take(run.alloc, entries.as_slice(), &mut run.text)?;
             Ok(())
         }
         Err(CutAnswer::NothingNew) => Ok(()),
+        Err(CutAnswer::OutOfMemory) => Err(OutOfMemory),
+    }
+}
+
+/// The entries since the last cut.
+pub fn last_entries(alloc: Global, core: &mut Core) -> Result<Vec<Entry>, OutOfMemory>
+    ensures { IfOk result (λ entries. entries.items ≡ core.old.stored) }
+{
+    match core.cut() {
+        Ok(entries) => Ok(entries),
+        Err(CutAnswer::NothingNew) => Ok(Vec::new(alloc)),
         Err(CutAnswer::OutOfMemory) => Err(OutOfMemory),
     }
 }

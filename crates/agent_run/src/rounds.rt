@@ -1,19 +1,24 @@
 //! The rounds of a run, and its end.
-ghost use Rattle.std.specs.Prelude.{◌≡◌, ◌≢◌, ◌≤◌, ◌⊎◌, ◌∷◌, ◌||◌, ℕ, ℤ, List, [], Option, Ok, IfOk, OnOk, Some, None, false, true};
+ghost use Rattle.std.specs.Prelude.{◌≡◌, ◌≢◌, ◌==◌, ◌≤◌, ◌⊎◌, ◌∷◌, ◌||◌, ℕ, ℤ, List, [], Option, Ok, IfOk, OnOk, Some, None, not, false, true};
 ghost use Rattle.std.specs.Int.{int_max};
 ghost use Rattle.account.specs.Numbers.{output_numbers};
-ghost use Rattle.agent_run.specs.Headline.{Ran, IsPutSo, change, status_of};
+ghost use Rattle.account.specs.AccountText.{account_text};
+ghost use Rattle.agent_base.specs.Moments.{Gives};
+ghost use Rattle.agent_run.specs.Headline.{Ran, change, status_of};
+ghost use Rattle.agent_run.specs.Noted.{part_of, EndsOn};
+ghost use Rattle.agent_run.specs.PipeSetup.{pipe_setup, journal_setup_of};
 ghost use Rattle.agent_run.specs.Progress.{Beginning, Surroundings, Went, RunsOn, IsSettled};
 ghost use Rattle.agent_run.specs.Running.{IsReady, IsReading, HasJournal, StillStands};
 
 use crate::command::Pipe;
 use crate::gathering::gather;
-use crate::pipe_run::{PipeRun, new_run, note};
+use crate::journal::JournalJob;
+use crate::pipe_run::{PipeRun, journal_setup, last_entries, new_run, note};
 use crate::reading::InState;
 use crate::routing::route_all;
 use crate::sending::{send_all, send_rest};
 use crate::status::Status;
-use agent_base::{Clock, PutFault, Sink, Source};
+use agent_base::{Clock, Sink, Source};
 use fixed_num::{Moment, OutOfMemory};
 use std::alloc::Global;
 
@@ -26,7 +31,7 @@ pub struct Ending {
     pub state: InState,
     /// Whether a metric is still buffered at the output.
     pub left: bool,
-    /// Whether the put of the journal failed.
+    /// Whether a put of the journal failed.
     pub journal_failed: bool,
 }
 
@@ -50,10 +55,11 @@ impl Ending {
 }
 
 /// Rounds, until the input is read no more; answers why. What a failed put left is tried again in the next round.
-fn rounds<S: Source, K: Sink, C: Clock>(
+fn rounds<S: Source, K: Sink + Drop, C: Clock>(
     run: &mut PipeRun,
     source: &mut S,
     sink: &mut K,
+    journal: &mut JournalJob<K>,
     clock: &mut C,
 ) -> Result<InState, OutOfMemory>
     requires ready { IsReady run.old.core }
@@ -65,14 +71,15 @@ fn rounds<S: Source, K: Sink, C: Clock>(
     ensures read { IfOk result (λ state. state ≢ InState.Reading) }
     ensures stands { StillStands result run.new.core }
     ensures runs { IfOk result (λ state. RunsOn run.old run.new state (S.left source.old) (S.left source.new) (S.faults source.old) (S.faults source.new)
-        (C.moments clock.old) (C.place clock.old) (C.place clock.new) (K.held sink.old) (K.held sink.new) (K.faults sink.old) (K.faults sink.new)) }
+        (C.moments clock.old) (C.place clock.old) (C.place clock.new) (K.held sink.old) (K.held sink.new) (K.faults sink.old) (K.faults sink.new)
+        (part_of K.held K.faults journal.old) (part_of K.held K.faults journal.new)) }
     ensures list { C.moments clock.new ≡ C.moments clock.old }
 {
     for _round in 0..u64::MAX {
         let state = gather(run, source, clock)?;
         route_all(run)?;
         send_all(run, sink)?;
-        note(run)?;
+        note(run, journal)?;
         if state != InState::Reading {
             return Ok(state);
         }
@@ -88,7 +95,6 @@ fn finish<K: Sink>(run: &mut PipeRun, sink: &mut K, moment: Moment) -> Result<()
     ensures ready { OnOk result (IsReady run.new.core) }
     ensures stopped { OnOk result (run.new.core.stopped ≡ true) }
     ensures none_raw { OnOk result (run.new.core.raw ≡ []) }
-    ensures none_stored { OnOk result (run.new.core.stored ≡ []) }
     ensures rest { OnOk result (((output_numbers run.new.core.numbers 0).buffered ≡ 0) ⊎ (3 ≤ run.new.failed)) }
     ensures stands { StillStands result run.new.core }
     ensures goes { OnOk result ((start : Beginning) (now : Surroundings) → Went start run.old (record now { held = K.held sink.old; puts = K.faults sink.old; stops = [] }) →
@@ -98,55 +104,105 @@ fn finish<K: Sink>(run: &mut PipeRun, sink: &mut K, moment: Moment) -> Result<()
     run.failed = 0;
     route_all(run)?;
     send_rest(run, sink)?;
-    note(run)?;
     Ok(())
 }
 
-/// Puts the journal, and says whether the put failed.
-fn put_journal<K: Sink>(journal: &mut K, text: &[u8]) -> Result<bool, OutOfMemory>
-    ensures put { IfOk result (λ failed. IsPutSo failed (change (K.held journal.old) (K.held journal.new) (K.faults journal.old) (K.faults journal.new)) text.now) }
+/// Ends the journal: its last entries, its account and its last line are put.
+fn end_journal<K: Sink + Drop>(
+    run: &mut PipeRun,
+    journal: &mut JournalJob<K>,
+    state: InState,
+) -> Result<Ending, OutOfMemory>
+    requires ready { IsReady run.old.core }
+    requires stands { HasJournal run.old.core }
+    ensures state { IfOk result (λ ending. ending.state ≡ state) }
+    ensures left { IfOk result (λ ending. ending.left ≡ not ((output_numbers run.old.core.numbers 0).buffered == 0)) }
+    ensures account { IfOk result (λ ending. ending.account.items ≡ account_text run.old.core.numbers) }
+    ensures failed { IfOk result (λ ending. ending.journal_failed ≡ journal.new.failed) }
+    ensures ends { OnOk result (EndsOn run.old.core.stored (account_text run.old.core.numbers) (part_of K.held K.faults journal.old) (part_of K.held K.faults journal.new)) }
 {
-    match journal.put(text) {
-        Ok(()) => Ok(false),
-        Err(PutFault::Failed) => Ok(true),
-        Err(PutFault::OutOfMemory) => Err(OutOfMemory),
-    }
+    let mut account = Vec::new(run.alloc);
+    run.core.account().text(&mut account)?;
+    let left = run.core.buffered(0) != 0;
+    let entries = last_entries(run.alloc, &mut run.core)?;
+    journal.end(run.alloc, entries.as_slice(), &account, &mut run.text)?;
+    Ok(Ending {
+        account,
+        state,
+        left,
+        journal_failed: journal.failed,
+    })
 }
 
-/// Runs a pipe over its parts: rounds, the end, and one put of the whole journal.
-pub fn run<S: Source, K: Sink, C: Clock>(
+/// Runs a pipe from its start: rounds, the end, and the end of the journal.
+fn run_from<S: Source, K: Sink + Drop, C: Clock>(
     alloc: Global,
     pipe: &Pipe<'_>,
+    start: Moment,
     source: &mut S,
     sink: &mut K,
-    journal: &mut K,
+    journal: &mut JournalJob<K>,
     clock: &mut C,
     input_clock: &mut C,
 ) -> Result<Ending, OutOfMemory>
     requires some { 1 ≤ pipe.now.batch }
     requires ordered { pipe.now.batch ≤ pipe.now.limit }
-    requires first { C.place clock.old ≡ 0 }
+    requires first { Gives (C.moments clock.old) 0 (C.place clock.old) start }
     requires input_first { C.place input_clock.old ≡ 0 }
+    requires about { journal.old.setup ≡ journal_setup_of (pipe_setup pipe.now.batch pipe.now.limit start) }
+    requires none_kept { journal.old.kept.items ≡ [] }
+    requires none_put { journal.old.entries ≡ 0 }
+    requires none_failed { journal.old.failed ≡ false }
     ensures ran { IfOk result (λ ending. Ran pipe.now.batch pipe.now.limit ending
         (change (S.left source.old) (S.left source.new) (S.faults source.old) (S.faults source.new))
         (change (K.held sink.old) (K.held sink.new) (K.faults sink.old) (K.faults sink.new))
-        (change (K.held journal.old) (K.held journal.new) (K.faults journal.old) (K.faults journal.new))
+        (change (K.held journal.old.sink) (K.held journal.new.sink) (K.faults journal.old.sink) (K.faults journal.new.sink))
+        (C.moments clock.old) (C.moments input_clock.old)) }
+{
+    let mut run = new_run(alloc, pipe, start)?;
+    let state = rounds(&mut run, source, sink, journal, input_clock)?;
+    let moment = clock.now();
+    finish(&mut run, sink, moment)?;
+    let ending = end_journal(&mut run, journal, state)?;
+    Ok(ending)
+}
+
+/// Runs a pipe over its parts, and gives back the part to which the journal goes: rounds, each of which puts the entries
+/// that it made, and the end.
+pub fn run<S: Source, K: Sink + Drop, C: Clock>(
+    alloc: Global,
+    pipe: &Pipe<'_>,
+    source: &mut S,
+    sink: &mut K,
+    journal: K,
+    clock: &mut C,
+    input_clock: &mut C,
+) -> (K, Result<Ending, OutOfMemory>)
+    requires some { 1 ≤ pipe.now.batch }
+    requires ordered { pipe.now.batch ≤ pipe.now.limit }
+    requires first { C.place clock.old ≡ 0 }
+    requires input_first { C.place input_clock.old ≡ 0 }
+    ensures ran { IfOk result.1 (λ ending. Ran pipe.now.batch pipe.now.limit ending
+        (change (S.left source.old) (S.left source.new) (S.faults source.old) (S.faults source.new))
+        (change (K.held sink.old) (K.held sink.new) (K.faults sink.old) (K.faults sink.new))
+        (change (K.held journal) (K.held result.0) (K.faults journal) (K.faults result.0))
         (C.moments clock.old) (C.moments input_clock.old)) }
 {
     let start = clock.now();
-    let mut run = new_run(alloc, pipe, start)?;
-    let state = rounds(&mut run, source, sink, input_clock)?;
-    let moment = clock.now();
-    finish(&mut run, sink, moment)?;
-    let mut account = Vec::new(alloc);
-    run.core.account().text(alloc, &mut account)?;
-    let left = run.core.buffered(0) != 0;
-    let text = run.journal.end(&account)?;
-    let journal_failed = put_journal(journal, &text)?;
-    Ok(Ending {
-        account,
-        state,
-        left,
-        journal_failed,
-    })
+    let setup = match journal_setup(alloc, pipe, start) {
+        Ok(setup) => setup,
+        Err(fault) => return (journal, Err(fault)),
+    };
+    let mut job = JournalJob::new(alloc, setup, journal);
+    let ran = run_from(
+        alloc,
+        pipe,
+        start,
+        source,
+        sink,
+        &mut job,
+        clock,
+        input_clock,
+    );
+    (job.sink, ran)
 }

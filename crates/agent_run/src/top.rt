@@ -91,16 +91,16 @@ fn run_parts<W: World>(
     let Parts {
         mut source,
         mut sink,
-        mut journal,
+        journal,
     } = parts;
     let mut clock = world.clock(RUN_CLOCK, RUN_PAUSE);
     let mut input_clock = world.clock(INPUT_CLOCK, INPUT_PAUSE);
-    let ran = run(
+    let (journal, ran) = run(
         alloc,
         pipe,
         &mut source,
         &mut sink,
-        &mut journal,
+        journal,
         &mut clock,
         &mut input_clock,
     );

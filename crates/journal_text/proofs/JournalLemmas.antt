@@ -12,7 +12,7 @@ pub equal_are_same : EqualAreSame
 equal_are_same first second = same first second (are_equal first second) refl
 
 -- the entries of a front, and those behind it, which know what the front named
-entries_text-append : (known : List Content) (es more : List Entry) →
+pub entries_text-append : (known : List Content) (es more : List Entry) →
     entries_text known (es ++ more) ≡ entries_text known es ++ entries_text (known ++ items es) more
 unfolding entries_text items
 entries_text-append known [] more = ap (λ (all : List Content). entries_text all more) (sym (append-nil known))

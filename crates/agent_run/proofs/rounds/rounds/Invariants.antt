@@ -1,4 +1,5 @@
 use Rattle.std.proofs.Common.{◌≡◌}
+use Rattle.agent_run.specs.Noted.{part_of}
 use Rattle.agent_run.specs.Progress.{RunsOn, IsSettled}
 use Rattle.agent_run.specs.Running.{IsReady, IsReading, HasJournal}
 use Rattle.agent_run.specs.declared.reading.InState.TheVariants as states
@@ -12,5 +13,6 @@ invariant-loop-round g l = record {
   stands : HasJournal l.run.core;
   list : g.C.Clock.moments l.clock ≡ g.C.Clock.moments l.fn.clock;
   runs : RunsOn l.fn.run l.run states.Reading (g.S.Source.left l.fn.source) (g.S.Source.left l.source) (g.S.Source.faults l.fn.source) (g.S.Source.faults l.source)
-      (g.C.Clock.moments l.fn.clock) (g.C.Clock.place l.fn.clock) (g.C.Clock.place l.clock) (g.K.Sink.held l.fn.sink) (g.K.Sink.held l.sink) (g.K.Sink.faults l.fn.sink) (g.K.Sink.faults l.sink);
+      (g.C.Clock.moments l.fn.clock) (g.C.Clock.place l.fn.clock) (g.C.Clock.place l.clock) (g.K.Sink.held l.fn.sink) (g.K.Sink.held l.sink) (g.K.Sink.faults l.fn.sink) (g.K.Sink.faults l.sink)
+      (part_of g.K.Sink.held g.K.Sink.faults l.fn.journal) (part_of g.K.Sink.held g.K.Sink.faults l.journal);
 }

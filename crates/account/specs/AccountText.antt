@@ -65,7 +65,8 @@ unfoldable pub numbered : {X : Type 0} → (ℕ → X → List ℕ) → ℕ → 
 numbered text n [] = []
 numbered text n (x ∷ xs) = text n x ++ numbered text (n + 1) xs
 
--- the account of a run: the lines of its inputs, those of the groups of tracked inputs, its items, and its outputs
+-- the account of a run: the lines of its inputs, those of the groups of tracked inputs, its items, and its
+-- outputs
 unfoldable pub account_text : Numbers → List ℕ
 account_text numbers =
     numbered input_line 0 numbers.inputs

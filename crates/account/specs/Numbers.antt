@@ -1,5 +1,6 @@
 -- What is counted of a run.
-use Rattle.std.specs.Prelude.{ℕ, ◌+◌, ◌-◌, ◌<◌, Bool, false, List, map, replicate, All, slice_set, slice_index_or}
+use Rattle.std.specs.Prelude.{ℕ, ◌+◌, ◌-◌, ◌<◌, Bool, false, List, map, replicate, All, slice_set}
+use Rattle.std.specs.Prelude.{slice_index_or}
 use Rattle.account.specs.declared.numbers.InputNumbers.{InputNumbers}
 use Rattle.account.specs.declared.numbers.OutputNumbers.{OutputNumbers}
 
@@ -13,7 +14,18 @@ pub record Numbers : Type 0 where
 
 -- the numbers of an input of which nothing was read
 abbrev pub unread_input : Bool → InputNumbers
-unread_input tracked = record { tracked = tracked; pieces = 0; refused = 0; passed = 0; filtered = 0; gathered = 0; has_ended = false; delivered = 0; rejected = 0; undelivered = 0 }
+unread_input tracked = record {
+  tracked = tracked;
+  pieces = 0;
+  refused = 0;
+  passed = 0;
+  filtered = 0;
+  gathered = 0;
+  has_ended = false;
+  delivered = 0;
+  rejected = 0;
+  undelivered = 0;
+}
 
 -- the numbers of an output that nothing reached
 abbrev pub unreached_output : OutputNumbers
@@ -22,7 +34,13 @@ unreached_output = record { filtered = 0; late = 0; consumed = 0; written = 0; b
 -- the numbers of a run in which nothing happened: the flags say which inputs are tracked
 abbrev pub no_numbers : List Bool → ℕ → Numbers
 no_numbers tracked outputs =
-    record { inputs = map unread_input tracked; made = 0; removed = 0; routed = 0; outputs = replicate outputs unreached_output }
+    record {
+      inputs = map unread_input tracked;
+      made = 0;
+      removed = 0;
+      routed = 0;
+      outputs = replicate outputs unreached_output;
+    }
 
 -- the numbers of an input
 abbrev pub input_numbers : Numbers → ℕ → InputNumbers
@@ -43,7 +61,13 @@ with_output numbers output x = record numbers { outputs = slice_set numbers.outp
 -- an input's numbers, once more pieces were read
 abbrev pub gathered_more : InputNumbers → ℕ → ℕ → ℕ → ℕ → ℕ → InputNumbers
 gathered_more x pieces refused passed filtered metrics =
-    record x { pieces = x.pieces + pieces; refused = x.refused + refused; passed = x.passed + passed; filtered = x.filtered + filtered; gathered = x.gathered + metrics }
+    record x {
+      pieces = x.pieces + pieces;
+      refused = x.refused + refused;
+      passed = x.passed + passed;
+      filtered = x.filtered + filtered;
+      gathered = x.gathered + metrics;
+    }
 
 -- an output's numbers, once so many buffered metrics were written
 abbrev pub written_more : OutputNumbers → ℕ → OutputNumbers

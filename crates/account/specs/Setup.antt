@@ -2,7 +2,8 @@
 use Rattle.std.specs.Prelude.{ℕ, ℤ, List}
 use Rattle.std.specs.declared.option.Option.{Option}
 
--- the moment at which the run began; per input the most groups that may be undelivered, where it is tracked; per output its batch size and its buffer limit
+-- the moment at which the run began; per input the most groups that may be undelivered, where it is tracked;
+-- per output its batch size and its buffer limit
 pub record Setup : Type 0 where
   pub start : ℤ
   pub inputs : List (Option ℕ)

@@ -1,6 +1,9 @@
 //! What is counted of a run.
-ghost use Rattle.std.specs.Prelude.{◌≡◌, ◌+◌, ◌<◌, ◌≤◌, ◌^◌, ◌↔◌, true, ◌++◌, length, IfOk, OnOk, OnErr, IsTrue};
-ghost use Rattle.account.specs.Numbers.{Numbers, no_numbers, input_numbers, output_numbers, with_input, with_output, gathered_more, written_more, dropped_more, IsInputBelow, AreBelow};
+ghost use Rattle.std.specs.Prelude.{◌≡◌, ◌+◌, ◌<◌, ◌≤◌, ◌^◌, ◌↔◌, true, ◌++◌, length, IfOk, OnOk, OnErr};
+ghost use Rattle.std.specs.Prelude.{IsTrue};
+ghost use Rattle.account.specs.Numbers.{Numbers, no_numbers, input_numbers, output_numbers, with_input};
+ghost use Rattle.account.specs.Numbers.{with_output, gathered_more, written_more, dropped_more, IsInputBelow};
+ghost use Rattle.account.specs.Numbers.{AreBelow};
 ghost use Rattle.text_parts.specs.Adds.{Adds};
 ghost use Rattle.account.specs.AccountText.{account_text};
 
@@ -28,7 +31,13 @@ impl Model for Account {
 
     ghost Value = { Numbers };
 
-    ghost view = { λ a. record { inputs = a.inputs.items; made = a.made; removed = a.removed; routed = a.routed; outputs = a.outputs.items } };
+    ghost view = { λ a. record {
+      inputs = a.inputs.items;
+      made = a.made;
+      removed = a.removed;
+      routed = a.routed;
+      outputs = a.outputs.items;
+    } };
 }
 
 impl Account {

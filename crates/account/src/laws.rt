@@ -6,6 +6,8 @@ ghost use Rattle.account.specs.Numbers.{sum_of_fates, written_more, dropped_more
 /// Metrics that are written or dropped were buffered: an output's six numbers tell of as many
 /// routed metrics as before.
 pub fn moves_keep_the_sum()
-    ensures written { (x : OutputNumbers) (n : ℕ) → n ≤ x.buffered → sum_of_fates (written_more x n) ≡ sum_of_fates x }
-    ensures dropped { (x : OutputNumbers) (n : ℕ) → n ≤ x.buffered → sum_of_fates (dropped_more x n) ≡ sum_of_fates x }
+    ensures written { (x : OutputNumbers) (n : ℕ) → n ≤ x.buffered →
+        sum_of_fates (written_more x n) ≡ sum_of_fates x }
+    ensures dropped { (x : OutputNumbers) (n : ℕ) → n ≤ x.buffered →
+        sum_of_fates (dropped_more x n) ≡ sum_of_fates x }
 {}

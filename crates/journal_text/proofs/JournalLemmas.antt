@@ -15,7 +15,8 @@ equal_are_same first second = same first second (are_equal first second) refl
 pub entries_text-append : (known : List Content) (es more : List Entry) →
     entries_text known (es ++ more) ≡ entries_text known es ++ entries_text (known ++ items es) more
 unfolding entries_text items
-entries_text-append known [] more = ap (λ (all : List Content). entries_text all more) (sym (append-nil known))
+entries_text-append known [] more =
+    ap (λ (all : List Content). entries_text all more) (sym (append-nil known))
 entries_text-append known (x ∷ es) more =
     let first : List ℕ = entry_text (item_of known x) x in
     ap (λ (t : List ℕ). first ++ t) (entries_text-append (known ++ named_by x) es more)

@@ -1,5 +1,6 @@
 -- Bytes that are written as they are, and bytes that are escaped.
-use Rattle.std.proofs.Common.{◌≡◌, ℕ, suc, ◌+◌, true, false, List, [], ◌∷◌, ◌++◌, length, get_or, take, drop, refl, sym, ◌∙◌, ap, append_assoc, arith}
+use Rattle.std.proofs.Common.{◌≡◌, ℕ, suc, ◌+◌, true, false, List, [], ◌∷◌, ◌++◌, length, get_or, take, drop}
+use Rattle.std.proofs.Common.{refl, sym, ◌∙◌, ap, append_assoc, arith}
 use Rattle.std.specs.List.{prefix_len, list_all}
 use Rattle.std.proofs.lemmas.List.{append-nil, nil_from_length}
 use Rattle.journal_text.specs.MetricText.{is_plain, byte_text, escaped}
@@ -57,32 +58,40 @@ pub record IsCut (bytes : List ℕ) (n : ℕ) (first behind : List ℕ) : Type 0
   pub front : first ≡ take n bytes
   pub back : behind ≡ drop n bytes
 
-behind_is : {bytes : List ℕ} {n : ℕ} {first behind : List ℕ} → IsCut bytes n first behind → drop (prefix_len is_plain bytes) bytes ≡ behind
+behind_is : {bytes : List ℕ} {n : ℕ} {first behind : List ℕ} → IsCut bytes n first behind →
+    drop (prefix_len is_plain bytes) bytes ≡ behind
 behind_is {bytes = bytes} cut = sym (cut.back ∙ ap (λ k. drop k bytes) cut.plain)
 
-first_is : {bytes : List ℕ} {n : ℕ} {first behind : List ℕ} → IsCut bytes n first behind → first ≡ take (prefix_len is_plain bytes) bytes
+first_is : {bytes : List ℕ} {n : ℕ} {first behind : List ℕ} → IsCut bytes n first behind →
+    first ≡ take (prefix_len is_plain bytes) bytes
 first_is {bytes = bytes} cut = cut.front ∙ ap (λ k. take k bytes) cut.plain
 
-parts_are : {bytes : List ℕ} {n : ℕ} {first behind : List ℕ} → IsCut bytes n first behind → first ++ escaped behind ≡ escaped bytes
+parts_are : {bytes : List ℕ} {n : ℕ} {first behind : List ℕ} → IsCut bytes n first behind →
+    first ++ escaped behind ≡ escaped bytes
 parts_are {bytes = bytes} {behind = behind} cut =
     ap (λ t. t ++ escaped behind) (first_is cut)
     ∙ ap (λ t. take (prefix_len is_plain bytes) bytes ++ escaped t) (sym (behind_is cut))
     ∙ sym ((front bytes).is)
 
 -- the byte behind the plain ones isn't plain
-pub behind_front : {bytes : List ℕ} {n : ℕ} {first behind : List ℕ} → IsCut bytes n first behind → (b : ℕ) (others : List ℕ) → behind ≡ b ∷ others → is_plain b ≡ false
+pub behind_front : {bytes : List ℕ} {n : ℕ} {first behind : List ℕ} → IsCut bytes n first behind →
+    (b : ℕ) (others : List ℕ) → behind ≡ b ∷ others → is_plain b ≡ false
 behind_front {bytes = bytes} cut b others e = (front bytes).other b others (behind_is cut ∙ e)
 
 -- all bytes were plain
-pub escaped_end : {bytes : List ℕ} {n : ℕ} {first behind : List ℕ} → IsCut bytes n first behind → length behind ≡ 0 → (out new all : List ℕ) → out ++ escaped bytes ≡ all → new ≡ out ++ first → new ≡ all
+pub escaped_end : {bytes : List ℕ} {n : ℕ} {first behind : List ℕ} → IsCut bytes n first behind →
+    length behind ≡ 0 → (out new all : List ℕ) → out ++ escaped bytes ≡ all → new ≡ out ++ first → new ≡ all
 unfolding escaped
 escaped_end {bytes = bytes} {first = first} {behind = behind} cut none out new all before then =
     then ∙ ap (λ t. out ++ t) (sym (append-nil first) ∙ ap (λ t. first ++ escaped t) (sym (nil_from_length behind none)) ∙ parts_are cut) ∙ before
 
 -- plain bytes, and one that is escaped
-pub escaped_more : {bytes : List ℕ} {n : ℕ} {first behind : List ℕ} → IsCut bytes n first behind → (b : ℕ) (others : List ℕ) → behind ≡ b ∷ others → (out mid new all : List ℕ) → out ++ escaped bytes ≡ all → mid ≡ out ++ first → new ≡ mid ++ byte_text b → new ++ escaped others ≡ all
+pub escaped_more : {bytes : List ℕ} {n : ℕ} {first behind : List ℕ} → IsCut bytes n first behind →
+    (b : ℕ) (others : List ℕ) → behind ≡ b ∷ others → (out mid new all : List ℕ) →
+    out ++ escaped bytes ≡ all → mid ≡ out ++ first → new ≡ mid ++ byte_text b → new ++ escaped others ≡ all
 unfolding escaped
-escaped_more {bytes = bytes} {first = first} {behind = behind} cut b others e out mid new all before then last =
+escaped_more {bytes =
+    bytes} {first = first} {behind = behind} cut b others e out mid new all before then last =
     ap (λ t. t ++ escaped others) (last ∙ ap (λ t. t ++ byte_text b) then)
     ∙ append_assoc (out ++ first) (byte_text b) (escaped others)
     ∙ append_assoc out first (byte_text b ++ escaped others)

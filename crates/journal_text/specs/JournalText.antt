@@ -1,5 +1,6 @@
 -- The text of a journal.
-use Rattle.std.specs.Prelude.{◌≡◌, ◌↔◌, ℕ, ℤ, Bool, List, [], ◌∷◌, ◌++◌, length, codes, decimal, slice_get, IsTrue, if◌then◌else◌}
+use Rattle.std.specs.Prelude.{◌≡◌, ◌↔◌, ℕ, ℤ, Bool, List, [], ◌∷◌, ◌++◌, length, codes, decimal, slice_get}
+use Rattle.std.specs.Prelude.{IsTrue, if◌then◌else◌}
 use Rattle.std.specs.List.{flat_map}
 use Rattle.std.specs.Option.{option_to_list}
 use Rattle.std.specs.declared.option.Option.{Option}
@@ -10,7 +11,8 @@ use Rattle.account.specs.declared.entry.Verdict.{Verdict}
 use Rattle.account.specs.declared.entry.Verdict.TheVariants.{Passes, Consumed, Late, Removed}
 use Rattle.account.specs.declared.entry.Report.{Report}
 use Rattle.account.specs.declared.entry.Entry.{Entry}
-use Rattle.account.specs.declared.entry.Entry.TheVariants.{Gather, Ended, Take, Route, Tick, Stop, Begin, Done}
+use Rattle.account.specs.declared.entry.Entry.TheVariants.{Gather, Ended, Take, Route, Tick, Stop, Begin}
+use Rattle.account.specs.declared.entry.Entry.TheVariants.{Done}
 use Rattle.account.specs.Items.{items, named_by}
 use Rattle.account.specs.Views.{HasViews}
 use Rattle.std.specs.Fmt.{signed_decimal}
@@ -47,7 +49,8 @@ verdict_text Late = codes "late"
 verdict_text Removed = codes "removed"
 
 -- what a Route says behind its item: that it was removed, or its whole, its verdict and its views
-unfoldable pub routed_text : List Content → Option Content → Verdict → List (Option Content) → List (Option Content) → List ℕ
+unfoldable pub routed_text : List Content → Option Content → Verdict → List (Option Content) →
+    List (Option Content) → List ℕ
 routed_text item None verdict aggs outs = codes " - removed\n"
 routed_text item (Some whole) verdict aggs outs =
     codes " " ++ whole_text item whole ++ codes " " ++ verdict_text verdict
@@ -59,7 +62,9 @@ metric_lines metrics = flat_map (λ (m : Content). codes "m " ++ metric_text m +
 
 -- the line of a report
 unfoldable pub report_line : Report → List ℕ
-report_line report = codes "report " ++ decimal report.group ++ (if report.delivered then codes " delivered\n" else codes " rejected\n")
+report_line report =
+    codes "report " ++ decimal report.group
+    ++ (if report.delivered then codes " delivered\n" else codes " rejected\n")
 
 -- the lines of reports
 abbrev pub report_lines : List Report → List ℕ
@@ -77,7 +82,8 @@ spaced numbers = flat_map (λ (n : ℕ). codes " " ++ decimal n) numbers
 -- the line of a Gather: the input, the moment, the numbers and the group
 unfoldable pub gather_line : ℕ → ℤ → List ℕ → Option ℕ → List ℕ
 gather_line input moment numbers group =
-    codes "gather " ++ decimal input ++ codes " " ++ signed_decimal moment ++ spaced numbers ++ codes " " ++ group_text group ++ codes "\n"
+    codes "gather " ++ decimal input ++ codes " " ++ signed_decimal moment ++ spaced numbers
+    ++ codes " " ++ group_text group ++ codes "\n"
 
 -- an entry, with the item of a Route: its line, its metrics and its reports
 unfoldable pub entry_text : List Content → Entry → List ℕ
@@ -88,10 +94,17 @@ entry_text item (Ended input) = codes "ended " ++ decimal input ++ codes "\n"
 entry_text item (Take taken) = codes "take " ++ decimal taken ++ codes "\n"
 entry_text item (Route routed whole verdict aggs outs reports) =
     codes "route " ++ decimal routed ++ routed_text item whole verdict aggs outs ++ report_lines reports
-entry_text item (Tick moment made) = codes "tick " ++ signed_decimal moment ++ codes " " ++ decimal (length made) ++ codes "\n" ++ metric_lines made
-entry_text item (Stop moment made) = codes "stop " ++ signed_decimal moment ++ codes " " ++ decimal (length made) ++ codes "\n" ++ metric_lines made
-entry_text item (Begin output from to) = codes "begin " ++ decimal output ++ codes " " ++ decimal from ++ codes " " ++ decimal to ++ codes "\n"
-entry_text item (Done output ok reports) = codes "done " ++ decimal output ++ (if ok then codes " ok\n" else codes " failed\n") ++ report_lines reports
+entry_text item (Tick moment made) =
+    codes "tick " ++ signed_decimal moment ++ codes " " ++ decimal (length made) ++ codes "\n"
+    ++ metric_lines made
+entry_text item (Stop moment made) =
+    codes "stop " ++ signed_decimal moment ++ codes " " ++ decimal (length made) ++ codes "\n"
+    ++ metric_lines made
+entry_text item (Begin output from to) =
+    codes "begin " ++ decimal output ++ codes " " ++ decimal from ++ codes " " ++ decimal to ++ codes "\n"
+entry_text item (Done output ok reports) =
+    codes "done " ++ decimal output ++ (if ok then codes " ok\n" else codes " failed\n")
+    ++ report_lines reports
 
 -- the text of a Gather, and nothing for another entry
 unfoldable pub gather_text : Entry → List ℕ
@@ -101,7 +114,8 @@ gather_text _ = []
 
 -- the text of a Route with its item, and nothing for another entry
 unfoldable pub route_text : List Content → Entry → List ℕ
-route_text item (Route routed whole verdict aggs outs reports) = entry_text item (Route routed whole verdict aggs outs reports)
+route_text item (Route routed whole verdict aggs outs reports) =
+    entry_text item (Route routed whole verdict aggs outs reports)
 route_text item _ = []
 
 -- the item of an entry among these: that of a Route

@@ -1,5 +1,6 @@
 -- The text of a metric in a journal.
-use Rattle.std.specs.Prelude.{ℕ, ◌+◌, ◌/◌, ◌%◌, ◌==◌, ◌&&◌, ◌||◌, nat_lt, nat_le, Bool, List, [], ◌∷◌, ◌++◌, codes, decimal, if◌then◌else◌}
+use Rattle.std.specs.Prelude.{ℕ, ◌+◌, ◌/◌, ◌%◌, ◌==◌, ◌&&◌, ◌||◌, nat_lt, nat_le, Bool, List, [], ◌∷◌, ◌++◌}
+use Rattle.std.specs.Prelude.{codes, decimal, if◌then◌else◌}
 use Rattle.std.specs.Fmt.{signed_decimal}
 use Rattle.std.specs.List.{flat_map}
 use Rattle.fixed_num.specs.Canonical.{canonical_text}
@@ -44,7 +45,8 @@ field_text field = escaped field.0 ++ codes "=" ++ value_text field.1
 -- fields with semicolons between them
 unfoldable pub fields_text : List (List ℕ × Value) → List ℕ
 fields_text [] = []
-fields_text (field ∷ fields) = field_text field ++ flat_map (λ (other : List ℕ × Value). codes ";" ++ field_text other) fields
+fields_text (field ∷ fields) =
+    field_text field ++ flat_map (λ (other : List ℕ × Value). codes ";" ++ field_text other) fields
 
 -- a metric: its name with its tags, its fields and its time
 unfoldable pub metric_text : Content → List ℕ

@@ -2,7 +2,10 @@
 ghost use Rattle.std.specs.Prelude.{◌≡◌, ◌++◌, OnOk, OnErr, length, codes, decimal, if◌then◌else◌};
 ghost use Rattle.text_parts.specs.Adds.{Adds};
 ghost use Rattle.std.specs.Fmt.{signed_decimal};
-ghost use Rattle.journal_text.specs.JournalText.{beside_text, whole_text, view_text, views_text, verdict_text, routed_text, metric_lines, report_line, report_lines, group_text, spaced, gather_line, gather_text, route_text, entry_text, end_text, HasItem, IsWholeOrRemoved};
+ghost use Rattle.journal_text.specs.JournalText.{beside_text, whole_text, view_text, views_text};
+ghost use Rattle.journal_text.specs.JournalText.{verdict_text, routed_text, metric_lines, report_line};
+ghost use Rattle.journal_text.specs.JournalText.{report_lines, group_text, spaced, gather_line, gather_text};
+ghost use Rattle.journal_text.specs.JournalText.{route_text, entry_text, end_text, HasItem, IsWholeOrRemoved};
 
 use crate::metrics::append_metric;
 use account::{Entry, Report, Verdict};
@@ -229,7 +232,8 @@ fn append_made(
     made: &[Metric],
 ) -> Result<(), OutOfMemory>
     ensures { Adds result out.old.items out.new.items
-        (words.now ++ signed_decimal moment.now ++ codes " " ++ decimal (length made.now) ++ codes "\n" ++ metric_lines made.now) }
+        (words.now ++ signed_decimal moment.now ++ codes " " ++ decimal (length made.now) ++ codes "\n"
+        ++ metric_lines made.now) }
 {
     append_signed(out, words, moment)?;
     append_line(out, " ", made.len() as u64)?;
@@ -307,7 +311,8 @@ fn append_route(
 // Appends a Begin: its output and its positions.
 fn append_begin(out: &mut Vec<u8>, output: u32, from: u64, to: u64) -> Result<(), OutOfMemory>
     ensures { Adds result out.old.items out.new.items
-        (codes "begin " ++ decimal output ++ codes " " ++ decimal from ++ codes " " ++ decimal to ++ codes "\n") }
+        (codes "begin " ++ decimal output ++ codes " " ++ decimal from ++ codes " " ++ decimal to
+        ++ codes "\n") }
 {
     let output = u64::from(output);
     append_numbers(out, &[("begin ", output), (" ", from), (" ", to)], "\n")?;
@@ -322,7 +327,8 @@ fn append_done(
     reports: &[Report],
 ) -> Result<(), OutOfMemory>
     ensures { Adds result out.old.items out.new.items
-        (codes "done " ++ decimal output ++ (if ok then codes " ok\n" else codes " failed\n") ++ report_lines reports.now) }
+        (codes "done " ++ decimal output ++ (if ok then codes " ok\n" else codes " failed\n")
+        ++ report_lines reports.now) }
 {
     append_numbers(out, &[("done ", u64::from(output))], done_ending(ok))?;
     append_reports(out, reports)?;
@@ -390,7 +396,8 @@ fn append_end(account: &[u8], entries: u64, out: &mut Vec<u8>) -> Result<(), Out
     Ok(())
 }
 
-/// Appends the end of a journal: the account's text and the number of entries. `OutOfMemory` leaves `out` as it was.
+/// Appends the end of a journal: the account's text and the number of entries. `OutOfMemory` leaves `out` as
+/// it was.
 pub fn write_end(
     _alloc: Global,
     account: &[u8],

@@ -2,7 +2,8 @@
 ghost use Rattle.std.specs.Prelude.{◌≡◌, ◌++◌, ◌<◌, ◌≤◌, false, OnOk, length, codes};
 ghost use Rattle.std.specs.List.{flat_map, list_all, prefix_len};
 ghost use Rattle.text_parts.specs.Adds.{Adds};
-ghost use Rattle.journal_text.specs.MetricText.{is_plain, hex_digit, byte_text, escaped, value_text, tag_text, field_text, fields_text, metric_text};
+ghost use Rattle.journal_text.specs.MetricText.{is_plain, hex_digit, byte_text, escaped, value_text};
+ghost use Rattle.journal_text.specs.MetricText.{tag_text, field_text, fields_text, metric_text};
 
 use fixed_num::OutOfMemory;
 use metric::{Metric, Text, Value};

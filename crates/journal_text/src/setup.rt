@@ -2,7 +2,8 @@
 ghost use Rattle.std.specs.Prelude.{◌≡◌, ◌++◌, [], OnOk, OnErr, codes, if◌then◌else◌};
 ghost use Rattle.text_parts.specs.Adds.{Adds};
 ghost use Rattle.account.specs.AccountText.{numbered};
-ghost use Rattle.journal_text.specs.SetupText.{input_line, letters_text, kind_text, times_text, agg_line, output_line, start_lines, setup_text};
+ghost use Rattle.journal_text.specs.SetupText.{input_line, letters_text, kind_text, times_text, agg_line};
+ghost use Rattle.journal_text.specs.SetupText.{output_line, start_lines, setup_text};
 
 use fixed_num::{Moment, OutOfMemory, Seq};
 use std::alloc::Global;

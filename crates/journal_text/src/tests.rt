@@ -337,7 +337,8 @@ fn writes_every_form(rt: HostRuntime) -> Result<(), BuildFault> {
         aggregator 0 merge 10 0 -5 keep\n\
         aggregator 1 final:30 10 1 2 drop\n\
         gather 1 -5 4 1 2 3 1 3\n\
-        m disk%20io;a-b=x.y:z_0;path=%2Fvar|msg=sa%20b%25%C3%A9;n=u18446744073709551615;up=bt;down=bf;i=i-3|-7\n\
+        m disk%20io;a-b=x.y:z_0;path=%2Fvar|\
+        msg=sa%20b%25%C3%A9;n=u18446744073709551615;up=bt;down=bf;i=i-3|-7\n\
         report 3 delivered\n\
         report 4 rejected\n\
         route 0 - removed\n\

@@ -1,11 +1,13 @@
 -- How many positions have each fate, before and after an event.
-use Rattle.std.proofs.Common.{◌≡◌, ℕ, ◌+◌, ◌-◌, ◌*◌, ◌<◌, ◌≤◌, Bool, inl, inr, List, length, zero, suc, refl, ◌∙◌, ap, arith}
+use Rattle.std.proofs.Common.{◌≡◌, ℕ, ◌+◌, ◌-◌, ◌*◌, ◌<◌, ◌≤◌, Bool, inl, inr, List, length, zero, suc, refl}
+use Rattle.std.proofs.Common.{◌∙◌, ap, arith}
 use Rattle.out_lane.specs.LaneEvents.{LaneEvent, LaneFate, Buffered, fate_at}
 use Rattle.out_lane.specs.LaneCounts.{ones, positions_counted, fates_counted}
 use Rattle.out_lane.specs.LaneLaws.{KeepsFates, Becomes}
 use Rattle.out_lane.proofs.ItemLemmas.{length-items_between}
 
-pub positions_counted-add : (test : ℕ → Bool) (from a b : ℕ) → positions_counted test from (a + b) ≡ positions_counted test from a + positions_counted test (from + a) b
+pub positions_counted-add : (test : ℕ → Bool) (from a b : ℕ) →
+    positions_counted test from (a + b) ≡ positions_counted test from a + positions_counted test (from + a) b
 positions_counted-add test from zero b =
     let e : zero + b ≡ b = omega arith in
     let f : from ≡ from + zero = omega arith in
@@ -19,14 +21,17 @@ positions_counted-add test from (suc a) b =
     let h : positions_counted test (from + 1 + a) b ≡ positions_counted test (from + suc a) b = ap (λ k. positions_counted test k b) f in
     omega arith
 
-pub positions_counted-same : (test other : ℕ → Bool) (from n : ℕ) → ((p : ℕ) → from ≤ p → p < from + n → test p ≡ other p) → positions_counted test from n ≡ positions_counted other from n
+pub positions_counted-same : (test other : ℕ → Bool) (from n : ℕ) →
+    ((p : ℕ) → from ≤ p → p < from + n → test p ≡ other p) →
+    positions_counted test from n ≡ positions_counted other from n
 positions_counted-same test other from zero h = refl
 positions_counted-same test other from (suc n) h =
     let first : ones (test from) ≡ ones (other from) = ap ones (h from (omega arith) (omega arith)) in
     let more : positions_counted test (from + 1) n ≡ positions_counted other (from + 1) n = positions_counted-same test other (from + 1) n (λ p l m. h p (omega arith) (omega arith)) in
     omega arith
 
-pub positions_counted-all : (test : ℕ → Bool) (b : Bool) (from n : ℕ) → ((p : ℕ) → from ≤ p → p < from + n → test p ≡ b) → positions_counted test from n ≡ ones b * n
+pub positions_counted-all : (test : ℕ → Bool) (b : Bool) (from n : ℕ) →
+    ((p : ℕ) → from ≤ p → p < from + n → test p ≡ b) → positions_counted test from n ≡ ones b * n
 positions_counted-all test b from zero h = omega arith
 positions_counted-all test b from (suc n) h =
     let first : ones (test from) ≡ ones b = ap ones (h from (omega arith) (omega arith)) in
@@ -34,7 +39,8 @@ positions_counted-all test b from (suc n) h =
     omega arith
 
 -- in three parts, the second one from a position to before another
-parts : (test : ℕ → Bool) (from to n : ℕ) → from ≤ to → to ≤ n → positions_counted test 0 n ≡ positions_counted test 0 from + positions_counted test from (to - from) + positions_counted test to (n - to)
+parts : (test : ℕ → Bool) (from to n : ℕ) → from ≤ to → to ≤ n →
+    positions_counted test 0 n ≡ positions_counted test 0 from + positions_counted test from (to - from) + positions_counted test to (n - to)
 parts test from to n f t =
     let e : n ≡ from + ((to - from) + (n - to)) = omega arith in
     let z : 0 + from ≡ from = omega arith in

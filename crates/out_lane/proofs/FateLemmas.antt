@@ -1,12 +1,18 @@
 -- The fate of a position, by the ranges.
-use Rattle.std.proofs.Common.{◌≡◌, ℕ, ◌-◌, ◌<◌, ◌≤◌, ltb, leb, max, Bool, true, false, ◌&&◌, ◌||◌, cond, ◌⊎◌, inl, inr, List, [], ◌∷◌, ◌++◌, Option, Some, None, refl, sym, ◌∙◌, ap, arith}
+use Rattle.std.proofs.Common.{◌≡◌, ℕ, ◌-◌, ◌<◌, ◌≤◌, ltb, leb, max, Bool, true, false, ◌&&◌, ◌||◌, cond, ◌⊎◌}
+use Rattle.std.proofs.Common.{inl, inr, List, [], ◌∷◌, ◌++◌, Option, Some, None, refl, sym, ◌∙◌, ap, arith}
 use Rattle.std.specs.Option.{option_to_list}
 use Rattle.std.specs.List.{list_any}
-use Rattle.std.proofs.lemmas.Bool.{lt-ltb, le-ltb, le-leb, lt-leb, ltb-true, leb-true, cases_Bool, cases_lt, or_cases, and_parts}
+use Rattle.std.proofs.lemmas.Bool.{lt-ltb, le-ltb, le-leb, lt-leb, ltb-true, leb-true, cases_Bool, cases_lt}
+use Rattle.std.proofs.lemmas.Bool.{or_cases, and_parts}
 use Rattle.std.proofs.lemmas.List.Folds.{list_any-append}
-use Rattle.out_lane.specs.LaneEvents.{LaneEvent, Push, Begin, Done, Ranges, reached, ranges_after, ranges_from, ranges_of, accepted_from, AreLaneEvents, holds, is_in_open, open_end, is_written, is_buffered, LaneFate, Written, Buffered, Dropped, fate_at}
+use Rattle.out_lane.specs.LaneEvents.{LaneEvent, Push, Begin, Done, Ranges, reached, ranges_after}
+use Rattle.out_lane.specs.LaneEvents.{ranges_from, ranges_of, accepted_from, AreLaneEvents, holds, is_in_open}
+use Rattle.out_lane.specs.LaneEvents.{open_end, is_written, is_buffered, LaneFate, Written, Buffered, Dropped}
+use Rattle.out_lane.specs.LaneEvents.{fate_at}
 use Rattle.out_lane.specs.LaneLaws.{no_ranges, oldest_waiting}
-use Rattle.out_lane.proofs.RangeLemmas.{IsOpenIn, Steady, steady_after, steady_none, ranges_from-push, newly, accepted_from-push}
+use Rattle.out_lane.proofs.RangeLemmas.{IsOpenIn, Steady, steady_after, steady_none, ranges_from-push, newly}
+use Rattle.out_lane.proofs.RangeLemmas.{accepted_from-push}
 
 -- tests of positions
 pub holds_inside : (from to p : ℕ) → from ≤ p → p < to → holds p (from, to) ≡ true
@@ -71,15 +77,18 @@ not_open (Some range) p h = holds_behind range.0 range.1 p h
 abbrev pub fate : Bool → Bool → LaneFate
 fate w b = cond w Written (cond b Buffered Dropped)
 
-pub fate_is : (limit : ℕ) (es : List LaneEvent) (p : ℕ) → fate_at limit es p ≡ fate (is_written es p) (buffered_by limit (ranges_of es) p)
+pub fate_is : (limit : ℕ) (es : List LaneEvent) (p : ℕ) →
+    fate_at limit es p ≡ fate (is_written es p) (buffered_by limit (ranges_of es) p)
 fate_is limit es p = ap (λ (b : Bool). fate (is_written es p) b) (buffered_is limit (ranges_of es) p)
 
-pub written_push : (es : List LaneEvent) (e : LaneEvent) (p : ℕ) → is_written (es ++ e ∷ []) p ≡ (is_written es p || list_any (holds p) (newly (ranges_of es).begun e))
+pub written_push : (es : List LaneEvent) (e : LaneEvent) (p : ℕ) →
+    is_written (es ++ e ∷ []) p ≡ (is_written es p || list_any (holds p) (newly (ranges_of es).begun e))
 written_push es e p =
     ap (λ (xs : List (ℕ × ℕ)). list_any (holds p) xs) (accepted_from-push no_ranges es e)
     ∙ list_any-append (holds p) (accepted_from None es) (newly (ranges_of es).begun e)
 
-pub fate_push : (limit : ℕ) (es : List LaneEvent) (e : LaneEvent) (p : ℕ) → fate_at limit (es ++ e ∷ []) p ≡ fate (is_written es p || list_any (holds p) (newly (ranges_of es).begun e)) (buffered_by limit (ranges_after (ranges_of es) e) p)
+pub fate_push : (limit : ℕ) (es : List LaneEvent) (e : LaneEvent) (p : ℕ) →
+    fate_at limit (es ++ e ∷ []) p ≡ fate (is_written es p || list_any (holds p) (newly (ranges_of es).begun e)) (buffered_by limit (ranges_after (ranges_of es) e) p)
 fate_push limit es e p =
     fate_is limit (es ++ e ∷ []) p
     ∙ ap (λ (w : Bool). fate w (buffered_by limit (ranges_of (es ++ e ∷ [])) p)) (written_push es e p)
@@ -108,12 +117,14 @@ reached_rises true limit n w None s = omega arith
 reached_rises true limit n w (Some range) s = omega arith
 reached_rises false limit n w o s = omega arith
 
-rises_after : (batch limit : ℕ) (r : Ranges) (e : LaneEvent) → Steady limit r → r.written_to ≤ (ranges_after r e).written_to
+rises_after : (batch limit : ℕ) (r : Ranges) (e : LaneEvent) → Steady limit r →
+    r.written_to ≤ (ranges_after r e).written_to
 rises_after batch limit r Push s = omega arith
 rises_after batch limit r (Begin from to) s = omega arith
 rises_after batch limit r (Done ok) s = reached_rises ok limit r.pushed r.written_to r.begun s.open_range
 
-pub written_rises : (batch limit : ℕ) (r : Ranges) (es : List LaneEvent) → 1 ≤ batch → AreLaneEvents batch limit r es → Steady limit r → r.written_to ≤ (ranges_from r es).written_to
+pub written_rises : (batch limit : ℕ) (r : Ranges) (es : List LaneEvent) → 1 ≤ batch →
+    AreLaneEvents batch limit r es → Steady limit r → r.written_to ≤ (ranges_from r es).written_to
 unfolding AreLaneEvents ranges_from
 written_rises batch limit r [] b a s = omega arith
 written_rises batch limit r (e ∷ es) b a s =
@@ -121,16 +132,23 @@ written_rises batch limit r (e ∷ es) b a s =
     let more = written_rises batch limit (ranges_after r e) es b a.1 (steady_after batch limit r e b a.0 s) in
     omega arith
 
-opened_below : (p w : ℕ) (o : Option (ℕ × ℕ)) → list_any (holds p) (option_to_list o) ≡ true → p < reached true w o
+opened_below : (p w : ℕ) (o : Option (ℕ × ℕ)) → list_any (holds p) (option_to_list o) ≡ true →
+    p < reached true w o
 opened_below p w None h = cc
-opened_below p w (Some range) h = (holds_parts range.0 range.1 p (sym (or_false (holds p range) false refl) ∙ h)).1
+opened_below p w (Some range) h =
+    (holds_parts range.0 range.1 p (sym (or_false (holds p range) false refl) ∙ h)).1
 
-pub written_below : (batch limit : ℕ) (r : Ranges) (es : List LaneEvent) → 1 ≤ batch → AreLaneEvents batch limit r es → Steady limit r → (p : ℕ) → list_any (holds p) (accepted_from r.begun es) ≡ true → p < (ranges_from r es).written_to
+pub written_below : (batch limit : ℕ) (r : Ranges) (es : List LaneEvent) → 1 ≤ batch →
+    AreLaneEvents batch limit r es → Steady limit r → (p : ℕ) →
+    list_any (holds p) (accepted_from r.begun es) ≡ true → p < (ranges_from r es).written_to
 unfolding AreLaneEvents ranges_from accepted_from
 written_below batch limit r [] b a s p h = cc
-written_below batch limit r (Push ∷ es) b a s p h = written_below batch limit (ranges_after r Push) es b a.1 (steady_after batch limit r Push b a.0 s) p h
-written_below batch limit r (Begin from to ∷ es) b a s p h = written_below batch limit (ranges_after r (Begin from to)) es b a.1 (steady_after batch limit r (Begin from to) b a.0 s) p h
-written_below batch limit r (Done false ∷ es) b a s p h = written_below batch limit (ranges_after r (Done false)) es b a.1 (steady_after batch limit r (Done false) b a.0 s) p h
+written_below batch limit r (Push ∷ es) b a s p h =
+    written_below batch limit (ranges_after r Push) es b a.1 (steady_after batch limit r Push b a.0 s) p h
+written_below batch limit r (Begin from to ∷ es) b a s p h =
+    written_below batch limit (ranges_after r (Begin from to)) es b a.1 (steady_after batch limit r (Begin from to) b a.0 s) p h
+written_below batch limit r (Done false ∷ es) b a s p h =
+    written_below batch limit (ranges_after r (Done false)) es b a.1 (steady_after batch limit r (Done false) b a.0 s) p h
 written_below batch limit r (Done true ∷ es) b a s p h =
     let next = ranges_after r (Done true) in
     let t : Steady limit next = steady_after batch limit r (Done true) b a.0 s in
@@ -142,7 +160,8 @@ written_below batch limit r (Done true ∷ es) b a s p h =
       | inr m ↦ written_below batch limit next es b a.1 t p m
     ]
 
-pub is_unwritten : (batch limit : ℕ) (es : List LaneEvent) (p : ℕ) → 1 ≤ batch → AreLaneEvents batch limit no_ranges es → (ranges_of es).written_to ≤ p → is_written es p ≡ false
+pub is_unwritten : (batch limit : ℕ) (es : List LaneEvent) (p : ℕ) → 1 ≤ batch →
+    AreLaneEvents batch limit no_ranges es → (ranges_of es).written_to ≤ p → is_written es p ≡ false
 is_unwritten batch limit es p b a h =
     elim (cases_Bool (is_written es p)) [
       | inl t ↦ (let low = written_below batch limit no_ranges es b a (steady_none limit) p t in absurd (omega arith))

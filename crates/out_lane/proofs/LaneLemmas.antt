@@ -1,19 +1,32 @@
 -- The laws of the calls.
-use Rattle.std.proofs.Common.{◌≡◌, ℕ, ◌+◌, ◌-◌, ◌<◌, ◌≤◌, ◌==◌, eqb, leb, min, max, true, false, ◌||◌, ◌↔◌, inl, inr, List, [], ◌∷◌, ◌++◌, length, take, drop, slice_get, is_some, IsSome, if◌then◌else◌, Option, Some, None, Result, Ok, Err, refl, sym, ◌∙◌, ap, subst, arith, length-drop}
+use Rattle.std.proofs.Common.{◌≡◌, ℕ, ◌+◌, ◌-◌, ◌<◌, ◌≤◌, ◌==◌, eqb, leb, min, max, true, false, ◌||◌, ◌↔◌}
+use Rattle.std.proofs.Common.{inl, inr, List, [], ◌∷◌, ◌++◌, length, take, drop, slice_get, is_some, IsSome}
+use Rattle.std.proofs.Common.{if◌then◌else◌, Option, Some, None, Result, Ok, Err, refl, sym, ◌∙◌, ap, subst}
+use Rattle.std.proofs.Common.{arith, length-drop}
 use Rattle.std.specs.Option.{option_to_list}
 use Rattle.std.specs.List.{list_any}
 use Rattle.std.proofs.lemmas.Bool.{cases_eq, eq-eqb, ne_eqb, or_cases, or_left, leb-true, lt-leb}
 use Rattle.std.proofs.lemmas.List.{length_push, drop_all}
 use Rattle.out_lane.specs.declared.BeginAnswer.{BeginAnswer}
 use Rattle.out_lane.specs.declared.BeginAnswer.TheVariants.{InFlight, NothingWaiting}
-use Rattle.out_lane.specs.Lane.{LaneState, newest, older, waiting_from, batch_items, flying, after_push, after_begin, begin_answer, after_accept, after_fail}
-use Rattle.out_lane.specs.LaneEvents.{LaneEvent, Push, Begin, Done, Ranges, reached, ranges_after, ranges_from, ranges_of, next_from, open_end, IsNextRange, IsOpen, MeetsLane, AreLaneEvents, holds, is_in_open, is_written, Buffered, fate_at}
-use Rattle.out_lane.specs.LaneLaws.{no_ranges, oldest_waiting, items_between, IsFlight, IsOfBatch, IsLaneAt, IsLaneOf, Pushes, Begins, Answers, Accepts, Fails, IsKept, NewIsLane}
-use Rattle.out_lane.proofs.RangeLemmas.{OpenIn, IsOpenIn, Steady, steady_from, steady_none, ranges_from-push, AreLaneEvents-push, newly}
-use Rattle.out_lane.proofs.FateLemmas.{holds_inside, holds_parts, buffered_by, fate_is, from_buffered, is_unwritten}
+use Rattle.out_lane.specs.Lane.{LaneState, newest, older, waiting_from, batch_items, flying, after_push}
+use Rattle.out_lane.specs.Lane.{after_begin, begin_answer, after_accept, after_fail}
+use Rattle.out_lane.specs.LaneEvents.{LaneEvent, Push, Begin, Done, Ranges, reached, ranges_after}
+use Rattle.out_lane.specs.LaneEvents.{ranges_from, ranges_of, next_from, open_end, IsNextRange, IsOpen}
+use Rattle.out_lane.specs.LaneEvents.{MeetsLane, AreLaneEvents, holds, is_in_open, is_written, Buffered}
+use Rattle.out_lane.specs.LaneEvents.{fate_at}
+use Rattle.out_lane.specs.LaneLaws.{no_ranges, oldest_waiting, items_between, IsFlight, IsOfBatch, IsLaneAt}
+use Rattle.out_lane.specs.LaneLaws.{IsLaneOf, Pushes, Begins, Answers, Accepts, Fails, IsKept, NewIsLane}
+use Rattle.out_lane.proofs.RangeLemmas.{OpenIn, IsOpenIn, Steady, steady_from, steady_none, ranges_from-push}
+use Rattle.out_lane.proofs.RangeLemmas.{AreLaneEvents-push, newly}
+use Rattle.out_lane.proofs.FateLemmas.{holds_inside, holds_parts, buffered_by, fate_is, from_buffered}
+use Rattle.out_lane.proofs.FateLemmas.{is_unwritten}
 use Rattle.out_lane.proofs.EventLemmas.{buffered_above}
-use Rattle.out_lane.proofs.ItemLemmas.{items_between-push, length-items_between, newest_push, pushed_out_is, newest_failed, older_failed, begun_items, behind_begun}
-use Rattle.out_lane.proofs.BecomeLemmas.{stays, was_buffered, is_now, is_now_written, push_same, behind_start, before_start, begin_same, inside_is_buffered, outside_is_no_more, accept_same, fail_same, once_any}
+use Rattle.out_lane.proofs.ItemLemmas.{items_between-push, length-items_between, newest_push, pushed_out_is}
+use Rattle.out_lane.proofs.ItemLemmas.{newest_failed, older_failed, begun_items, behind_begun}
+use Rattle.out_lane.proofs.BecomeLemmas.{stays, was_buffered, is_now, is_now_written, push_same, behind_start}
+use Rattle.out_lane.proofs.BecomeLemmas.{before_start, begin_same, inside_is_buffered, outside_is_no_more}
+use Rattle.out_lane.proofs.BecomeLemmas.{accept_same, fail_same, once_any}
 
 -- ranges by their parts
 abbrev pub ranges : ℕ → ℕ → Option (ℕ × ℕ) → Ranges
@@ -36,8 +49,10 @@ start_within : (limit : ℕ) (r : Ranges) → Steady limit r → oldest_waiting 
 start_within limit r s = let e = open_within limit r.pushed r.written_to r.begun s.open_range in let w = s.within in omega arith
 
 module _ {X : Type 0} where
-  pub steady_of : (batch limit : ℕ) (es : List LaneEvent) (offers : List X) (lane : LaneState X) → IsLaneOf batch limit es offers lane → Steady limit (ranges_of es)
-  steady_of batch limit es offers lane a = steady_from batch limit no_ranges es a.some a.legal (steady_none limit)
+  pub steady_of : (batch limit : ℕ) (es : List LaneEvent) (offers : List X) (lane : LaneState X) →
+      IsLaneOf batch limit es offers lane → Steady limit (ranges_of es)
+  steady_of batch limit es offers lane a =
+      steady_from batch limit no_ranges es a.some a.legal (steady_none limit)
 
   -- the lane of the events with one more
   next_lane : (batch limit : ℕ) (es : List LaneEvent) (e : LaneEvent) (offers : List X) (lane : LaneState X) (offers' : List X) (lane' : LaneState X) → IsLaneOf batch limit es offers lane → MeetsLane batch limit (ranges_of es) e → IsLaneAt batch limit (ranges_after (ranges_of es) e) offers' lane' → IsLaneOf batch limit (es ++ e ∷ []) offers' lane'
@@ -49,12 +64,16 @@ module _ {X : Type 0} where
   }
 
   -- a push
-  flight-push : (n : ℕ) (limit w : ℕ) (o : Option (ℕ × ℕ)) (offers : List X) (item : X) (lane : LaneState X) → length offers ≡ n → IsOpenIn limit n w o → IsFlight o offers lane → IsFlight o (offers ++ item ∷ []) (after_push lane item)
+  flight-push : (n : ℕ) (limit w : ℕ) (o : Option (ℕ × ℕ)) (offers : List X) (item : X) (lane : LaneState X) →
+      length offers ≡ n → IsOpenIn limit n w o → IsFlight o offers lane →
+      IsFlight o (offers ++ item ∷ []) (after_push lane item)
   flight-push n limit w None offers item lane e s f = f
   flight-push n limit w (Some range) offers item lane e s f =
       f ∙ ap (λ (xs : List X). Some (range.0, xs)) (sym (items_between-push range.0 range.1 offers item (omega arith) (omega arith)))
 
-  push_at : (batch limit : ℕ) (r : Ranges) (offers : List X) (lane : LaneState X) (item : X) → Steady limit r → IsLaneAt batch limit r offers lane → IsLaneAt batch limit (ranges_after r Push) (offers ++ item ∷ []) (after_push lane item)
+  push_at : (batch limit : ℕ) (r : Ranges) (offers : List X) (lane : LaneState X) (item : X) →
+      Steady limit r → IsLaneAt batch limit r offers lane →
+      IsLaneAt batch limit (ranges_after r Push) (offers ++ item ∷ []) (after_push lane item)
   push_at batch limit r offers lane item s a =
       let start : ℕ = oldest_waiting limit r in
       let h : start ≤ length offers = (let k = start_within limit r s in omega arith) in
@@ -73,7 +92,8 @@ module _ {X : Type 0} where
       }
 
   -- what is new by a push, and what is dropped by it
-  pub push_meets : (batch limit : ℕ) (es : List LaneEvent) (offers : List X) (lane : LaneState X) (item : X) → IsLaneOf batch limit es offers lane → Pushes batch limit es offers lane item
+  pub push_meets : (batch limit : ℕ) (es : List LaneEvent) (offers : List X) (lane : LaneState X) (item : X) →
+      IsLaneOf batch limit es offers lane → Pushes batch limit es offers lane item
   push_meets batch limit es offers lane item a =
       let r : Ranges = ranges_of es in
       let s : Steady limit r = steady_of batch limit es offers lane a in
@@ -106,14 +126,21 @@ module _ {X : Type 0} where
       }
 
   -- a batch that is begun
-  flight_length : (limit n w : ℕ) (range : ℕ × ℕ) (offers : List X) (lane : LaneState X) → length offers ≡ n → OpenIn limit n w range → IsFlight (Some range) offers lane → length (flying lane) ≡ range.1 - range.0
-  flight_length limit n w range offers lane e s f = ap (λ (o : Option (ℕ × List X)). length (batch_items o)) f ∙ length-items_between range.0 range.1 offers (omega arith)
+  flight_length : (limit n w : ℕ) (range : ℕ × ℕ) (offers : List X) (lane : LaneState X) → length offers ≡ n →
+      OpenIn limit n w range → IsFlight (Some range) offers lane → length (flying lane) ≡ range.1 - range.0
+  flight_length limit n w range offers lane e s f =
+      ap (λ (o : Option (ℕ × List X)). length (batch_items o)) f
+      ∙ length-items_between range.0 range.1 offers (omega arith)
 
-  pub waiting_length : (batch limit : ℕ) (r : Ranges) (offers : List X) (lane : LaneState X) → IsLaneAt batch limit r offers lane → length lane.waiting ≡ r.pushed - oldest_waiting limit r
-  waiting_length batch limit r offers lane a = ap length a.waiting ∙ length-drop (oldest_waiting limit r) offers ∙ ap (λ k. k - oldest_waiting limit r) a.offered
+  pub waiting_length : (batch limit : ℕ) (r : Ranges) (offers : List X) (lane : LaneState X) →
+      IsLaneAt batch limit r offers lane → length lane.waiting ≡ r.pushed - oldest_waiting limit r
+  waiting_length batch limit r offers lane a =
+      ap length a.waiting ∙ length-drop (oldest_waiting limit r) offers
+      ∙ ap (λ k. k - oldest_waiting limit r) a.offered
 
   -- the waiting items begin where the ranges say so
-  pub waiting_from_is : (batch limit : ℕ) (r : Ranges) (offers : List X) (lane : LaneState X) → Steady limit r → IsLaneAt batch limit r offers lane → waiting_from lane ≡ oldest_waiting limit r
+  pub waiting_from_is : (batch limit : ℕ) (r : Ranges) (offers : List X) (lane : LaneState X) →
+      Steady limit r → IsLaneAt batch limit r offers lane → waiting_from lane ≡ oldest_waiting limit r
   waiting_from_is batch limit r offers lane s a =
       let k = waiting_length batch limit r offers lane a in
       let h = start_within limit r s in
@@ -123,7 +150,8 @@ module _ {X : Type 0} where
   in_flight_answer : (lane : LaneState X) → IsSome lane.flight → begin_answer lane ≡ Err InFlight
   in_flight_answer lane t = rw t refl
 
-  nothing_answer : (lane : LaneState X) → lane.flight ≡ None → length lane.waiting ≡ 0 → begin_answer lane ≡ Err NothingWaiting
+  nothing_answer : (lane : LaneState X) → lane.flight ≡ None → length lane.waiting ≡ 0 →
+      begin_answer lane ≡ Err NothingWaiting
   nothing_answer lane z y =
       let t : is_some lane.flight ≡ false = ap is_some z in
       let u : eqb (length lane.waiting) 0 ≡ true = eq-eqb (length lane.waiting) 0 y in
@@ -136,7 +164,9 @@ module _ {X : Type 0} where
       let u : eqb (length lane.waiting) 0 ≡ false = ne_eqb (length lane.waiting) 0 y in
       rw (t, u) refl
 
-  begins : (batch limit : ℕ) (es : List LaneEvent) (offers : List X) (lane : LaneState X) → IsLaneOf batch limit es offers lane → (ranges_of es).begun ≡ None → (length lane.waiting ≡ 0 → ⊥) → Begins batch limit es offers lane (waiting_from lane, waiting_from lane + min lane.batch (length lane.waiting))
+  begins : (batch limit : ℕ) (es : List LaneEvent) (offers : List X) (lane : LaneState X) →
+      IsLaneOf batch limit es offers lane → (ranges_of es).begun ≡ None → (length lane.waiting ≡ 0 → ⊥) →
+      Begins batch limit es offers lane (waiting_from lane, waiting_from lane + min lane.batch (length lane.waiting))
   begins batch limit es offers lane a closed y =
       let r : Ranges = ranges_of es in
       let s : Steady limit r = steady_of batch limit es offers lane a in
@@ -201,19 +231,22 @@ module _ {X : Type 0} where
 
   pub begin_meets : (batch limit : ℕ) (es : List LaneEvent) (offers : List X) (lane : LaneState X) →
       IsLaneOf batch limit es offers lane → Answers batch limit es offers lane (begin_answer lane)
-  begin_meets batch limit es offers lane a = answers batch limit es offers lane (ranges_of es).begun refl a.state.flight a
+  begin_meets batch limit es offers lane a =
+      answers batch limit es offers lane (ranges_of es).begun refl a.state.flight a
 
   -- a batch that is done
   none_flies : (o : Option (ℕ × List X)) → o ≡ None → IsSome o → ⊥
   none_flies None h s = cc
   none_flies (Some batch) h s = cc
 
-  open_range : (o : Option (ℕ × ℕ)) (offers : List X) (lane : LaneState X) → IsFlight o offers lane → IsSome lane.flight →
+  open_range : (o : Option (ℕ × ℕ)) (offers : List X) (lane : LaneState X) → IsFlight o offers lane →
+      IsSome lane.flight →
       (range : ℕ × ℕ) × (o ≡ Some range)
   open_range None offers lane f h = absurd (none_flies lane.flight f h)
   open_range (Some range) offers lane f h = (range, refl)
 
-  pub accept_meets : (batch limit : ℕ) (es : List LaneEvent) (offers : List X) (lane : LaneState X) → IsLaneOf batch limit es offers lane → IsSome lane.flight → Accepts batch limit es offers lane
+  pub accept_meets : (batch limit : ℕ) (es : List LaneEvent) (offers : List X) (lane : LaneState X) →
+      IsLaneOf batch limit es offers lane → IsSome lane.flight → Accepts batch limit es offers lane
   accept_meets batch limit es offers lane a g =
       let r : Ranges = ranges_of es in
       let s : Steady limit r = steady_of batch limit es offers lane a in
@@ -255,7 +288,8 @@ module _ {X : Type 0} where
         };
       }
 
-  pub fail_meets : (batch limit : ℕ) (es : List LaneEvent) (offers : List X) (lane : LaneState X) → IsLaneOf batch limit es offers lane → IsSome lane.flight → Fails batch limit es offers lane
+  pub fail_meets : (batch limit : ℕ) (es : List LaneEvent) (offers : List X) (lane : LaneState X) →
+      IsLaneOf batch limit es offers lane → IsSome lane.flight → Fails batch limit es offers lane
   fail_meets batch limit es offers lane a g =
       let r : Ranges = ranges_of es in
       let s : Steady limit r = steady_of batch limit es offers lane a in
@@ -309,7 +343,8 @@ module _ {X : Type 0} where
       }
 
   -- what is kept is what is buffered
-  kept_in_flight : (limit n w p : ℕ) (o : Option (ℕ × ℕ)) (offers : List X) (lane : LaneState X) → length offers ≡ n →
+  kept_in_flight : (limit n w p : ℕ) (o : Option (ℕ × ℕ)) (offers : List X) (lane : LaneState X) →
+      length offers ≡ n →
       IsOpenIn limit n w o → IsFlight o offers lane → is_in_open p o ≡ true → IsOfBatch lane.flight p
   kept_in_flight limit n w p None offers lane e s f h = cc
   kept_in_flight limit n w p (Some range) offers lane e s f h =
@@ -317,16 +352,20 @@ module _ {X : Type 0} where
       let at = holds_parts range.0 range.1 p h in
       subst (λ (b : Option (ℕ × List X)). IsOfBatch b p) (sym f) (omega arith, omega arith)
 
-  in_flight_kept : (limit n w p : ℕ) (o : Option (ℕ × ℕ)) (offers : List X) (lane : LaneState X) → length offers ≡ n →
+  in_flight_kept : (limit n w p : ℕ) (o : Option (ℕ × ℕ)) (offers : List X) (lane : LaneState X) →
+      length offers ≡ n →
       IsOpenIn limit n w o → IsFlight o offers lane → IsOfBatch lane.flight p → is_in_open p o ≡ true
-  in_flight_kept limit n w p None offers lane e s f m = absurd (subst (λ (b : Option (ℕ × List X)). IsOfBatch b p) f m)
+  in_flight_kept limit n w p None offers lane e s f m =
+      absurd (subst (λ (b : Option (ℕ × List X)). IsOfBatch b p) f m)
   in_flight_kept limit n w p (Some range) offers lane e s f m =
       let k = length-items_between range.0 range.1 offers (omega arith) in
       let at : (range.0 ≤ p) × (p < range.0 + length (items_between range.0 range.1 offers)) =
       subst (λ (b : Option (ℕ × List X)). IsOfBatch b p) f m in
       holds_inside range.0 range.1 p (omega (arith, at.0)) (omega (arith, at.1))
 
-  pub keeps_buffered : (batch limit : ℕ) (es : List LaneEvent) (offers : List X) (lane : LaneState X) → IsLaneOf batch limit es offers lane → (p : ℕ) → p < length offers → (fate_at limit es p ≡ Buffered) ↔ IsKept lane p
+  pub keeps_buffered : (batch limit : ℕ) (es : List LaneEvent) (offers : List X) (lane : LaneState X) →
+      IsLaneOf batch limit es offers lane → (p : ℕ) → p < length offers →
+      (fate_at limit es p ≡ Buffered) ↔ IsKept lane p
   keeps_buffered batch limit es offers lane a p l =
       let r : Ranges = ranges_of es in
       let s : Steady limit r = steady_of batch limit es offers lane a in

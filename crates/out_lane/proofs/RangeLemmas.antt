@@ -1,7 +1,9 @@
 -- The ranges that legal events leave.
-use Rattle.std.proofs.Common.{◌≡◌, ℕ, ◌+◌, ◌-◌, ◌<◌, ◌≤◌, max, Bool, true, false, List, [], ◌∷◌, ◌++◌, Option, Some, None, refl, sym, ◌∙◌, ap, append_assoc, arith}
+use Rattle.std.proofs.Common.{◌≡◌, ℕ, ◌+◌, ◌-◌, ◌<◌, ◌≤◌, max, Bool, true, false, List, [], ◌∷◌, ◌++◌, Option}
+use Rattle.std.proofs.Common.{Some, None, refl, sym, ◌∙◌, ap, append_assoc, arith}
 use Rattle.std.specs.Option.{option_to_list}
-use Rattle.out_lane.specs.LaneEvents.{LaneEvent, Push, Begin, Done, Ranges, reached, ranges_after, ranges_from, accepted_from, MeetsLane, AreLaneEvents}
+use Rattle.out_lane.specs.LaneEvents.{LaneEvent, Push, Begin, Done, Ranges, reached, ranges_after}
+use Rattle.out_lane.specs.LaneEvents.{ranges_from, accepted_from, MeetsLane, AreLaneEvents}
 use Rattle.out_lane.specs.LaneLaws.{no_ranges}
 
 -- the open range: behind what is written, and not behind where the next one would begin
@@ -23,12 +25,14 @@ steady_push : (limit n w : ℕ) (o : Option (ℕ × ℕ)) → IsOpenIn limit n w
 steady_push limit n w None s = tt
 steady_push limit n w (Some range) s = record { some = s.some; behind = s.behind; oldest = omega arith; within = omega arith }
 
-reached_within : (ok : Bool) (limit n w : ℕ) (o : Option (ℕ × ℕ)) → w ≤ n → IsOpenIn limit n w o → reached ok w o ≤ n
+reached_within : (ok : Bool) (limit n w : ℕ) (o : Option (ℕ × ℕ)) → w ≤ n → IsOpenIn limit n w o →
+    reached ok w o ≤ n
 reached_within true limit n w None h s = h
 reached_within true limit n w (Some range) h s = s.within
 reached_within false limit n w o h s = h
 
-pub steady_after : (batch limit : ℕ) (r : Ranges) (e : LaneEvent) → 1 ≤ batch → MeetsLane batch limit r e → Steady limit r → Steady limit (ranges_after r e)
+pub steady_after : (batch limit : ℕ) (r : Ranges) (e : LaneEvent) → 1 ≤ batch → MeetsLane batch limit r e →
+    Steady limit r → Steady limit (ranges_after r e)
 steady_after batch limit r Push b m s = record { within = omega arith; open_range = steady_push limit r.pushed r.written_to r.begun s.open_range }
 steady_after batch limit r (Begin from to) b m s = record {
   within = s.within;
@@ -36,24 +40,30 @@ steady_after batch limit r (Begin from to) b m s = record {
 }
 steady_after batch limit r (Done ok) b m s = record { within = reached_within ok limit r.pushed r.written_to r.begun s.within s.open_range; open_range = tt }
 
-pub steady_from : (batch limit : ℕ) (r : Ranges) (es : List LaneEvent) → 1 ≤ batch → AreLaneEvents batch limit r es → Steady limit r → Steady limit (ranges_from r es)
+pub steady_from : (batch limit : ℕ) (r : Ranges) (es : List LaneEvent) → 1 ≤ batch →
+    AreLaneEvents batch limit r es → Steady limit r → Steady limit (ranges_from r es)
 unfolding AreLaneEvents ranges_from
 steady_from batch limit r [] b a s = s
-steady_from batch limit r (e ∷ es) b a s = steady_from batch limit (ranges_after r e) es b a.1 (steady_after batch limit r e b a.0 s)
+steady_from batch limit r (e ∷ es) b a s =
+    steady_from batch limit (ranges_after r e) es b a.1 (steady_after batch limit r e b a.0 s)
 
 pub steady_none : (limit : ℕ) → Steady limit no_ranges
 steady_none limit = record { within = omega arith; open_range = tt }
 
 -- the same with one event more at the end
-pub ranges_from-push : (r : Ranges) (es : List LaneEvent) (e : LaneEvent) → ranges_from r (es ++ e ∷ []) ≡ ranges_after (ranges_from r es) e
+pub ranges_from-push : (r : Ranges) (es : List LaneEvent) (e : LaneEvent) →
+    ranges_from r (es ++ e ∷ []) ≡ ranges_after (ranges_from r es) e
 unfolding ranges_from
 ranges_from-push r [] e = refl
 ranges_from-push r (d ∷ es) e = ranges_from-push (ranges_after r d) es e
 
-pub AreLaneEvents-push : (batch limit : ℕ) (r : Ranges) (es : List LaneEvent) (e : LaneEvent) → AreLaneEvents batch limit r es → MeetsLane batch limit (ranges_from r es) e → AreLaneEvents batch limit r (es ++ e ∷ [])
+pub AreLaneEvents-push : (batch limit : ℕ) (r : Ranges) (es : List LaneEvent) (e : LaneEvent) →
+    AreLaneEvents batch limit r es → MeetsLane batch limit (ranges_from r es) e →
+    AreLaneEvents batch limit r (es ++ e ∷ [])
 unfolding AreLaneEvents ranges_from
 AreLaneEvents-push batch limit r [] e a m = (m, tt)
-AreLaneEvents-push batch limit r (d ∷ es) e a m = (a.0, AreLaneEvents-push batch limit (ranges_after r d) es e a.1 m)
+AreLaneEvents-push batch limit r (d ∷ es) e a m =
+    (a.0, AreLaneEvents-push batch limit (ranges_after r d) es e a.1 m)
 
 -- the range that an event accepts, where this one is open
 abbrev pub newly : Option (ℕ × ℕ) → LaneEvent → List (ℕ × ℕ)
@@ -70,7 +80,8 @@ newly_is o (Done false) = refl
 newly_is o Push = refl
 newly_is o (Begin from to) = refl
 
-pub accepted_from-push : (r : Ranges) (es : List LaneEvent) (e : LaneEvent) → accepted_from r.begun (es ++ e ∷ []) ≡ accepted_from r.begun es ++ newly (ranges_from r es).begun e
+pub accepted_from-push : (r : Ranges) (es : List LaneEvent) (e : LaneEvent) →
+    accepted_from r.begun (es ++ e ∷ []) ≡ accepted_from r.begun es ++ newly (ranges_from r es).begun e
 unfolding accepted_from ranges_from
 accepted_from-push r [] e = newly_is r.begun e
 accepted_from-push r (Push ∷ es) e = accepted_from-push (ranges_after r Push) es e

@@ -1,5 +1,6 @@
 -- The items that wait at an output and the batch in flight, and what each call makes of them.
-use Rattle.std.specs.Prelude.{ℕ, ◌+◌, ◌-◌, ◌==◌, min, List, [], ◌∷◌, ◌++◌, length, take, drop, slice_get, Option, Some, None, is_some, Result, Ok, Err, if◌then◌else◌}
+use Rattle.std.specs.Prelude.{ℕ, ◌+◌, ◌-◌, ◌==◌, min, List, [], ◌∷◌, ◌++◌, length, take, drop, slice_get}
+use Rattle.std.specs.Prelude.{Option, Some, None, is_some, Result, Ok, Err, if◌then◌else◌}
 use Rattle.out_lane.specs.declared.BeginAnswer.{BeginAnswer}
 use Rattle.out_lane.specs.declared.BeginAnswer.TheVariants.{InFlight, NothingWaiting}
 
@@ -49,7 +50,8 @@ module _ {X : Type 0} where
 
   -- The item waits, and of the waiting ones only the newest.
   abbrev pub after_push : LaneState X → X → LaneState X
-  after_push lane item = record lane { pushed = lane.pushed + 1; waiting = newest lane.limit (lane.waiting ++ item ∷ []) }
+  after_push lane item =
+      record lane { pushed = lane.pushed + 1; waiting = newest lane.limit (lane.waiting ++ item ∷ []) }
 
   -- the oldest waiting item, where as many waited as may
   abbrev pub pushed_out : LaneState X → Option X
@@ -58,9 +60,13 @@ module _ {X : Type 0} where
   -- The oldest waiting items are in flight, as many as a batch has at most.
   abbrev pub after_begin : LaneState X → LaneState X
   after_begin lane =
-      record lane { flight = Some (waiting_from lane, take lane.batch lane.waiting); waiting = drop lane.batch lane.waiting }
+      record lane {
+        flight = Some (waiting_from lane, take lane.batch lane.waiting);
+        waiting = drop lane.batch lane.waiting;
+      }
 
-  -- a batch is in flight, or nothing waits, or the batch goes from the first of these positions to before the second
+  -- a batch is in flight, or nothing waits, or the batch goes from the first of these positions to before the
+  -- second
   abbrev pub begin_answer : LaneState X → Result (ℕ × ℕ) BeginAnswer
   begin_answer lane =
       if is_some lane.flight

@@ -1,7 +1,8 @@
 -- A list of calls of a lane, one after another, and the events that they are at the output.
 use Rattle.std.specs.Prelude.{ℕ, ◌≤◌, true, false, IsSome, List, [], ◌∷◌, ◌++◌, Result, Ok, Err}
 use Rattle.out_lane.specs.declared.BeginAnswer.{BeginAnswer}
-use Rattle.out_lane.specs.Lane.{LaneState, empty_lane, after_push, after_begin, begin_answer, after_accept, after_fail}
+use Rattle.out_lane.specs.Lane.{LaneState, empty_lane, after_push, after_begin, begin_answer, after_accept}
+use Rattle.out_lane.specs.Lane.{after_fail}
 use Rattle.out_lane.specs.LaneEvents.{LaneEvent, Push, Begin, Done}
 use Rattle.out_lane.specs.LaneLaws.{IsLaneOf}
 
@@ -62,7 +63,8 @@ module _ {X : Type 0} where
   -- the events and the items of all calls, in order
   unfoldable pub events_of_calls : LaneState X → List (LaneCall X) → List LaneEvent
   events_of_calls lane [] = []
-  events_of_calls lane (call ∷ calls) = events_of_call lane call ++ events_of_calls (after_call lane call) calls
+  events_of_calls lane (call ∷ calls) =
+      events_of_call lane call ++ events_of_calls (after_call lane call) calls
 
   unfoldable pub pushed_by_all : List (LaneCall X) → List X
   pushed_by_all [] = []
@@ -71,6 +73,7 @@ module _ {X : Type 0} where
 -- After each list of calls that may come, a new lane is the lane of their events.
 abbrev pub CallsMeet : (X : Type 0) → Type 0
 CallsMeet X =
-    (batch limit : ℕ) (calls : List (LaneCall X)) → 1 ≤ batch → batch ≤ limit → MayCallAll (empty_lane batch limit) calls →
+    (batch limit : ℕ) (calls : List (LaneCall X)) → 1 ≤ batch → batch ≤ limit →
+    MayCallAll (empty_lane batch limit) calls →
     IsLaneOf batch limit (events_of_calls (empty_lane batch limit) calls) (pushed_by_all calls)
     (after_calls (empty_lane batch limit) calls)

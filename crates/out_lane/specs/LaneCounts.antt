@@ -20,6 +20,7 @@ fates_counted test limit es n = positions_counted (λ p. test (fate_at limit es 
 -- As many items as change their fate are no longer Buffered, and have the new fate.
 abbrev pub BecomesCounts : (X : Type 0) → Type 0
 BecomesCounts X =
-    (test : LaneFate → Bool) (limit : ℕ) (before after : List LaneEvent) (offers : List X) (fate : LaneFate) (items : List X) →
-    Becomes limit before after offers fate items →
-    fates_counted test limit after (length offers) + ones (test Buffered) * length items ≡ fates_counted test limit before (length offers) + ones (test fate) * length items
+    (test : LaneFate → Bool) (limit : ℕ) (before after : List LaneEvent) (offers : List X) (fate : LaneFate)
+    (items : List X) → Becomes limit before after offers fate items →
+    fates_counted test limit after (length offers) + ones (test Buffered) * length items
+    ≡ fates_counted test limit before (length offers) + ones (test fate) * length items

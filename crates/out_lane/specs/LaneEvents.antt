@@ -1,11 +1,13 @@
 -- What happens at one output: views come to it, batches of them are begun and done.
-use Rattle.std.specs.Prelude.{◌≡◌, ◌<◌, ℕ, ◌+◌, ◌-◌, Bool, true, false, ◌&&◌, ◌||◌, nat_le, nat_lt, min, max, List, [], ◌∷◌, ◌++◌, if◌then◌else◌}
+use Rattle.std.specs.Prelude.{◌≡◌, ◌<◌, ℕ, ◌+◌, ◌-◌, Bool, true, false, ◌&&◌, ◌||◌, nat_le, nat_lt, min, max}
+use Rattle.std.specs.Prelude.{List, [], ◌∷◌, ◌++◌, if◌then◌else◌}
 use Rattle.std.specs.declared.option.Option.{Option}
 use Rattle.std.specs.declared.option.Option.TheVariants.{Some, None}
 use Rattle.std.specs.Option.{option_to_list}
 use Rattle.std.specs.List.{list_any}
 
--- The views at an output have positions: 0, 1, 2 and so on, in the order in which they came. A range is a first position and one past the last.
+-- The views at an output have positions: 0, 1, 2 and so on, in the order in which they came. A range is a
+-- first position and one past the last.
 pub data LaneEvent : Type 0 where
   -- a view came
   Push : LaneEvent
@@ -31,7 +33,8 @@ reached false written_to range = written_to
 abbrev pub ranges_after : Ranges → LaneEvent → Ranges
 ranges_after ranges Push = record ranges { pushed = ranges.pushed + 1 }
 ranges_after ranges (Begin from to) = record ranges { begun = Some (from, to) }
-ranges_after ranges (Done ok) = record ranges { written_to = reached ok ranges.written_to ranges.begun; begun = None }
+ranges_after ranges (Done ok) =
+    record ranges { written_to = reached ok ranges.written_to ranges.begun; begun = None }
 
 unfoldable pub ranges_from : Ranges → List LaneEvent → Ranges
 ranges_from ranges [] = ranges
@@ -40,7 +43,8 @@ ranges_from ranges (e ∷ es) = ranges_from (ranges_after ranges e) es
 abbrev pub ranges_of : List LaneEvent → Ranges
 ranges_of es = ranges_from (record { pushed = 0; written_to = 0; begun = None }) es
 
--- The next range begins behind what is written, and not before the newest views, as many as the buffer limit says.
+-- The next range begins behind what is written, and not before the newest views, as many as the buffer limit
+-- says.
 abbrev pub next_from : ℕ → Ranges → ℕ
 next_from limit ranges = max ranges.written_to (ranges.pushed - limit)
 
@@ -86,7 +90,9 @@ is_written es position = list_any (holds position) (accepted es)
 abbrev pub is_buffered : ℕ → Ranges → ℕ → Bool
 is_buffered limit ranges position =
     is_in_open position ranges.begun
-    || (nat_le ranges.written_to position && nat_le (open_end ranges.begun) position && nat_le (ranges.pushed - limit) position)
+    || (nat_le ranges.written_to position
+    && nat_le (open_end ranges.begun) position
+    && nat_le (ranges.pushed - limit) position)
 
 abbrev pub fate_at : ℕ → List LaneEvent → ℕ → LaneFate
 fate_at limit es position =
@@ -113,4 +119,5 @@ MeetsLane batch limit ranges (Done ok) = IsOpen ranges.begun
 -- all events come as they may, after those that left these ranges
 unfoldable pub AreLaneEvents : ℕ → ℕ → Ranges → List LaneEvent → Type 0
 AreLaneEvents batch limit ranges [] = Unit {0}
-AreLaneEvents batch limit ranges (e ∷ es) = MeetsLane batch limit ranges e × AreLaneEvents batch limit (ranges_after ranges e) es
+AreLaneEvents batch limit ranges (e ∷ es) =
+    MeetsLane batch limit ranges e × AreLaneEvents batch limit (ranges_after ranges e) es

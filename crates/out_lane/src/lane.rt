@@ -1,6 +1,8 @@
 //! The items that wait at one output, and the batch in flight.
-ghost use Rattle.std.specs.Prelude.{◌≡◌, ℕ, ◌+◌, ◌^◌, ◌<◌, ◌≤◌, ◌↔◌, ◌++◌, IsTrue, IsSome, length, vec_len, vec_capacity, IfOk, OnOk, OnErr};
-ghost use Rattle.out_lane.specs.Lane.{empty_lane, after_push, pushed_out, after_begin, begin_answer, after_accept, after_fail, failed_out, flying};
+ghost use Rattle.std.specs.Prelude.{◌≡◌, ℕ, ◌+◌, ◌^◌, ◌<◌, ◌≤◌, ◌↔◌, ◌++◌, IsTrue, IsSome, length, vec_len};
+ghost use Rattle.std.specs.Prelude.{vec_capacity, IfOk, OnOk, OnErr};
+ghost use Rattle.out_lane.specs.Lane.{empty_lane, after_push, pushed_out, after_begin, begin_answer};
+ghost use Rattle.out_lane.specs.Lane.{after_accept, after_fail, failed_out, flying};
 
 use crate::BeginAnswer;
 use crate::moves::{append_within, move_back, move_oldest};

@@ -2,7 +2,8 @@
 //! The body of each function is empty; its contract is the law.
 ghost use Rattle.out_lane.specs.LaneCalls.{CallsMeet};
 ghost use Rattle.out_lane.specs.LaneCounts.{BecomesCounts};
-ghost use Rattle.out_lane.specs.LaneLaws.{NewIsLane, PushMeets, BeginMeets, AcceptMeets, FailMeets, KeepsBuffered, WritesInOrder, FatesLast};
+ghost use Rattle.out_lane.specs.LaneLaws.{NewIsLane, PushMeets, BeginMeets, AcceptMeets, FailMeets};
+ghost use Rattle.out_lane.specs.LaneLaws.{KeepsBuffered, WritesInOrder, FatesLast};
 
 /// A new lane is the lane of no events.
 pub fn law_new<T>()

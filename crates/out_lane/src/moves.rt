@@ -1,5 +1,6 @@
 //! Moves of items between lists that have the room.
-ghost use Rattle.std.specs.Prelude.{◌≡◌, ℕ, ◌+◌, ◌-◌, ◌≤◌, [], ◌∷◌, ◌++◌, length, take, drop, vec_len, vec_capacity};
+ghost use Rattle.std.specs.Prelude.{◌≡◌, ℕ, ◌+◌, ◌-◌, ◌≤◌, [], ◌∷◌, ◌++◌, length, take, drop, vec_len};
+ghost use Rattle.std.specs.Prelude.{vec_capacity};
 ghost use Rattle.circular_buffer.specs.Buffer.{buffer};
 ghost use Rattle.out_lane.specs.Lane.{newest, older};
 
@@ -52,7 +53,8 @@ fn push_within<T: Drop>(list: &mut Vec<T>, item: T)
 
 /// Moves the last items of `flight` before those of `queue`, as many as it has room for.
 pub(crate) fn move_back<T: Drop>(flight: &mut Vec<T>, queue: &mut HeapCircularBuffer<T>)
-    ensures queue { queue.new ≡ buffer (newest queue.old.capacity (flight.old.items ++ queue.old.items)) queue.old.capacity }
+    ensures queue { let kept = newest queue.old.capacity (flight.old.items ++ queue.old.items) in
+        queue.new ≡ buffer kept queue.old.capacity }
     ensures flight { flight.new.items ≡ older queue.old.capacity (flight.old.items ++ queue.old.items) }
     ensures room { vec_capacity flight.new ≡ vec_capacity flight.old }
 {

@@ -1,30 +1,37 @@
 -- How many of the routed metrics have each fate.
-use Rattle.std.proofs.Common.{◌≡◌, ℕ, ◌+◌, cond, if◌then◌else◌, Bool, true, false, List, [], ◌∷◌, ◌++◌, length, refl, ap, ◌∙◌, arith, length-append}
+use Rattle.std.proofs.Common.{◌≡◌, ℕ, ◌+◌, cond, if◌then◌else◌, Bool, true, false, List, [], ◌∷◌, ◌++◌}
+use Rattle.std.proofs.Common.{length, refl, ap, ◌∙◌, arith, length-append}
 use Rattle.std.specs.List.{count_by}
 use Rattle.std.proofs.lemmas.List.Sums.{sum_by-cons}
 use Rattle.std.specs.declared.option.Option.{Option}
 use Rattle.std.specs.declared.option.Option.TheVariants.{Some, None}
 use Rattle.metric.specs.declared.metric.Content.{Content}
 use Rattle.account.specs.declared.entry.Entry.{Entry}
-use Rattle.account.specs.declared.entry.Entry.TheVariants.{Gather, Ended, Take, Route, Tick, Stop, Begin, Done}
+use Rattle.account.specs.declared.entry.Entry.TheVariants.{Gather, Ended, Take, Route, Tick, Stop, Begin}
+use Rattle.account.specs.declared.entry.Entry.TheVariants.{Done}
 use Rattle.account.specs.declared.entry.Verdict.{Verdict}
 use Rattle.account.specs.declared.entry.Verdict.TheVariants as verdicts
 use Rattle.out_lane.specs.LaneEvents.{LaneEvent, fate_at}
 use Rattle.out_lane.specs.LaneCounts.{ones, positions_counted, fates_counted}
 use Rattle.out_lane.proofs.CountLemmas.{positions_counted-add}
 use Rattle.pipeline_core.specs.Offers.{offers, lane_events, offered, offered_by, view_at}
-use Rattle.pipeline_core.specs.Fates.{Fate, fate_of, fate_of_view, fates_by_verdict, fates_by, fates_from, fates}
+use Rattle.pipeline_core.specs.Fates.{Fate, fate_of, fate_of_view, fates_by_verdict, fates_by, fates_from}
+use Rattle.pipeline_core.specs.Fates.{fates}
 use Rattle.pipeline_core.specs.Fates as fate
 use Rattle.pipeline_core.specs.Sums.{FatesAddUp}
 use Rattle.std.specs.Option.{option_to_list}
-use Rattle.pipeline_core.specs.Totals.{total_by, is_removed, routed_by, is_filtered, is_late, is_consumed, is_written, is_buffered, is_dropped}
+use Rattle.pipeline_core.specs.Totals.{total_by, is_removed, routed_by, is_filtered, is_late, is_consumed}
+use Rattle.pipeline_core.specs.Totals.{is_written, is_buffered, is_dropped}
 
-count_by-more : (t : Fate → Bool) (x : Fate) (xs : List Fate) → count_by t (x ∷ xs) ≡ cond (t x) 1 0 + count_by t xs
+count_by-more : (t : Fate → Bool) (x : Fate) (xs : List Fate) →
+    count_by t (x ∷ xs) ≡ cond (t x) 1 0 + count_by t xs
 count_by-more t x xs = sum_by-cons (λ (y : Fate). cond (t y) 1 0) x xs
 
-pub count_by-append : (t : Fate → Bool) (xs ys : List Fate) → count_by t (xs ++ ys) ≡ count_by t xs + count_by t ys
+pub count_by-append : (t : Fate → Bool) (xs ys : List Fate) →
+    count_by t (xs ++ ys) ≡ count_by t xs + count_by t ys
 count_by-append t [] ys = omega arith
-count_by-append t (x ∷ xs) ys = omega (arith, count_by-append t xs ys, count_by-more t x (xs ++ ys), count_by-more t x xs)
+count_by-append t (x ∷ xs) ys =
+    omega (arith, count_by-append t xs ys, count_by-more t x (xs ++ ys), count_by-more t x xs)
 
 one : (b : Bool) → cond b 1 0 ≡ ones b
 one true = refl
@@ -46,7 +53,8 @@ kept_out t o _ = 0
 abbrev pub test_at : (Fate → Bool) → ℕ → List LaneEvent → ℕ → Bool
 test_at t limit events p = t (fate_of (fate_at limit events p))
 
-by_view : (t : Fate → Bool) (limit : ℕ) (events : List LaneEvent) (position : ℕ) (view : Option Content) → count_by t (fate_of_view limit events position view ∷ []) ≡ kept_out_by t verdicts.Passes view + positions_counted (test_at t limit events) position (length (option_to_list view))
+by_view : (t : Fate → Bool) (limit : ℕ) (events : List LaneEvent) (position : ℕ) (view : Option Content) →
+    count_by t (fate_of_view limit events position view ∷ []) ≡ kept_out_by t verdicts.Passes view + positions_counted (test_at t limit events) position (length (option_to_list view))
 by_view t limit events position None = omega (arith, one (t fate.Filtered))
 by_view t limit events position (Some view) = omega (arith, one (t (fate_of (fate_at limit events position))))
 
@@ -56,11 +64,14 @@ by_verdict t limit events position verdicts.Consumed view = omega (arith, one (t
 by_verdict t limit events position verdicts.Late view = omega (arith, one (t fate.Late))
 by_verdict t limit events position verdicts.Removed view = omega arith
 
-by_entry : (t : Fate → Bool) (limit o : ℕ) (events : List LaneEvent) (position : ℕ) (e : Entry) → count_by t (fates_by limit o events position e) ≡ kept_out t o e + positions_counted (test_at t limit events) position (length (offered_by o e))
-by_entry t limit o events position (Gather input moment pieces refused passed filtered metrics group reports) = omega arith
+by_entry : (t : Fate → Bool) (limit o : ℕ) (events : List LaneEvent) (position : ℕ) (e : Entry) →
+    count_by t (fates_by limit o events position e) ≡ kept_out t o e + positions_counted (test_at t limit events) position (length (offered_by o e))
+by_entry t limit o events position (Gather input moment pieces refused passed filtered metrics group reports) =
+    omega arith
 by_entry t limit o events position (Ended input) = omega arith
 by_entry t limit o events position (Take item) = omega arith
-by_entry t limit o events position (Route item whole verdict aggs outs reports) = by_verdict t limit events position verdict (view_at o outs)
+by_entry t limit o events position (Route item whole verdict aggs outs reports) =
+    by_verdict t limit events position verdict (view_at o outs)
 by_entry t limit o events position (Tick moment made) = omega arith
 by_entry t limit o events position (Stop moment made) = omega arith
 by_entry t limit o events position (Begin number from to) = omega arith
@@ -82,16 +93,19 @@ fates_from-counted t limit o events position (e ∷ es) =
     omega (arith, count_by-append t (fates_by limit o events position e) (fates_from limit o events (position + n) es))
 
 -- how many of the routed metrics have a fate that passes a test
-pub fates-counted : (t : Fate → Bool) (limit o : ℕ) (es : List Entry) → count_by t (fates limit o es) ≡ total_by (kept_out t o) es + fates_counted (λ f. t (fate_of f)) limit (lane_events o es) (length (offers o es))
+pub fates-counted : (t : Fate → Bool) (limit o : ℕ) (es : List Entry) →
+    count_by t (fates limit o es) ≡ total_by (kept_out t o) es + fates_counted (λ f. t (fate_of f)) limit (lane_events o es) (length (offers o es))
 fates-counted t limit o es = fates_from-counted t limit o (lane_events o es) 0 es
 
-pub total_by-push : (count : Entry → ℕ) (es : List Entry) (e : Entry) → total_by count (es ++ e ∷ []) ≡ total_by count es + count e
+pub total_by-push : (count : Entry → ℕ) (es : List Entry) (e : Entry) →
+    total_by count (es ++ e ∷ []) ≡ total_by count es + count e
 unfolding total_by
 total_by-push count [] e = omega arith
 total_by-push count (x ∷ es) e = omega (arith, total_by-push count es e)
 
 -- each fate is exactly one of the six
-six : (f : Fate) → cond (is_filtered f) 1 0 + cond (is_late f) 1 0 + cond (is_consumed f) 1 0 + cond (is_written f) 1 0 + cond (is_buffered f) 1 0 + cond (is_dropped f) 1 0 ≡ 1
+six : (f : Fate) →
+    cond (is_filtered f) 1 0 + cond (is_late f) 1 0 + cond (is_consumed f) 1 0 + cond (is_written f) 1 0 + cond (is_buffered f) 1 0 + cond (is_dropped f) 1 0 ≡ 1
 six fate.Filtered = refl
 six fate.Late = refl
 six fate.Consumed = refl
@@ -99,9 +113,11 @@ six fate.Written = refl
 six fate.Buffered = refl
 six fate.Dropped = refl
 
-all_six : (xs : List Fate) → count_by is_filtered xs + count_by is_late xs + count_by is_consumed xs + count_by is_written xs + count_by is_buffered xs + count_by is_dropped xs ≡ length xs
+all_six : (xs : List Fate) →
+    count_by is_filtered xs + count_by is_late xs + count_by is_consumed xs + count_by is_written xs + count_by is_buffered xs + count_by is_dropped xs ≡ length xs
 all_six [] = refl
-all_six (x ∷ xs) = omega (arith, all_six xs, six x, count_by-more is_filtered x xs, count_by-more is_late x xs, count_by-more is_consumed x xs, count_by-more is_written x xs, count_by-more is_buffered x xs, count_by-more is_dropped x xs)
+all_six (x ∷ xs) =
+    omega (arith, all_six xs, six x, count_by-more is_filtered x xs, count_by-more is_late x xs, count_by-more is_consumed x xs, count_by-more is_written x xs, count_by-more is_buffered x xs, count_by-more is_dropped x xs)
 
 by_verdict-length : (limit : ℕ) (events : List LaneEvent) (position : ℕ) (verdict : Verdict) (view : Option Content) → length (fates_by_verdict limit events position verdict view) ≡ (if is_removed verdict then 0 else 1)
 by_verdict-length limit events position verdicts.Passes view = refl
@@ -109,17 +125,21 @@ by_verdict-length limit events position verdicts.Consumed view = refl
 by_verdict-length limit events position verdicts.Late view = refl
 by_verdict-length limit events position verdicts.Removed view = refl
 
-by_entry-length : (limit o : ℕ) (events : List LaneEvent) (position : ℕ) (e : Entry) → length (fates_by limit o events position e) ≡ routed_by e
-by_entry-length limit o events position (Gather input moment pieces refused passed filtered metrics group reports) = refl
+by_entry-length : (limit o : ℕ) (events : List LaneEvent) (position : ℕ) (e : Entry) →
+    length (fates_by limit o events position e) ≡ routed_by e
+by_entry-length limit o events position (Gather input moment pieces refused passed filtered metrics group reports) =
+    refl
 by_entry-length limit o events position (Ended input) = refl
 by_entry-length limit o events position (Take item) = refl
-by_entry-length limit o events position (Route item whole verdict aggs outs reports) = by_verdict-length limit events position verdict (view_at o outs)
+by_entry-length limit o events position (Route item whole verdict aggs outs reports) =
+    by_verdict-length limit events position verdict (view_at o outs)
 by_entry-length limit o events position (Tick moment made) = refl
 by_entry-length limit o events position (Stop moment made) = refl
 by_entry-length limit o events position (Begin number from to) = refl
 by_entry-length limit o events position (Done number ok reports) = refl
 
-fates_from-length : (limit o : ℕ) (events : List LaneEvent) (position : ℕ) (es : List Entry) → length (fates_from limit o events position es) ≡ total_by routed_by es
+fates_from-length : (limit o : ℕ) (events : List LaneEvent) (position : ℕ) (es : List Entry) →
+    length (fates_from limit o events position es) ≡ total_by routed_by es
 unfolding fates_from total_by
 fates_from-length limit o events position [] = refl
 fates_from-length limit o events position (e ∷ es) =
@@ -128,4 +148,6 @@ fates_from-length limit o events position (e ∷ es) =
 
 -- the six fates add up to the routed metrics
 pub fates_add_up : FatesAddUp
-fates_add_up limit output journal = all_six (fates limit output journal) ∙ fates_from-length limit output (lane_events output journal) 0 journal
+fates_add_up limit output journal =
+    all_six (fates limit output journal)
+    ∙ fates_from-length limit output (lane_events output journal) 0 journal

@@ -1,7 +1,11 @@
 -- What a core keeps agrees after each step.
-use Rattle.std.proofs.Common.{◌≡◌, ◌<◌, ◌≤◌, ℕ, ℤ, ◌+◌, ◌-◌, ◌^◌, ◌==◌, Bool, true, false, List, [], ◌∷◌, ◌++◌, length, take, drop, map, refl, sym, ap, ◌∙◌, subst, inl, inr, arith, get_or, set, replicate, is_some, IsSome, if◌then◌else◌, length-append, length-drop}
+use Rattle.std.proofs.Common.{◌≡◌, ◌<◌, ◌≤◌, ℕ, ℤ, ◌+◌, ◌-◌, ◌^◌, ◌==◌, Bool, true, false, List, [], ◌∷◌}
+use Rattle.std.proofs.Common.{◌++◌, length, take, drop, map, refl, sym, ap, ◌∙◌, subst, inl, inr, arith}
+use Rattle.std.proofs.Common.{get_or, set, replicate, is_some, IsSome, if◌then◌else◌, length-append}
+use Rattle.std.proofs.Common.{length-drop}
 use Rattle.std.proofs.Math.Nat.{eq-or-lt_of_le}
-use Rattle.std.proofs.lemmas.List.{get_or-set_same, get_or-set_other, length-take, length-take-le, length-map, set-get_or, get_or-map, length-replicate, get_or-replicate}
+use Rattle.std.proofs.lemmas.List.{get_or-set_same, get_or-set_other, length-take, length-take-le, length-map}
+use Rattle.std.proofs.lemmas.List.{set-get_or, get_or-map, length-replicate, get_or-replicate}
 use Rattle.std.proofs.lemmas.Bool.{cases_lt}
 use Rattle.std.proofs.lemmas.Bool.Decides.{nat_tests}
 use Rattle.std.proofs.lemmas.List.Sums.{sum_by-le, sum_by-set}
@@ -11,18 +15,23 @@ use Rattle.std.specs.declared.option.Option.{Option}
 use Rattle.std.specs.declared.option.Option.TheVariants.{Some, None}
 use Rattle.metric.specs.declared.metric.Content.{Content}
 use Rattle.account.specs.declared.entry.Entry.{Entry}
-use Rattle.account.specs.Numbers.{Numbers, output_numbers, unread_input, no_numbers, unreached_output, with_output}
+use Rattle.account.specs.Numbers.{Numbers, output_numbers, unread_input, no_numbers, unreached_output}
+use Rattle.account.specs.Numbers.{with_output}
 use Rattle.account.specs.declared.numbers.OutputNumbers.{OutputNumbers}
 use Rattle.out_lane.specs.Lane.{LaneState, empty_lane}
 use Rattle.out_lane.specs.Lane as lane
 use Rattle.pipeline_core.specs.Offers.{view_at}
-use Rattle.pipeline_core.proofs.Offering.{lanes_with-at, outputs_with-at, length-lanes_with, length-outputs_with}
+use Rattle.pipeline_core.proofs.Offering.{lanes_with-at, outputs_with-at, length-lanes_with}
+use Rattle.pipeline_core.proofs.Offering.{length-outputs_with}
 use Rattle.pipeline_core.specs.declared.setup.CoreSetup.{CoreSetup}
 use Rattle.pipeline_core.specs.declared.setup.InSetup.{InSetup}
 use Rattle.pipeline_core.specs.declared.setup.OutSetup.{OutSetup}
-use Rattle.pipeline_core.specs.CoreState.{setup_of, lane_of, sizes, most_undelivered, CoreState, IsCore, IsOutput, sizes_at, flights, in_flight, held_count, lane_at}
+use Rattle.pipeline_core.specs.CoreState.{setup_of, lane_of, sizes, most_undelivered, CoreState, IsCore}
+use Rattle.pipeline_core.specs.CoreState.{IsOutput, sizes_at, flights, in_flight, held_count, lane_at}
 use Rattle.pipeline_core.specs.declared.gathering.Gathered.{Gathered}
-use Rattle.pipeline_core.specs.Steps.{after_gather, after_ended, after_take, lanes_routed, numbers_routed, HasFew, lane_with, numbers_with, buffered_more, lane_done, count_done, counted_done, HasNumbers}
+use Rattle.pipeline_core.specs.Steps.{after_gather, after_ended, after_take, lanes_routed, numbers_routed}
+use Rattle.pipeline_core.specs.Steps.{HasFew, lane_with, numbers_with, buffered_more, lane_done, count_done}
+use Rattle.pipeline_core.specs.Steps.{counted_done, HasNumbers}
 
 in_flight-le : (x : LaneState Content) → in_flight x ≤ 1
 in_flight-le x = elim (is_some x.flight) as (λ b. (if b then 1 else 0) ≤ 1) [ true ↦ omega arith | false ↦ omega arith ]
@@ -93,7 +102,8 @@ kept_take s stored h empty some =
     }
 
 -- with an item in hand, fewer items were routed than gathered
-pub few_routed : (s : CoreState) (item : ℕ) → IsCore s → s.held ≡ Some item → s.numbers.removed + s.numbers.routed < 2 ^ 32
+pub few_routed : (s : CoreState) (item : ℕ) → IsCore s → s.held ≡ Some item →
+    s.numbers.removed + s.numbers.routed < 2 ^ 32
 few_routed s item h held = omega (arith, h.routed, h.counted, h.below, ap held_count held)
 
 none_flies : (x : LaneState Content) → x.flight ≡ None → in_flight x ≡ 0
@@ -109,7 +119,9 @@ pub full : (m n : ℕ) → m ≡ n → (m == n) ≡ true
 full m n h = grind (arith, nat_tests)
 
 -- one more waits
-output_pushed : (size : ℕ × ℕ) (routed : ℕ) (x : OutputNumbers) (at : LaneState Content) (view : Content) → IsOutput size routed x at → length at.waiting < at.limit → IsOutput size (routed + 1) (buffered_more at x) (lane.after_push at view)
+output_pushed : (size : ℕ × ℕ) (routed : ℕ) (x : OutputNumbers) (at : LaneState Content) (view : Content) →
+    IsOutput size routed x at → length at.waiting < at.limit →
+    IsOutput size (routed + 1) (buffered_more at x) (lane.after_push at view)
 output_pushed size routed x at view h b =
     let all = at.waiting ++ view ∷ [] in
     let whole : length all ≡ length at.waiting + 1 = length-append at.waiting (view ∷ []) in
@@ -137,12 +149,14 @@ output_offered size routed x at (Some view) h =
     ]
 
 -- an output agrees once its batch was begun
-pub output_begun : (size : ℕ × ℕ) (routed : ℕ) (x : OutputNumbers) (at : LaneState Content) → at.flight ≡ None → IsOutput size routed x at → IsOutput size routed x (lane.after_begin at)
+pub output_begun : (size : ℕ × ℕ) (routed : ℕ) (x : OutputNumbers) (at : LaneState Content) →
+    at.flight ≡ None → IsOutput size routed x at → IsOutput size routed x (lane.after_begin at)
 output_begun size routed x at none h =
     record { batch = h.batch; limit = h.limit; some = h.some; fits = h.fits; waits = omega (arith, length-drop at.batch at.waiting, h.waits); buffered = omega (arith, length-drop at.batch at.waiting, length-take at.batch at.waiting, h.buffered, ap (λ (o : Option (ℕ × List Content)). length (lane.batch_items o)) none); all = h.all; pushed = h.pushed }
 
 -- an output agrees once its batch was accepted, or failed
-pub output_done : (ok : Bool) (size : ℕ × ℕ) (routed : ℕ) (x : OutputNumbers) (at : LaneState Content) → IsOutput size routed x at → IsOutput size routed (counted_done ok (count_done ok at) x) (lane_done ok at)
+pub output_done : (ok : Bool) (size : ℕ × ℕ) (routed : ℕ) (x : OutputNumbers) (at : LaneState Content) →
+    IsOutput size routed x at → IsOutput size routed (counted_done ok (count_done ok at) x) (lane_done ok at)
 output_done true size routed x at h =
     record { batch = h.batch; limit = h.limit; some = h.some; fits = h.fits; waits = h.waits; buffered = omega (arith, h.buffered); all = omega (arith, h.all, h.buffered); pushed = h.pushed }
 output_done false size routed x at h =
@@ -155,7 +169,8 @@ output_done false size routed x at h =
 -- with another lane and other numbers at one output, each output agrees
 pub each_with : (sizes : List (ℕ × ℕ)) (routed : ℕ) (all : List OutputNumbers) (lanes : List (LaneState Content)) (o : ℕ) (x : OutputNumbers) (at : LaneState Content) → o < length all → o < length lanes →
     ((k : ℕ) → k < length sizes → IsOutput (get_or sizes k (0, 0)) routed (get_or all k unreached_output) (lane_at lanes k)) → IsOutput (get_or sizes o (0, 0)) routed x at →
-    (k : ℕ) → k < length sizes → IsOutput (get_or sizes k (0, 0)) routed (get_or (set all o x) k unreached_output) (lane_at (set lanes o at) k)
+    (k : ℕ) → k < length sizes →
+    IsOutput (get_or sizes k (0, 0)) routed (get_or (set all o x) k unreached_output) (lane_at (set lanes o at) k)
 each_with sizes routed all lanes o x at a b h new k c =
     elim (cases_lt k o) [
       | inl m ↦ rw (get_or-set_other all o k x unreached_output (omega arith), get_or-set_other lanes o k at (empty_lane 0 0) (omega arith)) (h k c)
@@ -168,7 +183,13 @@ each_with sizes routed all lanes o x at a b h new k c =
 
 -- an item is counted, and offered to the outputs unless it was removed
 kept_as : (whole : Option Content) (s : CoreState) (outs : List (Option Content)) (item : ℕ) (stored : List Entry) → s.held ≡ Some item → IsCore s →
-    IsCore (record s { held = None; lanes = lanes_routed whole outs s.lanes; numbers = numbers_routed whole outs s.lanes s.numbers; stored = stored })
+    IsCore (record s {
+      held =
+          None;
+      lanes = lanes_routed whole outs s.lanes;
+      numbers = numbers_routed whole outs s.lanes s.numbers;
+      stored = stored;
+    })
 kept_as None s outs item stored held h =
     record {
       lanes = h.lanes;
@@ -193,7 +214,8 @@ kept_as (Some whole) s outs item stored held h =
       counted = h.counted;
       below = h.below;
       routed = omega (arith, h.routed, ap held_count held);
-      each = λ o b. rw (lanes_with-at outs s.lanes o (omega (arith, h.lanes)), outputs_with-at outs s.lanes s.numbers.outputs o (omega (arith, h.outputs)))
+      each =
+          λ o b. rw (lanes_with-at outs s.lanes o (omega (arith, h.lanes)), outputs_with-at outs s.lanes s.numbers.outputs o (omega (arith, h.outputs)))
           (output_offered (sizes_at s.setup o) s.numbers.routed (output_numbers s.numbers o) (lane_at s.lanes o) (view_at o outs) (h.each o b));
     }
 
@@ -202,14 +224,21 @@ length-lanes_routed None outs lanes = refl
 length-lanes_routed (Some whole) outs lanes = length-lanes_with outs lanes
 
 pub kept_route : (s : CoreState) (whole : Option Content) (outs : List (Option Content)) (item : ℕ) (lanes : List (LaneState Content)) (numbers : Numbers) (stored : List Entry) → s.held ≡ Some item →
-    lanes ≡ lanes_routed whole outs s.lanes → numbers ≡ numbers_routed whole outs s.lanes s.numbers → IsCore s → IsCore (record s { held = None; lanes = lanes; numbers = numbers; stored = stored })
+    lanes ≡ lanes_routed whole outs s.lanes → numbers ≡ numbers_routed whole outs s.lanes s.numbers → IsCore s → IsCore (record s {
+      held =
+          None;
+      lanes = lanes;
+      numbers = numbers;
+      stored = stored;
+    })
 kept_route s whole outs item lanes numbers stored held l n h =
     subst (λ (x : List (LaneState Content)). IsCore (record s { held = None; lanes = x; numbers = numbers; stored = stored })) (sym l)
     (subst (λ (x : Numbers). IsCore (record s { held = None; lanes = lanes_routed whole outs s.lanes; numbers = x; stored = stored })) (sym n)
     (kept_as whole s outs item stored held h))
 
 -- few enough metrics came to each output that one more may
-pub has_few : (s : CoreState) (item : ℕ) → s.held ≡ Some item → IsCore s → (o : ℕ) → o < length s.lanes → HasFew (output_numbers s.numbers o) (lane_at s.lanes o)
+pub has_few : (s : CoreState) (item : ℕ) → s.held ≡ Some item → IsCore s → (o : ℕ) → o < length s.lanes →
+    HasFew (output_numbers s.numbers o) (lane_at s.lanes o)
 has_few s item held h o b =
     let e = h.each o (omega (arith, h.lanes)) in
     let few = few_routed s item h held in
@@ -228,14 +257,20 @@ kept_begin s o at stored b none e h =
       counted = h.counted;
       below = h.below;
       routed = h.routed;
-      each = λ k c. subst (λ (xs : List OutputNumbers). IsOutput (sizes_at s.setup k) s.numbers.routed (get_or xs k unreached_output) (lane_at (set s.lanes o at) k)) (set-get_or s.numbers.outputs o unreached_output)
+      each =
+          λ k c. subst (λ (xs : List OutputNumbers). IsOutput (sizes_at s.setup k) s.numbers.routed (get_or xs k unreached_output) (lane_at (set s.lanes o at) k)) (set-get_or s.numbers.outputs o unreached_output)
           (each_with s.setup.outputs s.numbers.routed s.numbers.outputs s.lanes o (output_numbers s.numbers o) at (omega (arith, h.outputs)) (omega (arith, h.lanes)) h.each
           (subst (IsOutput (sizes_at s.setup o) s.numbers.routed (output_numbers s.numbers o)) (sym e) (output_begun (sizes_at s.setup o) s.numbers.routed (output_numbers s.numbers o) (lane_at s.lanes o) none (h.each o b))) k c);
     }
 
 -- a batch is done
 pub kept_done : (s : CoreState) (o : ℕ) (ok : Bool) (at : LaneState Content) (numbers : Numbers) (stored : List Entry) → o < length s.setup.outputs → at ≡ lane_done ok (lane_at s.lanes o) →
-    numbers ≡ with_output s.numbers o (counted_done ok (count_done ok (lane_at s.lanes o)) (output_numbers s.numbers o)) → IsCore s → IsCore (record s { lanes = set s.lanes o at; numbers = numbers; stored = stored })
+    numbers ≡ with_output s.numbers o (counted_done ok (count_done ok (lane_at s.lanes o)) (output_numbers s.numbers o)) → IsCore s → IsCore (record s {
+      lanes =
+          set s.lanes o at;
+      numbers = numbers;
+      stored = stored;
+    })
 kept_done s o ok at numbers stored b e n h =
     let x : OutputNumbers = counted_done ok (count_done ok (lane_at s.lanes o)) (output_numbers s.numbers o) in
     subst (λ (m : Numbers). IsCore (record s { lanes = set s.lanes o at; numbers = m; stored = stored })) (sym n)
@@ -249,13 +284,16 @@ kept_done s o ok at numbers stored b e n h =
       counted = h.counted;
       below = h.below;
       routed = h.routed;
-      each = each_with s.setup.outputs s.numbers.routed s.numbers.outputs s.lanes o x at (omega (arith, h.outputs)) (omega (arith, h.lanes)) h.each
+      each =
+          each_with s.setup.outputs s.numbers.routed s.numbers.outputs s.lanes o x at (omega (arith, h.outputs)) (omega (arith, h.lanes)) h.each
           (subst (IsOutput (sizes_at s.setup o) s.numbers.routed x) (sym e) (output_done ok (sizes_at s.setup o) s.numbers.routed (output_numbers s.numbers o) (lane_at s.lanes o) (h.each o b)));
     })
 
 -- one batch fewer is in flight
-pub flights_done : (lanes : List (LaneState Content)) (o : ℕ) (at : LaneState Content) → o < length lanes → IsSome (lane_at lanes o).flight → at.flight ≡ None → flights (set lanes o at) + 1 ≡ flights lanes
-flights_done lanes o at b some none = omega (arith, sum_by-set in_flight lanes o at (empty_lane 0 0) b, one_flies (lane_at lanes o) some, none_flies at none)
+pub flights_done : (lanes : List (LaneState Content)) (o : ℕ) (at : LaneState Content) → o < length lanes →
+    IsSome (lane_at lanes o).flight → at.flight ≡ None → flights (set lanes o at) + 1 ≡ flights lanes
+flights_done lanes o at b some none =
+    omega (arith, sum_by-set in_flight lanes o at (empty_lane 0 0) b, one_flies (lane_at lanes o) some, none_flies at none)
 
 -- once a batch is done none is in flight
 pub none_left : (ok : Bool) (at : LaneState Content) → (lane_done ok at).flight ≡ None
@@ -267,27 +305,35 @@ none_flies_yet [] = refl
 none_flies_yet (x ∷ outputs) = omega (arith, none_flies_yet outputs)
 
 -- nothing is in flight at first
-pub spare_at_first : (outputs : List OutSetup) (lanes : List (LaneState Content)) → lanes ≡ map lane_of outputs → flights lanes ≡ 0
+pub spare_at_first : (outputs : List OutSetup) (lanes : List (LaneState Content)) →
+    lanes ≡ map lane_of outputs → flights lanes ≡ 0
 spare_at_first outputs lanes e = ap flights e ∙ none_flies_yet outputs
 
 -- an output at which nothing waits agrees
-empty_output : (x : OutSetup) → 1 ≤ x.batch → x.batch ≤ x.limit → IsOutput (x.batch, x.limit) 0 unreached_output (lane_of x)
+empty_output : (x : OutSetup) → 1 ≤ x.batch → x.batch ≤ x.limit →
+    IsOutput (x.batch, x.limit) 0 unreached_output (lane_of x)
 empty_output x some fits = record { batch = refl; limit = refl; some = some; fits = fits; waits = omega arith; buffered = refl; all = refl; pushed = omega arith }
 
-no_output : OutSetup
+-- what stands where a list of set-ups has no output, and no input
+pub no_output : OutSetup
 no_output = record { batch = 0; limit = 0 }
 
-each_at_first : (outputs : List OutSetup) → All (λ (x : OutSetup). (1 ≤ x.batch) × (x.batch ≤ x.limit)) outputs → (k : ℕ) → k < length outputs →
+pub no_input : InSetup
+no_input = record { tracked = false; max_undelivered = 0 }
+
+each_at_first : (outputs : List OutSetup) →
+    All (λ (x : OutSetup). (1 ≤ x.batch) × (x.batch ≤ x.limit)) outputs → (k : ℕ) → k < length outputs →
     IsOutput (get_or (map sizes outputs) k (0, 0)) 0 (get_or (replicate (length outputs) unreached_output) k unreached_output) (lane_at (map lane_of outputs) k)
 each_at_first outputs h k b =
     rw (get_or-map sizes outputs k no_output (0, 0) b, get_or-map lane_of outputs k no_output (empty_lane 0 0) b, get_or-replicate (length outputs) k unreached_output unreached_output b)
     (empty_output (get_or outputs k no_output) (h k no_output b).0 (h k no_output b).1)
 
-untracked_at_first : (inputs : List InSetup) → All (λ (x : InSetup). x.tracked ≡ false) inputs → All (λ (x : Option ℕ). x ≡ None) (map most_undelivered inputs)
+untracked_at_first : (inputs : List InSetup) → All (λ (x : InSetup). x.tracked ≡ false) inputs →
+    All (λ (x : Option ℕ). x ≡ None) (map most_undelivered inputs)
 untracked_at_first inputs h k d b =
     let within : k < length inputs = omega (arith, length-map inputs most_undelivered) in
-    let one : InSetup = record { tracked = false; max_undelivered = 0 } in
-    get_or-map most_undelivered inputs k one d within ∙ ap (λ (t : Bool). if t then Some (get_or inputs k one).max_undelivered else None) (h k one within)
+    get_or-map most_undelivered inputs k no_input d within
+    ∙ ap (λ (t : Bool). if t then Some (get_or inputs k no_input).max_undelivered else None) (h k no_input within)
 
 -- a core in which nothing happened
 pub kept_first : (setup : CoreSetup) (raw : List Content) (lanes : List (LaneState Content)) (numbers : Numbers) (stored : List Entry) (counted : ℤ) (ended : List Bool) →
@@ -310,7 +356,13 @@ kept_first setup raw lanes numbers stored counted ended few untracked sized r l 
     })
 
 pub kept_gathered : (s : CoreState) (g : Gathered) (raw : List Content) (numbers : Numbers) (gathered : ℕ) (stored : List Entry) → IsCore s → HasNumbers s g →
-    raw ≡ s.raw ++ g.metrics → numbers ≡ (after_gather s g).numbers → gathered ≡ s.gathered + length g.metrics → IsCore (record s { raw = raw; numbers = numbers; gathered = gathered; stored = stored })
+    raw ≡ s.raw ++ g.metrics → numbers ≡ (after_gather s g).numbers → gathered ≡ s.gathered + length g.metrics → IsCore (record s {
+      raw =
+          raw;
+      numbers = numbers;
+      gathered = gathered;
+      stored = stored;
+    })
 kept_gathered s g raw numbers gathered stored h few r n e = rw (r, n, e) (kept_gather s g stored h few)
 
 -- a batch that is begun is in flight

@@ -1,7 +1,10 @@
 -- The views of an item go to the outputs, the last output first.
-use Rattle.std.proofs.Common.{◌≡◌, ◌<◌, ◌≤◌, ℕ, ◌+◌, ◌==◌, Bool, true, List, [], ◌∷◌, ◌++◌, length, refl, sym, ap, ◌∙◌, subst, inl, inr, arith, slice_set, get_or, if◌then◌else◌, length-append}
+use Rattle.std.proofs.Common.{◌≡◌, ◌<◌, ◌≤◌, ℕ, ◌+◌, ◌==◌, Bool, true, List, [], ◌∷◌, ◌++◌, length, refl, sym}
+use Rattle.std.proofs.Common.{ap, ◌∙◌, subst, inl, inr, arith, slice_set, get_or, if◌then◌else◌}
+use Rattle.std.proofs.Common.{length-append}
 use Rattle.std.proofs.Math.Nat.{eq-or-lt_of_le}
-use Rattle.std.proofs.lemmas.List.{get_or_push, get_or_append_left, set-set, get_or-set_same, get_or-set_other, ext_get_or, length-set, get_or-map, length-map}
+use Rattle.std.proofs.lemmas.List.{get_or_push, get_or_append_left, set-set, get_or-set_same}
+use Rattle.std.proofs.lemmas.List.{get_or-set_other, ext_get_or, length-set, get_or-map, length-map}
 use Rattle.std.proofs.lemmas.List.FromFn.{get_or-enumerate_from, length-enumerate_from}
 use Rattle.std.proofs.lemmas.Option.{slice_get-get_or, get_or_from_slice_get, slice_get_read}
 use Rattle.std.specs.List.{enumerate_from}
@@ -24,19 +27,27 @@ pub record Offered (lanes₀ : List (LaneState Content)) (numbers₀ : Numbers) 
   pub rest : numbers ≡ record numbers₀ { outputs = numbers.outputs }
   pub lane_before : (o : ℕ) → o < length left → lane_at lanes o ≡ lane_at lanes₀ o
   pub number_before : (o : ℕ) → o < length left → output_numbers numbers o ≡ output_numbers numbers₀ o
-  pub lane_after : (o : ℕ) → length left ≤ o → o < length lanes₀ → lane_at lanes o ≡ lane_with (view_at o views) (lane_at lanes₀ o)
-  pub number_after : (o : ℕ) → length left ≤ o → o < length lanes₀ → output_numbers numbers o ≡ numbers_with (view_at o views) (lane_at lanes₀ o) (output_numbers numbers₀ o)
+  pub lane_after : (o : ℕ) → length left ≤ o → o < length lanes₀ →
+      lane_at lanes o ≡ lane_with (view_at o views) (lane_at lanes₀ o)
+  pub number_after : (o : ℕ) → length left ≤ o → o < length lanes₀ →
+      output_numbers numbers o ≡ numbers_with (view_at o views) (lane_at lanes₀ o) (output_numbers numbers₀ o)
 
 -- what stands at a place of the list is the output's lane
-pub placed : (lanes : List (LaneState Content)) (o : ℕ) (x : LaneState Content) → o < length lanes → x ≡ get_or lanes o x → lane_at lanes o ≡ x
-placed lanes o x b e = get_or_from_slice_get lanes o x (empty_lane 0 0) (slice_get_read lanes (length lanes) o x refl b e)
+pub placed : (lanes : List (LaneState Content)) (o : ℕ) (x : LaneState Content) → o < length lanes →
+    x ≡ get_or lanes o x → lane_at lanes o ≡ x
+placed lanes o x b e =
+    get_or_from_slice_get lanes o x (empty_lane 0 0) (slice_get_read lanes (length lanes) o x refl b e)
 
 -- an output whose lane is full
-pub full_at : (lanes : List (LaneState Content)) (o : ℕ) (x : LaneState Content) (dropped : Bool) → o < length lanes → x ≡ get_or lanes o x → dropped ≡ (length x.waiting == x.limit) → dropped ≡ true → (length (lane_at lanes o).waiting == (lane_at lanes o).limit) ≡ true
-full_at lanes o x dropped b e d t = ap (λ (y : LaneState Content). length y.waiting == y.limit) (placed lanes o x b e) ∙ sym d ∙ t
+pub full_at : (lanes : List (LaneState Content)) (o : ℕ) (x : LaneState Content) (dropped : Bool) →
+    o < length lanes → x ≡ get_or lanes o x → dropped ≡ (length x.waiting == x.limit) → dropped ≡ true →
+    (length (lane_at lanes o).waiting == (lane_at lanes o).limit) ≡ true
+full_at lanes o x dropped b e d t =
+    ap (λ (y : LaneState Content). length y.waiting == y.limit) (placed lanes o x b e) ∙ sym d ∙ t
 
 -- the view at an output
-pub view-get_or : (views : List (Option Content)) (k : ℕ) → k < length views → view_at k views ≡ get_or views k None
+pub view-get_or : (views : List (Option Content)) (k : ℕ) → k < length views →
+    view_at k views ≡ get_or views k None
 view-get_or views k h = ap view_among (slice_get-get_or views k None h)
 
 pub offered_more : (lanes₀ : List (LaneState Content)) (numbers₀ : Numbers) (views left rest : List (Option Content)) (view : Option Content) (lanes lanes' : List (LaneState Content)) (numbers numbers' : Numbers) →
@@ -60,7 +71,8 @@ offered_more lanes₀ numbers₀ views left rest view lanes lanes' numbers numbe
       lane_after = λ o b c. elim (eq-or-lt_of_le b) [
         | inl e ↦ subst (λ (n : ℕ). lane_at lanes' n ≡ lane_with (view_at n views) (lane_at lanes₀ n)) e
             (ap (λ (x : List (LaneState Content)). lane_at x (length rest)) ls ∙ get_or-set_same lanes (length rest) y (empty_lane 0 0) (omega (arith, h.as_many))
-            ∙ ap (λ (v : Option Content). lane_with v (lane_at lanes (length rest))) (sym here) ∙ ap (lane_with (view_at (length rest) views)) (h.lane_before (length rest) (omega arith)))
+            ∙ ap (λ (v : Option Content). lane_with v (lane_at lanes (length rest))) (sym here)
+            ∙ ap (lane_with (view_at (length rest) views)) (h.lane_before (length rest) (omega arith)))
         | inr m ↦ ap (λ (x : List (LaneState Content)). lane_at x o) ls ∙ get_or-set_other lanes (length rest) o y (empty_lane 0 0) (omega arith) ∙ h.lane_after o (omega arith) c
       ];
       number_after = λ o b c. elim (eq-or-lt_of_le b) [
@@ -74,7 +86,8 @@ offered_more lanes₀ numbers₀ views left rest view lanes lanes' numbers numbe
     }
 
 -- an output's lane, once all views were offered
-pub lanes_with-at : (views : List (Option Content)) (lanes : List (LaneState Content)) (o : ℕ) → o < length lanes → lane_at (lanes_with views lanes) o ≡ lane_with (view_at o views) (lane_at lanes o)
+pub lanes_with-at : (views : List (Option Content)) (lanes : List (LaneState Content)) (o : ℕ) →
+    o < length lanes → lane_at (lanes_with views lanes) o ≡ lane_with (view_at o views) (lane_at lanes o)
 lanes_with-at views lanes o h =
     get_or-map (λ (x : ℕ × LaneState Content). lane_with (view_at x.0 views) x.1) (enumerate_from 0 lanes) o (0, empty_lane 0 0) (empty_lane 0 0) (omega (arith, length-enumerate_from 0 lanes))
     ∙ ap (λ (x : ℕ × LaneState Content). lane_with (view_at x.0 views) x.1) (get_or-enumerate_from 0 lanes o (0, empty_lane 0 0) h)
@@ -87,7 +100,8 @@ outputs_with-at views lanes all o h =
     ∙ ap (λ (x : ℕ × OutputNumbers). numbers_with (view_at x.0 views) (lane_at lanes x.0) x.1) (get_or-enumerate_from 0 all o (0, unreached_output) h)
     ∙ ap (λ (n : ℕ). numbers_with (view_at n views) (lane_at lanes n) (get_or all o unreached_output)) (omega arith)
 
-pub length-lanes_with : (views : List (Option Content)) (lanes : List (LaneState Content)) → length (lanes_with views lanes) ≡ length lanes
+pub length-lanes_with : (views : List (Option Content)) (lanes : List (LaneState Content)) →
+    length (lanes_with views lanes) ≡ length lanes
 length-lanes_with views lanes = length-map _ _ ∙ length-enumerate_from 0 lanes
 
 pub length-outputs_with : (views : List (Option Content)) (lanes : List (LaneState Content)) (all : List OutputNumbers) → length (outputs_with views lanes all) ≡ length all
@@ -108,7 +122,10 @@ offered_numbers lanes₀ numbers₀ views left lanes numbers none os h =
 
 -- one view is buffered, and the oldest that waited is dropped
 pub buffered_dropped : (a mid new : Numbers) (o : ℕ) (view : Option Content) (metric : Content) (at : LaneState Content) → o < length a.outputs → view ≡ Some metric → (length at.waiting == at.limit) ≡ true →
-    mid ≡ with_output a o (record (output_numbers a o) { buffered = (output_numbers a o).buffered + 1 }) → new ≡ with_output mid o (dropped_more (output_numbers mid o) 1) →
+    mid ≡ with_output a o (record (output_numbers a o) {
+      buffered =
+          (output_numbers a o).buffered + 1;
+    }) → new ≡ with_output mid o (dropped_more (output_numbers mid o) 1) →
     new ≡ with_output a o (numbers_with view at (output_numbers a o))
 buffered_dropped a mid new o view metric at b v full m n =
     let x : OutputNumbers = record (output_numbers a o) { buffered = (output_numbers a o).buffered + 1 } in

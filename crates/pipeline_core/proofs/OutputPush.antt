@@ -1,5 +1,6 @@
 -- An output's numbers with one entry more.
-use Rattle.std.proofs.Common.{◌≡◌, ◌<◌, ◌≤◌, ℕ, ◌+◌, Bool, true, false, List, [], ◌∷◌, ◌++◌, length, inl, inr, refl, sym, ap, ◌∙◌, arith}
+use Rattle.std.proofs.Common.{◌≡◌, ◌<◌, ◌≤◌, ℕ, ◌+◌, Bool, true, false, List, [], ◌∷◌, ◌++◌, length, inl, inr}
+use Rattle.std.proofs.Common.{refl, sym, ap, ◌∙◌, arith}
 use Rattle.std.specs.Option.{option_to_list}
 use Rattle.std.specs.Prelude.{slice_get}
 use Rattle.std.proofs.Math.Nat.{eq-or-lt_of_le}
@@ -17,14 +18,17 @@ use Rattle.out_lane.specs.LaneLaws.{KeepsFates, Becomes, Pushes, Accepts, Fails}
 use Rattle.pipeline_core.specs.Offers.{offers, offered_by, lane_events, lane_events_by}
 use Rattle.pipeline_core.specs.Fates.{Fate, fate_of, fates}
 use Rattle.pipeline_core.specs.Fates as fate
-use Rattle.pipeline_core.specs.Totals.{totals, made_by, removed_by, routed_by, output_total, is_filtered, is_late, is_consumed, is_written, is_buffered, is_dropped}
+use Rattle.pipeline_core.specs.Totals.{totals, made_by, removed_by, routed_by, output_total, is_filtered}
+use Rattle.pipeline_core.specs.Totals.{is_late, is_consumed, is_written, is_buffered, is_dropped}
 use Rattle.pipeline_core.specs.Steps.{buffered_more, counted_done, count_done}
 use Rattle.pipeline_core.proofs.FateCounts.{kept_out, total_by-push}
 use Rattle.pipeline_core.proofs.Keeping.{full, not_full}
 use Rattle.pipeline_core.proofs.TotalPush.{same_numbers, count-plain, count-keep, count-become, count-come}
 
 -- an entry that does nothing at the output
-pub output_stays : (limit o : ℕ) (es : List Entry) (e : Entry) → lane_events_by o e ≡ [] → offered_by o e ≡ [] → ((t : Fate → Bool) → kept_out t o e ≡ 0) → output_total limit o (es ++ e ∷ []) ≡ output_total limit o es
+pub output_stays : (limit o : ℕ) (es : List Entry) (e : Entry) → lane_events_by o e ≡ [] →
+    offered_by o e ≡ [] → ((t : Fate → Bool) → kept_out t o e ≡ 0) →
+    output_total limit o (es ++ e ∷ []) ≡ output_total limit o es
 output_stays limit o es e l v k =
     same_numbers (output_total limit o (es ++ e ∷ [])) (output_total limit o es)
     (omega (arith, count-plain is_filtered limit o es e l v, k is_filtered))
@@ -35,10 +39,17 @@ output_stays limit o es e l v k =
     (omega (arith, count-plain is_dropped limit o es e l v, k is_dropped))
 
 -- a metric without a view at the output
-pub output_filters : (limit o : ℕ) (es : List Entry) (e : Entry) → lane_events_by o e ≡ [] → offered_by o e ≡ [] → ((t : Fate → Bool) → kept_out t o e ≡ ones (t fate.Filtered)) →
-    output_total limit o (es ++ e ∷ []) ≡ record (output_total limit o es) { filtered = (output_total limit o es).filtered + 1 }
+pub output_filters : (limit o : ℕ) (es : List Entry) (e : Entry) → lane_events_by o e ≡ [] →
+    offered_by o e ≡ [] → ((t : Fate → Bool) → kept_out t o e ≡ ones (t fate.Filtered)) →
+    output_total limit o (es ++ e ∷ []) ≡ record (output_total limit o es) {
+      filtered =
+          (output_total limit o es).filtered + 1;
+    }
 output_filters limit o es e l v k =
-    same_numbers (output_total limit o (es ++ e ∷ [])) (record (output_total limit o es) { filtered = (output_total limit o es).filtered + 1 })
+    same_numbers (output_total limit o (es ++ e ∷ [])) (record (output_total limit o es) {
+      filtered =
+          (output_total limit o es).filtered + 1;
+    })
     (omega (arith, count-plain is_filtered limit o es e l v, k is_filtered))
     (omega (arith, count-plain is_late limit o es e l v, k is_late))
     (omega (arith, count-plain is_consumed limit o es e l v, k is_consumed))
@@ -47,7 +58,8 @@ output_filters limit o es e l v k =
     (omega (arith, count-plain is_dropped limit o es e l v, k is_dropped))
 
 -- a batch that is begun
-pub output_begins : (limit o : ℕ) (es : List Entry) (e : Entry) (event : LaneEvent) → lane_events_by o e ≡ event ∷ [] → offered_by o e ≡ [] → ((t : Fate → Bool) → kept_out t o e ≡ 0) →
+pub output_begins : (limit o : ℕ) (es : List Entry) (e : Entry) (event : LaneEvent) →
+    lane_events_by o e ≡ event ∷ [] → offered_by o e ≡ [] → ((t : Fate → Bool) → kept_out t o e ≡ 0) →
     KeepsFates limit (lane_events o es) (lane_events o es ++ event ∷ []) (offers o es) → output_total limit o (es ++ e ∷ []) ≡ output_total limit o es
 output_begins limit o es e event l v k h =
     same_numbers (output_total limit o (es ++ e ∷ [])) (output_total limit o es)
@@ -59,11 +71,19 @@ output_begins limit o es e event l v k h =
     (count-keep is_dropped limit o es e event l v (k is_dropped) h)
 
 -- a view that comes, by which n others are dropped
-output_comes : (limit o : ℕ) (es : List Entry) (e : Entry) (view : Content) (views : List Content) → lane_events_by o e ≡ lane.Push ∷ [] → offered_by o e ≡ view ∷ [] → ((t : Fate → Bool) → kept_out t o e ≡ 0) →
+output_comes : (limit o : ℕ) (es : List Entry) (e : Entry) (view : Content) (views : List Content) →
+    lane_events_by o e ≡ lane.Push ∷ [] → offered_by o e ≡ view ∷ [] →
+    ((t : Fate → Bool) → kept_out t o e ≡ 0) →
     lane.fate_at limit (lane_events o es ++ lane.Push ∷ []) (length (offers o es)) ≡ lane.Buffered → Becomes limit (lane_events o es) (lane_events o es ++ lane.Push ∷ []) (offers o es) lane.Dropped views →
-    output_total limit o (es ++ e ∷ []) ≡ dropped_more (record (output_total limit o es) { buffered = (output_total limit o es).buffered + 1 }) (length views)
+    output_total limit o (es ++ e ∷ []) ≡ dropped_more (record (output_total limit o es) {
+      buffered =
+          (output_total limit o es).buffered + 1;
+    }) (length views)
 output_comes limit o es e view views l v k new h =
-    same_numbers (output_total limit o (es ++ e ∷ [])) (dropped_more (record (output_total limit o es) { buffered = (output_total limit o es).buffered + 1 }) (length views))
+    same_numbers (output_total limit o (es ++ e ∷ [])) (dropped_more (record (output_total limit o es) {
+      buffered =
+          (output_total limit o es).buffered + 1;
+    }) (length views))
     (omega (arith, count-come is_filtered limit o es e view views l v (k is_filtered) new h))
     (omega (arith, count-come is_late limit o es e view views l v (k is_late) new h))
     (omega (arith, count-come is_consumed limit o es e view views l v (k is_consumed) new h))
@@ -88,7 +108,9 @@ output_pushes batch limit o es e view at l v k some most h =
     output_comes limit o es e view (option_to_list (pushed_out at)) l v k h.comes h.dropped ∙ pushed_count at some most (output_total limit o es)
 
 -- a batch is accepted
-pub output_accepts : (batch limit o : ℕ) (es : List Entry) (e : Entry) (at : LaneState Content) → lane_events_by o e ≡ lane.Done true ∷ [] → offered_by o e ≡ [] → ((t : Fate → Bool) → kept_out t o e ≡ 0) →
+pub output_accepts : (batch limit o : ℕ) (es : List Entry) (e : Entry) (at : LaneState Content) →
+    lane_events_by o e ≡ lane.Done true ∷ [] → offered_by o e ≡ [] →
+    ((t : Fate → Bool) → kept_out t o e ≡ 0) →
     Accepts batch limit (lane_events o es) (offers o es) at → output_total limit o (es ++ e ∷ []) ≡ counted_done true (count_done true at) (output_total limit o es)
 output_accepts batch limit o es e at l v k h =
     same_numbers (output_total limit o (es ++ e ∷ [])) (counted_done true (count_done true at) (output_total limit o es))
@@ -100,7 +122,9 @@ output_accepts batch limit o es e at l v k h =
     (omega (arith, count-become is_dropped limit o es e (lane.Done true) lane.Written (flying at) l v (k is_dropped) h.written))
 
 -- a batch fails
-pub output_fails : (batch limit o : ℕ) (es : List Entry) (e : Entry) (at : LaneState Content) → lane_events_by o e ≡ lane.Done false ∷ [] → offered_by o e ≡ [] → ((t : Fate → Bool) → kept_out t o e ≡ 0) →
+pub output_fails : (batch limit o : ℕ) (es : List Entry) (e : Entry) (at : LaneState Content) →
+    lane_events_by o e ≡ lane.Done false ∷ [] → offered_by o e ≡ [] →
+    ((t : Fate → Bool) → kept_out t o e ≡ 0) →
     Fails batch limit (lane_events o es) (offers o es) at → output_total limit o (es ++ e ∷ []) ≡ counted_done false (count_done false at) (output_total limit o es)
 output_fails batch limit o es e at l v k h =
     same_numbers (output_total limit o (es ++ e ∷ [])) (counted_done false (count_done false at) (output_total limit o es))
@@ -111,7 +135,8 @@ output_fails batch limit o es e at l v k h =
     (omega (arith, count-become is_buffered limit o es e (lane.Done false) lane.Dropped (failed_out at) l v (k is_buffered) h.dropped))
     (omega (arith, count-become is_dropped limit o es e (lane.Done false) lane.Dropped (failed_out at) l v (k is_dropped) h.dropped))
 
-pub same_totals : (x y : Numbers) → x.inputs ≡ y.inputs → x.made ≡ y.made → x.removed ≡ y.removed → x.routed ≡ y.routed → x.outputs ≡ y.outputs → x ≡ y
+pub same_totals : (x y : Numbers) → x.inputs ≡ y.inputs → x.made ≡ y.made → x.removed ≡ y.removed →
+    x.routed ≡ y.routed → x.outputs ≡ y.outputs → x ≡ y
 same_totals x y a b c d e =
     let F : List InputNumbers → Numbers = λ n. record { inputs = n; made = x.made; removed = x.removed; routed = x.routed; outputs = x.outputs } in
     let G : ℕ → Numbers = λ n. record { inputs = y.inputs; made = n; removed = x.removed; routed = x.routed; outputs = x.outputs } in
@@ -121,7 +146,9 @@ same_totals x y a b c d e =
     ap F a ∙ ap G b ∙ ap H c ∙ ap I d ∙ ap J e
 
 -- numbers that are the totals with one entry more
-pub totals-push : (setup : Setup) (journal : List Entry) (e : Entry) (old new : Numbers) → old ≡ totals setup journal → new.inputs ≡ (totals setup (journal ++ e ∷ [])).inputs → new.made ≡ old.made + made_by e → new.removed ≡ old.removed + removed_by e →
+pub totals-push : (setup : Setup) (journal : List Entry) (e : Entry) (old new : Numbers) →
+    old ≡ totals setup journal → new.inputs ≡ (totals setup (journal ++ e ∷ [])).inputs →
+    new.made ≡ old.made + made_by e → new.removed ≡ old.removed + removed_by e →
     new.routed ≡ old.routed + routed_by e → new.outputs ≡ (totals setup (journal ++ e ∷ [])).outputs → new ≡ totals setup (journal ++ e ∷ [])
 totals-push setup journal e old new h a b c d f =
     same_totals new (totals setup (journal ++ e ∷ [])) a

@@ -1,5 +1,6 @@
 -- A core that stands for a journal, and one entry more.
-use Rattle.std.proofs.Common.{◌≡◌, ◌<◌, ℕ, ℤ, ◌+◌, Bool, false, ◌||◌, List, [], ◌∷◌, ◌++◌, length, drop, sym, ap, ◌∙◌, append_assoc, append-nil}
+use Rattle.std.proofs.Common.{◌≡◌, ◌<◌, ℕ, ℤ, ◌+◌, Bool, false, ◌||◌, List, [], ◌∷◌, ◌++◌, length, drop, sym}
+use Rattle.std.proofs.Common.{ap, ◌∙◌, append_assoc, append-nil}
 use Rattle.std.proofs.Math.Bool.{or-false}
 use Rattle.std.specs.Prelude.{slice_get}
 use Rattle.std.specs.declared.option.Option.{Option}
@@ -13,7 +14,9 @@ use Rattle.pipeline_core.specs.Legal.{is_stop, has_ended, is_ended_of, gathered_
 use Rattle.pipeline_core.specs.Totals.{totals}
 use Rattle.pipeline_core.specs.CoreState.{CoreState, lane_at, sizes_at}
 use Rattle.pipeline_core.specs.Stands.{Stands}
-use Rattle.pipeline_core.proofs.JournalPush.{taken-push, in_hand-push, offers-push, lane_events-push, has_stop-push, has_ended-push, gathered_count-push, counted_from-push, IsLegal-push, raw_items-push}
+use Rattle.pipeline_core.proofs.JournalPush.{taken-push, in_hand-push, offers-push, lane_events-push}
+use Rattle.pipeline_core.proofs.JournalPush.{has_stop-push, has_ended-push, gathered_count-push}
+use Rattle.pipeline_core.proofs.JournalPush.{counted_from-push, IsLegal-push, raw_items-push}
 
 -- what one entry makes of a core that stands for a journal
 pub record Grows (s t : CoreState) (journal : List Entry) (e : Entry) : Type 0 where
@@ -21,13 +24,15 @@ pub record Grows (s t : CoreState) (journal : List Entry) (e : Entry) : Type 0 w
   pub raw : t.raw ≡ drop (takes_by e) (s.raw ++ named_by e)
   pub taken_is : t.taken ≡ s.taken + takes_by e
   pub held : t.held ≡ held_after s.held e
-  pub lanes : (o : ℕ) → o < length s.setup.outputs → IsLaneOf (sizes_at s.setup o).0 (sizes_at s.setup o).1 (lane_events o journal ++ lane_events_by o e) (offers o journal ++ offered_by o e) (lane_at t.lanes o)
+  pub lanes : (o : ℕ) → o < length s.setup.outputs →
+      IsLaneOf (sizes_at s.setup o).0 (sizes_at s.setup o).1 (lane_events o journal ++ lane_events_by o e) (offers o journal ++ offered_by o e) (lane_at t.lanes o)
   pub lane_count : length t.lanes ≡ length s.lanes
   pub numbers : t.numbers ≡ totals s.setup (journal ++ e ∷ [])
   pub stored : t.stored ≡ s.stored ++ e ∷ []
   pub gathered : t.gathered ≡ s.gathered + gathered_by e
   pub counted : t.counted ≡ moment_after s.counted e
-  pub ended : (i : ℕ) → i < length s.setup.inputs → slice_get t.ended i ≡ Some (has_ended i journal || is_ended_of i e)
+  pub ended : (i : ℕ) → i < length s.setup.inputs →
+      slice_get t.ended i ≡ Some (has_ended i journal || is_ended_of i e)
   pub ended_count : length t.ended ≡ length s.ended
   pub stopped : t.stopped ≡ (s.stopped || is_stop e)
 
@@ -51,9 +56,13 @@ stands_grows s t journal e h g =
     }
 
 -- an entry that does nothing at the lanes
-pub lanes_stay : (s : CoreState) (journal : List Entry) → Stands s journal → (o : ℕ) → o < length s.setup.outputs → IsLaneOf (sizes_at s.setup o).0 (sizes_at s.setup o).1 (lane_events o journal ++ []) (offers o journal ++ []) (lane_at s.lanes o)
-lanes_stay s journal h o b = rw (append-nil (lane_events o journal), append-nil (offers o journal)) (h.lanes o b)
+pub lanes_stay : (s : CoreState) (journal : List Entry) → Stands s journal → (o : ℕ) →
+    o < length s.setup.outputs →
+    IsLaneOf (sizes_at s.setup o).0 (sizes_at s.setup o).1 (lane_events o journal ++ []) (offers o journal ++ []) (lane_at s.lanes o)
+lanes_stay s journal h o b =
+    rw (append-nil (lane_events o journal), append-nil (offers o journal)) (h.lanes o b)
 
 -- an entry by which no input ends
-pub ended_stays : (s : CoreState) (journal : List Entry) → Stands s journal → (i : ℕ) → i < length s.setup.inputs → slice_get s.ended i ≡ Some (has_ended i journal || false)
+pub ended_stays : (s : CoreState) (journal : List Entry) → Stands s journal → (i : ℕ) →
+    i < length s.setup.inputs → slice_get s.ended i ≡ Some (has_ended i journal || false)
 ended_stays s journal h i b = h.ended i b ∙ ap Some (sym (or-false (has_ended i journal)))

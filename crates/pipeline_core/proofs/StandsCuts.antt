@@ -1,5 +1,6 @@
 -- A new core stands for the empty journal, and a cut changes no journal.
-use Rattle.std.proofs.Common.{◌≡◌, ◌<◌, ◌≤◌, ℕ, Bool, false, List, [], length, map, replicate, is_some, refl, sym, ap, ◌∙◌, subst, arith, append-nil, get_or, if◌then◌else◌}
+use Rattle.std.proofs.Common.{◌≡◌, ◌<◌, ◌≤◌, ℕ, Bool, false, List, [], length, map, replicate, is_some, refl}
+use Rattle.std.proofs.Common.{sym, ap, ◌∙◌, subst, arith, append-nil, get_or, if◌then◌else◌}
 use Rattle.std.proofs.lemmas.Option.{slice_get-get_or}
 use Rattle.std.proofs.lemmas.List.{ext_get_or, get_or-map, get_or-replicate, length-map, length-replicate}
 use Rattle.std.specs.List.{All}
@@ -15,7 +16,8 @@ use Rattle.pipeline_core.specs.Offers.{offers, lane_events}
 use Rattle.pipeline_core.specs.Fates.{fates_from}
 use Rattle.pipeline_core.specs.Legal.{AreLegal, has_stop, has_ended, gathered_count, counted_from}
 use Rattle.pipeline_core.specs.Totals.{totals, total_by, input_total_from}
-use Rattle.pipeline_core.specs.CoreState.{CoreState, setup_of, first_state, lane_at, lane_of, sizes, most_undelivered}
+use Rattle.pipeline_core.specs.CoreState.{CoreState, setup_of, first_state, lane_at, lane_of, sizes}
+use Rattle.pipeline_core.specs.CoreState.{most_undelivered}
 use Rattle.pipeline_core.specs.Stands.{Stands}
 use Rattle.pipeline_core.specs.Steps.{after_cut}
 use Rattle.pipeline_core.specs.declared.setup.CoreSetup.{CoreSetup}
@@ -23,6 +25,7 @@ use Rattle.pipeline_core.specs.declared.setup.InSetup.{InSetup}
 use Rattle.pipeline_core.specs.declared.setup.OutSetup.{OutSetup}
 use Rattle.pipeline_core.proofs.TotalPush.{inputs-at, outputs-at, length-inputs, length-outputs}
 use Rattle.pipeline_core.proofs.OutputPush.{same_totals}
+use Rattle.pipeline_core.proofs.Keeping.{no_output, no_input}
 
 -- once the entries are cut off, they are part of the front
 pub stands_cut : (s : CoreState) (journal : List Entry) → Stands s journal → Stands (after_cut s) journal
@@ -44,23 +47,20 @@ stands_cut s journal h =
       stopped = h.stopped;
     }
 
-pub cut_stands : (s n : CoreState) → n ≡ after_cut s → (journal : List Entry) → Stands s journal → Stands n journal
+pub cut_stands : (s n : CoreState) → n ≡ after_cut s → (journal : List Entry) → Stands s journal →
+    Stands n journal
 cut_stands s n q journal h = subst (λ (m : CoreState). Stands m journal) (sym q) (stands_cut s journal h)
 
-no_output : OutSetup
-no_output = record { batch = 0; limit = 0 }
-
-no_input : InSetup
-no_input = record { tracked = false; max_undelivered = 0 }
-
-lanes_at_first : (outputs : List OutSetup) → All (λ (x : OutSetup). (1 ≤ x.batch) × (x.batch ≤ x.limit)) outputs → (o : ℕ) → o < length outputs →
+lanes_at_first : (outputs : List OutSetup) →
+    All (λ (x : OutSetup). (1 ≤ x.batch) × (x.batch ≤ x.limit)) outputs → (o : ℕ) → o < length outputs →
     IsLaneOf (get_or (map sizes outputs) o (0, 0)).0 (get_or (map sizes outputs) o (0, 0)).1 (lane_events o []) (offers o []) (lane_at (map lane_of outputs) o)
 unfolding lane_events offers
 lanes_at_first outputs sized o b =
     rw (get_or-map sizes outputs o no_output (0, 0) b, get_or-map lane_of outputs o no_output (empty_lane 0 0) b)
     (new_is_lane Content (get_or outputs o no_output).batch (get_or outputs o no_output).limit (sized o no_output b).0 (sized o no_output b).1)
 
-inputs_at_first : (setup : CoreSetup) → All (λ (x : InSetup). x.tracked ≡ false) setup.inputs → map unread_input (replicate (length setup.inputs) false) ≡ (totals (setup_of setup) []).inputs
+inputs_at_first : (setup : CoreSetup) → All (λ (x : InSetup). x.tracked ≡ false) setup.inputs →
+    map unread_input (replicate (length setup.inputs) false) ≡ (totals (setup_of setup) []).inputs
 unfolding input_total_from
 inputs_at_first setup untracked =
     let n : length (setup_of setup).inputs ≡ length setup.inputs = length-map setup.inputs most_undelivered in
@@ -72,7 +72,8 @@ inputs_at_first setup untracked =
     ∙ ap (λ (t : Bool). unread_input t) (sym (ap is_some (get_or-map most_undelivered setup.inputs i no_input None c ∙ ap (λ (t : Bool). if t then Some (get_or setup.inputs i no_input).max_undelivered else None) (untracked i no_input c))))
     ∙ sym (inputs-at (setup_of setup) [] i (omega arith)))
 
-outputs_at_first : (setup : CoreSetup) → replicate (length setup.outputs) unreached_output ≡ (totals (setup_of setup) []).outputs
+outputs_at_first : (setup : CoreSetup) →
+    replicate (length setup.outputs) unreached_output ≡ (totals (setup_of setup) []).outputs
 unfolding fates_from
 outputs_at_first setup =
     let n : length (setup_of setup).outputs ≡ length setup.outputs = length-map setup.outputs sizes in
@@ -80,7 +81,8 @@ outputs_at_first setup =
     ext_get_or unreached_output (replicate (length setup.outputs) unreached_output) (totals (setup_of setup) []).outputs (m ∙ sym n ∙ sym (length-outputs (setup_of setup) []))
     (λ o b. get_or-replicate (length setup.outputs) o unreached_output unreached_output (omega arith) ∙ sym (outputs-at (setup_of setup) [] o (omega arith)))
 
-pub stands_first : (setup : CoreSetup) → All (λ (x : InSetup). x.tracked ≡ false) setup.inputs → All (λ (x : OutSetup). (1 ≤ x.batch) × (x.batch ≤ x.limit)) setup.outputs → Stands (first_state setup) []
+pub stands_first : (setup : CoreSetup) → All (λ (x : InSetup). x.tracked ≡ false) setup.inputs →
+    All (λ (x : OutSetup). (1 ≤ x.batch) × (x.batch ≤ x.limit)) setup.outputs → Stands (first_state setup) []
 unfolding AreLegal items taken in_hand_from has_stop has_ended gathered_count counted_from total_by
 stands_first setup untracked sized =
     record {
@@ -95,11 +97,15 @@ stands_first setup untracked sized =
       stored = refl;
       gathered = refl;
       counted = refl;
-      ended = λ i b. slice_get-get_or (replicate (length setup.inputs) false) i false (omega (arith, length-replicate (length setup.inputs) false, length-map setup.inputs most_undelivered))
+      ended =
+          λ i b. slice_get-get_or (replicate (length setup.inputs) false) i false (omega (arith, length-replicate (length setup.inputs) false, length-map setup.inputs most_undelivered))
           ∙ ap Some (get_or-replicate (length setup.inputs) i false false (omega (arith, length-map setup.inputs most_undelivered)));
       ended_count = length-replicate (length setup.inputs) false ∙ sym (length-map setup.inputs most_undelivered);
       stopped = refl;
     }
 
-pub first_stands : (setup : CoreSetup) (n : CoreState) → n ≡ first_state setup → All (λ (x : InSetup). x.tracked ≡ false) setup.inputs → All (λ (x : OutSetup). (1 ≤ x.batch) × (x.batch ≤ x.limit)) setup.outputs → Stands n []
-first_stands setup n q untracked sized = subst (λ (m : CoreState). Stands m []) (sym q) (stands_first setup untracked sized)
+pub first_stands : (setup : CoreSetup) (n : CoreState) → n ≡ first_state setup →
+    All (λ (x : InSetup). x.tracked ≡ false) setup.inputs →
+    All (λ (x : OutSetup). (1 ≤ x.batch) × (x.batch ≤ x.limit)) setup.outputs → Stands n []
+first_stands setup n q untracked sized =
+    subst (λ (m : CoreState). Stands m []) (sym q) (stands_first setup untracked sized)

@@ -1,5 +1,7 @@
 -- A core that stands for a journal stands for it once an item was routed, or a batch was begun or done.
-use Rattle.std.proofs.Common.{◌≡◌, ◌≢◌, ◌<◌, ◌≤◌, ℕ, ◌+◌, Bool, true, false, List, [], ◌∷◌, ◌++◌, length, min, inl, inr, refl, sym, ap, ◌∙◌, subst, arith, append-nil, set, get_or, IsSome, if◌then◌else◌}
+use Rattle.std.proofs.Common.{◌≡◌, ◌≢◌, ◌<◌, ◌≤◌, ℕ, ◌+◌, Bool, true, false, List, [], ◌∷◌, ◌++◌, length, min}
+use Rattle.std.proofs.Common.{inl, inr, refl, sym, ap, ◌∙◌, subst, arith, append-nil, set, get_or, IsSome}
+use Rattle.std.proofs.Common.{if◌then◌else◌}
 use Rattle.std.proofs.Math.Bool.{or-false}
 use Rattle.std.proofs.Math.Nat.{eq-or-lt_of_le}
 use Rattle.std.proofs.lemmas.Bool.{cases_lt}
@@ -26,18 +28,23 @@ use Rattle.pipeline_core.specs.Legal.{verdict_of}
 use Rattle.pipeline_core.specs.Totals.{totals, output_total}
 use Rattle.pipeline_core.specs.CoreState.{CoreState, IsCore, lane_at, sizes_at}
 use Rattle.pipeline_core.specs.Stands.{Stands, Continues}
-use Rattle.pipeline_core.specs.Steps.{after_begin, after_done, after_route, route_entry, lane_with, numbers_with, lanes_with, outputs_with, lanes_routed, numbers_routed, lane_done, count_done, counted_done}
+use Rattle.pipeline_core.specs.Steps.{after_begin, after_done, after_route, route_entry, lane_with}
+use Rattle.pipeline_core.specs.Steps.{numbers_with, lanes_with, outputs_with, lanes_routed, numbers_routed}
+use Rattle.pipeline_core.specs.Steps.{lane_done, count_done, counted_done}
 use Rattle.pipeline_core.specs.declared.routing.Routed.{Routed}
 use Rattle.account.specs.declared.entry.Verdict.TheVariants as verdicts
 use Rattle.pipeline_core.proofs.FateCounts.{kept_out, kept_out_by}
-use Rattle.pipeline_core.proofs.Offering.{lanes_with-at, outputs_with-at, length-lanes_with, length-outputs_with}
+use Rattle.pipeline_core.proofs.Offering.{lanes_with-at, outputs_with-at, length-lanes_with}
+use Rattle.pipeline_core.proofs.Offering.{length-outputs_with}
 use Rattle.pipeline_core.proofs.TotalPush.{inputs-same, outputs-same, outputs-set, outputs-as, outputs-at}
-use Rattle.pipeline_core.proofs.OutputPush.{output_stays, output_filters, output_begins, output_pushes, output_accepts, output_fails, totals-push}
+use Rattle.pipeline_core.proofs.OutputPush.{output_stays, output_filters, output_begins, output_pushes}
+use Rattle.pipeline_core.proofs.OutputPush.{output_accepts, output_fails, totals-push}
 use Rattle.pipeline_core.proofs.Standing.{stands_grows, lanes_stay, ended_stays}
 use Rattle.pipeline_core.proofs.StandsSteps.{differs, same_number, outputs_stay}
 
 -- a batch that is done, at its output's lane
-lane_is_done : (ok : Bool) (b l : ℕ) (es : List LaneEvent) (offs : List Content) (x : LaneState Content) → IsSome x.flight → IsLaneOf b l es offs x → IsLaneOf b l (es ++ events.Done ok ∷ []) offs (lane_done ok x)
+lane_is_done : (ok : Bool) (b l : ℕ) (es : List LaneEvent) (offs : List Content) (x : LaneState Content) →
+    IsSome x.flight → IsLaneOf b l es offs x → IsLaneOf b l (es ++ events.Done ok ∷ []) offs (lane_done ok x)
 lane_is_done true b l es offs x some h = (accept_meets b l es offs x h some).state
 lane_is_done false b l es offs x some h = (fail_meets b l es offs x h some).state
 
@@ -45,7 +52,8 @@ lane_is_done false b l es offs x some h = (fail_meets b l es offs x h some).stat
 lanes_one : (s : CoreState) (journal : List Entry) (e : Entry) (o : ℕ) (x : LaneState Content) (event : LaneEvent) → Stands s journal → o < length s.setup.outputs → lane_events_by o e ≡ event ∷ [] →
     ((k : ℕ) → k ≢ o → lane_events_by k e ≡ []) → ((k : ℕ) → offered_by k e ≡ []) →
     IsLaneOf (sizes_at s.setup o).0 (sizes_at s.setup o).1 (lane_events o journal ++ event ∷ []) (offers o journal) x →
-    (k : ℕ) → k < length s.setup.outputs → IsLaneOf (sizes_at s.setup k).0 (sizes_at s.setup k).1 (lane_events k journal ++ lane_events_by k e) (offers k journal ++ offered_by k e) (lane_at (set s.lanes o x) k)
+    (k : ℕ) → k < length s.setup.outputs →
+    IsLaneOf (sizes_at s.setup k).0 (sizes_at s.setup k).1 (lane_events k journal ++ lane_events_by k e) (offers k journal ++ offered_by k e) (lane_at (set s.lanes o x) k)
 lanes_one s journal e o x event h b here others none new k c =
     let stays : k ≢ o → IsLaneOf (sizes_at s.setup k).0 (sizes_at s.setup k).1 (lane_events k journal ++ lane_events_by k e) (offers k journal ++ offered_by k e) (lane_at (set s.lanes o x) k) =
     λ d. subst (λ (ls : List LaneEvent). IsLaneOf (sizes_at s.setup k).0 (sizes_at s.setup k).1 (lane_events k journal ++ ls) (offers k journal ++ offered_by k e) (lane_at (set s.lanes o x) k)) (sym (others k d))
@@ -62,7 +70,8 @@ lanes_one s journal e o x event h b here others none new k c =
       ]
     ]
 
-pub stands_begin : (s : CoreState) (o from to : ℕ) → o < length s.setup.outputs → (lane_at s.lanes o).flight ≡ None → 0 < length (lane_at s.lanes o).waiting →
+pub stands_begin : (s : CoreState) (o from to : ℕ) → o < length s.setup.outputs →
+    (lane_at s.lanes o).flight ≡ None → 0 < length (lane_at s.lanes o).waiting →
     from ≡ waiting_from (lane_at s.lanes o) → to ≡ waiting_from (lane_at s.lanes o) + min (lane_at s.lanes o).batch (length (lane_at s.lanes o).waiting) → Continues s (after_begin s o from to) (Begin o from to)
 stands_begin s o from to b none some f t journal h =
     let e : Entry = Begin o from to in
@@ -90,7 +99,8 @@ stands_begin s o from to b none some f t journal h =
       held = refl;
       lanes = lanes_one s journal e o (lane.after_begin x) (events.Begin from to) h b here others (λ k. refl) got.state;
       lane_count = length-set s.lanes o (lane.after_begin x);
-      numbers = totals-push s.setup journal e s.numbers s.numbers h.numbers (ap (λ (n : Numbers). n.inputs) h.numbers ∙ sym (inputs-same s.setup journal e (λ i y. refl))) (omega arith) (omega arith) (omega arith)
+      numbers =
+          totals-push s.setup journal e s.numbers s.numbers h.numbers (ap (λ (n : Numbers). n.inputs) h.numbers ∙ sym (inputs-same s.setup journal e (λ i y. refl))) (omega arith) (omega arith) (omega arith)
           (ap (λ (n : Numbers). n.outputs) h.numbers ∙ sym (outputs-same s.setup journal e totals_stay));
       stored = refl;
       gathered = omega arith;
@@ -101,12 +111,17 @@ stands_begin s o from to b none some f t journal h =
     })
 
 -- the numbers of a batch that is done
-total_is_done : (ok : Bool) (b l o : ℕ) (journal : List Entry) (e : Entry) (x : LaneState Content) → lane_events_by o e ≡ events.Done ok ∷ [] → offered_by o e ≡ [] → ((t : Fate → Bool) → kept_out t o e ≡ 0) →
+total_is_done : (ok : Bool) (b l o : ℕ) (journal : List Entry) (e : Entry) (x : LaneState Content) →
+    lane_events_by o e ≡ events.Done ok ∷ [] → offered_by o e ≡ [] →
+    ((t : Fate → Bool) → kept_out t o e ≡ 0) →
     IsSome x.flight → IsLaneOf b l (lane_events o journal) (offers o journal) x → output_total l o (journal ++ e ∷ []) ≡ counted_done ok (count_done ok x) (output_total l o journal)
-total_is_done true b l o journal e x v w k some h = output_accepts b l o journal e x v w k (accept_meets b l (lane_events o journal) (offers o journal) x h some)
-total_is_done false b l o journal e x v w k some h = output_fails b l o journal e x v w k (fail_meets b l (lane_events o journal) (offers o journal) x h some)
+total_is_done true b l o journal e x v w k some h =
+    output_accepts b l o journal e x v w k (accept_meets b l (lane_events o journal) (offers o journal) x h some)
+total_is_done false b l o journal e x v w k some h =
+    output_fails b l o journal e x v w k (fail_meets b l (lane_events o journal) (offers o journal) x h some)
 
-pub stands_done : (s : CoreState) (o : ℕ) (ok : Bool) → o < length s.setup.outputs → IsSome (lane_at s.lanes o).flight → Continues s (after_done s o ok) (Done o ok [])
+pub stands_done : (s : CoreState) (o : ℕ) (ok : Bool) → o < length s.setup.outputs →
+    IsSome (lane_at s.lanes o).flight → Continues s (after_done s o ok) (Done o ok [])
 stands_done s o ok b some journal h =
     let e : Entry = Done o ok [] in
     let x : LaneState Content = lane_at s.lanes o in
@@ -123,7 +138,8 @@ stands_done s o ok b some journal h =
       held = refl;
       lanes = lanes_one s journal e o (lane_done ok x) (events.Done ok) h b here others (λ k. refl) (lane_is_done ok batch limit (lane_events o journal) (offers o journal) x some (h.lanes o b));
       lane_count = length-set s.lanes o (lane_done ok x);
-      numbers = totals-push s.setup journal e s.numbers (after_done s o ok).numbers h.numbers (ap (λ (n : Numbers). n.inputs) h.numbers ∙ sym (inputs-same s.setup journal e (λ i y. refl))) (omega arith) (omega arith) (omega arith)
+      numbers =
+          totals-push s.setup journal e s.numbers (after_done s o ok).numbers h.numbers (ap (λ (n : Numbers). n.inputs) h.numbers ∙ sym (inputs-same s.setup journal e (λ i y. refl))) (omega arith) (omega arith) (omega arith)
           (ap (λ (n : Numbers). set n.outputs o (counted_done ok (count_done ok x) (get_or n.outputs o unreached_output))) h.numbers
           ∙ sym (outputs-set s.setup journal e o (counted_done ok (count_done ok x) old) b (λ k c d. output_stays (sizes_at s.setup k).1 k journal e (others k d) refl (λ t. refl))
           (total_is_done ok batch limit o journal e x here refl (λ t. refl) some (h.lanes o b) ∙ ap (counted_done ok (count_done ok x)) (sym (outputs-at s.setup journal o b)))));
@@ -154,11 +170,23 @@ total_is_offered (Some view) b l o journal item whole aggs outs x v some most h 
     let e : Entry = Route item (Some whole) (verdict_of (Some whole)) aggs outs [] in
     output_pushes b l o journal e view x (ap (λ (w : Option Content). pushes (option_to_list w)) v) (ap (λ (w : Option Content). option_to_list w) v) (λ t. ap (kept_view t) v) some most (push_meets b l (lane_events o journal) (offers o journal) x view h)
 
-stands_routed : (whole : Option Content) (s : CoreState) (item : ℕ) (aggs outs : List (Option Content)) → IsCore s → s.held ≡ Some item → aggs ≡ [] → length outs ≡ length s.setup.outputs → HasViews whole outs →
-    Continues s (record s { held = None; lanes = lanes_routed whole outs s.lanes; numbers = numbers_routed whole outs s.lanes s.numbers; stored = s.stored ++ Route item whole (verdict_of whole) aggs outs [] ∷ [] }) (Route item whole (verdict_of whole) aggs outs [])
+stands_routed : (whole : Option Content) (s : CoreState) (item : ℕ) (aggs outs : List (Option Content)) →
+    IsCore s → s.held ≡ Some item → aggs ≡ [] → length outs ≡ length s.setup.outputs → HasViews whole outs →
+    Continues s (record s {
+      held =
+          None;
+      lanes = lanes_routed whole outs s.lanes;
+      numbers = numbers_routed whole outs s.lanes s.numbers;
+      stored = s.stored ++ Route item whole (verdict_of whole) aggs outs [] ∷ [];
+    }) (Route item whole (verdict_of whole) aggs outs [])
 stands_routed None s item aggs outs core held none count views journal h =
     let e : Entry = Route item None (verdict_of None) aggs outs [] in
-    stands_grows s (record s { held = None; numbers = numbers_routed None outs s.lanes s.numbers; stored = s.stored ++ e ∷ [] }) journal e h
+    stands_grows s (record s {
+      held =
+          None;
+      numbers = numbers_routed None outs s.lanes s.numbers;
+      stored = s.stored ++ e ∷ [];
+    }) journal e h
     (record {
       meets = record { held = sym h.held ∙ held; judged = refl; aggregators = none; outputs = count; views = views; no_reports = refl };
       raw = sym (append-nil s.raw);
@@ -166,7 +194,8 @@ stands_routed None s item aggs outs core held none count views journal h =
       held = refl;
       lanes = lanes_stay s journal h;
       lane_count = refl;
-      numbers = totals-push s.setup journal e s.numbers (numbers_routed None outs s.lanes s.numbers) h.numbers (ap (λ (n : Numbers). n.inputs) h.numbers ∙ sym (inputs-same s.setup journal e (λ i y. refl))) (omega arith) (omega arith) (omega arith)
+      numbers =
+          totals-push s.setup journal e s.numbers (numbers_routed None outs s.lanes s.numbers) h.numbers (ap (λ (n : Numbers). n.inputs) h.numbers ∙ sym (inputs-same s.setup journal e (λ i y. refl))) (omega arith) (omega arith) (omega arith)
           (ap (λ (n : Numbers). n.outputs) h.numbers ∙ sym (outputs_stay s.setup journal e (λ o. refl) (λ o. refl) (λ o t. refl)));
       stored = refl;
       gathered = omega arith;
@@ -177,16 +206,24 @@ stands_routed None s item aggs outs core held none count views journal h =
     })
 stands_routed (Some whole) s item aggs outs core held none count views journal h =
     let e : Entry = Route item (Some whole) (verdict_of (Some whole)) aggs outs [] in
-    stands_grows s (record s { held = None; lanes = lanes_with outs s.lanes; numbers = numbers_routed (Some whole) outs s.lanes s.numbers; stored = s.stored ++ e ∷ [] }) journal e h
+    stands_grows s (record s {
+      held =
+          None;
+      lanes = lanes_with outs s.lanes;
+      numbers = numbers_routed (Some whole) outs s.lanes s.numbers;
+      stored = s.stored ++ e ∷ [];
+    }) journal e h
     (record {
       meets = record { held = sym h.held ∙ held; judged = refl; aggregators = none; outputs = count; views = views; no_reports = refl };
       raw = sym (append-nil s.raw);
       taken_is = omega arith;
       held = refl;
-      lanes = λ o b. subst (IsLaneOf (sizes_at s.setup o).0 (sizes_at s.setup o).1 (lane_events o journal ++ pushes (option_to_list (view_at o outs))) (offers o journal ++ option_to_list (view_at o outs))) (sym (lanes_with-at outs s.lanes o (omega (arith, h.lane_count))))
+      lanes =
+          λ o b. subst (IsLaneOf (sizes_at s.setup o).0 (sizes_at s.setup o).1 (lane_events o journal ++ pushes (option_to_list (view_at o outs))) (offers o journal ++ option_to_list (view_at o outs))) (sym (lanes_with-at outs s.lanes o (omega (arith, h.lane_count))))
           (lane_is_offered (view_at o outs) (sizes_at s.setup o).0 (sizes_at s.setup o).1 (lane_events o journal) (offers o journal) (lane_at s.lanes o) (h.lanes o b));
       lane_count = length-lanes_with outs s.lanes;
-      numbers = totals-push s.setup journal e s.numbers (numbers_routed (Some whole) outs s.lanes s.numbers) h.numbers (ap (λ (n : Numbers). n.inputs) h.numbers ∙ sym (inputs-same s.setup journal e (λ i y. refl))) (omega arith) (omega arith) (omega arith)
+      numbers =
+          totals-push s.setup journal e s.numbers (numbers_routed (Some whole) outs s.lanes s.numbers) h.numbers (ap (λ (n : Numbers). n.inputs) h.numbers ∙ sym (inputs-same s.setup journal e (λ i y. refl))) (omega arith) (omega arith) (omega arith)
           (sym (outputs-as s.setup journal e (outputs_with outs s.lanes s.numbers.outputs) (length-outputs_with outs s.lanes s.numbers.outputs ∙ core.outputs)
           (λ o b. total_is_offered (view_at o outs) (sizes_at s.setup o).0 (sizes_at s.setup o).1 o journal item whole aggs outs (lane_at s.lanes o) refl (omega (arith, (core.each o b).some, (core.each o b).fits)) (core.each o b).waits (h.lanes o b)
           ∙ ap (numbers_with (view_at o outs) (lane_at s.lanes o)) (sym (ap (λ (n : Numbers). get_or n.outputs o unreached_output) h.numbers ∙ outputs-at s.setup journal o b))
@@ -199,12 +236,19 @@ stands_routed (Some whole) s item aggs outs core held none count views journal h
       stopped = sym (or-false s.stopped);
     })
 
-pub route_stands : (s n : CoreState) (r : Routed) → n ≡ after_route s r → IsCore s → s.held ≡ Some r.item → r.aggs ≡ [] → length r.outs ≡ length s.setup.outputs → HasViews r.whole r.outs → Continues s n (route_entry r)
-route_stands s n r q core held none count views = subst (λ (m : CoreState). Continues s m (route_entry r)) (sym q) (stands_routed r.whole s r.item r.aggs r.outs core held none count views)
+pub route_stands : (s n : CoreState) (r : Routed) → n ≡ after_route s r → IsCore s → s.held ≡ Some r.item →
+    r.aggs ≡ [] → length r.outs ≡ length s.setup.outputs → HasViews r.whole r.outs →
+    Continues s n (route_entry r)
+route_stands s n r q core held none count views =
+    subst (λ (m : CoreState). Continues s m (route_entry r)) (sym q) (stands_routed r.whole s r.item r.aggs r.outs core held none count views)
 
-pub begin_stands : (s n : CoreState) (o from to : ℕ) → n ≡ after_begin s o from to → o < length s.setup.outputs → (lane_at s.lanes o).flight ≡ None → 0 < length (lane_at s.lanes o).waiting →
+pub begin_stands : (s n : CoreState) (o from to : ℕ) → n ≡ after_begin s o from to →
+    o < length s.setup.outputs → (lane_at s.lanes o).flight ≡ None → 0 < length (lane_at s.lanes o).waiting →
     from ≡ waiting_from (lane_at s.lanes o) → to ≡ waiting_from (lane_at s.lanes o) + min (lane_at s.lanes o).batch (length (lane_at s.lanes o).waiting) → Continues s n (Begin o from to)
-begin_stands s n o from to q b none some f t = subst (λ (m : CoreState). Continues s m (Begin o from to)) (sym q) (stands_begin s o from to b none some f t)
+begin_stands s n o from to q b none some f t =
+    subst (λ (m : CoreState). Continues s m (Begin o from to)) (sym q) (stands_begin s o from to b none some f t)
 
-pub done_stands : (s n : CoreState) (o : ℕ) (ok : Bool) → n ≡ after_done s o ok → o < length s.setup.outputs → IsSome (lane_at s.lanes o).flight → Continues s n (Done o ok [])
-done_stands s n o ok q b some = subst (λ (m : CoreState). Continues s m (Done o ok [])) (sym q) (stands_done s o ok b some)
+pub done_stands : (s n : CoreState) (o : ℕ) (ok : Bool) → n ≡ after_done s o ok → o < length s.setup.outputs →
+    IsSome (lane_at s.lanes o).flight → Continues s n (Done o ok [])
+done_stands s n o ok q b some =
+    subst (λ (m : CoreState). Continues s m (Done o ok [])) (sym q) (stands_done s o ok b some)

@@ -1,5 +1,7 @@
 -- A core that stands for a journal stands for it with the call's entry more.
-use Rattle.std.proofs.Common.{◌≡◌, ◌≢◌, ◌<◌, ◌≤◌, ◌≤ℤ◌, ◌⊎◌, ℕ, ℤ, ◌+◌, ◌==◌, Bool, true, false, ◌||◌, List, [], ◌∷◌, ◌++◌, length, drop, inl, inr, refl, sym, ap, ◌∙◌, subst, arith, append-nil, length-drop, set, get_or, if◌then◌else◌}
+use Rattle.std.proofs.Common.{◌≡◌, ◌≢◌, ◌<◌, ◌≤◌, ◌≤ℤ◌, ◌⊎◌, ℕ, ℤ, ◌+◌, ◌==◌, Bool, true, false, ◌||◌, List}
+use Rattle.std.proofs.Common.{[], ◌∷◌, ◌++◌, length, drop, inl, inr, refl, sym, ap, ◌∙◌, subst, arith}
+use Rattle.std.proofs.Common.{append-nil, length-drop, set, get_or, if◌then◌else◌}
 use Rattle.std.proofs.Math.Bool.{or-false}
 use Rattle.std.proofs.Math.Nat.{eq-or-lt_of_le}
 use Rattle.std.proofs.lemmas.Bool.{cases_lt}
@@ -21,7 +23,8 @@ use Rattle.pipeline_core.specs.Legal.{has_ended}
 use Rattle.pipeline_core.specs.Totals.{totals}
 use Rattle.pipeline_core.specs.CoreState.{CoreState, IsCore, sizes_at}
 use Rattle.pipeline_core.specs.Stands.{Stands, Continues}
-use Rattle.pipeline_core.specs.Steps.{after_gather, after_ended, after_take, after_stop, gather_entry, HasNumbers, HasPlace}
+use Rattle.pipeline_core.specs.Steps.{after_gather, after_ended, after_take, after_stop, gather_entry}
+use Rattle.pipeline_core.specs.Steps.{HasNumbers, HasPlace}
 use Rattle.pipeline_core.specs.declared.gathering.Gathered.{Gathered}
 use Rattle.std.proofs.lemmas.Bool.Decides.{nat_tests}
 use Rattle.std.proofs.lemmas.Int.{ints}
@@ -51,16 +54,20 @@ some_same a b h = cc
 below_max : (a b : ℤ) → b ≤ℤ int_max a b
 below_max a b = grind (arith, ints)
 
-placed_raw : (raw : List Content) (n : ℕ) → (length raw ≡ 0) ⊎ (length raw + n ≤ 10000) → (raw ≡ []) ⊎ (length raw + n ≤ 10000)
+placed_raw : (raw : List Content) (n : ℕ) → (length raw ≡ 0) ⊎ (length raw + n ≤ 10000) →
+    (raw ≡ []) ⊎ (length raw + n ≤ 10000)
 placed_raw raw n (inl h) = inl (nil_of_length raw h)
 placed_raw raw n (inr h) = inr h
 
 -- an entry that does nothing at the outputs
-pub outputs_stay : (setup : Setup) (journal : List Entry) (e : Entry) → ((o : ℕ) → lane_events_by o e ≡ []) → ((o : ℕ) → offered_by o e ≡ []) → ((o : ℕ) (t : Fate → Bool) → kept_out t o e ≡ 0) →
+pub outputs_stay : (setup : Setup) (journal : List Entry) (e : Entry) → ((o : ℕ) → lane_events_by o e ≡ []) →
+    ((o : ℕ) → offered_by o e ≡ []) → ((o : ℕ) (t : Fate → Bool) → kept_out t o e ≡ 0) →
     (totals setup (journal ++ e ∷ [])).outputs ≡ (totals setup journal).outputs
-outputs_stay setup journal e l v k = outputs-same setup journal e (λ o b. output_stays (sizes_at setup o).1 o journal e (l o) (v o) (k o))
+outputs_stay setup journal e l v k =
+    outputs-same setup journal e (λ o b. output_stays (sizes_at setup o).1 o journal e (l o) (v o) (k o))
 
-pub stands_take : (s : CoreState) → s.held ≡ None → 0 < length s.raw → Continues s (after_take s) (Take s.taken)
+pub stands_take : (s : CoreState) → s.held ≡ None → 0 < length s.raw →
+    Continues s (after_take s) (Take s.taken)
 stands_take s none some journal h =
     let e : Entry = Take s.taken in
     stands_grows s (after_take s) journal e h
@@ -71,7 +78,8 @@ stands_take s none some journal h =
       held = refl;
       lanes = lanes_stay s journal h;
       lane_count = refl;
-      numbers = totals-push s.setup journal e s.numbers s.numbers h.numbers (ap (λ (n : Numbers). n.inputs) h.numbers ∙ sym (inputs-same s.setup journal e (λ i x. refl))) (omega arith) (omega arith) (omega arith)
+      numbers =
+          totals-push s.setup journal e s.numbers s.numbers h.numbers (ap (λ (n : Numbers). n.inputs) h.numbers ∙ sym (inputs-same s.setup journal e (λ i x. refl))) (omega arith) (omega arith) (omega arith)
           (ap (λ (n : Numbers). n.outputs) h.numbers ∙ sym (outputs_stay s.setup journal e (λ o. refl) (λ o. refl) (λ o t. refl)));
       stored = refl;
       gathered = omega arith;
@@ -81,7 +89,8 @@ stands_take s none some journal h =
       stopped = sym (or-false s.stopped);
     })
 
-pub stands_stop : (s : CoreState) (moment : ℤ) → s.stopped ≡ false → Continues s (after_stop s moment) (Stop (int_max moment s.counted) [])
+pub stands_stop : (s : CoreState) (moment : ℤ) → s.stopped ≡ false →
+    Continues s (after_stop s moment) (Stop (int_max moment s.counted) [])
 stands_stop s moment going journal h =
     let e : Entry = Stop (int_max moment s.counted) [] in
     stands_grows s (after_stop s moment) journal e h
@@ -92,7 +101,8 @@ stands_stop s moment going journal h =
       held = refl;
       lanes = lanes_stay s journal h;
       lane_count = refl;
-      numbers = totals-push s.setup journal e s.numbers s.numbers h.numbers (ap (λ (n : Numbers). n.inputs) h.numbers ∙ sym (inputs-same s.setup journal e (λ i x. refl))) (omega arith) (omega arith) (omega arith)
+      numbers =
+          totals-push s.setup journal e s.numbers s.numbers h.numbers (ap (λ (n : Numbers). n.inputs) h.numbers ∙ sym (inputs-same s.setup journal e (λ i x. refl))) (omega arith) (omega arith) (omega arith)
           (ap (λ (n : Numbers). n.outputs) h.numbers ∙ sym (outputs_stay s.setup journal e (λ o. refl) (λ o. refl) (λ o t. refl)));
       stored = refl;
       gathered = omega arith;
@@ -103,7 +113,9 @@ stands_stop s moment going journal h =
     })
 
 -- which inputs have ended with one more
-ended_more : (s : CoreState) (journal : List Entry) (input : ℕ) → slice_get s.ended input ≡ Some false → Stands s journal → (i : ℕ) → i < length s.setup.inputs → slice_get (set s.ended input true) i ≡ Some (has_ended i journal || (input == i))
+ended_more : (s : CoreState) (journal : List Entry) (input : ℕ) → slice_get s.ended input ≡ Some false →
+    Stands s journal → (i : ℕ) → i < length s.setup.inputs →
+    slice_get (set s.ended input true) i ≡ Some (has_ended i journal || (input == i))
 ended_more s journal input reading h i b =
     let n : input < length s.ended = slice_get_within s.ended input false reading in
     let len : length (set s.ended input true) ≡ length s.ended = length-set s.ended input true in
@@ -118,7 +130,8 @@ ended_more s journal input reading h i b =
       ]
     ]
 
-pub stands_ended : (s : CoreState) (input : ℕ) → IsCore s → slice_get s.ended input ≡ Some false → s.stopped ≡ false → Continues s (after_ended s input) (Ended input)
+pub stands_ended : (s : CoreState) (input : ℕ) → IsCore s → slice_get s.ended input ≡ Some false →
+    s.stopped ≡ false → Continues s (after_ended s input) (Ended input)
 stands_ended s input core reading going journal h =
     let e : Entry = Ended input in
     let n : input < length s.setup.inputs = omega (arith, slice_get_within s.ended input false reading, h.ended_count) in
@@ -144,7 +157,8 @@ stands_ended s input core reading going journal h =
       stopped = sym (or-false s.stopped);
     })
 
-pub stands_gather : (s : CoreState) (g : Gathered) → IsCore s → slice_get s.ended g.input ≡ Some false → s.stopped ≡ false → HasNumbers s g → HasPlace s g → Continues s (after_gather s g) (gather_entry g)
+pub stands_gather : (s : CoreState) (g : Gathered) → IsCore s → slice_get s.ended g.input ≡ Some false →
+    s.stopped ≡ false → HasNumbers s g → HasPlace s g → Continues s (after_gather s g) (gather_entry g)
 stands_gather s g core reading going few place journal h =
     let e : Entry = gather_entry g in
     let n : g.input < length s.setup.inputs = omega (arith, slice_get_within s.ended g.input false reading, h.ended_count) in
@@ -184,14 +198,22 @@ stands_gather s g core reading going few place journal h =
 by_step : (s n t : CoreState) (e : Entry) → n ≡ t → Continues s t e → Continues s n e
 by_step s n t e q h = subst (λ (m : CoreState). Continues s m e) (sym q) h
 
-pub take_stands : (s n : CoreState) → n ≡ after_take s → s.held ≡ None → 0 < length s.raw → Continues s n (Take s.taken)
+pub take_stands : (s n : CoreState) → n ≡ after_take s → s.held ≡ None → 0 < length s.raw →
+    Continues s n (Take s.taken)
 take_stands s n q none some = by_step s n (after_take s) (Take s.taken) q (stands_take s none some)
 
-pub ended_stands : (s n : CoreState) (input : ℕ) → n ≡ after_ended s input → IsCore s → slice_get s.ended input ≡ Some false → s.stopped ≡ false → Continues s n (Ended input)
-ended_stands s n input q core reading going = by_step s n (after_ended s input) (Ended input) q (stands_ended s input core reading going)
+pub ended_stands : (s n : CoreState) (input : ℕ) → n ≡ after_ended s input → IsCore s →
+    slice_get s.ended input ≡ Some false → s.stopped ≡ false → Continues s n (Ended input)
+ended_stands s n input q core reading going =
+    by_step s n (after_ended s input) (Ended input) q (stands_ended s input core reading going)
 
-pub gather_stands : (s n : CoreState) (g : Gathered) → n ≡ after_gather s g → IsCore s → slice_get s.ended g.input ≡ Some false → s.stopped ≡ false → HasNumbers s g → HasPlace s g → Continues s n (gather_entry g)
-gather_stands s n g q core reading going few place = by_step s n (after_gather s g) (gather_entry g) q (stands_gather s g core reading going few place)
+pub gather_stands : (s n : CoreState) (g : Gathered) → n ≡ after_gather s g → IsCore s →
+    slice_get s.ended g.input ≡ Some false → s.stopped ≡ false → HasNumbers s g → HasPlace s g →
+    Continues s n (gather_entry g)
+gather_stands s n g q core reading going few place =
+    by_step s n (after_gather s g) (gather_entry g) q (stands_gather s g core reading going few place)
 
-pub stop_stands : (s n : CoreState) (moment : ℤ) → n ≡ after_stop s moment → s.stopped ≡ false → Continues s n (Stop (int_max moment s.counted) [])
-stop_stands s n moment q going = by_step s n (after_stop s moment) (Stop (int_max moment s.counted) []) q (stands_stop s moment going)
+pub stop_stands : (s n : CoreState) (moment : ℤ) → n ≡ after_stop s moment → s.stopped ≡ false →
+    Continues s n (Stop (int_max moment s.counted) [])
+stop_stands s n moment q going =
+    by_step s n (after_stop s moment) (Stop (int_max moment s.counted) []) q (stands_stop s moment going)

@@ -1,11 +1,14 @@
 -- The numbers of a journal with one entry more.
-use Rattle.std.proofs.Common.{◌≡◌, ◌≢◌, ◌<◌, ℕ, ◌+◌, ◌*◌, Bool, false, List, [], ◌∷◌, ◌++◌, length, set, get_or, is_some, inl, inr, refl, sym, ap, ◌∙◌, subst, arith, length-append, append-nil}
+use Rattle.std.proofs.Common.{◌≡◌, ◌≢◌, ◌<◌, ℕ, ◌+◌, ◌*◌, Bool, false, List, [], ◌∷◌, ◌++◌, length, set}
+use Rattle.std.proofs.Common.{get_or, is_some, inl, inr, refl, sym, ap, ◌∙◌, subst, arith, length-append}
+use Rattle.std.proofs.Common.{append-nil}
 use Rattle.std.specs.List.{count_by, enumerate_from}
 use Rattle.std.specs.declared.option.Option.{Option}
 use Rattle.std.specs.declared.option.Option.TheVariants.{None}
 use Rattle.std.proofs.Math.Nat.{eq-or-lt_of_le}
 use Rattle.std.proofs.lemmas.Bool.{cases_lt}
-use Rattle.std.proofs.lemmas.List.{get_or-set_same, get_or-set_other, ext_get_or, length-set, get_or-map, length-map}
+use Rattle.std.proofs.lemmas.List.{get_or-set_same, get_or-set_other, ext_get_or, length-set, get_or-map}
+use Rattle.std.proofs.lemmas.List.{length-map}
 use Rattle.std.proofs.lemmas.List.FromFn.{get_or-enumerate_from, length-enumerate_from}
 use Rattle.metric.specs.declared.metric.Content.{Content}
 use Rattle.account.specs.Setup.{Setup}
@@ -20,37 +23,45 @@ use Rattle.out_lane.specs.LaneLaws.{KeepsFates, Becomes}
 use Rattle.out_lane.proofs.CountLemmas.{positions_counted-add, keeps_counted, becomes_counted}
 use Rattle.pipeline_core.specs.Offers.{offers, offered_by, lane_events, lane_events_by}
 use Rattle.pipeline_core.specs.Fates.{Fate, fate_of, fates}
-use Rattle.pipeline_core.specs.Totals.{totals, total_by, input_with, input_total_from, input_total, output_total}
+use Rattle.pipeline_core.specs.Totals.{totals, total_by, input_with, input_total_from, input_total}
+use Rattle.pipeline_core.specs.Totals.{output_total}
 use Rattle.pipeline_core.proofs.JournalPush.{offers-push, lane_events-push}
 use Rattle.pipeline_core.proofs.FateCounts.{kept_out, fates-counted, total_by-push}
 
-input_total_from-push : (input : ℕ) (x : InputNumbers) (es : List Entry) (e : Entry) → input_total_from input x (es ++ e ∷ []) ≡ input_with input (input_total_from input x es) e
+input_total_from-push : (input : ℕ) (x : InputNumbers) (es : List Entry) (e : Entry) →
+    input_total_from input x (es ++ e ∷ []) ≡ input_with input (input_total_from input x es) e
 unfolding input_total_from
 input_total_from-push input x [] e = refl
 input_total_from-push input x (y ∷ es) e = input_total_from-push input (input_with input x y) es e
 
 -- an input's numbers among the totals
-pub inputs-at : (setup : Setup) (journal : List Entry) (i : ℕ) → i < length setup.inputs → get_or (totals setup journal).inputs i (unread_input false) ≡ input_total i (is_some (get_or setup.inputs i None)) journal
+pub inputs-at : (setup : Setup) (journal : List Entry) (i : ℕ) → i < length setup.inputs →
+    get_or (totals setup journal).inputs i (unread_input false) ≡ input_total i (is_some (get_or setup.inputs i None)) journal
 inputs-at setup journal i b =
     get_or-map (λ (x : ℕ × Option ℕ). input_total x.0 (is_some x.1) journal) (enumerate_from 0 setup.inputs) i (0, None) (unread_input false) (omega (arith, length-enumerate_from 0 setup.inputs))
     ∙ ap (λ (x : ℕ × Option ℕ). input_total x.0 (is_some x.1) journal) (get_or-enumerate_from 0 setup.inputs i (0, None) b)
     ∙ ap (λ (n : ℕ). input_total n (is_some (get_or setup.inputs i None)) journal) (omega arith)
 
-pub length-inputs : (setup : Setup) (journal : List Entry) → length (totals setup journal).inputs ≡ length setup.inputs
+pub length-inputs : (setup : Setup) (journal : List Entry) →
+    length (totals setup journal).inputs ≡ length setup.inputs
 length-inputs setup journal = length-map _ _ ∙ length-enumerate_from 0 setup.inputs
 
-inputs-push : (setup : Setup) (journal : List Entry) (e : Entry) (i : ℕ) → i < length setup.inputs → get_or (totals setup (journal ++ e ∷ [])).inputs i (unread_input false) ≡ input_with i (get_or (totals setup journal).inputs i (unread_input false)) e
+inputs-push : (setup : Setup) (journal : List Entry) (e : Entry) (i : ℕ) → i < length setup.inputs →
+    get_or (totals setup (journal ++ e ∷ [])).inputs i (unread_input false) ≡ input_with i (get_or (totals setup journal).inputs i (unread_input false)) e
 inputs-push setup journal e i b =
     inputs-at setup (journal ++ e ∷ []) i b ∙ input_total_from-push i (unread_input (is_some (get_or setup.inputs i None))) journal e ∙ ap (λ (x : InputNumbers). input_with i x e) (sym (inputs-at setup journal i b))
 
 -- an entry that says nothing of inputs
-pub inputs-same : (setup : Setup) (journal : List Entry) (e : Entry) → ((i : ℕ) (x : InputNumbers) → input_with i x e ≡ x) → (totals setup (journal ++ e ∷ [])).inputs ≡ (totals setup journal).inputs
+pub inputs-same : (setup : Setup) (journal : List Entry) (e : Entry) →
+    ((i : ℕ) (x : InputNumbers) → input_with i x e ≡ x) →
+    (totals setup (journal ++ e ∷ [])).inputs ≡ (totals setup journal).inputs
 inputs-same setup journal e h =
     ext_get_or (unread_input false) (totals setup (journal ++ e ∷ [])).inputs (totals setup journal).inputs (length-inputs setup (journal ++ e ∷ []) ∙ sym (length-inputs setup journal))
     (λ i b. inputs-push setup journal e i (omega (arith, length-inputs setup (journal ++ e ∷ []))) ∙ h i (get_or (totals setup journal).inputs i (unread_input false)))
 
 -- an entry of one input
-pub inputs-set : (setup : Setup) (journal : List Entry) (e : Entry) (i : ℕ) (y : InputNumbers) → i < length setup.inputs → ((k : ℕ) (x : InputNumbers) → k ≢ i → input_with k x e ≡ x) →
+pub inputs-set : (setup : Setup) (journal : List Entry) (e : Entry) (i : ℕ) (y : InputNumbers) →
+    i < length setup.inputs → ((k : ℕ) (x : InputNumbers) → k ≢ i → input_with k x e ≡ x) →
     input_with i (get_or (totals setup journal).inputs i (unread_input false)) e ≡ y → (totals setup (journal ++ e ∷ [])).inputs ≡ set (totals setup journal).inputs i y
 inputs-set setup journal e i y b others here =
     let n : length (totals setup (journal ++ e ∷ [])).inputs ≡ length setup.inputs = length-inputs setup (journal ++ e ∷ []) in
@@ -66,32 +77,42 @@ inputs-set setup journal e i y b others here =
     ])
 
 -- an output's numbers among the totals
-pub outputs-at : (setup : Setup) (journal : List Entry) (o : ℕ) → o < length setup.outputs → get_or (totals setup journal).outputs o unreached_output ≡ output_total (get_or setup.outputs o (0, 0)).1 o journal
+pub outputs-at : (setup : Setup) (journal : List Entry) (o : ℕ) → o < length setup.outputs →
+    get_or (totals setup journal).outputs o unreached_output ≡ output_total (get_or setup.outputs o (0, 0)).1 o journal
 outputs-at setup journal o b =
     get_or-map (λ (x : ℕ × (ℕ × ℕ)). output_total x.1.1 x.0 journal) (enumerate_from 0 setup.outputs) o (0, (0, 0)) unreached_output (omega (arith, length-enumerate_from 0 setup.outputs))
     ∙ ap (λ (x : ℕ × (ℕ × ℕ)). output_total x.1.1 x.0 journal) (get_or-enumerate_from 0 setup.outputs o (0, (0, 0)) b)
     ∙ ap (λ (n : ℕ). output_total (get_or setup.outputs o (0, 0)).1 n journal) (omega arith)
 
-pub length-outputs : (setup : Setup) (journal : List Entry) → length (totals setup journal).outputs ≡ length setup.outputs
+pub length-outputs : (setup : Setup) (journal : List Entry) →
+    length (totals setup journal).outputs ≡ length setup.outputs
 length-outputs setup journal = length-map _ _ ∙ length-enumerate_from 0 setup.outputs
 
-outputs-push : (setup : Setup) (journal : List Entry) (e : Entry) (o : ℕ) (y : OutputNumbers) → o < length setup.outputs → output_total (get_or setup.outputs o (0, 0)).1 o (journal ++ e ∷ []) ≡ y → get_or (totals setup (journal ++ e ∷ [])).outputs o unreached_output ≡ y
+outputs-push : (setup : Setup) (journal : List Entry) (e : Entry) (o : ℕ) (y : OutputNumbers) →
+    o < length setup.outputs → output_total (get_or setup.outputs o (0, 0)).1 o (journal ++ e ∷ []) ≡ y →
+    get_or (totals setup (journal ++ e ∷ [])).outputs o unreached_output ≡ y
 outputs-push setup journal e o y b h = outputs-at setup (journal ++ e ∷ []) o b ∙ h
 
 -- other numbers at each output
-pub outputs-as : (setup : Setup) (journal : List Entry) (e : Entry) (all : List OutputNumbers) → length all ≡ length setup.outputs → ((o : ℕ) → o < length setup.outputs → output_total (get_or setup.outputs o (0, 0)).1 o (journal ++ e ∷ []) ≡ get_or all o unreached_output) →
+pub outputs-as : (setup : Setup) (journal : List Entry) (e : Entry) (all : List OutputNumbers) →
+    length all ≡ length setup.outputs →
+    ((o : ℕ) → o < length setup.outputs → output_total (get_or setup.outputs o (0, 0)).1 o (journal ++ e ∷ []) ≡ get_or all o unreached_output) →
     (totals setup (journal ++ e ∷ [])).outputs ≡ all
 outputs-as setup journal e all n h =
     ext_get_or unreached_output (totals setup (journal ++ e ∷ [])).outputs all (length-outputs setup (journal ++ e ∷ []) ∙ sym n)
     (λ o b. let c : o < length setup.outputs = omega (arith, length-outputs setup (journal ++ e ∷ [])) in outputs-push setup journal e o (get_or all o unreached_output) c (h o c))
 
 -- an entry that says nothing of outputs
-pub outputs-same : (setup : Setup) (journal : List Entry) (e : Entry) → ((o : ℕ) → o < length setup.outputs → output_total (get_or setup.outputs o (0, 0)).1 o (journal ++ e ∷ []) ≡ output_total (get_or setup.outputs o (0, 0)).1 o journal) →
+pub outputs-same : (setup : Setup) (journal : List Entry) (e : Entry) →
+    ((o : ℕ) → o < length setup.outputs → output_total (get_or setup.outputs o (0, 0)).1 o (journal ++ e ∷ []) ≡ output_total (get_or setup.outputs o (0, 0)).1 o journal) →
     (totals setup (journal ++ e ∷ [])).outputs ≡ (totals setup journal).outputs
-outputs-same setup journal e h = outputs-as setup journal e (totals setup journal).outputs (length-outputs setup journal) (λ o b. h o b ∙ sym (outputs-at setup journal o b))
+outputs-same setup journal e h =
+    outputs-as setup journal e (totals setup journal).outputs (length-outputs setup journal) (λ o b. h o b ∙ sym (outputs-at setup journal o b))
 
 -- an entry of one output
-pub outputs-set : (setup : Setup) (journal : List Entry) (e : Entry) (o : ℕ) (y : OutputNumbers) → o < length setup.outputs → ((k : ℕ) → k < length setup.outputs → k ≢ o → output_total (get_or setup.outputs k (0, 0)).1 k (journal ++ e ∷ []) ≡ output_total (get_or setup.outputs k (0, 0)).1 k journal) →
+pub outputs-set : (setup : Setup) (journal : List Entry) (e : Entry) (o : ℕ) (y : OutputNumbers) →
+    o < length setup.outputs →
+    ((k : ℕ) → k < length setup.outputs → k ≢ o → output_total (get_or setup.outputs k (0, 0)).1 k (journal ++ e ∷ []) ≡ output_total (get_or setup.outputs k (0, 0)).1 k journal) →
     output_total (get_or setup.outputs o (0, 0)).1 o (journal ++ e ∷ []) ≡ y → (totals setup (journal ++ e ∷ [])).outputs ≡ set (totals setup journal).outputs o y
 outputs-set setup journal e o y b others here =
     let all : List OutputNumbers = (totals setup journal).outputs in
@@ -105,7 +126,8 @@ outputs-set setup journal e o y b others here =
       ]
     ])
 
-pub same_numbers : (x y : OutputNumbers) → x.filtered ≡ y.filtered → x.late ≡ y.late → x.consumed ≡ y.consumed → x.written ≡ y.written → x.buffered ≡ y.buffered → x.dropped ≡ y.dropped → x ≡ y
+pub same_numbers : (x y : OutputNumbers) → x.filtered ≡ y.filtered → x.late ≡ y.late →
+    x.consumed ≡ y.consumed → x.written ≡ y.written → x.buffered ≡ y.buffered → x.dropped ≡ y.dropped → x ≡ y
 same_numbers x y a b c d e f =
     let F : ℕ → OutputNumbers = λ n. record { filtered = n; late = x.late; consumed = x.consumed; written = x.written; buffered = x.buffered; dropped = x.dropped } in
     let G : ℕ → OutputNumbers = λ n. record { filtered = y.filtered; late = n; consumed = x.consumed; written = x.written; buffered = x.buffered; dropped = x.dropped } in
@@ -130,14 +152,18 @@ count-push t limit o es e events views l v =
     omega (arith, fates-counted t limit o (es ++ e ∷ []), total_by-push (kept_out t o) es e)
 
 -- an entry that does nothing at the output's lane
-pub count-plain : (t : Fate → Bool) (limit o : ℕ) (es : List Entry) (e : Entry) → lane_events_by o e ≡ [] → offered_by o e ≡ [] → count_by t (fates limit o (es ++ e ∷ [])) ≡ count_by t (fates limit o es) + kept_out t o e
+pub count-plain : (t : Fate → Bool) (limit o : ℕ) (es : List Entry) (e : Entry) → lane_events_by o e ≡ [] →
+    offered_by o e ≡ [] →
+    count_by t (fates limit o (es ++ e ∷ [])) ≡ count_by t (fates limit o es) + kept_out t o e
 count-plain t limit o es e l v =
     let a : fates_counted (tested t) limit (lane_events o es ++ []) (length (offers o es ++ [])) ≡ fates_counted (tested t) limit (lane_events o es) (length (offers o es)) =
     ap (λ (x : List LaneEvent). fates_counted (tested t) limit x (length (offers o es ++ []))) (append-nil (lane_events o es)) ∙ ap (λ (x : List Content). fates_counted (tested t) limit (lane_events o es) (length x)) (append-nil (offers o es)) in
     omega (arith, count-push t limit o es e [] [] l v, fates-counted t limit o es)
 
 -- an entry that begins a batch of the output
-pub count-keep : (t : Fate → Bool) (limit o : ℕ) (es : List Entry) (e : Entry) (event : LaneEvent) → lane_events_by o e ≡ event ∷ [] → offered_by o e ≡ [] → kept_out t o e ≡ 0 → KeepsFates limit (lane_events o es) (lane_events o es ++ event ∷ []) (offers o es) →
+pub count-keep : (t : Fate → Bool) (limit o : ℕ) (es : List Entry) (e : Entry) (event : LaneEvent) →
+    lane_events_by o e ≡ event ∷ [] → offered_by o e ≡ [] → kept_out t o e ≡ 0 →
+    KeepsFates limit (lane_events o es) (lane_events o es ++ event ∷ []) (offers o es) →
     count_by t (fates limit o (es ++ e ∷ [])) ≡ count_by t (fates limit o es)
 count-keep t limit o es e event l v z k =
     let a : fates_counted (tested t) limit (lane_events o es ++ event ∷ []) (length (offers o es ++ [])) ≡ fates_counted (tested t) limit (lane_events o es ++ event ∷ []) (length (offers o es)) =

@@ -1,5 +1,6 @@
 -- What a core keeps, as contracts see it.
-use Rattle.std.specs.Prelude.{◌≡◌, ◌<◌, ◌≤◌, ℕ, ℤ, ◌+◌, ◌^◌, Bool, false, is_some, List, [], map, length, replicate, slice_index_or, All, if◌then◌else◌}
+use Rattle.std.specs.Prelude.{◌≡◌, ◌<◌, ◌≤◌, ℕ, ℤ, ◌+◌, ◌^◌, Bool, false, is_some, List, [], map, length}
+use Rattle.std.specs.Prelude.{replicate, slice_index_or, All, if◌then◌else◌}
 use Rattle.std.specs.List.{sum_by}
 use Rattle.std.specs.declared.option.Option.{Option}
 use Rattle.std.specs.declared.option.Option.TheVariants.{Some, None}
@@ -42,8 +43,13 @@ most_undelivered input = if input.tracked then Some input.max_undelivered else N
 abbrev pub sizes : OutSetup → ℕ × ℕ
 sizes output = (output.batch, output.limit)
 
+-- the set-up of a journal, of what a core is set up with
 abbrev pub setup_of : CoreSetup → Setup
-setup_of setup = record { start = setup.start; inputs = map most_undelivered setup.inputs; outputs = map sizes setup.outputs }
+setup_of setup = record {
+  start = setup.start;
+  inputs = map most_undelivered setup.inputs;
+  outputs = map sizes setup.outputs;
+}
 
 -- an output at which nothing waits
 abbrev pub lane_of : OutSetup → LaneState Content
@@ -108,4 +114,6 @@ pub record IsCore (state : CoreState) : Type 0 where
   pub counted : state.taken + length state.raw ≡ state.gathered
   pub below : state.gathered < 2 ^ 32
   pub routed : state.numbers.removed + state.numbers.routed + held_count state.held ≡ state.taken
-  pub each : (output : ℕ) → output < length state.setup.outputs → IsOutput (sizes_at state.setup output) state.numbers.routed (output_numbers state.numbers output) (lane_at state.lanes output)
+  pub each : (output : ℕ) → output < length state.setup.outputs →
+      IsOutput (sizes_at state.setup output) state.numbers.routed
+      (output_numbers state.numbers output) (lane_at state.lanes output)

@@ -4,7 +4,8 @@ use Rattle.std.specs.declared.option.Option.{Option}
 use Rattle.std.specs.declared.option.Option.TheVariants.{Some, None}
 use Rattle.metric.specs.declared.metric.Content.{Content}
 use Rattle.account.specs.declared.entry.Entry.{Entry}
-use Rattle.account.specs.declared.entry.Entry.TheVariants.{Gather, Ended, Take, Route, Tick, Stop, Begin, Done}
+use Rattle.account.specs.declared.entry.Entry.TheVariants.{Gather, Ended, Take, Route, Tick, Stop, Begin}
+use Rattle.account.specs.declared.entry.Entry.TheVariants.{Done}
 use Rattle.account.specs.declared.entry.Verdict.{Verdict}
 use Rattle.account.specs.declared.entry.Verdict.TheVariants as verdicts
 use Rattle.out_lane.specs.LaneEvents.{LaneEvent, LaneFate, fate_at}
@@ -39,22 +40,28 @@ fates_by_verdict limit events position verdicts.Consumed view = Consumed ∷ []
 fates_by_verdict limit events position verdicts.Late view = Late ∷ []
 fates_by_verdict limit events position verdicts.Removed view = []
 
+-- the fate of the metric that an entry routes, where it routes one that isn't removed
 abbrev pub fates_by : ℕ → ℕ → List LaneEvent → ℕ → Entry → List Fate
-fates_by limit output events position (Gather input moment pieces refused passed filtered metrics group reports) = []
+fates_by limit output events position
+    (Gather input moment pieces refused passed filtered metrics group reports) = []
 fates_by limit output events position (Ended input) = []
 fates_by limit output events position (Take item) = []
-fates_by limit output events position (Route item whole verdict aggs outs reports) = fates_by_verdict limit events position verdict (view_at output outs)
+fates_by limit output events position (Route item whole verdict aggs outs reports) =
+    fates_by_verdict limit events position verdict (view_at output outs)
 fates_by limit output events position (Tick moment made) = []
 fates_by limit output events position (Stop moment made) = []
 fates_by limit output events position (Begin number from to) = []
 fates_by limit output events position (Done number ok reports) = []
 
--- the fates of the metrics that these entries route, the first position being the number of offers before them
+-- the fates of the metrics that these entries route, the first position being the number of offers before
+-- them
 unfoldable pub fates_from : ℕ → ℕ → List LaneEvent → ℕ → List Entry → List Fate
 fates_from limit output events position [] = []
 fates_from limit output events position (e ∷ es) =
-    fates_by limit output events position e ++ fates_from limit output events (position + length (offered_by output e)) es
+    fates_by limit output events position e
+    ++ fates_from limit output events (position + length (offered_by output e)) es
 
--- the fates of all routed metrics of a journal at an output with this buffer limit, in the order of their Routes
+-- the fates of all routed metrics of a journal at an output with this buffer limit, in the order of their
+-- Routes
 abbrev pub fates : ℕ → ℕ → List Entry → List Fate
 fates limit output es = fates_from limit output (lane_events output es) 0 es

@@ -1,5 +1,6 @@
 -- What a journal may say, entry by entry.
-use Rattle.std.specs.Prelude.{◌≡◌, ◌<◌, ◌≤◌, ◌⊎◌, ℕ, ℤ, ◌≤ℤ◌, ◌+◌, ◌^◌, ◌==◌, ◌||◌, Bool, true, false, List, [], ◌∷◌, ◌++◌, length, slice_get}
+use Rattle.std.specs.Prelude.{◌≡◌, ◌<◌, ◌≤◌, ◌⊎◌, ℕ, ℤ, ◌≤ℤ◌, ◌+◌, ◌^◌, ◌==◌, ◌||◌, Bool, true, false, List}
+use Rattle.std.specs.Prelude.{[], ◌∷◌, ◌++◌, length, slice_get}
 use Rattle.std.specs.declared.option.Option.{Option}
 use Rattle.std.specs.declared.option.Option.TheVariants.{Some, None}
 use Rattle.metric.specs.declared.metric.Content.{Content}
@@ -7,7 +8,8 @@ use Rattle.account.specs.Setup.{Setup}
 use Rattle.account.specs.Items.{items, taken, raw_items, in_hand}
 use Rattle.account.specs.Views.{HasViews}
 use Rattle.account.specs.declared.entry.Entry.{Entry}
-use Rattle.account.specs.declared.entry.Entry.TheVariants.{Gather, Ended, Take, Route, Tick, Stop, Begin, Done}
+use Rattle.account.specs.declared.entry.Entry.TheVariants.{Gather, Ended, Take, Route, Tick, Stop, Begin}
+use Rattle.account.specs.declared.entry.Entry.TheVariants.{Done}
 use Rattle.account.specs.declared.entry.Report.{Report}
 use Rattle.account.specs.declared.entry.Verdict.{Verdict}
 use Rattle.account.specs.declared.entry.Verdict.TheVariants as verdicts
@@ -55,8 +57,10 @@ abbrev pub verdict_of : Option Content → Verdict
 verdict_of None = verdicts.Removed
 verdict_of (Some whole) = verdicts.Passes
 
--- the next pieces of an input that isn't tracked: it hasn't ended, and nothing is stopped; all gathered metrics are fewer than 2^32, and no item is raw or the raw ones with these are at most 10,000
-pub record MeetsGather (setup : Setup) (before : List Entry) (input : ℕ) (metrics : List Content) (group : Option ℕ) (reports : List Report) : Type 0 where
+-- the next pieces of an input that isn't tracked: it hasn't ended, and nothing is stopped; all gathered
+-- metrics are fewer than 2^32, and no item is raw or the raw ones with these are at most 10,000
+pub record MeetsGather (setup : Setup) (before : List Entry) (input : ℕ) (metrics : List Content)
+    (group : Option ℕ) (reports : List Report) : Type 0 where
   pub untracked : slice_get setup.inputs input ≡ Some None
   pub going : has_stop before ≡ false
   pub reading : has_ended input before ≡ false
@@ -77,7 +81,8 @@ pub record MeetsTake (before : List Entry) (item : ℕ) : Type 0 where
   pub raw : item < length (items before)
 
 -- the item in hand, with one view per output and, as there are none, no view of an aggregator
-pub record MeetsRoute (setup : Setup) (before : List Entry) (item : ℕ) (whole : Option Content) (verdict : Verdict) (aggs outs : List (Option Content)) (reports : List Report) : Type 0 where
+pub record MeetsRoute (setup : Setup) (before : List Entry) (item : ℕ) (whole : Option Content)
+    (verdict : Verdict) (aggs outs : List (Option Content)) (reports : List Report) : Type 0 where
   pub held : in_hand before ≡ Some item
   pub judged : verdict ≡ verdict_of whole
   pub aggregators : aggs ≡ []
@@ -106,10 +111,12 @@ pub record MeetsDone (setup : Setup) (before : List Entry) (output : ℕ) (repor
 
 -- the entry may come after those before it
 abbrev pub Meets : Setup → List Entry → Entry → Type 0
-Meets setup before (Gather input moment pieces refused passed filtered metrics group reports) = MeetsGather setup before input metrics group reports
+Meets setup before (Gather input moment pieces refused passed filtered metrics group reports) =
+    MeetsGather setup before input metrics group reports
 Meets setup before (Ended input) = MeetsEnded setup before input
 Meets setup before (Take item) = MeetsTake before item
-Meets setup before (Route item whole verdict aggs outs reports) = MeetsRoute setup before item whole verdict aggs outs reports
+Meets setup before (Route item whole verdict aggs outs reports) =
+    MeetsRoute setup before item whole verdict aggs outs reports
 Meets setup before (Tick moment made) = MeetsMoment setup before moment made
 Meets setup before (Stop moment made) = MeetsMoment setup before moment made
 Meets setup before (Begin output from to) = MeetsBegin setup before output from to

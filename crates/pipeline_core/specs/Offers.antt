@@ -5,7 +5,8 @@ use Rattle.std.specs.declared.option.Option.TheVariants.{Some, None}
 use Rattle.std.specs.Option.{option_to_list}
 use Rattle.metric.specs.declared.metric.Content.{Content}
 use Rattle.account.specs.declared.entry.Entry.{Entry}
-use Rattle.account.specs.declared.entry.Entry.TheVariants.{Gather, Ended, Take, Route, Tick, Stop, Begin, Done}
+use Rattle.account.specs.declared.entry.Entry.TheVariants.{Gather, Ended, Take, Route, Tick, Stop, Begin}
+use Rattle.account.specs.declared.entry.Entry.TheVariants.{Done}
 use Rattle.account.specs.declared.entry.Verdict.{Verdict}
 use Rattle.account.specs.declared.entry.Verdict.TheVariants.{Passes, Consumed, Late, Removed}
 use Rattle.out_lane.specs.LaneEvents.{LaneEvent, LaneFate, fate_at}
@@ -52,7 +53,8 @@ abbrev pub lane_events_by : ℕ → Entry → List LaneEvent
 lane_events_by output (Gather input moment pieces refused passed filtered metrics group reports) = []
 lane_events_by output (Ended input) = []
 lane_events_by output (Take item) = []
-lane_events_by output (Route item whole verdict aggs outs reports) = pushes (offered verdict (view_at output outs))
+lane_events_by output (Route item whole verdict aggs outs reports) =
+    pushes (offered verdict (view_at output outs))
 lane_events_by output (Tick moment made) = []
 lane_events_by output (Stop moment made) = []
 lane_events_by output (Begin number from to) = if number == output then lane.Begin from to ∷ [] else []

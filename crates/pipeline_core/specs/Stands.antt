@@ -9,20 +9,24 @@ use Rattle.pipeline_core.specs.Legal.{IsLegal, gathered_count, counted_from, has
 use Rattle.pipeline_core.specs.Totals.{totals}
 use Rattle.pipeline_core.specs.CoreState.{CoreState, lane_at, sizes_at}
 
--- What a core keeps is what a legal journal says: its raw items and the one in hand, at each output what waits and what is in flight, its numbers, and its stored entries, which are the journal's last ones.
+-- What a core keeps is what a legal journal says: its raw items and the one in hand, at each output what
+-- waits and what is in flight, its numbers, and its stored entries, which are the journal's last ones.
 pub record Stands (core : CoreState) (journal : List Entry) : Type 0 where
   pub legal : IsLegal core.setup journal
   pub raw : core.raw ≡ raw_items journal
   pub taken_is : core.taken ≡ taken journal
   pub held : core.held ≡ in_hand journal
-  pub lanes : (output : ℕ) → output < length core.setup.outputs → IsLaneOf (sizes_at core.setup output).0 (sizes_at core.setup output).1 (lane_events output journal) (offers output journal) (lane_at core.lanes output)
+  pub lanes : (output : ℕ) → output < length core.setup.outputs →
+      IsLaneOf (sizes_at core.setup output).0 (sizes_at core.setup output).1 (lane_events output journal)
+      (offers output journal) (lane_at core.lanes output)
   pub lane_count : length core.lanes ≡ length core.setup.outputs
   pub numbers : core.numbers ≡ totals core.setup journal
   pub front : List Entry
   pub stored : journal ≡ front ++ core.stored
   pub gathered : core.gathered ≡ gathered_count journal
   pub counted : core.counted ≡ counted_from core.setup.start journal
-  pub ended : (input : ℕ) → input < length core.setup.inputs → slice_get core.ended input ≡ Some (has_ended input journal)
+  pub ended : (input : ℕ) → input < length core.setup.inputs →
+      slice_get core.ended input ≡ Some (has_ended input journal)
   pub ended_count : length core.ended ≡ length core.setup.inputs
   pub stopped : core.stopped ≡ has_stop journal
 

@@ -1,11 +1,13 @@
 -- What each call makes of what a core keeps.
-use Rattle.std.specs.Prelude.{◌≡◌, ◌<◌, ◌≤◌, ◌⊎◌, ℕ, ℤ, ◌+◌, ◌^◌, ◌==◌, Bool, true, false, List, [], ◌∷◌, ◌++◌, map, length, take, drop, min, slice_set, if◌then◌else◌, Result, Ok, Err}
+use Rattle.std.specs.Prelude.{◌≡◌, ◌<◌, ◌≤◌, ◌⊎◌, ℕ, ℤ, ◌+◌, ◌^◌, ◌==◌, Bool, true, false, List, [], ◌∷◌}
+use Rattle.std.specs.Prelude.{◌++◌, map, length, take, drop, min, slice_set, if◌then◌else◌, Result, Ok, Err}
 use Rattle.std.specs.Int.{int_max}
 use Rattle.std.specs.List.{enumerate_from}
 use Rattle.std.specs.declared.option.Option.{Option}
 use Rattle.std.specs.declared.option.Option.TheVariants.{Some, None}
 use Rattle.metric.specs.declared.metric.Content.{Content}
-use Rattle.account.specs.Numbers.{Numbers, with_input, input_numbers, gathered_more, written_more, dropped_more}
+use Rattle.account.specs.Numbers.{Numbers, with_input, input_numbers, gathered_more, written_more}
+use Rattle.account.specs.Numbers.{dropped_more}
 use Rattle.account.specs.declared.numbers.OutputNumbers.{OutputNumbers}
 use Rattle.account.specs.Numbers.{with_output, output_numbers}
 use Rattle.account.specs.declared.entry.Entry.{Entry}
@@ -17,7 +19,8 @@ use Rattle.pipeline_core.specs.Legal.{verdict_of}
 use Rattle.pipeline_core.specs.CoreState.{CoreState, lane_at}
 use Rattle.pipeline_core.specs.declared.gathering.Gathered.{Gathered}
 use Rattle.pipeline_core.specs.declared.gathering.GatherRefused.{GatherRefused}
-use Rattle.pipeline_core.specs.declared.gathering.GatherRefused.TheVariants.{OutOfMemory, RunFull, HeldUndelivered, HeldRaw}
+use Rattle.pipeline_core.specs.declared.gathering.GatherRefused.TheVariants.{OutOfMemory, RunFull}
+use Rattle.pipeline_core.specs.declared.gathering.GatherRefused.TheVariants.{HeldUndelivered, HeldRaw}
 use Rattle.pipeline_core.specs.declared.routing.Routed.{Routed}
 use Rattle.pipeline_core.specs.declared.batches.Batch.{Batch}
 
@@ -29,7 +32,10 @@ gather_entry g = entries.Gather g.input g.moment g.pieces g.refused g.passed g.f
 abbrev pub after_gather : CoreState → Gathered → CoreState
 after_gather state g = record state {
   raw = state.raw ++ g.metrics;
-  numbers = with_input state.numbers g.input (gathered_more (input_numbers state.numbers g.input) g.pieces g.refused g.passed g.filtered (length g.metrics));
+  numbers =
+      with_input state.numbers g.input
+      (gathered_more (input_numbers state.numbers g.input) g.pieces g.refused g.passed g.filtered
+      (length g.metrics));
   stored = state.stored ++ gather_entry g ∷ [];
   gathered = state.gathered + length g.metrics;
 }
@@ -97,21 +103,28 @@ pub record HasFew (x : OutputNumbers) (at : LaneState Content) : Type 0 where
 
 -- each output's lane, once its view was offered
 abbrev pub lanes_with : List (Option Content) → List (LaneState Content) → List (LaneState Content)
-lanes_with outs lanes = map (λ (x : ℕ × LaneState Content). lane_with (view_at x.0 outs) x.1) (enumerate_from 0 lanes)
+lanes_with outs lanes =
+    map (λ (x : ℕ × LaneState Content). lane_with (view_at x.0 outs) x.1) (enumerate_from 0 lanes)
 
 -- each output's numbers, once its view was offered
-abbrev pub outputs_with : List (Option Content) → List (LaneState Content) → List OutputNumbers → List OutputNumbers
-outputs_with outs lanes all = map (λ (x : ℕ × OutputNumbers). numbers_with (view_at x.0 outs) (lane_at lanes x.0) x.1) (enumerate_from 0 all)
+abbrev pub outputs_with : List (Option Content) → List (LaneState Content) → List OutputNumbers →
+    List OutputNumbers
+outputs_with outs lanes all =
+    map (λ (x : ℕ × OutputNumbers). numbers_with (view_at x.0 outs) (lane_at lanes x.0) x.1)
+    (enumerate_from 0 all)
 
 -- the lanes, once an item was routed; a removed one is offered to none
-abbrev pub lanes_routed : Option Content → List (Option Content) → List (LaneState Content) → List (LaneState Content)
+abbrev pub lanes_routed : Option Content → List (Option Content) → List (LaneState Content) →
+    List (LaneState Content)
 lanes_routed None outs lanes = lanes
 lanes_routed (Some whole) outs lanes = lanes_with outs lanes
 
 -- the numbers, once an item was routed
-abbrev pub numbers_routed : Option Content → List (Option Content) → List (LaneState Content) → Numbers → Numbers
+abbrev pub numbers_routed : Option Content → List (Option Content) → List (LaneState Content) → Numbers →
+    Numbers
 numbers_routed None outs lanes numbers = record numbers { removed = numbers.removed + 1 }
-numbers_routed (Some whole) outs lanes numbers = record numbers { routed = numbers.routed + 1; outputs = outputs_with outs lanes numbers.outputs }
+numbers_routed (Some whole) outs lanes numbers =
+    record numbers { routed = numbers.routed + 1; outputs = outputs_with outs lanes numbers.outputs }
 
 -- nothing is in hand; a removed item counts as such, and the views of another are offered to the outputs
 abbrev pub after_route : CoreState → Routed → CoreState
@@ -158,11 +171,14 @@ abbrev pub counted_done : Bool → ℕ → OutputNumbers → OutputNumbers
 counted_done true n x = written_more x n
 counted_done false n x = dropped_more x n
 
--- no batch of the output is in flight: its metrics are written, or wait again, and of these the oldest are dropped where there are too many
+-- no batch of the output is in flight: its metrics are written, or wait again, and of these the oldest are
+-- dropped where there are too many
 abbrev pub after_done : CoreState → ℕ → Bool → CoreState
 after_done state output ok = record state {
   lanes = slice_set state.lanes output (lane_done ok (lane_at state.lanes output));
-  numbers = with_output state.numbers output (counted_done ok (count_done ok (lane_at state.lanes output)) (output_numbers state.numbers output));
+  numbers =
+      with_output state.numbers output
+      (counted_done ok (count_done ok (lane_at state.lanes output)) (output_numbers state.numbers output));
   stored = state.stored ++ entries.Done output ok [] ∷ [];
 }
 

@@ -1,5 +1,6 @@
 -- The numbers of a journal.
-use Rattle.std.specs.Prelude.{ℕ, ◌+◌, ◌==◌, Bool, true, false, is_some, List, [], ◌∷◌, length, map, count_by, if◌then◌else◌}
+use Rattle.std.specs.Prelude.{ℕ, ◌+◌, ◌==◌, Bool, true, false, is_some, List, [], ◌∷◌, length, map, count_by}
+use Rattle.std.specs.Prelude.{if◌then◌else◌}
 use Rattle.std.specs.List.{enumerate_from}
 use Rattle.std.specs.declared.option.Option.{Option}
 use Rattle.account.specs.Setup.{Setup}
@@ -91,7 +92,8 @@ output_numbers_of all = record {
 abbrev pub output_total : ℕ → ℕ → List Entry → OutputNumbers
 output_total limit output journal = output_numbers_of (fates limit output journal)
 
--- the numbers of a journal: per input the sums over its Gathers, how many metrics were made, removed and routed, per output how many routed metrics have each fate
+-- the numbers of a journal: per input the sums over its Gathers, how many metrics were made, removed and
+-- routed, per output how many routed metrics have each fate
 abbrev pub totals : Setup → List Entry → Numbers
 totals setup journal = record {
   inputs = map (λ (x : ℕ × Option ℕ). input_total x.0 (is_some x.1) journal) (enumerate_from 0 setup.inputs);

@@ -38,24 +38,27 @@ impl Core {
     /// Begins the next batch of an output: its oldest waiting metrics. An error leaves all as it was.
     pub fn begin(&mut self, output: u32) -> Result<Batch, BeginAnswer>
         requires { output < length self.old.setup.outputs }
-        ensures in_flight { (result ≡ Err BeginAnswer.InFlight) ↔ IsSome (lane_at self.old.lanes output).flight }
+        ensures in_flight { (result ≡ Err BeginAnswer.InFlight)
+            ↔ IsSome (lane_at self.old.lanes output).flight }
         ensures nothing { let lane = lane_at self.old.lanes output in
             (result ≡ Err BeginAnswer.NothingWaiting) ↔ ((lane.flight ≡ None) × (length lane.waiting ≡ 0)) }
-        ensures empty { result ≡ Err BeginAnswer.NothingWaiting → (output_numbers self.old.numbers output).buffered ≡ 0 }
+        ensures empty { result ≡ Err BeginAnswer.NothingWaiting →
+            (output_numbers self.old.numbers output).buffered ≡ 0 }
         ensures batch { IfOk result (IsBatchOf (lane_at self.old.lanes output)) }
         ensures some { IfOk result (λ batch. 0 < length batch.metrics) }
         ensures flies { OnOk result (IsSome (lane_at self.new.lanes output).flight) }
         ensures ok { IfOk result (λ batch. self.new ≡ after_begin self.old output batch.from batch.to) }
-        ensures stands { IfOk result (λ batch. Continues self.old self.new (entries.Begin output batch.from batch.to)) }
+        ensures stands { IfOk result
+            (λ batch. Continues self.old self.new (entries.Begin output batch.from batch.to)) }
         ensures err { OnErr result (self.new ≡ self.old) }
     {
-        let place = &self.outputs[output as usize];
-        place.ready()?;
+        let chosen = &self.outputs[output as usize];
+        chosen.ready()?;
         let Ok(()) = make_room(&mut self.stored, self.outputs.len()) else {
             return Err(BeginAnswer::OutOfMemory);
         };
-        let place = &mut self.outputs[output as usize];
-        let Ok(batch) = place.begin(self.alloc) else {
+        let chosen = &mut self.outputs[output as usize];
+        let Ok(batch) = chosen.begin(self.alloc) else {
             return Err(BeginAnswer::OutOfMemory);
         };
         self.stored.push_reserved(Entry::Begin {
@@ -73,8 +76,8 @@ impl Core {
         ensures after { self.new ≡ after_done self.old output ok }
         ensures stands { Continues self.old self.new (entries.Done output ok []) }
     {
-        let place = &mut self.outputs[output as usize];
-        let count = place.done(ok);
+        let chosen = &mut self.outputs[output as usize];
+        let count = chosen.done(ok);
         count_done(&mut self.account, output, ok, count);
         self.stored.push_reserved(Entry::Done {
             output,
@@ -89,7 +92,8 @@ fn count_done(account: &mut Account, output: u32, ok: bool, count: u32)
     requires known { output < length account.old.outputs }
     requires held { count ≤ (output_numbers account.old output).buffered }
     requires few { IsOutputBelow (2 ^ 32) (output_numbers account.old output) }
-    ensures { account.new ≡ with_output account.old output (counted_done ok count (output_numbers account.old output)) }
+    ensures { account.new ≡ with_output account.old output
+        (counted_done ok count (output_numbers account.old output)) }
 {
     if ok {
         account.written(output, count);

@@ -1,8 +1,10 @@
 //! Metrics come in, and are taken in hand.
-ghost use Rattle.std.specs.Prelude.{◌≡◌, ◌<◌, ◌≤◌, ◌⊎◌, ◌+◌, IsTrue, ◌^◌, ◌↔◌, [], true, false, length, slice_get, IfOk, OnOk, OnErr, IsSome, IsNone, ℕ};
+ghost use Rattle.std.specs.Prelude.{◌≡◌, ◌<◌, ◌≤◌, ◌⊎◌, ◌+◌, IsTrue, ◌^◌, ◌↔◌, [], true, false, length};
+ghost use Rattle.std.specs.Prelude.{slice_get, IfOk, OnOk, OnErr, IsSome, IsNone, ℕ};
 ghost use Rattle.account.specs.declared.entry.Entry.TheVariants as entries;
 ghost use Rattle.pipeline_core.specs.Stands.{Continues};
-ghost use Rattle.pipeline_core.specs.Steps.{gather_entry, after_gather, after_ended, after_take, IsGatherAnswer};
+ghost use Rattle.pipeline_core.specs.Steps.{gather_entry, after_gather, after_ended, after_take};
+ghost use Rattle.pipeline_core.specs.Steps.{IsGatherAnswer};
 ghost use Rattle.pipeline_core.specs.declared.gathering.GatherRefused.TheVariants as refused;
 
 use crate::room::{make_room, queue_of};
@@ -85,8 +87,8 @@ pub enum TakeAnswer {
 // The most items that wait to be taken, where more than one group has come.
 const MOST_RAW: usize = 10_000;
 
-// A run gathers fewer metrics than this: 2^32.
-const MOST_GATHERED: usize = 1 << 32;
+// A run gathers fewer metrics than this, 2^32, so that their number fits in a `u32`.
+const GATHERED_LIMIT: usize = 1 << 32;
 
 impl Core {
     /// Counts what was read of an input; its metrics become items. A refusal leaves all as it was.
@@ -99,7 +101,7 @@ impl Core {
         ensures err { OnErr result (self.new ≡ self.old) }
     {
         let count = g.metrics.as_slice().len();
-        if count >= MOST_GATHERED - self.gathered as usize {
+        if count >= GATHERED_LIMIT - self.gathered as usize {
             return Err(GatherRefused::RunFull(g));
         }
         if !has_place(self.raw.len(), count) {
@@ -153,7 +155,8 @@ impl Core {
     pub fn take(&mut self) -> Result<Item, TakeAnswer>
         ensures in_hand { (result ≡ Err TakeAnswer.InHand) ↔ IsSome self.old.held }
         ensures empty { (result ≡ Err TakeAnswer.Empty) ↔ (IsNone self.old.held × (self.old.raw ≡ [])) }
-        ensures item { IfOk result (λ item. (item.number ≡ self.old.taken) × (item.made ≡ false) × (slice_get self.old.raw 0 ≡ Some item.metric)) }
+        ensures item { IfOk result (λ item. (item.number ≡ self.old.taken) × (item.made ≡ false)
+            × (slice_get self.old.raw 0 ≡ Some item.metric)) }
         ensures ok { OnOk result (self.new ≡ after_take self.old) }
         ensures stands { OnOk result (Continues self.old self.new (entries.Take self.old.taken)) }
         ensures err { OnErr result (self.new ≡ self.old) }

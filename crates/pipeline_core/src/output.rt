@@ -1,5 +1,6 @@
 //! What waits at an output, and its batch in flight.
-ghost use Rattle.std.specs.Prelude.{◌≡◌, ◌≢◌, ◌<◌, ◌≤◌, ◌+◌, ◌^◌, ◌==◌, ◌↔◌, [], true, false, length, slice_set, IfOk, OnOk, OnErr, IsSome, IsTrue};
+ghost use Rattle.std.specs.Prelude.{◌≡◌, ◌≢◌, ◌<◌, ◌≤◌, ◌+◌, ◌^◌, ◌==◌, ◌↔◌, [], true, false, length};
+ghost use Rattle.std.specs.Prelude.{slice_set, IfOk, OnOk, OnErr, IsSome, IsTrue};
 ghost use Rattle.out_lane.specs.Lane.{empty_lane, after_push, after_begin, flying};
 ghost use Rattle.pipeline_core.specs.Steps.{IsBatchOf, lane_done, count_done};
 
@@ -73,7 +74,8 @@ impl Output {
     /// Why no batch may be begun, if none may.
     pub(crate) fn ready(&self) -> Result<(), BeginAnswer>
         ensures in_flight { (result ≡ Err BeginAnswer.InFlight) ↔ IsSome self.now.flight }
-        ensures nothing { (result ≡ Err BeginAnswer.NothingWaiting) ↔ ((self.now.flight ≡ None) × (length self.now.waiting ≡ 0)) }
+        ensures nothing { (result ≡ Err BeginAnswer.NothingWaiting)
+            ↔ ((self.now.flight ≡ None) × (length self.now.waiting ≡ 0)) }
         ensures ok { OnOk result ((self.now.flight ≡ None) × (0 < length self.now.waiting)) }
         ensures memory { result ≢ Err BeginAnswer.OutOfMemory }
     {

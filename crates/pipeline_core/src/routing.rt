@@ -1,11 +1,13 @@
 //! The item in hand goes to the outputs.
-ghost use Rattle.std.specs.Prelude.{◌≡◌, ℕ, ◌<◌, ◌≤◌, ◌+◌, ◌^◌, [], true, false, length, slice_set, IfOk, OnOk, OnErr};
+ghost use Rattle.std.specs.Prelude.{◌≡◌, ℕ, ◌<◌, ◌≤◌, ◌+◌, ◌^◌, [], true, false, length, slice_set, IfOk};
+ghost use Rattle.std.specs.Prelude.{OnOk, OnErr};
 ghost use Rattle.account.specs.Numbers.{with_output, output_numbers};
 ghost use Rattle.pipeline_core.specs.CoreState.{lane_at};
 ghost use Rattle.account.specs.Views.{HasViews};
 ghost use Rattle.pipeline_core.specs.Legal.{verdict_of};
 ghost use Rattle.pipeline_core.specs.Stands.{Continues};
-ghost use Rattle.pipeline_core.specs.Steps.{route_entry, after_route, lane_with, numbers_with, lanes_with, outputs_with, lanes_routed, numbers_routed, HasFew};
+ghost use Rattle.pipeline_core.specs.Steps.{route_entry, after_route, lane_with, numbers_with, lanes_with};
+ghost use Rattle.pipeline_core.specs.Steps.{outputs_with, lanes_routed, numbers_routed, HasFew};
 
 use crate::output::Output;
 use crate::room::{make_room, view_copies};
@@ -44,7 +46,7 @@ impl Core {
         let views = view_copies(self.alloc, r.outs.as_slice())?;
         make_room(&mut self.stored, self.outputs.len())?;
         self.held = None;
-        settle(&mut self.outputs, &mut self.account, &r.whole, views);
+        hand_out(&mut self.outputs, &mut self.account, &r.whole, views);
         self.stored.push_reserved(Entry::Route {
             item: r.item,
             whole: r.whole,
@@ -68,7 +70,7 @@ fn judged(whole: &Option<Metric>) -> Verdict
 }
 
 // Counts an item, and offers each output its view unless the item was removed.
-fn settle(
+fn hand_out(
     outputs: &mut Vec<Output>,
     account: &mut Account,
     whole: &Option<Metric>,
@@ -79,7 +81,8 @@ fn settle(
     requires count { length outputs.old.items ≤ 16 }
     requires removed { account.old.removed < 2 ^ 32 }
     requires routed { account.old.routed < 2 ^ 32 }
-    requires few { (output : ℕ) → output < length outputs.old.items → HasFew (output_numbers account.old output) (lane_at outputs.old.items output) }
+    requires few { (output : ℕ) → output < length outputs.old.items →
+        HasFew (output_numbers account.old output) (lane_at outputs.old.items output) }
     ensures lanes { outputs.new.items ≡ lanes_routed whole.now views.items outputs.old.items }
     ensures account { account.new ≡ numbers_routed whole.now views.items outputs.old.items account.old }
 {
@@ -88,38 +91,42 @@ fn settle(
         return;
     }
     account.routed();
-    offer(outputs, account, views);
+    offer_views(outputs, account, views);
 }
 
 // Offers each output its view, and counts what became of it.
-fn offer(outputs: &mut Vec<Output>, account: &mut Account, mut views: Vec<Option<Metric>>)
+fn offer_views(outputs: &mut Vec<Output>, account: &mut Account, mut views: Vec<Option<Metric>>)
     requires views { length views.items ≡ length outputs.old.items }
     requires numbers { length account.old.outputs ≡ length outputs.old.items }
     requires count { length outputs.old.items ≤ 16 }
-    requires few { (output : ℕ) → output < length outputs.old.items → HasFew (output_numbers account.old output) (lane_at outputs.old.items output) }
+    requires few { (output : ℕ) → output < length outputs.old.items →
+        HasFew (output_numbers account.old output) (lane_at outputs.old.items output) }
     ensures lanes { outputs.new.items ≡ lanes_with views.items outputs.old.items }
-    ensures account { account.new ≡ record account.old { outputs = outputs_with views.items outputs.old.items account.old.outputs } }
+    ensures account { account.new
+        ≡ record account.old { outputs = outputs_with views.items outputs.old.items account.old.outputs } }
 {
     while let Some(view) = views.pop() {
-        offer_at(outputs, account, views.len(), view);
+        offer_view(outputs, account, views.len(), view);
     }
 }
 
 // Offers an output its view, and counts what became of it.
-fn offer_at(outputs: &mut Vec<Output>, account: &mut Account, output: usize, view: Option<Metric>)
+fn offer_view(outputs: &mut Vec<Output>, account: &mut Account, output: usize, view: Option<Metric>)
     requires within { output < length outputs.old.items }
     requires numbers { length account.old.outputs ≡ length outputs.old.items }
     requires count { length outputs.old.items ≤ 16 }
     requires few { HasFew (output_numbers account.old output) (lane_at outputs.old.items output) }
-    ensures lanes { outputs.new.items ≡ slice_set outputs.old.items output (lane_with view (lane_at outputs.old.items output)) }
-    ensures account { account.new ≡ with_output account.old output (numbers_with view (lane_at outputs.old.items output) (output_numbers account.old output)) }
+    ensures lanes { outputs.new.items
+        ≡ slice_set outputs.old.items output (lane_with view (lane_at outputs.old.items output)) }
+    ensures account { account.new ≡ with_output account.old output
+        (numbers_with view (lane_at outputs.old.items output) (output_numbers account.old output)) }
 {
     let Some(metric) = view else {
         account.filtered(output as u32);
         return;
     };
-    let place = &mut outputs[output];
-    let dropped = place.push(metric);
+    let chosen = &mut outputs[output];
+    let dropped = chosen.push(metric);
     account.buffered(output as u32);
     if dropped {
         account.dropped(output as u32, 1);

@@ -1,5 +1,6 @@
 //! What a core keeps, and its entries.
-ghost use Rattle.std.specs.Prelude.{◌≡◌, ◌≤◌, ◌<◌, ◌+◌, [], length, map, true, false, IfOk, OnOk, OnErr, ◌↔◌, List, IsTrue, IsSome, slice_get};
+ghost use Rattle.std.specs.Prelude.{◌≡◌, ◌≤◌, ◌<◌, ◌+◌, [], length, map, true, false, IfOk, OnOk, OnErr, ◌↔◌};
+ghost use Rattle.std.specs.Prelude.{List, IsTrue, IsSome, slice_get};
 ghost use Rattle.std.specs.List.{All};
 ghost use Rattle.pipeline_core.specs.CoreState.{first_state, lane_of, lane_at};
 ghost use Rattle.account.specs.declared.entry.Entry.{Entry};
@@ -96,7 +97,8 @@ impl Core {
     pub fn stop(&mut self, moment: Moment) -> Result<(), OutOfMemory>
         requires { self.old.stopped ≡ false }
         ensures ok { OnOk result (self.new ≡ after_stop self.old moment) }
-        ensures stands { OnOk result (Continues self.old self.new (entries.Stop (int_max moment self.old.counted) [])) }
+        ensures stands { OnOk result
+            (Continues self.old self.new (entries.Stop (int_max moment self.old.counted) [])) }
         ensures err { OnErr result (self.new ≡ self.old) }
     {
         make_room(&mut self.stored, self.outputs.len())?;
@@ -111,7 +113,8 @@ impl Core {
 
     /// Takes the entries since the last cut, in order.
     pub fn cut(&mut self) -> Result<Vec<Entry>, CutAnswer>
-        ensures ok { IfOk result (λ entries. (entries.items ≡ self.old.stored) × (self.new ≡ after_cut self.old)) }
+        ensures ok { IfOk result
+            (λ entries. (entries.items ≡ self.old.stored) × (self.new ≡ after_cut self.old)) }
         ensures nothing { (result ≡ Err CutAnswer.NothingNew) ↔ (self.old.stored ≡ []) }
         ensures stands { (journal : List Entry) → Stands self.old journal → Stands self.new journal }
         ensures err { OnErr result (self.new ≡ self.old) }
@@ -158,7 +161,8 @@ impl Core {
 
     /// Whether the output is one of the core's and its batch is in flight.
     pub fn is_in_flight(&self, output: u32) -> bool
-        ensures { IsTrue result ↔ ((output < length self.now.setup.outputs) × IsSome (lane_at self.now.lanes output).flight) }
+        ensures { IsTrue result
+            ↔ ((output < length self.now.setup.outputs) × IsSome (lane_at self.now.lanes output).flight) }
     {
         match self.outputs.get(output as usize) {
             Some(output) => output.is_in_flight(),
@@ -177,7 +181,8 @@ impl Core {
     /// What was counted.
     pub fn account(&self) -> &Account
         ensures numbers { result.now ≡ self.now.numbers }
-        ensures totals { (journal : List Entry) → Stands self.now journal → result.now ≡ totals self.now.setup journal }
+        ensures totals { (journal : List Entry) → Stands self.now journal →
+            result.now ≡ totals self.now.setup journal }
     {
         &self.account
     }

@@ -202,61 +202,68 @@ fn news(alloc: Global, core: &mut Core) -> Result<String, Fail> {
     Ok(text)
 }
 
-/// The calls of a run. At output 0 two wait at most, so that the failed batch of two loses its first metric.
-fn calls() -> [Call; 26] {
+/// A call, and the entries that come of it.
+#[derive(Clone, Copy)]
+struct Case {
+    call: Call,
+    entries: &'static str,
+}
+
+fn row(call: Call, entries: &'static str) -> Case {
+    Case { call, entries }
+}
+
+/// A run. At output 0 two wait at most, so that the failed batch of two loses its first metric.
+fn cases() -> [Case; 26] {
     [
-        Call::Gather(0, 3),
-        Call::Begin(0),
-        Call::Take,
-        Call::Take,
-        Call::Pass(true, true),
-        Call::Take,
-        Call::Pass(true, false),
-        Call::Begin(0),
-        Call::Begin(0),
-        Call::Take,
-        Call::Pass(true, true),
-        Call::Done(0, false),
-        Call::Gather(1, 2),
-        Call::Take,
-        Call::Remove,
-        Call::Begin(0),
-        Call::Done(0, true),
-        Call::Begin(1),
-        Call::Done(1, true),
-        Call::Ended(0),
-        Call::Stop(50),
-        Call::Take,
-        Call::Pass(false, true),
-        Call::Take,
-        Call::Begin(1),
-        Call::Begin(0),
+        row(Call::Gather(0, 3), "gather 0 3"),
+        row(Call::Begin(0), ""),
+        row(Call::Take, "take 0"),
+        row(Call::Take, ""),
+        row(Call::Pass(true, true), "route 0 vv"),
+        row(Call::Take, "take 1"),
+        row(Call::Pass(true, false), "route 1 v-"),
+        row(Call::Begin(0), "begin 0 0 2"),
+        row(Call::Begin(0), ""),
+        row(Call::Take, "take 2"),
+        row(Call::Pass(true, true), "route 2 vv"),
+        row(Call::Done(0, false), "done 0 false"),
+        row(Call::Gather(1, 2), "gather 1 2"),
+        row(Call::Take, "take 3"),
+        row(Call::Remove, "route 3 removed"),
+        row(Call::Begin(0), "begin 0 1 3"),
+        row(Call::Done(0, true), "done 0 true"),
+        row(Call::Begin(1), "begin 1 0 1"),
+        row(Call::Done(1, true), "done 1 true"),
+        row(Call::Ended(0), "ended 0"),
+        row(Call::Stop(50), "stop 100"),
+        row(Call::Take, "take 4"),
+        row(Call::Pass(false, true), "route 4 -v"),
+        row(Call::Take, ""),
+        row(Call::Begin(1), "begin 1 1 2"),
+        row(Call::Begin(0), ""),
     ]
 }
 
-/// The entries of each call, a line for each.
-fn entries() -> &'static str {
-    "gather 0 3\n\ntake 0\n\nroute 0 vv\ntake 1\nroute 1 v-\nbegin 0 0 2\n\ntake 2\nroute 2 vv\ndone 0 false\ngather 1 2\ntake 3\nroute 3 removed\nbegin 0 1 3\ndone 0 true\nbegin 1 0 1\ndone 1 true\nended 0\nstop 100\ntake 4\nroute 4 -v\n\nbegin 1 1 2\n\n"
-}
-
-/// The numbers at the end.
-fn numbers() -> &'static [u8] {
-    b"input 0 pieces 3 refused 0 passed 0 filtered 0 gathered 3 ended\ninput 1 pieces 2 refused 0 passed 0 filtered 0 gathered 2 unread\nitems made 0 removed 1 routed 4\noutput 0 filtered 1 late 0 consumed 0 written 2 buffered 0 dropped 1\noutput 1 filtered 1 late 0 consumed 0 written 1 buffered 2 dropped 0\n"
+/// The account at the end.
+fn account_text() -> &'static str {
+    "input 0 pieces 3 refused 0 passed 0 filtered 0 gathered 3 ended\n\
+    input 1 pieces 2 refused 0 passed 0 filtered 0 gathered 2 unread\n\
+    items made 0 removed 1 routed 4\n\
+    output 0 filtered 1 late 0 consumed 0 written 2 buffered 0 dropped 1\n\
+    output 1 filtered 1 late 0 consumed 0 written 1 buffered 2 dropped 0\n"
 }
 
 #[test]
 fn two_inputs_and_two_outputs(rt: HostRuntime) -> Result<(), Fail> {
     let mut core = Core::new(rt.alloc(), setup(rt.alloc())?)?;
-    let mut text = String::new(rt.alloc());
-    for call in calls() {
-        make(rt.alloc(), &mut core, call)?;
+    for case in cases() {
+        make(rt.alloc(), &mut core, case.call)?;
         let news = news(rt.alloc(), &mut core)?;
-        text.push_str(news.as_str())?;
-        text.push_str("\n")?;
+        assert_eq!(rt; news.as_str(), case.entries);
     }
-    assert_eq!(rt; text.as_str(), entries());
     let mut account = Vec::new(rt.alloc());
     core.account().text(&mut account)?;
-    assert_eq!(rt; account.as_slice(), numbers());
+    assert_eq!(rt; account.as_slice(), account_text().as_bytes());
     Ok(())
 }

@@ -8,7 +8,9 @@ pub loop-i-init : goal.loop-i-init
 loop-i-init c = numbered-none output_line c.args.out.now.items
 
 pub loop-i-preserved : goal.loop-i-preserved
-loop-i-preserved c = numbered_step output_line c.args.outputs.now c.loop-i.i unreached_output c.args.out.now.items c.loop-i.out.items _ c.loop-i-test.true c.loop-i.invariant c.in_ok-append_output.ensures
+loop-i-preserved c =
+    numbered_step output_line c.args.outputs.now c.loop-i.i unreached_output c.args.out.now.items c.loop-i.out.items _ c.loop-i-test.true c.loop-i.invariant c.in_ok-append_output.ensures
 
 pub returns-in_err-append_output : goal.returns-in_err-append_output
-returns-in_err-append_output c = fails _ _ _ _ c.from_residual.ensures.0 (extends_after _ _ _ _ c.loop-i.invariant c.in_err-append_output.ensures)
+returns-in_err-append_output c =
+    fails _ _ _ _ c.from_residual.ensures.0 (extends_after _ _ _ _ c.loop-i.invariant c.in_err-append_output.ensures)

@@ -1,5 +1,6 @@
 use Rattle.text_parts.proofs.Adding.{fails}
-use Rattle.journal_text.proofs.MetricLemmas.{extends_by, extends_trans, IsCut, behind_front, escaped_end, escaped_more}
+use Rattle.journal_text.proofs.MetricLemmas.{extends_by, extends_trans, IsCut, behind_front, escaped_end}
+use Rattle.journal_text.proofs.MetricLemmas.{escaped_more}
 use Rattle.journal_text.proofs.metrics.append_escaped.Goals as goal
 
 pub returns-in-None : goal.returns-in-None

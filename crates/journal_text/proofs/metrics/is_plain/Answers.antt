@@ -8,7 +8,8 @@ use Rattle.journal_text.proofs.metrics.is_plain.Goals as goal
 from_table : (table : List ℕ) (b : ℕ) → b < 256
     → agree_below (λ k. not (nat_eq (get_or table k 0) 44)) is_plain 256 ≡ true
     → not (nat_eq (get_or table b 0) 44) ≡ is_plain b
-from_table table b fits same = agree_below_at (λ k. not (nat_eq (get_or table k 0) 44)) is_plain 256 b same fits
+from_table table b fits same =
+    agree_below_at (λ k. not (nat_eq (get_or table k 0) 44)) is_plain 256 b same fits
 
 pub returns : goal.returns
 unfolding is_plain

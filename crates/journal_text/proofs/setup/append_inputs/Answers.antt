@@ -8,7 +8,9 @@ pub loop-i-init : goal.loop-i-init
 loop-i-init c = numbered-none input_line c.args.out.now.items
 
 pub loop-i-preserved : goal.loop-i-preserved
-loop-i-preserved c = numbered_step input_line c.args.inputs.now c.loop-i.i None c.args.out.now.items c.loop-i.out.items _ c.loop-i-test.true c.loop-i.invariant c.in_ok-append_input.ensures
+loop-i-preserved c =
+    numbered_step input_line c.args.inputs.now c.loop-i.i None c.args.out.now.items c.loop-i.out.items _ c.loop-i-test.true c.loop-i.invariant c.in_ok-append_input.ensures
 
 pub returns-in_err-append_input : goal.returns-in_err-append_input
-returns-in_err-append_input c = fails _ _ _ _ c.from_residual.ensures.0 (extends_after _ _ _ _ c.loop-i.invariant c.in_err-append_input.ensures)
+returns-in_err-append_input c =
+    fails _ _ _ _ c.from_residual.ensures.0 (extends_after _ _ _ _ c.loop-i.invariant c.in_err-append_input.ensures)

@@ -11,7 +11,8 @@ use Rattle.pipeline_core.proofs.state.Core.gather.Goals as goal
 pub invariant_of-self-2 : goal.invariant_of-self-2
 invariant_of-self-2 c =
     record {
-      core = kept_gathered (core_state c.self.inside) c.args.g c.append.new.self.items c.gathered.new.self _ _ c.self.invariant.core
+      core =
+          kept_gathered (core_state c.self.inside) c.args.g c.append.new.self.items c.gathered.new.self _ _ c.self.invariant.core
           (omega (arith, ap length c.as_slice-count.ensures))
           (c.in_ok-append.ensures.items ∙ ap (λ (xs : List Content). c.self.inside.raw.items ++ xs) (c.in_ok-copies.ensures ∙ c.as_slice.ensures))
           (c.gathered.ensures ∙ ap (λ (xs : List Content). with_input c.self.inside.account c.args.g.input (gathered_more (input_numbers c.self.inside.account c.args.g.input) c.args.g.pieces c.args.g.refused c.args.g.passed c.args.g.filtered (length xs))) c.as_slice-count.ensures)

@@ -14,10 +14,12 @@ invariant_of-result c =
     let flags : c.in_ok-ended.ended.items ≡ replicate (length c.args.setup.inputs) false = c.in_ok-ended.ensures.items_if_clones_equal (λ y h. h) ∙ ap (λ (xs : List InSetup). replicate (length xs) false) c.as_slice-inputs.ensures in
     let count : c.len.result ≡ length c.args.setup.outputs = omega (arith, ap length lanes, length-map c.args.setup.outputs lane_of) in
     record {
-      core = kept_first c.args.setup c.new-2.result.items c.in_ok-outputs.outputs.items c.in_ok-account.account _ _ c.in_ok-ended.ended.items c.requires.outputs c.requires.untracked c.requires.sizes c.new-2.ensures.items lanes
+      core =
+          kept_first c.args.setup c.new-2.result.items c.in_ok-outputs.outputs.items c.in_ok-account.account _ _ c.in_ok-ended.ended.items c.requires.outputs c.requires.untracked c.requires.sizes c.new-2.ensures.items lanes
           (c.in_ok-account.ensures ∙ ap (λ (xs : List Bool). no_numbers xs c.len.result) (c.as_slice-2.ensures.value ∙ flags) ∙ ap (no_numbers (replicate (length c.args.setup.inputs) false)) count) flags;
       spare = omega (arith, spare_at_first c.args.setup.outputs c.in_ok-outputs.outputs.items lanes, c.new-3.ensures.len);
     }
 
 pub returns-clause-stands : goal.returns-clause-stands
-returns-clause-stands c = first_stands c.args.setup _ (grind (arith, common_steps)) c.requires.untracked c.requires.sizes
+returns-clause-stands c =
+    first_stands c.args.setup _ (grind (arith, common_steps)) c.requires.untracked c.requires.sizes

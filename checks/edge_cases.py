@@ -301,6 +301,11 @@ NO_FILES = [
         report=LINES + ACCOUNT,
     ),
     Case(
+        "a named pipe as the output",
+        "mkfifo pipe; cat pipe > got & hogzent pipe in pipe 10 100; status=$?; wait; rm pipe; exit $status",
+        after={"agent.journal": JOURNAL, "got": LINES},
+    ),
+    Case(
         "/dev/null twice",
         "hogzent pipe /dev/null /dev/null 10 100",
         {},
@@ -389,7 +394,7 @@ CASES = [*RUNS_WELL, *REFUSED_BY_PLACES, *REFUSED_BY_STREAMS, *NO_FILES, *CLOSED
 
 
 def lay(folder, files):
-    """Lays files, links and folders into a folder; hard links last."""
+    """Lays files, links and folders into a folder; links last."""
     for name, what in sorted(files.items(), key=lambda it: isinstance(it[1], Link)):
         path = os.path.join(folder, name)
         if isinstance(what, Folder):
@@ -426,9 +431,15 @@ def expected_in(case):
     return expected
 
 
+def shown(what):
+    """A value as it is printed, without its middle where it is long."""
+    text = repr(what)
+    return text if len(text) < 1_000 else f"{text[:400]} .. {text[-400:]}"
+
+
 def differences(*compared):
     """A text for each of the compared (name, found, expected) that differ."""
-    return [f"{name}: {found!r}, and not {wanted!r}" for name, found, wanted in compared if found != wanted]
+    return [f"{name}: {shown(it)}, and not {shown(wanted)}" for name, it, wanted in compared if it != wanted]
 
 
 def run_case(case, folder, program):

@@ -8,7 +8,7 @@ mod streams;
 use agent_base::{MemWorld, OpenFault, PutFault, Sink, StdSink, StdSource, World};
 pub use clock::RealClock;
 pub use files::{StandardStreams, open_standard};
-use files::{FileIdentity, OpenFiles};
+use files::{FileIdentity, OpenFiles, STANDARD_OUTPUT, StandardStream};
 use std::alloc::Global;
 use std::fs::{File, OpenOptions};
 use std::io::{Stdin, Stdout};
@@ -47,6 +47,23 @@ fn reader_at<R: Files<File = File>>(
     })
 }
 
+/// Standard output as what is written, or nowhere if it was closed as the run began. A regular file behind it
+/// is opened once more, by the link that leads to the open file, since its length is asked for at an open file.
+fn standard_writer<R: Files<File = File>>(
+    rt: &R,
+    stdout: Stdout,
+    output: StandardStream,
+) -> Writer {
+    if output.was_closed {
+        return Writer::nowhere();
+    }
+    if output.file.is_none() {
+        return Writer::standard(stdout, None);
+    }
+    let regular = OpenOptions::new().write(true).open(rt, STANDARD_OUTPUT);
+    Writer::standard(stdout, regular.ok())
+}
+
 /// What is written at a place, where it can be opened, and is no regular file that is open. No byte of a
 /// file that is there changes.
 fn writer_at<R: Files<File = File>>(
@@ -61,7 +78,7 @@ fn writer_at<R: Files<File = File>>(
             return None;
         }
         return Some(Opened {
-            stream: Writer::standard(stdout, output.file.is_some()),
+            stream: standard_writer(rt, stdout, output),
             file: output.file,
         });
     }
@@ -78,15 +95,6 @@ fn writer_at<R: Files<File = File>>(
         stream: Writer::file(opened, file.is_some()),
         file,
     })
-}
-
-/// Where the report goes: to standard output, or nowhere if that was closed as the run began.
-fn report_writer(stdout: Stdout, standard: StandardStreams) -> Writer {
-    if standard.output.was_closed {
-        Writer::nowhere()
-    } else {
-        Writer::standard(stdout, standard.output.file.is_some())
-    }
 }
 
 /// A part whose file is made empty, if it wasn't yet; whether that failed.
@@ -146,7 +154,7 @@ impl<'r, R: Files<File = File> + std::rt::Clock + Sync> RealWorld<'r, R> {
             has_begun: false,
             not_emptied: 0,
             parts: MemWorld::new(alloc),
-            report: StdSink::new(report_writer(stdout, standard)),
+            report: StdSink::new(standard_writer(rt, stdout, standard.output)),
         }
     }
 

@@ -10,6 +10,14 @@ use std::rt::Files;
 /// The last of the descriptors of the standard streams.
 const LAST_STANDARD: RawFd = 2;
 
+/// The links by which the system shows what stands behind the standard streams: each leads to the open file, and
+/// not to what bears its name by now.
+const STANDARD_INPUT: &str = "/proc/self/fd/0";
+
+pub const STANDARD_OUTPUT: &str = "/proc/self/fd/1";
+
+const STANDARD_ERROR: &str = "/proc/self/fd/2";
+
 /// Which regular file an open file is, by whatever name it was opened: its device, and its number there.
 #[derive(Clone, Copy, Debug, PartialEq, Eq)]
 pub struct FileIdentity {
@@ -76,8 +84,7 @@ fn fill_standard<R: Files<File = File>>(rt: &R) -> io::Result<[bool; 3]> {
     Ok(was_closed)
 }
 
-/// What stands behind a descriptor, given the link by which the system shows it: the open file, and not
-/// what bears its name by now.
+/// What stands behind a descriptor, given its link.
 fn stream_at<R: Files>(rt: &R, link: &str, was_closed: bool) -> io::Result<StandardStream> {
     let found = fs::metadata(rt, link)?;
     Ok(StandardStream {
@@ -91,9 +98,9 @@ fn stream_at<R: Files>(rt: &R, link: &str, was_closed: bool) -> io::Result<Stand
 pub fn open_standard<R: Files<File = File>>(rt: &R) -> io::Result<StandardStreams> {
     let [input, output, error] = fill_standard(rt)?;
     Ok(StandardStreams {
-        input: stream_at(rt, "/proc/self/fd/0", input)?,
-        output: stream_at(rt, "/proc/self/fd/1", output)?,
-        error: stream_at(rt, "/proc/self/fd/2", error)?,
+        input: stream_at(rt, STANDARD_INPUT, input)?,
+        output: stream_at(rt, STANDARD_OUTPUT, output)?,
+        error: stream_at(rt, STANDARD_ERROR, error)?,
     })
 }
 

@@ -53,23 +53,26 @@ impl Read for Reader {
     }
 }
 
-/// Where bytes go: nowhere, since standard output was closed as the run began; to standard output; or to a
-/// file.
+/// Where bytes go.
 #[derive(Drop)]
 enum Target {
+    /// Nowhere, since standard output was closed as the run began: each write fails.
     Nowhere,
-    Standard(Stdout),
-    File(File),
+    /// Standard output, and the regular file behind it, opened once more.
+    Standard(Stdout, Option<File>),
+    /// A device or a pipe.
+    Stream(File),
+    /// A regular file.
+    Regular(File),
 }
 
 /// What is written. Where a write would block it waits.
 ///
-/// A file that was there before is made empty at the first write of all bytes, or by `make_empty`. Where a
-/// write of all bytes to a regular file fails behind a part of them, the part is taken back.
+/// A regular file that was there before is made empty at the first write of all bytes, or by `make_empty`.
+/// Where a write of all bytes to a regular file fails behind a part of them, the part is taken back.
 #[derive(Drop)]
 pub struct Writer {
     target: Target,
-    is_regular: bool,
     is_to_be_emptied: bool,
 }
 
@@ -78,16 +81,14 @@ impl Writer {
     pub fn nowhere() -> Writer {
         Writer {
             target: Target::Nowhere,
-            is_regular: false,
             is_to_be_emptied: false,
         }
     }
 
-    /// Standard output, which keeps what it holds; whether a regular file stands behind it is told.
-    pub fn standard(stdout: Stdout, is_regular: bool) -> Writer {
+    /// Standard output, which keeps what it holds, and the regular file behind it, opened once more to write.
+    pub fn standard(stdout: Stdout, regular: Option<File>) -> Writer {
         Writer {
-            target: Target::Standard(stdout),
-            is_regular,
+            target: Target::Standard(stdout, regular),
             is_to_be_emptied: false,
         }
     }
@@ -95,8 +96,11 @@ impl Writer {
     /// A file that was opened at its first byte, and whether it is a regular one.
     pub fn file(file: File, is_regular: bool) -> Writer {
         Writer {
-            target: Target::File(file),
-            is_regular,
+            target: if is_regular {
+                Target::Regular(file)
+            } else {
+                Target::Stream(file)
+            },
             is_to_be_emptied: is_regular,
         }
     }
@@ -104,8 +108,18 @@ impl Writer {
     fn descriptor(&self) -> Option<RawFd> {
         match &self.target {
             Target::Nowhere => None,
-            Target::Standard(stdout) => Some(stdout.as_raw_fd()),
-            Target::File(file) => Some(file.as_raw_fd()),
+            Target::Standard(stdout, _) => Some(stdout.as_raw_fd()),
+            Target::Stream(file) => Some(file.as_raw_fd()),
+            Target::Regular(file) => Some(file.as_raw_fd()),
+        }
+    }
+
+    fn regular(&self) -> Option<&File> {
+        match &self.target {
+            Target::Nowhere => None,
+            Target::Standard(_, regular) => regular.as_ref(),
+            Target::Stream(_) => None,
+            Target::Regular(file) => Some(file),
         }
     }
 
@@ -114,15 +128,16 @@ impl Writer {
     {
         match &mut self.target {
             Target::Nowhere => Err(io::Error::from(ErrorKind::BrokenPipe)),
-            Target::Standard(stdout) => stdout.write(buf),
-            Target::File(file) => file.write(buf),
+            Target::Standard(stdout, _) => stdout.write(buf),
+            Target::Stream(file) => file.write(buf),
+            Target::Regular(file) => file.write(buf),
         }
     }
 
     /// Makes a file empty that was there before, unless that was done.
     pub fn make_empty(&mut self) -> io::Result<()> {
         if self.is_to_be_emptied {
-            if let Target::File(file) = &self.target {
+            if let Some(file) = self.regular() {
                 file.set_len(0)?;
             }
             self.is_to_be_emptied = false;
@@ -130,33 +145,26 @@ impl Writer {
         Ok(())
     }
 
-    /// Takes the last bytes that were written to a regular file back, as far as that is possible.
-    fn take_back(&mut self, count: usize) {
-        if !self.is_regular || count == 0 {
+    /// How long the regular file is.
+    fn length(&self) -> Option<u64> {
+        let found = self.regular()?.metadata().ok()?;
+        Some(found.len())
+    }
+
+    /// Takes so many bytes back that were written behind the end of a regular file, given how long it was: cuts
+    /// them off, and goes back to where they began. Where they stand elsewhere, or something else was written
+    /// meanwhile, they stay.
+    fn take_back(&self, length: u64, count: usize) {
+        if count == 0 || self.length() != length.checked_add(count as u64) {
             return;
         }
-        if let Some(descriptor) = self.descriptor() {
-            cut_back(descriptor, count);
+        let (Some(file), Some(descriptor)) = (self.regular(), self.descriptor()) else {
+            return;
+        };
+        if let (Ok(()), Ok(end)) = (file.set_len(length), i64::try_from(length)) {
+            libc::lseek(descriptor, end, libc::SEEK_SET);
         }
     }
-}
-
-/// Cuts the bytes before the position of a regular file off and goes back to where they began. What another
-/// program wrote behind them meanwhile is left, and they with it; then the next write takes their place,
-/// unless the descriptor appends.
-fn cut_back(descriptor: RawFd, count: usize) {
-    let end = libc::lseek(descriptor, 0, libc::SEEK_CUR);
-    let Ok(count) = i64::try_from(count) else {
-        return;
-    };
-    if end < count {
-        return;
-    }
-    let start = end - count;
-    if libc::lseek(descriptor, 0, libc::SEEK_END) == end {
-        libc::ftruncate(descriptor, start);
-    }
-    libc::lseek(descriptor, start, libc::SEEK_SET);
 }
 
 impl Write for Writer {
@@ -179,6 +187,7 @@ impl Write for Writer {
 
     fn write_all(&mut self, buf: &[u8]) -> io::Result<()> {
         self.make_empty()?;
+        let length = self.length();
         let mut rest = buf;
         for _ in 0..u64::MAX {
             if rest.is_empty() {
@@ -191,7 +200,9 @@ impl Write for Writer {
                 Err(_) => break,
             }
         }
-        self.take_back(buf.len() - rest.len());
+        if let Some(length) = length {
+            self.take_back(length, buf.len() - rest.len());
+        }
         Err(io::Error::from(ErrorKind::WriteZero))
     }
 }

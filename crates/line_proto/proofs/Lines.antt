@@ -22,7 +22,7 @@ use Rattle.metric.specs.Building.{Parts, finished, Finishes}
 use Rattle.metric.specs.Pairs.{has_empty_key, with_values, with_pair, in_first_order, in_first_order_on}
 use Rattle.line_proto.specs.declared.fault.LineFault.{LineFault}
 use Rattle.line_proto.specs.declared.fault.LineKind.TheVariants.{NotUtf8, NoFields}
-use Rattle.line_proto.specs.Reading.{Tag, Field, fault, behind_spaces, field_at, fields_at, name_at, tags_at, spaced_fields_at, time_at, line_at, limited, metric_at, text_reading, reading, plain_reading, needs_escapes}
+use Rattle.line_proto.specs.Reading.{Tag, Field, fault, behind_spaces, field_at, fields_at, name_at, tags_at, spaced_fields_at, time_at, line_at, limited, metric_at, text_reading, reading, needs_escapes}
 use Rattle.std.proofs.lemmas.Int.{to_z-of_z}
 use mir.Val.{SFits, of_z, to_z}
 use mir.Syntax.{w64}
@@ -124,15 +124,15 @@ ready piece k l draft tags fields name is filled read s = record {
 
 -- ---- the piece
 
-pub not_utf8 : (piece : List ℕ) (n : ℕ) (moment : ℤ) → needs_escapes piece ≡ false → ¬ (IsUtf8 piece) → utf8_valid_len piece ≡ n → plain_reading piece moment ≡ Err (record { kind = NotUtf8; place = n })
+pub not_utf8 : (piece : List ℕ) (n : ℕ) (moment : ℤ) → ¬ (IsUtf8 piece) → utf8_valid_len piece ≡ n → reading piece moment ≡ Err (record { kind = NotUtf8; place = n })
 unfolding reading
-not_utf8 piece n moment plain not len =
+not_utf8 piece n moment not len =
     let none : is_utf8 piece ≡ false = elim (is_utf8 piece) as (λ t. is_utf8 piece ≡ t → t ≡ false) [ true ↦ λ e. absurd (not (IsUtf8-from_is_utf8 piece e)) | false ↦ λ e. refl ] refl in
-    rw (plain, none, len) refl
+    rw (none, len) refl
 
-pub read_utf8 : (piece : List ℕ) (moment : ℤ) → needs_escapes piece ≡ false → IsUtf8 piece → plain_reading piece moment ≡ text_reading piece moment
+pub read_utf8 : (piece : List ℕ) (moment : ℤ) → IsUtf8 piece → reading piece moment ≡ text_reading piece moment
 unfolding reading
-read_utf8 piece moment plain u = rw (plain, is_utf8-from_IsUtf8 piece u) refl
+read_utf8 piece moment u = rw (is_utf8-from_IsUtf8 piece u) refl
 
 -- ---- pieces without a backslash and a double quote
 

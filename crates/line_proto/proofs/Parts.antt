@@ -1,44 +1,49 @@
 -- Parts of a line without a backslash.
-use Rattle.std.proofs.Common.{◌≡◌, ℕ, zero, suc, ◌+◌, ◌<◌, Bool, true, false, cond, ltb, eqb, List, length, take, drop, Option, Some, None, get_or, add-zero, subst, refl, sym, ◌∙◌, arith, inl, inr}
+use Rattle.std.proofs.Common.{◌≡◌, ℕ, zero, suc, ◌+◌, ◌<◌, Bool, true, false, cond, ltb, eqb, List, length, take, drop, Option, Some, None, get_or, add-zero, subst, refl, sym, ap, ◌∙◌, arith, inl, inr}
 use Rattle.std.specs.Prelude.{◌==◌, ◌||◌, not, unwrap_or}
 use Rattle.std.specs.List.{position, position_or_len, prefix_len}
-use Rattle.std.proofs.lemmas.Bool.{eqb-true, ltb-false}
+use Rattle.std.proofs.lemmas.Bool.{eqb-true, ltb-true, ltb-false}
 use Rattle.std.specs.Str.{IsUtf8, IsCharBoundary}
 use Rattle.std.proofs.lemmas.Str.{IsCharBoundary-after_ascii}
-use Rattle.std.proofs.lemmas.List.{get_or-drop, length-drop}
+use Rattle.std.proofs.lemmas.List.{get_or-drop, get_or_past, length-drop}
 use Rattle.std.proofs.lemmas.List.Sums.{prefix_len_passes}
-use Rattle.text_parts.specs.Part.{Kind, IsPartAt}
-use Rattle.text_parts.specs.Bare.{IsBare}
-use Rattle.text_parts.proofs.Bare.{position_or_len_le, bare_from, bare_part, bare_boundary}
+use Rattle.text_parts.specs.Part.{Kind}
+use Rattle.text_parts.specs.Kinds.{kind_of}
+use Rattle.text_parts.proofs.Bare.{position_or_len_le}
 use Rattle.text_parts.proofs.Utf8.{EndsLow, either}
-use Rattle.line_proto.specs.Kinds.{name_part, key_part}
+use Rattle.line_proto.specs.Kinds.{name_part, key_part, tag_value_part, text_part, value_part}
+use Rattle.line_proto.specs.declared.read_parts.TheConstants.{NAME, KEY, TAG_VALUE, TEXT}
 
--- the first place that passes, or the length
-pub position_or_all : (p : ℕ → Bool) (bs : List ℕ) → unwrap_or (position p bs) (length bs) ≡ position_or_len p bs
-position_or_all p bs = elim (ltb (position_or_len p bs) (length bs)) as (λ t. ltb (position_or_len p bs) (length bs) ≡ t → unwrap_or (cond t (Some (position_or_len p bs)) None) (length bs) ≡ position_or_len p bs) [
-  | true ↦ λ e. refl
-  | false ↦ λ e. omega (arith, ltb-false (position_or_len p bs) (length bs) e, position_or_len_le p bs)
-] refl
+pub value_low : EndsLow value_part
+value_low b e = elim (either (eqb b 44) (eqb b 32) e) [ inl x ↦ omega (arith, eqb-true b 44 x) | inr y ↦ omega (arith, eqb-true b 32 y) ]
 
-pub name_low : EndsLow name_part
-name_low b e = elim (either (eqb b 44) (eqb b 32) e) [ inl x ↦ omega (arith, eqb-true b 44 x) | inr y ↦ omega (arith, eqb-true b 32 y) ]
+-- ---- the kinds of parts, as the code gives them
 
-pub key_low : EndsLow key_part
-key_low b e = elim (either (eqb b 61 || eqb b 44) (eqb b 32) e) [
-  | inl x ↦ elim (either (eqb b 61) (eqb b 44) x) [ inl z ↦ omega (arith, eqb-true b 61 z) | inr w ↦ omega (arith, eqb-true b 44 w) ]
-  | inr y ↦ omega (arith, eqb-true b 32 y)
-]
+same_kind : (k j : Kind) → ((b : ℕ) → k.ends b ≡ j.ends b) → ((b : ℕ) → k.escapes b ≡ j.escapes b) → ((b : ℕ) → k.means b ≡ j.means b)
+    → k ≡ j
+same_kind k j ends escapes means = λ i. record { ends = λ b. ends b i; escapes = λ b. escapes b i; means = λ b. means b i }
 
--- the first place that passes is found in what stands behind a place
-pub found_len : (p : ℕ → Bool) (piece rest bytes : List ℕ) (i r : ℕ) (found : Option ℕ) → rest ≡ drop i piece → bytes ≡ rest → found ≡ position p bytes → r ≡ unwrap_or found (length rest) → r ≡ position_or_len p (drop i piece)
-found_len p piece rest bytes i r found behind same is unwrapped = unwrapped ∙ rw (is, same, behind) (position_or_all p (drop i piece))
+-- a last test that was made before
+once_more : (a b : Bool) → ((a || b) || b) ≡ (a || b)
+once_more true b = refl
+once_more false true = refl
+once_more false false = refl
 
--- a character ends there
-pub found_boundary : (k : Kind) → EndsLow k → (piece rest : List ℕ) (i r : ℕ) → IsBare piece → rest ≡ drop i piece → r ≡ position_or_len k.ends (drop i piece) → IsCharBoundary rest r
-found_boundary k low piece rest i r bare behind is = rw (behind, is) (bare_boundary k low (drop i piece) (bare_from piece i bare))
+twice : (a : Bool) → ((a || a) || a) ≡ a
+twice true = refl
+twice false = refl
 
-pub found_part : (k : Kind) (piece rest text : List ℕ) (i r : ℕ) → IsBare piece → rest ≡ drop i piece → r ≡ position_or_len k.ends (drop i piece) → text ≡ take r rest → IsPartAt k piece i text
-found_part k piece rest text i r bare behind is cut = bare_part k piece i text bare (cut ∙ rw (is, behind) refl)
+pub name_kind : kind_of NAME ≡ name_part
+name_kind = same_kind (kind_of NAME) name_part (λ b. once_more (b == 44) (b == 32)) (λ b. once_more (b == 44) (b == 32)) (λ b. refl)
+
+pub key_kind : kind_of KEY ≡ key_part
+key_kind = refl
+
+pub tag_value_kind : kind_of TAG_VALUE ≡ tag_value_part
+tag_value_kind = same_kind (kind_of TAG_VALUE) tag_value_part (λ b. once_more (b == 44) (b == 32)) (λ b. refl) (λ b. refl)
+
+pub text_kind : kind_of TEXT ≡ text_part
+text_kind = same_kind (kind_of TEXT) text_part (λ b. twice (b == 34)) (λ b. once_more (b == 34) (b == 92)) (λ b. refl)
 
 not_not : (b : Bool) → not (not b) ≡ true → b ≡ true
 not_not true e = refl
@@ -60,3 +65,16 @@ spaces_boundary piece i u at = by_len (position_or_len (λ b. not (b == 32)) (dr
 -- what is true of a text's bytes is true of the text
 pub at_text : (text bytes : List ℕ) (i r : ℕ) → bytes ≡ text → IsUtf8 text → IsCharBoundary text i → (IsUtf8 bytes → IsCharBoundary bytes i → IsCharBoundary bytes r) → IsCharBoundary text r
 at_text text bytes i r same u at h = subst (λ (l : List ℕ). IsCharBoundary l r) same (h (subst IsUtf8 (sym same) u) (subst (λ (l : List ℕ). IsCharBoundary l i) (sym same) at))
+
+-- behind an ASCII byte a character ends
+pub byte_boundary : (piece bytes : List ℕ) (at b : ℕ) → bytes ≡ piece → 0 < b → b < 128 → IsUtf8 piece
+    → (get_or bytes at 0 == b) ≡ true → IsCharBoundary piece (at + 1)
+byte_boundary piece bytes at b same some low u e =
+    let is : get_or piece at 0 ≡ b = ap (λ (l : List ℕ). get_or l at 0) (sym same) ∙ eqb-true (get_or bytes at 0) b e in
+    IsCharBoundary-after_ascii piece at u (within piece at (omega (arith, is))) (omega (arith, is))
+  where
+    within : (piece : List ℕ) (at : ℕ) → 0 < get_or piece at 0 → at < length piece
+    within piece at some = elim (ltb at (length piece)) as (λ t. ltb at (length piece) ≡ t → at < length piece) [
+      | true ↦ λ lt. ltb-true at (length piece) lt
+      | false ↦ λ ge. absurd (omega (arith, get_or_past piece at 0 (ltb-false at (length piece) ge)))
+    ] refl

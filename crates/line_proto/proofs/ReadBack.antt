@@ -11,7 +11,7 @@ use Rattle.metric.specs.Pairs.{in_key_order, in_first_order, with_values}
 use Rattle.line_proto.specs.declared.fault.LineFault.{LineFault}
 use Rattle.line_proto.specs.Grammar.{HasNone, ends_word, ends_key, IsMadeOf, Written, pair_text, pairs_text, line_spelling, IsTag, IsField, AllAre, IsLine}
 use Rattle.line_proto.specs.LineText.{value_text, tag_text, field_text, head_text, line_text}
-use Rattle.line_proto.specs.Reading.{Tag, Field, Line, content_of, needs_escapes, reading, plain_reading}
+use Rattle.line_proto.specs.Reading.{Tag, Field, Line, content_of, needs_escapes, reading}
 use Rattle.line_proto.specs.OneLine.{ends_line}
 use Rattle.line_proto.specs.RoundTrip.{is_name_mark, is_key_mark, IsPlainKey, IsNoText, IsPlain}
 use Rattle.line_proto.proofs.KeptPairs.{sorted_stay, distinct_stay, filled_stay, few}
@@ -144,12 +144,9 @@ content_is m is =
     ap (λ (ts : List Tag). record { name = m.name; tags = ts; fields = in_first_order m.fields; time = m.time }) tags
     ∙ ap (λ (fs : List Field). record { name = m.name; tags = m.tags; fields = fs; time = m.time }) fields
 
-plainly : (text : List ℕ) (moment : ℤ) (r : Result (Option Content) LineFault) → needs_escapes text ≡ false → reading text moment ≡ r → plain_reading text moment ≡ r
-plainly text moment r none is = rw none is
-
 -- what is told of a metric's line
 abbrev Told : Content → ℤ → Type 0
-Told m moment = (line : List ℕ) × (line_text m ≡ line ++ codes "\n") × HasNone ends_line line × (plain_reading line moment ≡ Ok (Some m))
+Told m moment = (line : List ℕ) × (line_text m ≡ line ++ codes "\n") × HasNone ends_line line × (reading line moment ≡ Ok (Some m))
 
 told : (name : List ℕ) (tags : List Tag) (fields : List Field) (time moment : ℤ) → IsMetric (made name tags fields time) → IsPlain (made name tags fields time)
     → Told (made name tags fields time) moment
@@ -162,7 +159,7 @@ told name tags (field ∷ fields) time moment is plain =
     let count = few tags (field ∷ fields) (sorted_stay tags is.sorted) (distinct_stay (field ∷ fields) is.distinct) plain.few_tags plain.few_fields in
     let escapes = clean_escapes (line_spelling w) clean in
     let read = written_is_read w line moment (line_is_line name tags field fields time moment is plain) escapes clean.utf8 count in
-    (line_spelling w, line_is_spelled name tags field fields time is plain, clean_line (line_spelling w) clean, plainly (line_spelling w) moment (Ok (Some m)) escapes (read ∙ ap (λ (content : Content). Ok (Some content)) (content_is m is)))
+    (line_spelling w, line_is_spelled name tags field fields time is plain, clean_line (line_spelling w) clean, read ∙ ap (λ (content : Content). Ok (Some content)) (content_is m is))
 
-pub is_read_back : (m : Content) (moment : ℤ) → IsMetric m → IsPlain m → (line : List ℕ) × (line_text m ≡ line ++ codes "\n") × HasNone ends_line line × (plain_reading line moment ≡ Ok (Some m))
+pub is_read_back : (m : Content) (moment : ℤ) → IsMetric m → IsPlain m → (line : List ℕ) × (line_text m ≡ line ++ codes "\n") × HasNone ends_line line × (reading line moment ≡ Ok (Some m))
 is_read_back m moment is plain = told m.name m.tags m.fields m.time moment is plain

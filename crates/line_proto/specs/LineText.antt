@@ -3,6 +3,7 @@ use Rattle.std.specs.Prelude.{◌==◌, ◌||◌, ◌&&◌, not, ◌-◌, ℕ, B
 use Rattle.std.specs.Prelude.{flat_map, codes, if◌then◌else◌}
 use Rattle.std.specs.List.{list_any, suffix_len, join_by}
 use Rattle.std.specs.Fmt.{decimal, signed_decimal}
+use Rattle.text_parts.specs.Bytes.{newline, carriage_return, space, hash, backslash, underscore}
 use Rattle.fixed_num.specs.Canonical.{canonical_text}
 use Rattle.metric.specs.declared.value.Value.{Value}
 use Rattle.metric.specs.declared.value.Value.TheVariants.{Int, Uint, Fixed, «Bool» as Truth, Text}
@@ -10,7 +11,7 @@ use Rattle.metric.specs.declared.metric.Content.{Content}
 
 -- a byte; a space in place of a newline or a carriage return
 abbrev pub spaced : ℕ → ℕ
-spaced b = if b == 10 || b == 13 then 32 else b
+spaced b = if b == newline || b == carriage_return then space else b
 
 -- a text in one line
 abbrev pub on_one_line : List ℕ → List ℕ
@@ -18,25 +19,25 @@ on_one_line text = map spaced text
 
 -- a text without the backslashes at its end
 abbrev pub trimmed : List ℕ → List ℕ
-trimmed text = take (length text - suffix_len (λ b. b == 92) text) text
+trimmed text = take (length text - suffix_len (λ b. b == backslash) text) text
 
 -- a text; `_` in place of none
 abbrev pub or_underscore : List ℕ → List ℕ
-or_underscore [] = 95 ∷ []
+or_underscore [] = underscore ∷ []
 or_underscore (b ∷ bs) = b ∷ bs
 
 -- a text that begins no comment: `_` in place of a `#` at its front
 abbrev pub without_hash : List ℕ → List ℕ
 without_hash [] = []
-without_hash (b ∷ bs) = (if b == 35 then 95 else b) ∷ bs
+without_hash (b ∷ bs) = (if b == hash then underscore else b) ∷ bs
 
 -- a byte, behind a backslash where it is one of the marks
 abbrev pub escaped_byte : List ℕ → ℕ → List ℕ
-escaped_byte marks b = if list_any (λ mark. mark == b) marks then 92 ∷ b ∷ [] else b ∷ []
+escaped_byte marks b = if list_any (λ mark. mark == b) marks then backslash ∷ b ∷ [] else b ∷ []
 
 -- a byte that is written as it is
 abbrev pub is_bare : List ℕ → ℕ → Bool
-is_bare marks b = not (b == 10) && not (b == 13) && not (list_any (λ mark. mark == b) marks)
+is_bare marks b = not (b == newline) && not (b == carriage_return) && not (list_any (λ mark. mark == b) marks)
 
 -- a text with its marks escaped
 unfoldable pub escaped : List ℕ → List ℕ → List ℕ

@@ -4,6 +4,7 @@ use Rattle.std.specs.Prelude.{None, Result, Ok, Err, slice_index, nat_lt, if◌t
 use Rattle.std.specs.List.{position_or_len, list_any}
 use Rattle.std.specs.Str.{is_utf8}
 use Rattle.std.specs.Str.Lossy.{utf8_valid_len}
+use Rattle.text_parts.specs.Bytes.{space, double_quote, hash, comma, equals_sign}
 use Rattle.text_parts.specs.Chain.{◌>>=◌}
 use Rattle.text_parts.specs.Part.{len_at, text_at}
 use Rattle.text_parts.specs.Many.{items_at}
@@ -14,7 +15,7 @@ use Rattle.metric.specs.Pairs.{in_key_order, in_first_order, with_values}
 use Rattle.line_proto.specs.declared.fault.LineFault.{LineFault}
 use Rattle.line_proto.specs.declared.fault.LineKind.{LineKind}
 use Rattle.line_proto.specs.declared.fault.LineKind.TheVariants.{NoFields, BadKey, BadValue, BadTime, NotUtf8}
-use Rattle.line_proto.specs.declared.fault.LineKind.TheVariants.{TooMany, NotBuilt}
+use Rattle.line_proto.specs.declared.fault.LineKind.TheVariants.{TooMany}
 use Rattle.line_proto.specs.Kinds.{name_part, key_part, tag_value_part, text_part, value_part}
 use Rattle.line_proto.specs.Values.{value_of, time_of}
 
@@ -36,19 +37,26 @@ placed place (Err kind) = fault kind place
 
 -- behind the spaces that stand at a place
 abbrev pub behind_spaces : List ℕ → ℕ → ℕ
-behind_spaces piece i = i + position_or_len (λ b. not (b == 32)) (drop i piece)
+behind_spaces piece i = i + position_or_len (λ b. not (b == space)) (drop i piece)
 
 -- a measurement, which isn't empty; each of these gives what begins at a place, and the place behind it
 unfoldable pub name_at : List ℕ → ℕ → Result (List ℕ × ℕ) LineFault
-name_at piece i = if len_at name_part piece i == 0 then fault BadKey i else Ok (text_at name_part piece i, i + len_at name_part piece i)
+name_at piece i =
+    if len_at name_part piece i == 0 then fault BadKey i
+    else Ok (text_at name_part piece i, i + len_at name_part piece i)
 
 -- a key, which isn't empty, and the equals sign behind it
 unfoldable pub key_at : List ℕ → ℕ → Result (List ℕ × ℕ) LineFault
-key_at piece i = if len_at key_part piece i == 0 || not (slice_index piece (i + len_at key_part piece i) == 61) then fault BadKey i else Ok (text_at key_part piece i, i + len_at key_part piece i + 1)
+key_at piece i =
+    if len_at key_part piece i == 0 || not (slice_index piece (i + len_at key_part piece i) == equals_sign)
+    then fault BadKey i
+    else Ok (text_at key_part piece i, i + len_at key_part piece i + 1)
 
 -- a tag's value, which isn't empty
 unfoldable pub tag_value_at : List ℕ → ℕ → Result (List ℕ × ℕ) LineFault
-tag_value_at piece i = if len_at tag_value_part piece i == 0 then fault BadValue i else Ok (text_at tag_value_part piece i, i + len_at tag_value_part piece i)
+tag_value_at piece i =
+    if len_at tag_value_part piece i == 0 then fault BadValue i
+    else Ok (text_at tag_value_part piece i, i + len_at tag_value_part piece i)
 
 -- a tag
 unfoldable pub tag_at : List ℕ → ℕ → Result (Tag × ℕ) LineFault
@@ -59,13 +67,14 @@ tag_at piece i = do
 
 -- at a comma, at a space or at the end
 abbrev pub is_value_end : List ℕ → ℕ → Bool
-is_value_end piece i = i == length piece || slice_index piece i == 44 || slice_index piece i == 32
+is_value_end piece i = i == length piece || slice_index piece i == comma || slice_index piece i == space
 
 -- a text between double quotes, of which the first stands at the place
 unfoldable pub text_value_at : List ℕ → ℕ → Result (Value × ℕ) LineFault
 text_value_at piece i =
     let close = i + 1 + len_at text_part piece (i + 1) in
-    if not (slice_index piece close == 34) || not (is_value_end piece (close + 1)) then fault BadValue i else Ok (values.Text (text_at text_part piece (i + 1)), close + 1)
+    if not (slice_index piece close == double_quote) || not (is_value_end piece (close + 1)) then fault BadValue i
+    else Ok (values.Text (text_at text_part piece (i + 1)), close + 1)
 
 -- a value that is no text
 unfoldable pub plain_value_at : List ℕ → ℕ → Result (Value × ℕ) LineFault
@@ -75,7 +84,7 @@ plain_value_at piece i = do
 
 -- a value
 unfoldable pub value_at : List ℕ → ℕ → Result (Value × ℕ) LineFault
-value_at piece i = if slice_index piece i == 34 then text_value_at piece i else plain_value_at piece i
+value_at piece i = if slice_index piece i == double_quote then text_value_at piece i else plain_value_at piece i
 
 -- a field
 unfoldable pub field_at : List ℕ → ℕ → Result (Field × ℕ) LineFault
@@ -86,31 +95,35 @@ field_at piece i = do
 
 -- the tags, each behind a comma
 unfoldable pub tags_at : List ℕ → ℕ → Result (List Tag × ℕ) LineFault
-tags_at piece i = items_at tag_at 44 piece i
+tags_at piece i = items_at tag_at comma piece i
 
 -- the fields, with commas between them
 unfoldable pub fields_at : List ℕ → ℕ → Result (List Field × ℕ) LineFault
 fields_at piece i = do
   first ← field_at piece i
-  others ← items_at field_at 44 piece first.1
+  others ← items_at field_at comma piece first.1
   Ok (first.0 ∷ others.0, others.1)
 
 -- the fields behind spaces; where nothing follows the spaces there are none
 unfoldable pub spaced_fields_at : List ℕ → ℕ → Result (List Field × ℕ) LineFault
-spaced_fields_at piece i = if behind_spaces piece i == length piece then fault NoFields (length piece) else fields_at piece (behind_spaces piece i)
+spaced_fields_at piece i =
+    if behind_spaces piece i == length piece then fault NoFields (length piece)
+    else fields_at piece (behind_spaces piece i)
 
 -- a time, which ends before the next space; nothing but spaces follows it
 abbrev pub time_len : List ℕ → ℕ → ℕ
-time_len piece i = position_or_len (λ b. b == 32) (drop i piece)
+time_len piece i = position_or_len (λ b. b == space) (drop i piece)
 
 unfoldable pub written_time_at : List ℕ → ℕ → Result ℤ LineFault
 written_time_at piece i = do
   time ← placed i (time_of (take (time_len piece i) (drop i piece)))
-  (if behind_spaces piece (i + time_len piece i) == length piece then Ok time else fault BadTime (behind_spaces piece (i + time_len piece i)))
+  (if behind_spaces piece (i + time_len piece i) == length piece then Ok time
+      else fault BadTime (behind_spaces piece (i + time_len piece i)))
 
 -- the time behind spaces; where none is written it is the given moment
 unfoldable pub time_at : List ℕ → ℕ → ℤ → Result ℤ LineFault
-time_at piece i moment = if behind_spaces piece i == length piece then Ok moment else written_time_at piece (behind_spaces piece i)
+time_at piece i moment =
+    if behind_spaces piece i == length piece then Ok moment else written_time_at piece (behind_spaces piece i)
 
 -- a line as it is written
 pub record Line : Type 0 where
@@ -130,11 +143,17 @@ line_at piece i moment = do
 
 -- the metric of a line: a repeated key keeps its place and takes the last value; no tag's value is empty
 abbrev pub content_of : Line → Content
-content_of line = record { name = line.name; tags = with_values (in_key_order line.tags); fields = in_first_order line.fields; time = line.time }
+content_of line = record {
+  name = line.name;
+  tags = with_values (in_key_order line.tags);
+  fields = in_first_order line.fields;
+  time = line.time;
+}
 
 -- a metric has at most 64 tags and 256 fields
 abbrev pub has_too_many : List Tag → List Field → Bool
-has_too_many tags fields = nat_lt 64 (length (in_key_order tags)) || nat_lt 256 (length (in_first_order fields))
+has_too_many tags fields =
+    nat_lt 64 (length (in_key_order tags)) || nat_lt 256 (length (in_first_order fields))
 
 abbrev pub limited : Line → Result (Option Content) LineFault
 limited line = if has_too_many line.tags line.fields then fault TooMany 0 else Ok (Some (content_of line))
@@ -147,7 +166,8 @@ metric_at piece i moment = do
 
 -- nothing but spaces, or a comment: the first byte other than a space is `#`
 abbrev pub is_blank_or_comment : List ℕ → Bool
-is_blank_or_comment piece = behind_spaces piece 0 == length piece || slice_index piece (behind_spaces piece 0) == 35
+is_blank_or_comment piece =
+    behind_spaces piece 0 == length piece || slice_index piece (behind_spaces piece 0) == hash
 
 -- the metric that a text is, or none where it is blank or a comment
 unfoldable pub text_reading : List ℕ → ℤ → Result (Option Content) LineFault
@@ -157,12 +177,9 @@ text_reading piece moment =
 -- the metric that a piece is; the piece has to be UTF-8, else the fault is at the end of its longest front
 -- that is
 unfoldable pub reading : List ℕ → ℤ → Result (Option Content) LineFault
-reading piece moment = if is_utf8 piece then text_reading piece moment else fault NotUtf8 (utf8_valid_len piece)
+reading piece moment =
+    if is_utf8 piece then text_reading piece moment else fault NotUtf8 (utf8_valid_len piece)
 
 -- a backslash or a double quote stands in the piece
 abbrev pub needs_escapes : List ℕ → Bool
 needs_escapes piece = list_any (λ b. b == 92 || b == 34) piece
-
--- the reading so far: pieces with a backslash or a double quote are refused
-abbrev pub plain_reading : List ℕ → ℤ → Result (Option Content) LineFault
-plain_reading piece moment = if needs_escapes piece then fault NotBuilt 0 else reading piece moment

@@ -9,7 +9,7 @@ use Rattle.metric.specs.declared.metric.Content.{Content}
 use Rattle.line_proto.specs.Grammar.{HasNone, NoHash, ends_word, ends_key}
 use Rattle.line_proto.specs.LineText.{line_text}
 use Rattle.line_proto.specs.OneLine.{ends_line}
-use Rattle.line_proto.specs.Reading.{Tag, Field, plain_reading}
+use Rattle.line_proto.specs.Reading.{Tag, Field, reading}
 
 -- a backslash or a double quote: for now pieces that have one are refused
 abbrev pub is_refused : ℕ → Bool
@@ -53,4 +53,4 @@ pub record IsPlain (m : Content) : Type 0 where
 -- the text of a plain metric is one line and its newline, and the line is read as the metric at any moment
 abbrev pub MetricIsReadBack : Type 0
 MetricIsReadBack = (m : Content) (moment : ℤ) → IsMetric m → IsPlain m
-    → (line : List ℕ) × (line_text m ≡ line ++ codes "\n") × HasNone ends_line line × (plain_reading line moment ≡ Ok (Some m))
+    → (line : List ℕ) × (line_text m ≡ line ++ codes "\n") × HasNone ends_line line × (reading line moment ≡ Ok (Some m))

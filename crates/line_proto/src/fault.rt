@@ -19,8 +19,6 @@ pub enum LineKind {
     NotUtf8,
     /// The metric would have more than 64 tags or 256 fields.
     TooMany,
-    /// The piece holds a backslash or a double quote, which aren't read yet.
-    NotBuilt,
 }
 
 /// The first fault of a line.
@@ -28,7 +26,8 @@ pub enum LineKind {
 pub struct LineFault {
     /// What is wrong.
     pub kind: LineKind,
-    /// The first byte of the part at fault: an index into the piece. It is 0 for `OutOfMemory`, `TooMany` and
-    /// `NotBuilt`, and the end of the longest valid front for `NotUtf8`.
+    /// The first byte of the part at fault: an index into the piece, or its length where something is missing
+    /// at its end. It is 0 for `OutOfMemory` and `TooMany`, and the end of the longest valid front for
+    /// `NotUtf8`.
     pub place: usize,
 }

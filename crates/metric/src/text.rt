@@ -8,6 +8,7 @@ ghost use Rattle.std.specs.Cmp.{partial_order_from_own_ties};
 ghost use Rattle.std.specs.Cmp.Rules.{comparing, hashing};
 ghost use Rattle.std.specs.Ordering.{nat_cmp, as_partial_cmp};
 ghost use Rattle.std.specs.Hash as fed;
+ghost use Rattle.std.specs.String.{string_bytes};
 
 use fixed_num::OutOfMemory;
 use std::alloc::Global;
@@ -38,6 +39,13 @@ impl Text {
         Ok(Text {
             string: String::from_str(alloc, s)?,
         })
+    }
+
+    /// The text of a string.
+    pub fn of_string(string: String) -> Text
+        ensures { result ≡ string_bytes string }
+    {
+        Text { string }
     }
 
     /// The text.

@@ -4,3 +4,4 @@ pub mod Utf8
 pub mod Items
 pub mod Bare
 pub mod Adding
+pub mod Spans

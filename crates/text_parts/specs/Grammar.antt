@@ -1,5 +1,6 @@
 -- A part is a concatenation of marks: an escape, or a byte that stands for itself.
 use Rattle.std.specs.Prelude.{◌≡◌, ℕ, true, false, List, [], ◌∷◌, ◌++◌, length, drop}
+use Rattle.text_parts.specs.Bytes.{backslash}
 use Rattle.text_parts.specs.Part.{Kind, part_len, plain, is_escape}
 
 pub data Mark : Type 0 where
@@ -9,7 +10,7 @@ pub data Mark : Type 0 where
 -- how a part is written
 abbrev pub spelled : List Mark → List ℕ
 spelled [] = []
-spelled (Escaped c ∷ marks) = 92 ∷ c ∷ spelled marks
+spelled (Escaped c ∷ marks) = backslash ∷ c ∷ spelled marks
 spelled (Bare b ∷ marks) = b ∷ spelled marks
 
 -- what a part says
@@ -27,12 +28,15 @@ Ends k (b ∷ rest) = (k.ends b ≡ true) × (is_escape k (b ∷ rest) ≡ false
 abbrev pub IsPart : Kind → List Mark → List ℕ → Type 0
 IsPart k [] rest = Ends k rest
 IsPart k (Escaped c ∷ marks) rest = (k.escapes c ≡ true) × IsPart k marks rest
-IsPart k (Bare b ∷ marks) rest = (k.ends b ≡ false) × (is_escape k (b ∷ (spelled marks ++ rest)) ≡ false) × IsPart k marks rest
+IsPart k (Bare b ∷ marks) rest =
+    (k.ends b ≡ false) × (is_escape k (b ∷ (spelled marks ++ rest)) ≡ false) × IsPart k marks rest
 
 -- a part before its end is read whole, and as what it says
 abbrev pub PartIsRead : Type 0
-PartIsRead = (k : Kind) (marks : List Mark) (rest : List ℕ) → IsPart k marks rest → (part_len k (spelled marks ++ rest) ≡ length (spelled marks)) × (plain k (spelled marks) ≡ meant k marks)
+PartIsRead = (k : Kind) (marks : List Mark) (rest : List ℕ) → IsPart k marks rest
+    → (part_len k (spelled marks ++ rest) ≡ length (spelled marks)) × (plain k (spelled marks) ≡ meant k marks)
 
 -- each text begins with a part, which is the one that is read
 abbrev pub ReadIsPart : Type 0
-ReadIsPart = (k : Kind) (bs : List ℕ) → (marks : List Mark) × (bs ≡ spelled marks ++ drop (part_len k bs) bs) × IsPart k marks (drop (part_len k bs) bs)
+ReadIsPart = (k : Kind) (bs : List ℕ) → (marks : List Mark)
+    × (bs ≡ spelled marks ++ drop (part_len k bs) bs) × IsPart k marks (drop (part_len k bs) bs)

@@ -1,6 +1,7 @@
 -- Kinds of parts, as the code gives them.
 use Rattle.std.specs.Prelude.{ℕ, ◌<◌, ◌==◌, ◌&&◌, ◌||◌, Bool, slice_index, if◌then◌else◌}
 use Rattle.text_parts.specs.declared.part.Part.{Part}
+use Rattle.text_parts.specs.Bytes.{newline, small_n}
 use Rattle.text_parts.specs.Part.{Kind}
 
 abbrev pub ends_of : Part → ℕ → Bool
@@ -11,7 +12,7 @@ escapes_of p b = b == slice_index p.escapes 0 || b == slice_index p.escapes 1 ||
 
 -- a hidden `n` may mean a newline
 abbrev pub meaning_of : Part → ℕ → ℕ
-meaning_of p b = if p.newlines && b == 110 then 10 else b
+meaning_of p b = if p.newlines && b == small_n then newline else b
 
 abbrev pub kind_of : Part → Kind
 kind_of p = record { ends = ends_of p; escapes = escapes_of p; means = meaning_of p }

@@ -5,3 +5,5 @@ pub mod Many
 pub mod Grammar
 pub mod Bare
 pub mod Adds
+pub mod Bytes
+pub mod Span

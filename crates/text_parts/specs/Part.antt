@@ -1,6 +1,7 @@
 -- A part of a text: what ends it, and what a backslash hides.
 use Rattle.std.specs.Prelude.{◌≡◌, ℕ, ◌+◌, Bool, false, ◌==◌, ◌&&◌, List, [], ◌∷◌, length, take, drop}
 use Rattle.std.specs.Prelude.{if◌then◌else◌}
+use Rattle.text_parts.specs.Bytes.{backslash}
 
 -- a kind of part: the bytes that end it, those that a backslash hides, and what a hidden one means
 pub record Kind : Type 0 where
@@ -12,19 +13,21 @@ pub record Kind : Type 0 where
 unfoldable pub part_len : Kind → List ℕ → ℕ
 part_len k [] = 0
 part_len k (b ∷ []) = if k.ends b then 0 else 1
-part_len k (b ∷ c ∷ bs) = if b == 92 && k.escapes c then 2 + part_len k bs else (if k.ends b then 0 else 1 + part_len k (c ∷ bs))
+part_len k (b ∷ c ∷ bs) =
+    if b == backslash && k.escapes c then 2 + part_len k bs
+    else (if k.ends b then 0 else 1 + part_len k (c ∷ bs))
 
 -- the text without its escapes
 unfoldable pub plain : Kind → List ℕ → List ℕ
 plain k [] = []
 plain k (b ∷ []) = b ∷ []
-plain k (b ∷ c ∷ bs) = if b == 92 && k.escapes c then k.means c ∷ plain k bs else b ∷ plain k (c ∷ bs)
+plain k (b ∷ c ∷ bs) = if b == backslash && k.escapes c then k.means c ∷ plain k bs else b ∷ plain k (c ∷ bs)
 
 -- the bytes begin with a backslash and a byte that it hides
 abbrev pub is_escape : Kind → List ℕ → Bool
 is_escape k [] = false
 is_escape k (b ∷ []) = false
-is_escape k (b ∷ c ∷ bs) = b == 92 && k.escapes c
+is_escape k (b ∷ c ∷ bs) = b == backslash && k.escapes c
 
 -- how many bytes the part has that begins at a place
 abbrev pub len_at : Kind → List ℕ → ℕ → ℕ

@@ -21,6 +21,17 @@ impl<F> From<AllocError> for ReadError<F> {
     }
 }
 
+impl<F> From<fixed_num::OutOfMemory> for ReadError<F> {
+    ghost use Rattle.std.specs.Prelude.{◌≡◌};
+    ghost use Rattle.text_parts.specs.declared.error.ReadError.TheVariants.{OutOfMemory};
+
+    ghost from_gives = { λ _ e. e ≡ OutOfMemory };
+
+    fn from(_fault: fixed_num::OutOfMemory) -> ReadError<F> {
+        ReadError::OutOfMemory
+    }
+}
+
 impl<F, T: Drop> From<AllocFailed<T>> for ReadError<F> {
     ghost use Rattle.std.specs.Prelude.{◌≡◌};
     ghost use Rattle.text_parts.specs.declared.error.ReadError.TheVariants.{OutOfMemory};

@@ -6,6 +6,7 @@ mod append;
 mod error;
 mod laws;
 mod part;
+mod span;
 
 pub use append::{
     append_bytes, append_int, append_line, append_numbers, append_signed, append_uint,
@@ -14,6 +15,7 @@ pub use append::{
 pub use error::ReadError;
 pub use laws::{part_is_read, read_is_part};
 pub use part::{Part, part_len, part_text, plain_bytes};
+pub use span::{Span, span_at, span_text};
 
 #[cfg(test)]
 mod tests;

@@ -4,16 +4,17 @@ use Rattle.line_proto.proofs.read.read_line.Goals as goal
 
 pub returns-in-Err : goal.returns-in-Err
 returns-in-Err c =
-    let plain = sym c.needs_escapes.ensures ∙ c.if-needs_escapes.false in
-    inr (not_utf8 c.args.piece.now c.valid_up_to.result c.args.moment plain c.in-Err.ensures.cases.0 (sym c.in-Err.ensures.valid_len ∙ sym c.valid_up_to.ensures))
+    inr (not_utf8 c.args.piece.now c.valid_up_to.result c.args.moment c.in-Err.ensures.cases.0
+    (sym c.in-Err.ensures.valid_len ∙ sym c.valid_up_to.ensures))
 
 pub returns-in-Ok-read_text : goal.returns-in-Ok-read_text
 returns-in-Ok-read_text c =
-    let plain = sym c.needs_escapes.ensures ∙ c.if-needs_escapes.false in
-    read_utf8 c.args.piece.now c.args.moment plain c.in-Ok.ensures.cases.1 ∙ sym (same_text c.args.piece.now c.in-Ok.text.now c.args.moment c.ranges.moment c.in-Ok.ensures.cases.0) ∙ c.in-Ok-read_text.ensures
+    read_utf8 c.args.piece.now c.args.moment c.in-Ok.ensures.cases.1
+    ∙ sym (same_text c.args.piece.now c.in-Ok.text.now c.args.moment c.ranges.moment c.in-Ok.ensures.cases.0)
+    ∙ c.in-Ok-read_text.ensures
 
 pub returns-in-Err-Fault : goal.returns-in-Err-Fault
 returns-in-Err-Fault c =
-    let plain = sym c.needs_escapes.ensures ∙ c.if-needs_escapes.false in
     let read = fault_given c.in-Err-Fault.field-0 c.in-Err-Fault.fault _ c.in-Err-Fault.field-0-is c.in-Err-Fault.ensures in
-    inr (read_utf8 c.args.piece.now c.args.moment plain c.in-Ok.ensures.cases.1 ∙ sym (same_text c.args.piece.now c.in-Ok.text.now c.args.moment c.ranges.moment c.in-Ok.ensures.cases.0) ∙ read)
+    inr (read_utf8 c.args.piece.now c.args.moment c.in-Ok.ensures.cases.1
+    ∙ sym (same_text c.args.piece.now c.in-Ok.text.now c.args.moment c.ranges.moment c.in-Ok.ensures.cases.0) ∙ read)

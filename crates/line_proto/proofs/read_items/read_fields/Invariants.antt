@@ -5,13 +5,13 @@ use Rattle.line_proto.specs.Reading.{Tag, Field, field_at}
 use Rattle.line_proto.specs.Draft.{StandsFor}
 use Rattle.line_proto.proofs.read_items.read_fields.Given as goal
 
-abbrev pub invariant-loop-i : goal.invariant-loop-i
-invariant-loop-i l =
+abbrev pub invariant-loop-alloc : goal.invariant-loop-alloc
+invariant-loop-alloc l =
     (IsCharBoundary l.piece l.at)
     × (l.draft.builder.name ≡ l.fn.draft.builder.name)
     × ((first : Field) × (behind : ℕ) × (field_at l.piece l.fn.i ≡ Ok (first, behind))
     × ((fields : List Field) × (Reads field_at 44 l.piece behind fields l.at)
     × ((tags : List Tag) → StandsFor l.fn.draft tags [] → StandsFor l.draft tags (first ∷ fields))))
 
-abbrev pub decreases-loop-i : goal.decreases-loop-i
-decreases-loop-i l = length l.initial.piece - l.at
+abbrev pub decreases-loop-alloc : goal.decreases-loop-alloc
+decreases-loop-alloc l = length l.initial.piece - l.at

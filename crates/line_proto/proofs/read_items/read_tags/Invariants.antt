@@ -5,8 +5,8 @@ use Rattle.line_proto.specs.Reading.{Tag, tag_at}
 use Rattle.line_proto.specs.Draft.{StandsFor}
 use Rattle.line_proto.proofs.read_items.read_tags.Given as goal
 
-abbrev pub invariant-loop-i : goal.invariant-loop-i
-invariant-loop-i l = (IsCharBoundary l.piece l.at) × (l.draft.builder.name ≡ l.fn.draft.builder.name) × ((tags : List Tag) × (Reads tag_at 44 l.piece l.fn.i tags l.at) × (StandsFor l.draft tags []))
+abbrev pub invariant-loop-alloc : goal.invariant-loop-alloc
+invariant-loop-alloc l = (IsCharBoundary l.piece l.at) × (l.draft.builder.name ≡ l.fn.draft.builder.name) × ((tags : List Tag) × (Reads tag_at 44 l.piece l.fn.i tags l.at) × (StandsFor l.draft tags []))
 
-abbrev pub decreases-loop-i : goal.decreases-loop-i
-decreases-loop-i l = length l.initial.piece - l.at
+abbrev pub decreases-loop-alloc : goal.decreases-loop-alloc
+decreases-loop-alloc l = length l.initial.piece - l.at

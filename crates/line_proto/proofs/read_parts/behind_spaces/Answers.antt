@@ -1,7 +1,8 @@
 use Rattle.std.proofs.Common.{◌+◌, ℕ, ap, refl, subst, sym}
 use Rattle.std.specs.Prelude.{◌==◌, not}
 use Rattle.std.specs.Str.{IsCharBoundary}
-use Rattle.line_proto.proofs.Parts.{found_len, spaces_boundary}
+use Rattle.text_parts.proofs.Spans.{found_len}
+use Rattle.line_proto.proofs.Parts.{spaces_boundary}
 use Rattle.line_proto.proofs.read_parts.behind_spaces.Goals as goal
 
 pub returns-clause-value : goal.returns-clause-value

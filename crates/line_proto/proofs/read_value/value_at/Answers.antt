@@ -1,10 +1,9 @@
-use Rattle.std.proofs.Common.{◌≡◌, get_or, eqb, false}
-use Rattle.std.proofs.lemmas.Bool.{ne_eqb}
-use Rattle.line_proto.specs.Reading.{value_at}
+use Rattle.std.proofs.Common.{◌∙◌, sym, arith}
+use Rattle.line_proto.proofs.Parts.{byte_boundary}
 use Rattle.line_proto.proofs.read_value.value_at.Goals as goal
 
-pub returns-clause-gives : goal.returns-clause-gives
-unfolding value_at
-returns-clause-gives c =
-    let test : eqb (get_or c.args.piece.now c.args.i 0) 34 ≡ false = ne_eqb _ _ (c.requires.unquoted.each c.args.i) in
-    rw test c.plain_value_at.ensures.gives
+pub text_value_at-requires : goal.text_value_at-requires
+text_value_at-requires c = record {
+  boundary = byte_boundary c.args.piece.now c.as_bytes.result.now c.args.i 34 c.as_bytes.ensures.value (omega arith) (omega arith)
+      c.utf8.piece (sym c.quote_at.ensures ∙ c.if-quote_at.true);
+}

@@ -1,0 +1,67 @@
+//! Parts of a piece, found in one pass and copied only where they have escapes.
+ghost use Rattle.std.specs.Prelude.{◌≡◌, ◌≤◌, ◌==◌, ◌||◌, false, length, slice_range};
+ghost use Rattle.std.specs.List.{position};
+ghost use Rattle.std.specs.Str.{IsCharBoundary};
+ghost use Rattle.text_parts.specs.Bytes.{backslash};
+ghost use Rattle.text_parts.specs.Kinds.{kind_of, ends_of, IsAsciiPart};
+ghost use Rattle.text_parts.specs.Span.{IsSpan};
+
+use crate::part::{Part, part_len};
+
+/// Where a part stands in a piece.
+#[derive(Clone, Copy, Debug, PartialEq, Eq)]
+pub struct Span {
+    /// The place of its first byte.
+    pub start: usize,
+    /// The place behind its last byte.
+    pub end: usize,
+    /// Whether it has a backslash. If not its text is what stands there; else `part_text` gives it.
+    pub escaped: bool,
+}
+
+/// The first byte that ends a part, or backslash.
+#[inline(always)]
+fn end_or_backslash(part: &Part, bytes: &[u8]) -> Option<usize>
+    ensures { result ≡ position (λ b. ends_of part.now b || b == backslash) bytes.now }
+{
+    bytes
+        .iter()
+        .position(|b| part.ends_before(*b) || *b == b'\\')
+}
+
+/// Where the part stands that begins at a place of a piece. Escapes are looked at only behind the first backslash.
+#[inline(always)]
+pub fn span_at(part: &Part, piece: &str, i: usize) -> Span
+    requires boundary { IsCharBoundary piece.now i }
+    requires ascii { IsAsciiPart part.now }
+    ensures start { result.start ≡ i }
+    ensures span { IsSpan (kind_of part.now) piece.now result }
+{
+    let bytes = piece.as_bytes();
+    let (_, rest) = bytes.split_at(i);
+    let first = end_or_backslash(part, rest).unwrap_or(rest.len());
+    if first < rest.len() && rest[first] == b'\\' {
+        let (_, tail) = rest.split_at(first);
+        return Span {
+            start: i,
+            end: i + first + part_len(part, tail),
+            escaped: true,
+        };
+    }
+    Span {
+        start: i,
+        end: i + first,
+        escaped: false,
+    }
+}
+
+/// What stands between the places of a span, which is the text of its part where it has no backslash.
+#[inline(always)]
+pub fn span_text<'a>(piece: &'a str, span: &Span) -> &'a str
+    requires first { IsCharBoundary piece.now span.now.start }
+    requires last { IsCharBoundary piece.now span.now.end }
+    requires order { span.now.start ≤ span.now.end }
+    ensures { result.now ≡ slice_range piece.now span.now.start span.now.end }
+{
+    &piece[span.start..span.end]
+}

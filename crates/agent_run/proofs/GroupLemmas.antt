@@ -18,7 +18,7 @@ use Rattle.agent_run.specs.declared.reading.Group.{Group}
 use Rattle.agent_run.specs.declared.reading.InState.{InState}
 use Rattle.agent_run.specs.declared.reading.InState.TheVariants as states
 use Rattle.agent_run.specs.Gathered.{is_refused, metric_of, readings}
-use Rattle.line_proto.specs.Reading.{plain_reading}
+use Rattle.line_proto.specs.Reading.{reading}
 use Rattle.line_proto.specs.declared.fault.LineFault.{LineFault}
 use Rattle.std.proofs.lemmas.List.Concat.{flat_map-cons, length-flat_map}
 use Rattle.agent_run.specs.Groups.{TakesPieces, ReadsPiece, ReadsNone, ReadsNext, IsAllRead, Reads, ReadsGroup}
@@ -100,7 +100,7 @@ few_metrics (Err fault) = omega arith
 
 few_of : (moment : ℤ) (piece : Cut) → length (readings moment piece) ≤ 1
 few_of moment TooLong = omega arith
-few_of moment (Whole piece) = few_metrics (plain_reading piece moment)
+few_of moment (Whole piece) = few_metrics (reading piece moment)
 
 -- pieces have at most as many readings as they are
 pub few_readings : (moment : ℤ) (pieces : List Cut) → length (flat_map (readings moment) pieces) ≤ length pieces

@@ -244,8 +244,7 @@ ends_noted entries account old new text spelled counted put setup held faults jo
     let last : List ℕ = end_text account new.entries in
     let whole : noted_text setup journal ++ (text ++ last) ≡ journal_text setup (journal ++ entries) account =
     sym (append_assoc (noted_text setup journal) text last) ∙ ap (λ (t : List ℕ). t ++ last) front ∙ ap (λ (n : ℕ). text_so_far setup (journal ++ entries) ++ end_text account n) count in
-    (put_more entries old setup held faults journal h old.failed new.failed (text ++ last) (journal_text setup (journal ++ entries) account) new.held new.faults refl whole
-    (
+    (put_more entries old setup held faults journal h old.failed new.failed (text ++ last) (journal_text setup (journal ++ entries) account) new.held new.faults refl whole (
       entries_text (items journal) entries ++ last,
       sym whole ∙ sym (append_assoc (noted_text setup journal) text last) ∙ ap (λ (t : List ℕ). t ++ last) (front ∙ so_far_more setup journal entries) ∙ append_assoc (text_so_far setup journal) (entries_text (items journal) entries) last,
     )

@@ -9,7 +9,7 @@ use Rattle.agent_base.specs.Lines.{AreAllButRest}
 use Rattle.agent_base.specs.Taken.{IsSpent}
 use Rattle.metric.specs.declared.metric.Content.{Content}
 use Rattle.line_proto.specs.declared.fault.LineFault.{LineFault}
-use Rattle.line_proto.specs.Reading.{plain_reading}
+use Rattle.line_proto.specs.Reading.{reading}
 use Rattle.account.specs.declared.entry.Entry.{Entry}
 use Rattle.account.specs.declared.entry.Entry.TheVariants.{Gather, Ended, Take, Route, Tick, Stop, Begin, Done}
 use Rattle.pipeline_core.specs.Legal.{has_ended}
@@ -17,7 +17,7 @@ use Rattle.pipeline_core.specs.Legal.{has_ended}
 -- a piece is refused at a moment where it is too long, or no line, and neither blank nor a comment
 abbrev pub is_refused : ℤ → Cut → Bool
 is_refused moment TooLong = true
-is_refused moment (Whole piece) = is_err (plain_reading piece moment)
+is_refused moment (Whole piece) = is_err (reading piece moment)
 
 -- the metric of a reading, where there is one
 abbrev pub metric_of : Result (Option Content) LineFault → List Content
@@ -28,7 +28,7 @@ metric_of (Err fault) = []
 -- the metric that a piece says at a moment, where it says one
 abbrev pub readings : ℤ → Cut → List Content
 readings moment TooLong = []
-readings moment (Whole piece) = metric_of (plain_reading piece moment)
+readings moment (Whole piece) = metric_of (reading piece moment)
 
 -- what a Gather says
 pub record GatherSays : Type 0 where

@@ -100,7 +100,10 @@ impl<K: Sink + Drop> JournalJob<K> {
     {
         write_front(alloc, &self.setup, self.entries, text)?;
         write_entries(alloc, &mut self.kept, entries, text)?;
-        self.entries = self.entries.checked_add(entries.len() as u64).ok_or(OutOfMemory)?;
+        self.entries = self
+            .entries
+            .checked_add(entries.len() as u64)
+            .ok_or(OutOfMemory)?;
         Ok(())
     }
 }

@@ -108,6 +108,8 @@ mod fault_tests;
 #[cfg(test)]
 mod input_tests;
 #[cfg(test)]
+mod journal_tests;
+#[cfg(test)]
 mod losses_tests;
 #[cfg(test)]
 mod report_tests;

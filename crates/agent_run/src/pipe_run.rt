@@ -91,7 +91,10 @@ pub fn new_run(alloc: Global, pipe: &Pipe<'_>, start: Moment) -> Result<PipeRun,
 }
 
 /// Puts the text of the entries since the last cut, where there are any.
-pub fn note<K: Sink + Drop>(run: &mut PipeRun, journal: &mut JournalJob<K>) -> Result<(), OutOfMemory>
+pub fn note<K: Sink + Drop>(
+    run: &mut PipeRun,
+    journal: &mut JournalJob<K>,
+) -> Result<(), OutOfMemory>
     requires ready { IsReady run.old.core }
     requires stands { HasJournal run.old.core }
     ensures ready { OnOk result (IsReady run.new.core) }

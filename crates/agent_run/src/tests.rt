@@ -7,6 +7,7 @@ use crate::top::agent;
 use agent_base::{MemSink, MemSource, MemWorld, World};
 use fixed_num::OutOfMemory;
 use std::alloc::{AllocError, Global};
+use std::process::Abort;
 use std::test::Fail;
 
 /// A world with a source at the first place, and sinks at the two others.
@@ -97,101 +98,153 @@ pub fn outcome_in(alloc: Global, line: &str, mut world: MemWorld) -> Result<Outc
     })
 }
 
-/// Runs a line of words over a source at `a`, and sinks at `b` and `agent.journal`.
-pub fn outcome_of(
-    alloc: Global,
-    line: &str,
-    source: MemSource,
-    sink: MemSink,
-    journal: MemSink,
-) -> Result<Outcome, OutOfMemory> {
-    let world = world_of(alloc, source, sink, journal)?;
-    outcome_in(alloc, line, world)
+/// What a run is given, and what it must leave: the words, the bytes at `a`, the reads, the puts at `b` and at the journal's
+/// place that fail, each put after so many bytes, the status, the report, and what `b` and the journal's place hold.
+#[derive(Clone, Copy)]
+pub struct Case {
+    pub line: &'static str,
+    pub input: &'static [u8],
+    pub reads: &'static [u64],
+    pub puts: &'static [(u64, usize)],
+    pub notes: &'static [(u64, usize)],
+    pub code: u8,
+    pub report: &'static [u8],
+    pub output: &'static [u8],
+    pub journal: &'static [u8],
+}
+
+impl Case {
+    /// What the run leaves, over a source at `a`, and sinks at `b` and `agent.journal`.
+    pub fn outcome(&self, alloc: Global) -> Result<Outcome, OutOfMemory> {
+        let world = world_of(
+            alloc,
+            source_of(alloc, self.input, self.reads)?,
+            sink_of(alloc, self.puts)?,
+            sink_of(alloc, self.notes)?,
+        )?;
+        outcome_in(alloc, self.line, world)
+    }
+}
+
+/// Runs cases: the status, the report, `b`, and the whole of the journal's place.
+pub fn run_cases(rt: &impl Abort, alloc: Global, cases: &[Case]) -> Result<(), Fail> {
+    for case in cases {
+        let outcome = case.outcome(alloc)?;
+        let row = (case.line, case.reads, case.puts, case.notes);
+        assert_eq!(rt; outcome.status.code(), case.code, "{row:?}");
+        assert_eq!(rt; outcome.report.as_slice(), case.report, "{row:?}");
+        assert_eq!(rt; outcome.output.as_slice(), case.output, "{row:?}");
+        assert_eq!(rt; outcome.journal.as_slice(), case.journal, "{row:?}");
+    }
+    Ok(())
 }
 
 pub const TWO_LINES: &[u8] = b"cpu,host=a v=1i 5\ncpu v=2.5 6\n";
 
 pub const TWO_LINES_REPORT: &[u8] =
-    b"input 0 pieces 2 refused 0 passed 0 filtered 0 gathered 2 ended\nitems made 0 removed 0 routed 2\noutput 0 filtered 0 late 0 consumed 0 written 2 buffered 0 dropped 0\n";
+    b"input 0 pieces 2 refused 0 passed 0 filtered 0 gathered 2 ended\n\
+    items made 0 removed 0 routed 2\n\
+    output 0 filtered 0 late 0 consumed 0 written 2 buffered 0 dropped 0\n";
 
-const TWO_LINES_JOURNAL: &[u8] =
-    b"journal 1\nstart 0\ninput 0 plain\noutput 0 10 100\ngather 0 0 2 0 0 0 2 -\nm cpu;host=a|v=i1|5\nm cpu|v=f2.5|6\nended 0\ntake 0\nroute 0 = passes / =\ntake 1\nroute 1 = passes / =\nbegin 0 0 2\ndone 0 ok\nstop 0 0\ninput 0 pieces 2 refused 0 passed 0 filtered 0 gathered 2 ended\nitems made 0 removed 0 routed 2\noutput 0 filtered 0 late 0 consumed 0 written 2 buffered 0 dropped 0\nend 9\n";
+pub const TWO_LINES_JOURNAL: &[u8] = b"journal 1\nstart 0\ninput 0 plain\noutput 0 10 100\n\
+    gather 0 0 2 0 0 0 2 -\nm cpu;host=a|v=i1|5\nm cpu|v=f2.5|6\nended 0\n\
+    take 0\nroute 0 = passes / =\ntake 1\nroute 1 = passes / =\n\
+    begin 0 0 2\ndone 0 ok\nstop 0 0\n\
+    input 0 pieces 2 refused 0 passed 0 filtered 0 gathered 2 ended\n\
+    items made 0 removed 0 routed 2\n\
+    output 0 filtered 0 late 0 consumed 0 written 2 buffered 0 dropped 0\n\
+    end 9\n";
 
 const ONE_DROPPED_REPORT: &[u8] =
-    b"input 0 pieces 2 refused 0 passed 0 filtered 0 gathered 2 ended\nitems made 0 removed 0 routed 2\noutput 0 filtered 0 late 0 consumed 0 written 1 buffered 0 dropped 1\n";
+    b"input 0 pieces 2 refused 0 passed 0 filtered 0 gathered 2 ended\n\
+    items made 0 removed 0 routed 2\n\
+    output 0 filtered 0 late 0 consumed 0 written 1 buffered 0 dropped 1\n";
 
-const NOTHING_JOURNAL: &[u8] =
-    b"journal 1\nstart 0\ninput 0 plain\noutput 0 10 100\nended 0\nstop 0 0\ninput 0 pieces 0 refused 0 passed 0 filtered 0 gathered 0 ended\nitems made 0 removed 0 routed 0\noutput 0 filtered 0 late 0 consumed 0 written 0 buffered 0 dropped 0\nend 2\n";
+const ONE_DROPPED_JOURNAL: &[u8] = b"journal 1\nstart 0\ninput 0 plain\noutput 0 1 1\n\
+    gather 0 0 2 0 0 0 2 -\nm cpu;host=a|v=i1|5\nm cpu|v=f2.5|6\nended 0\n\
+    take 0\nroute 0 = passes / =\ntake 1\nroute 1 = passes / =\n\
+    begin 0 1 2\ndone 0 ok\nstop 0 0\n\
+    input 0 pieces 2 refused 0 passed 0 filtered 0 gathered 2 ended\n\
+    items made 0 removed 0 routed 2\n\
+    output 0 filtered 0 late 0 consumed 0 written 1 buffered 0 dropped 1\n\
+    end 9\n";
 
-/// Two lines go through, byte for byte; an empty input makes no put, so the first put to `b`, which would fail, is never made.
+const NOTHING_REPORT: &[u8] = b"input 0 pieces 0 refused 0 passed 0 filtered 0 gathered 0 ended\n\
+    items made 0 removed 0 routed 0\n\
+    output 0 filtered 0 late 0 consumed 0 written 0 buffered 0 dropped 0\n";
+
+pub const NOTHING_JOURNAL: &[u8] = b"journal 1\nstart 0\ninput 0 plain\noutput 0 10 100\n\
+    ended 0\nstop 0 0\n\
+    input 0 pieces 0 refused 0 passed 0 filtered 0 gathered 0 ended\n\
+    items made 0 removed 0 routed 0\n\
+    output 0 filtered 0 late 0 consumed 0 written 0 buffered 0 dropped 0\n\
+    end 2\n";
+
+/// Two lines in batches of ten, and no fault.
+pub const TWO: Case = Case {
+    line: "pipe a b 10 100",
+    input: TWO_LINES,
+    reads: &[],
+    puts: &[],
+    notes: &[],
+    code: 0,
+    report: TWO_LINES_REPORT,
+    output: TWO_LINES,
+    journal: TWO_LINES_JOURNAL,
+};
+
+/// An empty input.
+pub const EMPTY: Case = Case {
+    input: b"",
+    report: NOTHING_REPORT,
+    output: b"",
+    journal: NOTHING_JOURNAL,
+    ..TWO
+};
+
+/// Two lines go through, byte for byte; an empty input makes no put to `b`, so the first one, which would fail, is never
+/// made.
 #[test]
 fn whole_runs(rt: HostRuntime) -> Result<(), Fail> {
-    let alloc = rt.alloc();
-    let two = outcome_of(
-        alloc,
-        "pipe a b 10 100",
-        source_of(alloc, TWO_LINES, &[])?,
-        sink_of(alloc, &[])?,
-        sink_of(alloc, &[])?,
-    )?;
-    assert_eq!(rt; two.status, Status::Done);
-    assert_eq!(rt; two.report.as_slice(), TWO_LINES_REPORT);
-    assert_eq!(rt; two.output.as_slice(), TWO_LINES);
-    assert_eq!(rt; two.journal.as_slice(), TWO_LINES_JOURNAL);
-    let nothing = outcome_of(
-        alloc,
-        "pipe a b 10 100",
-        source_of(alloc, b"", &[])?,
-        sink_of(alloc, &[(0, 0)])?,
-        sink_of(alloc, &[])?,
-    )?;
-    assert_eq!(rt; nothing.status, Status::Done);
-    assert_eq!(rt; nothing.journal.as_slice(), NOTHING_JOURNAL);
-    Ok(())
+    let cases = [
+        TWO,
+        Case {
+            puts: &[(0, 0)],
+            ..EMPTY
+        },
+        Case {
+            line: "pipe a b 001 1",
+            report: ONE_DROPPED_REPORT,
+            output: b"cpu v=2.5 6\n",
+            journal: ONE_DROPPED_JOURNAL,
+            ..TWO
+        },
+    ];
+    run_cases(&rt, rt.alloc(), &cases)
 }
 
-/// Words that are no command, a place that isn't there, and each read and put that fails.
+/// Words that are no command.
 #[test]
-fn statuses(rt: HostRuntime) -> Result<(), Fail> {
-    let alloc = rt.alloc();
-    let cases: [(&str, &[u64], &[(u64, usize)], &[(u64, usize)], u8, &[u8]); 12] = [
-        ("", &[], &[], &[], 2, b"usage\n"),
-        ("--help", &[], &[], &[], 2, b"usage\n"),
-        ("pipe a b 2 1", &[], &[], &[], 2, b"usage\n"),
-        ("pipe a agent.journal 1 1", &[], &[], &[], 2, b"usage\n"),
-        ("pipe a b 0 1", &[], &[], &[], 2, b"usage\n"),
-        ("pipe a b 1 10001", &[], &[], &[], 2, b"usage\n"),
-        ("pipe a b +1 1", &[], &[], &[], 2, b"usage\n"),
-        (
-            "pipe nowhere b 1 1",
-            &[],
-            &[],
-            &[],
-            5,
-            b"fault: open nowhere\n",
-        ),
-        (
-            "pipe a nowhere 1 1",
-            &[],
-            &[],
-            &[],
-            5,
-            b"fault: open nowhere\n",
-        ),
-        ("pipe a b 001 1", &[], &[], &[], 0, ONE_DROPPED_REPORT),
-        ("pipe a b 10 100", &[], &[], &[(0, 3)], 7, TWO_LINES_REPORT),
-        ("pipe a b 10 100", &[], &[(0, 0)], &[], 0, TWO_LINES_REPORT),
+fn no_commands(rt: HostRuntime) -> Result<(), Fail> {
+    let lines = [
+        "",
+        "--help",
+        "pipe a b 2 1",
+        "pipe a agent.journal 1 1",
+        "pipe a b 0 1",
+        "pipe a b 1 10001",
+        "pipe a b +1 1",
     ];
-    for (line, reads, puts, journal, code, report) in cases {
-        let outcome = outcome_of(
-            alloc,
+    for line in lines {
+        let case = Case {
             line,
-            source_of(alloc, TWO_LINES, reads)?,
-            sink_of(alloc, puts)?,
-            sink_of(alloc, journal)?,
-        )?;
-        assert_eq!(rt; outcome.status.code(), code, "{line}");
-        assert_eq!(rt; outcome.report.as_slice(), report, "{line}");
+            code: 2,
+            report: b"usage\n",
+            output: b"",
+            journal: b"",
+            ..TWO
+        };
+        run_cases(&rt, rt.alloc(), &[case])?;
     }
     Ok(())
 }

@@ -12,7 +12,7 @@ returns-then-ne-clause-runs g c =
     (g.S.Source.left c.args.source.now) (g.S.Source.left c.loop-round.source) (g.S.Source.left c.gather.new.source) (g.S.Source.faults c.args.source.now) (g.S.Source.faults c.loop-round.source) (g.S.Source.faults c.gather.new.source)
     (g.C.Clock.moments c.args.clock.now) (g.C.Clock.moments c.loop-round.clock) (g.C.Clock.place c.args.clock.now) (g.C.Clock.place c.loop-round.clock) (g.C.Clock.place c.gather.new.clock)
     (g.K.Sink.held c.args.sink.now) (g.K.Sink.held c.loop-round.sink) (g.K.Sink.held c.send_all.new.sink) (g.K.Sink.faults c.args.sink.now) (g.K.Sink.faults c.loop-round.sink) (g.K.Sink.faults c.send_all.new.sink)
-          (part_of g.K.Sink.held g.K.Sink.faults c.args.journal.now) (part_of g.K.Sink.held g.K.Sink.faults c.loop-round.journal) (part_of g.K.Sink.held g.K.Sink.faults c.note.new.journal)
+    (part_of g.K.Sink.held g.K.Sink.faults c.args.journal.now) (part_of g.K.Sink.held g.K.Sink.faults c.loop-round.journal) (part_of g.K.Sink.held g.K.Sink.faults c.note.new.journal)
     c.loop-round.invariant.runs c.loop-round.invariant.list c.in_ok-state.ensures.reads c.in_ok-route_all.ensures.goes c.in_ok-send_all.ensures.sends c.in_ok-note.ensures.notes
 
 pub loop-round-preserved : goal.loop-round-preserved

@@ -17,6 +17,6 @@ run_from-ran-requires-clause-first g c =
 pub returns : goal.returns
 returns g c = record {
   ran = ran_as c.args.pipe.now.batch c.args.pipe.now.limit c.run_from-ran.result _ _ _ _ _ _ _
-    (ap (λ (sink : g.row.K.Denot). change (g.K.Sink.held sink) (g.K.Sink.held c.run_from-ran.new.journal.sink) (g.K.Sink.faults sink) (g.K.Sink.faults c.run_from-ran.new.journal.sink)) c.new-job.ensures.sink)
-    c.now-start.ensures.list c.run_from-ran.ensures.ran;
+      (ap (λ (sink : g.row.K.Denot). change (g.K.Sink.held sink) (g.K.Sink.held c.run_from-ran.new.journal.sink) (g.K.Sink.faults sink) (g.K.Sink.faults c.run_from-ran.new.journal.sink)) c.new-job.ensures.sink)
+      c.now-start.ensures.list c.run_from-ran.ensures.ran;
 }

@@ -1,5 +1,6 @@
 //! Bytes that were taken of a source and not given yet.
-ghost use Rattle.std.specs.Prelude.{◌≡◌, ℕ, ◌+◌, ◌-◌, ◌<◌, ◌≤◌, false, List, [], length, take, MatchOption, IfOk, OnErr, IsErrOf, vec_len, vec_capacity, min};
+ghost use Rattle.std.specs.Prelude.{◌≡◌, ℕ, ◌+◌, ◌-◌, ◌<◌, ◌≤◌, false, List, [], length, take, MatchOption};
+ghost use Rattle.std.specs.Prelude.{IfOk, OnErr, IsErrOf, vec_len, vec_capacity, min};
 ghost use Rattle.std.specs.Io.{ReadsAtMost};
 ghost use Rattle.std.specs.Io.KnownBytes.{ReadConsumes, IsAtEnd};
 ghost use Rattle.std.specs.List.{between};
@@ -84,7 +85,8 @@ fn read_behind<S: Source>(
     ensures len { vec_len buf.new ≡ vec_len buf.old }
     ensures bound { IfOk result (λ n. n ≤ most) }
     ensures before { take at buf.new.items ≡ take at buf.old.items }
-    ensures bytes { ReadConsumes (S.left src.old) (S.left src.new) result (between at (at + most) buf.new.items) }
+    ensures bytes { ReadConsumes (S.left src.old) (S.left src.new) result
+        (between at (at + most) buf.new.items) }
     ensures cause { HasCause (S.faults src.old) (S.faults src.new) result }
 {
     read_into(buf, at, most, src)
@@ -109,7 +111,8 @@ pub(crate) struct Buffer {
 
 impl Buffer {
     ghost use Rattle.agent_base.specs.Buffered.{bytes_of, hand_of};
-    ghost use Rattle.agent_base.specs.PieceAnswers.{Answers, IsLimited, HasReason, IsGiven, IsGivenOrUnchanged, IsLast};
+    ghost use Rattle.agent_base.specs.PieceAnswers.{Answers, IsLimited, HasReason, IsGiven};
+    ghost use Rattle.agent_base.specs.PieceAnswers.{IsGivenOrUnchanged, IsLast};
 
     /// Nothing is in hand.
     pub(crate) fn new(alloc: Global) -> Result<Buffer, OutOfMemory>
@@ -128,7 +131,8 @@ impl Buffer {
 
     // How many bytes in hand stand before the first newline.
     fn find_newline(&mut self) -> Option<usize>
-        ensures found { MatchOption result (NoNewline (bytes_of self.old)) (FirstNewline (bytes_of self.old)) }
+        ensures found { MatchOption result (NoNewline (bytes_of self.old))
+            (FirstNewline (bytes_of self.old)) }
         ensures same { hand_of self.new ≡ hand_of self.old }
     {
         match newline_in(&self.buf[self.searched..self.end]) {
@@ -145,7 +149,8 @@ impl Buffer {
         requires line { FirstNewline (bytes_of self.old) i }
         requires empty { room.items ≡ [] }
         requires fits { min i LIMIT ≤ vec_capacity room }
-        ensures pieces { (left : List ℕ) → Answers result (to_come (hand_of self.old) left) (to_come (hand_of self.new) left) }
+        ensures pieces { (left : List ℕ)
+            → Answers result (to_come (hand_of self.old) left) (to_come (hand_of self.new) left) }
         ensures given { IsGiven result }
         ensures counted { self.new.taken ≡ self.old.taken }
     {
@@ -223,7 +228,8 @@ impl Buffer {
         self.start = 0;
     }
 
-    // How many places the next read is lent: all that are free, and no more than the bytes that may still be taken.
+    // How many places the next read is lent: all that are free, and no more than the bytes that may still be
+    // taken.
     fn lent(&self) -> usize
         requires room { self.now.end + READ ≤ ROOM }
         requires most { self.now.taken < MOST }
@@ -281,7 +287,8 @@ impl Buffer {
     // Gives the line of so many bytes that is in hand.
     fn give_in_hand(&mut self, i: usize) -> Result<Option<Piece>, PieceFault>
         requires { FirstNewline (bytes_of self.old) i }
-        ensures pieces { (left : List ℕ) → Answers result (to_come (hand_of self.old) left) (to_come (hand_of self.new) left) }
+        ensures pieces { (left : List ℕ)
+            → Answers result (to_come (hand_of self.old) left) (to_come (hand_of self.new) left) }
         ensures given { IsGivenOrUnchanged result (hand_of self.old) (hand_of self.new) }
         ensures counted { self.new.taken ≡ self.old.taken }
     {
@@ -295,12 +302,16 @@ impl Buffer {
     fn read_piece<S: Source>(&mut self, src: &mut S) -> Result<Option<Piece>, PieceFault>
         requires none { NoNewline (bytes_of self.old) }
         requires most { self.old.taken < MOST }
-        ensures pieces { Told (S.left src.old) (S.left src.new) (λ xs ys. Answers result (to_come (hand_of self.old) xs) (to_come (hand_of self.new) ys)) }
-        ensures whatever_follows { Told (S.left src.old) (S.left src.new) (TakesFor result (hand_of self.old) (hand_of self.new)) }
-        ensures counted { Told (S.left src.old) (S.left src.new) (λ xs ys. self.old.taken + length xs ≡ self.new.taken + length ys) }
+        ensures pieces { Told (S.left src.old) (S.left src.new)
+            (λ xs ys. Answers result (to_come (hand_of self.old) xs) (to_come (hand_of self.new) ys)) }
+        ensures whatever_follows { Told (S.left src.old) (S.left src.new)
+            (TakesFor result (hand_of self.old) (hand_of self.new)) }
+        ensures counted { Told (S.left src.old) (S.left src.new)
+            (λ xs ys. self.old.taken + length xs ≡ self.new.taken + length ys) }
         ensures grows { self.old.taken ≤ self.new.taken }
         ensures limited { IsLimited result self.new.taken }
-        ensures reason { HasReason result (hand_of self.old) (hand_of self.new) (S.left src.new) (S.faults src.old) (S.faults src.new) }
+        ensures reason { HasReason result (hand_of self.old) (hand_of self.new) (S.left src.new)
+            (S.faults src.old) (S.faults src.new) }
         ensures memory { IsErrOf result PieceFault.OutOfMemory → src.new ≡ src.old }
         ensures faults { S.faults src.old ≤ S.faults src.new }
     {
@@ -325,16 +336,21 @@ impl Buffer {
 
     /// The next piece of the bytes in hand and those that the source has left.
     pub(crate) fn next<S: Source>(&mut self, src: &mut S) -> Result<Option<Piece>, PieceFault>
-        ensures pieces { Told (S.left src.old) (S.left src.new) (λ xs ys. Answers result (to_come (hand_of self.old) xs) (to_come (hand_of self.new) ys)) }
-        ensures whatever_follows { Told (S.left src.old) (S.left src.new) (TakesFor result (hand_of self.old) (hand_of self.new)) }
-        ensures counted { Told (S.left src.old) (S.left src.new) (λ xs ys. self.old.taken + length xs ≡ self.new.taken + length ys) }
+        ensures pieces { Told (S.left src.old) (S.left src.new)
+            (λ xs ys. Answers result (to_come (hand_of self.old) xs) (to_come (hand_of self.new) ys)) }
+        ensures whatever_follows { Told (S.left src.old) (S.left src.new)
+            (TakesFor result (hand_of self.old) (hand_of self.new)) }
+        ensures counted { Told (S.left src.old) (S.left src.new)
+            (λ xs ys. self.old.taken + length xs ≡ self.new.taken + length ys) }
         ensures grows { self.old.taken ≤ self.new.taken }
         ensures limited { IsLimited result self.new.taken }
-        ensures reason { HasReason result (hand_of self.old) (hand_of self.new) (S.left src.new) (S.faults src.old) (S.faults src.new) }
+        ensures reason { HasReason result (hand_of self.old) (hand_of self.new) (S.left src.new)
+            (S.faults src.old) (S.faults src.new) }
         ensures memory { IsErrOf result PieceFault.OutOfMemory → src.new ≡ src.old }
         ensures faults { S.faults src.old ≤ S.faults src.new }
         ensures in_hand { HasNewline (bytes_of self.old) → src.new ≡ src.old }
-        ensures whole { HasNewline (bytes_of self.old) → (left : List ℕ) → Answers result (to_come (hand_of self.old) left) (to_come (hand_of self.new) left) }
+        ensures whole { HasNewline (bytes_of self.old) → (left : List ℕ)
+            → Answers result (to_come (hand_of self.old) left) (to_come (hand_of self.new) left) }
     {
         if self.taken == MOST {
             return Err(PieceFault::ByteLimit);

@@ -48,7 +48,8 @@ fn reader_at<R: Files<File = File>>(
 }
 
 /// Standard output as what is written, or nowhere if it was closed as the run began. A regular file behind it
-/// is opened once more, by the link that leads to the open file, since its length is asked for at an open file.
+/// is opened once more, by the link that leads to the open file, since its length is asked for at an open
+/// file.
 fn standard_writer<R: Files<File = File>>(
     rt: &R,
     stdout: Stdout,

@@ -27,7 +27,8 @@ impl World for ToldWorld {
 
     ghost out_at = { λ w place. ⟦<MemWorld as World>⟧.out_at w.parts place };
 
-    ghost rest = { λ w. record { reported = ⟦<MemSink as Sink>⟧.held w.report; report_faults = ⟦<MemSink as Sink>⟧.faults w.report } };
+    ghost rest = { λ w. record
+        { reported = ⟦<MemSink as Sink>⟧.held w.report; report_faults = ⟦<MemSink as Sink>⟧.faults w.report } };
 
     ghost moments = { λ w who. ⟦<MemWorld as World>⟧.moments w.parts who };
 

@@ -10,8 +10,8 @@ use std::rt::Files;
 /// The last of the descriptors of the standard streams.
 const LAST_STANDARD: RawFd = 2;
 
-/// The links by which the system shows what stands behind the standard streams: each leads to the open file, and
-/// not to what bears its name by now.
+/// The links by which the system shows what stands behind the standard streams: each leads to the open file,
+/// and not to what bears its name by now.
 const STANDARD_INPUT: &str = "/proc/self/fd/0";
 
 pub const STANDARD_OUTPUT: &str = "/proc/self/fd/1";

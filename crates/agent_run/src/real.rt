@@ -1,5 +1,5 @@
 //! The real world: files, the standard streams, and the clock.
-ghost use Rattle.std.specs.Prelude.{◌≡◌, None};
+ghost use Rattle.std.specs.Prelude.{◌≡◌, ◌≢◌, None, Some, Contains, IfSome, IsNone, codes, true};
 
 mod clock;
 mod files;
@@ -28,7 +28,10 @@ fn reader_at<R: Files<File = File>>(
     stdin: Stdin,
     files: &OpenFiles,
     place: &str,
-) -> Option<Opened<Reader>> {
+) -> Option<Opened<Reader>>
+    ensures closed { place.now ≡ codes "stdin" → files.now.standard.input.was_closed ≡ true →
+        IsNone result }
+{
     if place == "stdin" {
         let input = files.standard.input;
         if input.was_closed {
@@ -48,8 +51,7 @@ fn reader_at<R: Files<File = File>>(
 }
 
 /// Standard output as what is written, or nowhere if it was closed as the run began. A regular file behind it
-/// is opened once more, by the link that leads to the open file, since its length is asked for at an open
-/// file.
+/// is opened once more, by the link that leads to the open file, to ask for its length and to cut it.
 fn standard_writer<R: Files<File = File>>(
     rt: &R,
     stdout: Stdout,
@@ -72,7 +74,15 @@ fn writer_at<R: Files<File = File>>(
     stdout: Stdout,
     files: &OpenFiles,
     place: &str,
-) -> Option<Opened<Writer>> {
+) -> Option<Opened<Writer>>
+    ensures closed { place.now ≡ codes "stdout" → files.now.standard.output.was_closed ≡ true →
+        IsNone result }
+    ensures places { IfSome result (λ opened. IfSome opened.file (λ identity.
+        Contains files.now.places.items identity → ⊥)) }
+    ensures streams { place.now ≢ codes "stdout" → IfSome result (λ opened. IfSome opened.file (λ identity.
+        (files.now.standard.input.file ≢ Some identity) × (files.now.standard.output.file ≢ Some identity)
+        × (files.now.standard.error.file ≢ Some identity))) }
+{
     if place == "stdout" {
         let output = files.standard.output;
         if output.was_closed || files.is_place(output.file) {

@@ -3,12 +3,12 @@ ghost use Rattle.line_proto.specs.Grammar.{WrittenIsRead, ReadIsWritten};
 ghost use Rattle.line_proto.specs.OneLine.{MetricIsOneLine};
 ghost use Rattle.line_proto.specs.RoundTrip.{MetricIsReadBack};
 
-/// What is written as a line, with no backslash and no double quote, is read as its metric.
+/// What is written as a line is read as its metric.
 pub fn written_is_read()
     ensures { WrittenIsRead }
 {}
 
-/// What is read as a metric, with no backslash and no double quote, is written as a line.
+/// What is read as a metric is written as a line.
 pub fn read_is_written()
     ensures { ReadIsWritten }
 {}

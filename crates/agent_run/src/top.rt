@@ -16,13 +16,13 @@ use crate::status::Status;
 use agent_base::{PutFault, World};
 use std::alloc::{AllocError, Global};
 
-/// The number of the run's clock.
+/// The number of the run's clock. Input i has clock 3 + i; 1 and 2 are kept for the processors and the journal.
 const RUN_CLOCK: u32 = 0;
 
 /// How long a wait of the run's clock pauses: 10 seconds, in nanoseconds.
 const RUN_PAUSE: i64 = 10_000_000_000;
 
-/// The number of the input's clock.
+/// The number of the clock of input 0.
 const INPUT_CLOCK: u32 = 3;
 
 /// How long a wait of the input's clock pauses: 10 milliseconds, in nanoseconds.

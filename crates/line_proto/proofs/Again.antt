@@ -81,7 +81,7 @@ pub record Spans (piece : List ℕ) (i j : ℕ) (text : List ℕ) : Type 0 where
 pub joins : (piece : List ℕ) (i j k : ℕ) (a b : List ℕ) → Spans piece i j a → Spans piece j k b → Spans piece i k (a ++ b)
 joins piece i j k a b x y = record { is = x.is ∙ ap (λ (t : List ℕ). a ++ t) y.is ∙ sym (append_assoc a b (drop k piece)); more = omega (arith, x.more, y.more); within = y.within }
 
-ends_meet : (k : Kind) (marks : List Mark) (rest : List ℕ) → IsPart k marks rest → Meets k.ends rest
+pub ends_meet : (k : Kind) (marks : List Mark) (rest : List ℕ) → IsPart k marks rest → Meets k.ends rest
 ends_meet k [] [] h = tt
 ends_meet k [] (b ∷ rest) h = h.0
 ends_meet k (Escaped c ∷ marks) rest h = ends_meet k marks rest h.1

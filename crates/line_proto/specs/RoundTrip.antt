@@ -45,3 +45,8 @@ abbrev pub MetricIsReadBack : Type 0
 MetricIsReadBack = (m : Content) (moment : ℤ) → IsMetric m → IsPlain m
     → (line : List ℕ) × (line_text m ≡ line ++ codes "\n") × HasNone ends_line line
     × (reading line moment ≡ Ok (Some m))
+
+-- what is read of a piece in one line is plain
+abbrev pub ReadIsPlain : Type 0
+ReadIsPlain = (piece : List ℕ) (moment : ℤ) (content : Content) → HasNone ends_line piece
+    → reading piece moment ≡ Ok (Some content) → IsPlain content

@@ -1,7 +1,8 @@
 //! Laws of readings and lines.
+ghost use Rattle.line_proto.specs.Faults.{FaultIsWithin};
 ghost use Rattle.line_proto.specs.Grammar.{WrittenIsRead, ReadIsWritten};
 ghost use Rattle.line_proto.specs.OneLine.{MetricIsOneLine};
-ghost use Rattle.line_proto.specs.RoundTrip.{MetricIsReadBack};
+ghost use Rattle.line_proto.specs.RoundTrip.{MetricIsReadBack, ReadIsPlain};
 
 /// What is written as a line is read as its metric.
 pub fn written_is_read()
@@ -21,4 +22,14 @@ pub fn metric_is_one_line()
 /// The line of a plain metric is read as the metric.
 pub fn metric_is_read_back()
     ensures { MetricIsReadBack }
+{}
+
+/// A fault's place is in the piece, or its length.
+pub fn fault_is_within()
+    ensures { FaultIsWithin }
+{}
+
+/// What is read of a piece without a newline and a carriage return is plain: its line is read as it.
+pub fn read_is_plain()
+    ensures { ReadIsPlain }
 {}

@@ -56,8 +56,8 @@ account_of setup journal = account_text (totals setup journal)
 abbrev pub text_of : Setup → List Entry → List ℕ
 text_of setup journal = journal_text (journal_setup_of setup) journal (account_of setup journal)
 
--- a read of the input failed: its count rose, and the Gathers name all pieces of the bytes that were taken
--- but at most the last
+-- a read of the input failed: its count rose, and the Gathers name all pieces of the bytes that were taken,
+-- but perhaps that of the last line
 abbrev pub IsCutShort : Change → List Entry → Type 0
 IsCutShort input journal = Rose input.faults_before input.faults_after
     × Told input.before input.after (NamesTaken journal 0)

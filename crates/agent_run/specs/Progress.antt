@@ -89,8 +89,8 @@ HasState states.LimitReached start read_faults left hand journal = (hand.taken �
 abbrev pub IsClocked : Moments → ℕ → List ℤ → Type 0
 IsClocked moments place all = (place ≤ moments.last) × Clocked moments 0 place all
 
--- while the input is read on its Gathers name the pieces of what was taken, whatever follows; after a failed
--- read all of these but at most the last
+-- while the input is read on its Gathers name the pieces of what was taken, whatever follows; after a failed read
+-- all of these but perhaps that of the last line
 abbrev pub IsNamedOfTaken : InState → List Entry → Hand → List ℕ → List ℕ → Type 0
 IsNamedOfTaken states.Reading journal hand text left = NamesSoFar 1000 journal 0 hand text left
 IsNamedOfTaken states.Ended journal hand text left = Unit {0}

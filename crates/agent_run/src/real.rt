@@ -201,7 +201,7 @@ impl<'r, R: Files<File = File> + std::rt::Clock + Sync> World for RealWorld<'r, 
     fn open_in(&mut self, place: &str) -> Result<StdSource<Reader>, OpenFault> {
         if !self.parts.has_in(place) {
             if let Some(opened) = reader_at(self.rt, self.stdin, &self.files, place) {
-                let noted = self.files.note(opened.file);
+                let noted = self.files.add(opened.file);
                 let source = StdSource::new(opened.stream);
                 if noted.is_err() || self.parts.add_in(place, source).is_err() {
                     return Err(OpenFault::OutOfMemory);
@@ -214,7 +214,7 @@ impl<'r, R: Files<File = File> + std::rt::Clock + Sync> World for RealWorld<'r, 
     fn open_out(&mut self, place: &str) -> Result<StdSink<Writer>, OpenFault> {
         if !self.parts.has_out(place) {
             if let Some(opened) = writer_at(self.rt, self.stdout, &self.files, place) {
-                let noted = self.files.note(opened.file);
+                let noted = self.files.add(opened.file);
                 let sink = StdSink::new(opened.stream);
                 if noted.is_err() || self.parts.add_out(place, sink).is_err() {
                     return Err(OpenFault::OutOfMemory);

@@ -130,7 +130,7 @@ impl OpenFiles {
     }
 
     /// Notes the file of a place as open, where it is a regular one.
-    pub fn note(&mut self, file: Option<FileIdentity>) -> Result<(), OutOfMemory>
+    pub fn add(&mut self, file: Option<FileIdentity>) -> Result<(), OutOfMemory>
         ensures standard { self.new.standard ≡ self.old.standard }
         ensures places { OnOk result (MatchOption file (self.new.places.items ≡ self.old.places.items)
             (λ identity. self.new.places.items ≡ self.old.places.items ++ identity ∷ [])) }

@@ -74,7 +74,8 @@ field_text field = key_text field.0 ++ codes "=" ++ value_text field.1
 
 -- a metric without its time: the measurement, the tags in the order of their keys and the fields
 unfoldable pub head_text : Content → List ℕ
-head_text m = name_text m.name ++ flat_map tag_text m.tags ++ codes " " ++ join_by field_text (codes ",") m.fields
+head_text m =
+    name_text m.name ++ flat_map tag_text m.tags ++ codes " " ++ join_by field_text (codes ",") m.fields
 
 -- a metric's line
 unfoldable pub line_text : Content → List ℕ

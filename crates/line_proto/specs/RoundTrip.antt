@@ -24,8 +24,8 @@ IsPlainValue (Fixed n) = Unit {0}
 IsPlainValue (Truth b) = Unit {0}
 IsPlainValue (Text text) = HasNone ends_line text
 
--- the metric's texts are in one line, none but those of its fields ends with a backslash, its measurement begins no
--- comment, and it keeps the limits
+-- the metric's texts are in one line, none but those of its fields ends with a backslash, its measurement
+-- begins no comment, and it keeps the limits
 pub record IsPlain (m : Content) : Type 0 where
   pub name : IsPlainWord m.name
   pub no_comment : NoHash m.name

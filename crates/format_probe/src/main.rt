@@ -1,8 +1,9 @@
-//! Shows what texts of a format read as: `format_probe IN OUT` cuts standard input into pieces, reads each in the format
-//! IN at the moment 7, and writes what OUT asks for. `influx` writes the line of each metric, `KIND PLACE` for a piece
-//! that is refused, and `TooLong` for one that is too long; `count` writes nothing of them. The last line says how many
-//! pieces, refusals, passed samples and metrics there were. IN is `influx`. The status is 2 where the words are others,
-//! and 1 where standard input or output failed or memory was wanting.
+//! Shows what texts of a format read as: `format_probe IN OUT` cuts standard input into pieces, reads each in
+//! the format IN at the moment 7, and writes what OUT asks for. `influx` writes the line of each metric,
+//! `KIND PLACE` for a piece that is refused, and `TooLong` for one that is too long; `count` writes nothing
+//! of them. The last line says how many pieces, refusals, passed samples and metrics there were. IN is
+//! `influx`. The status is 2 where the words are others, and 1 where standard input or output failed or
+//! memory was wanting.
 #![tactic(auto)]
 
 use agent_base::{CutKind, Piece, PieceFault, Pieces, Sink, Source, StdSink, StdSource};

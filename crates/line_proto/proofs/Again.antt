@@ -16,7 +16,7 @@ use Rattle.std.specs.Prelude.{◌⊎◌}
 use Rattle.text_parts.specs.Chain.{◌>>=◌}
 use Rattle.text_parts.specs.Many.{Reader, many_at, items_at}
 use Rattle.text_parts.proofs.Utf8.{either}
-use Rattle.text_parts.proofs.Bare.{position_or_len_le}
+use Rattle.text_parts.proofs.Spans.{position_or_len_le}
 use Rattle.metric.specs.declared.value.Value.{Value}
 use Rattle.metric.specs.declared.metric.Content.{Content}
 use Rattle.line_proto.specs.declared.fault.LineKind.{LineKind}

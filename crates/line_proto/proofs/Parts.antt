@@ -9,7 +9,7 @@ use Rattle.std.proofs.lemmas.List.{get_or-drop, get_or_past, length-drop}
 use Rattle.std.proofs.lemmas.List.Sums.{prefix_len_passes}
 use Rattle.text_parts.specs.Part.{Kind}
 use Rattle.text_parts.specs.Kinds.{kind_of}
-use Rattle.text_parts.proofs.Bare.{position_or_len_le}
+use Rattle.text_parts.proofs.Spans.{position_or_len_le}
 use Rattle.text_parts.proofs.Utf8.{EndsLow, either}
 use Rattle.line_proto.specs.Kinds.{name_part, key_part, tag_value_part, text_part, value_part}
 use Rattle.line_proto.specs.declared.read_parts.TheConstants.{NAME, KEY, TAG_VALUE, TEXT}

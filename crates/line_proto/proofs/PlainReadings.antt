@@ -22,7 +22,8 @@ use Rattle.line_proto.specs.Grammar.{HasNone, NoHash, IsWritten, Written, spaces
 use Rattle.line_proto.specs.Grammar.{line_spelling, IsTag, IsQuoted, IsUnquoted, IsField, AllAre, IsLine}
 use Rattle.line_proto.specs.Reading.{Tag, Field, Line, content_of, has_too_many, reading}
 use Rattle.line_proto.specs.OneLine.{ends_line}
-use Rattle.line_proto.specs.RoundTrip.{NoBackslashEnd, IsPlainWord, IsPlainValue, IsPlain}
+use Rattle.text_parts.specs.Escaped.{NoBackslashEnd}
+use Rattle.line_proto.specs.RoundTrip.{IsPlainWord, IsPlainValue, IsPlain}
 use Rattle.line_proto.proofs.Again.{read_is_written}
 
 none_split : (p : ℕ → Bool) (xs ys : List ℕ) → HasNone p (xs ++ ys) → HasNone p xs × HasNone p ys

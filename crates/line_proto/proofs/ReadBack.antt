@@ -8,7 +8,7 @@ use Rattle.std.specs.Str.{IsUtf8}
 use Rattle.std.proofs.lemmas.Bool.{or_parts}
 use Rattle.std.proofs.lemmas.List.{append-nil, reverse-append, length-append, take_all}
 use Rattle.std.proofs.lemmas.Str.{IsUtf8-append}
-use Rattle.text_parts.specs.Grammar.{Escaped, Bare, spelled, Ends}
+use Rattle.text_parts.specs.Grammar.{Ends}
 use Rattle.text_parts.specs.Part.{Kind}
 use Rattle.metric.specs.declared.metric.Content.{Content}
 use Rattle.metric.specs.declared.value.Value.{Value}
@@ -19,14 +19,15 @@ use Rattle.metric.specs.Pairs.{in_key_order, in_first_order, with_values}
 use Rattle.line_proto.specs.Kinds.{name_part, key_part, tag_value_part, text_part}
 use Rattle.line_proto.specs.Grammar.{HasNone, NoHash, NoQuote, IsWritten, Written, pair_text, pairs_text, line_spelling, IsTag, IsField}
 use Rattle.line_proto.specs.Grammar.{IsQuoted, IsUnquoted, AllAre, IsLine}
-use Rattle.line_proto.specs.LineText.{on_one_line, trimmed, escaped, name_text, key_text, value_text, tag_text, field_text}
+use Rattle.line_proto.specs.LineText.{on_one_line, trimmed, name_text, key_text, value_text, tag_text, field_text, name_escapes, key_escapes, text_escapes}
+use Rattle.text_parts.specs.Escaped.{escaped}
 use Rattle.line_proto.specs.LineText.{head_text, line_text}
 use Rattle.line_proto.specs.Reading.{Tag, Field, Line, content_of, reading}
 use Rattle.line_proto.specs.OneLine.{ends_line}
-use Rattle.line_proto.specs.RoundTrip.{NoBackslashEnd, IsPlainWord, IsPlainValue, IsPlain}
-use Rattle.line_proto.proofs.EscapedParts.{marks_for, spelled_is, means_text, Suits, Closes, escaped_is_part, ends_before, is_mark}
-use Rattle.line_proto.proofs.EscapedParts.{escaped-IsUtf8, name_marks, key_marks, suits_name, suits_key, suits_tag_value}
-use Rattle.line_proto.proofs.EscapedParts.{one_ascii, suits_text, name_low, key_low, text_low}
+use Rattle.text_parts.specs.Escaped.{Escapes, Suits, NoBackslashEnd}
+use Rattle.line_proto.specs.RoundTrip.{IsPlainWord, IsPlainValue, IsPlain}
+use Rattle.line_proto.proofs.EscapedParts.{ends_before, one_ascii, escaped-IsUtf8, suits_name, suits_key, suits_tag_value, suits_text, name_low, key_low, text_low}
+use Rattle.text_parts.proofs.Escaping.{escaped_is_part}
 use Rattle.line_proto.proofs.KeptPairs.{sorted_stay, distinct_stay, filled_stay, few}
 use Rattle.line_proto.proofs.NumberTexts.{plain_value, plain_time}
 use Rattle.line_proto.proofs.PlainBytes.{Clean, IsNoText}
@@ -59,53 +60,49 @@ no_suffix (b ∷ c ∷ bs) h =
 trimmed_is : (text : List ℕ) → NoBackslashEnd text → trimmed text ≡ text
 trimmed_is text h = rw (no_suffix text h) (take_all (length text - 0) text (omega arith))
 
-key_is : (key : List ℕ) → 0 < length key → IsPlainWord key → key_text key ≡ escaped (codes ",= ") key
-key_is key some h = sym (kept_key key key (sym (trimmed_is key h.end)) some) ∙ ap (escaped (codes ",= ")) (one_line_is key h.none)
+key_is : (key : List ℕ) → 0 < length key → IsPlainWord key → key_text key ≡ escaped key_escapes key
+key_is key some h = sym (kept_key key key (sym (trimmed_is key h.end)) some) ∙ ap (escaped key_escapes) (one_line_is key h.none)
 
 no_hash_first : (name : List ℕ) → 0 < length name → NoHash name → (get_or name 0 0 == 35) ≡ false
 no_hash_first [] some h = absurd (omega arith)
 no_hash_first (b ∷ bs) some h = h
 
-name_is : (name : List ℕ) → 0 < length name → NoHash name → IsPlainWord name → name_text name ≡ escaped (codes ", ") name
+name_is : (name : List ℕ) → 0 < length name → NoHash name → IsPlainWord name → name_text name ≡ escaped name_escapes name
 name_is name some no_comment h =
-    sym (kept_name name name 0 (sym (trimmed_is name h.end)) some (no_hash_first name some no_comment)) ∙ ap (escaped (codes ", ")) (one_line_is name h.none)
+    sym (kept_name name name 0 (sym (trimmed_is name h.end)) some (no_hash_first name some no_comment)) ∙ ap (escaped name_escapes) (one_line_is name h.none)
 
-spelled_some : (marks text : List ℕ) → 0 < length text → 0 < length (spelled (marks_for marks text))
-spelled_some marks [] some = absurd (omega arith)
-spelled_some marks (b ∷ bs) some = one (is_mark marks b)
-  where
-    one : (t : Bool) → 0 < length (spelled (cond t (Escaped b) (Bare b) ∷ marks_for marks bs))
-    one true = omega arith
-    one false = omega arith
+escaped_some : (e : Escapes) (text : List ℕ) → 0 < length text → 0 < length (escaped e text)
+unfolding escaped
+escaped_some e [] some = absurd (omega arith)
+escaped_some e (b ∷ bs) some =
+    elim (e.is_mark b) as (λ t. 0 < length (cond t (92 ∷ e.written b ∷ []) (b ∷ []) ++ escaped e bs)) [ true ↦ omega arith | false ↦ omega arith ]
 
-word_written : (k : Kind) (marks text written rest : List ℕ) → Suits k marks → Closes k marks text → 0 < length text
-    → written ≡ escaped marks text → Ends k rest → IsWritten k written rest text
-word_written k marks text written rest suits closes some is ends =
-    let same : written ≡ spelled (marks_for marks text) = is ∙ spelled_is marks text in
+word_written : (k : Kind) (e : Escapes) (text written rest : List ℕ) → Suits k e text → 0 < length text
+    → written ≡ escaped e text → Ends k rest → IsWritten k written rest text
+word_written k e text written rest suits some is ends =
+    let part = escaped_is_part k e text rest suits ends in
     record {
-      some = subst (λ (t : List ℕ). 0 < length t) (sym same) (spelled_some marks text some);
-      marks = marks_for marks text;
-      is = same;
-      part = escaped_is_part k marks suits text rest ends closes;
-      says = means_text k marks suits text;
+      some = subst (λ (t : List ℕ). 0 < length t) (sym is) (escaped_some e text some);
+      marks = part.0;
+      is = is ∙ part.1;
+      part = part.2;
+      says = part.3;
     }
 
 key_written : (key rest : List ℕ) → IsWord key → IsPlainWord key → IsWritten key_part (key_text key) (61 ∷ rest) key
 key_written key rest is plain =
-    word_written key_part (codes ",= ") key (key_text key) (61 ∷ rest) suits_key (inr (λ b e. sym (key_marks b) ∙ e, plain.end)) is.filled
-    (key_is key is.filled plain) (ends_before key_part 61 rest refl refl)
+    word_written key_part key_escapes key (key_text key) (61 ∷ rest) (suits_key key plain.end) is.filled (key_is key is.filled plain)
+    (ends_before key_part 61 rest refl refl)
 
 tag_value_written : (value rest : List ℕ) → IsWord value → IsPlainWord value → Ends tag_value_part rest
     → IsWritten tag_value_part (key_text value) rest value
 tag_value_written value rest is plain ends =
-    word_written tag_value_part (codes ",= ") value (key_text value) rest suits_tag_value (inr (λ b e. sym (key_marks b) ∙ e, plain.end)) is.filled
-    (key_is value is.filled plain) ends
+    word_written tag_value_part key_escapes value (key_text value) rest (suits_tag_value value plain.end) is.filled (key_is value is.filled plain) ends
 
 name_written : (name rest : List ℕ) → IsWord name → IsPlainWord name → NoHash name → Ends name_part rest
     → IsWritten name_part (name_text name) rest name
 name_written name rest is plain no_comment ends =
-    word_written name_part (codes ", ") name (name_text name) rest suits_name (inr (λ b e. sym (name_marks b) ∙ e, plain.end)) is.filled
-    (name_is name is.filled no_comment plain) ends
+    word_written name_part name_escapes name (name_text name) rest (suits_name name plain.end) is.filled (name_is name is.filled no_comment plain) ends
 
 -- ---- values
 
@@ -125,12 +122,14 @@ value_written (Int n) rest is plain = inr (unquoted_of (Int n) is tt)
 value_written (Uint n) rest is plain = inr (unquoted_of (Uint n) is tt)
 value_written (Fixed n) rest is plain = inr (unquoted_of (Fixed n) is tt)
 value_written (Truth b) rest is plain = inr (unquoted_of (Truth b) is tt)
-value_written (Text text) rest is plain = inl (record {
-  marks = marks_for (codes "\"\\") text;
-  is = ap (λ (t : List ℕ). 34 ∷ (t ++ 34 ∷ [])) (ap (escaped (codes "\"\\")) (one_line_is text plain) ∙ spelled_is (codes "\"\\") text);
-  part = escaped_is_part text_part (codes "\"\\") suits_text text (34 ∷ rest) (ends_before text_part 34 rest refl refl) (inl refl);
-  says = ap Text (means_text text_part (codes "\"\\") suits_text text);
-})
+value_written (Text text) rest is plain =
+    let part = escaped_is_part text_part text_escapes text (34 ∷ rest) (suits_text text) (ends_before text_part 34 rest refl refl) in
+    inl (record {
+      marks = part.0;
+      is = ap (λ (t : List ℕ). 34 ∷ (t ++ 34 ∷ [])) (ap (escaped text_escapes) (one_line_is text plain) ∙ part.1);
+      part = part.2;
+      says = ap Text part.3;
+    })
 
 -- ---- UTF-8
 
@@ -150,9 +149,9 @@ value_utf8 (Uint n) is plain = (plain_value (Uint n) is tt).clean.utf8
 value_utf8 (Fixed n) is plain = (plain_value (Fixed n) is tt).clean.utf8
 value_utf8 (Truth b) is plain = (plain_value (Truth b) is tt).clean.utf8
 value_utf8 (Text text) is plain =
-    IsUtf8-append (34 ∷ escaped (codes "\"\\") (on_one_line text)) (34 ∷ [])
-    (IsUtf8-append (34 ∷ []) (escaped (codes "\"\\") (on_one_line text)) (ascii 34 (omega arith))
-    (subst (λ (t : List ℕ). IsUtf8 (escaped (codes "\"\\") t)) (sym (one_line_is text plain)) (escaped-IsUtf8 (codes "\"\\") text_low text is)))
+    IsUtf8-append (34 ∷ escaped text_escapes (on_one_line text)) (34 ∷ [])
+    (IsUtf8-append (34 ∷ []) (escaped text_escapes (on_one_line text)) (ascii 34 (omega arith))
+    (subst (λ (t : List ℕ). IsUtf8 (escaped text_escapes t)) (sym (one_line_is text plain)) (escaped-IsUtf8 (codes "\"\\") text_low text is)))
     (ascii 34 (omega arith))
 
 pair_utf8 : (pair : List ℕ × List ℕ) → IsUtf8 pair.0 → IsUtf8 pair.1 → IsUtf8 (pair_text pair)
@@ -255,23 +254,21 @@ line_is_spelled name tags field fields time =
     rw (tags_text tags, one_field field, fields_text fields)
     (regroup (name_text name) (pairs_text (map written_tag tags)) (pair_text (written_field field)) (pairs_text (map written_field fields)) (signed_decimal time))
 
-name_no_hash : (marks text rest : List ℕ) → NoHash text → NoHash (spelled (marks_for marks text))
-name_no_hash marks [] rest h = tt
-name_no_hash marks (b ∷ bs) rest h = one (is_mark marks b)
-  where
-    one : (t : Bool) → NoHash (spelled (cond t (Escaped b) (Bare b) ∷ marks_for marks bs))
-    one true = refl
-    one false = h
+name_no_hash : (e : Escapes) (text : List ℕ) → NoHash text → NoHash (escaped e text)
+unfolding escaped
+name_no_hash e [] h = tt
+name_no_hash e (b ∷ bs) h =
+    elim (e.is_mark b) as (λ t. NoHash (cond t (92 ∷ e.written b ∷ []) (b ∷ []) ++ escaped e bs)) [ true ↦ refl | false ↦ h ]
 
 line_is_line : (name : List ℕ) (tags : List Tag) (field : Field) (fields : List Field) (time moment : ℤ) → IsMetric (made name tags (field ∷ fields) time)
     → IsPlain (made name tags (field ∷ fields) time)
     → IsLine (written name tags field fields time) (record { name = name; tags = tags; fields = field ∷ fields; time = time }) moment
 line_is_line name tags field fields time moment is plain =
     let t = plain_time time is.time in
-    let text = name_is name is.name.filled plain.no_comment plain.name ∙ spelled_is (codes ", ") name in
+    let text = name_is name is.name.filled plain.no_comment plain.name in
     record {
       name = name_written name _ is.name plain.name plain.no_comment (tags_end name_part refl refl tags _);
-      no_comment = subst NoHash (sym text) (name_no_hash (codes ", ") name [] plain.no_comment);
+      no_comment = subst NoHash (sym text) (name_no_hash name_escapes name plain.no_comment);
       tags = tags_are tags _ is.tags plain.tags;
       gap = omega arith;
       fields = fields_are (field ∷ fields) _ is.fields plain.fields;

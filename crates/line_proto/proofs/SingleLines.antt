@@ -9,7 +9,8 @@ use Rattle.metric.specs.declared.value.Value.{Value}
 use Rattle.metric.specs.declared.value.Value.TheVariants.{Int, Uint, Fixed, «Bool» as Truth, Text}
 use Rattle.metric.specs.declared.metric.Content.{Content}
 use Rattle.line_proto.specs.Grammar.{HasNone}
-use Rattle.line_proto.specs.LineText.{spaced, on_one_line, trimmed, or_underscore, without_hash, escaped_byte, escaped, name_text, key_text, value_text, tag_text, field_text, head_text, line_text}
+use Rattle.line_proto.specs.LineText.{spaced, on_one_line, trimmed, or_underscore, without_hash, name_text, key_text, value_text, tag_text, field_text, head_text, line_text, as_written, text_escapes}
+use Rattle.text_parts.specs.Escaped.{escaped_byte, escaped}
 use Rattle.line_proto.specs.OneLine.{ends_line}
 use Rattle.metric.specs.Metric.{IsMetric, IsValue, IsField}
 use Rattle.line_proto.specs.Reading.{Tag, Field}
@@ -41,12 +42,12 @@ none_hash : (text : List ℕ) → HasNone ends_line text → HasNone ends_line (
 none_hash [] h = tt
 none_hash (b ∷ bs) h = (elim (b == 35) as (λ t. ends_line (cond t 95 b) ≡ false) [ true ↦ refl | false ↦ h.0 ], h.1)
 
-none_escaped : (marks text : List ℕ) → HasNone ends_line text → HasNone ends_line (escaped marks text)
+none_escaped : (marks text : List ℕ) → HasNone ends_line text → HasNone ends_line (escaped (as_written marks) text)
 unfolding escaped
 none_escaped marks [] h = tt
-none_escaped marks (b ∷ bs) h = none-append ends_line (escaped_byte marks b) (escaped marks bs) byte (none_escaped marks bs h.1)
+none_escaped marks (b ∷ bs) h = none-append ends_line (escaped_byte (as_written marks) b) (escaped (as_written marks) bs) byte (none_escaped marks bs h.1)
   where
-    byte : HasNone ends_line (escaped_byte marks b)
+    byte : HasNone ends_line (escaped_byte (as_written marks) b)
     byte = elim (list_any (λ mark. mark == b) marks) as (λ t. HasNone ends_line (cond t (92 ∷ b ∷ []) (b ∷ []))) [ true ↦ (refl, (h.0, tt)) | false ↦ (h.0, tt) ]
 
 none_name : (name : List ℕ) → HasNone ends_line (name_text name)
@@ -62,8 +63,8 @@ none_key key = none_escaped (codes ",= ") (or_underscore (trimmed (on_one_line k
 no_line : (b : ℕ) → 45 ≤ b → b ≤ 57 → ends_line b ≡ false
 no_line b low high = rw (ne_eqb b 10 (λ e. absurd (omega arith)), ne_eqb b 13 (λ e. absurd (omega arith))) refl
 
-none_quoted : (text : List ℕ) → HasNone ends_line (codes "\"" ++ escaped (codes "\"\\") (on_one_line text) ++ codes "\"")
-none_quoted text = none-append ends_line (34 ∷ escaped (codes "\"\\") (on_one_line text)) (34 ∷ []) (refl, none_escaped (codes "\"\\") (on_one_line text) (one_line text)) (refl, tt)
+none_quoted : (text : List ℕ) → HasNone ends_line (codes "\"" ++ escaped text_escapes (on_one_line text) ++ codes "\"")
+none_quoted text = none-append ends_line (34 ∷ escaped text_escapes (on_one_line text)) (34 ∷ []) (refl, none_escaped (codes "\"\\") (on_one_line text) (one_line text)) (refl, tt)
 
 none_truth : (b : Bool) → HasNone ends_line (cond b (codes "true") (codes "false"))
 none_truth true = (refl, (refl, (refl, (refl, tt))))

@@ -10,7 +10,7 @@ use Rattle.std.proofs.lemmas.List.{length-drop}
 use Rattle.text_parts.specs.Chain.{◌>>=◌}
 use Rattle.text_parts.specs.Part.{len_at, text_at}
 use Rattle.text_parts.specs.Many.{Reader, many_at, items_at}
-use Rattle.text_parts.proofs.Bare.{position_or_len_le}
+use Rattle.text_parts.proofs.Spans.{position_or_len_le}
 use Rattle.line_proto.specs.declared.fault.LineKind.{LineKind}
 use Rattle.line_proto.specs.declared.fault.LineKind.TheVariants.{NoFields, BadKey, BadValue, BadTime, NotUtf8, TooMany}
 use Rattle.line_proto.specs.declared.fault.LineFault.{LineFault}

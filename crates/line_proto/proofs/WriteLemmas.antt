@@ -8,11 +8,12 @@ use Rattle.std.proofs.lemmas.List.Folds.{flat_map-map}
 use Rattle.std.specs.List.{take-map}
 use Rattle.std.specs.Prelude.{codes}
 use Rattle.metric.specs.declared.value.Value.{Value}
-use Rattle.line_proto.specs.LineText.{spaced, on_one_line, trimmed, or_underscore, without_hash, escaped, escaped_byte, key_text, name_text, field_text, is_bare}
+use Rattle.line_proto.specs.LineText.{spaced, on_one_line, trimmed, or_underscore, without_hash, key_text, name_text, field_text, is_bare, as_written, name_escapes, key_escapes}
+use Rattle.text_parts.specs.Escaped.{escaped, escaped_byte}
 
 -- ---- bytes that are written as they are
 
-bare_byte : (marks : List ℕ) (b : ℕ) → is_bare marks b ≡ true → escaped_byte marks (spaced b) ≡ b ∷ []
+bare_byte : (marks : List ℕ) (b : ℕ) → is_bare marks b ≡ true → escaped_byte (as_written marks) (spaced b) ≡ b ∷ []
 bare_byte marks b h =
     let ends = and_parts (not (b == 10) && not (b == 13)) (not (list_any (λ mark. mark == b) marks)) h in
     let lines = and_parts (not (b == 10)) (not (b == 13)) ends.0 in
@@ -21,17 +22,17 @@ bare_byte marks b h =
     let no_mark : list_any (λ mark. mark == b) marks ≡ false = not-true _ ends.1 in
     rw (no_newline, no_return, no_mark) refl
 
-pub written_bytes : (marks text : List ℕ) → escaped marks (on_one_line text) ≡ flat_map (λ b. escaped_byte marks (spaced b)) text
+pub written_bytes : (marks text : List ℕ) → escaped (as_written marks) (on_one_line text) ≡ flat_map (λ b. escaped_byte (as_written marks) (spaced b)) text
 unfolding escaped
-written_bytes marks text = flat_map-map (escaped_byte marks) spaced text
+written_bytes marks text = flat_map-map (escaped_byte (as_written marks)) spaced text
 
-bare_bytes : (marks text : List ℕ) → list_all (is_bare marks) text ≡ true → flat_map (λ b. escaped_byte marks (spaced b)) text ≡ text
+bare_bytes : (marks text : List ℕ) → list_all (is_bare marks) text ≡ true → flat_map (λ b. escaped_byte (as_written marks) (spaced b)) text ≡ text
 bare_bytes marks [] h = refl
 bare_bytes marks (b ∷ bs) h =
     let parts = and_parts (is_bare marks b) (list_all (is_bare marks) bs) h in
     rw (bare_byte marks b parts.0) (ap (λ rest. b ∷ rest) (bare_bytes marks bs parts.1))
 
-pub bare_text : (marks text : List ℕ) → list_all (is_bare marks) text ≡ true → escaped marks (on_one_line text) ≡ text
+pub bare_text : (marks text : List ℕ) → list_all (is_bare marks) text ≡ true → escaped (as_written marks) (on_one_line text) ≡ text
 bare_text marks text h = written_bytes marks text ∙ bare_bytes marks text h
 
 -- ---- backslashes at the end
@@ -64,10 +65,10 @@ trimmed-on_one_line text =
 -- ---- loops
 
 -- all bytes were written
-pub all_written : (out old marks text : List ℕ) (i : ℕ) → length text ≤ i → out ≡ old ++ flat_map (λ b. escaped_byte marks (spaced b)) (take i text) → out ≡ old ++ escaped marks (on_one_line text)
+pub all_written : (out old marks text : List ℕ) (i : ℕ) → length text ≤ i → out ≡ old ++ flat_map (λ b. escaped_byte (as_written marks) (spaced b)) (take i text) → out ≡ old ++ escaped (as_written marks) (on_one_line text)
 all_written out old marks text i end h =
     let all : take i text ≡ text = grind (arith, common_steps) in
-    h ∙ ap (λ bytes. old ++ flat_map (λ b. escaped_byte marks (spaced b)) bytes) all ∙ ap (λ bytes. old ++ bytes) (sym (written_bytes marks text))
+    h ∙ ap (λ bytes. old ++ flat_map (λ b. escaped_byte (as_written marks) (spaced b)) bytes) all ∙ ap (λ bytes. old ++ bytes) (sym (written_bytes marks text))
 
 -- ---- keys and names
 
@@ -75,10 +76,10 @@ some_byte : (text : List ℕ) → 0 < length text → or_underscore (on_one_line
 some_byte [] lt = absurd (omega arith)
 some_byte (b ∷ bs) lt = refl
 
-pub kept_key : (key kept : List ℕ) → kept ≡ trimmed key → 0 < length kept → escaped (codes ",= ") (on_one_line kept) ≡ key_text key
+pub kept_key : (key kept : List ℕ) → kept ≡ trimmed key → 0 < length kept → escaped key_escapes (on_one_line kept) ≡ key_text key
 unfolding key_text
 kept_key key kept is lt =
-    ap (escaped (codes ",= ")) (sym (some_byte kept lt) ∙ ap (λ text. or_underscore (on_one_line text)) is ∙ ap or_underscore (sym (trimmed-on_one_line key)))
+    ap (escaped key_escapes) (sym (some_byte kept lt) ∙ ap (λ text. or_underscore (on_one_line text)) is ∙ ap or_underscore (sym (trimmed-on_one_line key)))
 
 empty_text : (text kept : List ℕ) → kept ≡ trimmed text → length kept ≡ 0 → or_underscore (trimmed (on_one_line text)) ≡ 95 ∷ []
 empty_text text [] is none = ap or_underscore (trimmed-on_one_line text ∙ ap on_one_line (sym is))
@@ -86,11 +87,11 @@ empty_text text (b ∷ bs) is none = absurd (omega arith)
 
 pub empty_key : (key kept : List ℕ) → kept ≡ trimmed key → length kept ≡ 0 → key_text key ≡ 95 ∷ []
 unfolding key_text escaped
-empty_key key kept is none = ap (escaped (codes ",= ")) (empty_text key kept is none)
+empty_key key kept is none = ap (escaped key_escapes) (empty_text key kept is none)
 
 pub empty_name : (name kept : List ℕ) → kept ≡ trimmed name → length kept ≡ 0 → name_text name ≡ 95 ∷ []
 unfolding name_text escaped
-empty_name name kept is none = ap (λ text. escaped (codes ", ") (without_hash text)) (empty_text name kept is none)
+empty_name name kept is none = ap (λ text. escaped name_escapes (without_hash text)) (empty_text name kept is none)
 
 spaced_hash : (b : ℕ) → (b == 35) ≡ false → (spaced b == 35) ≡ false
 spaced_hash b h =
@@ -100,10 +101,10 @@ no_hash : (kept : List ℕ) (d : ℕ) → 0 < length kept → (get_or kept 0 d =
 no_hash [] d lt h = absurd (omega arith)
 no_hash (b ∷ bs) d lt h = rw (spaced_hash b h) refl
 
-pub kept_name : (name kept : List ℕ) (d : ℕ) → kept ≡ trimmed name → 0 < length kept → (get_or kept 0 d == 35) ≡ false → escaped (codes ", ") (on_one_line kept) ≡ name_text name
+pub kept_name : (name kept : List ℕ) (d : ℕ) → kept ≡ trimmed name → 0 < length kept → (get_or kept 0 d == 35) ≡ false → escaped name_escapes (on_one_line kept) ≡ name_text name
 unfolding name_text
 kept_name name kept d is lt h =
-    ap (escaped (codes ", ")) (sym (no_hash kept d lt h) ∙ ap (λ text. without_hash (or_underscore (on_one_line text))) is ∙ ap (λ text. without_hash (or_underscore text)) (sym (trimmed-on_one_line name)))
+    ap (escaped name_escapes) (sym (no_hash kept d lt h) ∙ ap (λ text. without_hash (or_underscore (on_one_line text))) is ∙ ap (λ text. without_hash (or_underscore text)) (sym (trimmed-on_one_line name)))
 
 hash : (kept : List ℕ) → 0 < length kept → get_or kept 0 0 ≡ 35 → without_hash (or_underscore (on_one_line kept)) ≡ 95 ∷ on_one_line (take (length kept - 1) (drop 1 kept))
 hash [] lt h = absurd (omega arith)
@@ -112,10 +113,10 @@ hash (b ∷ bs) lt h =
     rw (h, rest) refl
 
 pub hashed_name : (name kept : List ℕ) → kept ≡ trimmed name → 0 < length kept → get_or kept 0 0 ≡ 35
-    → (95 ∷ []) ++ escaped (codes ", ") (on_one_line (take (length kept - 1) (drop 1 kept))) ≡ name_text name
+    → (95 ∷ []) ++ escaped name_escapes (on_one_line (take (length kept - 1) (drop 1 kept))) ≡ name_text name
 unfolding name_text escaped
 hashed_name name kept is lt h =
-    ap (escaped (codes ", ")) (sym (hash kept lt h) ∙ ap (λ text. without_hash (or_underscore (on_one_line text))) is ∙ ap (λ text. without_hash (or_underscore text)) (sym (trimmed-on_one_line name)))
+    ap (escaped name_escapes) (sym (hash kept lt h) ∙ ap (λ text. without_hash (or_underscore (on_one_line text))) is ∙ ap (λ text. without_hash (or_underscore text)) (sym (trimmed-on_one_line name)))
 
 -- ---- fields
 

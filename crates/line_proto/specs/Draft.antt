@@ -24,10 +24,13 @@ pub record IsReady (draft : Draft) : Type 0 where
 
 -- the draft has the tags that were read
 abbrev pub HasTags : Draft → Result ℕ (ReadError LineFault) → Result (List Tag × ℕ) LineFault → Type 0
-HasTags draft (Ok behind) reading = (tags : List Tag) × (reading ≡ Ok (tags, behind)) × StandsFor draft tags []
+HasTags draft (Ok behind) reading =
+    (tags : List Tag) × (reading ≡ Ok (tags, behind)) × StandsFor draft tags []
 HasTags draft (Err e) reading = Fails e reading
 
 -- beside its tags the draft has the fields that were read
-abbrev pub HasFields : Draft → List Tag → Result ℕ (ReadError LineFault) → Result (List Field × ℕ) LineFault → Type 0
-HasFields draft tags (Ok behind) reading = (fields : List Field) × (reading ≡ Ok (fields, behind)) × StandsFor draft tags fields
+abbrev pub HasFields : Draft → List Tag → Result ℕ (ReadError LineFault)
+    → Result (List Field × ℕ) LineFault → Type 0
+HasFields draft tags (Ok behind) reading =
+    (fields : List Field) × (reading ≡ Ok (fields, behind)) × StandsFor draft tags fields
 HasFields draft tags (Err e) reading = Fails e reading

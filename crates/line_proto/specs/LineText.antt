@@ -4,6 +4,7 @@ use Rattle.std.specs.Prelude.{flat_map, codes, if◌then◌else◌}
 use Rattle.std.specs.List.{list_any, suffix_len, join_by}
 use Rattle.std.specs.Fmt.{decimal, signed_decimal}
 use Rattle.text_parts.specs.Bytes.{newline, carriage_return, space, hash, backslash, underscore}
+use Rattle.text_parts.specs.Escaped.{Escapes, escaped}
 use Rattle.fixed_num.specs.Canonical.{canonical_text}
 use Rattle.metric.specs.declared.value.Value.{Value}
 use Rattle.metric.specs.declared.value.Value.TheVariants.{Int, Uint, Fixed, «Bool» as Truth, Text}
@@ -31,25 +32,31 @@ abbrev pub without_hash : List ℕ → List ℕ
 without_hash [] = []
 without_hash (b ∷ bs) = (if b == hash then underscore else b) ∷ bs
 
--- a byte, behind a backslash where it is one of the marks
-abbrev pub escaped_byte : List ℕ → ℕ → List ℕ
-escaped_byte marks b = if list_any (λ mark. mark == b) marks then backslash ∷ b ∷ [] else b ∷ []
+-- these marks are written behind a backslash, as they are
+abbrev pub as_written : List ℕ → Escapes
+as_written marks = record { is_mark = λ b. list_any (λ mark. mark == b) marks; written = λ b. b }
+
+-- what is escaped in a measurement, in keys and the values of tags, and in texts
+abbrev pub name_escapes : Escapes
+name_escapes = as_written (codes ", ")
+
+abbrev pub key_escapes : Escapes
+key_escapes = as_written (codes ",= ")
+
+abbrev pub text_escapes : Escapes
+text_escapes = as_written (codes "\"\\")
 
 -- a byte that is written as it is
 abbrev pub is_bare : List ℕ → ℕ → Bool
 is_bare marks b = not (b == newline) && not (b == carriage_return) && not (list_any (λ mark. mark == b) marks)
 
--- a text with its marks escaped
-unfoldable pub escaped : List ℕ → List ℕ → List ℕ
-escaped marks text = flat_map (escaped_byte marks) text
-
 -- a measurement
 unfoldable pub name_text : List ℕ → List ℕ
-name_text name = escaped (codes ", ") (without_hash (or_underscore (trimmed (on_one_line name))))
+name_text name = escaped name_escapes (without_hash (or_underscore (trimmed (on_one_line name))))
 
 -- a key or the value of a tag
 unfoldable pub key_text : List ℕ → List ℕ
-key_text key = escaped (codes ",= ") (or_underscore (trimmed (on_one_line key)))
+key_text key = escaped key_escapes (or_underscore (trimmed (on_one_line key)))
 
 -- the value of a field
 unfoldable pub value_text : Value → List ℕ
@@ -57,7 +64,7 @@ value_text (Int n) = signed_decimal n ++ codes "i"
 value_text (Uint n) = decimal n ++ codes "u"
 value_text (Fixed n) = canonical_text n
 value_text (Truth b) = if b then codes "true" else codes "false"
-value_text (Text text) = codes "\"" ++ escaped (codes "\"\\") (on_one_line text) ++ codes "\""
+value_text (Text text) = codes "\"" ++ escaped text_escapes (on_one_line text) ++ codes "\""
 
 unfoldable pub tag_text : List ℕ × List ℕ → List ℕ
 tag_text tag = codes "," ++ key_text tag.0 ++ codes "=" ++ key_text tag.1
@@ -67,7 +74,8 @@ field_text field = key_text field.0 ++ codes "=" ++ value_text field.1
 
 -- a metric without its time: the measurement, the tags in the order of their keys and the fields
 unfoldable pub head_text : Content → List ℕ
-head_text m = name_text m.name ++ flat_map tag_text m.tags ++ codes " " ++ join_by field_text (codes ",") m.fields
+head_text m =
+    name_text m.name ++ flat_map tag_text m.tags ++ codes " " ++ join_by field_text (codes ",") m.fields
 
 -- a metric's line
 unfoldable pub line_text : Content → List ℕ

@@ -73,7 +73,8 @@ is_value_end piece i = i == length piece || slice_index piece i == comma || slic
 unfoldable pub text_value_at : List ℕ → ℕ → Result (Value × ℕ) LineFault
 text_value_at piece i =
     let close = i + 1 + len_at text_part piece (i + 1) in
-    if not (slice_index piece close == double_quote) || not (is_value_end piece (close + 1)) then fault BadValue i
+    if not (slice_index piece close == double_quote) || not (is_value_end piece (close + 1))
+    then fault BadValue i
     else Ok (values.Text (text_at text_part piece (i + 1)), close + 1)
 
 -- a value that is no text
@@ -84,7 +85,8 @@ plain_value_at piece i = do
 
 -- a value
 unfoldable pub value_at : List ℕ → ℕ → Result (Value × ℕ) LineFault
-value_at piece i = if slice_index piece i == double_quote then text_value_at piece i else plain_value_at piece i
+value_at piece i =
+    if slice_index piece i == double_quote then text_value_at piece i else plain_value_at piece i
 
 -- a field
 unfoldable pub field_at : List ℕ → ℕ → Result (Field × ℕ) LineFault

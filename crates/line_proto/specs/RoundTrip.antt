@@ -1,7 +1,7 @@
 -- Metrics that are read back from their lines.
-use Rattle.std.specs.Prelude.{◌≡◌, ◌≤◌, ℕ, ℤ, ◌==◌, false, List, [], ◌∷◌, ◌++◌, length, codes, Some, Ok}
+use Rattle.std.specs.Prelude.{◌≡◌, ◌≤◌, ℕ, ℤ, List, ◌++◌, length, codes, Some, Ok}
 use Rattle.std.specs.List.{AllByRecursion}
-use Rattle.text_parts.specs.Bytes.{backslash}
+use Rattle.text_parts.specs.Escaped.{NoBackslashEnd}
 use Rattle.metric.specs.Metric.{IsMetric}
 use Rattle.metric.specs.declared.value.Value.{Value}
 use Rattle.metric.specs.declared.value.Value.TheVariants.{Int, Uint, Fixed, «Bool» as Truth, Text}
@@ -10,12 +10,6 @@ use Rattle.line_proto.specs.Grammar.{HasNone, NoHash}
 use Rattle.line_proto.specs.LineText.{line_text}
 use Rattle.line_proto.specs.OneLine.{ends_line}
 use Rattle.line_proto.specs.Reading.{Tag, Field, reading}
-
--- the last byte is no backslash
-abbrev pub NoBackslashEnd : List ℕ → Type 0
-NoBackslashEnd [] = Unit {0}
-NoBackslashEnd (b ∷ []) = (b == backslash) ≡ false
-NoBackslashEnd (b ∷ c ∷ bs) = NoBackslashEnd (c ∷ bs)
 
 -- a name, a key or the value of a tag that is written as it is, but for escapes
 pub record IsPlainWord (text : List ℕ) : Type 0 where
@@ -30,8 +24,8 @@ IsPlainValue (Fixed n) = Unit {0}
 IsPlainValue (Truth b) = Unit {0}
 IsPlainValue (Text text) = HasNone ends_line text
 
--- the metric's texts are in one line, none but those of its fields ends with a backslash, its measurement begins no
--- comment, and it keeps the limits
+-- the metric's texts are in one line, none but those of its fields ends with a backslash, its measurement
+-- begins no comment, and it keeps the limits
 pub record IsPlain (m : Content) : Type 0 where
   pub name : IsPlainWord m.name
   pub no_comment : NoHash m.name

@@ -25,7 +25,8 @@ is_one_of words text = list_any (λ (word : List ℕ). bytes_eq text word) words
 
 -- the truth value that a text names
 unfoldable pub truth_of : List ℕ → Option Bool
-truth_of text = if is_one_of true_words text then Some true else (if is_one_of false_words text then Some false else None)
+truth_of text =
+    if is_one_of true_words text then Some true else (if is_one_of false_words text then Some false else None)
 
 -- the words begin with a `t` or an `f`, small or capital
 abbrev pub begins_truth : ℕ → Bool

@@ -46,7 +46,9 @@ impl Draft {
     pub(crate) fn tag(&mut self, key: &str, value: &str) -> Result<(), ReadError<LineFault>>
         requires { 0 < length key.now }
         ensures name { self.new.builder.name ≡ self.old.builder.name }
-        ensures ok { IfOk result (λ done. (tags : List Tag) (fields : List Field) → StandsFor self.old tags fields → StandsFor self.new (tags ++ (key.now, value.now) ∷ []) fields) }
+        ensures ok { IfOk result (λ done. (tags : List Tag) (fields : List Field)
+            → StandsFor self.old tags fields
+            → StandsFor self.new (tags ++ (key.now, value.now) ∷ []) fields) }
         ensures err { IfErr result (λ e. e ≡ OutOfMemory) }
     {
         if self.too_many {
@@ -65,7 +67,9 @@ impl Draft {
     pub(crate) fn field(&mut self, key: &str, value: Value) -> Result<(), ReadError<LineFault>>
         requires { 0 < length key.now }
         ensures name { self.new.builder.name ≡ self.old.builder.name }
-        ensures ok { IfOk result (λ done. (tags : List Tag) (fields : List Field) → StandsFor self.old tags fields → StandsFor self.new tags (fields ++ (key.now, value) ∷ [])) }
+        ensures ok { IfOk result (λ done. (tags : List Tag) (fields : List Field)
+            → StandsFor self.old tags fields
+            → StandsFor self.new tags (fields ++ (key.now, value) ∷ [])) }
         ensures err { IfErr result (λ e. e ≡ OutOfMemory) }
     {
         if self.too_many {
@@ -83,7 +87,9 @@ impl Draft {
     /// The metric at a time, unless there are too many tags or fields.
     pub(crate) fn finish(self, time: Moment) -> Result<Option<Metric>, ReadError<LineFault>>
         requires { IsReady self }
-        ensures { (tags : List Tag) (fields : List Field) → StandsFor self tags fields → Gives (λ x. x) result (limited (record { name = self.builder.name; tags = tags; fields = fields; time = time })) }
+        ensures { (tags : List Tag) (fields : List Field) → StandsFor self tags fields
+            → Gives (λ x. x) result
+            (limited (record { name = self.builder.name; tags = tags; fields = fields; time = time })) }
     {
         if self.too_many {
             return Err(fault(LineKind::TooMany, 0));

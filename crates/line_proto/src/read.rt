@@ -26,7 +26,8 @@ fn read_spaced_fields(
 ) -> Result<usize, ReadError<LineFault>>
     requires boundary { IsCharBoundary piece.now i }
     ensures name { draft.new.builder.name ≡ draft.old.builder.name }
-    ensures fields { (tags : List Tag) → StandsFor draft.old tags [] → HasFields draft.new tags result (spaced_fields_at piece.now i) }
+    ensures fields { (tags : List Tag) → StandsFor draft.old tags []
+        → HasFields draft.new tags result (spaced_fields_at piece.now i) }
     ensures behind { IfOk result (λ x. x ≤ length piece.now) }
 {
     let start = behind_spaces(piece.as_bytes(), i);

@@ -51,8 +51,8 @@ fn put_escaped_tag(
     requires filled { key.now.start < key.now.end }
     requires value { IsSpan tag_value_part piece.now value.now }
     ensures name { draft.new.builder.name ≡ draft.old.builder.name }
-    ensures ok { IfOk result (λ done. (tags : List Tag) (fields : List Field) → StandsFor draft.old tags fields
-        → StandsFor draft.new (tags ++ (
+    ensures ok { IfOk result (λ done. (tags : List Tag) (fields : List Field)
+        → StandsFor draft.old tags fields → StandsFor draft.new (tags ++ (
           text_at key_part piece.now key.now.start,
           text_at tag_value_part piece.now value.now.start,
         ) ∷ []) fields) }
@@ -75,8 +75,8 @@ fn put_tag(
     requires filled { key.now.start < key.now.end }
     requires value { IsSpan tag_value_part piece.now value.now }
     ensures name { draft.new.builder.name ≡ draft.old.builder.name }
-    ensures ok { IfOk result (λ done. (tags : List Tag) (fields : List Field) → StandsFor draft.old tags fields
-        → StandsFor draft.new (tags ++ (
+    ensures ok { IfOk result (λ done. (tags : List Tag) (fields : List Field)
+        → StandsFor draft.old tags fields → StandsFor draft.new (tags ++ (
           text_at key_part piece.now key.now.start,
           text_at tag_value_part piece.now value.now.start,
         ) ∷ []) fields) }
@@ -99,7 +99,8 @@ fn put_field(
     requires key { IsSpan key_part piece.now key.now }
     requires filled { key.now.start < key.now.end }
     ensures name { draft.new.builder.name ≡ draft.old.builder.name }
-    ensures ok { IfOk result (λ done. (tags : List Tag) (fields : List Field) → StandsFor draft.old tags fields
+    ensures ok { IfOk result (λ done. (tags : List Tag) (fields : List Field)
+        → StandsFor draft.old tags fields
         → StandsFor draft.new tags (fields ++ (text_at key_part piece.now key.now.start, value) ∷ [])) }
     ensures err { IfErr result (λ e. e ≡ OutOfMemory) }
 {

@@ -182,7 +182,8 @@ pub(crate) fn key_at(piece: &str, i: usize) -> Result<Span, ReadError<LineFault>
 #[tactic(auto, unfolding(crate::specs::Reading::tag_value_at))]
 fn tag_value_at(piece: &str, i: usize) -> Result<Span, ReadError<LineFault>>
     requires boundary { IsCharBoundary piece.now i }
-    ensures gives { Gives (λ x. (text_at tag_value_part piece.now x.start, x.end)) result (tag_value_at piece.now i) }
+    ensures gives { Gives (λ x. (text_at tag_value_part piece.now x.start, x.end)) result
+        (tag_value_at piece.now i) }
     ensures span { IfOk result (λ x. IsSpan tag_value_part piece.now x) }
     ensures more { IfOk result (λ x. i < x.end) }
 {

@@ -1,7 +1,8 @@
 //! Metrics as lines of InfluxDB line protocol.
 ghost use Rattle.std.specs.Prelude.{◌≡◌, ◌==◌, ◌++◌, flat_map, codes, OnOk, OnErr};
 ghost use Rattle.std.specs.List.{list_all, list_any, join_by};
-ghost use Rattle.line_proto.specs.LineText.{spaced, on_one_line, trimmed, escaped_byte, escaped, is_bare};
+ghost use Rattle.line_proto.specs.LineText.{spaced, on_one_line, trimmed, is_bare, as_written, text_escapes};
+ghost use Rattle.text_parts.specs.Escaped.{escaped_byte, escaped};
 ghost use Rattle.line_proto.specs.LineText.{name_text, key_text, value_text, tag_text, field_text, head_text};
 ghost use Rattle.line_proto.specs.LineText.{line_text};
 ghost use Rattle.line_proto.specs.Marks.{marks_of};
@@ -92,7 +93,8 @@ fn append_rest(
     fields: &[(Text, Value)],
     out: &mut Vec<u8>,
 ) -> Result<(), OutOfMemory>
-    ensures { Adds result out.old.items out.new.items (flat_map (λ field. codes "," ++ field_text field) fields.now) }
+    ensures { Adds result out.old.items out.new.items
+        (flat_map (λ field. codes "," ++ field_text field) fields.now) }
 {
     for field in fields {
         append_next(alloc, field, out)?;
@@ -140,7 +142,8 @@ fn append_value(alloc: Global, value: &Value, out: &mut Vec<u8>) -> Result<(), O
 
 /// Appends a text between double quotes.
 fn append_quoted(text: &Text, out: &mut Vec<u8>) -> Result<(), OutOfMemory>
-    ensures { Adds result out.old.items out.new.items (codes "\"" ++ escaped (codes "\"\\") (on_one_line text.now) ++ codes "\"") }
+    ensures { Adds result out.old.items out.new.items
+        (codes "\"" ++ escaped text_escapes (on_one_line text.now) ++ codes "\"") }
 {
     out.push(b'"')?;
     append_escaped(Marks::Quoted, text.as_str().as_bytes(), out)?;
@@ -245,7 +248,8 @@ fn all_bare(marks: Marks, text: &[u8]) -> bool
 
 /// Appends a text in one line with its marks escaped. A text that needs no change is copied whole.
 fn append_escaped(marks: Marks, text: &[u8], out: &mut Vec<u8>) -> Result<(), OutOfMemory>
-    ensures { Adds result out.old.items out.new.items (escaped (marks_of marks) (on_one_line text.now)) }
+    ensures { Adds result out.old.items out.new.items
+        (escaped (as_written (marks_of marks)) (on_one_line text.now)) }
 {
     if all_bare(marks, text) {
         return Ok(out.extend_from_slice(text)?);
@@ -257,7 +261,8 @@ fn append_escaped(marks: Marks, text: &[u8], out: &mut Vec<u8>) -> Result<(), Ou
 }
 
 fn append_byte(marks: Marks, byte: u8, out: &mut Vec<u8>) -> Result<(), OutOfMemory>
-    ensures { Adds result out.old.items out.new.items (escaped_byte (marks_of marks) (spaced byte)) }
+    ensures { Adds result out.old.items out.new.items
+        (escaped_byte (as_written (marks_of marks)) (spaced byte)) }
 {
     let byte = if byte == b'\n' || byte == b'\r' {
         b' '

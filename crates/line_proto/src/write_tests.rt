@@ -95,18 +95,17 @@ fn values_have_their_kinds(rt: HostRuntime) -> Result<(), Fail> {
     builder.tag("a", "2")?;
     builder.tag("none", "")?;
     builder.field("int", Value::Int(i64::MIN))?;
-    builder.field("uint", Value::Uint(u64::MAX))?;
+    builder.field("u", Value::Uint(u64::MAX))?;
     if let Some(number) = Fixed::of_billionths(-1_500_000_000) {
-        builder.field("fixed", Value::Fixed(number))?;
+        builder.field("x", Value::Fixed(number))?;
     }
-    builder.field("yes", Value::Bool(true))?;
     builder.field("no", Value::Bool(false))?;
     builder.field("text", Value::Text(Text::of(alloc, "")?))?;
     let metric = builder.finish(1_465_839_830)?;
     let mut out = Vec::new(alloc);
     write_line(alloc, &metric, &mut out)?;
     let want =
-        b"m,a=2,z=1 int=-9223372036854775808i,uint=18446744073709551615u,fixed=-1.5,yes=true,no=false,text=\"\" 1465839830\n";
+        b"m,a=2,z=1 int=-9223372036854775808i,u=18446744073709551615u,x=-1.5,no=false,text=\"\" 1465839830\n";
     assert_eq!(rt; out.as_slice(), want.as_slice());
     Ok(())
 }

@@ -98,6 +98,10 @@ ends_there k bs n is none =
           rw (← is) at (part_from k bs) ∙ rw zero (omega arith)
     ] refl
 
+-- a place that is found is in the text, or its end
+pub position_or_len_le : (p : ℕ → Bool) (bs : List ℕ) → position_or_len p bs ≤ length bs
+position_or_len_le p bs = prefix_len-le-length (λ b. not (p b)) bs
+
 -- the first place that passes, or the length
 pub position_or_all : (p : ℕ → Bool) (bs : List ℕ) → unwrap_or (position p bs) (length bs) ≡ position_or_len p bs
 position_or_all p bs =

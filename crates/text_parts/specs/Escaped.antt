@@ -32,9 +32,9 @@ NoBackslashEnd (b ∷ c ∷ text) = NoBackslashEnd (c ∷ text)
 abbrev pub HidesMarks : Kind → Escapes → Type 0
 HidesMarks k e = (b : ℕ) → e.is_mark b ≡ false → k.escapes b ≡ false
 
--- a kind of part that reads the escapes of a text: it hides what is written for each mark and means the mark by it;
--- each of its ends is a mark or not in the text; and the backslash is a mark, or the kind hides nothing but marks and
--- the text ends with no backslash
+-- a kind of part that reads the escapes of a text: it hides what is written for each mark and means the mark
+-- by it; each of its ends is a mark or not in the text; and the backslash is a mark, or the kind hides
+-- nothing but marks and the text ends with no backslash
 pub record Suits (k : Kind) (e : Escapes) (text : List ℕ) : Type 0 where
   pub hides : (b : ℕ) → e.is_mark b ≡ true → k.escapes (e.written b) ≡ true
   pub means : (b : ℕ) → e.is_mark b ≡ true → k.means (e.written b) ≡ b

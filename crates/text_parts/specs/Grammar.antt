@@ -34,7 +34,8 @@ IsPart k (Bare b ∷ marks) rest =
 -- a part before its end is read whole, and as what it says
 abbrev pub PartIsRead : Type 0
 PartIsRead = (k : Kind) (marks : List Mark) (rest : List ℕ) → IsPart k marks rest
-    → (part_len k (spelled marks ++ rest) ≡ length (spelled marks)) × (plain k (spelled marks) ≡ meant k marks)
+    → (part_len k (spelled marks ++ rest) ≡ length (spelled marks))
+    × (plain k (spelled marks) ≡ meant k marks)
 
 -- each text begins with a part, which is the one that is read
 abbrev pub ReadIsPart : Type 0

@@ -3,7 +3,6 @@ pub mod Part
 pub mod Kinds
 pub mod Many
 pub mod Grammar
-pub mod Bare
 pub mod Adds
 pub mod Bytes
 pub mod Span

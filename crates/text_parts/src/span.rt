@@ -29,7 +29,8 @@ fn end_or_backslash(part: &Part, bytes: &[u8]) -> Option<usize>
         .position(|b| part.ends_before(*b) || *b == b'\\')
 }
 
-/// Where the part stands that begins at a place of a piece. Escapes are looked at only behind the first backslash.
+/// Where the part stands that begins at a place of a piece. Escapes are looked at only behind the first
+/// backslash.
 #[inline(always)]
 pub fn span_at(part: &Part, piece: &str, i: usize) -> Span
     requires boundary { IsCharBoundary piece.now i }

@@ -1,7 +1,7 @@
 use Rattle.std.proofs.Common.{◌≡◌, ◌∙◌, length, drop, take, ap, refl}
 use Rattle.std.specs.Prelude.{◌==◌}
 use Rattle.std.proofs.lemmas.List.{length-take-le}
-use Rattle.text_parts.proofs.Bare.{position_or_len_le}
+use Rattle.text_parts.proofs.Spans.{position_or_len_le}
 use Rattle.line_proto.specs.Reading.{time_len}
 use Rattle.text_parts.proofs.Spans.{found_len}
 use Rattle.line_proto.proofs.read_parts.unspaced_at.Goals as goal

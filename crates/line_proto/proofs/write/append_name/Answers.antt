@@ -1,7 +1,8 @@
 use Rattle.std.proofs.Common.{◌++◌, ◌∷◌, [], ◌≡◌, length, take, drop, ◌-◌, ap, sym, ◌∙◌, arith, subst}
-use Rattle.std.specs.Prelude.{List, ℕ, codes}
+use Rattle.std.specs.Prelude.{List, ℕ}
 use Rattle.std.proofs.lemmas.Bool.{eqb-true, eqb-false, ne_eqb}
-use Rattle.line_proto.specs.LineText.{trimmed, escaped, on_one_line}
+use Rattle.line_proto.specs.LineText.{trimmed, on_one_line, name_escapes}
+use Rattle.text_parts.specs.Escaped.{escaped}
 use Rattle.text_parts.specs.Adds.{Adds}
 use Rattle.line_proto.proofs.WriteLemmas.{empty_name, hashed_name, kept_name}
 use Rattle.text_parts.proofs.Adding.{adds_after}
@@ -19,7 +20,7 @@ returns-then-kept-eq35 c =
     let some : length c.trim-kept.result.now ≡ 0 → ⊥ = eqb-false _ _ (sym c.is_empty.ensures ∙ c.if-is_empty.false) in
     let kept = c.trim-kept.result.now in
     let old = c.args.out.now.items in
-    let rest = escaped (codes ", ") (on_one_line (take (length kept - 1) (drop 1 kept))) in
+    let rest = escaped name_escapes (on_one_line (take (length kept - 1) (drop 1 kept))) in
     subst (λ (text : List ℕ). Adds c.append_escaped.result old c.append_escaped.new.out.items text) (hashed_name c.args.name.now kept is (omega arith) c.if-kept-eq35.true)
     (adds_after c.append_escaped.result old c.push-then-kept-eq35.new.self.items c.append_escaped.new.out.items (95 ∷ []) rest c.in_ok-push-2.ensures.items c.append_escaped.ensures)
 

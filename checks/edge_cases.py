@@ -561,7 +561,8 @@ def torn_then_whole(folder, program):
     """A put to a file fails behind a part, and those that follow succeed: no line is torn or comes twice."""
     first, second = numbered_lines(0, 1_000), numbered_lines(1_000, 1_200)
     written = shortest(first + second)
-    lay(folder, {"agent.journal": b""})
+    # the journal goes to a pipe, which can't be torn
+    lay(folder, {"agent.journal": Link("/dev/stderr")})
     started = subprocess.Popen(
         [program, "pipe", "stdin", "out", "100", "10000"],
         cwd=folder,
@@ -574,16 +575,39 @@ def torn_then_whole(folder, program):
     wait_for_input(started, started.stdin.fileno())
     between = found_in(folder)["out"]
     resource.prlimit(started.pid, resource.RLIMIT_FSIZE, (resource.RLIM_INFINITY, resource.RLIM_INFINITY))
-    report, told = started.communicate(second, timeout=SECONDS)
-    found = found_in(folder)
+    report, journal = started.communicate(second, timeout=SECONDS)
     return differences(
         ("status", started.returncode, 0),
         ("standard output", report, account_of(1_200, 1_200, 0)),
-        ("standard error", told, b""),
         ("out behind the put that failed", between, shortest(first)[: len(between)]),
         ("the end of out behind the put that failed", between[-1:], b"\n"),
-        ("failed puts in the journal", found["agent.journal"].count(b"done 0 failed\n"), 1),
-        ("out", found["out"], written),
+        ("failed puts in the journal", journal.count(b"done 0 failed\n"), 1),
+        ("out", found_in(folder)["out"], written),
+    )
+
+
+def torn_journal(folder, program):
+    """The journal can't grow beyond so many bytes: whole puts of it stay, and no part of a line."""
+    lay(folder, {"in": numbered_lines(0, 2_500)})
+    journals = []
+    for most, status in ((resource.RLIM_INFINITY, 0), (50_005, 7)):
+        ran = subprocess.run(
+            [program, "pipe", "in", "/dev/null", "1000", "10000"],
+            cwd=folder,
+            stdin=subprocess.DEVNULL,
+            capture_output=True,
+            preexec_fn=limit_files(most),
+            timeout=SECONDS,
+            check=False,
+        )
+        journals.append(found_in(folder)["agent.journal"])
+        if ran.returncode != status:
+            return differences(("status", ran.returncode, status))
+    whole, torn = journals
+    return differences(
+        ("the journal", torn, whole[: len(torn)]),
+        ("the end of the journal", torn[-1:], b"\n" if torn else b""),
+        ("the journal is whole", torn == whole, False),
     )
 
 
@@ -632,6 +656,7 @@ RUNS = [
     ("standard output is a full pipe that doesn't block", full_pipe),
     ("standard input is an empty pipe that doesn't block", slow_input),
     ("a torn put to a file is undone, and made again", torn_then_whole),
+    ("a torn put to the journal is undone", torn_journal),
     ("a torn put to standard output, a file, is undone", torn_batch("r+b")),
     ("a torn put to standard output, which appends to a file, is undone", torn_batch("ab")),
     ("a torn report is undone", torn_report("r+b")),

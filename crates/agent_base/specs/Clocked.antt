@@ -18,12 +18,16 @@ pub record IsAtPlace (first last : ℕ) (IsMoment Behind : ℕ → Type 0) : Typ
 -- the moments are those of places from a first to a last one, each place behind the one before it
 unfoldable pub Clocked : Moments → ℕ → ℕ → List ℤ → Type 0
 Clocked moments first last [] = first ≤ last
-Clocked moments first last (m ∷ ms) = IsAtPlace first last (λ place. m ≡ moments.at place) (λ place. Clocked moments (place_behind moments place) last ms)
+Clocked moments first last (m ∷ ms) = IsAtPlace first last (λ place. m ≡ moments.at place)
+    (λ place. Clocked moments (place_behind moments place) last ms)
 
--- the same, where each counts as no earlier than the one before it, and the first as no earlier than a given one
+-- the same, where each counts as no earlier than the one before it, and the first as no earlier than a given
+-- one
 unfoldable pub Counted : Moments → ℕ → ℕ → ℤ → List ℤ → Type 0
 Counted moments first last floor [] = first ≤ last
-Counted moments first last floor (m ∷ ms) = IsAtPlace first last (λ place. m ≡ int_max floor (moments.at place)) (λ place. Counted moments (place_behind moments place) last m ms)
+Counted moments first last floor (m ∷ ms) = IsAtPlace first last
+    (λ place. m ≡ int_max floor (moments.at place))
+    (λ place. Counted moments (place_behind moments place) last m ms)
 
 -- the last moment, or a given one where there is none
 abbrev pub last_of : ℤ → List ℤ → ℤ
@@ -32,8 +36,11 @@ last_of floor (m ∷ ms) = last_of m ms
 
 -- moments up to a place and moments from it on are moments one after another
 abbrev pub ClockedJoins : Type 0
-ClockedJoins = (moments : Moments) (first middle last : ℕ) (ms ns : List ℤ) → Clocked moments first middle ms → Clocked moments middle last ns → Clocked moments first last (ms ++ ns)
+ClockedJoins = (moments : Moments) (first middle last : ℕ) (ms ns : List ℤ) → Clocked moments first middle ms
+    → Clocked moments middle last ns → Clocked moments first last (ms ++ ns)
 
 -- the same where they are counted, and the later ones go on from the last of the earlier ones
 abbrev pub CountedJoins : Type 0
-CountedJoins = (moments : Moments) (first middle last : ℕ) (floor : ℤ) (ms ns : List ℤ) → Counted moments first middle floor ms → Counted moments middle last (last_of floor ms) ns → Counted moments first last floor (ms ++ ns)
+CountedJoins = (moments : Moments) (first middle last : ℕ) (floor : ℤ) (ms ns : List ℤ)
+    → Counted moments first middle floor ms → Counted moments middle last (last_of floor ms) ns
+    → Counted moments first last floor (ms ++ ns)

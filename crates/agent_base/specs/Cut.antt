@@ -1,5 +1,6 @@
 -- A text cut into lines.
-use Rattle.std.specs.Prelude.{◌≡◌, ℕ, ◌+◌, ◌-◌, ◌<◌, Bool, true, false, ◌==◌, nat_lt, List, [], ◌∷◌, ◌++◌, length, take, drop, slice_index, if◌then◌else◌}
+use Rattle.std.specs.Prelude.{◌≡◌, ℕ, ◌+◌, ◌-◌, ◌<◌, Bool, true, false, ◌==◌, nat_lt, List, [], ◌∷◌, ◌++◌}
+use Rattle.std.specs.Prelude.{length, take, drop, slice_index, if◌then◌else◌}
 use Rattle.std.specs.List.{list_any}
 
 -- a piece of a text: its content, or that it is too long
@@ -17,7 +18,8 @@ ended line = if nat_lt 65536 (length line) then TooLong else Whole (without_retu
 
 -- the piece of the bytes behind the last newline, as they stand; none where there are no bytes
 abbrev pub unended : List ℕ → List Cut
-unended line = if length line == 0 then [] else ((if nat_lt 65536 (length line) then TooLong else Whole line) ∷ [])
+unended line = if length line == 0 then [] else
+    ((if nat_lt 65536 (length line) then TooLong else Whole line) ∷ [])
 
 -- the pieces of a line that has begun with some bytes, and of the bytes behind them
 unfoldable pub cut_from : List ℕ → List ℕ → List Cut

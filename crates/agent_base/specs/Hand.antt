@@ -3,7 +3,8 @@ use Rattle.std.specs.Prelude.{◌≡◌, ℕ, ◌+◌, Bool, false, List, [], �
 use Rattle.agent_base.specs.Cut.{Cut, TooLong, cut, passed}
 use Rattle.agent_base.specs.Told.{Told}
 
--- the bytes that were taken and not given, whether they belong to a long line that is passed over, and how many were taken in all
+-- the bytes that were taken and not given, whether they belong to a long line that is passed over, and how
+-- many were taken in all
 pub record Hand : Type 0 where
   pub bytes : List ℕ
   pub is_passing : Bool
@@ -13,9 +14,11 @@ pub record Hand : Type 0 where
 abbrev pub empty_hand : Hand
 empty_hand = record { bytes = []; is_passing = false; taken = 0 }
 
--- the pieces to come, where these bytes are left of the source: a long line whose front was passed over counts as too long
+-- the pieces to come, where these bytes are left of the source: a long line whose front was passed over
+-- counts as too long
 abbrev pub to_come : Hand → List ℕ → List Cut
-to_come hand left = if hand.is_passing then TooLong ∷ passed (hand.bytes ++ left) else cut (hand.bytes ++ left)
+to_come hand left = if hand.is_passing then TooLong ∷ passed (hand.bytes ++ left) else cut
+    (hand.bytes ++ left)
 
 -- the pieces to come are the same, whatever is left, and as many bytes were taken
 pub record IsSameToCome (old new : Hand) : Type 0 where

@@ -13,9 +13,11 @@ text_of lines rest = flat_map with_newline lines ++ rest
 
 -- the pieces of a text are those of its lines, and that of the rest
 abbrev pub CutsLines : Type 0
-CutsLines = (lines : List (List ℕ)) (rest : List ℕ) → AllByRecursion NoNewline lines → NoNewline rest → cut (text_of lines rest) ≡ map ended lines ++ unended rest
+CutsLines = (lines : List (List ℕ)) (rest : List ℕ) → AllByRecursion NoNewline lines → NoNewline rest
+    → cut (text_of lines rest) ≡ map ended lines ++ unended rest
 
--- some pieces are all of a text but perhaps that of its last line: those of a front, behind which no newline stands
+-- some pieces are all of a text but perhaps that of its last line: those of a front, behind which no newline
+-- stands
 pub record AreAllButRest (text : List ℕ) (pieces : List Cut) : Type 0 where
   pub front : List ℕ
   pub rest : List ℕ

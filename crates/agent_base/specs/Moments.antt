@@ -18,7 +18,8 @@ Gives None old new moment = ⊤
 Gives (Some moments) old new moment = GivesAt moments old new moment
 
 -- a wait gave a moment: it is counted, and a clock that was stopped still is
-pub record Goes (moments : Option Moments) (old new : ℕ) (was has_stopped : Bool) (waits waited : ℕ) (moment : ℤ) : Type 0 where
+pub record Goes (moments : Option Moments) (old new : ℕ) (was has_stopped : Bool) (waits waited : ℕ)
+    (moment : ℤ) : Type 0 where
   pub gives : Gives moments old new moment
   pub stopped : was ≡ true → has_stopped ≡ true
   pub counted : waited ≡ min (waits + 1) (2 ^ 64 - 1)
@@ -32,4 +33,5 @@ pub record Ends (old new : ℕ) (has_stopped : Bool) (waits waited : ℕ) : Type
 -- what a wait does, by its answer
 abbrev pub Waits : Option Moments → ℕ → ℕ → Bool → Bool → ℕ → ℕ → Option ℤ → Type 0
 Waits moments old new was stopped waits waited None = Ends old new stopped waits waited
-Waits moments old new was stopped waits waited (Some moment) = Goes moments old new was stopped waits waited moment
+Waits moments old new was stopped waits waited
+    (Some moment) = Goes moments old new was stopped waits waited moment

@@ -8,7 +8,8 @@ use Rattle.agent_base.specs.Counts.{Rose}
 use Rattle.agent_base.specs.Cut.{Cut, TooLong, Whole, NoNewline}
 use Rattle.agent_base.specs.Hand.{Hand}
 
--- a piece or a too long one is the first to come, and the others are to come then; at the end none is; else all are still to come
+-- a piece or a too long one is the first to come, and the others are to come then; at the end none is; else
+-- all are still to come
 abbrev pub Answers : Result (Option Piece) PieceFault → List Cut → List Cut → Type 0
 Answers (Ok (Some p)) before after = before ≡ Whole p ∷ after
 Answers (Ok None) before after = (before ≡ []) × (after ≡ [])
@@ -25,7 +26,8 @@ IsLimited (Err faults.OutOfMemory) taken = taken < 2 ^ 40
 IsLimited (Err faults.ReadFault) taken = taken < 2 ^ 40
 IsLimited (Ok piece) taken = taken < 2 ^ 40
 
--- None: no byte is in hand, and none is left; a read fault: a read failed, and no newline is in hand; out of memory: all is as before
+-- None: no byte is in hand, and none is left; a read fault: a read failed, and no newline is in hand; out of
+-- memory: all is as before
 abbrev pub HasReason : Result (Option Piece) PieceFault → Hand → Hand → Option (List ℕ) → ℕ → ℕ → Type 0
 HasReason (Ok None) old new left before now = (new.bytes ≡ []) × IsAtEnd left
 HasReason (Ok (Some p)) old new left before now = ⊤

@@ -4,7 +4,8 @@ use Rattle.agent_base.specs.Counts.{Rose}
 use Rattle.agent_base.specs.declared.world.OpenFault.{OpenFault}
 use Rattle.agent_base.specs.declared.world.OpenFault.TheVariants.{Failed, OutOfMemory}
 
--- the bytes left or held at a place, how often opening it failed, the count of faults of its part, and whether the part is out
+-- the bytes left or held at a place, how often opening it failed, the count of faults of its part, and
+-- whether the part is out
 pub record Place : Type 0 where
   pub bytes : Option (List ℕ)
   pub open_faults : ℕ

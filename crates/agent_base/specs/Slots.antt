@@ -33,7 +33,14 @@ part_count faults (Some part) = faults part
 -- what a place tells
 abbrev pub told_of : {P : Type 0} → (P → Option (List ℕ)) → (P → ℕ) → Option (Slot P) → Place
 told_of bytes faults None = empty_place
-told_of bytes faults (Some slot) = record { bytes = part_bytes bytes slot.part; open_faults = slot.open_faults; part_faults = part_count faults slot.part; is_out = slot.is_out }
+told_of bytes faults
+    (Some slot) = record {
+      bytes = part_bytes bytes slot.part;
+      open_faults = slot.open_faults;
+      part_faults = part_count faults
+          slot.part;
+      is_out = slot.is_out;
+    }
 
 -- whether the part is out
 abbrev pub is_out_at : {P : Type 0} → Option (Slot P) → Bool
@@ -64,7 +71,8 @@ pub record Comes {P : Type 0} (part : P) (old new : Option (Slot P)) : Type 0 wh
 -- nothing was told, or that there is no part
 abbrev pub HadNone : {P : Type 0} → Option (Slot P) → ℕ → Type 0
 HadNone None now = now ≡ 1
-HadNone (Some slot) now = (slot.part ≡ None) × (now ≡ min (slot.open_faults + 1) (2 ^ 64 - 1)) × (slot.open_faults ≤ now)
+HadNone (Some slot) now = (slot.part ≡ None) × (now ≡ min (slot.open_faults + 1) (2 ^ 64 - 1))
+    × (slot.open_faults ≤ now)
 
 -- there is no part there
 pub record IsMissed {P : Type 0} (old new : Option (Slot P)) : Type 0 where

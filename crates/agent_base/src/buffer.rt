@@ -1,5 +1,6 @@
 //! Bytes that were taken of a source and not given yet.
-ghost use Rattle.std.specs.Prelude.{◌≡◌, ℕ, ◌+◌, ◌-◌, ◌<◌, ◌≤◌, false, List, [], length, take, MatchOption, IfOk, OnErr, IsErrOf, vec_len, vec_capacity, min};
+ghost use Rattle.std.specs.Prelude.{◌≡◌, ℕ, ◌+◌, ◌-◌, ◌<◌, ◌≤◌, false, List, [], length, take, MatchOption};
+ghost use Rattle.std.specs.Prelude.{IfOk, OnErr, IsErrOf, vec_len, vec_capacity, min};
 ghost use Rattle.std.specs.Io.{ReadsAtMost};
 ghost use Rattle.std.specs.Io.KnownBytes.{ReadConsumes, IsAtEnd};
 ghost use Rattle.std.specs.List.{between};
@@ -8,7 +9,7 @@ ghost use Rattle.agent_base.specs.Cut.{HasNewline, NoNewline, FirstNewline, has_
 ghost use Rattle.agent_base.specs.Hand.{empty_hand, to_come, IsSameToCome, Steps};
 ghost use Rattle.agent_base.specs.Taken.{Takes, TakesFor};
 ghost use Rattle.agent_base.specs.Told.{Told};
-ghost use Rattle.agent_base.specs.declared.buffer.TheConstants.{ROOM, MOST};
+ghost use Rattle.agent_base.specs.declared.buffer.TheConstants.{ROOM, MAX_TAKEN_BYTES};
 
 use crate::{Failed, Piece, PieceFault, Source};
 use fixed_num::OutOfMemory;
@@ -16,7 +17,7 @@ use memchr::memchr;
 use std::alloc::Global;
 
 /// The greatest number of bytes of a line before its newline.
-const LIMIT: usize = 65_536;
+const MAX_LINE_BYTES: usize = 65_536;
 
 /// How many places are free for a read, at least.
 const READ: usize = 65_536;
@@ -25,7 +26,7 @@ const READ: usize = 65_536;
 const ROOM: usize = 135_168;
 
 /// The greatest number of bytes that are taken.
-const MOST: u64 = 1_099_511_627_776;
+const MAX_TAKEN_BYTES: u64 = 1 << 40;
 
 /// How many places a read is lent, at least, where so many bytes may still be taken.
 const LEAST: usize = 4_096;
@@ -84,7 +85,8 @@ fn read_behind<S: Source>(
     ensures len { vec_len buf.new ≡ vec_len buf.old }
     ensures bound { IfOk result (λ n. n ≤ most) }
     ensures before { take at buf.new.items ≡ take at buf.old.items }
-    ensures bytes { ReadConsumes (S.left src.old) (S.left src.new) result (between at (at + most) buf.new.items) }
+    ensures bytes { ReadConsumes (S.left src.old) (S.left src.new) result
+        (between at (at + most) buf.new.items) }
     ensures cause { HasCause (S.faults src.old) (S.faults src.new) result }
 {
     read_into(buf, at, most, src)
@@ -103,13 +105,14 @@ pub(crate) struct Buffer {
     ghost begun: { start ≤ searched },
     ghost ordered: { searched ≤ end },
     ghost within: { end ≤ ROOM },
-    ghost most: { taken ≤ MOST },
+    ghost most: { taken ≤ MAX_TAKEN_BYTES },
     ghost clean: { has_newline (between start searched buf.items) ≡ false },
 }
 
 impl Buffer {
     ghost use Rattle.agent_base.specs.Buffered.{bytes_of, hand_of};
-    ghost use Rattle.agent_base.specs.PieceAnswers.{Answers, IsLimited, HasReason, IsGiven, IsGivenOrUnchanged, IsLast};
+    ghost use Rattle.agent_base.specs.PieceAnswers.{Answers, IsLimited, HasReason, IsGiven};
+    ghost use Rattle.agent_base.specs.PieceAnswers.{IsGivenOrUnchanged, IsLast};
 
     /// Nothing is in hand.
     pub(crate) fn new(alloc: Global) -> Result<Buffer, OutOfMemory>
@@ -128,7 +131,8 @@ impl Buffer {
 
     // How many bytes in hand stand before the first newline.
     fn find_newline(&mut self) -> Option<usize>
-        ensures found { MatchOption result (NoNewline (bytes_of self.old)) (FirstNewline (bytes_of self.old)) }
+        ensures found { MatchOption result (NoNewline (bytes_of self.old))
+            (FirstNewline (bytes_of self.old)) }
         ensures same { hand_of self.new ≡ hand_of self.old }
     {
         match newline_in(&self.buf[self.searched..self.end]) {
@@ -144,8 +148,9 @@ impl Buffer {
     fn give(&mut self, room: Vec<u8>, i: usize) -> Result<Option<Piece>, PieceFault>
         requires line { FirstNewline (bytes_of self.old) i }
         requires empty { room.items ≡ [] }
-        requires fits { min i LIMIT ≤ vec_capacity room }
-        ensures pieces { (left : List ℕ) → Answers result (to_come (hand_of self.old) left) (to_come (hand_of self.new) left) }
+        requires fits { min i MAX_LINE_BYTES ≤ vec_capacity room }
+        ensures pieces { (left : List ℕ)
+            → Answers result (to_come (hand_of self.old) left) (to_come (hand_of self.new) left) }
         ensures given { IsGiven result }
         ensures counted { self.new.taken ≡ self.old.taken }
     {
@@ -155,7 +160,7 @@ impl Buffer {
             self.passing = false;
             return Err(PieceFault::TooLong);
         }
-        if LIMIT < i {
+        if MAX_LINE_BYTES < i {
             self.skip_to(line_end + 1);
             return Err(PieceFault::TooLong);
         }
@@ -180,14 +185,14 @@ impl Buffer {
         requires { NoNewline (bytes_of self.old) }
         ensures same { IsSameToCome (hand_of self.old) (hand_of self.new) }
         ensures none { NoNewline (bytes_of self.new) }
-        ensures short { length (bytes_of self.new) ≤ LIMIT }
+        ensures short { length (bytes_of self.new) ≤ MAX_LINE_BYTES }
         ensures room { self.new.end + READ ≤ ROOM }
     {
         if self.passing {
             self.skip_all();
             return;
         }
-        if LIMIT < self.end - self.start {
+        if MAX_LINE_BYTES < self.end - self.start {
             self.passing = true;
             self.skip_all();
             return;
@@ -212,10 +217,10 @@ impl Buffer {
 
     // Moves the bytes to the front.
     fn move_to_front(&mut self)
-        requires { length (bytes_of self.old) ≤ LIMIT }
+        requires { length (bytes_of self.old) ≤ MAX_LINE_BYTES }
         ensures same { hand_of self.new ≡ hand_of self.old }
         ensures front { self.new.start ≡ 0 }
-        ensures short { self.new.end ≤ LIMIT }
+        ensures short { self.new.end ≤ MAX_LINE_BYTES }
     {
         self.buf.copy_within(self.start..self.end, 0);
         self.end -= self.start;
@@ -223,22 +228,23 @@ impl Buffer {
         self.start = 0;
     }
 
-    // How many places the next read is lent: all that are free, and no more than the bytes that may still be taken.
+    // How many places the next read is lent: all that are free, and no more than the bytes that may still be
+    // taken.
     fn lent(&self) -> usize
         requires room { self.now.end + READ ≤ ROOM }
-        requires most { self.now.taken < MOST }
-        ensures least { min LEAST (MOST - self.now.taken) ≤ result }
+        requires most { self.now.taken < MAX_TAKEN_BYTES }
+        ensures least { min LEAST (MAX_TAKEN_BYTES - self.now.taken) ≤ result }
         ensures some { 0 < result }
         ensures free { self.now.end + result ≤ ROOM }
-        ensures most { self.now.taken + result ≤ MOST }
+        ensures most { self.now.taken + result ≤ MAX_TAKEN_BYTES }
     {
-        usize::min(ROOM - self.end, (MOST - self.taken) as usize)
+        usize::min(ROOM - self.end, (MAX_TAKEN_BYTES - self.taken) as usize)
     }
 
     // Reads more bytes behind those in hand.
     fn read_more<S: Source>(&mut self, src: &mut S) -> Result<usize, Failed>
         requires room { self.old.end + READ ≤ ROOM }
-        requires most { self.old.taken < MOST }
+        requires most { self.old.taken < MAX_TAKEN_BYTES }
         ensures steps { Steps (S.left src.old) (S.left src.new) (hand_of self.old) (hand_of self.new) }
         ensures takes { Takes (S.left src.old) (S.left src.new) (hand_of self.old) (hand_of self.new) }
         ensures end { result ≡ Ok 0 → (hand_of self.new ≡ hand_of self.old) × IsAtEnd (S.left src.new) }
@@ -256,9 +262,9 @@ impl Buffer {
     // Gives what is in hand at the end of the source, in room that was taken before.
     fn finish(&mut self, room: Vec<u8>) -> Result<Option<Piece>, PieceFault>
         requires none { NoNewline (bytes_of self.old) }
-        requires short { length (bytes_of self.old) ≤ LIMIT }
+        requires short { length (bytes_of self.old) ≤ MAX_LINE_BYTES }
         requires empty { room.items ≡ [] }
-        requires fits { LIMIT ≤ vec_capacity room }
+        requires fits { MAX_LINE_BYTES ≤ vec_capacity room }
         ensures pieces { Answers result (to_come (hand_of self.old) []) (to_come (hand_of self.new) []) }
         ensures last { IsLast result }
         ensures empty { bytes_of self.new ≡ [] }
@@ -281,11 +287,12 @@ impl Buffer {
     // Gives the line of so many bytes that is in hand.
     fn give_in_hand(&mut self, i: usize) -> Result<Option<Piece>, PieceFault>
         requires { FirstNewline (bytes_of self.old) i }
-        ensures pieces { (left : List ℕ) → Answers result (to_come (hand_of self.old) left) (to_come (hand_of self.new) left) }
+        ensures pieces { (left : List ℕ)
+            → Answers result (to_come (hand_of self.old) left) (to_come (hand_of self.new) left) }
         ensures given { IsGivenOrUnchanged result (hand_of self.old) (hand_of self.new) }
         ensures counted { self.new.taken ≡ self.old.taken }
     {
-        match Vec::with_capacity(*self.buf.allocator(), usize::min(i, LIMIT)) {
+        match Vec::with_capacity(*self.buf.allocator(), usize::min(i, MAX_LINE_BYTES)) {
             Ok(room) => self.give(room, i),
             Err(_) => Err(PieceFault::OutOfMemory),
         }
@@ -294,17 +301,21 @@ impl Buffer {
     // Reads until a piece is in hand, and gives it. All room is taken before the first read.
     fn read_piece<S: Source>(&mut self, src: &mut S) -> Result<Option<Piece>, PieceFault>
         requires none { NoNewline (bytes_of self.old) }
-        requires most { self.old.taken < MOST }
-        ensures pieces { Told (S.left src.old) (S.left src.new) (λ xs ys. Answers result (to_come (hand_of self.old) xs) (to_come (hand_of self.new) ys)) }
-        ensures whatever_follows { Told (S.left src.old) (S.left src.new) (TakesFor result (hand_of self.old) (hand_of self.new)) }
-        ensures counted { Told (S.left src.old) (S.left src.new) (λ xs ys. self.old.taken + length xs ≡ self.new.taken + length ys) }
+        requires most { self.old.taken < MAX_TAKEN_BYTES }
+        ensures pieces { Told (S.left src.old) (S.left src.new)
+            (λ xs ys. Answers result (to_come (hand_of self.old) xs) (to_come (hand_of self.new) ys)) }
+        ensures whatever_follows { Told (S.left src.old) (S.left src.new)
+            (TakesFor result (hand_of self.old) (hand_of self.new)) }
+        ensures counted { Told (S.left src.old) (S.left src.new)
+            (λ xs ys. self.old.taken + length xs ≡ self.new.taken + length ys) }
         ensures grows { self.old.taken ≤ self.new.taken }
         ensures limited { IsLimited result self.new.taken }
-        ensures reason { HasReason result (hand_of self.old) (hand_of self.new) (S.left src.new) (S.faults src.old) (S.faults src.new) }
+        ensures reason { HasReason result (hand_of self.old) (hand_of self.new) (S.left src.new)
+            (S.faults src.old) (S.faults src.new) }
         ensures memory { IsErrOf result PieceFault.OutOfMemory → src.new ≡ src.old }
         ensures faults { S.faults src.old ≤ S.faults src.new }
     {
-        let Ok(room) = Vec::with_capacity(*self.buf.allocator(), LIMIT) else {
+        let Ok(room) = Vec::with_capacity(*self.buf.allocator(), MAX_LINE_BYTES) else {
             return Err(PieceFault::OutOfMemory);
         };
         'reads: loop {
@@ -314,7 +325,7 @@ impl Buffer {
                 Ok(0) => return self.finish(room),
                 Ok(_) => {}
             }
-            if self.taken == MOST {
+            if self.taken == MAX_TAKEN_BYTES {
                 return Err(PieceFault::ByteLimit);
             }
             if let Some(i) = self.find_newline() {
@@ -325,18 +336,23 @@ impl Buffer {
 
     /// The next piece of the bytes in hand and those that the source has left.
     pub(crate) fn next<S: Source>(&mut self, src: &mut S) -> Result<Option<Piece>, PieceFault>
-        ensures pieces { Told (S.left src.old) (S.left src.new) (λ xs ys. Answers result (to_come (hand_of self.old) xs) (to_come (hand_of self.new) ys)) }
-        ensures whatever_follows { Told (S.left src.old) (S.left src.new) (TakesFor result (hand_of self.old) (hand_of self.new)) }
-        ensures counted { Told (S.left src.old) (S.left src.new) (λ xs ys. self.old.taken + length xs ≡ self.new.taken + length ys) }
+        ensures pieces { Told (S.left src.old) (S.left src.new)
+            (λ xs ys. Answers result (to_come (hand_of self.old) xs) (to_come (hand_of self.new) ys)) }
+        ensures whatever_follows { Told (S.left src.old) (S.left src.new)
+            (TakesFor result (hand_of self.old) (hand_of self.new)) }
+        ensures counted { Told (S.left src.old) (S.left src.new)
+            (λ xs ys. self.old.taken + length xs ≡ self.new.taken + length ys) }
         ensures grows { self.old.taken ≤ self.new.taken }
         ensures limited { IsLimited result self.new.taken }
-        ensures reason { HasReason result (hand_of self.old) (hand_of self.new) (S.left src.new) (S.faults src.old) (S.faults src.new) }
+        ensures reason { HasReason result (hand_of self.old) (hand_of self.new) (S.left src.new)
+            (S.faults src.old) (S.faults src.new) }
         ensures memory { IsErrOf result PieceFault.OutOfMemory → src.new ≡ src.old }
         ensures faults { S.faults src.old ≤ S.faults src.new }
         ensures in_hand { HasNewline (bytes_of self.old) → src.new ≡ src.old }
-        ensures whole { HasNewline (bytes_of self.old) → (left : List ℕ) → Answers result (to_come (hand_of self.old) left) (to_come (hand_of self.new) left) }
+        ensures whole { HasNewline (bytes_of self.old) → (left : List ℕ)
+            → Answers result (to_come (hand_of self.old) left) (to_come (hand_of self.new) left) }
     {
-        if self.taken == MOST {
+        if self.taken == MAX_TAKEN_BYTES {
             return Err(PieceFault::ByteLimit);
         }
         match self.find_newline() {

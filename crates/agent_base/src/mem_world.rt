@@ -46,30 +46,48 @@ impl<S: Source + Send + Drop, K: Sink + Send + Drop> MemWorld<S, K> {
 
     /// Puts a source at an input place.
     pub fn add_in(&mut self, place: &str, s: S) -> Result<(), OutOfMemory>
-        ensures added { OnOk result (TakesIn (S.left s) (S.faults s) (⟦<MemWorld<S, K> as World>⟧.in_at self.old place.now) (⟦<MemWorld<S, K> as World>⟧.in_at self.new place.now)) }
-        ensures others { SameBut place.now (⟦<MemWorld<S, K> as World>⟧.in_at self.old) (⟦<MemWorld<S, K> as World>⟧.in_at self.new) }
-        ensures refused { OnErr result (SameAtAll (⟦<MemWorld<S, K> as World>⟧.in_at self.old) (⟦<MemWorld<S, K> as World>⟧.in_at self.new)) }
-        ensures home { AreHome (⟦<MemWorld<S, K> as World>⟧.in_at self.old) → AreHome (⟦<MemWorld<S, K> as World>⟧.in_at self.new) }
+        ensures added { OnOk result
+            (TakesIn (S.left s) (S.faults s) (⟦<MemWorld<S, K> as World>⟧.in_at self.old place.now)
+            (⟦<MemWorld<S, K> as World>⟧.in_at self.new place.now)) }
+        ensures others { SameBut place.now (⟦<MemWorld<S, K> as World>⟧.in_at self.old)
+            (⟦<MemWorld<S, K> as World>⟧.in_at self.new) }
+        ensures refused { OnErr result
+            (SameAtAll (⟦<MemWorld<S, K> as World>⟧.in_at self.old)
+            (⟦<MemWorld<S, K> as World>⟧.in_at self.new)) }
+        ensures home { AreHome (⟦<MemWorld<S, K> as World>⟧.in_at self.old)
+            → AreHome (⟦<MemWorld<S, K> as World>⟧.in_at self.new) }
 
-        ensures outs { SameAtAll (⟦<MemWorld<S, K> as World>⟧.out_at self.old) (⟦<MemWorld<S, K> as World>⟧.out_at self.new) }
-        ensures outs_home { AreHome (⟦<MemWorld<S, K> as World>⟧.out_at self.old) → AreHome (⟦<MemWorld<S, K> as World>⟧.out_at self.new) }
+        ensures outs { SameAtAll (⟦<MemWorld<S, K> as World>⟧.out_at self.old)
+            (⟦<MemWorld<S, K> as World>⟧.out_at self.new) }
+        ensures outs_home { AreHome (⟦<MemWorld<S, K> as World>⟧.out_at self.old)
+            → AreHome (⟦<MemWorld<S, K> as World>⟧.out_at self.new) }
         ensures rest { ⟦<MemWorld<S, K> as World>⟧.rest self.new ≡ ⟦<MemWorld<S, K> as World>⟧.rest self.old }
-        ensures moments { SameAtAll (⟦<MemWorld<S, K> as World>⟧.moments self.old) (⟦<MemWorld<S, K> as World>⟧.moments self.new) }
+        ensures moments { SameAtAll (⟦<MemWorld<S, K> as World>⟧.moments self.old)
+            (⟦<MemWorld<S, K> as World>⟧.moments self.new) }
     {
         add(self.alloc, &mut self.ins, place, s)
     }
 
     /// Puts a sink at an output place.
     pub fn add_out(&mut self, place: &str, s: K) -> Result<(), OutOfMemory>
-        ensures added { OnOk result (TakesIn (K.held s) (K.faults s) (⟦<MemWorld<S, K> as World>⟧.out_at self.old place.now) (⟦<MemWorld<S, K> as World>⟧.out_at self.new place.now)) }
-        ensures others { SameBut place.now (⟦<MemWorld<S, K> as World>⟧.out_at self.old) (⟦<MemWorld<S, K> as World>⟧.out_at self.new) }
-        ensures refused { OnErr result (SameAtAll (⟦<MemWorld<S, K> as World>⟧.out_at self.old) (⟦<MemWorld<S, K> as World>⟧.out_at self.new)) }
-        ensures home { AreHome (⟦<MemWorld<S, K> as World>⟧.out_at self.old) → AreHome (⟦<MemWorld<S, K> as World>⟧.out_at self.new) }
+        ensures added { OnOk result
+            (TakesIn (K.held s) (K.faults s) (⟦<MemWorld<S, K> as World>⟧.out_at self.old place.now)
+            (⟦<MemWorld<S, K> as World>⟧.out_at self.new place.now)) }
+        ensures others { SameBut place.now (⟦<MemWorld<S, K> as World>⟧.out_at self.old)
+            (⟦<MemWorld<S, K> as World>⟧.out_at self.new) }
+        ensures refused { OnErr result
+            (SameAtAll (⟦<MemWorld<S, K> as World>⟧.out_at self.old)
+            (⟦<MemWorld<S, K> as World>⟧.out_at self.new)) }
+        ensures home { AreHome (⟦<MemWorld<S, K> as World>⟧.out_at self.old)
+            → AreHome (⟦<MemWorld<S, K> as World>⟧.out_at self.new) }
 
-        ensures ins { SameAtAll (⟦<MemWorld<S, K> as World>⟧.in_at self.old) (⟦<MemWorld<S, K> as World>⟧.in_at self.new) }
-        ensures ins_home { AreHome (⟦<MemWorld<S, K> as World>⟧.in_at self.old) → AreHome (⟦<MemWorld<S, K> as World>⟧.in_at self.new) }
+        ensures ins { SameAtAll (⟦<MemWorld<S, K> as World>⟧.in_at self.old)
+            (⟦<MemWorld<S, K> as World>⟧.in_at self.new) }
+        ensures ins_home { AreHome (⟦<MemWorld<S, K> as World>⟧.in_at self.old)
+            → AreHome (⟦<MemWorld<S, K> as World>⟧.in_at self.new) }
         ensures rest { ⟦<MemWorld<S, K> as World>⟧.rest self.new ≡ ⟦<MemWorld<S, K> as World>⟧.rest self.old }
-        ensures moments { SameAtAll (⟦<MemWorld<S, K> as World>⟧.moments self.old) (⟦<MemWorld<S, K> as World>⟧.moments self.new) }
+        ensures moments { SameAtAll (⟦<MemWorld<S, K> as World>⟧.moments self.old)
+            (⟦<MemWorld<S, K> as World>⟧.moments self.new) }
     {
         add(self.alloc, &mut self.outs, place, s)
     }
@@ -79,14 +97,22 @@ impl<S: Source + Send + Drop, K: Sink + Send + Drop> MemWorld<S, K> {
         requires first { ⟦<MemClock as Clock>⟧.place c ≡ 0 }
         requires unstopped { ⟦<MemClock as Clock>⟧.stopped c ≡ false }
 
-        ensures added { OnOk result (⟦<MemWorld<S, K> as World>⟧.moments self.new who ≡ ⟦<MemClock as Clock>⟧.moments c) }
-        ensures others { SameBut who (⟦<MemWorld<S, K> as World>⟧.moments self.old) (⟦<MemWorld<S, K> as World>⟧.moments self.new) }
-        ensures refused { OnErr result (SameAtAll (⟦<MemWorld<S, K> as World>⟧.moments self.old) (⟦<MemWorld<S, K> as World>⟧.moments self.new)) }
+        ensures added { OnOk result
+            (⟦<MemWorld<S, K> as World>⟧.moments self.new who ≡ ⟦<MemClock as Clock>⟧.moments c) }
+        ensures others { SameBut who (⟦<MemWorld<S, K> as World>⟧.moments self.old)
+            (⟦<MemWorld<S, K> as World>⟧.moments self.new) }
+        ensures refused { OnErr result
+            (SameAtAll (⟦<MemWorld<S, K> as World>⟧.moments self.old)
+            (⟦<MemWorld<S, K> as World>⟧.moments self.new)) }
 
-        ensures ins { SameAtAll (⟦<MemWorld<S, K> as World>⟧.in_at self.old) (⟦<MemWorld<S, K> as World>⟧.in_at self.new) }
-        ensures ins_home { AreHome (⟦<MemWorld<S, K> as World>⟧.in_at self.old) → AreHome (⟦<MemWorld<S, K> as World>⟧.in_at self.new) }
-        ensures outs { SameAtAll (⟦<MemWorld<S, K> as World>⟧.out_at self.old) (⟦<MemWorld<S, K> as World>⟧.out_at self.new) }
-        ensures outs_home { AreHome (⟦<MemWorld<S, K> as World>⟧.out_at self.old) → AreHome (⟦<MemWorld<S, K> as World>⟧.out_at self.new) }
+        ensures ins { SameAtAll (⟦<MemWorld<S, K> as World>⟧.in_at self.old)
+            (⟦<MemWorld<S, K> as World>⟧.in_at self.new) }
+        ensures ins_home { AreHome (⟦<MemWorld<S, K> as World>⟧.in_at self.old)
+            → AreHome (⟦<MemWorld<S, K> as World>⟧.in_at self.new) }
+        ensures outs { SameAtAll (⟦<MemWorld<S, K> as World>⟧.out_at self.old)
+            (⟦<MemWorld<S, K> as World>⟧.out_at self.new) }
+        ensures outs_home { AreHome (⟦<MemWorld<S, K> as World>⟧.out_at self.old)
+            → AreHome (⟦<MemWorld<S, K> as World>⟧.out_at self.new) }
         ensures rest { ⟦<MemWorld<S, K> as World>⟧.rest self.new ≡ ⟦<MemWorld<S, K> as World>⟧.rest self.old }
     {
         put_moments(&mut self.clocks, who, c.into_moments())
@@ -109,7 +135,8 @@ impl<S: Source + Send + Drop, K: Sink + Send + Drop> MemWorld<S, K> {
     /// The sink of an output place, where it isn't out.
     pub fn out(&self, place: &str) -> Option<&K>
         ensures { MatchOption result ((⟦<MemWorld<S, K> as World>⟧.out_at self.now place.now).bytes ≡ None)
-            (λ sink. IsTold (K.held sink.now) (K.faults sink.now) (⟦<MemWorld<S, K> as World>⟧.out_at self.now place.now)) }
+            (λ sink. IsTold (K.held sink.now) (K.faults sink.now)
+            (⟦<MemWorld<S, K> as World>⟧.out_at self.now place.now)) }
     {
         part_of(&self.outs, place)
     }

@@ -19,7 +19,8 @@ pub struct MemSource {
 }
 
 impl MemSource {
-    /// The reads are numbered from 0; one whose number is in `fails` fails, and each other gives at most `most` bytes.
+    /// The reads are numbered from 0; one whose number is in `fails` fails, and each other gives at most
+    /// `most` bytes.
     pub fn new(_alloc: Global, bytes: Vec<u8>, fails: Vec<u64>, most: usize) -> MemSource
         requires { 1 ≤ most }
         ensures left { ⟦<MemSource as Source>⟧.left result ≡ Some bytes.items }
@@ -66,7 +67,8 @@ pub struct MemSink {
 }
 
 impl MemSink {
-    /// The puts are numbered from 0; one whose number is listed appends so many bytes, or all if there are fewer, and fails.
+    /// The puts are numbered from 0; one whose number is listed appends so many bytes, or all if there are
+    /// fewer, and fails.
     pub fn new(alloc: Global, fails: Vec<(u64, usize)>) -> MemSink
         ensures held { ⟦<MemSink as Sink>⟧.held result ≡ Some [] }
         ensures faults { ⟦<MemSink as Sink>⟧.faults result ≡ 0 }

@@ -76,5 +76,6 @@ pub trait Clock {
     /// The moment at the place, after the clock's pause; None only of a stopped clock.
     fn wait(&mut self) -> Option<Moment>
         ensures list { moments self.new ≡ moments self.old }
-        ensures gives { Waits (moments self.old) (place self.old) (place self.new) (stopped self.old) (stopped self.new) (waits self.old) (waits self.new) result };
+        ensures gives { Waits (moments self.old) (place self.old) (place self.new) (stopped self.old)
+            (stopped self.new) (waits self.old) (waits self.new) result };
 }

@@ -6,8 +6,8 @@ use std::marker::Model;
 /// How a source's bytes are cut.
 #[derive(Clone, Copy, Debug, PartialEq, Eq)]
 pub enum CutKind {
-    /// Each newline byte ends a piece, and one carriage return directly before it is dropped. What follows the last
-    /// newline is a piece as it stands, where it isn't empty.
+    /// Each newline byte ends a piece, and one carriage return directly before it is dropped. What follows
+    /// the last newline is a piece as it stands, where it isn't empty.
     Lines,
 }
 

@@ -13,8 +13,8 @@ use fixed_num::OutOfMemory;
 use std::alloc::Global;
 use std::marker::Model;
 
-/// The bytes that were taken of a source and not given yet, whether they belong to a long line that is passed over, and
-/// how many bytes were taken in all.
+/// The bytes that were taken of a source and not given yet, whether they belong to a long line that is passed
+/// over, and how many bytes were taken in all.
 #[derive(Debug, Drop)]
 pub struct Pieces {
     buffer: Buffer,
@@ -43,31 +43,38 @@ impl Pieces {
 
     /// The next piece of the bytes in hand and those that the source has left; None at the end of the source.
     ///
-    /// A piece that is too long is passed over to its end. After a failed read the bytes that were taken are kept. Once
-    /// 2^40 bytes were taken the answer is `ByteLimit`, whatever is in hand.
+    /// A piece that is too long is passed over to its end. After a failed read the bytes that were taken are
+    /// kept. Once 2^40 bytes were taken the answer is `ByteLimit`, whatever is in hand.
     pub fn next<S: Source>(&mut self, src: &mut S) -> Result<Option<Piece>, PieceFault>
-        ensures pieces { Told (S.left src.old) (S.left src.new) (λ xs ys. Answers result (to_come self.old xs) (to_come self.new ys)) }
-        ensures reason { HasReason result self.old self.new (S.left src.new) (S.faults src.old) (S.faults src.new) }
+        ensures pieces { Told (S.left src.old) (S.left src.new)
+            (λ xs ys. Answers result (to_come self.old xs) (to_come self.new ys)) }
+        ensures reason { HasReason result self.old self.new (S.left src.new) (S.faults src.old)
+            (S.faults src.new) }
         ensures limited { IsLimited result self.new.taken }
 
         // The bytes that are no longer left were taken.
-        ensures counted { Told (S.left src.old) (S.left src.new) (λ xs ys. self.old.taken + length xs ≡ self.new.taken + length ys) }
+        ensures counted { Told (S.left src.old) (S.left src.new)
+            (λ xs ys. self.old.taken + length xs ≡ self.new.taken + length ys) }
         ensures grows { self.old.taken ≤ self.new.taken }
         ensures faults { S.faults src.old ≤ S.faults src.new }
 
         // A line that is in hand is given without a read, and all room is taken before the first read.
-        ensures whole { HasNewline self.old.bytes → (left : List ℕ) → Answers result (to_come self.old left) (to_come self.new left) }
+        ensures whole { HasNewline self.old.bytes → (left : List ℕ)
+            → Answers result (to_come self.old left) (to_come self.new left) }
         ensures in_hand { HasNewline self.old.bytes → src.new ≡ src.old }
         ensures memory { IsErrOf result PieceFault.OutOfMemory → src.new ≡ src.old }
 
-        // What is given of the bytes that were taken stands whatever follows them, but at the end of the source.
-        ensures whatever_follows { Told (S.left src.old) (S.left src.new) (TakesFor result self.old self.new) }
+        // What is given of the bytes that were taken stands whatever follows them, but at the end of the
+        // source.
+        ensures whatever_follows { Told (S.left src.old) (S.left src.new)
+            (TakesFor result self.old self.new) }
     {
         self.buffer.next(src)
     }
 }
 
-/// The pieces of lines, each with a newline behind it, and of a rest without one are those of the lines and of the rest.
+/// The pieces of lines, each with a newline behind it, and of a rest without one are those of the lines and
+/// of the rest.
 pub fn cuts_lines()
     ensures { CutsLines }
 {}

@@ -1,7 +1,8 @@
 //! Places in memory.
 ghost use Rattle.std.specs.Prelude.{false, ◌≡◌, None, true, OnOk, OnErr, MatchOption};
 ghost use Rattle.std.specs.List.{position};
-ghost use Rattle.agent_base.specs.Slots.{slot_at, is_named, is_out_at, Opened, Comes, IsMissed, Fills, HasPart, HasNoPart, AllHome};
+ghost use Rattle.agent_base.specs.Slots.{slot_at, is_named, is_out_at, Opened, Comes, IsMissed, Fills};
+ghost use Rattle.agent_base.specs.Slots.{HasPart, HasNoPart, AllHome};
 ghost use Rattle.agent_base.specs.Places.{SameBut};
 
 use crate::OpenFault;
@@ -130,7 +131,8 @@ fn push_slot<P: Drop>(
 
 // The part of a place.
 pub(crate) fn part_of<'a, P>(slots: &'a [Slot<P>], place: &str) -> Option<&'a P>
-    ensures { MatchOption result (HasNoPart (slot_at slots.now place.now)) (λ part. HasPart part.now (slot_at slots.now place.now)) }
+    ensures { MatchOption result (HasNoPart (slot_at slots.now place.now))
+        (λ part. HasPart part.now (slot_at slots.now place.now)) }
 {
     match find(slots, place) {
         Some(at) => slots[at].part.as_ref(),

@@ -15,7 +15,8 @@ fn long(alloc: Global, count: usize, end: &[u8]) -> Result<Vec<u8>, AllocError> 
     Ok(bytes)
 }
 
-// The answers: a piece, or the length of a long one, and `|`; `?` for one that is too long; `.` at the end; `!` for a read fault.
+// The answers: a piece, or the length of a long one, and `|`; `?` for one that is too long; `.` at the end;
+// `!` for a read fault.
 fn answers(
     alloc: Global,
     bytes: Vec<u8>,

@@ -17,7 +17,8 @@ pub enum OpenFault {
 
 /// The places that are read and written, the clocks, and the report.
 ///
-/// While the part of a place is out, the world tells nothing of that place's own bytes and count: the part does.
+/// While the part of a place is out, the world tells nothing of that place's own bytes and count: the part
+/// does.
 pub trait World {
     /// What is read.
     type In: Source + Send + Drop;
@@ -43,7 +44,8 @@ pub trait World {
     /// Moves the part of an input place out; nothing else changes.
     fn open_in(&mut self, place: &str) -> Result<Self::In, OpenFault>
         requires { (in_at self.old place.now).is_out ≡ false }
-        ensures opened { IfOk result (λ part. Opens (Self.In.left part) (Self.In.faults part) (in_at self.old place.now) (in_at self.new place.now)) }
+        ensures opened { IfOk result (λ part. Opens (Self.In.left part) (Self.In.faults part) (in_at self.old place.now)
+            (in_at self.new place.now)) }
         ensures refused { IfErr result (λ e. Refuses e (in_at self.old place.now) (in_at self.new place.now)) }
         ensures others { SameBut place.now (in_at self.old) (in_at self.new) }
         ensures outs { SameAtAll (out_at self.old) (out_at self.new) }
@@ -53,7 +55,9 @@ pub trait World {
     /// Moves the part of an output place out; nothing else changes.
     fn open_out(&mut self, place: &str) -> Result<Self::Out, OpenFault>
         requires { (out_at self.old place.now).is_out ≡ false }
-        ensures opened { IfOk result (λ part. Opens (Self.Out.held part) (Self.Out.faults part) (out_at self.old place.now) (out_at self.new place.now)) }
+        ensures opened { IfOk result
+            (λ part. Opens (Self.Out.held part) (Self.Out.faults part) (out_at self.old place.now)
+            (out_at self.new place.now)) }
         ensures refused { IfErr result (λ e. Refuses e (out_at self.old place.now) (out_at self.new place.now)) }
         ensures others { SameBut place.now (out_at self.old) (out_at self.new) }
         ensures ins { SameAtAll (in_at self.old) (in_at self.new) }
@@ -63,7 +67,8 @@ pub trait World {
     /// Gives the part of an input place back: the place tells what the part tells.
     fn give_in(&mut self, place: &str, part: Self::In)
         requires { (in_at self.old place.now).is_out ≡ true }
-        ensures given { TakesIn (Self.In.left part) (Self.In.faults part) (in_at self.old place.now) (in_at self.new place.now) }
+        ensures given { TakesIn (Self.In.left part) (Self.In.faults part) (in_at self.old place.now)
+            (in_at self.new place.now) }
         ensures others { SameBut place.now (in_at self.old) (in_at self.new) }
         ensures outs { SameAtAll (out_at self.old) (out_at self.new) }
         ensures rest { rest self.new ≡ rest self.old }
@@ -72,7 +77,8 @@ pub trait World {
     /// Gives the part of an output place back: the place tells what the part tells.
     fn give_out(&mut self, place: &str, part: Self::Out)
         requires { (out_at self.old place.now).is_out ≡ true }
-        ensures given { TakesIn (Self.Out.held part) (Self.Out.faults part) (out_at self.old place.now) (out_at self.new place.now) }
+        ensures given { TakesIn (Self.Out.held part) (Self.Out.faults part) (out_at self.old place.now)
+            (out_at self.new place.now) }
         ensures others { SameBut place.now (out_at self.old) (out_at self.new) }
         ensures ins { SameAtAll (in_at self.old) (in_at self.new) }
         ensures rest { rest self.new ≡ rest self.old }

@@ -56,7 +56,7 @@ none_ended = refl
 
 -- nothing was read yet
 abbrev pub first_surroundings : Beginning → JournalPart → Surroundings
-first_surroundings start part = record { state = states.Reading; left = start.text; reads = start.reads; place = 0; held = start.held; puts = start.puts; journal = part; stops = [] }
+first_surroundings start part = record { state = states.Reading; left = start.bytes; read_faults = start.read_faults; place = 0; held = start.held; put_faults = start.put_faults; journal = part; counted_at = [] }
 
 -- nothing happened
 pub went_first : (start : Beginning) (core : CoreState) (hand : Hand) (failed : ℕ) (part : JournalPart) → Stands core [] → core.setup ≡ start.setup → core.stored ≡ [] → Notes (journal_setup_of start.setup) start.noted start.note_faults [] part → hand ≡ empty_hand → failed ≡ 0
@@ -65,9 +65,9 @@ went_first start core hand failed part stands setup stored notes empty none = re
   journal = [];
   text = record { stands = stands; setup_is = setup; written = []; split = sym stored; notes = notes };
   heard = record {
-    named = told_self start.text (λ xs ys. IsNamed states.Reading [] xs (to_come hand ys)) (λ xs. rw empty (gathering_starts 1000 0 xs));
-    of_taken = told_names_start 1000 0 hand start.text empty;
-    counted = told_self start.text (λ xs ys. length xs ≡ hand.taken + length ys) (λ xs. omega (arith, ap (λ (h : Hand). h.taken) empty));
+    named = told_self start.bytes (λ xs ys. IsNamed states.Reading [] xs (to_come hand ys)) (λ xs. rw empty (gathering_starts 1000 0 xs));
+    of_taken = told_names_start 1000 0 hand start.bytes empty;
+    counted = told_self start.bytes (λ xs ys. length xs ≡ hand.taken + length ys) (λ xs. omega (arith, ap (λ (h : Hand). h.taken) empty));
     ended = none_ended;
     later = omega arith;
     state = omega (arith, ap (λ (h : Hand). h.taken) empty);
@@ -75,13 +75,13 @@ went_first start core hand failed part stands setup stored notes empty none = re
   };
   said = record {
     sent = sent_first 0 start.held;
-    puts = subst (λ (bs : List Bool). RoseBy (count_by not bs) start.puts start.puts) (sym (dones_none 0)) (rose_none start.puts);
+    put_faults = subst (λ (bs : List Bool). RoseBy (count_by not bs) start.put_faults start.put_faults) (sym (dones_none 0)) (rose_none start.put_faults);
     stuck = λ some. absurd (omega (arith, some, none));
     last = λ stopped. rw none (last_none (dones 0 (behind_stop [])));
   };
   worked = worked_first;
   in_order = in_order_first start.setup;
-  stops = counted_none;
+  counted_at = counted_none;
 }
 
 drained_at : (start : Beginning) (core : CoreState) (hand : Hand) (failed : ℕ) (now : Surroundings) (w : Progress start core hand failed now) → ((output_numbers core.numbers 0).buffered ≡ 0) ⊎ (1 ≤ failed)
@@ -108,18 +108,18 @@ named_ends states.LimitReached journal text rest ne h = h
 
 -- the change of the input
 abbrev pub input_change : Beginning → Surroundings → Change
-input_change start now = record { before = start.text; after = now.left; faults_before = start.reads; faults_after = now.reads }
+input_change start now = record { before = start.bytes; after = now.left; faults_before = start.read_faults; faults_after = now.read_faults }
 
 abbrev pub output_change : Beginning → Surroundings → Change
-output_change start now = record { before = start.held; after = now.held; faults_before = start.puts; faults_after = now.puts }
+output_change start now = record { before = start.held; after = now.held; faults_before = start.put_faults; faults_after = now.put_faults }
 
-unread_by : (state : InState) (start : Beginning) (now : Surroundings) (hand : Hand) (journal : List Entry) → (state ≢ states.Reading) → HasState state start now.reads now.left hand journal → Told start.text now.left (IsNamedOfTaken state journal hand) → has_ended 0 journal ≡ is_ended state → has_ended 0 journal ≡ false → IsUnread (input_change start now) hand.taken journal
+unread_by : (state : InState) (start : Beginning) (now : Surroundings) (hand : Hand) (journal : List Entry) → (state ≢ states.Reading) → HasState state start now.read_faults now.left hand journal → Told start.bytes now.left (IsNamedOfTaken state journal hand) → has_ended 0 journal ≡ is_ended state → has_ended 0 journal ≡ false → IsUnread (input_change start now) hand.taken journal
 unread_by states.Reading start now hand journal ne h t e f = absurd (ne refl)
 unread_by states.Ended start now hand journal ne h t e f = absurd (let x : true ≡ false = sym e ∙ f in cc)
 unread_by states.Faulted start now hand journal ne h t e f = inl (h.1, t)
 unread_by states.LimitReached start now hand journal ne h t e f = inr h
 
-ends_by : (state : InState) (start : Beginning) (now : Surroundings) (hand : Hand) (journal : List Entry) → (state ≢ states.Reading) → HasState state start now.reads now.left hand journal → Told start.text now.left (IsNamedOfTaken state journal hand) → has_ended 0 journal ≡ is_ended state → EndsSo state (input_change start now) hand.taken journal
+ends_by : (state : InState) (start : Beginning) (now : Surroundings) (hand : Hand) (journal : List Entry) → (state ≢ states.Reading) → HasState state start now.read_faults now.left hand journal → Told start.bytes now.left (IsNamedOfTaken state journal hand) → has_ended 0 journal ≡ is_ended state → EndsSo state (input_change start now) hand.taken journal
 ends_by states.Reading start now hand journal ne h t e = absurd (ne refl)
 ends_by states.Ended start now hand journal ne h t e = (h, e)
 ends_by states.Faulted start now hand journal ne h t e = (h.0, e, (h.1, t))
@@ -143,13 +143,13 @@ left_is buffered true e = λ z. absurd (let x : true ≡ false = e ∙ ap (λ (n
 left_is zero false e = refl
 left_is (suc n) false e = absurd (let x : false ≡ true = e ∙ ap not (differs (suc n) 0 (λ z. absurd (omega (arith, z)))) in cc)
 
-module _ (batch limit : ℕ) (start : ℤ) (moment : ℤ) (text : Option (List ℕ)) (reads : ℕ) (held : Option (List ℕ)) (puts : ℕ) (noted : Option (List ℕ)) (note_faults : ℕ) (input_moments run_moments : Option Moments) (first last : ℕ)
+module _ (batch limit : ℕ) (start : ℤ) (moment : ℤ) (text : Option (List ℕ)) (read_faults : ℕ) (held : Option (List ℕ)) (put_faults : ℕ) (noted : Option (List ℕ)) (note_faults : ℕ) (input_moments run_moments : Option Moments) (first last : ℕ)
     (core : CoreState) (hand : Hand) (failed : ℕ) (now : Surroundings) where
   -- what the run began with
   abbrev pub beginning : Beginning
-  beginning = record { setup = pipe_setup batch limit start; text = text; reads = reads; held = held; puts = puts; noted = noted; note_faults = note_faults; moments = input_moments }
+  beginning = record { setup = pipe_setup batch limit start; bytes = text; read_faults = read_faults; held = held; put_faults = put_faults; noted = noted; note_faults = note_faults; moments = input_moments }
 
-  module _ (w : Progress beginning core hand failed (record now { stops = int_max moment start ∷ [] })) (gives_first : Gives run_moments 0 first start) (gives_last : Gives run_moments first last moment)
+  module _ (w : Progress beginning core hand failed (record now { counted_at = int_max moment start ∷ [] })) (gives_first : Gives run_moments 0 first start) (gives_last : Gives run_moments first last moment)
       (stopped : core.stopped ≡ true) (raw : core.raw ≡ []) (none_held : core.held ≡ None) (rest : ((output_numbers core.numbers 0).buffered ≡ 0) ⊎ (3 ≤ failed)) (read : now.state ≢ states.Reading) where
     totals_are : core.numbers ≡ totals (pipe_setup batch limit start) w.journal
     totals_are = w.text.stands.numbers ∙ ap (λ (s : Setup). totals s w.journal) w.text.setup_is
@@ -167,13 +167,13 @@ module _ (batch limit : ℕ) (start : ℤ) (moment : ℤ) (text : Option (List �
       stopped = sym w.text.stands.stopped ∙ stopped;
       none_raw = sym w.text.stands.raw ∙ raw;
       none_held = sym w.text.stands.held ∙ none_held;
-      put_faults = w.said.puts;
+      put_faults = w.said.put_faults;
       start = start_at run_moments first start gives_first;
-      counted = counted_ends run_moments first last start moment (counted_moments w.journal) gives_first gives_last w.stops;
+      counted = counted_ends run_moments first last start moment (counted_moments w.journal) gives_first gives_last w.counted_at;
       clocked = clocked_ends input_moments now.place (gather_moments 0 w.journal) w.heard.clocked;
       taken = hand.taken;
       bytes_taken = w.heard.counted;
-      unread = unread_by now.state beginning (record now { stops = int_max moment start ∷ [] }) hand w.journal read w.heard.state w.heard.of_taken w.heard.ended;
+      unread = unread_by now.state beginning (record now { counted_at = int_max moment start ∷ [] }) hand w.journal read w.heard.state w.heard.of_taken w.heard.ended;
       left = left_failed rest;
       in_order = w.in_order;
     }
@@ -187,7 +187,7 @@ module _ (batch limit : ℕ) (start : ℤ) (moment : ℤ) (text : Option (List �
           start = start;
           journal = w.journal;
           run = is_run;
-          ends = rw state (ends_by now.state beginning (record now { stops = int_max moment start ∷ [] }) hand w.journal read w.heard.state w.heard.of_taken w.heard.ended);
+          ends = rw state (ends_by now.state beginning (record now { counted_at = int_max moment start ∷ [] }) hand w.journal read w.heard.state w.heard.of_taken w.heard.ended);
           left = rw (sym (ap (λ (n : Numbers). (output_numbers n 0).buffered) totals_are)) (left_is ((output_numbers core.numbers 0).buffered) ending.left left);
           account = account_is ∙ same;
           noted = subst (λ (account : List ℕ). IsPutSo ending.journal_failed put (journal_text (journal_setup_of (pipe_setup batch limit start)) w.journal account)) same
@@ -195,22 +195,22 @@ module _ (batch limit : ℕ) (start : ℤ) (moment : ℤ) (text : Option (List �
         }
 
 -- the clock's moments by another term
-reads_at : (old new : PipeRun) (state : InState) (left new_left : Option (List ℕ)) (reads new_reads : ℕ) (moments first : Option Moments) (place new_place : ℕ) → moments ≡ first →
-    ReadsOn old new state left new_left reads new_reads moments place new_place → ReadsOn old new state left new_left reads new_reads first place new_place
-reads_at old new state left new_left reads new_reads moments first place new_place same h = subst (λ (m : Option Moments). ReadsOn old new state left new_left reads new_reads m place new_place) same h
+reads_at : (old new : PipeRun) (state : InState) (left new_left : Option (List ℕ)) (read_faults new_read_faults : ℕ) (moments first : Option Moments) (place new_place : ℕ) → moments ≡ first →
+    ReadsOn old new state left new_left read_faults new_read_faults moments place new_place → ReadsOn old new state left new_left read_faults new_read_faults first place new_place
+reads_at old new state left new_left read_faults new_read_faults moments first place new_place same h = subst (λ (m : Option Moments). ReadsOn old new state left new_left read_faults new_read_faults m place new_place) same h
 
 -- one round more: a group was gathered, the items were routed, batches were sent, and the entries spelled
-pub runs_more : (first old gathered routed sent new : PipeRun) (state : InState) (left0 left new_left : Option (List ℕ)) (reads0 reads new_reads : ℕ) (moments0 moments : Option Moments) (place0 place new_place : ℕ)
-    (held0 held new_held : Option (List ℕ)) (puts0 puts new_puts : ℕ) (part0 part new_part : JournalPart) → RunsOn first old states.Reading left0 left reads0 reads moments0 place0 place held0 held puts0 puts part0 part → moments ≡ moments0 →
-    ReadsOn old gathered state left new_left reads new_reads moments place new_place → GoesOn gathered routed → SendsOn routed sent held new_held puts new_puts → NotesRun sent new part new_part
-    → RunsOn first new state left0 new_left reads0 new_reads moments0 place0 new_place held0 new_held puts0 new_puts part0 new_part
-runs_more first old gathered routed sent new state left0 left new_left reads0 reads new_reads moments0 moments place0 place new_place held0 held new_held puts0 puts new_puts part0 part new_part runs same reads_on routes sends notes = λ start now w.
+pub runs_more : (first old gathered routed sent new : PipeRun) (state : InState) (left0 left new_left : Option (List ℕ)) (read_faults0 read_faults new_read_faults : ℕ) (moments0 moments : Option Moments) (place0 place new_place : ℕ)
+    (held0 held new_held : Option (List ℕ)) (put_faults0 put_faults new_put_faults : ℕ) (part0 part new_part : JournalPart) → RunsOn first old states.Reading left0 left read_faults0 read_faults moments0 place0 place held0 held put_faults0 put_faults part0 part → moments ≡ moments0 →
+    ReadsOn old gathered state left new_left read_faults new_read_faults moments place new_place → GoesOn gathered routed → SendsOn routed sent held new_held put_faults new_put_faults → NotesRun sent new part new_part
+    → RunsOn first new state left0 new_left read_faults0 new_read_faults moments0 place0 new_place held0 new_held put_faults0 new_put_faults part0 new_part
+runs_more first old gathered routed sent new state left0 left new_left read_faults0 read_faults new_read_faults moments0 moments place0 place new_place held0 held new_held put_faults0 put_faults new_put_faults part0 part new_part runs same reads_on routes sends notes = λ start now w.
     let s : Beginning = record start { moments = moments0 } in
     let a = runs start now w in
-    let b = reads_at old gathered state left new_left reads new_reads moments moments0 place new_place same reads_on start (record now { held = held; puts = puts; journal = part }) a in
-    let c = routes s (record now { state = state; left = new_left; reads = new_reads; place = new_place; held = held; puts = puts; journal = part }) b in
-    let d = sends s (record now { state = state; left = new_left; reads = new_reads; place = new_place; journal = part }) c in
-    notes s (record now { state = state; left = new_left; reads = new_reads; place = new_place; held = new_held; puts = new_puts }) d
+    let b = reads_at old gathered state left new_left read_faults new_read_faults moments moments0 place new_place same reads_on start (record now { held = held; put_faults = put_faults; journal = part }) a in
+    let c = routes s (record now { state = state; left = new_left; read_faults = new_read_faults; place = new_place; held = held; put_faults = put_faults; journal = part }) b in
+    let d = sends s (record now { state = state; left = new_left; read_faults = new_read_faults; place = new_place; journal = part }) c in
+    notes s (record now { state = state; left = new_left; read_faults = new_read_faults; place = new_place; held = new_held; put_faults = new_put_faults }) d
 
 -- the input is still read after items were routed, batches sent and entries spelled
 pub still_reading : (gathered routed sent new : CoreState) → IsReading gathered → IsRoutable gathered routed → IsSentOn routed sent → new ≡ after_cut sent → IsReading new

@@ -45,13 +45,13 @@ IsNamedTo states.LimitReached journal text rest = GatheredTo 1000 journal 0 text
 
 -- a group was read and offered, and the input's end isn't noted yet
 pub record HeardTo (start : Beginning) (now : Surroundings) (hand : Hand) (journal : List Entry) : Type 0 where
-  pub named : Told start.text now.left (λ xs ys. IsNamedTo now.state journal xs (to_come hand ys))
-  pub of_taken : Told start.text now.left (IsNamedOfTaken now.state journal hand)
-  pub all : now.state ≡ states.Ended → Told start.text now.left (λ xs ys. to_come hand ys ≡ [])
-  pub counted : Told start.text now.left (λ xs ys. length xs ≡ hand.taken + length ys)
+  pub named : Told start.bytes now.left (λ xs ys. IsNamedTo now.state journal xs (to_come hand ys))
+  pub of_taken : Told start.bytes now.left (IsNamedOfTaken now.state journal hand)
+  pub all : now.state ≡ states.Ended → Told start.bytes now.left (λ xs ys. to_come hand ys ≡ [])
+  pub counted : Told start.bytes now.left (λ xs ys. length xs ≡ hand.taken + length ys)
   pub unended : has_ended 0 journal ≡ false
-  pub later : start.reads ≤ now.reads
-  pub state : HasState now.state start now.reads now.left hand journal
+  pub later : start.read_faults ≤ now.read_faults
+  pub state : HasState now.state start now.read_faults now.left hand journal
   pub clocked : IfSome start.moments (λ moments. IsClocked moments now.place (gather_moments 0 journal))
 
 pub record ProgressTo (start : Beginning) (core : CoreState) (hand : Hand) (failed : ℕ) (now : Surroundings) : Type 0 where
@@ -61,11 +61,11 @@ pub record ProgressTo (start : Beginning) (core : CoreState) (hand : Hand) (fail
   pub said : Said start now failed journal
   pub worked : Worked journal
   pub in_order : InOrder start.setup journal
-  pub stops : counted_moments journal ≡ now.stops
+  pub counted_at : counted_moments journal ≡ now.counted_at
 
 -- what a read of a group leaves around the run
 abbrev pub read_to : Surroundings → InState → Option (List ℕ) → ℕ → ℕ → Surroundings
-read_to now state left reads place = record now { state = state; left = left; reads = reads; place = place }
+read_to now state left read_faults place = record now { state = state; left = left; read_faults = read_faults; place = place }
 
 clocked_wide : (all : Option Moments) (old new : ℕ) (moment : ℤ) (ms : List ℤ) → Gives all old new moment → IfSome all (λ moments. IsClocked moments old ms) → IfSome all (λ moments. IsClocked moments new ms)
 clocked_wide None old new moment ms g h = tt
@@ -82,51 +82,51 @@ none_of (x ∷ xs) l = absurd (omega (arith, l))
 rose_from : (a b c : ℕ) → a ≤ b → Rose b c → Rose a c
 rose_from a b c l r = omega arith
 
-has_state : (state : InState) (start : Beginning) (new_reads : ℕ) (left : Option (List ℕ)) (hand : Hand) (journal : List Entry) (reads : ℕ) → start.reads ≤ reads → (state ≡ states.LimitReached → hand.taken ≡ 2 ^ 40) → ((state ≡ states.LimitReached → ⊥) → hand.taken < 2 ^ 40)
-    → (state ≡ states.Faulted → Rose reads new_reads) → HasState state start new_reads left hand journal
-has_state states.Reading start new_reads left hand journal reads l limit below failed = below (λ e. absurd (let x : states.Reading ≡ states.LimitReached = e in cc))
-has_state states.Ended start new_reads left hand journal reads l limit below failed = below (λ e. absurd (let x : states.Ended ≡ states.LimitReached = e in cc))
-has_state states.Faulted start new_reads left hand journal reads l limit below failed = (below (λ e. absurd (let x : states.Faulted ≡ states.LimitReached = e in cc)), rose_from start.reads reads new_reads l (failed refl))
-has_state states.LimitReached start new_reads left hand journal reads l limit below failed = inl (limit refl)
+has_state : (state : InState) (start : Beginning) (new_read_faults : ℕ) (left : Option (List ℕ)) (hand : Hand) (journal : List Entry) (read_faults : ℕ) → start.read_faults ≤ read_faults → (state ≡ states.LimitReached → hand.taken ≡ 2 ^ 40) → ((state ≡ states.LimitReached → ⊥) → hand.taken < 2 ^ 40)
+    → (state ≡ states.Faulted → Rose read_faults new_read_faults) → HasState state start new_read_faults left hand journal
+has_state states.Reading start new_read_faults left hand journal read_faults l limit below failed = below (λ e. absurd (let x : states.Reading ≡ states.LimitReached = e in cc))
+has_state states.Ended start new_read_faults left hand journal read_faults l limit below failed = below (λ e. absurd (let x : states.Ended ≡ states.LimitReached = e in cc))
+has_state states.Faulted start new_read_faults left hand journal read_faults l limit below failed = (below (λ e. absurd (let x : states.Faulted ≡ states.LimitReached = e in cc)), rose_from start.read_faults read_faults new_read_faults l (failed refl))
+has_state states.LimitReached start new_read_faults left hand journal read_faults l limit below failed = inl (limit refl)
 
-module _ (start : Beginning) (core : CoreState) (before after : Hand) (failed : ℕ) (now : Surroundings) (state : InState) (moment : ℤ) (group : Group) (new_left : Option (List ℕ)) (new_reads new_place : ℕ)
+module _ (start : Beginning) (core : CoreState) (before after : Hand) (failed : ℕ) (now : Surroundings) (state : InState) (moment : ℤ) (group : Group) (new_left : Option (List ℕ)) (new_read_faults new_place : ℕ)
     (w : Progress start core before failed (record now { state = states.Reading })) (g : ReadsGroup moment group state before after now.left new_left)
-    (gives : Gives start.moments now.place new_place moment) (reads : now.reads ≤ new_reads)
+    (gives : Gives start.moments now.place new_place moment) (read_faults : now.read_faults ≤ new_read_faults)
     (counted : Told now.left new_left (λ xs ys. before.taken + length xs ≡ after.taken + length ys))
-    (limit : state ≡ states.LimitReached → after.taken ≡ 2 ^ 40) (below : (state ≡ states.LimitReached → ⊥) → after.taken < 2 ^ 40) (faulted : state ≡ states.Faulted → Rose now.reads new_reads) (one : state ≡ states.Faulted → length (to_come after []) ≤ 1) (line : state ≡ states.Faulted → length (to_come after (10 ∷ [])) ≤ 1) where
-  here : Told start.text now.left (λ xs ys. Gathering 1000 w.journal 0 xs (to_come before ys))
+    (limit : state ≡ states.LimitReached → after.taken ≡ 2 ^ 40) (below : (state ≡ states.LimitReached → ⊥) → after.taken < 2 ^ 40) (faulted : state ≡ states.Faulted → Rose now.read_faults new_read_faults) (one : state ≡ states.Faulted → length (to_come after []) ≤ 1) (line : state ≡ states.Faulted → length (to_come after (10 ∷ [])) ≤ 1) where
+  here : Told start.bytes now.left (λ xs ys. Gathering 1000 w.journal 0 xs (to_come before ys))
   here = w.heard.named
 
-  counted_all : Told start.text new_left (λ xs ys. length xs ≡ after.taken + length ys)
+  counted_all : Told start.bytes new_left (λ xs ys. length xs ≡ after.taken + length ys)
   counted_all =
-      told_then start.text now.left new_left (λ xs ys. length xs ≡ before.taken + length ys) (λ ys zs. before.taken + length ys ≡ after.taken + length zs) (λ xs zs. length xs ≡ after.taken + length zs)
+      told_then start.bytes now.left new_left (λ xs ys. length xs ≡ before.taken + length ys) (λ ys zs. before.taken + length ys ≡ after.taken + length zs) (λ xs zs. length xs ≡ after.taken + length zs)
       w.heard.counted counted (λ xs ys zs a b. a ∙ b)
 
-  all_read : state ≡ states.Ended → Told start.text new_left (λ xs ys. to_come after ys ≡ [])
+  all_read : state ≡ states.Ended → Told start.bytes new_left (λ xs ys. to_come after ys ≡ [])
   all_read e =
-      told_then start.text now.left new_left (λ xs ys. Gathering 1000 w.journal 0 xs (to_come before ys)) (λ ys zs. to_come after zs ≡ []) (λ xs zs. to_come after zs ≡ [])
+      told_then start.bytes now.left new_left (λ xs ys. Gathering 1000 w.journal 0 xs (to_come before ys)) (λ ys zs. to_come after zs ≡ []) (λ xs zs. to_come after zs ≡ [])
       here (g.all e) (λ xs ys zs a b. b)
 
-  named_none : length g.reads.read ≡ 0 → Told start.text new_left (λ xs ys. GatheredTo 1000 w.journal 0 xs (to_come after ys))
+  named_none : length g.reads.read ≡ 0 → Told start.bytes new_left (λ xs ys. GatheredTo 1000 w.journal 0 xs (to_come after ys))
   named_none none =
-      told_then start.text now.left new_left (λ xs ys. Gathering 1000 w.journal 0 xs (to_come before ys)) (λ ys zs. to_come before ys ≡ g.reads.read ++ to_come after zs) (λ xs zs. GatheredTo 1000 w.journal 0 xs (to_come after zs))
+      told_then start.bytes now.left new_left (λ xs ys. Gathering 1000 w.journal 0 xs (to_come before ys)) (λ ys zs. to_come before ys ≡ g.reads.read ++ to_come after zs) (λ xs zs. GatheredTo 1000 w.journal 0 xs (to_come after zs))
       here g.reads.consecutive
       (λ xs ys zs a b. gathered_to_here 1000 0 w.journal xs (to_come after zs) (omega arith) (subst (Gathering 1000 w.journal 0 xs) (b ∙ ap (λ (cs : List Cut). cs ++ to_come after zs) (none_of g.reads.read none)) a))
 
-  named_by_state : (state : InState) → (state ≡ states.Reading → ⊥) → (journal : List Entry) → Told start.text new_left (λ xs ys. GatheredTo 1000 journal 0 xs (to_come after ys)) → Told start.text new_left (λ xs ys. IsNamedTo state journal xs (to_come after ys))
+  named_by_state : (state : InState) → (state ≡ states.Reading → ⊥) → (journal : List Entry) → Told start.bytes new_left (λ xs ys. GatheredTo 1000 journal 0 xs (to_come after ys)) → Told start.bytes new_left (λ xs ys. IsNamedTo state journal xs (to_come after ys))
   named_by_state states.Reading ne journal h = absurd (ne refl)
   named_by_state states.Ended ne journal h = h
   named_by_state states.Faulted ne journal h = h
   named_by_state states.LimitReached ne journal h = h
 
-  taken_none : (s : InState) → s ≡ state → (s ≡ states.Reading → ⊥) → group.pieces ≡ 0 → Told start.text new_left (IsNamedOfTaken s w.journal after)
+  taken_none : (s : InState) → s ≡ state → (s ≡ states.Reading → ⊥) → group.pieces ≡ 0 → Told start.bytes new_left (IsNamedOfTaken s w.journal after)
   taken_none states.Reading e ne none = absurd (ne refl)
-  taken_none states.Ended e ne none = told_map start.text new_left (λ xs ys. length xs ≡ after.taken + length ys) (IsNamedOfTaken states.Ended w.journal after) (λ xs ys h. tt) counted_all
-  taken_none states.Faulted e ne none = told_taken_same 1000 0 w.journal moment group before after start.text now.left new_left g.reads w.heard.of_taken here (one (sym e)) (line (sym e)) w.journal refl none
-  taken_none states.LimitReached e ne none = told_map start.text new_left (λ xs ys. length xs ≡ after.taken + length ys) (IsNamedOfTaken states.LimitReached w.journal after) (λ xs ys h. tt) counted_all
+  taken_none states.Ended e ne none = told_map start.bytes new_left (λ xs ys. length xs ≡ after.taken + length ys) (IsNamedOfTaken states.Ended w.journal after) (λ xs ys h. tt) counted_all
+  taken_none states.Faulted e ne none = told_taken_same 1000 0 w.journal moment group before after start.bytes now.left new_left g.reads w.heard.of_taken here (one (sym e)) (line (sym e)) w.journal refl none
+  taken_none states.LimitReached e ne none = told_map start.bytes new_left (λ xs ys. length xs ≡ after.taken + length ys) (IsNamedOfTaken states.LimitReached w.journal after) (λ xs ys h. tt) counted_all
 
   -- no piece was read
-  pub went_none : group.pieces ≡ 0 → ProgressTo start core after failed (read_to now state new_left new_reads new_place)
+  pub went_none : group.pieces ≡ 0 → ProgressTo start core after failed (read_to now state new_left new_read_faults new_place)
   went_none empty =
       let none : length g.reads.read ≡ 0 = sym g.reads.pieces ∙ empty in
       record {
@@ -138,43 +138,43 @@ module _ (start : Beginning) (core : CoreState) (before after : Hand) (failed : 
           all = all_read;
           counted = counted_all;
           unended = w.heard.ended;
-          later = omega (arith, w.heard.later, reads);
-          state = has_state state start new_reads new_left after w.journal now.reads w.heard.later limit below faulted;
+          later = omega (arith, w.heard.later, read_faults);
+          state = has_state state start new_read_faults new_left after w.journal now.read_faults w.heard.later limit below faulted;
           clocked = clocked_wide start.moments now.place new_place moment (gather_moments 0 w.journal) gives w.heard.clocked;
         };
-        said = record { sent = w.said.sent; puts = w.said.puts; stuck = w.said.stuck; last = w.said.last };
+        said = record { sent = w.said.sent; put_faults = w.said.put_faults; stuck = w.said.stuck; last = w.said.last };
         worked = w.worked;
         in_order = w.in_order;
-        stops = w.stops;
+        counted_at = w.counted_at;
       }
 
   more_named : gathers 0 (w.journal ++ gather_entry (gathered_of moment group) ∷ []) ≡ gathers 0 w.journal ++ says_of moment group ∷ []
   more_named =
       gathers-push 0 w.journal (gather_entry (gathered_of moment group)) ∙ ap (λ (more : List GatherSays). gathers 0 w.journal ++ more) (gathers_own 0 moment group None [])
 
-  named_more : (s : InState) → s ≡ state → 0 < length g.reads.read → Told start.text new_left (λ xs ys. IsNamedTo s (w.journal ++ gather_entry (gathered_of moment group) ∷ []) xs (to_come after ys))
+  named_more : (s : InState) → s ≡ state → 0 < length g.reads.read → Told start.bytes new_left (λ xs ys. IsNamedTo s (w.journal ++ gather_entry (gathered_of moment group) ∷ []) xs (to_come after ys))
   named_more states.Reading e some =
-      told_gathering 1000 0 w.journal (w.journal ++ gather_entry (gathered_of moment group) ∷ []) moment group before after start.text now.left new_left g.reads more_named here (g.full (sym e))
+      told_gathering 1000 0 w.journal (w.journal ++ gather_entry (gathered_of moment group) ∷ []) moment group before after start.bytes now.left new_left g.reads more_named here (g.full (sym e))
   named_more states.Ended e some =
-      told_gathered_to 1000 0 w.journal (w.journal ++ gather_entry (gathered_of moment group) ∷ []) moment group before after start.text now.left new_left g.reads more_named here (omega arith) g.most
+      told_gathered_to 1000 0 w.journal (w.journal ++ gather_entry (gathered_of moment group) ∷ []) moment group before after start.bytes now.left new_left g.reads more_named here (omega arith) g.most
   named_more states.Faulted e some =
-      told_gathered_to 1000 0 w.journal (w.journal ++ gather_entry (gathered_of moment group) ∷ []) moment group before after start.text now.left new_left g.reads more_named here (omega arith) g.most
+      told_gathered_to 1000 0 w.journal (w.journal ++ gather_entry (gathered_of moment group) ∷ []) moment group before after start.bytes now.left new_left g.reads more_named here (omega arith) g.most
   named_more states.LimitReached e some =
-      told_gathered_to 1000 0 w.journal (w.journal ++ gather_entry (gathered_of moment group) ∷ []) moment group before after start.text now.left new_left g.reads more_named here (omega arith) g.most
+      told_gathered_to 1000 0 w.journal (w.journal ++ gather_entry (gathered_of moment group) ∷ []) moment group before after start.bytes now.left new_left g.reads more_named here (omega arith) g.most
 
-  taken_more : (s : InState) → s ≡ state → Told start.text new_left (IsNamedOfTaken s (w.journal ++ gather_entry (gathered_of moment group) ∷ []) after)
+  taken_more : (s : InState) → s ≡ state → Told start.bytes new_left (IsNamedOfTaken s (w.journal ++ gather_entry (gathered_of moment group) ∷ []) after)
   taken_more states.Reading e =
-      told_names_more 1000 0 w.journal moment group before after start.text now.left new_left g.reads w.heard.of_taken (w.journal ++ gather_entry (gathered_of moment group) ∷ []) more_named (g.full (sym e))
+      told_names_more 1000 0 w.journal moment group before after start.bytes now.left new_left g.reads w.heard.of_taken (w.journal ++ gather_entry (gathered_of moment group) ∷ []) more_named (g.full (sym e))
   taken_more states.Ended e =
-      told_map start.text new_left (λ xs ys. length xs ≡ after.taken + length ys) (IsNamedOfTaken states.Ended (w.journal ++ gather_entry (gathered_of moment group) ∷ []) after) (λ xs ys h. tt) counted_all
+      told_map start.bytes new_left (λ xs ys. length xs ≡ after.taken + length ys) (IsNamedOfTaken states.Ended (w.journal ++ gather_entry (gathered_of moment group) ∷ []) after) (λ xs ys h. tt) counted_all
   taken_more states.Faulted e =
-      told_taken_more 1000 0 w.journal moment group before after start.text now.left new_left g.reads w.heard.of_taken here (one (sym e)) (line (sym e)) (w.journal ++ gather_entry (gathered_of moment group) ∷ []) more_named
+      told_taken_more 1000 0 w.journal moment group before after start.bytes now.left new_left g.reads w.heard.of_taken here (one (sym e)) (line (sym e)) (w.journal ++ gather_entry (gathered_of moment group) ∷ []) more_named
   taken_more states.LimitReached e =
-      told_map start.text new_left (λ xs ys. length xs ≡ after.taken + length ys) (IsNamedOfTaken states.LimitReached (w.journal ++ gather_entry (gathered_of moment group) ∷ []) after) (λ xs ys h. tt) counted_all
+      told_map start.bytes new_left (λ xs ys. length xs ≡ after.taken + length ys) (IsNamedOfTaken states.LimitReached (w.journal ++ gather_entry (gathered_of moment group) ∷ []) after) (λ xs ys h. tt) counted_all
 
   -- the group was gathered
   pub went_gathered : (next : CoreState) → 0 < group.pieces → next ≡ after_gather core (gathered_of moment group) → Continues core next (gather_entry (gathered_of moment group)) → IsDrained start.setup w.journal
-      → ProgressTo start next after failed (read_to now state new_left new_reads new_place)
+      → ProgressTo start next after failed (read_to now state new_left new_read_faults new_place)
   went_gathered next some is more drained =
       let e : Entry = gather_entry (gathered_of moment group) in
       record {
@@ -186,52 +186,52 @@ module _ (start : Beginning) (core : CoreState) (before after : Hand) (failed : 
           all = all_read;
           counted = counted_all;
           unended = has_ended-other 0 w.journal e refl ∙ w.heard.ended;
-          later = omega (arith, w.heard.later, reads);
-          state = has_state state start new_reads new_left after (w.journal ++ e ∷ []) now.reads w.heard.later limit below faulted;
+          later = omega (arith, w.heard.later, read_faults);
+          state = has_state state start new_read_faults new_left after (w.journal ++ e ∷ []) now.read_faults w.heard.later limit below faulted;
           clocked = clocked_same start.moments new_place (gather_moments 0 w.journal ++ moment ∷ []) (gather_moments 0 (w.journal ++ e ∷ []))
               (gather_moments-push 0 w.journal e ∙ ap (λ (more : List GatherSays). gather_moments 0 w.journal ++ map (λ (says : GatherSays). says.moment) more) (gathers_own 0 moment group None []))
               (clocked_more start.moments now.place new_place moment (gather_moments 0 w.journal) gives w.heard.clocked);
         };
-        said = said_push start (read_to now state new_left new_reads new_place) failed w.journal e tt refl refl refl (record { sent = w.said.sent; puts = w.said.puts; stuck = w.said.stuck; last = w.said.last });
+        said = said_push start (read_to now state new_left new_read_faults new_place) failed w.journal e tt refl refl refl (record { sent = w.said.sent; put_faults = w.said.put_faults; stuck = w.said.stuck; last = w.said.last });
         worked = worked-push w.journal e tt w.worked;
         in_order = in_order-push start.setup w.journal e w.in_order drained;
-        stops = counted_moments-same w.journal e refl ∙ w.stops;
+        counted_at = counted_moments-same w.journal e refl ∙ w.counted_at;
       }
 
   -- the group was offered
-  pub went_offered : (next : CoreState) → IsOffered true moment group core next → IsDrained start.setup w.journal → ProgressTo start next after failed (read_to now state new_left new_reads new_place)
-  went_offered next (inl none) drained = subst (λ (k : CoreState). ProgressTo start k after failed (read_to now state new_left new_reads new_place)) (sym none.1) (went_none none.0)
+  pub went_offered : (next : CoreState) → IsOffered true moment group core next → IsDrained start.setup w.journal → ProgressTo start next after failed (read_to now state new_left new_read_faults new_place)
+  went_offered next (inl none) drained = subst (λ (k : CoreState). ProgressTo start k after failed (read_to now state new_left new_read_faults new_place)) (sym none.1) (went_none none.0)
   went_offered next (inr some) drained = went_gathered next some.0 some.1 some.2 drained
 
   -- the group was refused, since the run is full
-  pub went_full : 2 ^ 32 ≤ core.gathered + length group.metrics.items → Progress start core after failed (read_to now states.LimitReached new_left new_reads new_place)
+  pub went_full : 2 ^ 32 ≤ core.gathered + length group.metrics.items → Progress start core after failed (read_to now states.LimitReached new_left new_read_faults new_place)
   went_full many = record {
     journal = w.journal;
     text = w.text;
     heard = record {
       named =
-          told_then start.text now.left new_left (λ xs ys. Gathering 1000 w.journal 0 xs (to_come before ys)) (λ ys zs. to_come before ys ≡ g.reads.read ++ to_come after zs) (λ xs zs. Gathered 1000 w.journal 0 xs)
+          told_then start.bytes now.left new_left (λ xs ys. Gathering 1000 w.journal 0 xs (to_come before ys)) (λ ys zs. to_come before ys ≡ g.reads.read ++ to_come after zs) (λ xs zs. Gathered 1000 w.journal 0 xs)
           here g.reads.consecutive
           (λ xs ys zs a b. gathered 1000 0 w.journal xs (to_come before ys) (gathered_to_here 1000 0 w.journal xs (to_come before ys) (omega arith) a) (λ e. absurd (let x : false ≡ true = sym w.heard.ended ∙ e in cc)));
-      of_taken = told_map start.text new_left (λ xs ys. length xs ≡ after.taken + length ys) (IsNamedOfTaken states.LimitReached w.journal after) (λ xs ys h. tt) counted_all;
+      of_taken = told_map start.bytes new_left (λ xs ys. length xs ≡ after.taken + length ys) (IsNamedOfTaken states.LimitReached w.journal after) (λ xs ys h. tt) counted_all;
       counted = counted_all;
       ended = w.heard.ended;
-      later = omega (arith, w.heard.later, reads);
+      later = omega (arith, w.heard.later, read_faults);
       state = inr (record {
         count = length group.metrics.items;
         few = omega (arith, g.most, ap (λ (ms : List Content). length ms) g.reads.metrics, few_readings moment g.reads.read);
         many = omega (arith, many, w.text.stands.gathered);
         next =
-            told_then start.text now.left new_left (λ xs ys. Gathering 1000 w.journal 0 xs (to_come before ys)) (λ ys zs. to_come before ys ≡ g.reads.read ++ to_come after zs) (λ xs zs. IsNextGroup 1000 w.journal 0 xs (length group.metrics.items))
+            told_then start.bytes now.left new_left (λ xs ys. Gathering 1000 w.journal 0 xs (to_come before ys)) (λ ys zs. to_come before ys ≡ g.reads.read ++ to_come after zs) (λ xs zs. IsNextGroup 1000 w.journal 0 xs (length group.metrics.items))
             here g.reads.consecutive
             (λ xs ys zs a b. record { moment = moment; groups = a.groups; group = g.reads.read; rest = to_come after zs; consecutive = a.consecutive ∙ ap (λ (cs : List Cut). joined a.groups ++ cs) b; named = a.named; few = g.most; metrics = ap (λ (ms : List Content). length ms) g.reads.metrics });
       });
       clocked = clocked_wide start.moments now.place new_place moment (gather_moments 0 w.journal) gives w.heard.clocked;
     };
-    said = record { sent = w.said.sent; puts = w.said.puts; stuck = w.said.stuck; last = w.said.last };
+    said = record { sent = w.said.sent; put_faults = w.said.put_faults; stuck = w.said.stuck; last = w.said.last };
     worked = w.worked;
     in_order = w.in_order;
-    stops = w.stops;
+    counted_at = w.counted_at;
   }
 
 ended_here : (journal : List Entry) → has_ended 0 (journal ++ Ended 0 ∷ []) ≡ true
@@ -249,7 +249,7 @@ named_unended journal text left hand none h =
 
 -- the same journal
 went_unended : (start : Beginning) (core : CoreState) (hand : Hand) (failed : ℕ) (now : Surroundings) (w : ProgressTo start core hand failed now) → is_ended now.state ≡ false →
-    Told start.text now.left (λ xs ys. IsNamed now.state w.journal xs (to_come hand ys)) → Progress start core hand failed now
+    Told start.bytes now.left (λ xs ys. IsNamed now.state w.journal xs (to_come hand ys)) → Progress start core hand failed now
 went_unended start core hand failed now w none named = record {
   journal = w.journal;
   text = w.text;
@@ -257,7 +257,7 @@ went_unended start core hand failed now w none named = record {
   said = w.said;
   worked = w.worked;
   in_order = w.in_order;
-  stops = w.stops;
+  counted_at = w.counted_at;
 }
 
 -- the end of the input was noted, where it was reached
@@ -267,15 +267,15 @@ went_ended states.Reading start core next hand failed now is w =
     subst (λ (s : CoreState). Progress start s hand failed (record now { state = states.Reading })) (sym is) (went_unended start core hand failed (record now { state = states.Reading }) w refl w.heard.named)
 went_ended states.Faulted start core next hand failed now is w =
     subst (λ (s : CoreState). Progress start s hand failed (record now { state = states.Faulted })) (sym is)
-    (went_unended start core hand failed (record now { state = states.Faulted }) w refl (named_unended w.journal start.text now.left hand w.heard.unended w.heard.named))
+    (went_unended start core hand failed (record now { state = states.Faulted }) w refl (named_unended w.journal start.bytes now.left hand w.heard.unended w.heard.named))
 went_ended states.LimitReached start core next hand failed now is w =
     subst (λ (s : CoreState). Progress start s hand failed (record now { state = states.LimitReached })) (sym is)
-    (went_unended start core hand failed (record now { state = states.LimitReached }) w refl (named_unended w.journal start.text now.left hand w.heard.unended w.heard.named))
+    (went_unended start core hand failed (record now { state = states.LimitReached }) w refl (named_unended w.journal start.bytes now.left hand w.heard.unended w.heard.named))
 went_ended states.Ended start core next hand failed now is w = record {
   journal = w.journal ++ Ended 0 ∷ [];
   text = text-push start core next now.journal w.journal (Ended 0) w.text is.1 (ap (λ (s : CoreState). s.stored) is.0) (ap (λ (s : CoreState). s.setup) is.0);
   heard = record {
-    named = named_ended w.journal start.text now.left hand w.heard.named (w.heard.all refl);
+    named = named_ended w.journal start.bytes now.left hand w.heard.named (w.heard.all refl);
     of_taken = w.heard.of_taken;
     counted = w.heard.counted;
     ended = ended_here w.journal;
@@ -286,7 +286,7 @@ went_ended states.Ended start core next hand failed now is w = record {
   said = said_push start (record now { state = states.Ended }) failed w.journal (Ended 0) tt refl refl refl w.said;
   worked = worked-push w.journal (Ended 0) tt w.worked;
   in_order = in_order-push start.setup w.journal (Ended 0) w.in_order tt;
-  stops = counted_moments-same w.journal (Ended 0) refl ∙ w.stops;
+  counted_at = counted_moments-same w.journal (Ended 0) refl ∙ w.counted_at;
 }
 
 -- whether the group was accepted

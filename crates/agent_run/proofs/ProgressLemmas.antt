@@ -88,12 +88,12 @@ full_same old new text left same count h = record {
       h.next;
 }
 
-state_same : (state : InState) (start : Beginning) (reads : ℕ) (left : Option (List ℕ)) (hand : Hand) (old new : List Entry) → gathers 0 new ≡ gathers 0 old → gathered_count new ≡ gathered_count old → HasState state start reads left hand old → HasState state start reads left hand new
-state_same states.Reading start reads left hand old new same count h = h
-state_same states.Ended start reads left hand old new same count h = h
-state_same states.Faulted start reads left hand old new same count h = h
-state_same states.LimitReached start reads left hand old new same count (inl h) = inl h
-state_same states.LimitReached start reads left hand old new same count (inr h) = inr (full_same old new start.text left same count h)
+state_same : (state : InState) (start : Beginning) (read_faults : ℕ) (left : Option (List ℕ)) (hand : Hand) (old new : List Entry) → gathers 0 new ≡ gathers 0 old → gathered_count new ≡ gathered_count old → HasState state start read_faults left hand old → HasState state start read_faults left hand new
+state_same states.Reading start read_faults left hand old new same count h = h
+state_same states.Ended start read_faults left hand old new same count h = h
+state_same states.Faulted start read_faults left hand old new same count h = h
+state_same states.LimitReached start read_faults left hand old new same count (inl h) = inl h
+state_same states.LimitReached start read_faults left hand old new same count (inr h) = inr (full_same old new start.bytes left same count h)
 
 pub clocked_same : (all : Option Moments) (place : ℕ) (old new : List ℤ) → new ≡ old → IfSome all (λ moments. IsClocked moments place old) → IfSome all (λ moments. IsClocked moments place new)
 clocked_same None place old new same h = tt
@@ -109,19 +109,19 @@ taken_same states.LimitReached old new hand text left same h = tt
 pub heard_same : (start : Beginning) (now : Surroundings) (hand : Hand) (old new : List Entry) → gathers 0 new ≡ gathers 0 old → has_ended 0 new ≡ has_ended 0 old → gathered_count new ≡ gathered_count old → gather_moments 0 new ≡ gather_moments 0 old
     → Heard start now hand old → Heard start now hand new
 heard_same start now hand old new same ended count moments h = record {
-  named = told_map start.text now.left (λ xs ys. IsNamed now.state old xs (to_come hand ys)) (λ xs ys. IsNamed now.state new xs (to_come hand ys)) (λ xs ys. named_same now.state old new xs (to_come hand ys) same ended) h.named;
-  of_taken = told_map start.text now.left (IsNamedOfTaken now.state old hand) (IsNamedOfTaken now.state new hand) (λ xs ys. taken_same now.state old new hand xs ys same) h.of_taken;
+  named = told_map start.bytes now.left (λ xs ys. IsNamed now.state old xs (to_come hand ys)) (λ xs ys. IsNamed now.state new xs (to_come hand ys)) (λ xs ys. named_same now.state old new xs (to_come hand ys) same ended) h.named;
+  of_taken = told_map start.bytes now.left (IsNamedOfTaken now.state old hand) (IsNamedOfTaken now.state new hand) (λ xs ys. taken_same now.state old new hand xs ys same) h.of_taken;
   counted = h.counted;
   ended = ended ∙ h.ended;
   later = h.later;
-  state = state_same now.state start now.reads now.left hand old new same count h.state;
+  state = state_same now.state start now.read_faults now.left hand old new same count h.state;
   clocked = clocked_same start.moments now.place (gather_moments 0 old) (gather_moments 0 new) moments h.clocked;
 }
 
 -- what is put and what was counted is nothing of the input
-pub heard_beside : (start : Beginning) (now : Surroundings) (hand : Hand) (journal : List Entry) (held : Option (List ℕ)) (puts : ℕ) (part : JournalPart) (stops : List ℤ) → Heard start now hand journal
-    → Heard start (record now { held = held; puts = puts; journal = part; stops = stops }) hand journal
-heard_beside start now hand journal held puts part stops h =
+pub heard_beside : (start : Beginning) (now : Surroundings) (hand : Hand) (journal : List Entry) (held : Option (List ℕ)) (put_faults : ℕ) (part : JournalPart) (counted_at : List ℤ) → Heard start now hand journal
+    → Heard start (record now { held = held; put_faults = put_faults; journal = part; counted_at = counted_at }) hand journal
+heard_beside start now hand journal held put_faults part counted_at h =
     record { named = h.named; of_taken = h.of_taken; counted = h.counted; ended = h.ended; later = h.later; state = h.state; clocked = h.clocked }
 
 -- an entry that is no Gather, and not the Ended of the input
@@ -136,7 +136,7 @@ said_push start now failed journal e ends none quiet going h =
     let same : dones 0 (journal ++ e ∷ []) ≡ dones 0 journal = dones-same 0 journal e none in
     record {
       sent = sent_same 0 journal e start.held now.held ends h.sent;
-      puts = subst (λ (bs : List Bool). RoseBy (count_by not bs) start.puts now.puts) (sym same) h.puts;
+      put_faults = subst (λ (bs : List Bool). RoseBy (count_by not bs) start.put_faults now.put_faults) (sym same) h.put_faults;
       stuck = λ some. subst EndsFailed (sym (lane_events-push 0 journal e ∙ ap (λ (es : List LaneEvent). lane_events 0 journal ++ es) quiet ∙ append-nil (lane_events 0 journal))) (h.stuck some);
       last = λ stopped.
           let before : has_stop journal ≡ true = stop_before journal e going stopped in
@@ -148,7 +148,7 @@ said_push start now failed journal e ends none quiet going h =
 pub said_anew : (start : Beginning) (now : Surroundings) (failed : ℕ) (journal : List Entry) (e : Entry) → EndsNone 0 e → dones_by 0 e ≡ [] → Said start now failed journal → Said start now 0 (journal ++ e ∷ [])
 said_anew start now failed journal e ends none h = record {
   sent = sent_same 0 journal e start.held now.held ends h.sent;
-  puts = subst (λ (bs : List Bool). RoseBy (count_by not bs) start.puts now.puts) (sym (dones-same 0 journal e none)) h.puts;
+  put_faults = subst (λ (bs : List Bool). RoseBy (count_by not bs) start.put_faults now.put_faults) (sym (dones-same 0 journal e none)) h.put_faults;
   stuck = λ some. absurd (omega (arith, some));
   last = λ stopped. last_none (dones 0 (behind_stop (journal ++ e ∷ [])));
 }
@@ -165,7 +165,7 @@ went_quiet start core next hand failed now e w more stored same none other count
   said = said_push start now failed w.journal e ends no_done quiet going w.said;
   worked = worked-push w.journal e worked w.worked;
   in_order = in_order-push start.setup w.journal e w.in_order orderly;
-  stops = counted_moments-same w.journal e still ∙ w.stops;
+  counted_at = counted_moments-same w.journal e still ∙ w.counted_at;
 }
 
 -- an item was taken
@@ -191,7 +191,7 @@ went_route start core mid next hand failed now metric first taken takes routed r
       said = said_anew start now failed (w.journal ++ Take core.taken ∷ []) e tt refl (said_push start now failed w.journal (Take core.taken) tt refl refl refl w.said);
       worked = worked_route (w.journal ++ Take core.taken ∷ []) core.taken metric Passes [] (Some metric ∷ []) there (refl, tt) (worked-push w.journal (Take core.taken) tt w.worked);
       in_order = in_order-push start.setup (w.journal ++ Take core.taken ∷ []) e (in_order-push start.setup w.journal (Take core.taken) w.in_order tt) tt;
-      stops = counted_moments-same (w.journal ++ Take core.taken ∷ []) e refl ∙ counted_moments-same w.journal (Take core.taken) refl ∙ w.stops;
+      counted_at = counted_moments-same (w.journal ++ Take core.taken ∷ []) e refl ∙ counted_moments-same w.journal (Take core.taken) refl ∙ w.counted_at;
     }
 
 -- the stored entries were noted
@@ -200,11 +200,11 @@ pub went_cut : (start : Beginning) (core next : CoreState) (part more : JournalP
 went_cut start core next part more hand failed now stands is notes w = record {
   journal = w.journal;
   text = text-cut start core next part more w.journal w.text stands (ap (λ (s : CoreState). s.stored) is) (ap (λ (s : CoreState). s.setup) is) notes;
-  heard = heard_beside start (record now { journal = part }) hand w.journal now.held now.puts more now.stops w.heard;
-  said = record { sent = w.said.sent; puts = w.said.puts; stuck = w.said.stuck; last = w.said.last };
+  heard = heard_beside start (record now { journal = part }) hand w.journal now.held now.put_faults more now.counted_at w.heard;
+  said = record { sent = w.said.sent; put_faults = w.said.put_faults; stuck = w.said.stuck; last = w.said.last };
   worked = w.worked;
   in_order = w.in_order;
-  stops = w.stops;
+  counted_at = w.counted_at;
 }
 
 -- no entry was stored
@@ -213,19 +213,19 @@ went_uncut start core next hand failed now is w = subst (λ (s : CoreState). Pro
 
 -- the run was stopped at a moment
 pub went_stop : (start : Beginning) (core next : CoreState) (hand : Hand) (failed : ℕ) (now : Surroundings) (moment : ℤ) → next ≡ after_stop core moment → Continues core next (Stop (int_max moment core.counted) [])
-    → (w : Progress start core hand failed (record now { stops = [] })) → Progress start next hand 0 (record now { stops = int_max moment start.setup.start ∷ [] })
+    → (w : Progress start core hand failed (record now { counted_at = [] })) → Progress start next hand 0 (record now { counted_at = int_max moment start.setup.start ∷ [] })
 went_stop start core next hand failed now moment is more w =
     let e : Entry = Stop (int_max moment core.counted) [] in
     let counted : core.counted ≡ start.setup.start =
-    w.text.stands.counted ∙ counted_from-last core.setup.start w.journal ∙ ap (λ (ms : List ℤ). last_of core.setup.start ms) w.stops ∙ ap (λ (s : Setup). s.start) w.text.setup_is in
+    w.text.stands.counted ∙ counted_from-last core.setup.start w.journal ∙ ap (λ (ms : List ℤ). last_of core.setup.start ms) w.counted_at ∙ ap (λ (s : Setup). s.start) w.text.setup_is in
     record {
       journal = w.journal ++ e ∷ [];
       text = text-push start core next now.journal w.journal e w.text more (ap (λ (s : CoreState). s.stored) is) (ap (λ (s : CoreState). s.setup) is);
-      heard = heard_push start (record now { stops = int_max moment start.setup.start ∷ [] }) hand w.journal e refl refl refl (heard_beside start (record now { stops = [] }) hand w.journal now.held now.puts now.journal (int_max moment start.setup.start ∷ []) w.heard);
-      said = said_anew start (record now { stops = int_max moment start.setup.start ∷ [] }) failed w.journal e tt refl (record { sent = w.said.sent; puts = w.said.puts; stuck = w.said.stuck; last = w.said.last });
+      heard = heard_push start (record now { counted_at = int_max moment start.setup.start ∷ [] }) hand w.journal e refl refl refl (heard_beside start (record now { counted_at = [] }) hand w.journal now.held now.put_faults now.journal (int_max moment start.setup.start ∷ []) w.heard);
+      said = said_anew start (record now { counted_at = int_max moment start.setup.start ∷ [] }) failed w.journal e tt refl (record { sent = w.said.sent; put_faults = w.said.put_faults; stuck = w.said.stuck; last = w.said.last });
       worked = worked-push w.journal e tt w.worked;
       in_order = in_order-push start.setup w.journal e w.in_order tt;
-      stops = counted_moments-push w.journal e ∙ ap (λ (ms : List ℤ). ms ++ int_max moment core.counted ∷ []) w.stops ∙ ap (λ (m : ℤ). int_max moment m ∷ []) counted;
+      counted_at = counted_moments-push w.journal e ∙ ap (λ (ms : List ℤ). ms ++ int_max moment core.counted ∷ []) w.counted_at ∙ ap (λ (m : ℤ). int_max moment m ∷ []) counted;
     }
 
 -- the same of an item with the number of the first raw one

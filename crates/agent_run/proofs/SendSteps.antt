@@ -31,11 +31,11 @@ dones_of : (journal : List Entry) (from to : ℕ) (ok : Bool) → dones 0 ((jour
 dones_of journal from to ok =
     dones-more 0 (journal ++ Begin 0 from to ∷ []) ok ∙ ap (λ (bs : List Bool). bs ++ ok ∷ []) (dones-same 0 journal (Begin 0 from to) refl)
 
-module _ (start : Beginning) (core mid next : CoreState) (hand : Hand) (failed : ℕ) (now : Surroundings) (batch : Batch) (text : List ℕ) (new_held : Option (List ℕ)) (new_puts : ℕ)
-    (one : 0 < length core.setup.outputs) (routed : core.raw ≡ []) (is : IsBatchOf (lane_at core.lanes 0) batch) (spelled : text ≡ batch_text batch.metrics) (later : now.puts ≤ new_puts)
+module _ (start : Beginning) (core mid next : CoreState) (hand : Hand) (failed : ℕ) (now : Surroundings) (batch : Batch) (text : List ℕ) (new_held : Option (List ℕ)) (new_put_faults : ℕ)
+    (one : 0 < length core.setup.outputs) (routed : core.raw ≡ []) (is : IsBatchOf (lane_at core.lanes 0) batch) (spelled : text ≡ batch_text batch.metrics) (later : now.put_faults ≤ new_put_faults)
     (began : mid ≡ after_begin core 0 batch.from batch.to) (begins : Continues core mid (Begin 0 batch.from batch.to)) where
   went_done : (ok : Bool) (more : ℕ) (w : Progress start core hand failed now) → next ≡ after_done mid 0 ok → Continues mid next (Done 0 ok []) →
-      Said start (record now { held = new_held; puts = new_puts }) more ((w.journal ++ Begin 0 batch.from batch.to ∷ []) ++ Done 0 ok [] ∷ []) → Progress start next hand more (record now { held = new_held; puts = new_puts })
+      Said start (record now { held = new_held; put_faults = new_put_faults }) more ((w.journal ++ Begin 0 batch.from batch.to ∷ []) ++ Done 0 ok [] ∷ []) → Progress start next hand more (record now { held = new_held; put_faults = new_put_faults })
   went_done ok more w done ends said =
       let begin : Entry = Begin 0 batch.from batch.to in
       let end : Entry = Done 0 ok [] in
@@ -45,36 +45,36 @@ module _ (start : Beginning) (core mid next : CoreState) (hand : Hand) (failed :
         text = text-push start mid next now.journal between end
             (text-push start core mid now.journal w.journal begin w.text begins (ap (λ (s : CoreState). s.stored) began) (ap (λ (s : CoreState). s.setup) began))
             ends (ap (λ (s : CoreState). s.stored) done) (ap (λ (s : CoreState). s.setup) done);
-        heard = heard_beside start now hand (between ++ end ∷ []) new_held new_puts now.journal now.stops (heard_push start now hand between end refl refl refl (heard_push start now hand w.journal begin refl refl refl w.heard));
+        heard = heard_beside start now hand (between ++ end ∷ []) new_held new_put_faults now.journal now.counted_at (heard_push start now hand between end refl refl refl (heard_push start now hand w.journal begin refl refl refl w.heard));
         said = said;
         worked = worked-push between end tt (worked-push w.journal begin tt w.worked);
         in_order = in_order-push start.setup between end (in_order-push start.setup w.journal begin w.in_order (sym w.text.stands.raw ∙ routed)) tt;
-        stops = counted_moments-same between end refl ∙ counted_moments-same w.journal begin refl ∙ w.stops;
+        counted_at = counted_moments-same between end refl ∙ counted_moments-same w.journal begin refl ∙ w.counted_at;
       }
 
   -- the batch was accepted
-  pub went_accepted : next ≡ after_done mid 0 true → Continues mid next (Done 0 true []) → Appends now.held new_held text → Progress start core hand failed now → Progress start next hand 0 (record now { held = new_held; puts = new_puts })
+  pub went_accepted : next ≡ after_done mid 0 true → Continues mid next (Done 0 true []) → Appends now.held new_held text → Progress start core hand failed now → Progress start next hand 0 (record now { held = new_held; put_faults = new_put_faults })
   went_accepted done ends put w =
       let same = dones_of w.journal batch.from batch.to true in
       went_done true 0 w done ends (record {
         sent = sent_accepted core w.journal 0 batch start.held now.held new_held text w.text.stands one is spelled w.said.sent put;
-        puts = subst (λ (bs : List Bool). RoseBy (count_by not bs) start.puts new_puts) (sym same)
+        put_faults = subst (λ (bs : List Bool). RoseBy (count_by not bs) start.put_faults new_put_faults) (sym same)
             (let n : count_by not (dones 0 w.journal ++ true ∷ []) ≡ count_by not (dones 0 w.journal) = omega (arith, failed-more (dones 0 w.journal) true) in
-            subst (λ (k : ℕ). RoseBy k start.puts new_puts) (sym n) (rose_later (count_by not (dones 0 w.journal)) start.puts now.puts new_puts w.said.puts later));
+            subst (λ (k : ℕ). RoseBy k start.put_faults new_put_faults) (sym n) (rose_later (count_by not (dones 0 w.journal)) start.put_faults now.put_faults new_put_faults w.said.put_faults later));
         stuck = λ some. absurd (omega (arith, some));
         last = λ stopped. last_none (dones 0 (behind_stop ((w.journal ++ Begin 0 batch.from batch.to ∷ []) ++ Done 0 true [] ∷ [])));
       })
 
   -- its put failed
-  pub went_failed : (more : ℕ) (fault : PutFault) → fault ≡ Failed → more ≤ failed + 1 → next ≡ after_done mid 0 false → Continues mid next (Done 0 false []) → PutAppends now.held new_held text (Err fault) → Rose now.puts new_puts
-      → Progress start core hand failed now → Progress start next hand more (record now { held = new_held; puts = new_puts })
+  pub went_failed : (more : ℕ) (fault : PutFault) → fault ≡ Failed → more ≤ failed + 1 → next ≡ after_done mid 0 false → Continues mid next (Done 0 false []) → PutAppends now.held new_held text (Err fault) → Rose now.put_faults new_put_faults
+      → Progress start core hand failed now → Progress start next hand more (record now { held = new_held; put_faults = new_put_faults })
   went_failed more fault f few done ends put rose w =
       let same = dones_of w.journal batch.from batch.to false in
       went_done false more w done ends (record {
         sent = sent_failed core w.journal 0 batch start.held now.held new_held text fault f w.text.stands one is spelled w.said.sent put;
-        puts = subst (λ (bs : List Bool). RoseBy (count_by not bs) start.puts new_puts) (sym same)
+        put_faults = subst (λ (bs : List Bool). RoseBy (count_by not bs) start.put_faults new_put_faults) (sym same)
             (let n : count_by not (dones 0 w.journal ++ false ∷ []) ≡ count_by not (dones 0 w.journal) + 1 = omega (arith, failed-more (dones 0 w.journal) false) in
-            subst (λ (k : ℕ). RoseBy k start.puts new_puts) (sym n) (rose_more (count_by not (dones 0 w.journal)) start.puts now.puts new_puts w.said.puts rose));
+            subst (λ (k : ℕ). RoseBy k start.put_faults new_put_faults) (sym n) (rose_more (count_by not (dones 0 w.journal)) start.put_faults now.put_faults new_put_faults w.said.put_faults rose));
         stuck = λ some. record { front = lane_events 0 (w.journal ++ Begin 0 batch.from batch.to ∷ []); is = lane_events-push 0 (w.journal ++ Begin 0 batch.from batch.to ∷ []) (Done 0 false []) };
         last = λ stopped.
             let mid_stopped : has_stop (w.journal ++ Begin 0 batch.from batch.to ∷ []) ≡ true = stop_before (w.journal ++ Begin 0 batch.from batch.to ∷ []) (Done 0 false []) refl stopped in

@@ -8,8 +8,10 @@ use Rattle.agent_base.specs.Told.{Told}
 use Rattle.pipeline_core.specs.Legal.{gathered_count}
 use Rattle.agent_run.specs.Gathered.{gathers, AreGroups, joined, readings}
 
--- the next group of pieces behind those that the Gathers name, at most so many, has so many metrics at some moment
-pub record IsNextGroup (most : ℕ) (journal : List Entry) (input : ℕ) (text : List ℕ) (count : ℕ) : Type 0 where
+-- the next group of pieces behind those that the Gathers name, at most so many, has so many metrics at some
+-- moment
+pub record IsNextGroup (most : ℕ) (journal : List Entry) (input : ℕ) (text : List ℕ)
+    (count : ℕ) : Type 0 where
   pub moment : ℤ
   pub groups : List (List Cut)
   pub group : List Cut
@@ -19,7 +21,8 @@ pub record IsNextGroup (most : ℕ) (journal : List Entry) (input : ℕ) (text :
   pub few : length group ≤ most
   pub metrics : count ≡ length (flat_map (readings moment) group)
 
--- the gathered metrics with those of the next group, which are at most as many as its pieces, would reach 2^32
+-- the gathered metrics with those of the next group, which are at most as many as its pieces, would reach
+-- 2^32
 pub record IsFull (most : ℕ) (journal : List Entry) (input : ℕ) (text left : Option (List ℕ)) : Type 0 where
   pub count : ℕ
   pub few : count ≤ most

@@ -13,7 +13,8 @@ pub record IsNumber (word : List ℕ) (n : ℕ) : Type 0 where
   pub digits : IsNumeral 10 word
   pub value : digits_value 10 word ≡ n
 
--- the five words of `pipe IN OUT BATCH LIMIT`, with 1 <= BATCH <= LIMIT <= 10,000; OUT isn't the journal's place
+-- the five words of `pipe IN OUT BATCH LIMIT`, with 1 <= BATCH <= LIMIT <= 10,000; OUT isn't the journal's
+-- place
 pub record IsPipeOf (command output batch_word limit_word : List ℕ) (batch limit : ℕ) : Type 0 where
   pub command_is : command ≡ codes "pipe"
   pub apart : output ≢ journal_place

@@ -1,5 +1,6 @@
 -- How the batches of an output ended.
-use Rattle.std.specs.Prelude.{◌≡◌, ℕ, ◌==◌, Bool, false, not, List, [], ◌∷◌, ◌++◌, replicate, count_by, if◌then◌else◌}
+use Rattle.std.specs.Prelude.{◌≡◌, ℕ, ◌==◌, Bool, false, not, List, [], ◌∷◌, ◌++◌, replicate, count_by}
+use Rattle.std.specs.Prelude.{if◌then◌else◌}
 use Rattle.pipeline_core.specs.Legal.{is_stop}
 use Rattle.account.specs.declared.entry.Entry.{Entry}
 use Rattle.account.specs.declared.entry.Entry.TheVariants.{Done}

@@ -1,5 +1,6 @@
 -- What the Gathers of an input say of its text.
-use Rattle.std.specs.Prelude.{◌≡◌, ◌≤◌, ◌⊎◌, ℕ, ℤ, ◌==◌, Bool, true, List, [], ◌∷◌, ◌++◌, length, count_by, is_err, Result, Ok, Err, if◌then◌else◌}
+use Rattle.std.specs.Prelude.{◌≡◌, ◌≤◌, ◌⊎◌, ℕ, ℤ, ◌==◌, Bool, true, List, [], ◌∷◌, ◌++◌, length, count_by}
+use Rattle.std.specs.Prelude.{is_err, Result, Ok, Err, if◌then◌else◌}
 use Rattle.std.specs.List.{flat_map}
 use Rattle.std.specs.declared.option.Option.{Option}
 use Rattle.std.specs.declared.option.Option.TheVariants.{Some, None}
@@ -11,7 +12,8 @@ use Rattle.metric.specs.declared.metric.Content.{Content}
 use Rattle.line_proto.specs.declared.fault.LineFault.{LineFault}
 use Rattle.line_proto.specs.Reading.{reading}
 use Rattle.account.specs.declared.entry.Entry.{Entry}
-use Rattle.account.specs.declared.entry.Entry.TheVariants.{Gather, Ended, Take, Route, Tick, Stop, Begin, Done}
+use Rattle.account.specs.declared.entry.Entry.TheVariants.{Gather, Ended, Take, Route, Tick, Stop, Begin}
+use Rattle.account.specs.declared.entry.Entry.TheVariants.{Done}
 use Rattle.pipeline_core.specs.Legal.{has_ended}
 
 -- a piece is refused at a moment where it is too long, or no line, and neither blank nor a comment
@@ -41,7 +43,15 @@ pub record GatherSays : Type 0 where
 
 abbrev pub gathers_by : ℕ → Entry → List GatherSays
 gathers_by input (Gather number moment pieces refused passed filtered metrics group reports) =
-    if number == input then (record { moment = moment; pieces = pieces; refused = refused; passed = passed; filtered = filtered; metrics = metrics } ∷ []) else []
+    if number == input then
+    (record {
+      moment = moment;
+      pieces = pieces;
+      refused = refused;
+      passed = passed;
+      filtered = filtered;
+      metrics = metrics;
+    } ∷ []) else []
 gathers_by input (Ended number) = []
 gathers_by input (Take item) = []
 gathers_by input (Route item whole verdict aggs outs reports) = []
@@ -55,7 +65,8 @@ unfoldable pub gathers : ℕ → List Entry → List GatherSays
 gathers input [] = []
 gathers input (e ∷ es) = gathers_by input e ++ gathers input es
 
--- a Gather names a group of pieces: how many they are, how many of them are refused, and the readings of the others in order; nothing is passed over or filtered
+-- a Gather names a group of pieces: how many they are, how many of them are refused, and the readings of the
+-- others in order; nothing is passed over or filtered
 pub record IsGroup (group : List Cut) (says : GatherSays) : Type 0 where
   pub pieces : says.pieces ≡ length group
   pub refused : says.refused ≡ count_by (is_refused says.moment) group
@@ -81,7 +92,8 @@ unfoldable pub joined : List (List Cut) → List Cut
 joined [] = []
 joined (group ∷ groups) = group ++ joined groups
 
--- the Gathers of an input name consecutive groups of the pieces of its text, from the first piece on, and all pieces where the input has ended
+-- the Gathers of an input name consecutive groups of the pieces of its text, from the first piece on, and all
+-- pieces where the input has ended
 pub record Gathered (most : ℕ) (journal : List Entry) (input : ℕ) (text : List ℕ) : Type 0 where
   pub groups : List (List Cut)
   pub rest : List Cut
@@ -95,21 +107,25 @@ unfoldable pub AllFull : ℕ → List (List Cut) → Type 0
 AllFull most [] = Unit {0}
 AllFull most (group ∷ groups) = (length group ≡ most) × AllFull most groups
 
--- so far the Gathers of an input name consecutive full groups of the pieces of its text, from the first piece on; the rest are named by none
-pub record Gathering (most : ℕ) (journal : List Entry) (input : ℕ) (text : List ℕ) (rest : List Cut) : Type 0 where
+-- so far the Gathers of an input name consecutive full groups of the pieces of its text, from the first piece
+-- on; the rest are named by none
+pub record Gathering (most : ℕ) (journal : List Entry) (input : ℕ) (text : List ℕ)
+    (rest : List Cut) : Type 0 where
   pub groups : List (List Cut)
   pub consecutive : cut text ≡ joined groups ++ rest
   pub named : AreGroups groups (gathers input journal)
   pub full : AllFull most groups
 
 -- the same, where the last group needn't be full
-pub record GatheredTo (most : ℕ) (journal : List Entry) (input : ℕ) (text : List ℕ) (rest : List Cut) : Type 0 where
+pub record GatheredTo (most : ℕ) (journal : List Entry) (input : ℕ) (text : List ℕ)
+    (rest : List Cut) : Type 0 where
   pub groups : List (List Cut)
   pub consecutive : cut text ≡ joined groups ++ rest
   pub named : AreGroups groups (gathers input journal)
   pub full : AreFull most groups
 
--- so many bytes being left, the Gathers of an input name all pieces of the bytes that were taken of its text, but perhaps that of the last line: what they don't name holds no newline
+-- so many bytes being left, the Gathers of an input name all pieces of the bytes that were taken of its text,
+-- but perhaps that of the last line: what they don't name holds no newline
 pub record NamesTaken (journal : List Entry) (input : ℕ) (text left : List ℕ) : Type 0 where
   pub taken : List ℕ
   pub split : text ≡ taken ++ left
@@ -117,8 +133,11 @@ pub record NamesTaken (journal : List Entry) (input : ℕ) (text left : List ℕ
   pub named : AreGroups groups (gathers input journal)
   pub all : AreAllButRest taken (joined groups)
 
--- so far the Gathers of an input name full groups of the bytes that were taken of its text, whatever follows them; or nothing is left and no piece is to come
-pub record NamesSoFar (most : ℕ) (journal : List Entry) (input : ℕ) (hand : Hand) (text left : List ℕ) : Type 0 where
+-- so far the Gathers of an input name full groups of the bytes that were taken of its text, whatever follows
+-- them; or nothing is left and no piece is to come
+pub record NamesSoFar (most : ℕ) (journal : List Entry) (input : ℕ) (hand : Hand)
+    (text left : List ℕ) : Type 0 where
   pub taken : List ℕ
   pub split : text ≡ taken ++ left
-  pub named : IsSpent hand left ⊎ ((more : List ℕ) → Gathering most journal input (taken ++ more) (to_come hand more))
+  pub named : IsSpent hand left
+      ⊎ ((more : List ℕ) → Gathering most journal input (taken ++ more) (to_come hand more))

@@ -1,5 +1,6 @@
 -- What a run says: a legal journal of what was read and sent, with its text and the account of its totals.
-use Rattle.std.specs.Prelude.{◌≡◌, ◌≢◌, ◌<◌, ◌⊎◌, ◌+◌, ◌^◌, ℕ, ℤ, min, if◌then◌else◌, Bool, true, false, List, [], String, length, take, IfSome}
+use Rattle.std.specs.Prelude.{◌≡◌, ◌≢◌, ◌<◌, ◌⊎◌, ◌+◌, ◌^◌, ℕ, ℤ, min, if◌then◌else◌, Bool, true, false, List}
+use Rattle.std.specs.Prelude.{[], String, length, take, IfSome}
 use Rattle.std.specs.declared.option.Option.{Option}
 use Rattle.std.specs.declared.option.Option.TheVariants.{None}
 use Rattle.std.specs.Io.KnownBytes.{Appends}
@@ -41,7 +42,8 @@ pub record Change : Type 0 where
   pub faults_after : ℕ
 
 abbrev pub change : Option (List ℕ) → Option (List ℕ) → ℕ → ℕ → Change
-change before after faults_before faults_after = record { before = before; after = after; faults_before = faults_before; faults_after = faults_after }
+change before after faults_before faults_after = record
+    { before = before; after = after; faults_before = faults_before; faults_after = faults_after }
 
 -- how many metrics are buffered at the output at the end of a journal
 abbrev pub buffered_at_end : Setup → List Entry → ℕ
@@ -54,16 +56,21 @@ account_of setup journal = account_text (totals setup journal)
 abbrev pub text_of : Setup → List Entry → List ℕ
 text_of setup journal = journal_text (journal_setup_of setup) journal (account_of setup journal)
 
--- a read of the input failed: its count rose, and the Gathers name all pieces of the bytes that were taken but at most the last
+-- a read of the input failed: its count rose, and the Gathers name all pieces of the bytes that were taken,
+-- but perhaps that of the last line
 abbrev pub IsCutShort : Change → List Entry → Type 0
-IsCutShort input journal = Rose input.faults_before input.faults_after × Told input.before input.after (NamesTaken journal 0)
+IsCutShort input journal = Rose input.faults_before input.faults_after
+    × Told input.before input.after (NamesTaken journal 0)
 
 -- why the input has no Ended: a read failed, 2^40 bytes were taken, or the run is full
 abbrev pub IsUnread : Change → ℕ → List Entry → Type 0
-IsUnread input taken journal = IsCutShort input journal ⊎ (taken ≡ 2 ^ 40) ⊎ IsFull 1000 journal 0 input.before input.after
+IsUnread input taken journal = IsCutShort input journal ⊎ (taken ≡ 2 ^ 40)
+    ⊎ IsFull 1000 journal 0 input.before input.after
 
--- A legal journal of a run of one input and one output, given the moments of the run's clock and of the input's clock.
-pub record IsRun (setup : Setup) (input output : Change) (run_moments input_moments : Option Moments) (journal : List Entry) : Type 0 where
+-- A legal journal of a run of one input and one output, given the moments of the run's clock and of the
+-- input's clock.
+pub record IsRun (setup : Setup) (input output : Change) (run_moments input_moments : Option Moments)
+    (journal : List Entry) : Type 0 where
   pub legal : IsLegal setup journal
   -- the Gathers name the pieces of what was left at the input's place
   pub gathered : Told input.before input.after (λ xs ys. Gathered 1000 journal 0 xs)
@@ -79,7 +86,8 @@ pub record IsRun (setup : Setup) (input output : Change) (run_moments input_mome
   pub put_faults : RoseBy (failed_count 0 journal) output.faults_before output.faults_after
   -- the moments are those of the clocks
   pub start : IfSome run_moments (λ moments. setup.start ≡ moments.at 0)
-  pub counted : IfSome run_moments (λ moments. Counted moments (min 1 moments.last) moments.last setup.start (counted_moments journal))
+  pub counted : IfSome run_moments
+      (λ moments. Counted moments (min 1 moments.last) moments.last setup.start (counted_moments journal))
   pub clocked : IfSome input_moments (λ moments. Clocked moments 0 moments.last (gather_moments 0 journal))
   -- so many bytes of the input were taken; it was read to its end, or there is a cause
   pub taken : ℕ
@@ -87,27 +95,34 @@ pub record IsRun (setup : Setup) (input output : Change) (run_moments input_mome
   pub unread : has_ended 0 journal ≡ false → IsUnread input taken journal
   -- where a metric is left at the output, its last three batches behind the Stop failed
   pub left : buffered_at_end setup journal ≢ 0 → LastFailed 3 (dones 0 (behind_stop journal))
-  -- before each Begin all items were routed; before each Gather too, and all was sent or the last put had failed
+  -- before each Begin all items were routed; before each Gather too, and all was sent or the last put had
+  -- failed
   pub in_order : InOrder setup journal
 
 -- whether the input was read to its end, or why not
 abbrev pub EndsSo : InState → Change → ℕ → List Entry → Type 0
 EndsSo states.Reading input taken journal = ⊥
 EndsSo states.Ended input taken journal = (taken < 2 ^ 40) × (has_ended 0 journal ≡ true)
-EndsSo states.Faulted input taken journal = (taken < 2 ^ 40) × (has_ended 0 journal ≡ false) × IsCutShort input journal
-EndsSo states.LimitReached input taken journal = (has_ended 0 journal ≡ false) × ((taken ≡ 2 ^ 40) ⊎ IsFull 1000 journal 0 input.before input.after)
+EndsSo states.Faulted input taken journal = (taken < 2 ^ 40) × (has_ended 0 journal ≡ false)
+    × IsCutShort input journal
+EndsSo states.LimitReached input taken journal = (has_ended 0 journal ≡ false)
+    × ((taken ≡ 2 ^ 40) ⊎ IsFull 1000 journal 0 input.before input.after)
 
 -- a text was appended; or a part of it, and the count of faults rose
 abbrev pub IsPutSo : Bool → Change → List ℕ → Type 0
 IsPutSo false place text = Appends place.before place.after text
-IsPutSo true place text = Rose place.faults_before place.faults_after × ((n : ℕ) × Appends place.before place.after (take n text))
+IsPutSo true place text = Rose place.faults_before place.faults_after
+    × ((n : ℕ) × Appends place.before place.after (take n text))
 
--- the status by why the input is read no more, whether the put of the journal or of the report failed, and whether a metric is left
+-- the status by why the input is read no more, whether the put of the journal or of the report failed, and
+-- whether a metric is left
 abbrev pub status_of : InState → Bool → Bool → Status
 status_of states.LimitReached failed left = statuses.Limit
 status_of states.Faulted failed left = if failed then statuses.ReportFault else statuses.ReadFault
-status_of states.Ended failed left = if failed then statuses.ReportFault else (if left then statuses.Left else statuses.Done)
-status_of states.Reading failed left = if failed then statuses.ReportFault else (if left then statuses.Left else statuses.Done)
+status_of states.Ended failed left = if failed then statuses.ReportFault else
+    (if left then statuses.Left else statuses.Done)
+status_of states.Reading failed left = if failed then statuses.ReportFault else
+    (if left then statuses.Left else statuses.Done)
 
 -- whether a metric is left at the output
 abbrev pub IsLeft : Bool → ℕ → Type 0
@@ -115,7 +130,8 @@ IsLeft false buffered = buffered ≡ 0
 IsLeft true buffered = buffered ≢ 0
 
 -- what a run of one input and one output leaves, before its account is reported
-pub record Ran (batch limit : ℕ) (ending : Ending) (input output note : Change) (run_moments input_moments : Option Moments) : Type 0 where
+pub record Ran (batch limit : ℕ) (ending : Ending) (input output note : Change)
+    (run_moments input_moments : Option Moments) : Type 0 where
   pub start : ℤ
   pub journal : List Entry
   pub run : IsRun (pipe_setup batch limit start) input output run_moments input_moments journal
@@ -124,16 +140,20 @@ pub record Ran (batch limit : ℕ) (ending : Ending) (input output note : Change
   pub account : ending.account.items ≡ account_of (pipe_setup batch limit start) journal
   pub noted : IsPutSo ending.journal_failed note (text_of (pipe_setup batch limit start) journal)
 
--- The headline of a run: the journal is a legal history of what the input said and the output was sent, its text stands at the journal's place, and the account that was reported is its totals.
-pub record Headline (batch limit : ℕ) (input output note report : Change) (run_moments input_moments : Option Moments) : Type 0 where
+-- The headline of a run: the journal is a legal history of what the input said and the output was sent, its
+-- text stands at the journal's place, and the account that was reported is its totals.
+pub record Headline (batch limit : ℕ) (input output note report : Change)
+    (run_moments input_moments : Option Moments) : Type 0 where
   pub start : ℤ
   pub journal : List Entry
   pub run : IsRun (pipe_setup batch limit start) input output run_moments input_moments journal
   pub noted : Appends note.before note.after (text_of (pipe_setup batch limit start) journal)
   pub reported : Appends report.before report.after (account_of (pipe_setup batch limit start) journal)
 
--- the same, where the put of the journal or of the report may have failed, and then a part of the text went out
-pub record TornHeadline (batch limit : ℕ) (input output note report : Change) (run_moments input_moments : Option Moments) : Type 0 where
+-- the same, where the put of the journal or of the report may have failed, and then a part of the text went
+-- out
+pub record TornHeadline (batch limit : ℕ) (input output note report : Change)
+    (run_moments input_moments : Option Moments) : Type 0 where
   pub start : ℤ
   pub journal : List Entry
   pub run : IsRun (pipe_setup batch limit start) input output run_moments input_moments journal
@@ -142,7 +162,8 @@ pub record TornHeadline (batch limit : ℕ) (input output note report : Change) 
   pub noted : IsPutSo journal_failed note (text_of (pipe_setup batch limit start) journal)
   pub reported : IsPutSo report_failed report (account_of (pipe_setup batch limit start) journal)
 
-module _ (batch limit : ℕ) (input output note report : Change) (run_moments input_moments : Option Moments) where
+module _ (batch limit : ℕ) (input output note report : Change)
+    (run_moments input_moments : Option Moments) where
   -- the input was read to its end, and nothing is buffered
   pub record IsDone : Type 0 where
     pub headline : Headline batch limit input output note report run_moments input_moments
@@ -196,7 +217,8 @@ abbrev pub report_change : Rest → Rest → Change
 report_change old new = change old.reported new.reported old.report_faults new.report_faults
 
 -- the words are a command, and its run ended with this status
-pub record PipeEnds (status : Status) (words : List (String Global)) (ins new_ins outs new_outs : List ℕ → Place) (rest new_rest : Rest) (moments : ℕ → Option Moments) : Type 0 where
+pub record PipeEnds (status : Status) (words : List (String Global)) (ins new_ins outs new_outs : List ℕ
+    → Place) (rest new_rest : Rest) (moments : ℕ → Option Moments) : Type 0 where
   pub input : List ℕ
   pub output : List ℕ
   pub batch : ℕ
@@ -205,7 +227,10 @@ pub record PipeEnds (status : Status) (words : List (String Global)) (ins new_in
   -- no count of failed opens changed
   pub ins_opened : AreOpensSame ins new_ins
   pub outs_opened : AreOpensSame outs new_outs
-  pub ends : Ends batch limit (place_change (ins input) (new_ins input)) (place_change (outs output) (new_outs output)) (place_change (outs journal_place) (new_outs journal_place)) (report_change rest new_rest) (moments 0) (moments 3) status
+  pub ends : Ends batch limit (place_change (ins input) (new_ins input))
+      (place_change (outs output) (new_outs output))
+      (place_change (outs journal_place) (new_outs journal_place)) (report_change rest new_rest) (moments 0)
+      (moments 3) status
 
 -- no count of the world rose
 pub record NothingRose (ins new_ins outs new_outs : List ℕ → Place) (rest new_rest : Rest) : Type 0 where

@@ -1,5 +1,6 @@
 -- What was put of a journal's text, as far as the run has come.
-use Rattle.std.specs.Prelude.{◌≡◌, ◌≤◌, ◌+◌, ◌==◌, ℕ, Bool, true, false, List, [], ◌∷◌, ◌++◌, length, take, if◌then◌else◌}
+use Rattle.std.specs.Prelude.{◌≡◌, ◌≤◌, ◌+◌, ◌==◌, ℕ, Bool, true, false, List, [], ◌∷◌, ◌++◌, length, take}
+use Rattle.std.specs.Prelude.{if◌then◌else◌}
 use Rattle.std.specs.Io.KnownBytes.{Appends}
 use Rattle.std.specs.declared.option.Option.{Option}
 use Rattle.metric.specs.declared.metric.Content.{Content}
@@ -13,7 +14,8 @@ use Rattle.agent_run.specs.Headline.{Change, change, IsPutSo}
 use Rattle.agent_run.specs.Routes.{unrouted, RoutesInOrder, RouteOnInOrder}
 use Rattle.agent_run.specs.declared.journal.JournalJob.{JournalJob}
 
--- the journal's part of a run: what the journal is about, the items that have no Route yet, how many entries there were, whether a put failed, and the bytes and the count of failed puts at the journal's place
+-- the journal's part of a run: what the journal is about, the items that have no Route yet, how many entries
+-- there were, whether a put failed, and the bytes and the count of failed puts at the journal's place
 pub record JournalPart : Type 0 where
   pub setup : JournalSetup
   pub kept : List Content
@@ -50,10 +52,13 @@ front_text setup entries = if entries == 0 then setup_text setup else []
 abbrev pub IsNotedSo : Bool → Change → JournalSetup → List Entry → Type 0
 IsNotedSo false place setup journal = Appends place.before place.after (noted_text setup journal)
 IsNotedSo true place setup journal =
-    Rose place.faults_before place.faults_after × ((n : ℕ) × Appends place.before place.after (take n (text_so_far setup journal)))
+    Rose place.faults_before place.faults_after
+    × ((n : ℕ) × Appends place.before place.after (take n (text_so_far setup journal)))
 
--- a part notes a journal whose Routes come in order: it counts its entries, keeps its items without a Route, and all of its text so far was put since the run began, or a prefix where a put failed
-pub record Notes (setup : JournalSetup) (held : Option (List ℕ)) (faults : ℕ) (journal : List Entry) (part : JournalPart) : Type 0 where
+-- a part notes a journal whose Routes come in order: it counts its entries, keeps its items without a Route,
+-- and all of its text so far was put since the run began, or a prefix where a put failed
+pub record Notes (setup : JournalSetup) (held : Option (List ℕ)) (faults : ℕ) (journal : List Entry)
+    (part : JournalPart) : Type 0 where
   pub about : part.setup ≡ setup
   pub counted : part.entries ≡ length journal
   pub kept_are : part.kept ≡ unrouted journal
@@ -62,31 +67,39 @@ pub record Notes (setup : JournalSetup) (held : Option (List ℕ)) (faults : ℕ
   pub put : IsNotedSo part.failed (change held part.held faults part.faults) setup journal
 
 -- the text of entries behind a journal was added, and these items have no Route then
-pub record IsSpelled (journal entries : List Entry) (left : List Content) (text new_text : List ℕ) : Type 0 where
+pub record IsSpelled (journal entries : List Entry) (left : List Content)
+    (text new_text : List ℕ) : Type 0 where
   pub left_are : left ≡ unrouted (journal ++ entries)
   pub spelled : new_text ≡ text ++ entries_text (items journal) entries
   pub in_order : RoutesInOrder 0 0 (journal ++ entries)
 
--- so it is for each journal whose items without a Route are those that were kept, where the entries' Routes come in order
+-- so it is for each journal whose items without a Route are those that were kept, where the entries' Routes
+-- come in order
 abbrev pub SpellsOn : List Entry → List Content → List Content → List ℕ → List ℕ → Type 0
 SpellsOn entries kept left text new_text =
-    (journal : List Entry) → kept ≡ unrouted journal → RoutesInOrder 0 0 journal → RouteOnInOrder journal entries
+    (journal : List Entry) → kept ≡ unrouted journal → RoutesInOrder 0 0 journal
+    → RouteOnInOrder journal entries
     → IsSpelled journal entries left text new_text
 
 -- a text was put, unless a put failed before
 abbrev pub IsPartPut : Bool → Bool → List ℕ → Option (List ℕ) → Option (List ℕ) → ℕ → ℕ → Type 0
-IsPartPut true now text held new_held faults new_faults = (now ≡ true) × (new_held ≡ held) × (new_faults ≡ faults)
-IsPartPut false now text held new_held faults new_faults = IsPutSo now (change held new_held faults new_faults) text × (faults ≤ new_faults)
+IsPartPut true now text held new_held faults new_faults = (now ≡ true) × (new_held ≡ held)
+    × (new_faults ≡ faults)
+IsPartPut false now text held new_held faults new_faults = IsPutSo now
+    (change held new_held faults new_faults) text × (faults ≤ new_faults)
 
 -- the part noted a journal, and now notes it with these entries behind it
 abbrev pub NotesOn : List Entry → JournalPart → JournalPart → Type 0
 NotesOn entries old new =
     (setup : JournalSetup) (held : Option (List ℕ)) (faults : ℕ) (journal : List Entry) →
-    Notes setup held faults journal old → RouteOnInOrder journal entries → Notes setup held faults (journal ++ entries) new
+    Notes setup held faults journal old → RouteOnInOrder journal entries
+    → Notes setup held faults (journal ++ entries) new
 
--- the part noted a journal, and the whole text of the journal with these entries behind it is put, or a prefix where a put failed
+-- the part noted a journal, and the whole text of the journal with these entries behind it is put, or a
+-- prefix where a put failed
 abbrev pub EndsOn : List Entry → List ℕ → JournalPart → JournalPart → Type 0
 EndsOn entries account old new =
     (setup : JournalSetup) (held : Option (List ℕ)) (faults : ℕ) (journal : List Entry) →
     Notes setup held faults journal old → RouteOnInOrder journal entries
-    → IsPutSo new.failed (change held new.held faults new.faults) (journal_text setup (journal ++ entries) account)
+    → IsPutSo new.failed (change held new.held faults new.faults)
+    (journal_text setup (journal ++ entries) account)

@@ -21,11 +21,13 @@ pub record EndsFailed (events : List LaneEvent) : Type 0 where
 -- no item is raw, and at each output nothing is buffered or the last event is that a batch failed
 pub record IsDrained (setup : Setup) (before : List Entry) : Type 0 where
   pub none_raw : raw_items before ≡ []
-  pub each : (output : ℕ) → output < length setup.outputs → NothingBuffered setup before output ⊎ EndsFailed (lane_events output before)
+  pub each : (output : ℕ) → output < length setup.outputs → NothingBuffered setup before output
+      ⊎ EndsFailed (lane_events output before)
 
 -- so it is before a Gather; before a Begin no item is raw
 abbrev pub IsOrderly : Setup → List Entry → Entry → Type 0
-IsOrderly setup before (Gather input moment pieces refused passed filtered metrics group reports) = IsDrained setup before
+IsOrderly setup before (Gather input moment pieces refused passed filtered metrics group reports) = IsDrained
+    setup before
 IsOrderly setup before (Begin output from to) = raw_items before ≡ []
 IsOrderly setup before _ = Unit {0}
 

@@ -10,4 +10,5 @@ pipe_setup batch limit start = record { start = start; inputs = None ∷ []; out
 
 -- the head of a journal: its set-up, without aggregators
 abbrev pub journal_setup_of : Setup → JournalSetup
-journal_setup_of setup = record { start = setup.start; inputs = setup.inputs; aggs = []; outputs = setup.outputs }
+journal_setup_of setup = record
+    { start = setup.start; inputs = setup.inputs; aggs = []; outputs = setup.outputs }

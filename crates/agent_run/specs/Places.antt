@@ -29,7 +29,9 @@ RoseToUse old new = Rose old.part_faults new.part_faults
 -- a line was reported, or a prefix of it where the count of failed reports rose
 pub record ReportsLine (old new : Rest) (line : List ℕ) : Type 0 where
   pub later : old.report_faults ≤ new.report_faults
-  pub told : Appends old.reported new.reported line ⊎ (Rose old.report_faults new.report_faults × ((n : ℕ) × Appends old.reported new.reported (take n line)))
+  pub told : Appends old.reported new.reported line
+      ⊎ (Rose old.report_faults new.report_faults
+      × ((n : ℕ) × Appends old.reported new.reported (take n line)))
 
 -- the line that says that the words are no command
 abbrev pub usage_line : List ℕ
@@ -39,13 +41,18 @@ usage_line = codes "usage\n"
 abbrev pub open_fault_line : List ℕ → List ℕ
 open_fault_line place = codes "fault: open " ++ place ++ codes "\n"
 
--- a place that wasn't opened: that of the input, or one of the two output places; every other place is as before
-abbrev pub IsUnopenedOf : List ℕ → List ℕ → List ℕ → (List ℕ → Place) → (List ℕ → Place) → (List ℕ → Place) → (List ℕ → Place) → Type 0
+-- a place that wasn't opened: that of the input, or one of the two output places; every other place is as
+-- before
+abbrev pub IsUnopenedOf : List ℕ → List ℕ → List ℕ → (List ℕ → Place) → (List ℕ → Place) → (List ℕ → Place)
+    → (List ℕ → Place) → Type 0
 IsUnopenedOf place input output ins new_ins outs new_outs =
-    ((place ≡ input) × IsUnopened place ins new_ins × SameAtAll outs new_outs) ⊎ (((place ≡ output) ⊎ (place ≡ journal_place)) × SameAtAll ins new_ins × IsUnopened place outs new_outs)
+    ((place ≡ input) × IsUnopened place ins new_ins × SameAtAll outs new_outs)
+    ⊎ (((place ≡ output) ⊎ (place ≡ journal_place)) × SameAtAll ins new_ins
+    × IsUnopened place outs new_outs)
 
 -- one of the three places of a pipe wasn't opened, and the line that names it was reported
-pub record IsRefused (ins new_ins outs new_outs : List ℕ → Place) (rest new_rest : Rest) (input output : List ℕ) : Type 0 where
+pub record IsRefused (ins new_ins outs new_outs : List ℕ
+    → Place) (rest new_rest : Rest) (input output : List ℕ) : Type 0 where
   pub place : List ℕ
   pub unopened : IsUnopenedOf place input output ins new_ins outs new_outs
   pub told : ReportsLine rest new_rest (open_fault_line place)

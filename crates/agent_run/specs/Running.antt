@@ -49,7 +49,8 @@ pub record IsSentOn (old new : CoreState) : Type 0 where
   pub ended : new.ended ≡ old.ended
   pub stopped : new.stopped ≡ old.stopped
 
--- what the core stored was spelled: none is stored, and all else of the core and the number of failed puts are as before
+-- what the core stored was spelled: none is stored, and all else of the core and the number of failed puts
+-- are as before
 pub record IsNoted (old new : PipeRun) : Type 0 where
   pub core : new.core ≡ after_cut old.core
   pub failed : new.failed ≡ old.failed

@@ -1,5 +1,6 @@
 -- What an output was sent.
-use Rattle.std.specs.Prelude.{◌≡◌, ℕ, ◌-◌, ◌==◌, Bool, true, false, List, [], ◌∷◌, ◌++◌, take, drop, if◌then◌else◌, ⊤}
+use Rattle.std.specs.Prelude.{◌≡◌, ℕ, ◌-◌, ◌==◌, Bool, true, false, List, [], ◌∷◌, ◌++◌, take, drop}
+use Rattle.std.specs.Prelude.{if◌then◌else◌, ⊤}
 use Rattle.std.specs.List.{flat_map}
 use Rattle.std.specs.declared.option.Option.{Option}
 use Rattle.std.specs.declared.option.Option.TheVariants.{Some, None}
@@ -27,14 +28,16 @@ begun_after output begun _ = begun
 
 -- the batch of an output that an entry ends, where these views were offered before it
 abbrev pub batches_by : ℕ → List Content → Option (ℕ × ℕ) → Entry → List BatchSays
-batches_by output views begun (Done number ok reports) = if number == output then (record { views = views_in begun views; ok = ok } ∷ []) else []
+batches_by output views begun (Done number ok reports) = if number == output then
+    (record { views = views_in begun views; ok = ok } ∷ []) else []
 batches_by output views begun _ = []
 
 -- the batches that these entries end, where these views were offered before them and this range was begun
 unfoldable pub batches_from : ℕ → List Content → Option (ℕ × ℕ) → List Entry → List BatchSays
 batches_from output views begun [] = []
 batches_from output views begun (e ∷ es) =
-    batches_by output views begun e ++ batches_from output (views ++ offered_by output e) (begun_after output begun e) es
+    batches_by output views begun e ++ batches_from output (views ++ offered_by output e)
+    (begun_after output begun e) es
 
 -- the batches of an output that are done, in order
 abbrev pub batches : ℕ → List Entry → List BatchSays
@@ -49,10 +52,12 @@ abbrev pub IsPart : Bool → List ℕ → List ℕ → Type 0
 IsPart true text part = part ≡ text
 IsPart false text part = (n : ℕ) × (part ≡ take n text)
 
--- a concatenation over the batches: the whole text of each that was accepted, a prefix of the text of each that failed
+-- a concatenation over the batches: the whole text of each that was accepted, a prefix of the text of each
+-- that failed
 unfoldable pub AreSent : List BatchSays → List ℕ → Type 0
 AreSent [] bytes = bytes ≡ []
-AreSent (b ∷ bs) bytes = (part : List ℕ) × (rest : List ℕ) × (bytes ≡ part ++ rest) × IsPart b.ok (batch_text b.views) part × AreSent bs rest
+AreSent (b ∷ bs) bytes = (part : List ℕ) × (rest : List ℕ) × (bytes ≡ part ++ rest)
+    × IsPart b.ok (batch_text b.views) part × AreSent bs rest
 
 -- what was sent to an output is what its batches say
 abbrev pub Sent : List Entry → ℕ → List ℕ → Type 0

@@ -1,7 +1,8 @@
 -- The exit status of each end of a run.
 use Rattle.std.specs.Prelude.{ℕ}
 use Rattle.agent_run.specs.declared.status.Status.{Status}
-use Rattle.agent_run.specs.declared.status.Status.TheVariants.{Done, Usage, Config, ReadFault, OpenFault, Left, ReportFault, Limit, OutOfMemory}
+use Rattle.agent_run.specs.declared.status.Status.TheVariants.{Done, Usage, Config, ReadFault, OpenFault}
+use Rattle.agent_run.specs.declared.status.Status.TheVariants.{Left, ReportFault, Limit, OutOfMemory}
 
 abbrev pub code_of : Status → ℕ
 code_of Done = 0

@@ -9,7 +9,8 @@ use Rattle.account.specs.declared.entry.Entry.{Entry}
 use Rattle.account.specs.declared.entry.Entry.TheVariants.{Route}
 
 -- a Route's whole is its item, and each view is the whole
-pub record IsRoutedAsItIs (all : List Content) (item : ℕ) (whole : Option Content) (outs : List (Option Content)) : Type 0 where
+pub record IsRoutedAsItIs (all : List Content) (item : ℕ) (whole : Option Content)
+    (outs : List (Option Content)) : Type 0 where
   pub metric : Content
   pub is_item : slice_get all item ≡ Some metric
   pub is_whole : whole ≡ Some metric

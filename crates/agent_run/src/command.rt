@@ -1,5 +1,6 @@
 //! The words of a command.
-ghost use Rattle.std.specs.Prelude.{◌≡◌, ◌≢◌, ◌==◌, ◌<◌, ◌≤◌, ℕ, List, [], ◌∷◌, length, map, string_bytes, MatchOption, slice_index};
+ghost use Rattle.std.specs.Prelude.{◌≡◌, ◌≢◌, ◌==◌, ◌<◌, ◌≤◌, ℕ, List, [], ◌∷◌, length, map, string_bytes};
+ghost use Rattle.std.specs.Prelude.{MatchOption, slice_index};
 ghost use Rattle.agent_run.specs.Command.{IsNumber, IsPipe, IsPipeOf};
 
 use fixed_num::read_uint;
@@ -34,7 +35,8 @@ fn begins_with_plus(bytes: &[u8]) -> bool
 
 /// The number that a word of decimal digits spells, where it is at most 10,000.
 fn number_of(word: &str) -> Option<u32>
-    ensures { MatchOption result ((n : ℕ) → IsNumber word.now n → MOST < n) (λ n. IsNumber word.now n × (n ≤ MOST)) }
+    ensures { MatchOption result ((n : ℕ) → IsNumber word.now n → MOST < n) (λ n. IsNumber word.now n
+        × (n ≤ MOST)) }
 {
     let bytes = word.as_bytes();
     if begins_with_plus(bytes) {
@@ -59,7 +61,8 @@ struct Words<'a> {
 /// The words, where they are five.
 fn five_of(words: &[String]) -> Option<Words<'_>>
     ensures { MatchOption result (length words.now ≢ 5)
-        (λ w. map string_bytes words.now ≡ w.command.now ∷ w.input.now ∷ w.output.now ∷ w.batch.now ∷ w.limit.now ∷ []) }
+        (λ w. map string_bytes words.now ≡ w.command.now ∷ w.input.now ∷ w.output.now ∷ w.batch.now ∷
+        w.limit.now ∷ []) }
 {
     let [command, input, output, batch, limit] = words else {
         return None;
@@ -76,9 +79,12 @@ fn five_of(words: &[String]) -> Option<Words<'_>>
 /// The pipe that five words are.
 fn pipe_of<'a>(words: &Words<'a>) -> Option<Pipe<'a>>
     ensures { MatchOption result
-        ((batch limit : ℕ) → IsPipeOf words.now.command.now words.now.output.now words.now.batch.now words.now.limit.now batch limit → ⊥)
+        ((batch limit : ℕ)
+        → IsPipeOf words.now.command.now words.now.output.now words.now.batch.now words.now.limit.now
+        batch limit → ⊥)
         (λ pipe. (pipe.input.now ≡ words.now.input.now) × (pipe.output.now ≡ words.now.output.now)
-        × IsPipeOf words.now.command.now words.now.output.now words.now.batch.now words.now.limit.now pipe.batch pipe.limit) }
+        × IsPipeOf words.now.command.now words.now.output.now words.now.batch.now words.now.limit.now
+        pipe.batch pipe.limit) }
 {
     if words.command != "pipe" || words.output == JOURNAL {
         return None;

@@ -61,10 +61,11 @@ const ONE_LINE_JOURNAL: &[u8] = b"journal 1\nstart 0\ninput 0 plain\noutput 0 1 
     output 0 filtered 0 late 0 consumed 0 written 0 buffered 1 dropped 0\n\
     end 13\n";
 
-/// A put that fails once is tried again after the stop, and the run is done. A batch that fails twice, the second time
-/// after four bytes, is sent whole at the third put; three metrics wait at most, so the two oldest of five were dropped
-/// before the first. What was read before a read fails is sent, but for the line that it cut. One line whose puts fail
-/// after 1, 2, 3 and 4 bytes is left: a fifth put, which wouldn't fail, is never made.
+/// A put that fails once is tried again after the stop, and the run is done. A batch that fails twice, the
+/// second time after four bytes, is sent whole at the third put; three metrics wait at most, so the two
+/// oldest of five were dropped before the first. What was read before a read fails is sent, but for the line
+/// that it cut. One line whose puts fail after 1, 2, 3 and 4 bytes is left: a fifth put, which wouldn't fail,
+/// is never made.
 #[test]
 fn puts_and_reads_fail(rt: HostRuntime) -> Result<(), Fail> {
     let cases = [
@@ -161,8 +162,8 @@ const TWO_WRITTEN: &[u8] = b"input 0 pieces 3 refused 0 passed 0 filtered 0 gath
     items made 0 removed 0 routed 3\n\
     output 0 filtered 0 late 0 consumed 0 written 2 buffered 1 dropped 0\n";
 
-/// The end of a run is tried until three repeats in succession sent nothing: a batch that is accepted between them
-/// counts from the start.
+/// The end of a run is tried until three repeats in succession sent nothing: a batch that is accepted between
+/// them counts from the start.
 #[test]
 fn the_end_is_tried_three_times(rt: HostRuntime) -> Result<(), Fail> {
     let cases = [
@@ -248,8 +249,8 @@ const TWO_BATCHES: EndCase = EndCase {
     end: b"end 11\n",
 };
 
-/// Each read and each put of two lines in batches of one fails once, the puts after no byte, one, and all; a third read
-/// and a third put are made only where an earlier one failed.
+/// Each read and each put of two lines in batches of one fails once, the puts after no byte, one, and all; a
+/// third read and a third put are made only where an earlier one failed.
 #[test]
 fn every_single_fault(rt: HostRuntime) -> Result<(), Fail> {
     let cases = [
@@ -322,7 +323,8 @@ struct OpenCase {
     report: &'static [u8],
 }
 
-/// Places that aren't there, one or more; the first of input, output and journal is named, and `b` has nothing.
+/// Places that aren't there, one or more; the first of input, output and journal is named, and `b` has
+/// nothing.
 #[test]
 fn every_open_fault(rt: HostRuntime) -> Result<(), Fail> {
     let alloc = rt.alloc();

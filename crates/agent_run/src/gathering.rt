@@ -11,8 +11,8 @@ use agent_base::{Clock, Source};
 use fixed_num::{Moment, OutOfMemory, Seq};
 use pipeline_core::{Core, GatherRefused, Gathered};
 
-/// Offers a group to the core, unless it has no piece, and says whether there was room for it. While no item is raw,
-/// the core has none only where the run is full.
+/// Offers a group to the core, unless it has no piece, and says whether there was room for it. While no item
+/// is raw, the core has none only where the run is full.
 fn offer(core: &mut Core, moment: Moment, group: Group) -> Result<bool, OutOfMemory>
     requires ready { IsReady core.old }
     requires reading { IsReading core.old }
@@ -74,10 +74,12 @@ pub fn gather<S: Source, C: Clock>(
     requires stands { HasJournal run.old.core }
     ensures ready { OnOk result (IsReady run.new.core) }
     ensures reading { IfOk result (λ state. state ≡ InState.Reading → IsReading run.new.core) }
-    ensures further { IfOk result (λ state. state ≡ InState.Reading → IsGathered GATHER_PIECES run.old.core run.new.core) }
+    ensures further { IfOk result (λ state. state ≡ InState.Reading
+        → IsGathered GATHER_PIECES run.old.core run.new.core) }
     ensures going { OnOk result (run.new.core.stopped ≡ false) }
     ensures stands { StillStands result run.new.core }
-    ensures reads { IfOk result (λ state. ReadsOn run.old run.new state (S.left source.old) (S.left source.new) (S.faults source.old) (S.faults source.new)
+    ensures reads { IfOk result (λ state. ReadsOn run.old run.new state (S.left source.old) (S.left source.new)
+        (S.faults source.old) (S.faults source.new)
         (C.moments clock.old) (C.place clock.old) (C.place clock.new)) }
     ensures list { C.moments clock.new ≡ C.moments clock.old }
 {

@@ -34,8 +34,8 @@ struct ClockCase {
     stop: &'static str,
 }
 
-/// An empty input. The run's clock gives the start and the stop, which isn't before the start; of a clock of one moment
-/// both are this, of one of none 0.
+/// An empty input. The run's clock gives the start and the stop, which isn't before the start; of a clock of
+/// one moment both are this, of one of none 0.
 #[test]
 fn starts_and_stops(rt: HostRuntime) -> Result<(), Fail> {
     let alloc = rt.alloc();
@@ -180,10 +180,10 @@ const ESCAPES_JOURNAL: &[u8] = b"journal 1\nstart 0\ninput 0 plain\noutput 0 10 
     output 0 filtered 0 late 0 consumed 0 written 2 buffered 0 dropped 0\n\
     end 9\n";
 
-/// Of ten lines that are read at once the newest four wait; the six others are dropped. A carriage return, an empty
-/// line, a comment, a line with an invalid byte, spaces, a line without fields, a comment with an invalid byte, and an end
-/// without a newline: three of nine pieces are refused, three say nothing, and nothing else is lost. Lines with escapes
-/// and texts; a text without an end is refused.
+/// Of ten lines that are read at once the newest four wait; the six others are dropped. A carriage return, an
+/// empty line, a comment, a line with an invalid byte, spaces, a line without fields, a comment with an
+/// invalid byte, and an end without a newline: three of nine pieces are refused, three say nothing, and
+/// nothing else is lost. Lines with escapes and texts; a text without an end is refused.
 #[test]
 fn lines_of_all_kinds(rt: HostRuntime) -> Result<(), Fail> {
     let cases = [
@@ -220,8 +220,8 @@ const NO_METRIC_JOURNAL: &[u8] = b"journal 1\nstart 0\ninput 0 plain\noutput 0 1
     output 0 filtered 0 late 0 consumed 0 written 0 buffered 0 dropped 0\n\
     end 3\n";
 
-/// Pieces without a metric, one of them too long: they are gathered, and the first put to `b`, which would fail, is
-/// never made.
+/// Pieces without a metric, one of them too long: they are gathered, and the first put to `b`, which would
+/// fail, is never made.
 #[test]
 fn no_metric(rt: HostRuntime) -> Result<(), Fail> {
     let alloc = rt.alloc();
@@ -276,8 +276,8 @@ const TWO_GATHERS_END: &[u8] = b"\nroute 999 = passes / =\nbegin 0 0 1000\ndone 
     output 0 filtered 0 late 0 consumed 0 written 1001 buffered 0 dropped 0\n\
     end 2010\n";
 
-/// A thousand lines are one gather, and the end of the input is found in the next round; one line more is a gather of its
-/// own.
+/// A thousand lines are one gather, and the end of the input is found in the next round; one line more is a
+/// gather of its own.
 #[test]
 fn more_pieces_than_a_gather_has(rt: HostRuntime) -> Result<(), Fail> {
     let alloc = rt.alloc();
@@ -304,8 +304,8 @@ const NEXT_ROUND_END: &[u8] = b"\nroute 999 = passes / =\nbegin 0 0 1000\ndone 0
     output 0 filtered 0 late 0 consumed 0 written 1000 buffered 0 dropped 1\n\
     end 2010\n";
 
-/// A batch that fails in the first of two rounds is sent in the second, but for the oldest line, for which the newest
-/// leaves no room.
+/// A batch that fails in the first of two rounds is sent in the second, but for the oldest line, for which
+/// the newest leaves no room.
 #[test]
 fn a_failed_put_in_the_next_round(rt: HostRuntime) -> Result<(), Fail> {
     let alloc = rt.alloc();
@@ -328,8 +328,8 @@ const LEFT_REPORT: &[u8] =
     items made 0 removed 0 routed 2500\n\
     output 0 filtered 0 late 0 consumed 0 written 0 buffered 2500 dropped 0\n";
 
-/// The puts of all three rounds fail: after the stop three more are tried all the same, and the third is accepted, or
-/// fails too.
+/// The puts of all three rounds fail: after the stop three more are tried all the same, and the third is
+/// accepted, or fails too.
 #[test]
 fn three_rounds_fail(rt: HostRuntime) -> Result<(), Fail> {
     let line = "pipe a b 10000 10000";

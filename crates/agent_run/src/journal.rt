@@ -13,10 +13,12 @@ use metric::Metric;
 use std::alloc::Global;
 use std::collections::VecDeque;
 
-/// The journal's part of a run: what the journal is about, where its text goes, and what is needed to go on with it.
+/// The journal's part of a run: what the journal is about, where its text goes, and what is needed to go on
+/// with it.
 ///
-/// The text goes out in parts, one put each. The first part begins with the set-up, and the last one ends with the account
-/// and the number of entries. After a put that failed nothing more is put; the entries are still counted.
+/// The text goes out in parts, one put each. The first part begins with the set-up, and the last one ends
+/// with the account and the number of entries. After a put that failed nothing more is put; the entries are
+/// still counted.
 #[derive(Drop)]
 pub struct JournalJob<K: Drop> {
     pub setup: JournalSetup,
@@ -47,8 +49,9 @@ impl<K: Sink + Drop> JournalJob<K> {
         }
     }
 
-    /// Puts the text of some entries, which follow those that came before, and counts them. Each Route among them names the
-    /// first item that has no Route yet. The text is built in `text`, in place of what it held.
+    /// Puts the text of some entries, which follow those that came before, and counts them. Each Route among
+    /// them names the first item that has no Route yet. The text is built in `text`, in place of what it
+    /// held.
     pub fn take(
         &mut self,
         alloc: Global,
@@ -83,8 +86,8 @@ impl<K: Sink + Drop> JournalJob<K> {
         Ok(())
     }
 
-    // Builds the text of the next part: entries, behind the set-up where they are the first. They are counted, and their
-    // items kept.
+    // Builds the text of the next part: entries, behind the set-up where they are the first. They are
+    // counted, and their items kept.
     fn spell(
         &mut self,
         alloc: Global,
@@ -92,7 +95,9 @@ impl<K: Sink + Drop> JournalJob<K> {
         text: &mut Vec<u8>,
     ) -> Result<(), OutOfMemory>
         requires { All IsWholeOrRemoved entries.now }
-        ensures spelled { OnOk result (SpellsOn entries.now self.old.kept.items self.new.kept.items (front_text self.old.setup self.old.entries) text.new.items) }
+        ensures spelled { OnOk result
+            (SpellsOn entries.now self.old.kept.items self.new.kept.items
+            (front_text self.old.setup self.old.entries) text.new.items) }
         ensures counted { OnOk result (self.new.entries ≡ self.old.entries + length entries.now) }
         ensures setup { self.new.setup ≡ self.old.setup }
         ensures sink { self.new.sink ≡ self.old.sink }
@@ -132,7 +137,8 @@ fn write_entries(
     text: &mut Vec<u8>,
 ) -> Result<(), OutOfMemory>
     requires { All IsWholeOrRemoved entries.now }
-    ensures { OnOk result (SpellsOn entries.now unrouted.old.items unrouted.new.items text.old.items text.new.items) }
+    ensures { OnOk result
+        (SpellsOn entries.now unrouted.old.items unrouted.new.items text.old.items text.new.items) }
 {
     for entry in entries {
         write_one(alloc, unrouted, entry, text)?;
@@ -148,7 +154,8 @@ fn write_one(
     text: &mut Vec<u8>,
 ) -> Result<(), OutOfMemory>
     requires { IsWholeOrRemoved entry.now }
-    ensures { OnOk result (SpellsOn (entry.now ∷ []) unrouted.old.items unrouted.new.items text.old.items text.new.items) }
+    ensures { OnOk result
+        (SpellsOn (entry.now ∷ []) unrouted.old.items unrouted.new.items text.old.items text.new.items) }
 {
     let item = item_of(unrouted, entry)?;
     write_entry(alloc, item.as_slice(), entry, text)?;
@@ -157,7 +164,9 @@ fn write_one(
 
 // Puts the text of a part, unless a put failed before, and says whether one failed.
 fn put_part<K: Sink>(sink: &mut K, failed: bool, text: &[u8]) -> Result<bool, OutOfMemory>
-    ensures { IfOk result (λ now. IsPartPut failed now text.now (K.held sink.old) (K.held sink.new) (K.faults sink.old) (K.faults sink.new)) }
+    ensures { IfOk result
+        (λ now. IsPartPut failed now text.now (K.held sink.old) (K.held sink.new) (K.faults sink.old)
+        (K.faults sink.new)) }
 {
     if failed {
         return Ok(true);
@@ -173,7 +182,8 @@ fn put_part<K: Sink>(sink: &mut K, failed: bool, text: &[u8]) -> Result<bool, Ou
 // are kept until they are routed.
 fn item_of(unrouted: &mut VecDeque<Metric>, entry: &Entry) -> Result<Option<Metric>, OutOfMemory>
     ensures one { IfOk result (λ item. HasItem (option_to_list item) entry.now) }
-    ensures rest { IfOk result (λ item. unrouted.old.items ++ named_by entry.now ≡ option_to_list item ++ unrouted.new.items) }
+    ensures rest { IfOk result
+        (λ item. unrouted.old.items ++ named_by entry.now ≡ option_to_list item ++ unrouted.new.items) }
 {
     match entry {
         Entry::Gather { metrics, .. } => {

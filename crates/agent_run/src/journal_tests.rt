@@ -41,8 +41,9 @@ const fn part(
     }
 }
 
-/// The first put has the set-up and the entries of the round, the next one the stop, the account and the end. A put that
-/// fails leaves what went out of it, and no other is made at this place; all else is as without a fault.
+/// The first put has the set-up and the entries of the round, the next one the stop, the account and the end.
+/// A put that fails leaves what went out of it, and no other is made at this place; all else is as without a
+/// fault.
 #[test]
 fn parts_that_fail(rt: HostRuntime) -> Result<(), Fail> {
     let unread = Case {
@@ -93,8 +94,8 @@ fn rounds_of(alloc: Global, lines: u32, note: u64) -> Result<Outcome, OutOfMemor
     outcome_in(alloc, "pipe a b 1000 10000", world)
 }
 
-/// How many lines there are, which put of the journal fails, and how many bytes its place holds then: those of the puts
-/// before it.
+/// How many lines there are, which put of the journal fails, and how many bytes its place holds then: those
+/// of the puts before it.
 #[derive(Clone, Copy)]
 struct RoundCase {
     lines: u32,
@@ -112,8 +113,8 @@ const fn round(lines: u32, note: u64, code: u8, held: usize) -> RoundCase {
     }
 }
 
-/// Each round puts the entries that it made, and the end the stop and the account: 42,886, 45,057, 22,563 and 195 bytes
-/// of 2,500 lines, 42,886, 8 and 195 of 1,000.
+/// Each round puts the entries that it made, and the end the stop and the account: 42,886, 45,057, 22,563 and
+/// 195 bytes of 2,500 lines, 42,886, 8 and 195 of 1,000.
 #[test]
 fn a_part_a_round(rt: HostRuntime) -> Result<(), Fail> {
     let cases = [

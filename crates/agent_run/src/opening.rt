@@ -29,8 +29,12 @@ pub enum Refusal {
 fn open_outs<W: World>(world: &mut W, output: &str) -> Result<(W::Out, W::Out), Refusal>
     requires outs { AreHome (W.out_at world.old) }
     requires apart { output.now ≢ journal_place }
-    ensures sink { IfOk result (λ parts. Opens (W.Out.held parts.0) (W.Out.faults parts.0) (W.out_at world.old output.now) (W.out_at world.new output.now)) }
-    ensures journal { IfOk result (λ parts. Opens (W.Out.held parts.1) (W.Out.faults parts.1) (W.out_at world.old journal_place) (W.out_at world.new journal_place)) }
+    ensures sink { IfOk result
+        (λ parts. Opens (W.Out.held parts.0) (W.Out.faults parts.0) (W.out_at world.old output.now)
+        (W.out_at world.new output.now)) }
+    ensures journal { IfOk result
+        (λ parts. Opens (W.Out.held parts.1) (W.Out.faults parts.1) (W.out_at world.old journal_place)
+        (W.out_at world.new journal_place)) }
     ensures others { IfOk result (λ _. SameButTwo output.now journal_place (W.out_at world.old) (W.out_at world.new)) }
     ensures refused { IfErr result (λ refusal. OutsRefused refusal output.now (W.out_at world.old) (W.out_at world.new)) }
     ensures ins { SameAtAll (W.in_at world.old) (W.in_at world.new) }
@@ -63,12 +67,20 @@ pub fn open_parts<W: World>(
     requires ins { AreHome (W.in_at world.old) }
     requires outs { AreHome (W.out_at world.old) }
     requires apart { output.now ≢ journal_place }
-    ensures source { IfOk result (λ parts. Opens (W.In.left parts.source) (W.In.faults parts.source) (W.in_at world.old input.now) (W.in_at world.new input.now)) }
-    ensures sink { IfOk result (λ parts. Opens (W.Out.held parts.sink) (W.Out.faults parts.sink) (W.out_at world.old output.now) (W.out_at world.new output.now)) }
-    ensures journal { IfOk result (λ parts. Opens (W.Out.held parts.journal) (W.Out.faults parts.journal) (W.out_at world.old journal_place) (W.out_at world.new journal_place)) }
+    ensures source { IfOk result
+        (λ parts. Opens (W.In.left parts.source) (W.In.faults parts.source) (W.in_at world.old input.now)
+        (W.in_at world.new input.now)) }
+    ensures sink { IfOk result
+        (λ parts. Opens (W.Out.held parts.sink) (W.Out.faults parts.sink) (W.out_at world.old output.now)
+        (W.out_at world.new output.now)) }
+    ensures journal { IfOk result
+        (λ parts. Opens (W.Out.held parts.journal) (W.Out.faults parts.journal)
+        (W.out_at world.old journal_place) (W.out_at world.new journal_place)) }
     ensures other_ins { IfOk result (λ _. SameBut input.now (W.in_at world.old) (W.in_at world.new)) }
     ensures other_outs { IfOk result (λ _. SameButTwo output.now journal_place (W.out_at world.old) (W.out_at world.new)) }
-    ensures refused { IfErr result (λ refusal. PartsRefused refusal input.now output.now (W.in_at world.old) (W.in_at world.new) (W.out_at world.old) (W.out_at world.new)) }
+    ensures refused { IfErr result
+        (λ refusal. PartsRefused refusal input.now output.now (W.in_at world.old) (W.in_at world.new)
+        (W.out_at world.old) (W.out_at world.new)) }
     ensures rest { W.rest world.new ≡ W.rest world.old }
     ensures moments { SameAtAll (W.moments world.old) (W.moments world.new) }
 {

@@ -25,7 +25,8 @@ pub struct PipeRun {
     pub pieces: Pieces,
     /// The text that is put: of a batch, or of a part of the journal.
     pub text: Vec<u8>,
-    /// How many puts to the output failed in succession since the last item was routed, or the run was stopped.
+    /// How many puts to the output failed in succession since the last item was routed, or the run was
+    /// stopped.
     pub failed: u32,
 }
 
@@ -35,7 +36,8 @@ pub fn journal_setup(
     pipe: &Pipe<'_>,
     start: Moment,
 ) -> Result<JournalSetup, OutOfMemory>
-    ensures { IfOk result (λ setup. setup ≡ journal_setup_of (pipe_setup pipe.now.batch pipe.now.limit start)) }
+    ensures { IfOk result
+        (λ setup. setup ≡ journal_setup_of (pipe_setup pipe.now.batch pipe.now.limit start)) }
 {
     Ok(JournalSetup {
         start,
@@ -49,7 +51,8 @@ pub fn journal_setup(
 fn core_setup(alloc: Global, pipe: &Pipe<'_>, start: Moment) -> Result<CoreSetup, OutOfMemory>
     ensures setup { IfOk result (λ setup. setup_of setup ≡ pipe_setup pipe.now.batch pipe.now.limit start) }
     ensures inputs { IfOk result (λ setup. setup.inputs ≡ record { tracked = false; max_undelivered = 0 } ∷ []) }
-    ensures outputs { IfOk result (λ setup. setup.outputs ≡ record { batch = pipe.now.batch; limit = pipe.now.limit } ∷ []) }
+    ensures outputs { IfOk result
+        (λ setup. setup.outputs ≡ record { batch = pipe.now.batch; limit = pipe.now.limit } ∷ []) }
 {
     Ok(CoreSetup {
         inputs: Seq::of(vec![in alloc;
@@ -100,7 +103,9 @@ pub fn note<K: Sink + Drop>(
     ensures ready { OnOk result (IsReady run.new.core) }
     ensures noted { OnOk result (IsNoted run.old run.new) }
     ensures stands { StillStands result run.new.core }
-    ensures notes { OnOk result (NotesRun run.old run.new (part_of K.held K.faults journal.old) (part_of K.held K.faults journal.new)) }
+    ensures notes { OnOk result
+        (NotesRun run.old run.new (part_of K.held K.faults journal.old)
+        (part_of K.held K.faults journal.new)) }
 {
     match run.core.cut() {
         Ok(entries) => {

@@ -71,8 +71,8 @@ impl Group {
     }
 }
 
-/// Reads the next piece into the group, and says whether the input is read on: where it is, one piece was counted, else
-/// none. Nothing is promised of the group where memory ran out.
+/// Reads the next piece into the group, and says whether the input is read on: where it is, one piece was
+/// counted, else none. Nothing is promised of the group where memory ran out.
 fn read_next<S: Source>(
     alloc: Global,
     pieces: &mut Pieces,
@@ -82,14 +82,20 @@ fn read_next<S: Source>(
 ) -> Result<InState, OutOfMemory>
     requires few { group.old.pieces < GATHER_PIECES }
     requires some { group.old.refused ≤ group.old.pieces }
-    ensures next { IfOk result (λ state. ReadsNext state moment group.old group.new pieces.old pieces.new (S.left source.old) (S.left source.new)) }
-    ensures all { IfOk result (λ state. state ≡ InState.Ended → IsAllRead (S.left source.old) (S.left source.new) pieces.new) }
-    ensures failed { IfOk result (λ state. state ≡ InState.Faulted → Rose (S.faults source.old) (S.faults source.new)) }
+    ensures next { IfOk result
+        (λ state. ReadsNext state moment group.old group.new pieces.old pieces.new (S.left source.old)
+        (S.left source.new)) }
+    ensures all { IfOk result (λ state. state ≡ InState.Ended
+        → IsAllRead (S.left source.old) (S.left source.new) pieces.new) }
+    ensures failed { IfOk result (λ state. state ≡ InState.Faulted
+        → Rose (S.faults source.old) (S.faults source.new)) }
     ensures limit { IfOk result (λ state. state ≡ InState.LimitReached → pieces.new.taken ≡ 2 ^ 40) }
     ensures below { IfOk result (λ state. (state ≡ InState.LimitReached → ⊥) → pieces.new.taken < 2 ^ 40) }
     ensures one { IfOk result (λ state. state ≡ InState.Faulted → length (to_come pieces.new []) ≤ 1) }
-    ensures line { IfOk result (λ state. state ≡ InState.Faulted → length (to_come pieces.new (10 ∷ [])) ≤ 1) }
-    ensures counted { Told (S.left source.old) (S.left source.new) (λ xs ys. pieces.old.taken + length xs ≡ pieces.new.taken + length ys) }
+    ensures line { IfOk result (λ state. state ≡ InState.Faulted
+        → length (to_come pieces.new (10 ∷ [])) ≤ 1) }
+    ensures counted { Told (S.left source.old) (S.left source.new)
+        (λ xs ys. pieces.old.taken + length xs ≡ pieces.new.taken + length ys) }
     ensures faults { S.faults source.old ≤ S.faults source.new }
 {
     match pieces.next(source) {
@@ -108,25 +114,32 @@ fn read_next<S: Source>(
     }
 }
 
-/// Reads the next pieces, at most as many as a gather has, and says whether the input is read on. A line without a time
-/// has the moment (nanoseconds since 1970) as its time.
+/// Reads the next pieces, at most as many as a gather has, and says whether the input is read on. A line
+/// without a time has the moment (nanoseconds since 1970) as its time.
 ///
-/// Where the input is read on the group has as many pieces as a gather may have; where it has ended no piece is left.
-/// After a failed read the bytes that were taken are kept in hand, one piece at most. What was read of the bytes that
-/// were taken stands whatever follows them, but at the end of the source. Nothing is promised where memory ran out.
+/// Where the input is read on the group has as many pieces as a gather may have; where it has ended no piece
+/// is left. After a failed read the bytes that were taken are kept in hand, one piece at most. What was read
+/// of the bytes that were taken stands whatever follows them, but at the end of the source. Nothing is
+/// promised where memory ran out.
 pub fn read_group<S: Source>(
     alloc: Global,
     pieces: &mut Pieces,
     source: &mut S,
     moment: Moment,
 ) -> Result<(Group, InState), OutOfMemory>
-    ensures reads { IfOk result (λ answer. ReadsGroup moment answer.0 answer.1 pieces.old pieces.new (S.left source.old) (S.left source.new)) }
-    ensures failed { IfOk result (λ answer. answer.1 ≡ InState.Faulted → Rose (S.faults source.old) (S.faults source.new)) }
+    ensures reads { IfOk result
+        (λ answer. ReadsGroup moment answer.0 answer.1 pieces.old pieces.new (S.left source.old)
+        (S.left source.new)) }
+    ensures failed { IfOk result (λ answer. answer.1 ≡ InState.Faulted
+        → Rose (S.faults source.old) (S.faults source.new)) }
     ensures limit { IfOk result (λ answer. answer.1 ≡ InState.LimitReached → pieces.new.taken ≡ 2 ^ 40) }
-    ensures below { IfOk result (λ answer. (answer.1 ≡ InState.LimitReached → ⊥) → pieces.new.taken < 2 ^ 40) }
+    ensures below { IfOk result (λ answer. (answer.1 ≡ InState.LimitReached → ⊥)
+        → pieces.new.taken < 2 ^ 40) }
     ensures one { IfOk result (λ answer. answer.1 ≡ InState.Faulted → length (to_come pieces.new []) ≤ 1) }
-    ensures line { IfOk result (λ answer. answer.1 ≡ InState.Faulted → length (to_come pieces.new (10 ∷ [])) ≤ 1) }
-    ensures counted { Told (S.left source.old) (S.left source.new) (λ xs ys. pieces.old.taken + length xs ≡ pieces.new.taken + length ys) }
+    ensures line { IfOk result (λ answer. answer.1 ≡ InState.Faulted
+        → length (to_come pieces.new (10 ∷ [])) ≤ 1) }
+    ensures counted { Told (S.left source.old) (S.left source.new)
+        (λ xs ys. pieces.old.taken + length xs ≡ pieces.new.taken + length ys) }
     ensures faults { S.faults source.old ≤ S.faults source.new }
 {
     let mut group = Group {

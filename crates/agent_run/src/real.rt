@@ -1,5 +1,5 @@
 //! The real world: files, the standard streams, and the clock.
-ghost use Rattle.std.specs.Prelude.{◌≡◌, None};
+ghost use Rattle.std.specs.Prelude.{◌≡◌, ◌≢◌, None, Some, Contains, IfSome, IsNone, codes, true};
 
 mod clock;
 mod files;
@@ -28,7 +28,10 @@ fn reader_at<R: Files<File = File>>(
     stdin: Stdin,
     files: &OpenFiles,
     place: &str,
-) -> Option<Opened<Reader>> {
+) -> Option<Opened<Reader>>
+    ensures closed { place.now ≡ codes "stdin" → files.now.standard.input.was_closed ≡ true →
+        IsNone result }
+{
     if place == "stdin" {
         let input = files.standard.input;
         if input.was_closed {
@@ -48,7 +51,7 @@ fn reader_at<R: Files<File = File>>(
 }
 
 /// Standard output as what is written, or nowhere if it was closed as the run began. A regular file behind it
-/// is opened once more, by the link that leads to the open file, since its length is asked for at an open file.
+/// is opened once more, by the link that leads to the open file, to ask for its length and to cut it.
 fn standard_writer<R: Files<File = File>>(
     rt: &R,
     stdout: Stdout,
@@ -71,7 +74,15 @@ fn writer_at<R: Files<File = File>>(
     stdout: Stdout,
     files: &OpenFiles,
     place: &str,
-) -> Option<Opened<Writer>> {
+) -> Option<Opened<Writer>>
+    ensures closed { place.now ≡ codes "stdout" → files.now.standard.output.was_closed ≡ true →
+        IsNone result }
+    ensures places { IfSome result (λ opened. IfSome opened.file (λ identity.
+        Contains files.now.places.items identity → ⊥)) }
+    ensures streams { place.now ≢ codes "stdout" → IfSome result (λ opened. IfSome opened.file (λ identity.
+        (files.now.standard.input.file ≢ Some identity) × (files.now.standard.output.file ≢ Some identity)
+        × (files.now.standard.error.file ≢ Some identity))) }
+{
     if place == "stdout" {
         let output = files.standard.output;
         if output.was_closed || files.is_place(output.file) {
@@ -190,7 +201,7 @@ impl<'r, R: Files<File = File> + std::rt::Clock + Sync> World for RealWorld<'r, 
     fn open_in(&mut self, place: &str) -> Result<StdSource<Reader>, OpenFault> {
         if !self.parts.has_in(place) {
             if let Some(opened) = reader_at(self.rt, self.stdin, &self.files, place) {
-                let noted = self.files.note(opened.file);
+                let noted = self.files.add(opened.file);
                 let source = StdSource::new(opened.stream);
                 if noted.is_err() || self.parts.add_in(place, source).is_err() {
                     return Err(OpenFault::OutOfMemory);
@@ -203,7 +214,7 @@ impl<'r, R: Files<File = File> + std::rt::Clock + Sync> World for RealWorld<'r, 
     fn open_out(&mut self, place: &str) -> Result<StdSink<Writer>, OpenFault> {
         if !self.parts.has_out(place) {
             if let Some(opened) = writer_at(self.rt, self.stdout, &self.files, place) {
-                let noted = self.files.note(opened.file);
+                let noted = self.files.add(opened.file);
                 let sink = StdSink::new(opened.stream);
                 if noted.is_err() || self.parts.add_out(place, sink).is_err() {
                     return Err(OpenFault::OutOfMemory);

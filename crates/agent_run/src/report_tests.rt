@@ -27,7 +27,8 @@ impl World for ToldWorld {
 
     ghost out_at = { λ w place. ⟦<MemWorld as World>⟧.out_at w.parts place };
 
-    ghost rest = { λ w. record { reported = ⟦<MemSink as Sink>⟧.held w.report; report_faults = ⟦<MemSink as Sink>⟧.faults w.report } };
+    ghost rest = { λ w. record
+        { reported = ⟦<MemSink as Sink>⟧.held w.report; report_faults = ⟦<MemSink as Sink>⟧.faults w.report } };
 
     ghost moments = { λ w who. ⟦<MemWorld as World>⟧.moments w.parts who };
 
@@ -90,34 +91,78 @@ const TWO_BATCHES_JOURNAL: &[u8] = b"journal 1\nstart 0\ninput 0 plain\noutput 0
     output 0 filtered 0 late 0 consumed 0 written 2 buffered 0 dropped 0\n\
     end 11\n";
 
+/// A run whose report fails after so many bytes: the status, and what the report, `b` and the journal's place hold.
+#[derive(Clone, Copy)]
+struct ReportCase {
+    line: &'static str,
+    count: usize,
+    code: u8,
+    report: &'static [u8],
+    output: &'static [u8],
+    journal: &'static [u8],
+}
+
+const ACCOUNT_FAILS: ReportCase = ReportCase {
+    line: "pipe a b 1 100",
+    count: 0,
+    code: 7,
+    report: b"",
+    output: TWO_LINES,
+    journal: TWO_BATCHES_JOURNAL,
+};
+
+const LINE_FAILS: ReportCase = ReportCase {
+    line: "pipe",
+    count: 0,
+    code: 2,
+    report: b"",
+    output: b"",
+    journal: b"",
+};
+
 /// A report that fails after so many bytes has these, and is not made again. That of an account turns Done to
 /// ReportFault, with all else as without a fault; that of a line leaves the status as it is.
 #[test]
 fn the_report_fails(rt: HostRuntime) -> Result<(), Fail> {
     let alloc = rt.alloc();
-    let cases: [(&str, usize, u8, &[u8], &[u8], &[u8]); 6] = [
-        ("pipe a b 1 100", 0, 7, b"", TWO_LINES, TWO_BATCHES_JOURNAL),
-        ("pipe a b 1 100", 1, 7, b"i", TWO_LINES, TWO_BATCHES_JOURNAL),
-        (
-            "pipe a b 1 100",
-            1_000,
-            7,
-            TWO_LINES_REPORT,
-            TWO_LINES,
-            TWO_BATCHES_JOURNAL,
-        ),
-        ("pipe", 0, 2, b"", b"", b""),
-        ("pipe", 5, 2, b"usage", b"", b""),
-        ("pipe c b 1 100", 6, 5, b"fault:", b"", b""),
+    let cases = [
+        ACCOUNT_FAILS,
+        ReportCase {
+            count: 1,
+            report: b"i",
+            ..ACCOUNT_FAILS
+        },
+        ReportCase {
+            count: 1_000,
+            report: TWO_LINES_REPORT,
+            ..ACCOUNT_FAILS
+        },
+        LINE_FAILS,
+        ReportCase {
+            count: 5,
+            report: b"usage",
+            ..LINE_FAILS
+        },
+        ReportCase {
+            line: "pipe c b 1 100",
+            count: 6,
+            code: 5,
+            report: b"fault:",
+            ..LINE_FAILS
+        },
     ];
-    for (line, count, code, report, output, journal) in cases {
-        let words = words_of(alloc, line)?;
-        let mut world = told_world(alloc, count)?;
+    for case in cases {
+        let words = words_of(alloc, case.line)?;
+        let mut world = told_world(alloc, case.count)?;
         let status = agent(alloc, words.as_slice(), &mut world);
-        assert_eq!(rt; status.code(), code, "{line}");
-        assert_eq!(rt; world.report.bytes(), report, "{line}");
-        assert!(rt; has_bytes(&world.parts, "b", output), "{line}");
-        assert!(rt; has_bytes(&world.parts, "agent.journal", journal), "{line}");
+        assert_eq!(rt; status.code(), case.code, "{}", case.line);
+        assert_eq!(rt; world.report.bytes(), case.report, "{}", case.line);
+        assert!(rt; has_bytes(&world.parts, "b", case.output), "{}", case.line);
+        assert!(rt;
+            has_bytes(&world.parts, "agent.journal", case.journal),
+            "{}",
+            case.line
+        );
     }
     Ok(())
 }

@@ -1,5 +1,6 @@
 //! The rounds of a run, and its end.
-ghost use Rattle.std.specs.Prelude.{◌≡◌, ◌≢◌, ◌==◌, ◌≤◌, ◌⊎◌, ◌∷◌, ◌||◌, ℕ, ℤ, List, [], Option, Ok, IfOk, OnOk, Some, None, not, false, true};
+ghost use Rattle.std.specs.Prelude.{◌≡◌, ◌≢◌, ◌==◌, ◌≤◌, ◌⊎◌, ◌∷◌, ◌||◌, ℕ, ℤ, List, [], Option, Ok, IfOk};
+ghost use Rattle.std.specs.Prelude.{OnOk, Some, None, not, false, true};
 ghost use Rattle.std.specs.Int.{int_max};
 ghost use Rattle.account.specs.Numbers.{output_numbers};
 ghost use Rattle.account.specs.AccountText.{account_text};
@@ -54,7 +55,8 @@ impl Ending {
     }
 }
 
-/// Rounds, until the input is read no more; answers why. What a failed put left is tried again in the next round.
+/// Rounds, until the input is read no more; answers why. What a failed put left is tried again in the next
+/// round.
 fn rounds<S: Source, K: Sink + Drop, C: Clock>(
     run: &mut PipeRun,
     source: &mut S,
@@ -70,8 +72,10 @@ fn rounds<S: Source, K: Sink + Drop, C: Clock>(
     ensures going { OnOk result (run.new.core.stopped ≡ false) }
     ensures read { IfOk result (λ state. state ≢ InState.Reading) }
     ensures stands { StillStands result run.new.core }
-    ensures runs { IfOk result (λ state. RunsOn run.old run.new state (S.left source.old) (S.left source.new) (S.faults source.old) (S.faults source.new)
-        (C.moments clock.old) (C.place clock.old) (C.place clock.new) (K.held sink.old) (K.held sink.new) (K.faults sink.old) (K.faults sink.new)
+    ensures runs { IfOk result (λ state. RunsOn run.old run.new state (S.left source.old) (S.left source.new)
+        (S.faults source.old) (S.faults source.new)
+        (C.moments clock.old) (C.place clock.old) (C.place clock.new) (K.held sink.old) (K.held sink.new)
+        (K.faults sink.old) (K.faults sink.new)
         (part_of K.held K.faults journal.old) (part_of K.held K.faults journal.new)) }
     ensures list { C.moments clock.new ≡ C.moments clock.old }
 {
@@ -95,10 +99,19 @@ fn finish<K: Sink>(run: &mut PipeRun, sink: &mut K, moment: Moment) -> Result<()
     ensures ready { OnOk result (IsReady run.new.core) }
     ensures stopped { OnOk result (run.new.core.stopped ≡ true) }
     ensures none_raw { OnOk result (run.new.core.raw ≡ []) }
-    ensures rest { OnOk result (((output_numbers run.new.core.numbers 0).buffered ≡ 0) ⊎ (3 ≤ run.new.failed)) }
+    ensures rest { OnOk result (((output_numbers run.new.core.numbers 0).buffered ≡ 0)
+        ⊎ (3 ≤ run.new.failed)) }
     ensures stands { StillStands result run.new.core }
-    ensures goes { OnOk result ((start : Beginning) (now : Surroundings) → Went start run.old (record now { held = K.held sink.old; puts = K.faults sink.old; stops = [] }) →
-        Went start run.new (record now { held = K.held sink.new; puts = K.faults sink.new; stops = int_max moment start.setup.start ∷ [] })) }
+    ensures goes { OnOk result ((start : Beginning) (now : Surroundings)
+        → Went start run.old
+        (record now { held = K.held sink.old; put_faults = K.faults sink.old; counted_at = [] }) →
+        Went start run.new
+        (record now {
+          held = K.held sink.new;
+          put_faults = K.faults sink.new;
+          counted_at = int_max moment
+              start.setup.start ∷ [];
+        })) }
 {
     run.core.stop(moment)?;
     run.failed = 0;
@@ -119,7 +132,9 @@ fn end_journal<K: Sink + Drop>(
     ensures left { IfOk result (λ ending. ending.left ≡ not ((output_numbers run.old.core.numbers 0).buffered == 0)) }
     ensures account { IfOk result (λ ending. ending.account.items ≡ account_text run.old.core.numbers) }
     ensures failed { IfOk result (λ ending. ending.journal_failed ≡ journal.new.failed) }
-    ensures ends { OnOk result (EndsOn run.old.core.stored (account_text run.old.core.numbers) (part_of K.held K.faults journal.old) (part_of K.held K.faults journal.new)) }
+    ensures ends { OnOk result
+        (EndsOn run.old.core.stored (account_text run.old.core.numbers) (part_of K.held K.faults journal.old)
+        (part_of K.held K.faults journal.new)) }
 {
     let mut account = Vec::new(run.alloc);
     run.core.account().text(&mut account)?;
@@ -156,7 +171,8 @@ fn run_from<S: Source, K: Sink + Drop, C: Clock>(
     ensures ran { IfOk result (λ ending. Ran pipe.now.batch pipe.now.limit ending
         (change (S.left source.old) (S.left source.new) (S.faults source.old) (S.faults source.new))
         (change (K.held sink.old) (K.held sink.new) (K.faults sink.old) (K.faults sink.new))
-        (change (K.held journal.old.sink) (K.held journal.new.sink) (K.faults journal.old.sink) (K.faults journal.new.sink))
+        (change (K.held journal.old.sink) (K.held journal.new.sink) (K.faults journal.old.sink)
+        (K.faults journal.new.sink))
         (C.moments clock.old) (C.moments input_clock.old)) }
 {
     let mut run = new_run(alloc, pipe, start)?;
@@ -167,8 +183,8 @@ fn run_from<S: Source, K: Sink + Drop, C: Clock>(
     Ok(ending)
 }
 
-/// Runs a pipe over its parts, and gives back the part to which the journal goes: rounds, each of which puts the entries
-/// that it made, and the end.
+/// Runs a pipe over its parts, and gives back the part to which the journal goes: rounds, each of which puts
+/// the entries that it made, and the end.
 pub fn run<S: Source, K: Sink + Drop, C: Clock>(
     alloc: Global,
     pipe: &Pipe<'_>,

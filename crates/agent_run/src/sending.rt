@@ -1,5 +1,6 @@
 //! Sending batches to the output.
-ghost use Rattle.std.specs.Prelude.{◌≡◌, ◌≢◌, ◌<◌, ◌≤◌, ◌+◌, ◌-◌, ◌^◌, ◌⊎◌, ℕ, [], Ok, IfOk, OnOk, length, min};
+ghost use Rattle.std.specs.Prelude.{◌≡◌, ◌≢◌, ◌<◌, ◌≤◌, ◌+◌, ◌-◌, ◌^◌, ◌⊎◌, ℕ, [], Ok, IfOk, OnOk, length};
+ghost use Rattle.std.specs.Prelude.{min};
 ghost use Rattle.account.specs.Numbers.{output_numbers};
 ghost use Rattle.pipeline_core.specs.CoreState.{CoreState, lane_at};
 ghost use Rattle.agent_run.specs.Progress.{SendsOn};
@@ -45,9 +46,11 @@ fn send_next<K: Sink>(run: &mut PipeRun, sink: &mut K) -> Result<Sending, OutOfM
     ensures kept { OnOk result (IsSentOn run.old.core run.new.core) }
     ensures stands { StillStands result run.new.core }
     ensures nothing { result ≡ Ok Sending.Nothing → (output_numbers run.new.core.numbers 0).buffered ≡ 0 }
-    ensures fewer { result ≡ Ok Sending.Accepted → length (lane_at run.new.core.lanes 0).waiting < length (lane_at run.old.core.lanes 0).waiting }
+    ensures fewer { result ≡ Ok Sending.Accepted
+        → length (lane_at run.new.core.lanes 0).waiting < length (lane_at run.old.core.lanes 0).waiting }
     ensures failed { result ≡ Ok Sending.Failed → run.new.failed ≡ min (run.old.failed + 1) (2 ^ 32 - 1) }
-    ensures sends { OnOk result (SendsOn run.old run.new (K.held sink.old) (K.held sink.new) (K.faults sink.old) (K.faults sink.new)) }
+    ensures sends { OnOk result (SendsOn run.old run.new (K.held sink.old) (K.held sink.new) (K.faults sink.old)
+        (K.faults sink.new)) }
 {
     let batch = match run.core.begin(0) {
         Ok(batch) => batch,
@@ -80,9 +83,11 @@ pub fn send_all<K: Sink>(run: &mut PipeRun, sink: &mut K) -> Result<Flush, OutOf
     ensures kept { OnOk result (IsSentOn run.old.core run.new.core) }
     ensures stands { StillStands result run.new.core }
     ensures all { result ≡ Ok Flush.Emptied → (output_numbers run.new.core.numbers 0).buffered ≡ 0 }
-    ensures settled { OnOk result (((output_numbers run.new.core.numbers 0).buffered ≡ 0) ⊎ (1 ≤ run.new.failed)) }
+    ensures settled { OnOk result (((output_numbers run.new.core.numbers 0).buffered ≡ 0)
+        ⊎ (1 ≤ run.new.failed)) }
     ensures none { result ≡ Ok Flush.Stuck → run.new.failed ≡ min (run.old.failed + 1) (2 ^ 32 - 1) }
-    ensures sends { OnOk result (SendsOn run.old run.new (K.held sink.old) (K.held sink.new) (K.faults sink.old) (K.faults sink.new)) }
+    ensures sends { OnOk result (SendsOn run.old run.new (K.held sink.old) (K.held sink.new) (K.faults sink.old)
+        (K.faults sink.new)) }
 {
     for batch in 0..u64::MAX {
         match send_next(run, sink)? {
@@ -112,8 +117,8 @@ fn tries_after(tries: u32, flush: Flush) -> u32
     }
 }
 
-/// Sends what is buffered at the end of a run: batches until nothing waits or a put fails, again and again until nothing
-/// waits, or three repeats in succession sent nothing.
+/// Sends what is buffered at the end of a run: batches until nothing waits or a put fails, again and again
+/// until nothing waits, or three repeats in succession sent nothing.
 pub fn send_rest<K: Sink>(run: &mut PipeRun, sink: &mut K) -> Result<(), OutOfMemory>
     requires ready { IsReady run.old.core }
     requires routed { run.old.core.raw ≡ [] }
@@ -121,8 +126,10 @@ pub fn send_rest<K: Sink>(run: &mut PipeRun, sink: &mut K) -> Result<(), OutOfMe
     ensures ready { OnOk result (IsReady run.new.core) }
     ensures kept { OnOk result (IsSentOn run.old.core run.new.core) }
     ensures stands { StillStands result run.new.core }
-    ensures rest { OnOk result (((output_numbers run.new.core.numbers 0).buffered ≡ 0) ⊎ (FINAL_TRIES ≤ run.new.failed)) }
-    ensures sends { OnOk result (SendsOn run.old run.new (K.held sink.old) (K.held sink.new) (K.faults sink.old) (K.faults sink.new)) }
+    ensures rest { OnOk result (((output_numbers run.new.core.numbers 0).buffered ≡ 0)
+        ⊎ (FINAL_TRIES ≤ run.new.failed)) }
+    ensures sends { OnOk result (SendsOn run.old run.new (K.held sink.old) (K.held sink.new) (K.faults sink.old)
+        (K.faults sink.new)) }
 {
     let mut tries = 0;
     for _repeat in 0..u64::MAX {

@@ -98,8 +98,9 @@ pub fn outcome_in(alloc: Global, line: &str, mut world: MemWorld) -> Result<Outc
     })
 }
 
-/// What a run is given, and what it must leave: the words, the bytes at `a`, the reads, the puts at `b` and at the journal's
-/// place that fail, each put after so many bytes, the status, the report, and what `b` and the journal's place hold.
+/// What a run is given, and what it must leave: the words, the bytes at `a`, the reads, the puts at `b` and
+/// at the journal's place that fail, each put after so many bytes, the status, the report, and what `b` and
+/// the journal's place hold.
 #[derive(Clone, Copy)]
 pub struct Case {
     pub line: &'static str,
@@ -202,8 +203,8 @@ pub const EMPTY: Case = Case {
     ..TWO
 };
 
-/// Two lines go through, byte for byte; an empty input makes no put to `b`, so the first one, which would fail, is never
-/// made.
+/// Two lines go through, byte for byte; an empty input makes no put to `b`, so the first one, which would
+/// fail, is never made.
 #[test]
 fn whole_runs(rt: HostRuntime) -> Result<(), Fail> {
     let cases = [

@@ -1,9 +1,12 @@
 //! The top call.
-ghost use Rattle.std.specs.Prelude.{◌≡◌, ◌≢◌, ◌≤◌, ◌⊎◌, ◌||◌, ℕ, List, Bool, true, false, IfOk, MatchOption, string_bytes};
+ghost use Rattle.std.specs.Prelude.{◌≡◌, ◌≢◌, ◌≤◌, ◌⊎◌, ◌||◌, ℕ, List, Bool, true, false, IfOk, MatchOption};
+ghost use Rattle.std.specs.Prelude.{string_bytes};
 ghost use Rattle.agent_base.specs.Places.{AreHome, SameAtAll, SameBut};
 ghost use Rattle.agent_run.specs.Command.{IsPipe, journal_place};
-ghost use Rattle.agent_run.specs.Places.{AreOpensSame, ReportsLine, IsRefused, IsUnused, SameButTwo, open_fault_line};
-ghost use Rattle.agent_run.specs.Headline.{Ends, IsPutSo, PipeEnds, NothingRose, change, place_change, report_change, status_of};
+ghost use Rattle.agent_run.specs.Places.{AreOpensSame, ReportsLine, IsRefused, IsUnused, SameButTwo};
+ghost use Rattle.agent_run.specs.Places.{open_fault_line};
+ghost use Rattle.agent_run.specs.Headline.{Ends, IsPutSo, PipeEnds, NothingRose, change, place_change};
+ghost use Rattle.agent_run.specs.Headline.{report_change, status_of};
 ghost use Rattle.agent_run.specs.Opening.{IsRefusalAnswer, place_of};
 
 use crate::command::{JOURNAL, Pipe, read_command};
@@ -13,13 +16,13 @@ use crate::status::Status;
 use agent_base::{PutFault, World};
 use std::alloc::{AllocError, Global};
 
-/// The number of the run's clock.
+/// The number of the run's clock. Input i has clock 3 + i; 1 and 2 are kept for the processors and the journal.
 const RUN_CLOCK: u32 = 0;
 
 /// How long a wait of the run's clock pauses: 10 seconds, in nanoseconds.
 const RUN_PAUSE: i64 = 10_000_000_000;
 
-/// The number of the input's clock.
+/// The number of the clock of input 0.
 const INPUT_CLOCK: u32 = 3;
 
 /// How long a wait of the input's clock pauses: 10 milliseconds, in nanoseconds.
@@ -27,7 +30,8 @@ const INPUT_PAUSE: i64 = 10_000_000;
 
 /// Reports a line, and answers the status, unless memory was short.
 fn report_line<W: World>(world: &mut W, line: &[u8], status: Status) -> Status
-    ensures answer { ((result ≡ status) × ReportsLine (W.rest world.old) (W.rest world.new) line.now) ⊎ (result ≡ Status.OutOfMemory) }
+    ensures answer { ((result ≡ status) × ReportsLine (W.rest world.old) (W.rest world.new) line.now)
+        ⊎ (result ≡ Status.OutOfMemory) }
     ensures ins { SameAtAll (W.in_at world.old) (W.in_at world.new) }
     ensures outs { SameAtAll (W.out_at world.old) (W.out_at world.new) }
     ensures moments { SameAtAll (W.moments world.old) (W.moments world.new) }
@@ -47,7 +51,9 @@ fn open_fault_line(alloc: Global, place: &str) -> Result<String, AllocError>
 
 /// Reports the account, and says how the run ended.
 fn report_account<W: World>(ending: &Ending, world: &mut W) -> Status
-    ensures answer { (result ≡ Status.OutOfMemory) ⊎ ((failed : Bool) × (result ≡ status_of ending.now.state (ending.now.journal_failed || failed) ending.now.left)
+    ensures answer { (result ≡ Status.OutOfMemory)
+        ⊎ ((failed : Bool)
+        × (result ≡ status_of ending.now.state (ending.now.journal_failed || failed) ending.now.left)
         × IsPutSo failed (report_change (W.rest world.old) (W.rest world.new)) ending.now.account.items) }
     ensures ins { SameAtAll (W.in_at world.old) (W.in_at world.new) }
     ensures outs { SameAtAll (W.out_at world.old) (W.out_at world.new) }
@@ -73,15 +79,22 @@ fn run_parts<W: World>(
     requires apart { pipe.now.output.now ≢ journal_place }
     requires some { 1 ≤ pipe.now.batch }
     requires ordered { pipe.now.batch ≤ pipe.now.limit }
-    requires other_ins { (place : List ℕ) → place ≢ pipe.now.input.now → (W.in_at world.old place).is_out ≡ false }
-    requires other_outs { (place : List ℕ) → place ≢ pipe.now.output.now → place ≢ journal_place → (W.out_at world.old place).is_out ≡ false }
+    requires other_ins { (place : List ℕ) → place ≢ pipe.now.input.now
+        → (W.in_at world.old place).is_out ≡ false }
+    requires other_outs { (place : List ℕ) → place ≢ pipe.now.output.now → place ≢ journal_place
+        → (W.out_at world.old place).is_out ≡ false }
     ensures ends { Ends pipe.now.batch pipe.now.limit
-        (change (W.In.left parts.source) (W.in_at world.new pipe.now.input.now).bytes (W.In.faults parts.source) (W.in_at world.new pipe.now.input.now).part_faults)
-        (change (W.Out.held parts.sink) (W.out_at world.new pipe.now.output.now).bytes (W.Out.faults parts.sink) (W.out_at world.new pipe.now.output.now).part_faults)
-        (change (W.Out.held parts.journal) (W.out_at world.new journal_place).bytes (W.Out.faults parts.journal) (W.out_at world.new journal_place).part_faults)
-        (report_change (W.rest world.old) (W.rest world.new)) (W.moments world.old 0) (W.moments world.old 3) result }
+        (change (W.In.left parts.source) (W.in_at world.new pipe.now.input.now).bytes
+        (W.In.faults parts.source) (W.in_at world.new pipe.now.input.now).part_faults)
+        (change (W.Out.held parts.sink) (W.out_at world.new pipe.now.output.now).bytes
+        (W.Out.faults parts.sink) (W.out_at world.new pipe.now.output.now).part_faults)
+        (change (W.Out.held parts.journal) (W.out_at world.new journal_place).bytes
+        (W.Out.faults parts.journal) (W.out_at world.new journal_place).part_faults)
+        (report_change (W.rest world.old) (W.rest world.new)) (W.moments world.old 0)
+        (W.moments world.old 3) result }
     ensures other_ins { SameBut pipe.now.input.now (W.in_at world.old) (W.in_at world.new) }
-    ensures other_outs { SameButTwo pipe.now.output.now journal_place (W.out_at world.old) (W.out_at world.new) }
+    ensures other_outs { SameButTwo pipe.now.output.now journal_place (W.out_at world.old)
+        (W.out_at world.new) }
     ensures other_clocks { SameButTwo 0 3 (W.moments world.old) (W.moments world.new) }
     ensures ins_opened { AreOpensSame (W.in_at world.old) (W.in_at world.new) }
     ensures outs_opened { AreOpensSame (W.out_at world.old) (W.out_at world.new) }
@@ -116,7 +129,8 @@ fn run_parts<W: World>(
 /// The place that wasn't opened; None where memory was short.
 fn refused_place<'a>(pipe: &Pipe<'a>, refusal: Refusal) -> Option<&'a str>
     ensures { MatchOption result (refusal ≡ Refusal.OutOfMemory)
-        (λ place. (refusal ≢ Refusal.OutOfMemory) × (place.now ≡ place_of refusal pipe.now.input.now pipe.now.output.now)) }
+        (λ place. (refusal ≢ Refusal.OutOfMemory)
+        × (place.now ≡ place_of refusal pipe.now.input.now pipe.now.output.now)) }
 {
     match refusal {
         Refusal::Input => Some(pipe.input),
@@ -128,7 +142,8 @@ fn refused_place<'a>(pipe: &Pipe<'a>, refusal: Refusal) -> Option<&'a str>
 
 /// Says which place of a pipe wasn't opened.
 fn refuse<W: World>(alloc: Global, pipe: &Pipe<'_>, refusal: Refusal, world: &mut W) -> Status
-    ensures answer { IsRefusalAnswer result refusal pipe.now.input.now pipe.now.output.now (W.rest world.old) (W.rest world.new) }
+    ensures answer { IsRefusalAnswer result refusal pipe.now.input.now pipe.now.output.now (W.rest world.old)
+        (W.rest world.new) }
     ensures ins { SameAtAll (W.in_at world.old) (W.in_at world.new) }
     ensures outs { SameAtAll (W.out_at world.old) (W.out_at world.new) }
     ensures moments { SameAtAll (W.moments world.old) (W.moments world.new) }
@@ -149,15 +164,24 @@ fn run_pipe<W: World>(alloc: Global, pipe: &Pipe<'_>, world: &mut W) -> Status
     requires apart { pipe.now.output.now ≢ journal_place }
     requires some { 1 ≤ pipe.now.batch }
     requires ordered { pipe.now.batch ≤ pipe.now.limit }
-    ensures open { result ≡ Status.OpenFault → IsRefused (W.in_at world.old) (W.in_at world.new) (W.out_at world.old) (W.out_at world.new) (W.rest world.old) (W.rest world.new) pipe.now.input.now pipe.now.output.now }
-    ensures ends { (result ≢ Status.OpenFault) → Ends pipe.now.batch pipe.now.limit (place_change (W.in_at world.old pipe.now.input.now) (W.in_at world.new pipe.now.input.now))
-        (place_change (W.out_at world.old pipe.now.output.now) (W.out_at world.new pipe.now.output.now)) (place_change (W.out_at world.old journal_place) (W.out_at world.new journal_place))
-        (report_change (W.rest world.old) (W.rest world.new)) (W.moments world.old 0) (W.moments world.old 3) result }
+    ensures open { result ≡ Status.OpenFault
+        → IsRefused (W.in_at world.old) (W.in_at world.new) (W.out_at world.old) (W.out_at world.new)
+        (W.rest world.old) (W.rest world.new) pipe.now.input.now pipe.now.output.now }
+    ensures ends { (result ≢ Status.OpenFault)
+        → Ends pipe.now.batch pipe.now.limit
+        (place_change (W.in_at world.old pipe.now.input.now) (W.in_at world.new pipe.now.input.now))
+        (place_change (W.out_at world.old pipe.now.output.now) (W.out_at world.new pipe.now.output.now))
+        (place_change (W.out_at world.old journal_place) (W.out_at world.new journal_place))
+        (report_change (W.rest world.old) (W.rest world.new)) (W.moments world.old 0)
+        (W.moments world.old 3) result }
     ensures other_ins { SameBut pipe.now.input.now (W.in_at world.old) (W.in_at world.new) }
-    ensures other_outs { SameButTwo pipe.now.output.now journal_place (W.out_at world.old) (W.out_at world.new) }
+    ensures other_outs { SameButTwo pipe.now.output.now journal_place (W.out_at world.old)
+        (W.out_at world.new) }
     ensures other_clocks { SameButTwo 0 3 (W.moments world.old) (W.moments world.new) }
-    ensures ins_opened { (result ≢ Status.OpenFault) → (result ≢ Status.OutOfMemory) → AreOpensSame (W.in_at world.old) (W.in_at world.new) }
-    ensures outs_opened { (result ≢ Status.OpenFault) → (result ≢ Status.OutOfMemory) → AreOpensSame (W.out_at world.old) (W.out_at world.new) }
+    ensures ins_opened { (result ≢ Status.OpenFault) → (result ≢ Status.OutOfMemory)
+        → AreOpensSame (W.in_at world.old) (W.in_at world.new) }
+    ensures outs_opened { (result ≢ Status.OpenFault) → (result ≢ Status.OutOfMemory)
+        → AreOpensSame (W.out_at world.old) (W.out_at world.new) }
     ensures ins_home { AreHome (W.in_at world.new) }
     ensures outs_home { AreHome (W.out_at world.new) }
 {
@@ -177,31 +201,48 @@ pub fn agent<W: World>(alloc: Global, words: &[String], world: &mut W) -> Status
     requires outs { AreHome (W.out_at world.old) }
 
     // Usage comes exactly where the words are no command, but for want of memory; nothing else changes.
-    ensures usage { result ≡ Status.Usage → (input output : List ℕ) (batch limit : ℕ) → IsPipe words.now input output batch limit → ⊥ }
-    ensures no_command { ((input output : List ℕ) (batch limit : ℕ) → IsPipe words.now input output batch limit → ⊥) → (result ≡ Status.Usage) ⊎ (result ≡ Status.OutOfMemory) }
-    ensures usage_leaves { result ≡ Status.Usage → IsUnused (W.in_at world.old) (W.in_at world.new) (W.out_at world.old) (W.out_at world.new) (W.rest world.old) (W.rest world.new) }
+    ensures usage { result ≡ Status.Usage → (input output : List ℕ) (batch limit : ℕ)
+        → IsPipe words.now input output batch limit → ⊥ }
+    ensures no_command { ((input output : List ℕ) (batch limit : ℕ)
+        → IsPipe words.now input output batch limit → ⊥) → (result ≡ Status.Usage)
+        ⊎ (result ≡ Status.OutOfMemory) }
+    ensures usage_leaves { result ≡ Status.Usage
+        → IsUnused (W.in_at world.old) (W.in_at world.new) (W.out_at world.old) (W.out_at world.new)
+        (W.rest world.old) (W.rest world.new) }
 
     ensures config { result ≢ Status.Config }
 
-    // OpenFault comes only where one of the three places wasn't opened: that is counted there, and all else is as before.
-    ensures open { result ≡ Status.OpenFault → (input output : List ℕ) × (batch limit : ℕ) × IsPipe words.now input output batch limit
-        × IsRefused (W.in_at world.old) (W.in_at world.new) (W.out_at world.old) (W.out_at world.new) (W.rest world.old) (W.rest world.new) input output }
+    // OpenFault comes only where one of the three places wasn't opened: that is counted there, and all else
+    // is as before.
+    ensures open { result ≡ Status.OpenFault → (input output : List ℕ) × (batch limit : ℕ)
+        × IsPipe words.now input output batch limit
+        × IsRefused (W.in_at world.old) (W.in_at world.new) (W.out_at world.old) (W.out_at world.new)
+        (W.rest world.old) (W.rest world.new) input output }
 
     // The headline: what a run that ended with one of the other statuses left behind.
     ensures headline { (result ≢ Status.Usage) → (result ≢ Status.OpenFault) → (result ≢ Status.OutOfMemory) →
-        PipeEnds result words.now (W.in_at world.old) (W.in_at world.new) (W.out_at world.old) (W.out_at world.new) (W.rest world.old) (W.rest world.new) (W.moments world.old) }
+        PipeEnds result words.now (W.in_at world.old) (W.in_at world.new) (W.out_at world.old)
+        (W.out_at world.new) (W.rest world.old) (W.rest world.new) (W.moments world.old) }
 
     // A command, no count of the world that rose, and no limit that was reached: Done, or out of memory.
-    ensures complete { ((input output : List ℕ) × (batch limit : ℕ) × IsPipe words.now input output batch limit) →
-        NothingRose (W.in_at world.old) (W.in_at world.new) (W.out_at world.old) (W.out_at world.new) (W.rest world.old) (W.rest world.new) →
+    ensures complete { ((input output : List ℕ) × (batch limit : ℕ)
+        × IsPipe words.now input output batch limit) →
+        NothingRose (W.in_at world.old) (W.in_at world.new) (W.out_at world.old) (W.out_at world.new)
+        (W.rest world.old) (W.rest world.new) →
         (result ≢ Status.Limit) → (result ≡ Status.Done) ⊎ (result ≡ Status.OutOfMemory) }
 
-    // Whatever the status: words that are no command change nothing but the report, and a command leaves every place and
-    // every clock that it doesn't name as it was.
-    ensures no_command_leaves { ((input output : List ℕ) (batch limit : ℕ) → IsPipe words.now input output batch limit → ⊥) →
-        SameAtAll (W.in_at world.old) (W.in_at world.new) × SameAtAll (W.out_at world.old) (W.out_at world.new) × SameAtAll (W.moments world.old) (W.moments world.new) }
-    ensures other_ins { (input output : List ℕ) (batch limit : ℕ) → IsPipe words.now input output batch limit → SameBut input (W.in_at world.old) (W.in_at world.new) }
-    ensures other_outs { (input output : List ℕ) (batch limit : ℕ) → IsPipe words.now input output batch limit → SameButTwo output journal_place (W.out_at world.old) (W.out_at world.new) }
+    // Whatever the status: words that are no command change nothing but the report, and a command leaves
+    // every place and every clock that it doesn't name as it was.
+    ensures no_command_leaves { ((input output : List ℕ) (batch limit : ℕ)
+        → IsPipe words.now input output batch limit → ⊥) →
+        SameAtAll (W.in_at world.old) (W.in_at world.new)
+        × SameAtAll (W.out_at world.old) (W.out_at world.new)
+        × SameAtAll (W.moments world.old) (W.moments world.new) }
+    ensures other_ins { (input output : List ℕ) (batch limit : ℕ) → IsPipe words.now input output batch limit
+        → SameBut input (W.in_at world.old) (W.in_at world.new) }
+    ensures other_outs { (input output : List ℕ) (batch limit : ℕ)
+        → IsPipe words.now input output batch limit
+        → SameButTwo output journal_place (W.out_at world.old) (W.out_at world.new) }
     ensures other_clocks { SameButTwo 0 3 (W.moments world.old) (W.moments world.new) }
 
     ensures ins_home { AreHome (W.in_at world.new) }

@@ -4,24 +4,29 @@ use Rattle.std.specs.Prelude.{◌||◌, ◌==◌, not}
 use Rattle.std.specs.List.{position_or_len}
 use Rattle.std.specs.Str.{IsUtf8, is_utf8}
 use Rattle.std.proofs.lemmas.Str.{IsUtf8-from_is_utf8}
-use Rattle.std.proofs.lemmas.Bool.{ne_eqb, eqb-true, eqb-false, ltb-true, ltb-false}
+use Rattle.std.proofs.lemmas.Bool.{eqb-true, eqb-false, ltb-true, ltb-false}
 use Rattle.std.proofs.lemmas.List.{drop-drop, get_or-drop, get_or_past, length-drop, length-take-le, append-nil, take-append-drop, drop_all}
-use Rattle.text_parts.specs.Part.{Kind, plain, IsPartAt}
-use Rattle.text_parts.specs.Bare.{IsBare}
+use Rattle.text_parts.specs.Part.{Kind, part_len, len_at, text_at, plain}
+use Rattle.text_parts.specs.Grammar.{Mark, Escaped, Bare, spelled, meant, IsPart}
+use Rattle.text_parts.proofs.Marks.{found, part_is_read}
+use Rattle.text_parts.proofs.Spans.{unhidden_part}
+use Rattle.std.proofs.lemmas.List.{take_at, length-append}
+use Rattle.std.proofs.Common.{inl, inr, add-zero}
+use Rattle.std.specs.Prelude.{◌⊎◌}
 use Rattle.text_parts.specs.Chain.{◌>>=◌}
 use Rattle.text_parts.specs.Many.{Reader, many_at, items_at}
 use Rattle.text_parts.proofs.Utf8.{either}
-use Rattle.text_parts.proofs.Bare.{bare_part, position_or_len_le}
+use Rattle.text_parts.proofs.Bare.{position_or_len_le}
 use Rattle.metric.specs.declared.value.Value.{Value}
 use Rattle.metric.specs.declared.metric.Content.{Content}
-use Rattle.line_proto.proofs.Lines.{bare, unquoted}
 use Rattle.line_proto.specs.declared.fault.LineKind.{LineKind}
 use Rattle.line_proto.specs.declared.fault.LineFault.{LineFault}
-use Rattle.line_proto.specs.Kinds.{name_part, key_part, tag_value_part, value_part}
+use Rattle.line_proto.specs.Kinds.{name_part, key_part, tag_value_part, text_part, value_part}
 use Rattle.line_proto.specs.Values.{value_of, time_of}
-use Rattle.line_proto.specs.Draft.{IsUnquoted}
-use Rattle.line_proto.specs.Reading.{Tag, Field, Line, placed, name_at, key_at, tag_value_at, tag_at, plain_value_at, value_at, field_at, fields_at, tags_at, behind_spaces, spaced_fields_at, time_len, written_time_at, time_at, line_at, metric_at, text_reading, reading, limited, has_too_many, content_of, needs_escapes, is_blank_or_comment}
-use Rattle.line_proto.specs.Grammar.{HasNone, ends_word, ends_key, is_space, IsMadeOf, Written, spaces, pair_text, pairs_text, time_text, line_spelling, IsTag, IsField, AllAre, IsTime, NoHash, IsLine}
+use Rattle.line_proto.specs.Reading.{is_value_end, text_value_at, Tag, Field, Line, placed, name_at, key_at, tag_value_at, tag_at, plain_value_at, value_at, field_at, fields_at, tags_at, behind_spaces, spaced_fields_at, time_len, written_time_at, time_at, line_at, metric_at, text_reading, reading, limited, has_too_many, content_of, is_blank_or_comment}
+use Rattle.line_proto.specs.Grammar.{HasNone, ends_word, is_space, IsWritten, Written, spaces, pair_text, pairs_text, time_text}
+use Rattle.line_proto.specs.Grammar.{behind_name, line_spelling, IsTag, IsQuoted, IsUnquoted, NoQuote, IsField}
+use Rattle.line_proto.specs.Grammar.{Meaning, AllAre, IsTime, NoHash, IsLine}
 use Rattle.line_proto.proofs.Takes.{Meets}
 
 -- ---- chains that gave an answer
@@ -76,29 +81,40 @@ pub record Spans (piece : List ℕ) (i j : ℕ) (text : List ℕ) : Type 0 where
 pub joins : (piece : List ℕ) (i j k : ℕ) (a b : List ℕ) → Spans piece i j a → Spans piece j k b → Spans piece i k (a ++ b)
 joins piece i j k a b x y = record { is = x.is ∙ ap (λ (t : List ℕ). a ++ t) y.is ∙ sym (append_assoc a b (drop k piece)); more = omega (arith, x.more, y.more); within = y.within }
 
--- a part that is read has no end in it and stands before one
-pub record Parted (k : Kind) (piece : List ℕ) (i : ℕ) : Type 0 where
-  pub word : List ℕ
-  pub at : IsPartAt k piece i word
-  pub none : HasNone k.ends word
-  pub ends : Meets k.ends (drop (i + length word) piece)
-  pub spans : Spans piece i (i + length word) word
+pub ends_meet : (k : Kind) (marks : List Mark) (rest : List ℕ) → IsPart k marks rest → Meets k.ends rest
+ends_meet k [] [] h = tt
+ends_meet k [] (b ∷ rest) h = h.0
+ends_meet k (Escaped c ∷ marks) rest h = ends_meet k marks rest h.1
+ends_meet k (Bare b ∷ marks) rest h = ends_meet k marks rest h.2
 
-pub part_again : (k : Kind) (piece : List ℕ) (i : ℕ) → IsBare piece → i ≤ length piece → Parted k piece i
-part_again k piece i bare le =
-    let w = take (position_or_len k.ends (drop i piece)) (drop i piece) in
-    let split = word_split k.ends (drop i piece) in
-    let len : length (take (position_or_len k.ends (drop i piece)) (drop i piece)) ≡ position_or_len k.ends (drop i piece) = length-take-le _ _ (position_or_len_le k.ends (drop i piece)) in
-    let rest : drop (i + length (take (position_or_len k.ends (drop i piece)) (drop i piece))) piece ≡ drop (position_or_len k.ends (drop i piece)) (drop i piece) = ap (λ (m : ℕ). drop (i + m) piece) len ∙ sym (drop-drop (position_or_len k.ends (drop i piece)) i piece) in
+-- a part that is read stands there as marks
+pub record Parted (k : Kind) (piece : List ℕ) (i : ℕ) : Type 0 where
+  pub marks : List Mark
+  pub len : len_at k piece i ≡ length (spelled marks)
+  pub means : text_at k piece i ≡ meant k marks
+  pub part : IsPart k marks (drop (i + length (spelled marks)) piece)
+  pub spans : Spans piece i (i + length (spelled marks)) (spelled marks)
+
+pub part_again : (k : Kind) (piece : List ℕ) (i : ℕ) → i ≤ length piece → Parted k piece i
+part_again k piece i le =
+    let f = found k (drop i piece) in
+    let read = part_is_read k f.marks (drop (part_len k (drop i piece)) (drop i piece)) f.part in
+    let len : part_len k (drop i piece) ≡ length (spelled f.marks) = ap (part_len k) f.text ∙ read.0 in
+    let rest : drop (i + length (spelled f.marks)) piece ≡ drop (part_len k (drop i piece)) (drop i piece) =
+    ap (λ (m : ℕ). drop (i + m) piece) (sym len) ∙ sym (drop-drop (part_len k (drop i piece)) i piece) in
+    let cut : take (part_len k (drop i piece)) (drop i piece) ≡ spelled f.marks =
+    ap (λ (m : ℕ). take m (drop i piece)) len ∙ ap (take (length (spelled f.marks))) f.text ∙ take_at (spelled f.marks) _ (length (spelled f.marks)) refl in
+    let whole : length (drop i piece) ≡ length (spelled f.marks) + length (drop (part_len k (drop i piece)) (drop i piece)) =
+    ap length f.text ∙ length-append (spelled f.marks) (drop (part_len k (drop i piece)) (drop i piece)) in
     record {
-      word = w;
-      at = bare_part k piece i w bare refl;
-      none = split.0;
-      ends = subst (Meets k.ends) (sym rest) split.1;
+      marks = f.marks;
+      len = len;
+      means = ap (plain k) cut ∙ read.1;
+      part = subst (IsPart k f.marks) (sym rest) f.part;
       spans = record {
-        is = sym (take-append-drop (position_or_len k.ends (drop i piece)) (drop i piece)) ∙ ap (λ (t : List ℕ). take (position_or_len k.ends (drop i piece)) (drop i piece) ++ t) (sym rest);
+        is = f.text ∙ ap (λ (t : List ℕ). spelled f.marks ++ t) (sym rest);
         more = omega arith;
-        within = omega (arith, len, position_or_len_le k.ends (drop i piece), length-drop i piece);
+        within = omega (arith, whole, length-drop i piece);
       };
     }
 
@@ -107,31 +123,39 @@ some_of [] e = absurd cc
 some_of (b ∷ w) e = omega arith
 
 -- a word that was read
-pub record WordRead (p : ℕ → Bool) (piece : List ℕ) (i j : ℕ) (w : List ℕ) : Type 0 where
-  pub made : IsMadeOf p w
-  pub ends : Meets p (drop j piece)
-  pub spans : Spans piece i j w
+pub record WordRead (k : Kind) (piece : List ℕ) (i j : ℕ) (text : List ℕ) : Type 0 where
+  pub word : List ℕ
+  pub written : IsWritten k word (drop j piece) text
+  pub spans : Spans piece i j word
 
-word_read : (k : Kind) (piece : List ℕ) (i j : ℕ) (w : List ℕ) (part : Parted k piece i) → (length part.word == 0) ≡ false → part.word ≡ w → i + length part.word ≡ j → WordRead k.ends piece i j w
-word_read k piece i j w part some same place = subst (λ (t : List ℕ). WordRead k.ends piece i j t) same (subst (λ (m : ℕ). WordRead k.ends piece i m part.word) place (record { made = record { some = some_of part.word some; none = part.none }; ends = part.ends; spans = part.spans }))
+word_read : (k : Kind) (piece : List ℕ) (i j : ℕ) (text : List ℕ) (part : Parted k piece i)
+    → (length (spelled part.marks) == 0) ≡ false → meant k part.marks ≡ text → i + length (spelled part.marks) ≡ j
+    → WordRead k piece i j text
+word_read k piece i j text part some same place = subst (λ (m : ℕ). WordRead k piece i m text) place (record {
+  word = spelled part.marks;
+  written = record { some = some_of (spelled part.marks) some; marks = part.marks; is = refl; part = part.part; says = same };
+  spans = part.spans;
+})
 
-pub name_again : (piece : List ℕ) (i j : ℕ) (w : List ℕ) → IsBare piece → i ≤ length piece → name_at piece i ≡ Ok (w, j) → WordRead ends_word piece i j w
+pub name_again : (piece : List ℕ) (i j : ℕ) (name : List ℕ) → i ≤ length piece → name_at piece i ≡ Ok (name, j)
+    → WordRead name_part piece i j name
 unfolding name_at
-name_again piece i j w bare le e =
-    let part = part_again name_part piece i bare le in
-    let read = rw (part.at.means, part.at.len) at e in
-    let ok = chosen_ok (length part.word == 0) _ _ _ read in
+name_again piece i j name le e =
+    let part = part_again name_part piece i le in
+    let read = rw (part.means, part.len) at e in
+    let ok = chosen_ok (length (spelled part.marks) == 0) _ _ _ read in
     let pair = ok_pair _ _ _ _ ok.1 in
-    word_read name_part piece i j w part ok.0 pair.0 pair.1
+    word_read name_part piece i j name part ok.0 pair.0 pair.1
 
-pub tag_value_again : (piece : List ℕ) (i j : ℕ) (w : List ℕ) → IsBare piece → i ≤ length piece → tag_value_at piece i ≡ Ok (w, j) → WordRead ends_word piece i j w
+pub tag_value_again : (piece : List ℕ) (i j : ℕ) (value : List ℕ) → i ≤ length piece → tag_value_at piece i ≡ Ok (value, j)
+    → WordRead tag_value_part piece i j value
 unfolding tag_value_at
-tag_value_again piece i j w bare le e =
-    let part = part_again tag_value_part piece i bare le in
-    let read = rw (part.at.means, part.at.len) at e in
-    let ok = chosen_ok (length part.word == 0) _ _ _ read in
+tag_value_again piece i j value le e =
+    let part = part_again tag_value_part piece i le in
+    let read = rw (part.means, part.len) at e in
+    let ok = chosen_ok (length (spelled part.marks) == 0) _ _ _ read in
     let pair = ok_pair _ _ _ _ ok.1 in
-    word_read tag_value_part piece i j w part ok.0 pair.0 pair.1
+    word_read tag_value_part piece i j value part ok.0 pair.0 pair.1
 
 byte_at : (piece : List ℕ) (m b : ℕ) → 0 < b → get_or piece m 0 ≡ b → drop m piece ≡ b ∷ drop (m + 1) piece
 byte_at piece m b some e =
@@ -150,78 +174,174 @@ byte_spans piece m b some e =
     record { is = is; more = omega arith; within = omega (arith, ap length is, length-drop m piece, length-drop (m + 1) piece) }
 
 -- a key with its equals sign
-pub record KeyRead (piece : List ℕ) (i j : ℕ) (w : List ℕ) : Type 0 where
-  pub made : IsMadeOf ends_key w
-  pub spans : Spans piece i j (w ++ 61 ∷ [])
+pub record KeyRead (piece : List ℕ) (i j : ℕ) (key : List ℕ) : Type 0 where
+  pub word : List ℕ
+  pub written : IsWritten key_part word (61 ∷ drop j piece) key
+  pub spans : Spans piece i j (word ++ 61 ∷ [])
 
-key_read : (piece : List ℕ) (i j : ℕ) (w : List ℕ) (part : Parted key_part piece i) → (length part.word == 0) ≡ false → get_or piece (i + length part.word) 0 ≡ 61 → part.word ≡ w → i + length part.word + 1 ≡ j → KeyRead piece i j w
-key_read piece i j w part some equals same place = subst (λ (t : List ℕ). KeyRead piece i j t) same (subst (λ (m : ℕ). KeyRead piece i m part.word) place (record {
-  made = record { some = some_of part.word some; none = part.none };
-  spans = joins piece i (i + length part.word) (i + length part.word + 1) part.word (61 ∷ []) part.spans (byte_spans piece (i + length part.word) 61 (omega arith) equals);
-}))
+key_read : (piece : List ℕ) (i j : ℕ) (key : List ℕ) (part : Parted key_part piece i) → (length (spelled part.marks) == 0) ≡ false
+    → get_or piece (i + length (spelled part.marks)) 0 ≡ 61 → meant key_part part.marks ≡ key
+    → i + length (spelled part.marks) + 1 ≡ j → KeyRead piece i j key
+key_read piece i j key part some equals same place =
+    let behind = byte_at piece (i + length (spelled part.marks)) 61 (omega arith) equals in
+    subst (λ (m : ℕ). KeyRead piece i m key) place (record {
+      word = spelled part.marks;
+      written = record {
+        some = some_of (spelled part.marks) some;
+        marks = part.marks;
+        is = refl;
+        part = subst (IsPart key_part part.marks) behind part.part;
+        says = same;
+      };
+      spans = joins piece i (i + length (spelled part.marks)) (i + length (spelled part.marks) + 1) (spelled part.marks) (61 ∷ []) part.spans
+          (byte_spans piece (i + length (spelled part.marks)) 61 (omega arith) equals);
+    })
 
-pub key_again : (piece : List ℕ) (i j : ℕ) (w : List ℕ) → IsBare piece → i ≤ length piece → key_at piece i ≡ Ok (w, j) → KeyRead piece i j w
+pub key_again : (piece : List ℕ) (i j : ℕ) (key : List ℕ) → i ≤ length piece → key_at piece i ≡ Ok (key, j) → KeyRead piece i j key
 unfolding key_at
-key_again piece i j w bare le e =
-    let part = part_again key_part piece i bare le in
-    let read = rw (part.at.means, part.at.len) at e in
-    let ok = chosen_ok (length part.word == 0 || not (get_or piece (i + length part.word) 0 == 61)) _ _ _ read in
-    let both = or_false (length part.word == 0) (not (get_or piece (i + length part.word) 0 == 61)) ok.0 in
+key_again piece i j key le e =
+    let part = part_again key_part piece i le in
+    let read = rw (part.means, part.len) at e in
+    let ok = chosen_ok (length (spelled part.marks) == 0 || not (get_or piece (i + length (spelled part.marks)) 0 == 61)) _ _ _ read in
+    let both = or_false (length (spelled part.marks) == 0) (not (get_or piece (i + length (spelled part.marks)) 0 == 61)) ok.0 in
     let pair = ok_pair _ _ _ _ ok.1 in
-    key_read piece i j w part both.0 (eqb-true (get_or piece (i + length part.word) 0) 61 (not_false (eqb (get_or piece (i + length part.word) 0) 61) both.1)) pair.0 pair.1
+    key_read piece i j key part both.0 (eqb-true (get_or piece (i + length (spelled part.marks)) 0) 61 (not_false (eqb (get_or piece (i + length (spelled part.marks)) 0) 61) both.1)) pair.0 pair.1
 
 -- an item that was read: it is written as a pair in front of an end
-pub record PairRead {X : Type 0} (Is : List ℕ × List ℕ → X → Type 0) (piece : List ℕ) (i j : ℕ) (x : X) : Type 0 where
+pub record PairRead {X : Type 0} (Is : Meaning X) (piece : List ℕ) (i j : ℕ) (x : X) : Type 0 where
   pub pair : List ℕ × List ℕ
-  pub is : Is pair x
+  pub is : Is pair (drop j piece) x
   pub ends : Meets ends_word (drop j piece)
   pub spans : Spans piece i j (pair_text pair)
 
-pub tag_again : (piece : List ℕ) → IsBare piece → (i j : ℕ) (tag : Tag) → i ≤ length piece → tag_at piece i ≡ Ok (tag, j) → PairRead IsTag piece i j tag
+pub tag_again : (piece : List ℕ) (i j : ℕ) (tag : Tag) → i ≤ length piece → tag_at piece i ≡ Ok (tag, j) → PairRead IsTag piece i j tag
 unfolding tag_at
-tag_again piece bare i j tag le e =
+tag_again piece i j tag le e =
     let k = bind_ok (key_at piece i) _ (tag, j) e in
-    let key = key_again piece i k.0.1 k.0.0 bare le k.1 in
+    let key = key_again piece i k.0.1 k.0.0 le k.1 in
     let v = bind_ok (tag_value_at piece k.0.1) _ (tag, j) k.2 in
-    let value = tag_value_again piece k.0.1 v.0.1 v.0.0 bare key.spans.within v.1 in
+    let value = tag_value_again piece k.0.1 v.0.1 v.0.0 key.spans.within v.1 in
     let same = ok_pair (k.0.0, v.0.0) tag v.0.1 j v.2 in
-    let both : Spans piece i v.0.1 (pair_text (k.0.0, v.0.0)) = subst (Spans piece i v.0.1) (append_assoc k.0.0 (61 ∷ []) v.0.0) (joins piece i k.0.1 v.0.1 (k.0.0 ++ 61 ∷ []) v.0.0 key.spans value.spans) in
-    subst (λ (m : ℕ). PairRead IsTag piece i m tag) same.1 (record { pair = (k.0.0, v.0.0); is = record { key = key.made; value = value.made; same = same.0 }; ends = value.ends; spans = both })
+    let both : Spans piece i v.0.1 (pair_text (key.word, value.word)) = subst (Spans piece i v.0.1) (append_assoc key.word (61 ∷ []) value.word) (joins piece i k.0.1 v.0.1 (key.word ++ 61 ∷ []) value.word key.spans value.spans) in
+    let front : IsWritten key_part key.word (61 ∷ (value.word ++ drop v.0.1 piece)) k.0.0 = subst (λ (t : List ℕ). IsWritten key_part key.word (61 ∷ t) k.0.0) value.spans.is key.written in
+    subst (λ (t : Tag). PairRead IsTag piece i j t) same.0 (subst (λ (m : ℕ). PairRead IsTag piece i m (k.0.0, v.0.0)) same.1 (record {
+      pair = (key.word, value.word);
+      is = record { key = front; value = value.written };
+      ends = ends_meet tag_value_part value.written.marks (drop v.0.1 piece) value.written.part;
+      spans = both;
+    }))
 
 -- a value that was read
 pub record ValueRead (piece : List ℕ) (i j : ℕ) (value : Value) : Type 0 where
   pub text : List ℕ
-  pub none : HasNone ends_word text
-  pub is : value_of text ≡ Ok value
+  pub is : IsQuoted text (drop j piece) value ⊎ IsUnquoted text value
   pub ends : Meets ends_word (drop j piece)
   pub spans : Spans piece i j text
 
-pub value_again : (piece : List ℕ) (i j : ℕ) (value : Value) → IsBare piece → IsUnquoted piece → i ≤ length piece → value_at piece i ≡ Ok (value, j) → ValueRead piece i j value
-unfolding value_at plain_value_at
-value_again piece i j value bare unquoted le e =
-    let part = part_again value_part piece i bare le in
-    let plain_one : (get_or piece i 0 == 34) ≡ false = ne_eqb _ _ (unquoted.each i) in
-    let read = rw (plain_one, part.at.means, part.at.len) at e in
-    let v = bind_ok (placed i (value_of part.word)) _ (value, j) read in
-    let same = ok_pair v.0 value (i + length part.word) j v.2 in
-    subst (λ (m : ℕ). ValueRead piece i m value) same.1 (record { text = part.word; none = part.none; is = placed_ok i (value_of part.word) v.0 v.1 ∙ ap Ok same.0; ends = part.ends; spans = part.spans })
+no_quote : (w rest : List ℕ) → (get_or (w ++ rest) 0 0 == 34) ≡ false → NoQuote w
+no_quote [] rest e = tt
+no_quote (b ∷ w) rest e = e
 
-pub field_again : (piece : List ℕ) → IsBare piece → IsUnquoted piece → (i j : ℕ) (field : Field) → i ≤ length piece → field_at piece i ≡ Ok (field, j) → PairRead IsField piece i j field
+first_there : (piece : List ℕ) (i : ℕ) → get_or (drop i piece) 0 0 ≡ get_or piece i 0
+first_there piece i = get_or-drop i piece 0 0 ∙ rw add-zero refl
+
+unquoted_again : (piece : List ℕ) (i j : ℕ) (value : Value) → i ≤ length piece → (get_or piece i 0 == 34) ≡ false
+    → plain_value_at piece i ≡ Ok (value, j) → ValueRead piece i j value
+unfolding plain_value_at
+unquoted_again piece i j value le first e =
+    let w = take (position_or_len ends_word (drop i piece)) (drop i piece) in
+    let split = word_split ends_word (drop i piece) in
+    let part = unhidden_part value_part (λ b. refl) piece (take (position_or_len ends_word (drop i piece)) (drop i piece)) i refl in
+    let short : position_or_len ends_word (drop i piece) ≤ length (drop i piece) = position_or_len_le ends_word (drop i piece) in
+    let len : length (take (position_or_len ends_word (drop i piece)) (drop i piece)) ≡ position_or_len ends_word (drop i piece) = length-take-le _ _ short in
+    let rest : drop (i + length (take (position_or_len ends_word (drop i piece)) (drop i piece))) piece ≡ drop (position_or_len ends_word (drop i piece)) (drop i piece) =
+    ap (λ (m : ℕ). drop (i + m) piece) len ∙ sym (drop-drop (position_or_len ends_word (drop i piece)) i piece) in
+    let whole = take-append-drop (position_or_len ends_word (drop i piece)) (drop i piece) in
+    let read = rw (part.means, part.len) at e in
+    let v = bind_ok (placed i (value_of (take (position_or_len ends_word (drop i piece)) (drop i piece)))) _ (value, j) read in
+    let same = ok_pair v.0 value (i + length (take (position_or_len ends_word (drop i piece)) (drop i piece))) j v.2 in
+    subst (λ (m : ℕ). ValueRead piece i m value) same.1 (record {
+      text = take (position_or_len ends_word (drop i piece)) (drop i piece);
+      is = inr (record {
+        none = split.0;
+        no_quote = no_quote _ (drop (position_or_len ends_word (drop i piece)) (drop i piece)) (ap (λ (l : List ℕ). get_or l 0 0 == 34) whole ∙ ap (λ (b : ℕ). b == 34) (first_there piece i) ∙ first);
+        says = placed_ok i (value_of _) v.0 v.1 ∙ ap Ok same.0;
+      });
+      ends = subst (Meets ends_word) (sym rest) split.1;
+      spans = record {
+        is = sym whole ∙ ap (λ (t : List ℕ). take (position_or_len ends_word (drop i piece)) (drop i piece) ++ t) (sym rest);
+        more = omega arith;
+        within = omega (arith, len, short, length-drop i piece);
+      };
+    })
+
+value_end_meets : (piece : List ℕ) (i : ℕ) → i ≤ length piece → is_value_end piece i ≡ true → Meets ends_word (drop i piece)
+value_end_meets piece i le e = elim (i == length piece) as (λ t. (i == length piece) ≡ t → (t || get_or piece i 0 == 44 || get_or piece i 0 == 32) ≡ true → Meets ends_word (drop i piece)) [
+  | true ↦ λ test e. subst (Meets ends_word) (sym (drop_all i piece (omega (arith, eqb-true i (length piece) test)))) tt
+  | false ↦ λ test e. first_meets (drop i piece) (ap ends_word (first_there piece i) ∙ e)
+] refl e
+  where
+    first_meets : (bs : List ℕ) → ends_word (get_or bs 0 0) ≡ true → Meets ends_word bs
+    first_meets [] e = tt
+    first_meets (b ∷ bs) e = e
+
+quoted_again : (piece : List ℕ) (i j : ℕ) (value : Value) → get_or piece i 0 ≡ 34 → text_value_at piece i ≡ Ok (value, j)
+    → ValueRead piece i j value
+unfolding text_value_at
+quoted_again piece i j value first e =
+    let open_quote = byte_spans piece i 34 (omega arith) first in
+    let part = part_again text_part piece (i + 1) open_quote.within in
+    let n = length (spelled part.marks) in
+    let read = rw (part.means, part.len) at e in
+    let ok = chosen_ok (not (get_or piece (i + 1 + length (spelled part.marks)) 0 == 34) || not (is_value_end piece (i + 1 + length (spelled part.marks) + 1))) _ _ _ read in
+    let both = or_false (not (get_or piece (i + 1 + length (spelled part.marks)) 0 == 34)) (not (is_value_end piece (i + 1 + length (spelled part.marks) + 1))) ok.0 in
+    let close : get_or piece (i + 1 + length (spelled part.marks)) 0 ≡ 34 = eqb-true (get_or piece (i + 1 + length (spelled part.marks)) 0) 34 (not_false _ both.0) in
+    let close_quote = byte_spans piece (i + 1 + length (spelled part.marks)) 34 (omega arith) close in
+    let same = ok_pair _ _ _ _ ok.1 in
+    let ends = value_end_meets piece (i + 1 + length (spelled part.marks) + 1) close_quote.within (not_false _ both.1) in
+    subst (λ (m : ℕ). ValueRead piece i m value) same.1 (record {
+      text = 34 ∷ (spelled part.marks ++ 34 ∷ []);
+      is = inl (record {
+        marks = part.marks;
+        is = refl;
+        part = subst (IsPart text_part part.marks) (byte_at piece (i + 1 + length (spelled part.marks)) 34 (omega arith) close) part.part;
+        says = same.0;
+      });
+      ends = ends;
+      spans = joins piece i (i + 1) (i + 1 + length (spelled part.marks) + 1) (34 ∷ []) (spelled part.marks ++ 34 ∷ []) open_quote
+          (joins piece (i + 1) (i + 1 + length (spelled part.marks)) (i + 1 + length (spelled part.marks) + 1) (spelled part.marks) (34 ∷ []) part.spans close_quote);
+    })
+
+pub value_again : (piece : List ℕ) (i j : ℕ) (value : Value) → i ≤ length piece → value_at piece i ≡ Ok (value, j) → ValueRead piece i j value
+unfolding value_at
+value_again piece i j value le e = elim (get_or piece i 0 == 34) as (λ t. (get_or piece i 0 == 34) ≡ t
+    → cond t (text_value_at piece i) (plain_value_at piece i) ≡ Ok (value, j) → ValueRead piece i j value) [
+      | true ↦ λ test e. quoted_again piece i j value (eqb-true (get_or piece i 0) 34 test) e
+      | false ↦ λ test e. unquoted_again piece i j value le test e
+    ] refl e
+
+pub field_again : (piece : List ℕ) (i j : ℕ) (field : Field) → i ≤ length piece → field_at piece i ≡ Ok (field, j) → PairRead IsField piece i j field
 unfolding field_at
-field_again piece bare unquoted i j field le e =
+field_again piece i j field le e =
     let k = bind_ok (key_at piece i) _ (field, j) e in
-    let key = key_again piece i k.0.1 k.0.0 bare le k.1 in
+    let key = key_again piece i k.0.1 k.0.0 le k.1 in
     let v = bind_ok (value_at piece k.0.1) _ (field, j) k.2 in
-    let value = value_again piece k.0.1 v.0.1 v.0.0 bare unquoted key.spans.within v.1 in
+    let value = value_again piece k.0.1 v.0.1 v.0.0 key.spans.within v.1 in
     let same = ok_pair (k.0.0, v.0.0) field v.0.1 j v.2 in
-    let both : Spans piece i v.0.1 (pair_text (k.0.0, value.text)) = subst (Spans piece i v.0.1) (append_assoc k.0.0 (61 ∷ []) value.text) (joins piece i k.0.1 v.0.1 (k.0.0 ++ 61 ∷ []) value.text key.spans value.spans) in
-    subst (λ (m : ℕ). PairRead IsField piece i m field) same.1 (record { pair = (k.0.0, value.text); is = record { key = key.made; same = ap (λ (f : Field). f.0) same.0; text = value.none; value = value.is ∙ ap (λ (f : Field). Ok f.1) same.0 }; ends = value.ends; spans = both })
+    let both : Spans piece i v.0.1 (pair_text (key.word, value.text)) = subst (Spans piece i v.0.1) (append_assoc key.word (61 ∷ []) value.text) (joins piece i k.0.1 v.0.1 (key.word ++ 61 ∷ []) value.text key.spans value.spans) in
+    let front : IsWritten key_part key.word (61 ∷ (value.text ++ drop v.0.1 piece)) k.0.0 = subst (λ (t : List ℕ). IsWritten key_part key.word (61 ∷ t) k.0.0) value.spans.is key.written in
+    subst (λ (f : Field). PairRead IsField piece i j f) same.0 (subst (λ (m : ℕ). PairRead IsField piece i m (k.0.0, v.0.0)) same.1 (record {
+      pair = (key.word, value.text);
+      is = record { key = front; value = value.is };
+      ends = value.ends;
+      spans = both;
+    }))
 
 -- ---- lists of pairs
 
-pub record PairsRead {X : Type 0} (Is : List ℕ × List ℕ → X → Type 0) (piece : List ℕ) (i j : ℕ) (xs : List X) : Type 0 where
+pub record PairsRead {X : Type 0} (Is : Meaning X) (piece : List ℕ) (i j : ℕ) (xs : List X) : Type 0 where
   pub pairs : List (List ℕ × List ℕ)
-  pub are : AllAre Is pairs xs
+  pub are : AllAre Is pairs (drop j piece) xs
   pub no_comma : get_or piece j 0 ≢ 44
   pub ends : Meets ends_word (drop j piece)
   pub spans : Spans piece i j (pairs_text pairs)
@@ -229,7 +349,7 @@ pub record PairsRead {X : Type 0} (Is : List ℕ × List ℕ → X → Type 0) (
 none_spans : (piece : List ℕ) (i : ℕ) → i ≤ length piece → Spans piece i i []
 none_spans piece i le = record { is = refl; more = omega arith; within = le }
 
-no_more : {X : Type 0} (Is : List ℕ × List ℕ → X → Type 0) (piece : List ℕ) (i j : ℕ) (xs : List X) → i ≤ length piece → get_or piece i 0 ≢ 44 → Meets ends_word (drop i piece) → let l : Result (List X × ℕ) LineFault = Ok ([], i) in l ≡ Ok (xs, j) → PairsRead Is piece i j xs
+no_more : {X : Type 0} (Is : Meaning X) (piece : List ℕ) (i j : ℕ) (xs : List X) → i ≤ length piece → get_or piece i 0 ≢ 44 → Meets ends_word (drop i piece) → let l : Result (List X × ℕ) LineFault = Ok ([], i) in l ≡ Ok (xs, j) → PairsRead Is piece i j xs
 no_more {X} Is piece i j xs le no_comma ends e =
     let same = ok_pair {F = LineFault} {A = List X} [] xs i j e in
     subst (λ (ys : List X). PairsRead Is piece i j ys) same.0 (subst (λ (m : ℕ). PairsRead Is piece i m []) same.1 (record { pairs = []; are = tt; no_comma = no_comma; ends = ends; spans = none_spans piece i le }))
@@ -238,7 +358,7 @@ listed : {X : Type 0} → X → List X × ℕ → Result (List X × ℕ) LineFau
 listed x others = Ok (x ∷ others.0, others.1)
 
 -- the list in front of an item
-one_again : {X : Type 0} (item_at : Reader X LineFault) (Is : List ℕ × List ℕ → X → Type 0) (piece : List ℕ)
+one_again : {X : Type 0} (item_at : Reader X LineFault) (Is : Meaning X) (piece : List ℕ)
     → ((i j : ℕ) (x : X) → i ≤ length piece → item_at piece i ≡ Ok (x, j) → PairRead Is piece i j x)
     → (n i j : ℕ) (xs : List X) → ((k l : ℕ) (ys : List X) → i < k → k ≤ length piece → Meets ends_word (drop k piece) → many_at item_at 44 n piece k ≡ Ok (ys, l) → PairsRead Is piece k l ys)
     → get_or piece i 0 ≡ 44 → (item_at piece (i + 1) >>= λ first. many_at item_at 44 n piece first.1 >>= λ others. listed first.0 others) ≡ Ok (xs, j) → PairsRead Is piece i j xs
@@ -251,9 +371,9 @@ one_again {X} item_at Is piece again n i j xs others_again comma e =
     let others = others_again f.0.1 o.0.1 o.0.0 (omega (arith, first.spans.more)) first.spans.within first.ends o.1 in
     let same = ok_pair (f.0.0 ∷ o.0.0) xs o.0.1 j o.2 in
     let all : Spans piece i o.0.1 (pairs_text (first.pair ∷ others.pairs)) = joins piece i (i + 1) o.0.1 (44 ∷ []) (pair_text first.pair ++ pairs_text others.pairs) start (joins piece (i + 1) f.0.1 o.0.1 (pair_text first.pair) (pairs_text others.pairs) first.spans others.spans) in
-    subst (λ (ys : List X). PairsRead Is piece i j ys) same.0 (subst (λ (m : ℕ). PairsRead Is piece i m (f.0.0 ∷ o.0.0)) same.1 (record { pairs = first.pair ∷ others.pairs; are = (first.is, others.are); no_comma = others.no_comma; ends = others.ends; spans = all }))
+    subst (λ (ys : List X). PairsRead Is piece i j ys) same.0 (subst (λ (m : ℕ). PairsRead Is piece i m (f.0.0 ∷ o.0.0)) same.1 (record { pairs = first.pair ∷ others.pairs; are = (subst (λ (t : List ℕ). Is first.pair t f.0.0) others.spans.is first.is, others.are); no_comma = others.no_comma; ends = others.ends; spans = all }))
 
-pub many_again : {X : Type 0} (item_at : Reader X LineFault) (Is : List ℕ × List ℕ → X → Type 0) (piece : List ℕ)
+pub many_again : {X : Type 0} (item_at : Reader X LineFault) (Is : Meaning X) (piece : List ℕ)
     → ((i j : ℕ) (x : X) → i ≤ length piece → item_at piece i ≡ Ok (x, j) → PairRead Is piece i j x)
     → (n i j : ℕ) (xs : List X) → length piece ≤ n + i → i ≤ length piece → Meets ends_word (drop i piece) → many_at item_at 44 n piece i ≡ Ok (xs, j) → PairsRead Is piece i j xs
 unfolding many_at listed
@@ -384,38 +504,57 @@ time_again piece i time moment le ends no_comma e = elim (behind_spaces piece i 
 
 -- ---- fields
 
-pub fields_again : (piece : List ℕ) → IsBare piece → IsUnquoted piece → (i j : ℕ) (fields : List Field) → i ≤ length piece → fields_at piece i ≡ Ok (fields, j)
-    → (w : List ℕ × List ℕ) × (ws : List (List ℕ × List ℕ)) × AllAre IsField (w ∷ ws) fields × (get_or piece j 0 ≢ 44) × Meets ends_word (drop j piece) × Spans piece i j (pair_text w ++ pairs_text ws)
-unfolding fields_at
-fields_again piece bare unquoted i j fields le e =
-    let f = bind_ok (field_at piece i) _ (fields, j) e in
-    let first = field_again piece bare unquoted i f.0.1 f.0.0 le f.1 in
-    let o = bind_ok (items_at field_at 44 piece f.0.1) _ (fields, j) f.2 in
-    let others = many_again field_at IsField piece (field_again piece bare unquoted) (length piece) f.0.1 o.0.1 o.0.0 (omega arith) first.spans.within first.ends o.1 in
-    let same = ok_pair (f.0.0 ∷ o.0.0) fields o.0.1 j o.2 in
-    let all : Spans piece i o.0.1 (pair_text first.pair ++ pairs_text others.pairs) = joins piece i f.0.1 o.0.1 (pair_text first.pair) (pairs_text others.pairs) first.spans others.spans in (
-      first.pair,
-      others.pairs,
-      subst (λ (fs : List Field). AllAre IsField (first.pair ∷ others.pairs) fs) same.0 (first.is, others.are),
-      subst (λ (m : ℕ). get_or piece m 0 ≢ 44) same.1 others.no_comma,
-      subst (λ (m : ℕ). Meets ends_word (drop m piece)) same.1 others.ends,
-      subst (λ (m : ℕ). Spans piece i m (pair_text first.pair ++ pairs_text others.pairs)) same.1 all,
-    )
+pub record FieldsRead (piece : List ℕ) (i j : ℕ) (fields : List Field) : Type 0 where
+  pub first : List ℕ × List ℕ
+  pub others : List (List ℕ × List ℕ)
+  pub are : AllAre IsField (first ∷ others) (drop j piece) fields
+  pub no_comma : get_or piece j 0 ≢ 44
+  pub ends : Meets ends_word (drop j piece)
+  pub spans : Spans piece i j (pair_text first ++ pairs_text others)
 
-pub spaced_fields_again : (piece : List ℕ) → IsBare piece → IsUnquoted piece → (i j : ℕ) (fields : List Field) → i ≤ length piece → Meets ends_word (drop i piece) → get_or piece i 0 ≢ 44 → spaced_fields_at piece i ≡ Ok (fields, j)
-    → (gap : ℕ) × (w : List ℕ × List ℕ) × (ws : List (List ℕ × List ℕ)) × (0 < gap) × AllAre IsField (w ∷ ws) fields × (get_or piece j 0 ≢ 44) × Meets ends_word (drop j piece) × Spans piece i j (spaces gap ++ (pair_text w ++ pairs_text ws))
+pub fields_again : (piece : List ℕ) (i j : ℕ) (fields : List Field) → i ≤ length piece → fields_at piece i ≡ Ok (fields, j)
+    → FieldsRead piece i j fields
+unfolding fields_at
+fields_again piece i j fields le e =
+    let f = bind_ok (field_at piece i) _ (fields, j) e in
+    let first = field_again piece i f.0.1 f.0.0 le f.1 in
+    let o = bind_ok (items_at field_at 44 piece f.0.1) _ (fields, j) f.2 in
+    let others = many_again field_at IsField piece (field_again piece) (length piece) f.0.1 o.0.1 o.0.0 (omega arith) first.spans.within first.ends o.1 in
+    let same = ok_pair (f.0.0 ∷ o.0.0) fields o.0.1 j o.2 in
+    let all : Spans piece i o.0.1 (pair_text first.pair ++ pairs_text others.pairs) = joins piece i f.0.1 o.0.1 (pair_text first.pair) (pairs_text others.pairs) first.spans others.spans in
+    subst (λ (fs : List Field). FieldsRead piece i j fs) same.0 (subst (λ (m : ℕ). FieldsRead piece i m (f.0.0 ∷ o.0.0)) same.1 (record {
+      first = first.pair;
+      others = others.pairs;
+      are = (subst (λ (t : List ℕ). IsField first.pair t f.0.0) others.spans.is first.is, others.are);
+      no_comma = others.no_comma;
+      ends = others.ends;
+      spans = all;
+    }))
+
+-- the fields behind spaces
+pub record SpacedRead (piece : List ℕ) (i j : ℕ) (fields : List Field) : Type 0 where
+  pub gap : ℕ
+  pub some : 0 < gap
+  pub start : ℕ
+  pub spaces_span : Spans piece i start (spaces gap)
+  pub fields_read : FieldsRead piece start j fields
+
+pub spaced_fields_again : (piece : List ℕ) (i j : ℕ) (fields : List Field) → i ≤ length piece → Meets ends_word (drop i piece)
+    → get_or piece i 0 ≢ 44 → spaced_fields_at piece i ≡ Ok (fields, j) → SpacedRead piece i j fields
 unfolding spaced_fields_at
-spaced_fields_again piece bare unquoted i j fields le ends no_comma e =
+spaced_fields_again piece i j fields le ends no_comma e =
     let s = spaces_again piece i le in
     let ok = chosen_ok (behind_spaces piece i == length piece) _ _ _ e in
     let lt : i < length piece = not_all piece i (behind_spaces piece i) s.spans.more s.spans.within (eqb-false (behind_spaces piece i) (length piece) ok.0) in
-    let f = fields_again piece bare unquoted (behind_spaces piece i) j fields s.spans.within ok.1 in
-    (s.count, f.0, f.1, passes_one piece i (behind_spaces piece i) (space_there piece i lt ends no_comma) s, f.2, f.3, f.4, joins piece i (behind_spaces piece i) j (spaces s.count) (pair_text f.0 ++ pairs_text f.1) s.spans f.5)
+    record {
+      gap = s.count;
+      some = passes_one piece i (behind_spaces piece i) (space_there piece i lt ends no_comma) s;
+      start = behind_spaces piece i;
+      spaces_span = s.spans;
+      fields_read = fields_again piece (behind_spaces piece i) j fields s.spans.within ok.1;
+    }
 
 -- ---- the line
-
-first_byte : (piece : List ℕ) (i : ℕ) → get_or (drop i piece) 0 0 ≡ get_or piece i 0
-first_byte piece i = get_or-drop i piece 0 0 ∙ rw add-zero refl
 
 ok_line : (a b : Line) → let l : Result Line LineFault = Ok a in l ≡ Ok b → a ≡ b
 ok_line a b e = cc
@@ -429,37 +568,42 @@ pub record LineRead (piece : List ℕ) (i before : ℕ) (line : Line) (moment : 
   pub written : Written
   pub same : written.before ≡ before
   pub is : IsLine written line moment
-  pub text : drop i piece ≡ written.name ++ (pairs_text written.tags ++ (spaces written.gap ++ (pair_text written.first ++ (pairs_text written.others ++ (time_text written.time ++ spaces written.after)))))
+  pub text : drop i piece ≡ written.name ++ behind_name written
 
-pub line_again : (piece : List ℕ) → IsBare piece → IsUnquoted piece → (i before : ℕ) (line : Line) (moment : ℤ) → i ≤ length piece → (get_or piece i 0 == 35) ≡ false → line_at piece i moment ≡ Ok line → LineRead piece i before line moment
+pub line_again : (piece : List ℕ) (i before : ℕ) (line : Line) (moment : ℤ) → i ≤ length piece → (get_or piece i 0 == 35) ≡ false
+    → line_at piece i moment ≡ Ok line → LineRead piece i before line moment
 unfolding line_at tags_at
-line_again piece bare unquoted i before line moment le no_comment e =
+line_again piece i before line moment le no_comment e =
     let n = bind_ok (name_at piece i) _ line e in
-    let name = name_again piece i n.0.1 n.0.0 bare le n.1 in
+    let name = name_again piece i n.0.1 n.0.0 le n.1 in
     let t = bind_ok (items_at tag_at 44 piece n.0.1) _ line n.2 in
-    let tags = many_again tag_at IsTag piece (tag_again piece bare) (length piece) n.0.1 t.0.1 t.0.0 (omega arith) name.spans.within name.ends t.1 in
+    let tags = many_again tag_at IsTag piece (tag_again piece) (length piece) n.0.1 t.0.1 t.0.0 (omega arith) name.spans.within
+    (ends_meet name_part name.written.marks (drop n.0.1 piece) name.written.part) t.1 in
     let f = bind_ok (spaced_fields_at piece t.0.1) _ line t.2 in
-    let fields = spaced_fields_again piece bare unquoted t.0.1 f.0.1 f.0.0 tags.spans.within tags.ends tags.no_comma f.1 in
+    let spaced = spaced_fields_again piece t.0.1 f.0.1 f.0.0 tags.spans.within tags.ends tags.no_comma f.1 in
+    let fields = spaced.fields_read in
     let m = bind_ok (time_at piece f.0.1 moment) _ line f.2 in
-    let time = time_again piece f.0.1 m.0 moment fields.7.within fields.6 fields.5 m.1 in
+    let time = time_again piece f.0.1 m.0 moment fields.spans.within fields.ends fields.no_comma m.1 in
     let made : Line = record { name = n.0.0; tags = t.0.0; fields = f.0.0; time = m.0 } in
     let same : record { name = n.0.0; tags = t.0.0; fields = f.0.0; time = m.0 } ≡ line = ok_line made line m.2 in
-    let behind : drop t.0.1 piece ≡ spaces fields.0 ++ (pair_text fields.1 ++ (pairs_text fields.2 ++ (time_text time.written ++ spaces time.after))) =
-    fields.7.is ∙ ap (λ (x : List ℕ). (spaces fields.0 ++ (pair_text fields.1 ++ pairs_text fields.2)) ++ x) time.text ∙ append_assoc (spaces fields.0) (pair_text fields.1 ++ pairs_text fields.2) (time_text time.written ++ spaces time.after)
-    ∙ ap (λ (x : List ℕ). spaces fields.0 ++ x) (append_assoc (pair_text fields.1) (pairs_text fields.2) (time_text time.written ++ spaces time.after)) in
+    let w : Written = record { before = before; name = name.word; tags = tags.pairs; gap = spaced.gap; first = fields.first; others = fields.others; time = time.written; after = time.after } in
+    let behind : drop t.0.1 piece ≡ spaces spaced.gap ++ (pair_text fields.first ++ (pairs_text fields.others ++ (time_text time.written ++ spaces time.after))) =
+    spaced.spaces_span.is ∙ ap (λ (x : List ℕ). spaces spaced.gap ++ x) (fields.spans.is ∙ ap (λ (x : List ℕ). (pair_text fields.first ++ pairs_text fields.others) ++ x) time.text
+    ∙ append_assoc (pair_text fields.first) (pairs_text fields.others) (time_text time.written ++ spaces time.after)) in
+    let behind_word : drop n.0.1 piece ≡ pairs_text tags.pairs ++ (spaces spaced.gap ++ (pair_text fields.first ++ (pairs_text fields.others ++ (time_text time.written ++ spaces time.after)))) =
+    tags.spans.is ∙ ap (λ (x : List ℕ). pairs_text tags.pairs ++ x) behind in
     subst (λ (l : Line). LineRead piece i before l moment) same (record {
-      written = record { before = before; name = n.0.0; tags = tags.pairs; gap = fields.0; first = fields.1; others = fields.2; time = time.written; after = time.after };
+      written = record { before = before; name = name.word; tags = tags.pairs; gap = spaced.gap; first = fields.first; others = fields.others; time = time.written; after = time.after };
       same = refl;
       is = record {
-        name = name.made;
-        no_comment = no_hash n.0.0 (drop n.0.1 piece) name.made.some (ap (λ (l : List ℕ). get_or l 0 0 == 35) (sym name.spans.is) ∙ ap (λ (b : ℕ). b == 35) (first_byte piece i) ∙ no_comment);
-        same_name = refl;
-        tags = tags.are;
-        gap = fields.3;
-        fields = fields.4;
+        name = subst (λ (r : List ℕ). IsWritten name_part name.word r n.0.0) behind_word name.written;
+        no_comment = no_hash name.word (drop n.0.1 piece) name.written.some (ap (λ (l : List ℕ). get_or l 0 0 == 35) (sym name.spans.is) ∙ ap (λ (b : ℕ). b == 35) (first_there piece i) ∙ no_comment);
+        tags = subst (λ (r : List ℕ). AllAre IsTag tags.pairs r t.0.0) behind tags.are;
+        gap = spaced.some;
+        fields = subst (λ (r : List ℕ). AllAre IsField (fields.first ∷ fields.others) r f.0.0) time.text fields.are;
         time = time.is;
       };
-      text = name.spans.is ∙ ap (λ (x : List ℕ). n.0.0 ++ x) (tags.spans.is ∙ ap (λ (x : List ℕ). pairs_text tags.pairs ++ x) behind);
+      text = name.spans.is ∙ ap (λ (x : List ℕ). name.word ++ x) behind_word;
     })
 
 some_ok : (r : Result Line LineFault) (content : Content) → (r >>= limited) ≡ Ok (Some content) → (line : Line) × (r ≡ Ok line) × (has_too_many line.tags line.fields ≡ false) × (content ≡ content_of line)
@@ -475,19 +619,20 @@ not_none : (t : Bool) (r : Result (Option Content) LineFault) (content : Content
 not_none true r content e = absurd cc
 not_none false r content e = (refl, e)
 
-pub read_is_written : (piece : List ℕ) (moment : ℤ) (content : Content) → needs_escapes piece ≡ false → reading piece moment ≡ Ok (Some content)
-    → (w : Written) × (line : Line) × (piece ≡ line_spelling w) × IsUtf8 piece × IsLine w line moment × (has_too_many line.tags line.fields ≡ false) × (content ≡ content_of line)
+pub read_is_written : (piece : List ℕ) (moment : ℤ) (content : Content) → reading piece moment ≡ Ok (Some content)
+    → (w : Written) × (line : Line) × (piece ≡ line_spelling w) × IsUtf8 piece × IsLine w line moment
+    × (has_too_many line.tags line.fields ≡ false) × (content ≡ content_of line)
 unfolding reading text_reading metric_at
-read_is_written piece moment content plain e =
+read_is_written piece moment content e =
     let whole = utf8_chosen (is_utf8 piece) _ _ (Some content) e in
     let text = not_none (is_blank_or_comment piece) _ content whole.1 in
     let first = or_false (behind_spaces piece 0 == length piece) (get_or piece (behind_spaces piece 0) 0 == 35) text.0 in
     let read = some_ok (line_at piece (behind_spaces piece 0) moment) content text.1 in
     let s = spaces_again piece 0 (omega arith) in
-    let line = line_again piece (bare piece plain) (unquoted piece plain) (behind_spaces piece 0) s.count read.0 moment s.spans.within first.1 read.1 in (
+    let line = line_again piece (behind_spaces piece 0) s.count read.0 moment s.spans.within first.1 read.1 in (
       line.written,
       read.0,
-      s.spans.is ∙ ap (λ (t : List ℕ). spaces s.count ++ t) line.text ∙ ap (λ (n : ℕ). spaces n ++ (line.written.name ++ (pairs_text line.written.tags ++ (spaces line.written.gap ++ (pair_text line.written.first ++ (pairs_text line.written.others ++ (time_text line.written.time ++ spaces line.written.after))))))) (sym line.same),
+      s.spans.is ∙ ap (λ (t : List ℕ). spaces s.count ++ t) line.text ∙ ap (λ (n : ℕ). spaces n ++ (line.written.name ++ behind_name line.written)) (sym line.same),
       IsUtf8-from_is_utf8 piece whole.0,
       line.is,
       read.2,

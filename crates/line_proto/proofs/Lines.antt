@@ -1,15 +1,12 @@
 -- A whole line.
-use Rattle.std.proofs.Common.{◌≡◌, ◌≢◌, ℕ, ℤ, ◌<◌, true, false, cond, ltb, get_or, List, [], ◌∷◌, length, Result, Ok, Err, Option, refl, sym, ap, subst, ◌∙◌, arith, inl, inr}
-use Rattle.std.specs.Prelude.{◌||◌, ◌==◌, ◌⊎◌}
+use Rattle.std.proofs.Common.{◌≡◌, ℕ, ℤ, ◌<◌, true, false, cond, List, [], ◌∷◌, length, Result, Ok, Err, Option, refl, sym, ap, subst, arith}
+use Rattle.std.specs.Prelude.{◌==◌}
 use Rattle.std.specs.Str.Lossy.{utf8_valid_len}
 use Rattle.std.specs.Str.{IsUtf8, is_utf8}
 use Rattle.std.proofs.lemmas.Str.{IsUtf8-from_is_utf8, is_utf8-from_IsUtf8}
-use Rattle.std.proofs.lemmas.Bool.{ne_eqb, ltb-true, ltb-false}
-use Rattle.std.proofs.lemmas.List.{get_or_past}
-use Rattle.std.proofs.lemmas.List.Folds.{list_any_at}
-use Rattle.text_parts.specs.Bare.{IsBare}
+use Rattle.std.proofs.lemmas.Bool.{ne_eqb}
 use Rattle.line_proto.specs.declared.draft.Draft.{Draft}
-use Rattle.line_proto.specs.Draft.{IsUnquoted, StandsFor, IsReady}
+use Rattle.line_proto.specs.Draft.{StandsFor, IsReady}
 use Rattle.line_proto.proofs.Drafts.{longer_pair}
 use Rattle.text_parts.specs.Many.{items_at}
 use Rattle.text_parts.specs.declared.error.ReadError.{ReadError}
@@ -22,7 +19,7 @@ use Rattle.metric.specs.Building.{Parts, finished, Finishes}
 use Rattle.metric.specs.Pairs.{has_empty_key, with_values, with_pair, in_first_order, in_first_order_on}
 use Rattle.line_proto.specs.declared.fault.LineFault.{LineFault}
 use Rattle.line_proto.specs.declared.fault.LineKind.TheVariants.{NotUtf8, NoFields}
-use Rattle.line_proto.specs.Reading.{Tag, Field, fault, behind_spaces, field_at, fields_at, name_at, tags_at, spaced_fields_at, time_at, line_at, limited, metric_at, text_reading, reading, needs_escapes}
+use Rattle.line_proto.specs.Reading.{Tag, Field, fault, behind_spaces, field_at, fields_at, name_at, tags_at, spaced_fields_at, time_at, line_at, limited, metric_at, text_reading, reading}
 use Rattle.std.proofs.lemmas.Int.{to_z-of_z}
 use mir.Val.{SFits, of_z, to_z}
 use mir.Syntax.{w64}
@@ -133,27 +130,6 @@ not_utf8 piece n moment not len =
 pub read_utf8 : (piece : List ℕ) (moment : ℤ) → IsUtf8 piece → reading piece moment ≡ text_reading piece moment
 unfolding reading
 read_utf8 piece moment u = rw (is_utf8-from_IsUtf8 piece u) refl
-
--- ---- pieces without a backslash and a double quote
-
-none_at : (b : ℕ) (bytes : List ℕ) → (b ≡ 92) ⊎ (b ≡ 34) → needs_escapes bytes ≡ false → (k : ℕ) → get_or bytes k 0 ≢ b
-none_at b bytes which none k e = elim (ltb k (length bytes)) as (λ t. ltb k (length bytes) ≡ t → ⊥) [
-  | true ↦ λ lt. absurd (true_false (sym (list_any_at (λ x. x == 92 || x == 34) bytes k 0 (ltb-true k (length bytes) lt) (rw e (passes which))) ∙ none))
-  | false ↦ λ ge. elim which [ inl x ↦ absurd (omega (arith, get_or_past bytes k 0 (ltb-false k (length bytes) ge), e, x)) | inr y ↦ absurd (omega (arith, get_or_past bytes k 0 (ltb-false k (length bytes) ge), e, y)) ]
-] refl
-  where
-    passes : (b ≡ 92) ⊎ (b ≡ 34) → (b == 92 || b == 34) ≡ true
-    passes (inl x) = rw x refl
-    passes (inr y) = rw y refl
-
-    true_false : true ≡ false → ⊥
-    true_false e = cc
-
-pub bare : (bytes : List ℕ) → needs_escapes bytes ≡ false → IsBare bytes
-bare bytes none = record { each = none_at 92 bytes (inl refl) none }
-
-pub unquoted : (bytes : List ℕ) → needs_escapes bytes ≡ false → IsUnquoted bytes
-unquoted bytes none = record { each = none_at 34 bytes (inr refl) none }
 
 -- ---- a moment that was handed on
 

@@ -26,7 +26,7 @@ use Rattle.metric.specs.declared.value.Value.TheVariants.{Int, Uint, Fixed, «Bo
 use Rattle.line_proto.specs.Grammar.{HasNone, ends_word, is_space}
 use Rattle.line_proto.specs.LineText.{value_text}
 use Rattle.metric.specs.Metric.{IsValue}
-use Rattle.line_proto.specs.RoundTrip.{IsNoText}
+use Rattle.line_proto.proofs.PlainBytes.{IsNoText}
 use Rattle.line_proto.specs.Values.{value_of, number_of, time_of, typed, truth_of, begins_truth, last_byte, before_last_byte}
 use Rattle.line_proto.proofs.PlainBytes.{none-append, none-at, is_unclean, Clean, clean-append, clean_word}
 use Rattle.line_proto.proofs.Words.{no_truth}

@@ -1,86 +1,229 @@
 -- The line of a plain metric is read as the metric.
-use Rattle.std.proofs.Common.{◌≡◌, ℕ, ℤ, false, List, [], ◌∷◌, ◌++◌, map, Option, Some, Result, Ok, refl, ap, ◌∙◌, arith, append_assoc}
-use Rattle.std.specs.Prelude.{codes}
+use Rattle.std.proofs.Common.{◌≡◌, ◌<◌, ◌-◌, ℕ, ℤ, true, false, Bool, cond, List, [], ◌∷◌, ◌++◌, length, map, reverse, Some}
+use Rattle.std.proofs.Common.{Ok, refl, sym, ap, subst, ◌∙◌, arith, append_assoc, inl, inr, get_or, ◌+◌}
+use Rattle.std.specs.Prelude.{codes, ◌==◌, ◌||◌, ◌⊎◌}
 use Rattle.std.specs.Fmt.{signed_decimal}
-use Rattle.std.specs.List.{AllByRecursion, flat_map}
-use Rattle.std.proofs.lemmas.List.{append-nil}
+use Rattle.std.specs.List.{AllByRecursion, flat_map, prefix_len, suffix_len}
+use Rattle.std.specs.Str.{IsUtf8}
+use Rattle.std.proofs.lemmas.Bool.{or_parts}
+use Rattle.std.proofs.lemmas.List.{append-nil, reverse-append, length-append, take_all}
+use Rattle.std.proofs.lemmas.Str.{IsUtf8-append}
+use Rattle.text_parts.specs.Grammar.{Escaped, Bare, spelled, Ends}
+use Rattle.text_parts.specs.Part.{Kind}
 use Rattle.metric.specs.declared.metric.Content.{Content}
+use Rattle.metric.specs.declared.value.Value.{Value}
+use Rattle.metric.specs.declared.value.Value.TheVariants.{Int, Uint, Fixed, «Bool» as Truth, Text}
 use Rattle.metric.specs.Metric as metrics
-use Rattle.metric.specs.Metric.{IsMetric, IsFilled}
+use Rattle.metric.specs.Metric.{IsMetric, IsWord, IsValue}
 use Rattle.metric.specs.Pairs.{in_key_order, in_first_order, with_values}
-use Rattle.line_proto.specs.declared.fault.LineFault.{LineFault}
-use Rattle.line_proto.specs.Grammar.{HasNone, ends_word, ends_key, IsMadeOf, Written, pair_text, pairs_text, line_spelling, IsTag, IsField, AllAre, IsLine}
-use Rattle.line_proto.specs.LineText.{value_text, tag_text, field_text, head_text, line_text}
-use Rattle.line_proto.specs.Reading.{Tag, Field, Line, content_of, needs_escapes, reading}
+use Rattle.line_proto.specs.Kinds.{name_part, key_part, tag_value_part, text_part}
+use Rattle.line_proto.specs.Grammar.{HasNone, NoHash, NoQuote, IsWritten, Written, pair_text, pairs_text, line_spelling, IsTag, IsField}
+use Rattle.line_proto.specs.Grammar.{IsQuoted, IsUnquoted, AllAre, IsLine}
+use Rattle.line_proto.specs.LineText.{on_one_line, trimmed, escaped, name_text, key_text, value_text, tag_text, field_text}
+use Rattle.line_proto.specs.LineText.{head_text, line_text}
+use Rattle.line_proto.specs.Reading.{Tag, Field, Line, content_of, reading}
 use Rattle.line_proto.specs.OneLine.{ends_line}
-use Rattle.line_proto.specs.RoundTrip.{is_name_mark, is_key_mark, IsPlainKey, IsNoText, IsPlain}
+use Rattle.line_proto.specs.RoundTrip.{NoBackslashEnd, IsPlainWord, IsPlainValue, IsPlain}
+use Rattle.line_proto.proofs.EscapedParts.{marks_for, spelled_is, means_text, Suits, Closes, escaped_is_part, ends_before, is_mark}
+use Rattle.line_proto.proofs.EscapedParts.{escaped-IsUtf8, name_marks, key_marks, suits_name, suits_key, suits_tag_value}
+use Rattle.line_proto.proofs.EscapedParts.{one_ascii, suits_text, name_low, key_low, text_low}
 use Rattle.line_proto.proofs.KeptPairs.{sorted_stay, distinct_stay, filled_stay, few}
 use Rattle.line_proto.proofs.NumberTexts.{plain_value, plain_time}
-use Rattle.line_proto.proofs.PlainBytes.{none-weaken, ends_name, ends_its_key, ends_its_value, Clean, clean-append, clean_name, clean_key, clean_line, clean_escapes, clean_none, clean_space, clean_pair, clean_pairs, plain_key, plain_name}
+use Rattle.line_proto.proofs.PlainBytes.{Clean, IsNoText}
+use Rattle.line_proto.proofs.SingleLines.{single}
 use Rattle.line_proto.proofs.Takes.{written_is_read}
+use Rattle.line_proto.proofs.WriteLemmas.{kept_key, kept_name}
+
+-- ---- texts that are written but for escapes
+
+one_line_is : (text : List ℕ) → HasNone ends_line text → on_one_line text ≡ text
+one_line_is [] h = refl
+one_line_is (b ∷ bs) h = rw (h.0) (ap (λ (t : List ℕ). b ∷ t) (one_line_is bs h.1))
+
+front_stands : (p : ℕ → Bool) (xs ys : List ℕ) → 0 < length xs → prefix_len p xs ≡ 0 → prefix_len p (xs ++ ys) ≡ 0
+front_stands p [] ys some e = absurd (omega arith)
+front_stands p (x ∷ xs) ys some e = elim (p x) as (λ t. cond t (1 + prefix_len p xs) 0 ≡ 0 → cond t (1 + prefix_len p (xs ++ ys)) 0 ≡ 0) [
+  | true ↦ λ e. absurd (omega (arith, e))
+  | false ↦ λ e. refl
+] e
+
+no_suffix : (text : List ℕ) → NoBackslashEnd text → suffix_len (λ b. b == 92) text ≡ 0
+no_suffix [] h = refl
+no_suffix (b ∷ []) h = rw h refl
+no_suffix (b ∷ c ∷ bs) h =
+    let split : reverse (b ∷ c ∷ bs) ≡ reverse (c ∷ bs) ++ b ∷ [] = reverse-append (b ∷ []) (c ∷ bs) in
+    let one : reverse (c ∷ bs) ≡ reverse bs ++ c ∷ [] = reverse-append (c ∷ []) bs in
+    let some : 0 < length (reverse (c ∷ bs)) = omega (arith, ap length one, length-append (reverse bs) (c ∷ [])) in
+    ap (prefix_len (λ b. b == 92)) split ∙ front_stands (λ b. b == 92) (reverse (c ∷ bs)) (b ∷ []) some (no_suffix (c ∷ bs) h)
+
+trimmed_is : (text : List ℕ) → NoBackslashEnd text → trimmed text ≡ text
+trimmed_is text h = rw (no_suffix text h) (take_all (length text - 0) text (omega arith))
+
+key_is : (key : List ℕ) → 0 < length key → IsPlainWord key → key_text key ≡ escaped (codes ",= ") key
+key_is key some h = sym (kept_key key key (sym (trimmed_is key h.end)) some) ∙ ap (escaped (codes ",= ")) (one_line_is key h.none)
+
+no_hash_first : (name : List ℕ) → 0 < length name → NoHash name → (get_or name 0 0 == 35) ≡ false
+no_hash_first [] some h = absurd (omega arith)
+no_hash_first (b ∷ bs) some h = h
+
+name_is : (name : List ℕ) → 0 < length name → NoHash name → IsPlainWord name → name_text name ≡ escaped (codes ", ") name
+name_is name some no_comment h =
+    sym (kept_name name name 0 (sym (trimmed_is name h.end)) some (no_hash_first name some no_comment)) ∙ ap (escaped (codes ", ")) (one_line_is name h.none)
+
+spelled_some : (marks text : List ℕ) → 0 < length text → 0 < length (spelled (marks_for marks text))
+spelled_some marks [] some = absurd (omega arith)
+spelled_some marks (b ∷ bs) some = one (is_mark marks b)
+  where
+    one : (t : Bool) → 0 < length (spelled (cond t (Escaped b) (Bare b) ∷ marks_for marks bs))
+    one true = omega arith
+    one false = omega arith
+
+word_written : (k : Kind) (marks text written rest : List ℕ) → Suits k marks → Closes k marks text → 0 < length text
+    → written ≡ escaped marks text → Ends k rest → IsWritten k written rest text
+word_written k marks text written rest suits closes some is ends =
+    let same : written ≡ spelled (marks_for marks text) = is ∙ spelled_is marks text in
+    record {
+      some = subst (λ (t : List ℕ). 0 < length t) (sym same) (spelled_some marks text some);
+      marks = marks_for marks text;
+      is = same;
+      part = escaped_is_part k marks suits text rest ends closes;
+      says = means_text k marks suits text;
+    }
+
+key_written : (key rest : List ℕ) → IsWord key → IsPlainWord key → IsWritten key_part (key_text key) (61 ∷ rest) key
+key_written key rest is plain =
+    word_written key_part (codes ",= ") key (key_text key) (61 ∷ rest) suits_key (inr (λ b e. sym (key_marks b) ∙ e, plain.end)) is.filled
+    (key_is key is.filled plain) (ends_before key_part 61 rest refl refl)
+
+tag_value_written : (value rest : List ℕ) → IsWord value → IsPlainWord value → Ends tag_value_part rest
+    → IsWritten tag_value_part (key_text value) rest value
+tag_value_written value rest is plain ends =
+    word_written tag_value_part (codes ",= ") value (key_text value) rest suits_tag_value (inr (λ b e. sym (key_marks b) ∙ e, plain.end)) is.filled
+    (key_is value is.filled plain) ends
+
+name_written : (name rest : List ℕ) → IsWord name → IsPlainWord name → NoHash name → Ends name_part rest
+    → IsWritten name_part (name_text name) rest name
+name_written name rest is plain no_comment ends =
+    word_written name_part (codes ", ") name (name_text name) rest suits_name (inr (λ b e. sym (name_marks b) ∙ e, plain.end)) is.filled
+    (name_is name is.filled no_comment plain) ends
+
+-- ---- values
+
+no_quote_of : (text : List ℕ) → Clean text → NoQuote text
+no_quote_of [] h = tt
+no_quote_of (b ∷ bs) h = (or_parts (b == 92) (b == 34) (or_parts (ends_line b) (b == 92 || b == 34) (h.none).0).1).1
+
+unquoted_of : (value : Value) → IsValue value → IsNoText value → IsUnquoted (value_text value) value
+unquoted_of value is h =
+    let v = plain_value value is h in
+    record { none = v.none; no_quote = no_quote_of (value_text value) v.clean; says = v.is }
+
+value_written : (value : Value) (rest : List ℕ) → IsValue value → IsPlainValue value
+    → IsQuoted (value_text value) rest value ⊎ IsUnquoted (value_text value) value
+unfolding value_text
+value_written (Int n) rest is plain = inr (unquoted_of (Int n) is tt)
+value_written (Uint n) rest is plain = inr (unquoted_of (Uint n) is tt)
+value_written (Fixed n) rest is plain = inr (unquoted_of (Fixed n) is tt)
+value_written (Truth b) rest is plain = inr (unquoted_of (Truth b) is tt)
+value_written (Text text) rest is plain = inl (record {
+  marks = marks_for (codes "\"\\") text;
+  is = ap (λ (t : List ℕ). 34 ∷ (t ++ 34 ∷ [])) (ap (escaped (codes "\"\\")) (one_line_is text plain) ∙ spelled_is (codes "\"\\") text);
+  part = escaped_is_part text_part (codes "\"\\") suits_text text (34 ∷ rest) (ends_before text_part 34 rest refl refl) (inl refl);
+  says = ap Text (means_text text_part (codes "\"\\") suits_text text);
+})
+
+-- ---- UTF-8
+
+utf8_none : IsUtf8 []
+utf8_none = ([], (refl, refl))
+
+ascii : (b : ℕ) → b < 128 → IsUtf8 (b ∷ [])
+ascii b low = one_ascii b low
+
+key_utf8 : (key : List ℕ) → IsWord key → IsPlainWord key → IsUtf8 (key_text key)
+key_utf8 key is plain = subst IsUtf8 (sym (key_is key is.filled plain)) (escaped-IsUtf8 (codes ",= ") key_low key is.utf8)
+
+value_utf8 : (value : Value) → IsValue value → IsPlainValue value → IsUtf8 (value_text value)
+unfolding value_text
+value_utf8 (Int n) is plain = (plain_value (Int n) is tt).clean.utf8
+value_utf8 (Uint n) is plain = (plain_value (Uint n) is tt).clean.utf8
+value_utf8 (Fixed n) is plain = (plain_value (Fixed n) is tt).clean.utf8
+value_utf8 (Truth b) is plain = (plain_value (Truth b) is tt).clean.utf8
+value_utf8 (Text text) is plain =
+    IsUtf8-append (34 ∷ escaped (codes "\"\\") (on_one_line text)) (34 ∷ [])
+    (IsUtf8-append (34 ∷ []) (escaped (codes "\"\\") (on_one_line text)) (ascii 34 (omega arith))
+    (subst (λ (t : List ℕ). IsUtf8 (escaped (codes "\"\\") t)) (sym (one_line_is text plain)) (escaped-IsUtf8 (codes "\"\\") text_low text is)))
+    (ascii 34 (omega arith))
+
+pair_utf8 : (pair : List ℕ × List ℕ) → IsUtf8 pair.0 → IsUtf8 pair.1 → IsUtf8 (pair_text pair)
+pair_utf8 pair a b = IsUtf8-append pair.0 (61 ∷ pair.1) a (IsUtf8-append (61 ∷ []) pair.1 (ascii 61 (omega arith)) b)
+
+-- ---- tags and fields
 
 abbrev ArePlainTags : List Tag → Type 0
-ArePlainTags = AllByRecursion (λ (tag : Tag). IsPlainKey tag.0 × IsPlainKey tag.1)
-
-abbrev AreTags : List Tag → Type 0
-AreTags = AllByRecursion metrics.IsTag
+ArePlainTags = AllByRecursion (λ (tag : Tag). IsPlainWord tag.0 × IsPlainWord tag.1)
 
 abbrev ArePlainFields : List Field → Type 0
-ArePlainFields = AllByRecursion (λ (field : Field). IsPlainKey field.0 × IsNoText field.1)
+ArePlainFields = AllByRecursion (λ (field : Field). IsPlainWord field.0 × IsPlainValue field.1)
 
-abbrev AreFields : List Field → Type 0
-AreFields = AllByRecursion metrics.IsField
+abbrev written_tag : Tag → List ℕ × List ℕ
+written_tag tag = (key_text tag.0, key_text tag.1)
 
--- a field as it is written
 abbrev written_field : Field → List ℕ × List ℕ
-written_field field = (field.0, value_text field.1)
+written_field field = (key_text field.0, value_text field.1)
 
--- ---- the line's text
-
-one_tag : (tag : Tag) → metrics.IsTag tag → IsPlainKey tag.0 × IsPlainKey tag.1 → tag_text tag ≡ 44 ∷ pair_text tag
+tags_text : (tags : List Tag) → flat_map tag_text tags ≡ pairs_text (map written_tag tags)
 unfolding tag_text
-one_tag tag some plain =
-    rw (plain_key tag.0 some.0.filled plain.0, plain_key tag.1 some.1.filled plain.1) (ap (λ (text : List ℕ). 44 ∷ text) (append_assoc tag.0 (61 ∷ []) tag.1))
+tags_text [] = refl
+tags_text (tag ∷ tags) = ap (λ (t : List ℕ). 44 ∷ (t ++ flat_map tag_text tags)) (append_assoc (key_text tag.0) (61 ∷ []) (key_text tag.1)) ∙ ap (λ (t : List ℕ). 44 ∷ (pair_text (written_tag tag) ++ t)) (tags_text tags)
 
-tags_text : (tags : List Tag) → AreTags tags → ArePlainTags tags → flat_map tag_text tags ≡ pairs_text tags
-tags_text [] some plain = refl
-tags_text (tag ∷ tags) some plain = rw (one_tag tag some.0 plain.0) (ap (λ (text : List ℕ). 44 ∷ (pair_text tag ++ text)) (tags_text tags some.1 plain.1))
-
-one_field : (field : Field) → IsFilled field.0 → IsPlainKey field.0 → field_text field ≡ pair_text (written_field field)
+one_field : (field : Field) → field_text field ≡ pair_text (written_field field)
 unfolding field_text
-one_field field some plain = rw (plain_key field.0 some plain) (append_assoc field.0 (61 ∷ []) (value_text field.1))
+one_field field = append_assoc (key_text field.0) (61 ∷ []) (value_text field.1)
 
-fields_text : (fields : List Field) → AreFields fields → ArePlainFields fields → flat_map (λ (field : Field). codes "," ++ field_text field) fields ≡ pairs_text (map written_field fields)
-fields_text [] some plain = refl
-fields_text (field ∷ fields) some plain =
-    rw (one_field field (some.0).0.filled (plain.0).0) (ap (λ (text : List ℕ). 44 ∷ (pair_text (written_field field) ++ text)) (fields_text fields some.1 plain.1))
+fields_text : (fields : List Field) → flat_map (λ (field : Field). codes "," ++ field_text field) fields ≡ pairs_text (map written_field fields)
+fields_text [] = refl
+fields_text (field ∷ fields) = rw (one_field field) (ap (λ (t : List ℕ). 44 ∷ (pair_text (written_field field) ++ t)) (fields_text fields))
 
--- ---- the parts
+-- a comma or a space stands there
+tags_end : (k : Kind) → k.ends 44 ≡ true → k.ends 32 ≡ true → (tags : List Tag) (rest : List ℕ) → Ends k (pairs_text (map written_tag tags) ++ 32 ∷ rest)
+tags_end k comma space [] rest = ends_before k 32 rest space refl
+tags_end k comma space (tag ∷ tags) rest = ends_before k 44 ((pair_text (written_tag tag) ++ pairs_text (map written_tag tags)) ++ 32 ∷ rest) comma refl
 
-key_made : (key : List ℕ) → IsFilled key → IsPlainKey key → IsMadeOf ends_key key
-key_made key some plain = record { some = some; none = none-weaken is_key_mark ends_key ends_its_key key plain.none }
+tags_are : (tags : List Tag) (rest : List ℕ) → AllByRecursion metrics.IsTag tags → ArePlainTags tags → AllAre IsTag (map written_tag tags) (32 ∷ rest) tags
+tags_are [] rest is plain = tt
+tags_are (tag ∷ tags) rest is plain = (
+  record {
+    key = key_written tag.0 (key_text tag.1 ++ (pairs_text (map written_tag tags) ++ 32 ∷ rest)) (is.0).0 (plain.0).0;
+    value = tag_value_written tag.1 (pairs_text (map written_tag tags) ++ 32 ∷ rest) (is.0).1 (plain.0).1 (tags_end tag_value_part refl refl tags rest);
+  },
+  tags_are tags rest is.1 plain.1,
+)
 
-value_made : (value : List ℕ) → IsFilled value → IsPlainKey value → IsMadeOf ends_word value
-value_made value some plain = record { some = some; none = none-weaken is_key_mark ends_word ends_its_value value plain.none }
+fields_are : (fields : List Field) (rest : List ℕ) → AllByRecursion metrics.IsField fields → ArePlainFields fields → AllAre IsField (map written_field fields) rest fields
+fields_are [] rest is plain = tt
+fields_are (field ∷ fields) rest is plain = (
+  record {
+    key = key_written field.0 (value_text field.1 ++ (pairs_text (map written_field fields) ++ rest)) (is.0).0 (plain.0).0;
+    value = value_written field.1 (pairs_text (map written_field fields) ++ rest) (is.0).1 (plain.0).1;
+  },
+  fields_are fields rest is.1 plain.1,
+)
 
-tags_are : (tags : List Tag) → AreTags tags → ArePlainTags tags → AllAre IsTag tags tags
-tags_are [] some plain = tt
-tags_are (tag ∷ tags) some plain = (record { key = key_made tag.0 (some.0).0.filled (plain.0).0; value = value_made tag.1 (some.0).1.filled (plain.0).1; same = refl }, tags_are tags some.1 plain.1)
+tags_utf8 : (tags : List Tag) → AllByRecursion metrics.IsTag tags → ArePlainTags tags → IsUtf8 (pairs_text (map written_tag tags))
+tags_utf8 [] is plain = utf8_none
+tags_utf8 (tag ∷ tags) is plain =
+    IsUtf8-append (44 ∷ []) (pair_text (written_tag tag) ++ pairs_text (map written_tag tags)) (ascii 44 (omega arith))
+    (IsUtf8-append (pair_text (written_tag tag)) (pairs_text (map written_tag tags)) (pair_utf8 (written_tag tag) (key_utf8 tag.0 (is.0).0 (plain.0).0) (key_utf8 tag.1 (is.0).1 (plain.0).1)) (tags_utf8 tags is.1 plain.1))
 
-fields_are : (fields : List Field) → AreFields fields → ArePlainFields fields → AllAre IsField (map written_field fields) fields
-fields_are [] some plain = tt
-fields_are (field ∷ fields) some plain =
-    let value = plain_value field.1 (some.0).1 (plain.0).1 in
-    (record { key = key_made field.0 (some.0).0.filled (plain.0).0; same = refl; text = value.none; value = value.is }, fields_are fields some.1 plain.1)
+field_utf8 : (field : Field) → metrics.IsField field → IsPlainWord field.0 × IsPlainValue field.1 → IsUtf8 (pair_text (written_field field))
+field_utf8 field is plain = pair_utf8 (written_field field) (key_utf8 field.0 is.0 plain.0) (value_utf8 field.1 is.1 plain.1)
 
-clean_tags : (tags : List Tag) → ArePlainTags tags → Clean (pairs_text tags)
-clean_tags [] plain = clean_none
-clean_tags (tag ∷ tags) plain = clean_pairs tag tags (clean_key tag.0 (plain.0).0) (clean_key tag.1 (plain.0).1) (clean_tags tags plain.1)
-
-clean_fields : (fields : List Field) → AreFields fields → ArePlainFields fields → Clean (pairs_text (map written_field fields))
-clean_fields [] typed plain = clean_none
-clean_fields (field ∷ fields) typed plain =
-    clean_pairs (written_field field) (map written_field fields) (clean_key field.0 (plain.0).0) (plain_value field.1 (typed.0).1 (plain.0).1).clean (clean_fields fields typed.1 plain.1)
+fields_utf8 : (fields : List Field) → AllByRecursion metrics.IsField fields → ArePlainFields fields → IsUtf8 (pairs_text (map written_field fields))
+fields_utf8 [] is plain = utf8_none
+fields_utf8 (field ∷ fields) is plain =
+    IsUtf8-append (44 ∷ []) (pair_text (written_field field) ++ pairs_text (map written_field fields)) (ascii 44 (omega arith))
+    (IsUtf8-append (pair_text (written_field field)) (pairs_text (map written_field fields)) (field_utf8 field is.0 plain.0) (fields_utf8 fields is.1 plain.1))
 
 -- ---- the line
 
@@ -92,8 +235,8 @@ made name tags fields time = record { name = name; tags = tags; fields = fields;
 abbrev written : List ℕ → List Tag → Field → List Field → ℤ → Written
 written name tags field fields time = record {
   before = 0;
-  name = name;
-  tags = tags;
+  name = name_text name;
+  tags = map written_tag tags;
   gap = 1;
   first = written_field field;
   others = map written_field fields;
@@ -101,40 +244,50 @@ written name tags field fields time = record {
   after = 0;
 }
 
-regroup : (name tags fields others time end : List ℕ)
-    → (((((name ++ tags) ++ 32 ∷ []) ++ (fields ++ others)) ++ 32 ∷ []) ++ time) ++ end ≡ (name ++ (tags ++ (32 ∷ (fields ++ (others ++ ((32 ∷ time) ++ [])))))) ++ end
-regroup name tags fields others time end = simp (append_assoc, append-nil)
+regroup : (name tags fields others time : List ℕ)
+    → ((((name ++ tags) ++ 32 ∷ []) ++ (fields ++ others)) ++ 32 ∷ []) ++ time ≡ name ++ (tags ++ (32 ∷ (fields ++ (others ++ ((32 ∷ time) ++ [])))))
+regroup name tags fields others time = simp (append_assoc, append-nil)
 
-line_is_spelled : (name : List ℕ) (tags : List Tag) (field : Field) (fields : List Field) (time : ℤ) → IsMetric (made name tags (field ∷ fields) time) → IsPlain (made name tags (field ∷ fields) time)
-    → line_text (made name tags (field ∷ fields) time) ≡ line_spelling (written name tags field fields time) ++ codes "\n"
-unfolding line_text head_text
-line_is_spelled name tags field fields time is plain =
-    rw (plain_name name is.name.filled plain.no_comment plain.name, tags_text tags is.tags plain.tags, one_field field ((is.fields).0).0.filled ((plain.fields).0).0, fields_text fields (is.fields).1 (plain.fields).1)
-    (regroup name (pairs_text tags) (pair_text (written_field field)) (pairs_text (map written_field fields)) (signed_decimal time) (10 ∷ []))
+line_is_spelled : (name : List ℕ) (tags : List Tag) (field : Field) (fields : List Field) (time : ℤ)
+    → (head_text (made name tags (field ∷ fields) time) ++ codes " ") ++ signed_decimal time ≡ line_spelling (written name tags field fields time)
+unfolding head_text
+line_is_spelled name tags field fields time =
+    rw (tags_text tags, one_field field, fields_text fields)
+    (regroup (name_text name) (pairs_text (map written_tag tags)) (pair_text (written_field field)) (pairs_text (map written_field fields)) (signed_decimal time))
 
-line_is_line : (name : List ℕ) (tags : List Tag) (field : Field) (fields : List Field) (time moment : ℤ) → IsMetric (made name tags (field ∷ fields) time) → IsPlain (made name tags (field ∷ fields) time)
+name_no_hash : (marks text rest : List ℕ) → NoHash text → NoHash (spelled (marks_for marks text))
+name_no_hash marks [] rest h = tt
+name_no_hash marks (b ∷ bs) rest h = one (is_mark marks b)
+  where
+    one : (t : Bool) → NoHash (spelled (cond t (Escaped b) (Bare b) ∷ marks_for marks bs))
+    one true = refl
+    one false = h
+
+line_is_line : (name : List ℕ) (tags : List Tag) (field : Field) (fields : List Field) (time moment : ℤ) → IsMetric (made name tags (field ∷ fields) time)
+    → IsPlain (made name tags (field ∷ fields) time)
     → IsLine (written name tags field fields time) (record { name = name; tags = tags; fields = field ∷ fields; time = time }) moment
 line_is_line name tags field fields time moment is plain =
     let t = plain_time time is.time in
+    let text = name_is name is.name.filled plain.no_comment plain.name ∙ spelled_is (codes ", ") name in
     record {
-      name = record { some = is.name.filled; none = none-weaken is_name_mark ends_word ends_name name plain.name.none };
-      no_comment = plain.no_comment;
-      same_name = refl;
-      tags = tags_are tags is.tags plain.tags;
+      name = name_written name _ is.name plain.name plain.no_comment (tags_end name_part refl refl tags _);
+      no_comment = subst NoHash (sym text) (name_no_hash (codes ", ") name [] plain.no_comment);
+      tags = tags_are tags _ is.tags plain.tags;
       gap = omega arith;
-      fields = fields_are (field ∷ fields) is.fields plain.fields;
+      fields = fields_are (field ∷ fields) _ is.fields plain.fields;
       time = (omega arith, t.none, t.is);
     }
 
-clean_written : (name : List ℕ) (tags : List Tag) (field : Field) (fields : List Field) (time : ℤ) → IsMetric (made name tags (field ∷ fields) time) → IsPlain (made name tags (field ∷ fields) time) → Clean (line_spelling (written name tags field fields time))
-clean_written name tags field fields time is plain =
-    let spaced : Clean ((32 ∷ signed_decimal time) ++ []) = clean-append (32 ∷ signed_decimal time) [] (clean-append (32 ∷ []) (signed_decimal time) clean_space (plain_time time is.time).clean) clean_none in
-    let others = clean-append (pairs_text (map written_field fields)) ((32 ∷ signed_decimal time) ++ []) (clean_fields fields (is.fields).1 (plain.fields).1) spaced in
-    let value = (plain_value field.1 ((is.fields).0).1 ((plain.fields).0).1).clean in
-    let first = clean-append (pair_text (written_field field)) _ (clean_pair (written_field field) (clean_key field.0 ((plain.fields).0).0) value) others in
-    let behind_tags = clean-append (32 ∷ []) _ clean_space first in
-    let behind_name = clean-append (pairs_text tags) _ (clean_tags tags plain.tags) behind_tags in
-    clean-append name _ (clean_name name plain.name) behind_name
+line_utf8 : (name : List ℕ) (tags : List Tag) (field : Field) (fields : List Field) (time : ℤ) → IsMetric (made name tags (field ∷ fields) time)
+    → IsPlain (made name tags (field ∷ fields) time) → IsUtf8 (line_spelling (written name tags field fields time))
+line_utf8 name tags field fields time is plain =
+    let spaced_time : IsUtf8 ((32 ∷ signed_decimal time) ++ []) = IsUtf8-append (32 ∷ signed_decimal time) [] (IsUtf8-append (32 ∷ []) (signed_decimal time) (ascii 32 (omega arith)) (plain_time time is.time).clean.utf8) utf8_none in
+    let others = IsUtf8-append (pairs_text (map written_field fields)) ((32 ∷ signed_decimal time) ++ []) (fields_utf8 fields (is.fields).1 (plain.fields).1) spaced_time in
+    let first = IsUtf8-append (pair_text (written_field field)) _ (field_utf8 field (is.fields).0 (plain.fields).0) others in
+    let behind_tags = IsUtf8-append (32 ∷ []) _ (ascii 32 (omega arith)) first in
+    let behind_name = IsUtf8-append (pairs_text (map written_tag tags)) _ (tags_utf8 tags is.tags plain.tags) behind_tags in
+    let front : IsUtf8 (name_text name) = subst IsUtf8 (sym (name_is name is.name.filled plain.no_comment plain.name)) (escaped-IsUtf8 (codes ", ") name_low name is.name.utf8) in
+    IsUtf8-append (name_text name) _ front behind_name
 
 -- the line of a metric is the metric's
 content_is : (m : Content) → IsMetric m → content_of (record { name = m.name; tags = m.tags; fields = m.fields; time = m.time }) ≡ m
@@ -150,16 +303,22 @@ Told m moment = (line : List ℕ) × (line_text m ≡ line ++ codes "\n") × Has
 
 told : (name : List ℕ) (tags : List Tag) (fields : List Field) (time moment : ℤ) → IsMetric (made name tags fields time) → IsPlain (made name tags fields time)
     → Told (made name tags fields time) moment
+unfolding line_text
 told name tags [] time moment is plain = absurd (omega (arith, is.some))
 told name tags (field ∷ fields) time moment is plain =
     let m = made name tags (field ∷ fields) time in
     let line : Line = record { name = name; tags = tags; fields = field ∷ fields; time = time } in
     let w = written name tags field fields time in
-    let clean = clean_written name tags field fields time is plain in
     let count = few tags (field ∷ fields) (sorted_stay tags is.sorted) (distinct_stay (field ∷ fields) is.distinct) plain.few_tags plain.few_fields in
-    let escapes = clean_escapes (line_spelling w) clean in
-    let read = written_is_read w line moment (line_is_line name tags field fields time moment is plain) escapes clean.utf8 count in
-    (line_spelling w, line_is_spelled name tags field fields time is plain, clean_line (line_spelling w) clean, read ∙ ap (λ (content : Content). Ok (Some content)) (content_is m is))
+    let read = written_is_read w line moment (line_is_line name tags field fields time moment is plain) (line_utf8 name tags field fields time is plain) count in
+    let same = line_is_spelled name tags field fields time in
+    let one = single m is in (
+      (head_text m ++ codes " ") ++ signed_decimal time,
+      refl,
+      one,
+      ap (λ (l : List ℕ). reading l moment) same ∙ read ∙ ap (λ (content : Content). Ok (Some content)) (content_is m is),
+    )
 
-pub is_read_back : (m : Content) (moment : ℤ) → IsMetric m → IsPlain m → (line : List ℕ) × (line_text m ≡ line ++ codes "\n") × HasNone ends_line line × (reading line moment ≡ Ok (Some m))
+pub is_read_back : (m : Content) (moment : ℤ) → IsMetric m → IsPlain m
+    → (line : List ℕ) × (line_text m ≡ line ++ codes "\n") × HasNone ends_line line × (reading line moment ≡ Ok (Some m))
 is_read_back m moment is plain = told m.name m.tags m.fields m.time moment is plain

@@ -107,10 +107,9 @@ none_head m h =
     (none-append ends_line (name_text m.name ++ flat_map tag_text m.tags) (32 ∷ []) (none-append ends_line (name_text m.name) (flat_map tag_text m.tags) (none_name m.name) (none_tags m.tags)) (refl, tt))
     (none_fields m.fields h.fields)
 
+pub single : (m : Content) → IsMetric m → HasNone ends_line ((head_text m ++ codes " ") ++ signed_decimal m.time)
+single m h = none-append ends_line (head_text m ++ 32 ∷ []) (signed_decimal m.time) (none-append ends_line (head_text m) (32 ∷ []) (none_head m h) (refl, tt)) (number_none ends_line no_line (signed_decimal m.time) (number_signed m.time h.time))
+
 pub is_one_line : (m : Content) → IsMetric m → (line : List ℕ) × (line_text m ≡ line ++ codes "\n") × HasNone ends_line line
 unfolding line_text
-is_one_line m h = (
-  (head_text m ++ codes " ") ++ signed_decimal m.time,
-  refl,
-  none-append ends_line (head_text m ++ 32 ∷ []) (signed_decimal m.time) (none-append ends_line (head_text m) (32 ∷ []) (none_head m h) (refl, tt)) (number_none ends_line no_line (signed_decimal m.time) (number_signed m.time h.time)),
-)
+is_one_line m h = ((head_text m ++ codes " ") ++ signed_decimal m.time, refl, single m h)

@@ -1,16 +1,11 @@
 -- A metric in the making, while a line is read.
-use Rattle.std.specs.Prelude.{◌≡◌, ◌≢◌, ◌<◌, ℕ, false, List, [], length, Result, Ok, Err}
-use Rattle.std.proofs.Common.{get_or}
+use Rattle.std.specs.Prelude.{◌≡◌, ◌<◌, ℕ, false, List, [], length, Result, Ok, Err}
 use Rattle.metric.specs.Pairs.{in_key_order, in_first_order, has_empty_key}
 use Rattle.text_parts.specs.Chain.{Fails}
 use Rattle.text_parts.specs.declared.error.ReadError.{ReadError}
 use Rattle.line_proto.specs.declared.fault.LineFault.{LineFault}
 use Rattle.line_proto.specs.declared.draft.Draft.{Draft}
 use Rattle.line_proto.specs.Reading.{Tag, Field, has_too_many}
-
--- no byte is a double quote
-pub record IsUnquoted (bytes : List ℕ) : Type 0 where
-  pub each : (k : ℕ) → get_or bytes k 0 ≢ 34
 
 -- the draft has these tags and fields, as they were read, or says that they are too many
 pub record StandsFor (draft : Draft) (tags : List Tag) (fields : List Field) : Type 0 where

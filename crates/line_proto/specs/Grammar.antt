@@ -1,30 +1,36 @@
--- Lines as they are written, of pieces without a backslash and a double quote.
+-- Lines as they are written.
 use Rattle.std.specs.Prelude.{◌≡◌, ◌<◌, ℕ, ℤ, ◌==◌, ◌||◌, Bool, false, List, [], ◌∷◌, ◌++◌, length, replicate}
-use Rattle.std.specs.Prelude.{Option, Some, None, Ok}
+use Rattle.std.specs.Prelude.{Option, Some, None, Ok, ◌⊎◌}
 use Rattle.std.specs.Str.{IsUtf8}
+use Rattle.text_parts.specs.Bytes.{space, double_quote, hash, comma, equals_sign}
+use Rattle.text_parts.specs.Grammar.{Mark, spelled, meant, IsPart}
+use Rattle.text_parts.specs.Part.{Kind}
+use Rattle.metric.specs.declared.value.Value.{Value}
+use Rattle.metric.specs.declared.value.Value.TheVariants.{Text}
 use Rattle.metric.specs.declared.metric.Content.{Content}
+use Rattle.line_proto.specs.Kinds.{name_part, key_part, tag_value_part, text_part}
 use Rattle.line_proto.specs.Values.{value_of, time_of}
-use Rattle.line_proto.specs.Reading.{Tag, Field, Line, content_of, has_too_many, needs_escapes, reading}
+use Rattle.line_proto.specs.Reading.{Tag, Field, Line, content_of, has_too_many, reading}
 
 -- no byte passes the test
 abbrev pub HasNone : (ℕ → Bool) → List ℕ → Type 0
 HasNone p [] = Unit {0}
 HasNone p (b ∷ bs) = (p b ≡ false) × HasNone p bs
 
--- what ends a measurement, a tag's value and a field's value; what ends a key; a space
+-- what ends the value of a field; a space
 abbrev pub ends_word : ℕ → Bool
-ends_word b = b == 44 || b == 32
-
-abbrev pub ends_key : ℕ → Bool
-ends_key b = b == 61 || b == 44 || b == 32
+ends_word b = b == comma || b == space
 
 abbrev pub is_space : ℕ → Bool
-is_space b = b == 32
+is_space b = b == space
 
--- some bytes, none of which passes the test
-pub record IsMadeOf (p : ℕ → Bool) (text : List ℕ) : Type 0 where
+-- the text is a filled part of this kind in front of the rest, and means this
+pub record IsWritten (k : Kind) (text rest means : List ℕ) : Type 0 where
   pub some : 0 < length text
-  pub none : HasNone p text
+  pub marks : List Mark
+  pub is : text ≡ spelled marks
+  pub part : IsPart k marks rest
+  pub says : meant k marks ≡ means
 
 -- a line as it is written: spaces, a measurement, tags, spaces, fields, perhaps spaces and a time, spaces
 pub record Written : Type 0 where
@@ -38,45 +44,74 @@ pub record Written : Type 0 where
   pub after : ℕ
 
 abbrev pub spaces : ℕ → List ℕ
-spaces n = replicate n 32
+spaces n = replicate n space
 
 -- `key=value`
 abbrev pub pair_text : List ℕ × List ℕ → List ℕ
-pair_text pair = pair.0 ++ 61 ∷ pair.1
+pair_text pair = pair.0 ++ equals_sign ∷ pair.1
 
 -- pairs, each behind a comma
 abbrev pub pairs_text : List (List ℕ × List ℕ) → List ℕ
 pairs_text [] = []
-pairs_text (pair ∷ pairs) = 44 ∷ (pair_text pair ++ pairs_text pairs)
+pairs_text (pair ∷ pairs) = comma ∷ (pair_text pair ++ pairs_text pairs)
 
 -- a time behind its spaces
 abbrev pub time_text : Option (ℕ × List ℕ) → List ℕ
 time_text None = []
 time_text (Some t) = spaces t.0 ++ t.1
 
+-- what stands behind the fields, behind the tags and behind the measurement
+abbrev pub behind_fields : Written → List ℕ
+behind_fields w = time_text w.time ++ spaces w.after
+
+abbrev pub behind_tags : Written → List ℕ
+behind_tags w = spaces w.gap ++ (pair_text w.first ++ (pairs_text w.others ++ behind_fields w))
+
+abbrev pub behind_name : Written → List ℕ
+behind_name w = pairs_text w.tags ++ behind_tags w
+
 -- the text of a line is the concatenation of its parts
 abbrev pub line_spelling : Written → List ℕ
-line_spelling w = spaces w.before ++ (w.name ++ (pairs_text w.tags ++ (spaces w.gap ++ (pair_text w.first ++ (pairs_text w.others ++ (time_text w.time ++ spaces w.after))))))
+line_spelling w = spaces w.before ++ (w.name ++ behind_name w)
 
--- a written pair is a tag: a key, and a value that isn't empty
-pub record IsTag (written : List ℕ × List ℕ) (tag : Tag) : Type 0 where
-  pub key : IsMadeOf ends_key written.0
-  pub value : IsMadeOf ends_word written.1
-  pub same : written ≡ tag
+-- a written pair in front of the rest is a tag
+pub record IsTag (written : List ℕ × List ℕ) (rest : List ℕ) (tag : Tag) : Type 0 where
+  pub key : IsWritten key_part written.0 (equals_sign ∷ (written.1 ++ rest)) tag.0
+  pub value : IsWritten tag_value_part written.1 rest tag.1
 
--- a written pair is a field: its key, and a text of its value
-pub record IsField (written : List ℕ × List ℕ) (field : Field) : Type 0 where
-  pub key : IsMadeOf ends_key written.0
-  pub same : written.0 ≡ field.0
-  pub text : HasNone ends_word written.1
-  pub value : value_of written.1 ≡ Ok field.1
+-- a text between double quotes is a value
+pub record IsQuoted (written rest : List ℕ) (value : Value) : Type 0 where
+  pub marks : List Mark
+  pub is : written ≡ double_quote ∷ (spelled marks ++ double_quote ∷ [])
+  pub part : IsPart text_part marks (double_quote ∷ rest)
+  pub says : Text (meant text_part marks) ≡ value
 
--- the written pairs are the items, one by one
-abbrev pub AllAre : {X : Type 0} → (List ℕ × List ℕ → X → Type 0) → List (List ℕ × List ℕ) → List X → Type 0
-AllAre Is [] [] = Unit {0}
-AllAre Is [] (x ∷ xs) = ⊥
-AllAre Is (w ∷ ws) [] = ⊥
-AllAre Is (w ∷ ws) (x ∷ xs) = Is w x × AllAre Is ws xs
+-- the text begins with no double quote
+abbrev pub NoQuote : List ℕ → Type 0
+NoQuote [] = Unit {0}
+NoQuote (b ∷ bs) = (b == double_quote) ≡ false
+
+-- what stands without quotes is a value
+pub record IsUnquoted (written : List ℕ) (value : Value) : Type 0 where
+  pub none : HasNone ends_word written
+  pub no_quote : NoQuote written
+  pub says : value_of written ≡ Ok value
+
+-- a written pair in front of the rest is a field
+pub record IsField (written : List ℕ × List ℕ) (rest : List ℕ) (field : Field) : Type 0 where
+  pub key : IsWritten key_part written.0 (equals_sign ∷ (written.1 ++ rest)) field.0
+  pub value : IsQuoted written.1 rest field.1 ⊎ IsUnquoted written.1 field.1
+
+-- what a written pair in front of a rest may be
+abbrev pub Meaning : Type 0 → Type 1
+Meaning X = List ℕ × List ℕ → List ℕ → X → Type 0
+
+-- the written pairs in front of the rest are the items, one by one
+abbrev pub AllAre : {X : Type 0} → Meaning X → List (List ℕ × List ℕ) → List ℕ → List X → Type 0
+AllAre Is [] rest [] = Unit {0}
+AllAre Is [] rest (x ∷ xs) = ⊥
+AllAre Is (w ∷ ws) rest [] = ⊥
+AllAre Is (w ∷ ws) rest (x ∷ xs) = Is w (pairs_text ws ++ rest) x × AllAre Is ws rest xs
 
 -- the time that is written behind a space, or the moment where none is
 abbrev pub IsTime : Option (ℕ × List ℕ) → ℤ → ℤ → Type 0
@@ -86,24 +121,25 @@ IsTime (Some t) time moment = (0 < t.0) × HasNone is_space t.1 × (time_of t.1 
 -- the text begins with no `#`
 abbrev pub NoHash : List ℕ → Type 0
 NoHash [] = Unit {0}
-NoHash (b ∷ bs) = (b == 35) ≡ false
+NoHash (b ∷ bs) = (b == hash) ≡ false
 
 -- the line that is written
 pub record IsLine (w : Written) (line : Line) (moment : ℤ) : Type 0 where
-  pub name : IsMadeOf ends_word w.name
+  pub name : IsWritten name_part w.name (behind_name w) line.name
   pub no_comment : NoHash w.name
-  pub same_name : w.name ≡ line.name
-  pub tags : AllAre IsTag w.tags line.tags
+  pub tags : AllAre IsTag w.tags (behind_tags w) line.tags
   pub gap : 0 < w.gap
-  pub fields : AllAre IsField (w.first ∷ w.others) line.fields
+  pub fields : AllAre IsField (w.first ∷ w.others) (behind_fields w) line.fields
   pub time : IsTime w.time line.time moment
 
 -- a written line of at most 64 tags and 256 fields is read as its metric
 abbrev pub WrittenIsRead : Type 0
-WrittenIsRead = (w : Written) (line : Line) (moment : ℤ) → IsLine w line moment → needs_escapes (line_spelling w) ≡ false → IsUtf8 (line_spelling w) → has_too_many line.tags line.fields ≡ false
+WrittenIsRead = (w : Written) (line : Line) (moment : ℤ)
+    → IsLine w line moment → IsUtf8 (line_spelling w) → has_too_many line.tags line.fields ≡ false
     → reading (line_spelling w) moment ≡ Ok (Some (content_of line))
 
 -- what is read as a metric is a written line of at most 64 tags and 256 fields
 abbrev pub ReadIsWritten : Type 0
-ReadIsWritten = (piece : List ℕ) (moment : ℤ) (content : Content) → needs_escapes piece ≡ false → reading piece moment ≡ Ok (Some content)
-    → (w : Written) × (line : Line) × (piece ≡ line_spelling w) × IsUtf8 piece × IsLine w line moment × (has_too_many line.tags line.fields ≡ false) × (content ≡ content_of line)
+ReadIsWritten = (piece : List ℕ) (moment : ℤ) (content : Content) → reading piece moment ≡ Ok (Some content)
+    → (w : Written) × (line : Line) × (piece ≡ line_spelling w) × IsUtf8 piece × IsLine w line moment
+    × (has_too_many line.tags line.fields ≡ false) × (content ≡ content_of line)

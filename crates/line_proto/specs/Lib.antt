@@ -8,3 +8,4 @@ pub mod LineText
 pub mod Marks
 pub mod OneLine
 pub mod RoundTrip
+pub mod Faults

@@ -1,7 +1,7 @@
 -- Reading a line from left to right, with the first fault that is met.
 use Rattle.std.specs.Prelude.{ℕ, ℤ, ◌+◌, ◌==◌, ◌||◌, not, Bool, List, ◌∷◌, length, take, drop, Option, Some}
 use Rattle.std.specs.Prelude.{None, Result, Ok, Err, slice_index, nat_lt, if◌then◌else◌}
-use Rattle.std.specs.List.{position_or_len, list_any}
+use Rattle.std.specs.List.{position_or_len}
 use Rattle.std.specs.Str.{is_utf8}
 use Rattle.std.specs.Str.Lossy.{utf8_valid_len}
 use Rattle.text_parts.specs.Bytes.{space, double_quote, hash, comma, equals_sign}
@@ -179,7 +179,3 @@ text_reading piece moment =
 unfoldable pub reading : List ℕ → ℤ → Result (Option Content) LineFault
 reading piece moment =
     if is_utf8 piece then text_reading piece moment else fault NotUtf8 (utf8_valid_len piece)
-
--- a backslash or a double quote stands in the piece
-abbrev pub needs_escapes : List ℕ → Bool
-needs_escapes piece = list_any (λ b. b == 92 || b == 34) piece

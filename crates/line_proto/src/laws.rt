@@ -1,14 +1,15 @@
 //! Laws of readings and lines.
+ghost use Rattle.line_proto.specs.Faults.{FaultIsWithin};
 ghost use Rattle.line_proto.specs.Grammar.{WrittenIsRead, ReadIsWritten};
 ghost use Rattle.line_proto.specs.OneLine.{MetricIsOneLine};
-ghost use Rattle.line_proto.specs.RoundTrip.{MetricIsReadBack};
+ghost use Rattle.line_proto.specs.RoundTrip.{MetricIsReadBack, ReadIsPlain};
 
-/// What is written as a line, with no backslash and no double quote, is read as its metric.
+/// What is written as a line is read as its metric.
 pub fn written_is_read()
     ensures { WrittenIsRead }
 {}
 
-/// What is read as a metric, with no backslash and no double quote, is written as a line.
+/// What is read as a metric is written as a line.
 pub fn read_is_written()
     ensures { ReadIsWritten }
 {}
@@ -21,4 +22,14 @@ pub fn metric_is_one_line()
 /// The line of a plain metric is read as the metric.
 pub fn metric_is_read_back()
     ensures { MetricIsReadBack }
+{}
+
+/// A fault's place is in the piece, or its length.
+pub fn fault_is_within()
+    ensures { FaultIsWithin }
+{}
+
+/// What is read of a piece without a newline and a carriage return is plain: its line is read as it.
+pub fn read_is_plain()
+    ensures { ReadIsPlain }
 {}

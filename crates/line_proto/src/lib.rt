@@ -11,7 +11,10 @@ mod read_value;
 mod write;
 
 pub use fault::{LineFault, LineKind};
-pub use laws::{metric_is_one_line, metric_is_read_back, read_is_written, written_is_read};
+pub use laws::{
+    fault_is_within, metric_is_one_line, metric_is_read_back, read_is_plain, read_is_written,
+    written_is_read,
+};
 pub use read::read_line;
 pub use write::write_line;
 

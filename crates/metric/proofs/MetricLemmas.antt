@@ -16,7 +16,7 @@ use Rattle.metric.proofs.PairLemmas.{AllKeys, key_cmp, with_pair-distinct, with_
 
 -- ---- one pair more
 
-each_pair : {X : Type 0} (P : List ℕ × X → Type 0) (pairs : List (List ℕ × X)) (key : List ℕ) (value : X)
+pub each_pair : {X : Type 0} (P : List ℕ × X → Type 0) (pairs : List (List ℕ × X)) (key : List ℕ) (value : X)
     → P (key, value) → AllByRecursion P pairs → AllByRecursion P (with_pair pairs key value)
 unfolding with_pair
 each_pair P [] key value p h = (p, tt)
@@ -24,7 +24,7 @@ each_pair P (pair ∷ pairs) key value p h =
     elim (bytes_eq pair.0 key) as (λ t. AllByRecursion P (cond t ((key, value) ∷ pairs) (pair ∷ with_pair pairs key value)))
     [ true ↦ (p, h.1) | false ↦ (h.0, each_pair P pairs key value p h.1) ]
 
-each_sorted : {X : Type 0} (P : List ℕ × X → Type 0) (pairs : List (List ℕ × X)) (key : List ℕ) (value : X)
+pub each_sorted : {X : Type 0} (P : List ℕ × X → Type 0) (pairs : List (List ℕ × X)) (key : List ℕ) (value : X)
     → P (key, value) → AllByRecursion P pairs → AllByRecursion P (with_sorted pairs key value)
 unfolding with_sorted
 each_sorted P [] key value p h = (p, tt)

@@ -5,3 +5,4 @@ pub mod Items
 pub mod Bare
 pub mod Adding
 pub mod Spans
+pub mod Escaping

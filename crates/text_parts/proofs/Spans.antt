@@ -41,14 +41,14 @@ unfolding part_len
 part_from k [] = refl
 part_from k (b ∷ []) =
     elim (stops k b) as (λ t. stops k b ≡ t
-        → cond (k.ends b) 0 1 ≡ cond (not t) (1 + 0) 0 + part_len k (drop (cond (not t) (1 + 0) 0) (b ∷ []))) [
+    → cond (k.ends b) 0 1 ≡ cond (not t) (1 + 0) 0 + part_len k (drop (cond (not t) (1 + 0) 0) (b ∷ []))) [
       | true ↦ λ e. omega arith
       | false ↦ λ e. let both = or_false (k.ends b) (b == 92) e in rw both.0 refl
     ] refl
 part_from k (b ∷ c ∷ bs) =
     elim (stops k b) as (λ t. stops k b ≡ t
-        → part_len k (b ∷ c ∷ bs) ≡ cond (not t) (1 + position_or_len (stops k) (c ∷ bs)) 0
-          + part_len k (drop (cond (not t) (1 + position_or_len (stops k) (c ∷ bs)) 0) (b ∷ c ∷ bs))) [
+    → part_len k (b ∷ c ∷ bs) ≡ cond (not t) (1 + position_or_len (stops k) (c ∷ bs)) 0
+    + part_len k (drop (cond (not t) (1 + position_or_len (stops k) (c ∷ bs)) 0) (b ∷ c ∷ bs))) [
       | true ↦ λ e. omega arith
       | false ↦ λ e.
           let both = or_false (k.ends b) (b == 92) e in
@@ -68,8 +68,8 @@ unfolding plain
 front_plain k [] = refl
 front_plain k (b ∷ bs) =
     elim (stops k b) as (λ t. stops k b ≡ t
-        → plain k (take (cond (not t) (1 + position_or_len (stops k) bs) 0) (b ∷ bs))
-          ≡ take (cond (not t) (1 + position_or_len (stops k) bs) 0) (b ∷ bs)) [
+    → plain k (take (cond (not t) (1 + position_or_len (stops k) bs) 0) (b ∷ bs))
+    ≡ take (cond (not t) (1 + position_or_len (stops k) bs) 0) (b ∷ bs)) [
       | true ↦ λ e. refl
       | false ↦ λ e.
           let m : 1 + position_or_len (stops k) bs ≡ suc (position_or_len (stops k) bs) = omega arith in
@@ -102,7 +102,7 @@ ends_there k bs n is none =
 pub position_or_all : (p : ℕ → Bool) (bs : List ℕ) → unwrap_or (position p bs) (length bs) ≡ position_or_len p bs
 position_or_all p bs =
     elim (ltb (position_or_len p bs) (length bs)) as (λ t. ltb (position_or_len p bs) (length bs) ≡ t
-        → unwrap_or (cond t (Some (position_or_len p bs)) None) (length bs) ≡ position_or_len p bs) [
+    → unwrap_or (cond t (Some (position_or_len p bs)) None) (length bs) ≡ position_or_len p bs) [
       | true ↦ λ e. refl
       | false ↦ λ e. omega (arith, ltb-false (position_or_len p bs) (length bs) e, prefix_len-le-length (λ b. not (p b)) bs)
     ] refl

@@ -7,3 +7,4 @@ pub mod Bare
 pub mod Adds
 pub mod Bytes
 pub mod Span
+pub mod Escaped

@@ -13,7 +13,7 @@ pub use append::{
     append_unsigned, append_words, settle,
 };
 pub use error::ReadError;
-pub use laws::{part_is_read, read_is_part};
+pub use laws::{escaped_is_part, part_is_read, read_is_part};
 pub use part::{Part, part_len, part_text, plain_bytes};
 pub use span::{Span, span_at, span_text};
 

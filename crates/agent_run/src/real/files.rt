@@ -1,4 +1,8 @@
 //! The standard streams as the run finds them, and the regular files that it has open.
+ghost use Rattle.std.specs.Prelude.{◌≡◌, ◌++◌, ◌∷◌, [], ◌↔◌, false, true, Some};
+ghost use Rattle.std.specs.Prelude.{Contains, IfSome, IsSome, MatchOption, OnOk};
+ghost use Rattle.std.specs.Fs.{IsFile, file_type};
+
 use fixed_num::OutOfMemory;
 use std::alloc::Global;
 use std::fs::{self, File, Metadata, OpenOptions};
@@ -10,8 +14,8 @@ use std::rt::Files;
 /// The last of the descriptors of the standard streams.
 const LAST_STANDARD: RawFd = 2;
 
-/// The links by which the system shows what stands behind the standard streams: each leads to the open file, and
-/// not to what bears its name by now.
+/// The links by which the system shows what stands behind the standard streams: each leads to the open file,
+/// and not to what bears its name by now.
 const STANDARD_INPUT: &str = "/proc/self/fd/0";
 
 pub const STANDARD_OUTPUT: &str = "/proc/self/fd/1";
@@ -27,7 +31,9 @@ pub struct FileIdentity {
 
 impl FileIdentity {
     /// None of a device, a pipe or a folder.
-    pub fn of(found: &Metadata) -> Option<FileIdentity> {
+    pub fn of(found: &Metadata) -> Option<FileIdentity>
+        ensures { IsSome result ↔ IsFile (file_type found.now) }
+    {
         if !found.is_file() {
             return None;
         }
@@ -113,7 +119,10 @@ pub struct OpenFiles {
 
 impl OpenFiles {
     /// No place is open yet.
-    pub fn new(alloc: Global, standard: StandardStreams) -> OpenFiles {
+    pub fn new(alloc: Global, standard: StandardStreams) -> OpenFiles
+        ensures standard { result.standard ≡ standard }
+        ensures places { result.places.items ≡ [] }
+    {
         OpenFiles {
             standard,
             places: Vec::new(alloc),
@@ -121,7 +130,11 @@ impl OpenFiles {
     }
 
     /// Notes the file of a place as open, where it is a regular one.
-    pub fn note(&mut self, file: Option<FileIdentity>) -> Result<(), OutOfMemory> {
+    pub fn add(&mut self, file: Option<FileIdentity>) -> Result<(), OutOfMemory>
+        ensures standard { self.new.standard ≡ self.old.standard }
+        ensures places { OnOk result (MatchOption file (self.new.places.items ≡ self.old.places.items)
+            (λ identity. self.new.places.items ≡ self.old.places.items ++ identity ∷ [])) }
+    {
         if let Some(identity) = file {
             self.places.push(identity)?;
         }
@@ -129,7 +142,10 @@ impl OpenFiles {
     }
 
     /// Whether it is the regular file of a place that is open.
-    pub fn is_place(&self, file: Option<FileIdentity>) -> bool {
+    pub fn is_place(&self, file: Option<FileIdentity>) -> bool
+        ensures { MatchOption file (result ≡ false)
+            (λ identity. (result ≡ true) ↔ Contains self.now.places.items identity) }
+    {
         match file {
             Some(identity) => self.places.contains(&identity),
             None => false,
@@ -137,7 +153,15 @@ impl OpenFiles {
     }
 
     /// Whether it is a regular file that is open: that of a place, or one behind a standard stream.
-    pub fn is_open(&self, file: Option<FileIdentity>) -> bool {
+    pub fn is_open(&self, file: Option<FileIdentity>) -> bool
+        ensures place { IfSome file (λ identity. Contains self.now.places.items identity → result ≡ true) }
+        ensures input { IfSome file (λ identity.
+            self.now.standard.input.file ≡ Some identity → result ≡ true) }
+        ensures output { IfSome file (λ identity.
+            self.now.standard.output.file ≡ Some identity → result ≡ true) }
+        ensures error { IfSome file (λ identity.
+            self.now.standard.error.file ≡ Some identity → result ≡ true) }
+    {
         let standard = self.standard;
         self.is_place(file)
             || file.is_some()

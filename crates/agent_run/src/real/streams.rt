@@ -151,9 +151,9 @@ impl Writer {
         Some(found.len())
     }
 
-    /// Takes so many bytes back that were written behind the end of a regular file, given how long it was: cuts
-    /// them off, and goes back to where they began. Where they stand elsewhere, or something else was written
-    /// meanwhile, they stay.
+    /// Takes so many bytes back that were written behind the end of a regular file, given how long it was:
+    /// cuts them off, and goes back to where they began. Where they stand elsewhere, or something else was
+    /// written meanwhile, they stay.
     fn take_back(&self, length: u64, count: usize) {
         if count == 0 || self.length() != length.checked_add(count as u64) {
             return;

@@ -16,7 +16,7 @@ returns-then-not-branch-clause-reads g c = λ start now w.
     let moment = to_z w64 (of_z w64 c.now-moment.result) in
     let same : moment ≡ c.now-moment.result = to_z-of_z w64 c.now-moment.result (search rules) in
     let gives : Gives (g.C.Clock.moments c.args.clock.now) (g.C.Clock.place c.args.clock.now) (g.C.Clock.place c.now-moment.new.self) moment = rw same c.now-moment.ensures.gives in
-    let here : Surroundings = record now { left = g.S.Source.left c.args.source.now; reads = g.S.Source.faults c.args.source.now; place = g.C.Clock.place c.args.clock.now } in
+    let here : Surroundings = record now { left = g.S.Source.left c.args.source.now; read_faults = g.S.Source.faults c.args.source.now; place = g.C.Clock.place c.args.clock.now } in
     let refused = refused_offer c.in_ok-offer.field-0 moment c.in_ok-group.group c.args.run.now.core c.offer.new.core c.if-not-branch.true c.in_ok-offer.ensures.offered in
     subst (λ (k : CoreState). Progress s k c.read_group.new.pieces c.args.run.now.failed (read_to here states.LimitReached (g.S.Source.left c.read_group.new.source) (g.S.Source.faults c.read_group.new.source) (g.C.Clock.place c.now-moment.new.self))) (sym refused.0)
     (went_full s c.args.run.now.core c.args.run.now.pieces c.read_group.new.pieces c.args.run.now.failed here c.in_ok-group.state moment c.in_ok-group.group (g.S.Source.left c.read_group.new.source)
@@ -29,7 +29,7 @@ returns-clause-reads g c = λ start now w.
     let moment = to_z w64 (of_z w64 c.now-moment.result) in
     let same : moment ≡ c.now-moment.result = to_z-of_z w64 c.now-moment.result (search rules) in
     let gives : Gives (g.C.Clock.moments c.args.clock.now) (g.C.Clock.place c.args.clock.now) (g.C.Clock.place c.now-moment.new.self) moment = rw same c.now-moment.ensures.gives in
-    let here : Surroundings = record now { left = g.S.Source.left c.args.source.now; reads = g.S.Source.faults c.args.source.now; place = g.C.Clock.place c.args.clock.now } in
+    let here : Surroundings = record now { left = g.S.Source.left c.args.source.now; read_faults = g.S.Source.faults c.args.source.now; place = g.C.Clock.place c.args.clock.now } in
     let offered = accepted_offer c.in_ok-offer.field-0 moment c.in_ok-group.group c.args.run.now.core c.offer.new.core c.if-not-branch.false c.in_ok-offer.ensures.offered in
     went_ended c.in_ok-group.state s c.offer.new.core c.end_input.new.core c.read_group.new.pieces c.args.run.now.failed
     (read_to here c.in_ok-group.state (g.S.Source.left c.read_group.new.source) (g.S.Source.faults c.read_group.new.source) (g.C.Clock.place c.now-moment.new.self)) c.in_ok-end_input.ensures.ending

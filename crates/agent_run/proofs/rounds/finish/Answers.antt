@@ -16,11 +16,11 @@ route_all-requires-clause-stands g c = continues c.in_ok-stop.ensures.stands c.r
 
 pub returns-clause-goes : goal.returns-clause-goes
 returns-clause-goes g c = λ start now w.
-    let before : Surroundings = record now { held = g.K.Sink.held c.args.sink.now; puts = g.K.Sink.faults c.args.sink.now } in
-    let stopped : Surroundings = record now { stops = int_max c.args.moment start.setup.start ∷ [] } in
+    let before : Surroundings = record now { held = g.K.Sink.held c.args.sink.now; put_faults = g.K.Sink.faults c.args.sink.now } in
+    let stopped : Surroundings = record now { counted_at = int_max c.args.moment start.setup.start ∷ [] } in
     let same : to_z w64 (of_z w64 c.args.moment) ≡ c.args.moment = to_z-of_z w64 c.args.moment c.ranges.moment in
     let after_stopped = subst (λ (m : ℤ). c.stop.new.self ≡ after_stop c.args.run.now.core m) same c.in_ok-stop.ensures.ok in
     let stands = subst (λ (m : ℤ). Continues c.args.run.now.core c.stop.new.self (Stop (int_max m c.args.run.now.core.counted) [])) same c.in_ok-stop.ensures.stands in
     let a = went_stop start c.args.run.now.core c.stop.new.self c.args.run.now.pieces c.args.run.now.failed before c.args.moment after_stopped stands w in
-    let b = c.in_ok-route_all.ensures.goes start (record before { stops = int_max c.args.moment start.setup.start ∷ [] }) a in
+    let b = c.in_ok-route_all.ensures.goes start (record before { counted_at = int_max c.args.moment start.setup.start ∷ [] }) a in
     c.in_ok-send_rest.ensures.sends start stopped b

@@ -22,15 +22,15 @@ returns g c =
     let moment = to_z w64 (of_z w64 c.now-moment.result) in
     let same_moment : moment ≡ c.now-moment.result = to_z-of_z w64 c.now-moment.result (search rules) in
     let text = g.S.Source.left c.args.source.now in
-    let reads = g.S.Source.faults c.args.source.now in
+    let read_faults = g.S.Source.faults c.args.source.now in
     let held = g.K.Sink.held c.args.sink.now in
-    let puts = g.K.Sink.faults c.args.sink.now in
+    let put_faults = g.K.Sink.faults c.args.sink.now in
     let noted = g.K.Sink.held c.args.journal.now.sink in
     let note_faults = g.K.Sink.faults c.args.journal.now.sink in
     let moments = g.C.Clock.moments c.args.input_clock.now in
     let run = c.in_ok-run.run' in
     let last = c.finish.new.run in
-    let begun : Beginning = record { setup = pipe_setup batch limit start; text = text; reads = reads; held = held; puts = puts; noted = noted; note_faults = note_faults; moments = moments } in
+    let begun : Beginning = record { setup = pipe_setup batch limit start; bytes = text; read_faults = read_faults; held = held; put_faults = put_faults; noted = noted; note_faults = note_faults; moments = moments } in
     let part : JournalPart = part_of g.K.Sink.held g.K.Sink.faults c.args.journal.now in
     let first = went_first begun run.core run.pieces run.failed part c.in_ok-run.ensures.stands (c.in_ok-run.ensures.setup ∙ ap (pipe_setup batch limit) same_start) c.in_ok-run.ensures.stored
     (notes_none (journal_setup_of (pipe_setup batch limit start)) part c.requires.about c.requires.none_kept c.requires.none_put c.requires.none_failed) c.in_ok-run.ensures.pieces c.in_ok-run.ensures.failed in
@@ -39,12 +39,12 @@ returns g c =
     let now : Surroundings = record {
       state = c.in_ok-state.state;
       left = g.S.Source.left c.rounds.new.source;
-      reads = g.S.Source.faults c.rounds.new.source;
+      read_faults = g.S.Source.faults c.rounds.new.source;
       place = g.C.Clock.place c.rounds.new.clock;
       held = g.K.Sink.held c.finish.new.sink;
-      puts = g.K.Sink.faults c.finish.new.sink;
+      put_faults = g.K.Sink.faults c.finish.new.sink;
       journal = part_of g.K.Sink.held g.K.Sink.faults c.rounds.new.journal;
-      stops = [];
+      counted_at = [];
     } in
     let finished = c.in_ok-finish.ensures.goes begun now rounds in
     let ending = c.in_ok-ending.ending in
@@ -53,7 +53,7 @@ returns g c =
     let put_so : IsPutSo ending.journal_failed put whole = subst (λ (failed : Bool). IsPutSo failed put whole) (sym c.in_ok-ending.ensures.failed)
     (c.in_ok-ending.ensures.ends (journal_setup_of (pipe_setup batch limit start)) noted note_faults finished.text.written finished.text.notes (stored_in_order begun last.core (part_of g.K.Sink.held g.K.Sink.faults c.rounds.new.journal) finished.journal finished.text)) in
     record {
-      ran = ran batch limit start moment text reads held puts noted note_faults moments (g.C.Clock.moments c.args.clock.now) (g.C.Clock.place c.args.clock.now) (g.C.Clock.place c.now-moment.new.self)
+      ran = ran batch limit start moment text read_faults held put_faults noted note_faults moments (g.C.Clock.moments c.args.clock.now) (g.C.Clock.place c.args.clock.now) (g.C.Clock.place c.now-moment.new.self)
           last.core last.pieces last.failed now finished c.requires.first (rw same_moment c.now-moment.ensures.gives)
           c.in_ok-finish.ensures.stopped c.in_ok-finish.ensures.none_raw c.in_ok-finish.ensures.ready.empty_handed c.in_ok-finish.ensures.rest c.in_ok-state.ensures.read
           ending put c.in_ok-ending.ensures.state c.in_ok-ending.ensures.left c.in_ok-ending.ensures.account put_so;

@@ -1,5 +1,5 @@
 use Rattle.line_proto.proofs.Parts.{byte_boundary}
-use Rattle.std.proofs.Common.{◌∙◌, ap, sym, arith, eqb, get_or, List, ℕ}
+use Rattle.std.proofs.Common.{◌∙◌, sym, arith}
 use Rattle.line_proto.proofs.read_parts.key_at.Goals as goal
 
 pub returns-clause-behind : goal.returns-clause-behind

@@ -1,6 +1,4 @@
-use Rattle.std.proofs.Common.{◌≡◌, ◌+◌, ◌∙◌, ℕ, refl, sym, ap, subst, take, drop, length, arith}
-use Rattle.std.specs.Str.{IsCharBoundary}
-use Rattle.std.specs.List.{position_or_len}
+use Rattle.std.proofs.Common.{◌∙◌, refl, drop}
 use Rattle.text_parts.proofs.Spans.{found_len, unhidden_part, unhidden_end, unhidden_rest_boundary}
 use Rattle.line_proto.specs.Kinds.{value_part}
 use Rattle.line_proto.proofs.Parts.{value_low}

@@ -11,11 +11,11 @@ returns-then-self-clause-pieces c =
     let after : Hand = record { bytes = bytes_of t; is_passing = false; taken = t.taken } in
     gives_passed (hand_of s) after s.buf.items s.start s.end c.args.i (s.start + c.args.i + 1) refl c.skip_to.ensures.bytes refl c.requires.line c.if-self.true refl
 
-pub returns-then-i-gt-LIMIT-clause-pieces : goal.returns-then-i-gt-LIMIT-clause-pieces
-returns-then-i-gt-LIMIT-clause-pieces c =
+pub returns-then-i-gt-MAX_LINE_BYTES-clause-pieces : goal.returns-then-i-gt-MAX_LINE_BYTES-clause-pieces
+returns-then-i-gt-MAX_LINE_BYTES-clause-pieces c =
     let s = c.args.self.now in
-    let t = c.skip_to-then-i-gt-LIMIT.new.self in
-    let after = c.skip_to-then-i-gt-LIMIT.ensures in
+    let t = c.skip_to-then-i-gt-MAX_LINE_BYTES.new.self in
+    let after = c.skip_to-then-i-gt-MAX_LINE_BYTES.ensures in
     gives_long (hand_of s) (hand_of t) s.buf.items s.start s.end c.args.i (s.start + c.args.i + 1) refl after.bytes refl c.requires.line c.if-self.false (after.passing ∙ c.if-self.false) (omega arith)
 
 pub returns-clause-pieces : goal.returns-clause-pieces

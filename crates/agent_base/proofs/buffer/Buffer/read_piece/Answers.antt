@@ -17,8 +17,8 @@ reads-preserved g c =
       none = search rules;
     }
 
-pub returns-then-self-eq-MOST-clause-whatever_follows : goal.returns-then-self-eq-MOST-clause-whatever_follows
-returns-then-self-eq-MOST-clause-whatever_follows g c =
+pub returns-then-self-eq-MAX_TAKEN_BYTES-clause-whatever_follows : goal.returns-then-self-eq-MAX_TAKEN_BYTES-clause-whatever_follows
+returns-then-self-eq-MAX_TAKEN_BYTES-clause-whatever_follows g c =
     let left = g.S.Source.left in
     let takes = takes_more (left c.args.src.now) (left c.reads.src) (left c.read_more.new.src) (hand_of c.args.self.now) (hand_of c.reads.self) (hand_of c.make_room.new.self) (hand_of c.read_more.new.self)
     c.reads.invariant.takes c.make_room.ensures.same c.read_more.ensures.takes in

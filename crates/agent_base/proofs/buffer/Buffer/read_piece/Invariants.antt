@@ -3,7 +3,7 @@ use Rattle.agent_base.specs.Buffered.{hand_of, bytes_of}
 use Rattle.agent_base.specs.Cut.{NoNewline}
 use Rattle.agent_base.specs.Hand.{Steps}
 use Rattle.agent_base.specs.Taken.{Takes}
-use Rattle.agent_base.specs.declared.buffer.TheConstants.{MOST}
+use Rattle.agent_base.specs.declared.buffer.TheConstants.{MAX_TAKEN_BYTES}
 use Rattle.agent_base.proofs.buffer.Buffer.read_piece.Given as goal
 
 abbrev pub invariant-reads : goal.invariant-reads
@@ -12,9 +12,9 @@ invariant-reads g l = record {
   takes : Takes (g.S.Source.left l.fn.src) (g.S.Source.left l.src) (hand_of l.fn.self) (hand_of l.self);
   faults : g.S.Source.faults l.fn.src ≤ g.S.Source.faults l.src;
   grows : l.fn.self.taken ≤ l.self.taken;
-  most : l.self.taken < MOST;
+  most : l.self.taken < MAX_TAKEN_BYTES;
   none : NoNewline (bytes_of l.self);
 }
 
 abbrev pub decreases-reads : goal.decreases-reads
-decreases-reads g l = MOST - l.self.taken
+decreases-reads g l = MAX_TAKEN_BYTES - l.self.taken

@@ -83,9 +83,21 @@ def differing(probe, form, lines, expected, most):
     return first + [half + at for at in second]
 
 
+def endings_of(line):
+    """Texts that end in each way, and lines about as long as a piece may be."""
+    ends = (b"", b"\n", b"\r", b"\r\n")
+    texts = [*ends, b"\n\r", b" ", line, line + b"\r\r", line + b"\r\r\n", line + b"\n" + line]
+    return texts + [line.ljust(LONGEST + more) + end for more in (-1, 0, 1) for end in ends]
+
+
 def compare_reading(reader, form, lines, probe):
     """Compares the probe's reading with the plain one; a text for each line where they differ."""
     found, kinds = [], {}
+    for text in endings_of(reader.EXAMPLES[0]):
+        said, right = probed(probe, form, [text]), wanted([expected_of(reader, text)])
+        if said != right:
+            texts = (text[-20:], len(text), said, right)
+            found.append("%r, %d bytes\n    probe:    %r\n    document: %r" % texts)
     for begin in range(0, len(lines), CHUNK):
         some = lines[begin : begin + CHUNK]
         expected = [expected_of(reader, line) for line in some]

@@ -1,8 +1,8 @@
 """Writes an input of line protocol: inputs.py KIND LINES FILE.
 
-KIND is telegraf or small. The same words give the same bytes, and a shorter input begins a longer one. Each
-line is as Hogzent writes it (tags sorted by key, canonical numbers with at most nine decimals, a time, no
-backslash and no double quote), so that an output must equal its input.
+KIND is telegraf, small or escaped. The same words give the same bytes, and a shorter input begins a longer
+one. Each line is as Hogzent writes it (tags sorted by key, canonical numbers with at most nine decimals, a
+time), so that an output must equal its input. Only escaped has backslashes and double quotes.
 """
 
 import random
@@ -11,6 +11,8 @@ import sys
 REGIONS = ["eu-west-1", "eu-central-1", "us-east-1", "us-west-2", "ap-south-1"]
 SERVICES = ["checkout", "search", "accounts", "mail", "ledger", "images"]
 TEAMS = ["platform", "storage", "payments", "network"]
+SITES = ["Frankfurt am Main", "hall 3", "Sao Paulo 2", "New York"]
+STATES = ['state is "up"', 'unit "db.service" failed: see "journalctl -u db"', '"ok"']
 DEVICES = ["sda1", "sdb1", "nvme0n1p1", "nvme1n1p2", "dm-0"]
 PATHS = ["/", "/var", "/var/lib/data", "/home", "/srv/backup"]
 START = 1_790_000_000
@@ -90,20 +92,33 @@ def net(rng, tags):
 PLUGINS = [("cpu", cpu), ("mem", mem), ("disk", disk), ("net", net)]
 
 
-def telegraf_line(rng, number):
-    name, plugin = rng.choice(PLUGINS)
-    tags = common_tags(rng)
-    fields = plugin(rng, tags)
+def line_of(name, tags, fields, number):
     head = ",".join([name] + ["%s=%s" % pair for pair in sorted(tags.items())])
     body = ",".join("%s=%s" % pair for pair in fields)
     return "%s %s %d000000000\n" % (head, body, START + number // 100 * 10)
+
+
+def telegraf_line(rng, number):
+    name, plugin = rng.choice(PLUGINS)
+    tags = common_tags(rng)
+    return line_of(name, tags, plugin(rng, tags), number)
+
+
+def escaped_line(rng, number):
+    """As telegraf, with a tag whose value has escaped spaces, and a text that has escaped quotes."""
+    name, plugin = rng.choice(PLUGINS)
+    tags = common_tags(rng)
+    fields = plugin(rng, tags)
+    tags["site"] = rng.choice(SITES).replace(" ", "\\ ")
+    fields.append(("message", '"%s"' % rng.choice(STATES).replace('"', '\\"')))
+    return line_of(name, tags, fields, number)
 
 
 def small_line(rng, number):
     return "cpu,host=h%d v=%di %d000000\n" % (rng.randrange(10), rng.randrange(100), number % 10 + 1)
 
 
-KINDS = {"telegraf": telegraf_line, "small": small_line}
+KINDS = {"telegraf": telegraf_line, "small": small_line, "escaped": escaped_line}
 
 
 def main(kind, lines, path):

@@ -1,3 +1,4 @@
 pub mod Building
 pub mod Metric
 pub mod Pairs
+pub mod Text

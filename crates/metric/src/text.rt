@@ -10,25 +10,38 @@ ghost use Rattle.std.specs.Ordering.{nat_cmp, as_partial_cmp};
 ghost use Rattle.std.specs.Hash as fed;
 ghost use Rattle.std.specs.String.{string_bytes};
 
+use arrayvec::ArrayString;
 use fixed_num::OutOfMemory;
 use std::alloc::Global;
 use std::cmp::Ordering;
 use std::hash::{Hash, Hasher};
 use std::marker::Model;
 
-/// UTF-8 text that contracts see as its bytes.
+/// The most bytes of a text that stands in place: names, keys and the values of tags are mostly shorter.
+const IN_PLACE: usize = 24;
+
+/// How a text is kept.
+#[derive(Drop, Debug)]
+enum Kept {
+    /// In place.
+    Short(ArrayString<IN_PLACE>),
+    /// In memory of its own.
+    Long(String),
+}
+
+/// UTF-8 text that contracts see as its bytes. A short one takes no memory but its own.
 #[derive(Drop, Debug)]
 pub struct Text {
-    string: String,
+    kept: Kept,
 }
 
 impl Model for Text {
     ghost use Rattle.std.specs.Prelude.{List, ℕ};
-    ghost use Rattle.std.specs.String.{string_bytes};
+    ghost use Rattle.metric.specs.Text.{kept_bytes};
 
     ghost Value = { List ℕ };
 
-    ghost view = { λ t. string_bytes t.string };
+    ghost view = { λ t. kept_bytes t.kept };
 }
 
 impl Text {
@@ -36,8 +49,15 @@ impl Text {
     pub fn of(alloc: Global, s: &str) -> Result<Text, OutOfMemory>
         ensures { IfOk result (λ t. t ≡ s.now) }
     {
+        if s.len() <= IN_PLACE {
+            let mut short = ArrayString::new();
+            short.push_str(s);
+            return Ok(Text {
+                kept: Kept::Short(short),
+            });
+        }
         Ok(Text {
-            string: String::from_str(alloc, s)?,
+            kept: Kept::Long(String::from_str(alloc, s)?),
         })
     }
 
@@ -45,14 +65,19 @@ impl Text {
     pub fn of_string(string: String) -> Text
         ensures { result ≡ string_bytes string }
     {
-        Text { string }
+        Text {
+            kept: Kept::Long(string),
+        }
     }
 
     /// The text.
     pub fn as_str(&self) -> &str
         ensures { result.now ≡ self.now }
     {
-        self.string.as_str()
+        match &self.kept {
+            Kept::Short(text) => text.as_str(),
+            Kept::Long(text) => text.as_str(),
+        }
     }
 }
 
@@ -62,7 +87,7 @@ impl PartialEq for Text {
     ghost laws = { partial_equiv_from_equiv nat_list_eq_equiv };
 
     fn eq(&self, other: &Self) -> bool {
-        self.string.as_str() == other.string.as_str()
+        self.as_str() == other.as_str()
     }
 }
 
@@ -80,7 +105,7 @@ impl Ord for Text {
     ghost matches_eq = { Prim.search (comparing, rules) };
 
     fn cmp(&self, other: &Self) -> Ordering {
-        self.string.as_str().cmp(other.string.as_str())
+        self.as_str().cmp(other.as_str())
     }
 }
 
@@ -101,6 +126,6 @@ impl Hash for Text {
     ghost respects_eq = { Prim.search (hashing, rules) };
 
     fn hash<H: Hasher>(&self, state: &mut H) {
-        self.string.as_str().hash(state);
+        self.as_str().hash(state);
     }
 }

@@ -1,3 +1,5 @@
 pub mod Building
+pub mod Glob
+pub mod GlobScan
 pub mod Metric
 pub mod Pairs

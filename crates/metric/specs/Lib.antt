@@ -1,4 +1,6 @@
 pub mod Building
+pub mod Glob
+pub mod GlobScan
 pub mod Metric
 pub mod Pairs
 pub mod Text

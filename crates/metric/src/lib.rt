@@ -2,16 +2,22 @@
 #![tactic(auto)]
 
 mod builder;
+mod glob;
+mod glob_scan;
+mod glob_text;
 mod laws;
 mod metric;
 mod text;
 mod value;
 
 pub use builder::{BuildFault, Builder};
+pub use glob::{Element, Glob, GlobFault, tests_matches};
 pub use laws::{first_order, growth, key_order};
 pub use metric::{Content, Metric};
 pub use text::Text;
 pub use value::Value;
 
+#[cfg(test)]
+mod glob_tests;
 #[cfg(test)]
 mod tests;

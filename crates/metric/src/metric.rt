@@ -44,8 +44,10 @@ impl Model for Metric {
 }
 
 impl Metric {
-    /// The metric of a content.
-    pub(crate) fn of(alloc: Global, content: Content) -> Result<Metric, OutOfMemory>
+    /// The metric of a content of which all holds that is true of each metric: its texts are UTF-8, its name,
+    /// its keys and the values of its tags are filled, the keys of its tags rise, those of its fields are
+    /// distinct, and it has a field.
+    pub fn of(alloc: Global, content: Content) -> Result<Metric, OutOfMemory>
         requires { IsMetric content }
         ensures { IfOk result (λ m. m ≡ content) }
     {

@@ -1,0 +1,8 @@
+use Rattle.std.proofs.Common.{arith, refl, sym}
+use Rattle.metric.specs.Glob.{ranges_of}
+use Rattle.metric.proofs.GlobTextLemmas.{is_all}
+use Rattle.metric.proofs.glob_text.ranges_of.Goals as goal
+
+pub returns : goal.returns
+unfolding ranges_of
+returns c = sym (is_all ranges_of c.args.marks.now c.loop-at.at _ c.loop-at.invariant.rest (omega arith) refl)

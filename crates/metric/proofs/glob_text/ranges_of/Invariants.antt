@@ -1,0 +1,13 @@
+use Rattle.std.proofs.Common.{◌≡◌, ◌≤◌, ◌-◌, length, drop}
+use Rattle.metric.specs.Glob.{ranges_of}
+use Rattle.metric.proofs.GlobTextLemmas.{in_front}
+use Rattle.metric.proofs.glob_text.ranges_of.Given as goal
+
+abbrev pub invariant-loop-at : goal.invariant-loop-at
+invariant-loop-at l = record {
+  within : l.at ≤ length l.marks;
+  rest : in_front l.ranges.items (ranges_of (drop l.at l.marks)) ≡ ranges_of l.marks;
+}
+
+abbrev pub decreases-loop-at : goal.decreases-loop-at
+decreases-loop-at l = length l.marks - l.at

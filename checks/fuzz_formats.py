@@ -3,10 +3,10 @@
     fuzz_formats.py FORMAT COUNT SEED PROBE PROGRAM
 
 PROBE is format_probe: each piece that it reads must give the line, or the fault and its place, that the
-module format_FORMAT gives, which follows docs/formats.md alone. PROGRAM is the agent: what `pipe` wrote must
-be read by `pipe` without a refusal and written again, as the same line. Where the document itself has another
-line, that one must come, and the number of these lines is printed. Of the differences the first ten are
-printed, with their bytes.
+module format_FORMAT gives, which follows docs/formats.md alone. PROGRAM is the agent: `pipe` must write these
+lines too, and what it wrote must be read by `pipe` without a refusal and written again, as the same line.
+Where the document itself has another line, that one must come, and the number of these lines is printed. Of
+the differences the first ten are printed, with their bytes.
 """
 
 import importlib
@@ -112,39 +112,74 @@ def compare_reading(reader, form, lines, probe):
 
 
 def piped(program, source, target):
-    """Runs the agent over a file; the account, and the output's lines."""
+    """Runs the agent over a file; the pieces, refusals and metrics of its account, and the output's lines."""
     with tempfile.TemporaryDirectory() as folder:
         words = [program, "pipe", source, target, "1000", "10000"]
         ran = subprocess.run(words, cwd=folder, stdin=subprocess.DEVNULL, capture_output=True, check=False)
-    if ran.returncode != 0:
-        sys.exit("fuzz-formats: pipe ended with the status %d: %r" % (ran.returncode, ran.stderr))
+    account = re.match(rb"input 0 pieces (\d+) refused (\d+) .* gathered (\d+) ended\n", ran.stdout)
+    if ran.returncode != 0 or not account:
+        sys.exit("fuzz-formats: pipe ended with status %d: %r, %r" % (ran.returncode, ran.stdout, ran.stderr))
     with open(target, "rb") as file:
-        return ran.stdout, file.read().splitlines(keepends=True)
+        *lines, rest = file.read().split(b"\n")
+    return tuple(int(it) for it in account.groups()), lines + [rest] * (rest != b"")
 
 
-def compare_again(reader, lines, program):
-    """Lets the agent read what it wrote; a text for each difference, and lines that the document changes."""
+def compare_written(reader, lines, account, written):
+    """Compares what the agent counted and wrote of lines with the document; a text for each difference."""
+    found, metrics, refused = [], [], 0
+    pieces = pieces_of(b"".join(lines))
+    for piece in pieces:
+        try:
+            metrics.append(reader.read(piece, None) if piece is not None else None)
+            refused += piece is None
+        except reader.Refused:
+            refused += 1
+    metrics = [it for it in metrics if it is not None]
+    counts = (len(pieces), refused, len(metrics))
+    if account != counts:
+        found.append("pieces, refused, gathered are %r, and not %r" % (account, counts))
+    if len(written) != len(metrics):
+        found.append("%d lines were written" % len(written))
+    for said, (*metric, time) in zip(written, metrics):
+        # Where the line had no time it has the moment at which it was read.
+        line = reader.write((*metric, time if time is not None else int(re.search(rb"\d*$", said)[0] or 0)))
+        if said != line:
+            found.append("pipe wrote: %r\n    document:   %r" % (said, line))
+    return found
+
+
+def compare_again(reader, written, account, again):
+    """Compares what the agent wrote of its own lines with these; gives the differences, and the lines
+    that the document itself changes."""
+    found, changed = [], []
+    if account != (len(written), 0, len(written)) or len(again) != len(written):
+        found.append("pieces, refused, gathered are %r, of %d lines" % (account, len(written)))
+    for line, said in zip(written, again):
+        told, _ = expected_of(reader, line + b"\n")
+        if [said] != told:
+            found.append("%r\n    written again: %r\n    document:      %r" % (line, said, told))
+        elif said != line:
+            changed.append(line)
+    return found, changed
+
+
+def compare_pipe(reader, form, lines, program):
+    """Runs the agent over the lines, and over what it wrote; the differences."""
     with tempfile.TemporaryDirectory() as folder:
         path, first, second = (os.path.join(folder, name) for name in ("in", "first", "second"))
         with open(path, "wb") as file:
             file.writelines(lines)
-        piped(program, path, first)
-        account, again = piped(program, first, second)
-        with open(first, "rb") as file:
-            before = file.read().split(b"\n")
-    found, changed = [], []
-    all_read = re.search(rb"^input 0 pieces (\d+) refused 0 .*gathered \1 ended$", account, re.M)
-    if before.pop() != b"" or not all_read:
-        found.append("what pipe wrote isn't read whole: %r" % account)
-    if len(again) != len(before):
-        return found + ["%d lines were written, and %d of them again" % (len(before), len(again))], changed
-    for line, said in zip(before, again):
-        told, _ = expected_of(reader, line + b"\n")
-        if [said] != [it + b"\n" for it in told]:
-            found.append("%r\n    written again: %r\n    document:      %r" % (line, said, told))
-        elif told != [line]:
-            changed.append(line)
-    return found, changed
+        account, written = piped(program, path, first)
+        account_again, again = piped(program, first, second)
+    found = compare_written(reader, lines, account, written)
+    report("%s, what pipe wrote, beside the document" % form, found)
+    found_again, changed = compare_again(reader, written, account_again, again)
+    report("%s, what pipe wrote, through pipe again" % form, found_again)
+    if changed:
+        print("fuzz-formats: %d of these lines are another line by the document itself, as" % len(changed))
+        for line in changed[:3]:
+            print("  %r" % line)
+    return found + found_again
 
 
 def report(name, found):
@@ -165,13 +200,7 @@ def main(form, count, seed, probe, program):
     lines[-1] = lines[-1][:-1]
     reading = compare_reading(reader, form, lines, probe)
     report("%s, %d lines, beside a reading by docs/formats.md" % (form, len(lines)), reading)
-    again, changed = compare_again(reader, lines, program)
-    report("%s, what pipe wrote, through pipe again" % form, again)
-    if changed:
-        print("fuzz-formats: %d of these lines are another line by the document itself, as" % len(changed))
-        for line in changed[:3]:
-            print("  %r" % line)
-    return 1 if reading or again else 0
+    return 1 if reading + compare_pipe(reader, form, lines, program) else 0
 
 
 if __name__ == "__main__":

@@ -1,13 +1,15 @@
-"""Says what callgrind counted for a kind of input: callgrind.py KIND FEW SOME MANY.
+"""Says what callgrind counted for a kind of input: callgrind.py KIND FEW SOME MANY, mostly those of SIZES.
 
 It reads KIND-LINES.out of the three sizes. What a line costs is the difference of two sizes by the lines between
 them, so that the start and the end of the program aren't in it.
 """
 
+import os
 import re
 import sys
 from collections import Counter
 
+SIZES = [2000, 4000, 20000]
 ALLOCATING = ["malloc", "calloc", "realloc"]
 HEAVIEST = 20
 
@@ -46,27 +48,42 @@ class Counts:
         return sum(self.instructions.values())
 
 
+class Cost:
+    """What a line costs, from the counts of three sizes in a folder."""
+
+    def __init__(self, folder, kind, sizes):
+        self.few, self.some, self.many = (Counts(os.path.join(folder, "%s-%d.out" % (kind, size))) for size in sizes)
+        first, second, third = sizes
+        self.lines = second - first
+        self.instructions = (self.some.total() - self.few.total()) / self.lines
+        self.instructions_later = (self.many.total() - self.some.total()) / (third - second)
+
+    def spent(self, name):
+        """The instructions of a function a line, without those of what it calls."""
+        return (self.some.instructions[name] - self.few.instructions[name]) / self.lines
+
+    def called(self, name):
+        """The calls of a function a line."""
+        return (self.some.calls[name] - self.few.calls[name]) / self.lines
+
+    def allocations(self):
+        return sum(self.called(name) for name in ALLOCATING)
+
+
 def main(kind, *sizes):
-    few, some, many = (Counts("%s-%s.out" % (kind, size)) for size in sizes)
-    first, second, third = (int(size) for size in sizes)
-    lines = second - first
-
-    def each(counter):
-        return lambda name: (counter(some)[name] - counter(few)[name]) / lines
-
-    spent, called = each(lambda c: c.instructions), each(lambda c: c.calls)
-    line = (some.total() - few.total()) / lines
-    later = (many.total() - some.total()) / (third - second)
+    sizes = [int(size) for size in sizes]
+    cost = Cost(".", kind, sizes)
+    first, second, third = (format(size, ",") for size in sizes)
     print("%s: %s instructions a line between %s and %s lines, %s between %s and %s" % (
-        (kind, format(round(line), ",")) + tuple(format(n, ",") for n in (first, second))
-        + (format(round(later), ","),) + tuple(format(n, ",") for n in (second, third))))
-    print("allocations a line: " + ", ".join("%.2f %s" % (called(name), name) for name in ALLOCATING + ["free"]))
+        kind, format(round(cost.instructions), ","), first, second,
+        format(round(cost.instructions_later), ","), second, third))
+    print("allocations a line: " + ", ".join("%.2f %s" % (cost.called(name), name) for name in ALLOCATING + ["free"]))
     print()
     print("| instructions/line | share | calls/line | function |")
     print("| ----------------: | ----: | ---------: | -------- |")
-    for name in sorted(some.instructions, key=spent, reverse=True)[:HEAVIEST]:
+    for name in sorted(cost.some.instructions, key=cost.spent, reverse=True)[:HEAVIEST]:
         print("| %s | %.1f%% | %.1f | `%s` |" % (
-            format(round(spent(name)), ","), 100 * spent(name) / line, called(name), name))
+            format(round(cost.spent(name)), ","), 100 * cost.spent(name) / cost.instructions, cost.called(name), name))
     print()
 
 

@@ -1,4 +1,5 @@
-"""Runs the programs side by side and prints the tables: measure.py WORK PROGRAM KIND.."""
+"""Runs the programs side by side and prints the tables, and each bound with what was measured:
+measure.py WORK PROGRAM KIND.., with --quick before the kinds for the ratios alone."""
 
 import datetime
 import filecmp
@@ -9,11 +10,21 @@ import sys
 import zlib
 from collections import namedtuple
 
+import callgrind
+
 HERE = os.path.dirname(os.path.realpath(__file__))
 SIZES = sorted(int(word) for word in os.environ.get("HOGZENT_BENCH_LINES", "10000 100000 1000000").split())
+QUICK_SIZE, QUICK_RUNS = 100_000, 3
 OURS = "hogzent pipe"
 GO = "go"
-GROWTH_BOUND = 1.1
+RUST = "rust, with journal"
+
+# Our lines a processor second by those of another program, at the most lines.
+RATIO_BOUNDS = {RUST: {"telegraf": 1.7, "small": 1.7}, GO: {"telegraf": 3.3, "small": 3.0}}
+INSTRUCTIONS_BOUNDS = {"telegraf": 15_000, "small": 3_800}
+ALLOCATIONS_BOUNDS = {"telegraf": 6, "small": 5}
+# Processor time a line at the most lines by that at the fewest.
+GROWTH_BOUND = 1.05
 
 Used = namedtuple("Used", "seconds processor kilobytes")
 Peer = namedtuple("Peer", "name words env")
@@ -35,7 +46,7 @@ def peers_of(work, program):
         peers.append(Peer(GO, [go, "IN", "OUT"], {}))
         peers.append(Peer("go, one thread", [go, "IN", "OUT"], {"GOMAXPROCS": "1"}))
     if os.path.exists(rust):
-        peers.append(Peer("rust, with journal", [rust, "pipe", "IN", "OUT", "peer.journal"], {}))
+        peers.append(Peer(RUST, [rust, "pipe", "IN", "OUT", "peer.journal"], {}))
         peers.append(Peer("copy by lines", [rust, "copy", "IN", "OUT"], {}))
     return peers
 
@@ -170,52 +181,117 @@ def growth_row(name, kind, few, many, results):
     return row, each[1] / each[0]
 
 
-def verdict(text, holds):
-    print("- %s: %s" % (text, "met" if holds else "NOT MET"))
-    return holds
+class Bounds:
+    """The bounds, each printed with what was measured."""
+
+    def __init__(self):
+        self.all_met = True
+
+    def say(self, text, measured, met):
+        self.all_met = self.all_met and met
+        print("- %s: %s, %s" % (text, measured, "met" if met else "NOT MET"))
+
+    def at_least(self, text, bound, measured):
+        self.say("%s, at least %.1f" % (text, bound), "%.2f" % measured, measured >= bound)
+
+    def at_most(self, text, bound, measured, form):
+        self.say("%s, at most %s" % (text, form % bound), form % measured, measured <= bound)
+
+    def unknown(self, text):
+        print("- %s: not measured" % text)
 
 
-def main(work, program, *kinds):
-    peers = peers_of(work, program)
-    folder = os.path.join(work, "runs")
-    os.makedirs(folder, exist_ok=True)
-    results, rows = {}, []
-    print(machine(), flush=True)
+def profiled(work, program, kinds):
+    """What a line of each kind costs by callgrind; none where the profile can't be made."""
+    say("profiling")
+    env = dict(os.environ, HOGZENT_PROGRAM=program)
+    made = subprocess.run([os.path.join(HERE, "profile")] + kinds, env=env, stdout=subprocess.DEVNULL, check=False)
+    if made.returncode:
+        return {}
+    folder = os.path.join(work, "profile")
+    return {kind: callgrind.Cost(folder, kind, callgrind.SIZES) for kind in kinds}
+
+
+def measured(peers, work, kinds, sizes, folder):
+    """What each program used, by kind and size."""
+    results = {}
     for kind in kinds:
         # The fewest lines come once more behind the most, so that a busy minute alone doesn't make the growth.
-        for lines in SIZES + SIZES[:1]:
+        for lines in sizes + sizes[:1] if len(sizes) > 1 else sizes:
             say("measuring %s, %s lines, %d runs" % (kind, whole(lines), runs_of(lines)))
             used = measure(peers, input_of(work, kind, lines), lines, folder)
             results[kind, lines] = least(results.get((kind, lines), {}), used)
+    return results
+
+
+def print_tables(work, kinds, sizes, results):
+    """The table of all runs, and that of the growth."""
+    rows, growth = [], []
     for (kind, lines), used in results.items():
         size = os.path.getsize(input_of(work, kind, lines))
         for name, one in used.items():
             rows.append(row_of(name, kind, lines, size, one, used.get(OURS)))
     print()
     print_table(HEAD, rows)
-
-    growth, verdicts = [], []
-    few, many = min(SIZES), max(SIZES)
+    few, many = min(sizes), max(sizes)
     for kind in kinds:
         for name in results[kind, few]:
-            if few == many or name not in results[kind, many]:
-                continue
-            row, ratio = growth_row(name, kind, few, many, results)
-            growth.append(row)
-            if name == OURS:
-                text = "growth of %s at most %.1f (%.2f)" % (kind, GROWTH_BOUND, ratio)
-                verdicts.append((text, ratio <= GROWTH_BOUND))
+            if few != many and name in results[kind, many]:
+                growth.append(growth_row(name, kind, few, many, results)[0])
     if growth:
         print_table(["program", "input", "lines", "us/line", "peak MB", "lines", "us/line", "peak MB", "growth"], growth)
+
+
+def check_times(bounds, kinds, sizes, results):
+    """The bounds on lines a processor second and on their growth."""
+    few, many = min(sizes), max(sizes)
     for (kind, lines), used in results.items():
         if OURS not in used:
-            verdicts.append(("%s, %s lines: gives back its input" % (kind, whole(lines)), False))
-        elif GO in used:
-            ratio = used[OURS].processor / used[GO].processor
-            text = "%s, %s lines: at least as many lines a processor second as go (go has %.2f of ours)"
-            verdicts.append((text % (kind, whole(lines), ratio), ratio <= 1))
-    held = [verdict(text, holds) for text, holds in verdicts]
-    return 0 if all(held) else 1
+            bounds.say("%s, %s lines: gives back its input" % (kind, whole(lines)), "it doesn't", False)
+    for kind in kinds:
+        used = results[kind, many]
+        for name, by_kind in RATIO_BOUNDS.items():
+            text = "%s, %s lines: our lines a processor second by those of %s" % (kind, whole(many), name)
+            if OURS in used and name in used:
+                bounds.at_least(text, by_kind[kind], used[name].processor / used[OURS].processor)
+            else:
+                bounds.unknown(text)
+        if few != many and OURS in used and OURS in results[kind, few]:
+            text = "%s: processor time a line at %s lines by that at %s" % (kind, whole(many), whole(few))
+            bounds.at_most(text, GROWTH_BOUND, growth_row(OURS, kind, few, many, results)[1], "%.2f")
+
+
+def check_costs(bounds, kinds, costs):
+    """The bounds on instructions and allocations."""
+    for kind in kinds:
+        texts = ["%s: %s a line" % (kind, word) for word in ("instructions", "allocations")]
+        if kind in costs:
+            bounds.at_most(texts[0], INSTRUCTIONS_BOUNDS[kind], round(costs[kind].instructions_later), "%d")
+            bounds.at_most(texts[1], ALLOCATIONS_BOUNDS[kind], costs[kind].allocations(), "%.2f")
+        else:
+            for text in texts:
+                bounds.unknown(text)
+
+
+def main(work, program, *words):
+    quick = words[:1] == ("--quick",)
+    kinds = list(words[1:] if quick else words)
+    if quick:
+        os.environ["HOGZENT_BENCH_RUNS"] = str(QUICK_RUNS)
+    sizes = [QUICK_SIZE] if quick else SIZES
+    peers = peers_of(work, program)
+    if quick:
+        peers = [peer for peer in peers if peer.name == OURS or peer.name in RATIO_BOUNDS]
+    folder = os.path.join(work, "runs")
+    os.makedirs(folder, exist_ok=True)
+    print(machine(), flush=True)
+    results = measured(peers, work, kinds, sizes, folder)
+    print_tables(work, kinds, sizes, results)
+    bounds = Bounds()
+    check_times(bounds, kinds, sizes, results)
+    if not quick:
+        check_costs(bounds, kinds, profiled(work, program, kinds))
+    return 0 if bounds.all_met else 1
 
 
 if __name__ == "__main__":

@@ -17,6 +17,8 @@ import time
 SECONDS = 20
 # How soon the journal must hold what was done.
 SOON = 1.0
+# How often a run is begun that is to be killed.
+TRIES = 10
 JOURNAL = "agent.journal"
 BATCH, LIMIT = 1_000, 10_000
 
@@ -185,6 +187,13 @@ def held(folder, name):
         return b""
 
 
+def clear(folder):
+    """Removes what a run left in a folder."""
+    for name in (JOURNAL, "out"):
+        if os.path.exists(os.path.join(folder, name)):
+            os.unlink(os.path.join(folder, name))
+
+
 def size_of(path):
     """The bytes that a file has; -1 where it isn't there."""
     try:
@@ -216,10 +225,10 @@ def end(started):
 
 
 def kill(started):
-    """Kills a run that goes on, and waits for its end."""
-    require(started.poll() is None, "the run ended before it was killed, with status %s" % started.poll())
+    """Kills a run, and waits for its end; False where it had ended before."""
     started.send_signal(signal.SIGKILL)
     started.communicate(timeout=SECONDS)
+    return started.returncode == -signal.SIGKILL
 
 
 def wait_until(what, seconds):
@@ -296,7 +305,7 @@ def killed_waiting(program, folder):
     """The run is killed while it waits for more input: the journal ends with a whole line."""
     with running(program, folder, "stdin", subprocess.PIPE) as started:
         feed(started, folder, lines_of(1_000), 1_000)
-        kill(started)
+        require(kill(started), "the run ended, and its input is open")
     require_sent(folder)
 
 
@@ -318,8 +327,10 @@ class Killing:
             reader = read_whole(folder, report)
             require(reader.written == self.LINES, "written %d" % reader.written)
             self.whole = held(folder, JOURNAL)
-            os.unlink(os.path.join(folder, JOURNAL))
-            os.unlink(os.path.join(folder, "out"))
+
+    def last_line(self):
+        """The last line of the whole journal, behind a newline."""
+        return self.whole[self.whole.rindex(b"\nend ") :]
 
     def at(self, share):
         """A case: killed once the journal has so much of its bytes; the share 0 is as soon as it is there."""
@@ -328,17 +339,20 @@ class Killing:
             self.lay(program, folder)
             least = int(len(self.whole) * share)
             path = os.path.join(folder, JOURNAL)
-            with running(program, folder, "in", subprocess.DEVNULL) as started:
-                wait_until(lambda: started.poll() is not None or size_of(path) >= least, SECONDS)
-                kill(started)
-            return self.look(held(folder, JOURNAL), held(folder, "out"))
+            # On a busy machine a run may end before it is killed.
+            for _ in range(TRIES):
+                clear(folder)
+                with running(program, folder, "in", subprocess.DEVNULL) as started:
+                    wait_until(lambda: started.poll() is not None or size_of(path) >= least, SECONDS)
+                    if kill(started) and not held(folder, JOURNAL).endswith(self.last_line()):
+                        return self.look(held(folder, JOURNAL), held(folder, "out"))
+            raise Fault("the run ended before it was killed, or its journal was whole, %d times" % TRIES)
 
         return run
 
     def look(self, front, out):
         """What a killed run left is a front of a journal, and its output holds what was accepted."""
         reader, rest = read_front(front)
-        require(not reader.whole, "the journal is whole: the run wasn't killed in its midst")
         require(
             without_moments(self.whole).startswith(without_moments(front)),
             "no front of the journal of a run that isn't killed; behind the last newline stands %r" % rest,

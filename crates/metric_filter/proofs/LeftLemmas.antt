@@ -1,0 +1,86 @@
+-- What is left where each part is kept, and where a part more was looked at.
+use Rattle.std.proofs.Common.{◌≡◌, ◌<◌, ◌≤◌, ◌+◌, ◌++◌, ℕ, Bool, true, false, List, [], ◌∷◌, length}
+use Rattle.std.proofs.Common.{drop, get_or, refl, sym, ap, ◌∙◌, append_assoc}
+use Rattle.std.proofs.lemmas.Bool.{and_parts}
+use Rattle.std.proofs.lemmas.List.{drop_more, drop_all, append-nil}
+use Rattle.metric.specs.declared.glob.Element.{Element}
+use Rattle.metric.specs.declared.metric.Content.{Content}
+use Rattle.metric_filter.specs.declared.rules.FilterRules.{FilterRules}
+use Rattle.metric_filter.specs.Filter.{keeps, keeps_each, kept, left}
+use Rattle.metric.specs.Metric.{IsMetric}
+use Rattle.metric.proofs.KeptLemmas.{kept as is_kept}
+use Rattle.std.specs.Prelude.{◌==◌}
+use Rattle.std.proofs.lemmas.Bool.{eqb-false}
+use Rattle.std.proofs.Common.{arith, subst, ℤ}
+use Rattle.metric.specs.declared.value.Value.{Value}
+
+module _ {X : Type 0} (include exclude : List (List Element)) where
+  kept_all : (pairs : List (List ℕ × X)) → keeps_each include exclude pairs ≡ true
+      → kept include exclude pairs ≡ pairs
+  kept_all [] h = refl
+  kept_all (pair ∷ pairs) h =
+      let both = and_parts (keeps include exclude pair.0) (keeps_each include exclude pairs) h in
+      rw both.0 (ap (λ ps. pair ∷ ps) (kept_all pairs both.1))
+
+  pub keeps_one : (pairs : List (List ℕ × X)) (i : ℕ) (d : List ℕ × X) (items : List (List ℕ × X))
+      → i < length pairs
+      → keeps include exclude (get_or pairs i d).0 ≡ true
+      → items ++ kept include exclude (drop i pairs) ≡ kept include exclude pairs
+      → (items ++ get_or pairs i d ∷ []) ++ kept include exclude (drop (i + 1) pairs)
+      ≡ kept include exclude pairs
+  keeps_one pairs i d items lt k h =
+      append_assoc items (get_or pairs i d ∷ []) _
+      ∙ ap (λ ps. items ++ ps) (sym (ap (kept include exclude) (drop_more pairs i d lt) ∙ rw k refl)) ∙ h
+
+  pub leaves_one : (pairs : List (List ℕ × X)) (i : ℕ) (d : List ℕ × X) (items : List (List ℕ × X))
+      → i < length pairs
+      → keeps include exclude (get_or pairs i d).0 ≡ false
+      → items ++ kept include exclude (drop i pairs) ≡ kept include exclude pairs
+      → items ++ kept include exclude (drop (i + 1) pairs) ≡ kept include exclude pairs
+  leaves_one pairs i d items lt k h =
+      ap (λ ps. items ++ ps) (sym (ap (kept include exclude) (drop_more pairs i d lt) ∙ rw k refl)) ∙ h
+
+  pub all_seen : (pairs : List (List ℕ × X)) (i : ℕ) (items : List (List ℕ × X)) → length pairs ≤ i
+      → items ++ kept include exclude (drop i pairs) ≡ kept include exclude pairs
+      → items ≡ kept include exclude pairs
+  all_seen pairs i items past h =
+      sym (append-nil items)
+      ∙ ap (λ ps. items ++ ps) (ap (kept include exclude) (sym (drop_all i pairs past))) ∙ h
+
+pub left_whole : (rules : FilterRules) (m : Content)
+    → keeps_each rules.fieldinclude rules.fieldexclude m.fields ≡ true
+    → keeps_each rules.taginclude rules.tagexclude m.tags ≡ true → left rules m ≡ m
+left_whole rules m fields tags =
+    rw (
+      kept_all rules.fieldinclude rules.fieldexclude m.fields fields,
+      kept_all rules.taginclude rules.tagexclude m.tags tags,
+    ) refl
+
+pub carried : {X : Type 0} (answer : Bool) (include include' exclude exclude' : List (List Element))
+    (pairs pairs' : List (List ℕ × X)) → answer ≡ keeps_each include exclude pairs
+    → include ≡ include' → exclude ≡ exclude' → pairs ≡ pairs' → answer ≡ true
+    → keeps_each include' exclude' pairs' ≡ true
+carried answer include include' exclude exclude' pairs pairs' e i x p t =
+    sym (ap (λ i. keeps_each i exclude pairs) i ∙ ap (λ x. keeps_each include' x pairs) x
+    ∙ ap (λ p. keeps_each include' exclude' p) p) ∙ sym e ∙ t
+
+-- what is left is a metric's, where a field is left
+pub left_metric : (rules : FilterRules) (m : Content) (name : List ℕ) (tags : List (List ℕ × List ℕ))
+    (fields : List (List ℕ × Value)) (time : ℤ) → IsMetric m → (length fields == 0) ≡ false
+    → name ≡ m.name → tags ≡ kept rules.taginclude rules.tagexclude m.tags
+    → fields ≡ kept rules.fieldinclude rules.fieldexclude m.fields → time ≡ m.time
+    → IsMetric (record { name = name; tags = tags; fields = fields; time = time })
+left_metric rules m name tags fields time h some n t f z =
+    let filled : length fields ≡ 0 → ⊥ = eqb-false (length fields) 0 some in
+    let more : 0 < length fields = omega arith in
+    rw (n, t, f, z)
+    (is_kept m (λ tag. keeps rules.taginclude rules.tagexclude tag.0)
+    (λ field. keeps rules.fieldinclude rules.fieldexclude field.0) h (subst (λ fs. 0 < length fs) f more))
+
+pub kept_carried : {X : Type 0} (made : List (List ℕ × X))
+    (include include' exclude exclude' : List (List Element)) (pairs pairs' : List (List ℕ × X))
+    → made ≡ kept include exclude pairs
+    → include ≡ include' → exclude ≡ exclude' → pairs ≡ pairs' → made ≡ kept include' exclude' pairs'
+kept_carried made include include' exclude exclude' pairs pairs' e i x p =
+    e ∙ (ap (λ i. kept i exclude pairs) i ∙ ap (λ x. kept include' x pairs) x
+    ∙ ap (λ p. kept include' exclude' p) p)

@@ -1,0 +1,63 @@
+//! Filters.
+ghost use Rattle.std.specs.Prelude.{◌≡◌, IfOk};
+ghost use Rattle.metric_filter.specs.Filter.{applied, selects};
+
+use crate::left::{keeps_all, left};
+use crate::rules::{FilterRules, passes, some_matches, some_tag, tags_pass};
+use fixed_num::OutOfMemory;
+use metric::Metric;
+use std::alloc::Global;
+use std::marker::Model;
+
+/// A filter: it lets metrics pass by their names and tags, and leaves some of their fields and tags.
+#[derive(Debug, Drop)]
+pub struct Filter {
+    alloc: Global,
+    rules: FilterRules,
+}
+
+impl Model for Filter {
+    ghost use Rattle.metric_filter.specs.declared.rules.FilterRules.{FilterRules};
+
+    ghost Value = { FilterRules };
+
+    ghost view = { λ f. f.rules };
+}
+
+impl Filter {
+    /// The filter of these rules.
+    pub fn new(alloc: Global, rules: FilterRules) -> Filter
+        ensures { result ≡ rules }
+    {
+        Filter { alloc, rules }
+    }
+
+    /// Does the metric pass by its name and tags? It does where its name passes namepass and isn't dropped by
+    /// namedrop, and its tags pass tagpass and aren't dropped by tagdrop.
+    pub fn selects(&self, m: &Metric) -> bool
+        ensures { result ≡ selects self.now m.now }
+    {
+        let rules = &self.rules;
+        let name = m.name().as_str();
+        passes(rules.namepass.as_slice(), name)
+            && !some_matches(rules.namedrop.as_slice(), name)
+            && tags_pass(rules.tagpass.as_slice(), m)
+            && !some_tag(rules.tagdrop.as_slice(), m)
+    }
+
+    /// What is left of a metric: None exactly where it isn't selected or no field is left; else the metric
+    /// with the fields and tags that are included and not excluded, in their order. Where nothing is left
+    /// out the answer shares the metric's content.
+    pub fn apply(&self, m: &Metric) -> Result<Option<Metric>, OutOfMemory>
+        ensures { IfOk result (λ answer. answer ≡ applied self.now m.now) }
+    {
+        if !self.selects(m) {
+            return Ok(None);
+        }
+        let rules = &self.rules;
+        if keeps_all(rules, m) {
+            return Ok(Some(m.copy()?));
+        }
+        left(self.alloc, rules, m)
+    }
+}

@@ -1,0 +1,12 @@
+//! Filters: which metrics pass, and which of their fields and tags are left.
+#![tactic(auto)]
+
+mod filter;
+mod left;
+mod rules;
+
+pub use filter::Filter;
+pub use rules::FilterRules;
+
+#[cfg(test)]
+mod tests;

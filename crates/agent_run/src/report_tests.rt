@@ -74,11 +74,23 @@ fn told_world(alloc: Global, count: usize) -> Result<ToldWorld, OutOfMemory>
     })
 }
 
-/// Whether an output place has these bytes.
-fn has_bytes(world: &MemWorld, place: &str, bytes: &[u8]) -> bool {
+/// What was reported, and what `b` and the journal's place hold.
+fn bytes_left(
+    alloc: Global,
+    world: &ToldWorld,
+) -> Result<(Vec<u8>, Vec<u8>, Vec<u8>), OutOfMemory> {
+    Ok((
+        Vec::from_slice(alloc, world.report.bytes())?,
+        bytes_at(alloc, &world.parts, "b")?,
+        bytes_at(alloc, &world.parts, "agent.journal")?,
+    ))
+}
+
+/// What an output place holds.
+fn bytes_at(alloc: Global, world: &MemWorld, place: &str) -> Result<Vec<u8>, OutOfMemory> {
     match world.out(place) {
-        Some(sink) => sink.bytes() == bytes,
-        None => false,
+        Some(sink) => Ok(Vec::from_slice(alloc, sink.bytes())?),
+        None => Ok(Vec::new(alloc)),
     }
 }
 
@@ -156,13 +168,11 @@ fn the_report_fails(rt: HostRuntime) -> Result<(), Fail> {
         let mut world = told_world(alloc, case.count)?;
         let status = agent(alloc, words.as_slice(), &mut world);
         assert_eq!(rt; status.code(), case.code, "{}", case.line);
-        assert_eq!(rt; world.report.bytes(), case.report, "{}", case.line);
-        assert!(rt; has_bytes(&world.parts, "b", case.output), "{}", case.line);
-        assert!(rt;
-            has_bytes(&world.parts, "agent.journal", case.journal),
-            "{}",
-            case.line
-        );
+        let (report, output, journal) = bytes_left(alloc, &world)?;
+        assert_eq!(rt; status.code(), case.code, "{}", case.line);
+        assert_eq!(rt; report.as_slice(), case.report, "{}", case.line);
+        assert_eq!(rt; output.as_slice(), case.output, "{}", case.line);
+        assert_eq!(rt; journal.as_slice(), case.journal, "{}", case.line);
     }
     Ok(())
 }

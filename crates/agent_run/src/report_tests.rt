@@ -7,6 +7,7 @@ use crate::top::agent;
 use agent_base::{MemClock, MemSink, MemSource, MemWorld, OpenFault, PutFault, Sink, World};
 use fixed_num::OutOfMemory;
 use std::alloc::Global;
+use std::process::Abort;
 use std::test::Fail;
 
 /// A world in memory, with a sink that is told the report.
@@ -132,47 +133,52 @@ const LINE_FAILS: ReportCase = ReportCase {
     journal: b"",
 };
 
+const CASES: [ReportCase; 6] = [
+    ACCOUNT_FAILS,
+    ReportCase {
+        count: 1,
+        report: b"i",
+        ..ACCOUNT_FAILS
+    },
+    ReportCase {
+        count: 1_000,
+        report: TWO_LINES_REPORT,
+        ..ACCOUNT_FAILS
+    },
+    LINE_FAILS,
+    ReportCase {
+        count: 5,
+        report: b"usage",
+        ..LINE_FAILS
+    },
+    ReportCase {
+        line: "pipe c b 1 100",
+        count: 6,
+        code: 5,
+        report: b"fault:",
+        ..LINE_FAILS
+    },
+];
+
+/// Runs one case, and compares what it leaves.
+fn report_fails(rt: &impl Abort, alloc: Global, case: &ReportCase) -> Result<(), Fail> {
+    let words = words_of(alloc, case.line)?;
+    let mut world = told_world(alloc, case.count)?;
+    let status = agent(alloc, words.as_slice(), &mut world);
+    let (report, output, journal) = bytes_left(alloc, &world)?;
+    assert_eq!(rt; status.code(), case.code, "{}", case.line);
+    assert_eq!(rt; report.as_slice(), case.report, "{}", case.line);
+    assert_eq!(rt; output.as_slice(), case.output, "{}", case.line);
+    assert_eq!(rt; journal.as_slice(), case.journal, "{}", case.line);
+    Ok(())
+}
+
 /// A report that fails after so many bytes has these, and is not made again. That of an account turns Done to
 /// ReportFault, with all else as without a fault; that of a line leaves the status as it is.
 #[test]
 fn the_report_fails(rt: HostRuntime) -> Result<(), Fail> {
-    let alloc = rt.alloc();
-    let cases = [
-        ACCOUNT_FAILS,
-        ReportCase {
-            count: 1,
-            report: b"i",
-            ..ACCOUNT_FAILS
-        },
-        ReportCase {
-            count: 1_000,
-            report: TWO_LINES_REPORT,
-            ..ACCOUNT_FAILS
-        },
-        LINE_FAILS,
-        ReportCase {
-            count: 5,
-            report: b"usage",
-            ..LINE_FAILS
-        },
-        ReportCase {
-            line: "pipe c b 1 100",
-            count: 6,
-            code: 5,
-            report: b"fault:",
-            ..LINE_FAILS
-        },
-    ];
-    for case in cases {
-        let words = words_of(alloc, case.line)?;
-        let mut world = told_world(alloc, case.count)?;
-        let status = agent(alloc, words.as_slice(), &mut world);
-        assert_eq!(rt; status.code(), case.code, "{}", case.line);
-        let (report, output, journal) = bytes_left(alloc, &world)?;
-        assert_eq!(rt; status.code(), case.code, "{}", case.line);
-        assert_eq!(rt; report.as_slice(), case.report, "{}", case.line);
-        assert_eq!(rt; output.as_slice(), case.output, "{}", case.line);
-        assert_eq!(rt; journal.as_slice(), case.journal, "{}", case.line);
+    for case in CASES {
+        report_fails(&rt, rt.alloc(), &case)?;
     }
     Ok(())
 }

@@ -3,8 +3,8 @@ ghost use Rattle.std.specs.Prelude.{IfOk};
 ghost use Rattle.agent_base.specs.Places.{AreHome};
 
 use crate::tests::{TWO_LINES, TWO_LINES_REPORT, sink_of, source_of, words_of, world_of};
-use crate::top::agent;
 use agent_base::{MemClock, MemSink, MemSource, MemWorld, OpenFault, PutFault, Sink, World};
+use agent_run::agent;
 use fixed_num::OutOfMemory;
 use std::alloc::Global;
 use std::process::Abort;

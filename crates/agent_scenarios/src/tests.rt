@@ -2,9 +2,8 @@
 ghost use Rattle.std.specs.Prelude.{IfOk, ◌≤◌};
 ghost use Rattle.agent_base.specs.Places.{AreHome};
 
-use crate::status::Status;
-use crate::top::agent;
 use agent_base::{MemSink, MemSource, MemWorld, World};
+use agent_run::{Status, agent};
 use fixed_num::OutOfMemory;
 use std::alloc::{AllocError, Global};
 use std::process::Abort;

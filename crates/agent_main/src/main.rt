@@ -1,29 +1,16 @@
 //! A metric agent: one line protocol input to one line protocol output, with a journal of every event.
 #![tactic(auto)]
 
-mod batch;
-mod command;
-mod gathering;
-mod journal;
 mod losses;
-mod opening;
-mod pipe_run;
-mod reading;
 mod real;
-mod rounds;
-mod routing;
-mod sending;
-mod status;
-mod top;
 
+use agent_run::{Status, agent};
 use losses::losses;
 use real::{RealWorld, StandardStreams, open_standard};
-use status::Status;
 use std::alloc::Global;
 use std::env;
 use std::io::ErrorKind;
 use std::process::ExitCode;
-use top::agent;
 
 /// What standard error is told of an end that isn't Done.
 fn advice(status: Status) -> &'static str {
@@ -104,14 +91,4 @@ fn main(rt: HostRuntime) -> ExitCode {
 }
 
 #[cfg(test)]
-mod fault_tests;
-#[cfg(test)]
-mod input_tests;
-#[cfg(test)]
-mod journal_tests;
-#[cfg(test)]
 mod losses_tests;
-#[cfg(test)]
-mod report_tests;
-#[cfg(test)]
-mod tests;

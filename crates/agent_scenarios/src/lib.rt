@@ -1,0 +1,13 @@
+//! Whole runs of `agent` over worlds in memory: tests, and nothing else.
+#![tactic(auto)]
+
+#[cfg(test)]
+mod fault_tests;
+#[cfg(test)]
+mod input_tests;
+#[cfg(test)]
+mod journal_tests;
+#[cfg(test)]
+mod report_tests;
+#[cfg(test)]
+mod tests;

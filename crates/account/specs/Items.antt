@@ -4,19 +4,14 @@ use Rattle.std.specs.declared.option.Option.{Option}
 use Rattle.std.specs.declared.option.Option.TheVariants.{Some, None}
 use Rattle.metric.specs.declared.metric.Content.{Content}
 use Rattle.account.specs.declared.entry.Entry.{Entry}
-use Rattle.account.specs.declared.entry.Entry.TheVariants.{Gather, Ended, Take, Route, Tick, Stop, Begin}
-use Rattle.account.specs.declared.entry.Entry.TheVariants.{Done}
+use Rattle.account.specs.declared.entry.Entry.TheVariants.{Take, Route, Tick, Stop}
+use Rattle.account.specs.Says.{gather_of, metrics_said}
 
 -- the metrics that an entry names
 abbrev pub named_by : Entry → List Content
-named_by (Gather input moment pieces refused passed filtered metrics group reports) = metrics
-named_by (Ended input) = []
-named_by (Take item) = []
-named_by (Route item whole verdict aggs outs reports) = []
 named_by (Tick moment made) = made
 named_by (Stop moment made) = made
-named_by (Begin output from to) = []
-named_by (Done output ok reports) = []
+named_by e = metrics_said (gather_of e)
 
 -- all metrics that the entries name, in order
 unfoldable pub items : List Entry → List Content
@@ -25,14 +20,8 @@ items (e ∷ es) = named_by e ++ items es
 
 -- one for a Take, none for another entry
 abbrev pub takes_by : Entry → ℕ
-takes_by (Gather input moment pieces refused passed filtered metrics group reports) = 0
-takes_by (Ended input) = 0
 takes_by (Take item) = 1
-takes_by (Route item whole verdict aggs outs reports) = 0
-takes_by (Tick moment made) = 0
-takes_by (Stop moment made) = 0
-takes_by (Begin output from to) = 0
-takes_by (Done output ok reports) = 0
+takes_by _ = 0
 
 -- how many items were taken: those below this number
 unfoldable pub taken : List Entry → ℕ
@@ -43,16 +32,25 @@ taken (e ∷ es) = takes_by e + taken es
 abbrev pub raw_items : List Entry → List Content
 raw_items es = drop (taken es) (items es)
 
+-- one for a Route, none for another entry
+abbrev pub routes_by : Entry → ℕ
+routes_by (Route item whole verdict aggs outs reports) = 1
+routes_by _ = 0
+
+-- how many items were routed
+unfoldable pub routes : List Entry → ℕ
+routes [] = 0
+routes (e ∷ es) = routes_by e + routes es
+
+-- the items that have no Route yet, oldest first, where Routes come in their order
+abbrev pub unrouted_items : List Entry → List Content
+unrouted_items es = drop (routes es) (items es)
+
 -- what is in hand after an entry, where this was in hand before it
 abbrev pub held_after : Option ℕ → Entry → Option ℕ
-held_after held (Gather input moment pieces refused passed filtered metrics group reports) = held
-held_after held (Ended input) = held
 held_after held (Take item) = Some item
 held_after held (Route item whole verdict aggs outs reports) = None
-held_after held (Tick moment made) = held
-held_after held (Stop moment made) = held
-held_after held (Begin output from to) = held
-held_after held (Done output ok reports) = held
+held_after held _ = held
 
 unfoldable pub in_hand_from : Option ℕ → List Entry → Option ℕ
 in_hand_from held [] = held

@@ -5,6 +5,7 @@ use Rattle.std.proofs.Math.Bool.{or-false}
 use Rattle.std.proofs.lemmas.List.Sums.{sum_by-append}
 use Rattle.account.specs.declared.entry.Entry.{Entry}
 use Rattle.account.specs.declared.entry.Entry.TheVariants.{Done}
+use Rattle.account.specs.declared.entry.Report.{Report}
 use Rattle.agent_base.specs.Counts.{Rose, RoseBy}
 use Rattle.pipeline_core.specs.Legal.{is_stop, has_stop}
 use Rattle.pipeline_core.proofs.JournalPush.{has_stop-push}
@@ -21,9 +22,9 @@ pub dones-same : (output : ℕ) (es : List Entry) (e : Entry) → dones_by outpu
 dones-same output es e none = dones-push output es e ∙ ap (λ (bs : List Bool). dones output es ++ bs) none ∙ append-nil (dones output es)
 
 -- a batch more that is done
-pub dones-more : (output : ℕ) (es : List Entry) (ok : Bool) → dones output (es ++ Done output ok [] ∷ []) ≡ dones output es ++ ok ∷ []
-dones-more output es ok =
-    dones-push output es (Done output ok [])
+pub dones-more : (reports : List Report) (output : ℕ) (es : List Entry) (ok : Bool) → dones output (es ++ Done output ok reports ∷ []) ≡ dones output es ++ ok ∷ []
+dones-more reports output es ok =
+    dones-push output es (Done output ok reports)
     ∙ ap (λ (bs : List Bool). dones output es ++ bs) (ap (λ (b : Bool). if b then ok ∷ [] else []) (same_number output))
 
 -- ---- behind the Stop

@@ -12,7 +12,8 @@ use Rattle.agent_base.specs.Told.{Told}
 use Rattle.pipeline_core.specs.Legal.{has_ended, is_ended_of}
 use Rattle.pipeline_core.proofs.JournalPush.{has_ended-push}
 use Rattle.agent_run.specs.declared.reading.Group.{Group}
-use Rattle.agent_run.specs.Gathered.{GatherSays, gathers_by, gathers, IsGroup, AreGroups, AreFull, AllFull, joined, Gathered, Gathering, GatheredTo}
+use Rattle.account.specs.Says.{GatherSays}
+use Rattle.agent_run.specs.Gathered.{gathers_by, gathers, IsGroup, AreGroups, AreFull, AllFull, joined, Gathered, Gathering, GatheredTo}
 use Rattle.agent_run.specs.Groups.{Reads}
 use Rattle.agent_run.proofs.GroupLemmas.{told_then}
 
@@ -60,16 +61,30 @@ pub has_ended-other : (input : ℕ) (es : List Entry) (e : Entry) → is_ended_o
 has_ended-other input es e none = has_ended-push input es e ∙ ap (λ (b : Bool). has_ended input es || b) none ∙ or-false (has_ended input es)
 
 -- what the Gather of a group says
-abbrev pub says_of : ℤ → Group → GatherSays
-says_of moment group = record { moment = moment; pieces = group.pieces; refused = group.refused; passed = 0; filtered = 0; metrics = group.metrics.items }
+abbrev pub says_of : ℕ → ℤ → Group → Option ℕ → List Report → GatherSays
+says_of input moment group number reports = record {
+  input = input;
+  moment = moment;
+  pieces = group.pieces;
+  refused = group.refused;
+  passed = 0;
+  filtered = 0;
+  metrics = group.metrics.items;
+  group = number;
+  reports = reports;
+}
 
-pub gathers_own : (input : ℕ) (moment : ℤ) (group : Group) (number : Option ℕ) (reports : List Report) → gathers_by input (Gather input moment group.pieces group.refused 0 0 group.metrics.items number reports) ≡ says_of moment group ∷ []
+-- the Gather of a group
+abbrev pub entry_of : ℕ → ℤ → Group → Option ℕ → List Report → Entry
+entry_of input moment group number reports = Gather input moment group.pieces group.refused 0 0 group.metrics.items number reports
+
+pub gathers_own : (input : ℕ) (moment : ℤ) (group : Group) (number : Option ℕ) (reports : List Report) → gathers_by input (entry_of input moment group number reports) ≡ says_of input moment group number reports ∷ []
 gathers_own input moment group number reports =
     let same : (input == input) ≡ true = eq-eqb input input refl in
-    ap (λ (b : Bool). if b then (says_of moment group ∷ []) else []) same
+    ap (λ (b : Bool). if b then (says_of input moment group number reports ∷ []) else []) same
 
-pub is_group : (moment : ℤ) (group : Group) (before after : Hand) (left_before left_after : Option (List ℕ)) (r : Reads moment group before after left_before left_after) → IsGroup r.read (says_of moment group)
-is_group moment group before after left_before left_after r = record { pieces = r.pieces; refused = r.refused; passed = refl; filtered = refl; metrics = r.metrics }
+pub is_group : (input : ℕ) (moment : ℤ) (group : Group) (number : Option ℕ) (reports : List Report) (before after : Hand) (left_before left_after : Option (List ℕ)) (r : Reads moment group before after left_before left_after) → IsGroup r.read (says_of input moment group number reports)
+is_group input moment group number reports before after left_before left_after r = record { pieces = r.pieces; refused = r.refused; passed = refl; filtered = refl; metrics = r.metrics }
 
 -- nothing was gathered
 pub gathering_starts : (most input : ℕ) (text : List ℕ) → Gathering most [] input text (to_come empty_hand text)
@@ -116,16 +131,16 @@ gathered_more most input journal e text group rest says by is g =
     )
 
 -- a group that was read, where the text of the source is told
-module _ (most input : ℕ) (old new : List Entry) (moment : ℤ) (group : Group) (before after : Hand) (text left_before left_after : Option (List ℕ)) (r : Reads moment group before after left_before left_after)
-    (more : gathers input new ≡ gathers input old ++ says_of moment group ∷ []) (g : Told text left_before (λ xs ys. Gathering most old input xs (to_come before ys))) where
+module _ (most input : ℕ) (old new : List Entry) (moment : ℤ) (group : Group) (number : Option ℕ) (reports : List Report) (before after : Hand) (text left_before left_after : Option (List ℕ)) (r : Reads moment group before after left_before left_after)
+    (more : gathers input new ≡ gathers input old ++ says_of input moment group number reports ∷ []) (g : Told text left_before (λ xs ys. Gathering most old input xs (to_come before ys))) where
   pub told_gathering : length r.read ≡ most → Told text left_after (λ xs ys. Gathering most new input xs (to_come after ys))
   told_gathering full =
       told_then text left_before left_after
       (λ xs ys. Gathering most old input xs (to_come before ys)) (λ ys zs. to_come before ys ≡ r.read ++ to_come after zs) (λ xs zs. Gathering most new input xs (to_come after zs))
-      g r.consecutive (λ xs ys zs a b. gathering_more most input old new xs r.read (to_come after zs) (says_of moment group) more (is_group moment group before after left_before left_after r) (subst (Gathering most old input xs) b a) full)
+      g r.consecutive (λ xs ys zs a b. gathering_more most input old new xs r.read (to_come after zs) (says_of input moment group number reports) more (is_group input moment group number reports before after left_before left_after r) (subst (Gathering most old input xs) b a) full)
 
   pub told_gathered_to : 1 ≤ length r.read → length r.read ≤ most → Told text left_after (λ xs ys. GatheredTo most new input xs (to_come after ys))
   told_gathered_to some few =
       told_then text left_before left_after
       (λ xs ys. Gathering most old input xs (to_come before ys)) (λ ys zs. to_come before ys ≡ r.read ++ to_come after zs) (λ xs zs. GatheredTo most new input xs (to_come after zs))
-      g r.consecutive (λ xs ys zs a b. gathered_to_more most input old new xs r.read (to_come after zs) (says_of moment group) more (is_group moment group before after left_before left_after r) (subst (Gathering most old input xs) b a) some few)
+      g r.consecutive (λ xs ys zs a b. gathered_to_more most input old new xs r.read (to_come after zs) (says_of input moment group number reports) more (is_group input moment group number reports before after left_before left_after r) (subst (Gathering most old input xs) b a) some few)

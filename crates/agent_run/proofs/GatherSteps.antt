@@ -6,6 +6,9 @@ use Rattle.std.specs.declared.option.Option.TheVariants.{Some, None}
 use Rattle.std.proofs.Math.Bool.{or-true}
 use Rattle.metric.specs.declared.metric.Content.{Content}
 use Rattle.account.specs.declared.entry.Entry.{Entry}
+use Rattle.account.specs.declared.entry.Report.{Report}
+use Rattle.pipeline_core.specs.Shapes.{IsGatherEntry}
+use Rattle.pipeline_core.proofs.ShapeLemmas.{entries-have-shape}
 use Rattle.account.specs.declared.entry.Entry.TheVariants.{Ended}
 use Rattle.agent_base.specs.Cut.{Cut}
 use Rattle.agent_base.specs.Counts.{Rose}
@@ -23,12 +26,13 @@ use Rattle.agent_run.specs.declared.reading.InState.{InState}
 use Rattle.agent_run.specs.declared.reading.InState.TheVariants as states
 use Rattle.agent_run.specs.Causes.{IsNextGroup}
 use Rattle.agent_run.specs.EntryMoments.{gather_moments, counted_moments}
-use Rattle.agent_run.specs.Gathered.{GatherSays, gathers, Gathered, Gathering, GatheredTo, joined}
+use Rattle.account.specs.Says.{GatherSays}
+use Rattle.agent_run.specs.Gathered.{gathers, Gathered, Gathering, GatheredTo, joined}
 use Rattle.agent_run.specs.Groups.{ReadsGroup, gathered_of, IsOffered, IsEnding, IsGathered}
 use Rattle.agent_run.specs.Order.{InOrder, IsDrained}
 use Rattle.agent_run.specs.Progress.{Beginning, Surroundings, HasText, IsNamed, is_ended, HasState, IsClocked, IsNamedOfTaken, Said, Progress}
 use Rattle.agent_run.specs.Worked.{Worked}
-use Rattle.agent_run.proofs.GatherLemmas.{says_of, gathers_own, gathers-push, gathers-other, has_ended-other, gathered_to_here, gathered_to_same, gathered, told_gathering, told_gathered_to}
+use Rattle.agent_run.proofs.GatherLemmas.{says_of, entry_of, gathers_own, gathers-push, gathers-other, has_ended-other, gathered_to_here, gathered_to_same, gathered, told_gathering, told_gathered_to}
 use Rattle.agent_run.proofs.GroupLemmas.{told_then, told_map, told_pair, few_readings}
 use Rattle.agent_run.proofs.TakenSteps.{told_names_more, told_taken_more, told_taken_same}
 use Rattle.agent_run.proofs.MomentLemmas.{gather_moments-push, gather_moments-same, counted_moments-same}
@@ -148,48 +152,51 @@ module _ (start : Beginning) (core : CoreState) (before after : Hand) (failed : 
         counted_at = w.counted_at;
       }
 
-  more_named : gathers 0 (w.journal ++ gather_entry (gathered_of moment group) ∷ []) ≡ gathers 0 w.journal ++ says_of moment group ∷ []
-  more_named =
-      gathers-push 0 w.journal (gather_entry (gathered_of moment group)) ∙ ap (λ (more : List GatherSays). gathers 0 w.journal ++ more) (gathers_own 0 moment group None [])
+  more_named : (number : Option ℕ) (reports : List Report) → gathers 0 (w.journal ++ entry_of 0 moment group number reports ∷ []) ≡ gathers 0 w.journal ++ says_of 0 moment group number reports ∷ []
+  more_named number reports =
+      gathers-push 0 w.journal (entry_of 0 moment group number reports) ∙ ap (λ (more : List GatherSays). gathers 0 w.journal ++ more) (gathers_own 0 moment group number reports)
 
-  named_more : (s : InState) → s ≡ state → 0 < length g.reads.read → Told start.bytes new_left (λ xs ys. IsNamedTo s (w.journal ++ gather_entry (gathered_of moment group) ∷ []) xs (to_come after ys))
-  named_more states.Reading e some =
-      told_gathering 1000 0 w.journal (w.journal ++ gather_entry (gathered_of moment group) ∷ []) moment group before after start.bytes now.left new_left g.reads more_named here (g.full (sym e))
-  named_more states.Ended e some =
-      told_gathered_to 1000 0 w.journal (w.journal ++ gather_entry (gathered_of moment group) ∷ []) moment group before after start.bytes now.left new_left g.reads more_named here (omega arith) g.most
-  named_more states.Faulted e some =
-      told_gathered_to 1000 0 w.journal (w.journal ++ gather_entry (gathered_of moment group) ∷ []) moment group before after start.bytes now.left new_left g.reads more_named here (omega arith) g.most
-  named_more states.LimitReached e some =
-      told_gathered_to 1000 0 w.journal (w.journal ++ gather_entry (gathered_of moment group) ∷ []) moment group before after start.bytes now.left new_left g.reads more_named here (omega arith) g.most
+  named_more : (number : Option ℕ) (reports : List Report) (s : InState) → s ≡ state → 0 < length g.reads.read → Told start.bytes new_left (λ xs ys. IsNamedTo s (w.journal ++ entry_of 0 moment group number reports ∷ []) xs (to_come after ys))
+  named_more number reports states.Reading e some =
+      told_gathering 1000 0 w.journal (w.journal ++ entry_of 0 moment group number reports ∷ []) moment group number reports before after start.bytes now.left new_left g.reads (more_named number reports) here (g.full (sym e))
+  named_more number reports states.Ended e some =
+      told_gathered_to 1000 0 w.journal (w.journal ++ entry_of 0 moment group number reports ∷ []) moment group number reports before after start.bytes now.left new_left g.reads (more_named number reports) here (omega arith) g.most
+  named_more number reports states.Faulted e some =
+      told_gathered_to 1000 0 w.journal (w.journal ++ entry_of 0 moment group number reports ∷ []) moment group number reports before after start.bytes now.left new_left g.reads (more_named number reports) here (omega arith) g.most
+  named_more number reports states.LimitReached e some =
+      told_gathered_to 1000 0 w.journal (w.journal ++ entry_of 0 moment group number reports ∷ []) moment group number reports before after start.bytes now.left new_left g.reads (more_named number reports) here (omega arith) g.most
 
-  taken_more : (s : InState) → s ≡ state → Told start.bytes new_left (IsNamedOfTaken s (w.journal ++ gather_entry (gathered_of moment group) ∷ []) after)
-  taken_more states.Reading e =
-      told_names_more 1000 0 w.journal moment group before after start.bytes now.left new_left g.reads w.heard.of_taken (w.journal ++ gather_entry (gathered_of moment group) ∷ []) more_named (g.full (sym e))
-  taken_more states.Ended e =
-      told_map start.bytes new_left (λ xs ys. length xs ≡ after.taken + length ys) (IsNamedOfTaken states.Ended (w.journal ++ gather_entry (gathered_of moment group) ∷ []) after) (λ xs ys h. tt) counted_all
-  taken_more states.Faulted e =
-      told_taken_more 1000 0 w.journal moment group before after start.bytes now.left new_left g.reads w.heard.of_taken here (one (sym e)) (line (sym e)) (w.journal ++ gather_entry (gathered_of moment group) ∷ []) more_named
-  taken_more states.LimitReached e =
-      told_map start.bytes new_left (λ xs ys. length xs ≡ after.taken + length ys) (IsNamedOfTaken states.LimitReached (w.journal ++ gather_entry (gathered_of moment group) ∷ []) after) (λ xs ys h. tt) counted_all
+  taken_more : (number : Option ℕ) (reports : List Report) (s : InState) → s ≡ state → Told start.bytes new_left (IsNamedOfTaken s (w.journal ++ entry_of 0 moment group number reports ∷ []) after)
+  taken_more number reports states.Reading e =
+      told_names_more 1000 0 w.journal moment group before after start.bytes now.left new_left g.reads w.heard.of_taken number reports (w.journal ++ entry_of 0 moment group number reports ∷ []) (more_named number reports) (g.full (sym e))
+  taken_more number reports states.Ended e =
+      told_map start.bytes new_left (λ xs ys. length xs ≡ after.taken + length ys) (IsNamedOfTaken states.Ended (w.journal ++ entry_of 0 moment group number reports ∷ []) after) (λ xs ys h. tt) counted_all
+  taken_more number reports states.Faulted e =
+      told_taken_more 1000 0 w.journal moment group before after start.bytes now.left new_left g.reads w.heard.of_taken here (one (sym e)) (line (sym e)) number reports (w.journal ++ entry_of 0 moment group number reports ∷ []) (more_named number reports)
+  taken_more number reports states.LimitReached e =
+      told_map start.bytes new_left (λ xs ys. length xs ≡ after.taken + length ys) (IsNamedOfTaken states.LimitReached (w.journal ++ entry_of 0 moment group number reports ∷ []) after) (λ xs ys h. tt) counted_all
 
   -- the group was gathered
-  pub went_gathered : (next : CoreState) → 0 < group.pieces → next ≡ after_gather core (gathered_of moment group) → Continues core next (gather_entry (gathered_of moment group)) → IsDrained start.setup w.journal
+  pub went_gathered : (next : CoreState) → 0 < group.pieces → next ≡ after_gather core (gathered_of moment group) → Continues core next (gather_entry core (gathered_of moment group)) → IsDrained start.setup w.journal
       → ProgressTo start next after failed (read_to now state new_left new_read_faults new_place)
   went_gathered next some is more drained =
-      let e : Entry = gather_entry (gathered_of moment group) in
+      let shape : IsGatherEntry (gathered_of moment group) (gather_entry core (gathered_of moment group)) = entries-have-shape.gathers core (gathered_of moment group) in
+      let number : Option ℕ = shape.0 in
+      let reports : List Report = shape.1 in
+      let e : Entry = entry_of 0 moment group number reports in
       record {
         journal = w.journal ++ e ∷ [];
-        text = text-push start core next now.journal w.journal e w.text more (ap (λ (s : CoreState). s.stored) is) (ap (λ (s : CoreState). s.setup) is);
+        text = text-push start core next now.journal w.journal e w.text (subst (Continues core next) shape.2 more) (ap (λ (s : CoreState). s.stored) is ∙ ap (λ (x : Entry). core.stored ++ x ∷ []) shape.2) (ap (λ (s : CoreState). s.setup) is);
         heard = record {
-          named = named_more state refl (omega (arith, some, g.reads.pieces));
-          of_taken = taken_more state refl;
+          named = named_more number reports state refl (omega (arith, some, g.reads.pieces));
+          of_taken = taken_more number reports state refl;
           all = all_read;
           counted = counted_all;
           unended = has_ended-other 0 w.journal e refl ∙ w.heard.ended;
           later = omega (arith, w.heard.later, read_faults);
           state = has_state state start new_read_faults new_left after (w.journal ++ e ∷ []) now.read_faults w.heard.later limit below faulted;
           clocked = clocked_same start.moments new_place (gather_moments 0 w.journal ++ moment ∷ []) (gather_moments 0 (w.journal ++ e ∷ []))
-              (gather_moments-push 0 w.journal e ∙ ap (λ (more : List GatherSays). gather_moments 0 w.journal ++ map (λ (says : GatherSays). says.moment) more) (gathers_own 0 moment group None []))
+              (gather_moments-push 0 w.journal e ∙ ap (λ (more : List GatherSays). gather_moments 0 w.journal ++ map (λ (says : GatherSays). says.moment) more) (gathers_own 0 moment group number reports))
               (clocked_more start.moments now.place new_place moment (gather_moments 0 w.journal) gives w.heard.clocked);
         };
         said = said_push start (read_to now state new_left new_read_faults new_place) failed w.journal e tt refl refl refl (record { sent = w.said.sent; put_faults = w.said.put_faults; stuck = w.said.stuck; last = w.said.last });
@@ -298,11 +305,11 @@ refused_offer accepted moment group old new e h = subst (λ (b : Bool). IsOffere
 
 -- a group that was gathered, by other terms
 pub offered_some : (moment stored : ℤ) (group : Group) (metrics : List Content) (old new : CoreState) → metrics ≡ group.metrics.items → stored ≡ moment → 0 < group.pieces →
-    new ≡ after_gather old (record (gathered_of stored group) { metrics = metrics }) → Continues old new (gather_entry (record (gathered_of stored group) { metrics = metrics })) → IsOffered true moment group old new
+    new ≡ after_gather old (record (gathered_of stored group) { metrics = metrics }) → Continues old new (gather_entry old (record (gathered_of stored group) { metrics = metrics })) → IsOffered true moment group old new
 offered_some moment stored group metrics old new same is some after stands = inr (
   some,
   subst (λ (m : ℤ). new ≡ after_gather old (gathered_of m group)) is (subst (λ (ms : List Content). new ≡ after_gather old (record (gathered_of stored group) { metrics = ms })) same after),
-  subst (λ (m : ℤ). Continues old new (gather_entry (gathered_of m group))) is (subst (λ (ms : List Content). Continues old new (gather_entry (record (gathered_of stored group) { metrics = ms }))) same stands),
+  subst (λ (m : ℤ). Continues old new (gather_entry old (gathered_of m group))) is (subst (λ (ms : List Content). Continues old new (gather_entry old (record (gathered_of stored group) { metrics = ms }))) same stands),
 )
 
 -- where the input is read on a whole group was gathered

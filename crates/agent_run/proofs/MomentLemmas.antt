@@ -6,7 +6,8 @@ use Rattle.account.specs.declared.entry.Entry.TheVariants.{Gather, Ended, Take, 
 use Rattle.agent_base.specs.Clocked.{last_of}
 use Rattle.pipeline_core.specs.Legal.{counted_from}
 use Rattle.agent_run.specs.EntryMoments.{gather_moments, counted_by, counted_moments}
-use Rattle.agent_run.specs.Gathered.{GatherSays, gathers, gathers_by}
+use Rattle.account.specs.Says.{GatherSays}
+use Rattle.agent_run.specs.Gathered.{gathers, gathers_by}
 use Rattle.agent_run.proofs.GatherLemmas.{gathers-push}
 
 pub counted_moments-push : (es : List Entry) (e : Entry) → counted_moments (es ++ e ∷ []) ≡ counted_moments es ++ counted_by e

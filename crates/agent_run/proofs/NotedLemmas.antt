@@ -19,7 +19,8 @@ use Rattle.journal_text.specs.JournalText.{entry_text, item_of, entries_text, en
 use Rattle.journal_text.proofs.JournalLemmas.{entries_text-append}
 use Rattle.agent_run.specs.Headline.{change, IsPutSo}
 use Rattle.agent_run.specs.Noted.{JournalPart, text_so_far, noted_text, front_text, IsNotedSo, Notes, IsSpelled, SpellsOn, IsPartPut, NotesOn, EndsOn}
-use Rattle.agent_run.specs.Routes.{routes_by, routes, unrouted, RoutesInOrder, RouteOnInOrder}
+use Rattle.account.specs.Items.{routes_by, routes, unrouted_items}
+use Rattle.agent_run.specs.Routes.{RoutesInOrder, RouteOnInOrder}
 use Rattle.agent_run.proofs.RouteLemmas.{order_after, in_order-push, unrouted-push, item_is, has_length, next_of, alone}
 
 -- ---- entries that are spelled
@@ -41,7 +42,7 @@ slice_is (Some y) xs h = h
 pub spells_entry : (e : Entry) (item kept left : List Content) (text new_text : List ℕ) → HasItem item e → kept ++ named_by e ≡ item ++ left → new_text ≡ text ++ entry_text item e → SpellsOn (e ∷ []) kept left text new_text
 spells_entry e item kept left text new_text has rest is journal kept_is order more =
     let next = (next_of (routes journal) (length (items journal)) e [] more).0 in
-    let at_hand : unrouted journal ++ named_by e ≡ item ++ left = ap (λ (xs : List Content). xs ++ named_by e) (sym kept_is) ∙ rest in
+    let at_hand : unrouted_items journal ++ named_by e ≡ item ++ left = ap (λ (xs : List Content). xs ++ named_by e) (sym kept_is) ∙ rest in
     let known : item ≡ item_of (items journal) e = item_is (items journal) item left (routes journal) (length (items journal)) e next has at_hand in
     record {
       left_are = sym (drop_at item left (routes_by e) (has_length item e has)) ∙ ap (drop (routes_by e)) (sym at_hand) ∙ sym (unrouted-push journal e order);
@@ -52,13 +53,13 @@ spells_entry e item kept left text new_text has rest is journal kept_is order mo
 -- the first so many of the entries were spelled, and the Routes of the others come in order
 abbrev pub SpellsFirst : ℕ → List Entry → List Content → List Content → List ℕ → List ℕ → Type 0
 SpellsFirst n entries kept left text new_text =
-    (journal : List Entry) → kept ≡ unrouted journal → RoutesInOrder 0 0 journal → RouteOnInOrder journal entries
+    (journal : List Entry) → kept ≡ unrouted_items journal → RoutesInOrder 0 0 journal → RouteOnInOrder journal entries
     → IsSpelled journal (take n entries) left text new_text × RouteOnInOrder (journal ++ take n entries) (drop n entries)
 
 pub spells_no_more : (entries : List Entry) (kept : List Content) (text : List ℕ) → SpellsFirst 0 entries kept kept text text
 spells_no_more entries kept text journal kept_is order more = (
   record {
-    left_are = kept_is ∙ ap unrouted (sym (append-nil journal));
+    left_are = kept_is ∙ ap unrouted_items (sym (append-nil journal));
     spelled = sym (append-nil text) ∙ ap (λ (t : List ℕ). text ++ t) (sym (no_entries (items journal)));
     in_order = subst (RoutesInOrder 0 0) (sym (append-nil journal)) order;
   },
@@ -86,7 +87,7 @@ spells_more n entries e kept mid left text mid_text new_text l is first one jour
     let grown : front ++ e ∷ [] ≡ journal ++ take (n + 1) entries = append_assoc journal (take n entries) (e ∷ []) ∙ ap (λ (es : List Entry). journal ++ es) behind in
     let last = one front so.0.left_are so.0.in_order (alone (routes front) (length (items front)) e next.0) in (
       record {
-        left_are = last.left_are ∙ ap unrouted grown;
+        left_are = last.left_are ∙ ap unrouted_items grown;
         spelled = last.spelled ∙ ap (λ (t : List ℕ). t ++ entries_text (items front) (e ∷ [])) so.0.spelled
             ∙ append_assoc text (entries_text (items journal) (take n entries)) (entries_text (items front) (e ∷ []))
             ∙ ap (λ (t : List ℕ). text ++ t) (sym (text_behind journal (take n entries) (e ∷ [])) ∙ ap (entries_text (items journal)) behind);

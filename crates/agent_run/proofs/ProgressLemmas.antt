@@ -7,8 +7,9 @@ use Rattle.std.specs.declared.option.Option.TheVariants.{Some, None}
 use Rattle.account.specs.Setup.{Setup}
 use Rattle.account.specs.Items.{items}
 use Rattle.account.specs.declared.entry.Entry.{Entry}
-use Rattle.account.specs.declared.entry.Entry.TheVariants.{Take, Stop}
-use Rattle.account.specs.declared.entry.Verdict.TheVariants.{Passes}
+use Rattle.account.specs.declared.entry.Entry.TheVariants.{Take, Route, Stop}
+use Rattle.account.specs.declared.entry.Report.{Report}
+use Rattle.account.specs.declared.entry.Verdict.{Verdict}
 use Rattle.metric.specs.declared.metric.Content.{Content}
 use Rattle.agent_base.specs.Cut.{Cut}
 use Rattle.agent_base.specs.Clocked.{last_of}
@@ -19,7 +20,9 @@ use Rattle.pipeline_core.specs.CoreState.{CoreState}
 use Rattle.out_lane.specs.LaneEvents.{LaneEvent}
 use Rattle.pipeline_core.specs.Legal.{IsLegal, has_ended, is_ended_of, has_stop, is_stop, gathered_count, gathered_by}
 use Rattle.pipeline_core.specs.Offers.{lane_events, lane_events_by}
-use Rattle.pipeline_core.specs.Steps.{after_take, after_route, after_stop, after_cut, route_entry}
+use Rattle.pipeline_core.specs.Steps.{after_take, after_route, after_stop, after_cut, route_entry, stop_entry, moment_at}
+use Rattle.pipeline_core.specs.Shapes.{IsRouteEntry, IsStopEntry}
+use Rattle.pipeline_core.proofs.ShapeLemmas.{entries-have-shape}
 use Rattle.pipeline_core.proofs.JournalPush.{gathered_count-push, lane_events-push}
 use Rattle.pipeline_core.specs.Stands.{Stands, Continues}
 use Rattle.agent_run.specs.declared.reading.InState.{InState}
@@ -175,21 +178,24 @@ went_take start core next hand failed now is more w =
 
 -- the first raw item was taken and routed as it is
 pub went_route : (start : Beginning) (core mid next : CoreState) (hand : Hand) (failed : ℕ) (now : Surroundings) (metric : Content) → slice_get core.raw 0 ≡ Some metric →
-    mid ≡ after_take core → Continues core mid (Take core.taken) → next ≡ after_route mid (as_it_is core.taken metric) → Continues mid next (route_entry (as_it_is core.taken metric)) →
+    mid ≡ after_take core → Continues core mid (Take core.taken) → next ≡ after_route mid (as_it_is core.taken metric) → Continues mid next (route_entry mid (as_it_is core.taken metric)) →
     Progress start core hand failed now → Progress start next hand 0 now
 went_route start core mid next hand failed now metric first taken takes routed routes w =
     let v : Progress start mid hand failed now = went_take start core mid hand failed now taken takes w in
-    let e : Entry = route_entry (as_it_is core.taken metric) in
+    let shape : IsRouteEntry (as_it_is core.taken metric) (route_entry mid (as_it_is core.taken metric)) = entries-have-shape.routes mid (as_it_is core.taken metric) in
+    let verdict : Verdict = shape.0 in
+    let reports : List Report = shape.1 in
+    let e : Entry = Route core.taken (Some metric) verdict [] (Some metric ∷ []) reports in
     let at : slice_get (items w.journal) core.taken ≡ Some metric = first_raw core w.journal metric w.text.stands first in
     let there : slice_get (items (w.journal ++ Take core.taken ∷ [])) core.taken ≡ Some metric = item_stays w.journal (Take core.taken) core.taken metric at in
     record {
       journal = (w.journal ++ Take core.taken ∷ []) ++ e ∷ [];
       text = text-push start mid next now.journal (w.journal ++ Take core.taken ∷ []) e
           (text-push start core mid now.journal w.journal (Take core.taken) w.text takes (ap (λ (s : CoreState). s.stored) taken) (ap (λ (s : CoreState). s.setup) taken))
-          routes (ap (λ (s : CoreState). s.stored) routed) (ap (λ (s : CoreState). s.setup) routed);
+          (subst (Continues mid next) shape.2 routes) (ap (λ (s : CoreState). s.stored) routed ∙ ap (λ (x : Entry). mid.stored ++ x ∷ []) shape.2) (ap (λ (s : CoreState). s.setup) routed);
       heard = heard_push start now hand (w.journal ++ Take core.taken ∷ []) e refl refl refl (heard_push start now hand w.journal (Take core.taken) refl refl refl w.heard);
       said = said_anew start now failed (w.journal ++ Take core.taken ∷ []) e tt refl (said_push start now failed w.journal (Take core.taken) tt refl refl refl w.said);
-      worked = worked_route (w.journal ++ Take core.taken ∷ []) core.taken metric Passes [] (Some metric ∷ []) there (refl, tt) (worked-push w.journal (Take core.taken) tt w.worked);
+      worked = worked_route (w.journal ++ Take core.taken ∷ []) core.taken metric verdict [] (Some metric ∷ []) reports there (refl, tt) (worked-push w.journal (Take core.taken) tt w.worked);
       in_order = in_order-push start.setup (w.journal ++ Take core.taken ∷ []) e (in_order-push start.setup w.journal (Take core.taken) w.in_order tt) tt;
       counted_at = counted_moments-same (w.journal ++ Take core.taken ∷ []) e refl ∙ counted_moments-same w.journal (Take core.taken) refl ∙ w.counted_at;
     }
@@ -212,15 +218,16 @@ pub went_uncut : (start : Beginning) (core next : CoreState) (hand : Hand) (fail
 went_uncut start core next hand failed now is w = subst (λ (s : CoreState). Progress start s hand failed now) (sym is) w
 
 -- the run was stopped at a moment
-pub went_stop : (start : Beginning) (core next : CoreState) (hand : Hand) (failed : ℕ) (now : Surroundings) (moment : ℤ) → next ≡ after_stop core moment → Continues core next (Stop (int_max moment core.counted) [])
+pub went_stop : (start : Beginning) (core next : CoreState) (hand : Hand) (failed : ℕ) (now : Surroundings) (moment : ℤ) → next ≡ after_stop core moment → Continues core next (stop_entry core moment)
     → (w : Progress start core hand failed (record now { counted_at = [] })) → Progress start next hand 0 (record now { counted_at = int_max moment start.setup.start ∷ [] })
 went_stop start core next hand failed now moment is more w =
-    let e : Entry = Stop (int_max moment core.counted) [] in
+    let shape : IsStopEntry (moment_at core moment) (stop_entry core moment) = entries-have-shape.stops core moment in
+    let e : Entry = Stop (int_max moment core.counted) shape.0 in
     let counted : core.counted ≡ start.setup.start =
     w.text.stands.counted ∙ counted_from-last core.setup.start w.journal ∙ ap (λ (ms : List ℤ). last_of core.setup.start ms) w.counted_at ∙ ap (λ (s : Setup). s.start) w.text.setup_is in
     record {
       journal = w.journal ++ e ∷ [];
-      text = text-push start core next now.journal w.journal e w.text more (ap (λ (s : CoreState). s.stored) is) (ap (λ (s : CoreState). s.setup) is);
+      text = text-push start core next now.journal w.journal e w.text (subst (Continues core next) shape.1 more) (ap (λ (s : CoreState). s.stored) is ∙ ap (λ (x : Entry). core.stored ++ x ∷ []) shape.1) (ap (λ (s : CoreState). s.setup) is);
       heard = heard_push start (record now { counted_at = int_max moment start.setup.start ∷ [] }) hand w.journal e refl refl refl (heard_beside start (record now { counted_at = [] }) hand w.journal now.held now.put_faults now.journal (int_max moment start.setup.start ∷ []) w.heard);
       said = said_anew start (record now { counted_at = int_max moment start.setup.start ∷ [] }) failed w.journal e tt refl (record { sent = w.said.sent; put_faults = w.said.put_faults; stuck = w.said.stuck; last = w.said.last });
       worked = worked-push w.journal e tt w.worked;
@@ -230,8 +237,8 @@ went_stop start core next hand failed now moment is more w =
 
 -- the same of an item with the number of the first raw one
 pub went_item : (start : Beginning) (core mid next : CoreState) (hand : Hand) (failed : ℕ) (now : Surroundings) (number : ℕ) (metric : Content) → number ≡ core.taken → slice_get core.raw 0 ≡ Some metric →
-    mid ≡ after_take core → Continues core mid (Take core.taken) → next ≡ after_route mid (as_it_is number metric) → Continues mid next (route_entry (as_it_is number metric)) →
+    mid ≡ after_take core → Continues core mid (Take core.taken) → next ≡ after_route mid (as_it_is number metric) → Continues mid next (route_entry mid (as_it_is number metric)) →
     Progress start core hand failed now → Progress start next hand 0 now
 went_item start core mid next hand failed now number metric is first taken takes routed routes w =
     went_route start core mid next hand failed now metric first taken takes
-    (subst (λ (n : ℕ). next ≡ after_route mid (as_it_is n metric)) is routed) (subst (λ (n : ℕ). Continues mid next (route_entry (as_it_is n metric))) is routes) w
+    (subst (λ (n : ℕ). next ≡ after_route mid (as_it_is n metric)) is routed) (subst (λ (n : ℕ). Continues mid next (route_entry mid (as_it_is n metric))) is routes) w

@@ -14,7 +14,8 @@ use Rattle.account.proofs.ItemLemmas.{items-push}
 use Rattle.pipeline_core.specs.Legal.{Meets, AreLegal, IsLegal}
 use Rattle.pipeline_core.proofs.JournalPush.{taken-push, in_hand-push, few_taken, IsLegal-push}
 use Rattle.journal_text.specs.JournalText.{item_of, HasItem}
-use Rattle.agent_run.specs.Routes.{routes_by, routes, unrouted, IsNextRoute, RoutesInOrder, RouteOnInOrder}
+use Rattle.account.specs.Items.{routes_by, routes, unrouted_items}
+use Rattle.agent_run.specs.Routes.{IsNextRoute, RoutesInOrder, RouteOnInOrder}
 
 routes-push : (es : List Entry) (e : Entry) → routes (es ++ e ∷ []) ≡ routes es + routes_by e
 unfolding routes
@@ -63,7 +64,7 @@ pub in_order-push : (es : List Entry) (e : Entry) → RoutesInOrder 0 0 es → I
 in_order-push es e h m = order-push 0 0 es e h (rw (zero-add (routes es), zero-add (length (items es))) m)
 
 -- the items that aren't routed with one entry more
-pub unrouted-push : (es : List Entry) (e : Entry) → RoutesInOrder 0 0 es → unrouted (es ++ e ∷ []) ≡ drop (routes_by e) (unrouted es ++ named_by e)
+pub unrouted-push : (es : List Entry) (e : Entry) → RoutesInOrder 0 0 es → unrouted_items (es ++ e ∷ []) ≡ drop (routes_by e) (unrouted_items es ++ named_by e)
 unrouted-push es e h =
     ap (drop (routes (es ++ e ∷ []))) (items-push es e) ∙ ap (λ (n : ℕ). drop n (items es ++ named_by e)) (routes-push es e) ∙ sym (drop-drop (routes_by e) (routes es) (items es ++ named_by e))
     ∙ ap (drop (routes_by e)) (drop-append-le (routes es) (items es) (named_by e) (few_routes es h))
@@ -127,10 +128,10 @@ hand_after : (setup : Setup) (before : List Entry) (e : Entry) → Meets setup b
 hand_after setup before (Gather input moment pieces refused passed filtered metrics group reports) m h = hand_stays (in_hand before) (routes before) (taken before) h
 hand_after setup before (Ended input) m h = hand_stays (in_hand before) (routes before) (taken before) h
 hand_after setup before (Take item) m h =
-    let all : routes before ≡ taken before = subst (λ (held : Option ℕ). HandFits held (routes before) (taken before)) m.empty_handed h in
-    (omega (arith, m.first, all), omega (arith, m.first))
+    let all : routes before ≡ taken before = subst (λ (held : Option ℕ). HandFits held (routes before) (taken before)) m.line.empty_handed h in
+    (omega (arith, m.line.first, all), omega (arith, m.line.first))
 hand_after setup before (Route item whole verdict aggs outs reports) m h =
-    let last : (item ≡ routes before) × (taken before ≡ item + 1) = subst (λ (held : Option ℕ). HandFits held (routes before) (taken before)) m.held h in
+    let last : (item ≡ routes before) × (taken before ≡ item + 1) = subst (λ (held : Option ℕ). HandFits held (routes before) (taken before)) m.line.held h in
     omega (arith, last.0, last.1)
 hand_after setup before (Tick moment made) m h = hand_stays (in_hand before) (routes before) (taken before) h
 hand_after setup before (Stop moment made) m h = hand_stays (in_hand before) (routes before) (taken before) h
@@ -147,7 +148,7 @@ is_next setup before (Gather input moment pieces refused passed filtered metrics
 is_next setup before (Ended input) m l h = tt
 is_next setup before (Take item) m l h = tt
 is_next setup before (Route item whole verdict aggs outs reports) m l h =
-    let last : (item ≡ routes before) × (taken before ≡ item + 1) = subst (λ (held : Option ℕ). HandFits held (routes before) (taken before)) m.held h in
+    let last : (item ≡ routes before) × (taken before ≡ item + 1) = subst (λ (held : Option ℕ). HandFits held (routes before) (taken before)) m.line.held h in
     (last.0, omega (arith, last.0, last.1, l))
 is_next setup before (Tick moment made) m l h = tt
 is_next setup before (Stop moment made) m l h = tt

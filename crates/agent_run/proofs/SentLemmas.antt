@@ -17,7 +17,9 @@ use Rattle.agent_base.specs.Puts.{PutAppends}
 use Rattle.agent_base.specs.declared.outside.PutFault.{PutFault}
 use Rattle.agent_base.specs.declared.outside.PutFault.TheVariants.{Failed, OutOfMemory}
 use Rattle.pipeline_core.specs.CoreState.{CoreState, lane_at}
-use Rattle.pipeline_core.specs.Offers.{offers, offered_by, lane_events, lane_events_by, pushes, offered, view_at}
+use Rattle.pipeline_core.specs.Offers.{offers, offered_by, lane_events, lane_events_by, pushes, offered, view_at, views_of}
+use Rattle.pipeline_core.specs.declared.output.Offer.{Offer}
+use Rattle.account.specs.declared.entry.Report.{Report}
 use Rattle.pipeline_core.specs.Stands.{Stands}
 use Rattle.pipeline_core.specs.Steps.{IsBatchOf}
 use Rattle.pipeline_core.specs.declared.batches.Batch.{Batch}
@@ -40,7 +42,7 @@ unfolding ranges_from
 ranges_from-append r [] more = refl
 ranges_from-append r (e ∷ es) more = ranges_from-append (ranges_after r e) es more
 
-pushed-begun : (r : Ranges) (views : List Content) → (ranges_from r (pushes views)).begun ≡ r.begun
+pushed-begun : (r : Ranges) (views : List Offer) → (ranges_from r (pushes views)).begun ≡ r.begun
 unfolding ranges_from
 pushed-begun r [] = refl
 pushed-begun r (view ∷ views) = pushed-begun (record r { pushed = r.pushed + 1 }) views
@@ -60,7 +62,7 @@ unfolding ranges_from
 entry-begun output r (Gather input moment pieces refused passed filtered metrics group reports) = refl
 entry-begun output r (Ended input) = refl
 entry-begun output r (Take item) = refl
-entry-begun output r (Route item whole verdict aggs outs reports) = pushed-begun r (offered verdict (view_at output outs))
+entry-begun output r (Route item whole verdict aggs outs reports) = pushed-begun r (offered item verdict (view_at output outs))
 entry-begun output r (Tick moment made) = refl
 entry-begun output r (Stop moment made) = refl
 entry-begun output r (Begin number from to) = begin-begun r from to (number == output)
@@ -78,17 +80,17 @@ begun_from-ranges output r (e ∷ es) =
 pub begun_is : (output : ℕ) (es : List Entry) → begun_from output None es ≡ (ranges_of (lane_events output es)).begun
 begun_is output es = begun_from-ranges output no_ranges es
 
-batches_from-push : (output : ℕ) (views : List Content) (begun : Option (ℕ × ℕ)) (es : List Entry) (e : Entry) →
+batches_from-push : (output : ℕ) (views : List Offer) (begun : Option (ℕ × ℕ)) (es : List Entry) (e : Entry) →
     batches_from output views begun (es ++ e ∷ []) ≡ batches_from output views begun es ++ batches_by output (views ++ offers output es) (begun_from output begun es) e
 unfolding batches_from offers begun_from
 batches_from-push output views begun [] e =
-    append-nil (batches_by output views begun e) ∙ ap (λ (vs : List Content). batches_by output vs begun e) (sym (append-nil views))
+    append-nil (batches_by output views begun e) ∙ ap (λ (vs : List Offer). batches_by output vs begun e) (sym (append-nil views))
 batches_from-push output views begun (d ∷ es) e =
-    let more : List Content = views ++ offered_by output d in
+    let more : List Offer = views ++ offered_by output d in
     let next : Option (ℕ × ℕ) = begun_after output begun d in
     ap (λ (bs : List BatchSays). batches_by output views begun d ++ bs)
     (batches_from-push output more next es e
-    ∙ ap (λ (vs : List Content). batches_from output more next es ++ batches_by output vs (begun_from output next es) e) (append_assoc views (offered_by output d) (offers output es)))
+    ∙ ap (λ (vs : List Offer). batches_from output more next es ++ batches_by output vs (begun_from output next es) e) (append_assoc views (offered_by output d) (offers output es)))
     ∙ sym (append_assoc (batches_by output views begun d) (batches_from output more next es) (batches_by output (views ++ (offered_by output d ++ offers output es)) (begun_from output next es) e))
 
 -- the batches, with one entry more
@@ -102,7 +104,7 @@ abbrev pub EndsNone : ℕ → Entry → Type 0
 EndsNone output (Done number ok reports) = (number == output) ≡ false
 EndsNone output _ = Unit {0}
 
-ends_none : (output : ℕ) (views : List Content) (begun : Option (ℕ × ℕ)) (e : Entry) → EndsNone output e → batches_by output views begun e ≡ []
+ends_none : (output : ℕ) (views : List Offer) (begun : Option (ℕ × ℕ)) (e : Entry) → EndsNone output e → batches_by output views begun e ≡ []
 ends_none output views begun (Gather input moment pieces refused passed filtered metrics group reports) h = refl
 ends_none output views begun (Ended input) h = refl
 ends_none output views begun (Take item) h = refl
@@ -194,7 +196,7 @@ behind k views waiting e =
           ap (λ (n : ℕ). drop n views) (let n : length views - length waiting ≡ k = omega arith in n) ∙ sym e)
     ]
 
-clipped : (n : ℕ) (xs : List Content) → take (min n (length xs)) xs ≡ take n xs
+clipped : (n : ℕ) (xs : List Offer) → take (min n (length xs)) xs ≡ take n xs
 clipped n xs =
     elim (cases_lt (length xs) n) [
       | inl l ↦
@@ -206,69 +208,69 @@ clipped n xs =
 pub batch_views : (core : CoreState) (journal : List Entry) (output : ℕ) (batch : Batch) → Stands core journal → output < length core.setup.outputs → IsBatchOf (lane_at core.lanes output) batch →
     batch.metrics ≡ views_in (Some (batch.from, batch.to)) (offers output journal)
 batch_views core journal output batch h b is =
-    let x : LaneState Content = lane_at core.lanes output in
-    let views : List Content = offers output journal in
+    let x : LaneState Offer = lane_at core.lanes output in
+    let views : List Offer = offers output journal in
     let ranges : Ranges = ranges_of (lane_events output journal) in
     let state = (h.lanes output b).state in
     let all : x.pushed ≡ length views = state.pushed ∙ sym state.offered in
     let first : batch.from ≡ length views - length x.waiting = is.from ∙ ap (λ (n : ℕ). n - length x.waiting) all in
     let many : batch.to - batch.from ≡ min x.batch (length x.waiting) = omega (arith, is.from, is.to) in
     let rest : drop batch.from views ≡ x.waiting = ap (λ (n : ℕ). drop n views) first ∙ behind (oldest_waiting x.limit ranges) views x.waiting (state.waiting ∙ ap (λ (n : ℕ). drop (oldest_waiting n ranges) views) (sym state.limit)) in
-    is.metrics ∙ sym (clipped x.batch x.waiting) ∙ sym (ap (λ (n : ℕ). take n x.waiting) many) ∙ sym (ap (λ (xs : List Content). take (batch.to - batch.from) xs) rest)
+    is.metrics ∙ ap views_of (sym (clipped x.batch x.waiting) ∙ sym (ap (λ (n : ℕ). take n x.waiting) many) ∙ sym (ap (λ (xs : List Offer). take (batch.to - batch.from) xs) rest))
 
 begins-here : (begun : Option (ℕ × ℕ)) (output from to : ℕ) → begun_after output begun (Begin output from to) ≡ Some (from, to)
 begins-here begun output from to = ap (λ (here : Bool). if here then Some (from, to) else begun) (same_number output)
 
-ends-here : (output : ℕ) (views : List Content) (begun : Option (ℕ × ℕ)) (ok : Bool) → batches_by output views begun (Done output ok []) ≡ record { views = views_in begun views; ok = ok } ∷ []
-ends-here output views begun ok =
+ends-here : (reports : List Report) (output : ℕ) (views : List Offer) (begun : Option (ℕ × ℕ)) (ok : Bool) → batches_by output views begun (Done output ok reports) ≡ record { views = views_in begun views; ok = ok } ∷ []
+ends-here reports output views begun ok =
     ap (λ (here : Bool). if here then (let b : BatchSays = record { views = views_in begun views; ok = ok } in b) ∷ [] else []) (same_number output)
 
 -- the batches, once one more was begun and done
-pub batches-more : (output : ℕ) (journal : List Entry) (from to : ℕ) (ok : Bool) →
-    batches output ((journal ++ Begin output from to ∷ []) ++ Done output ok [] ∷ []) ≡ batches output journal ++ record { views = views_in (Some (from, to)) (offers output journal); ok = ok } ∷ []
-batches-more output journal from to ok =
+pub batches-more : (reports : List Report) (output : ℕ) (journal : List Entry) (from to : ℕ) (ok : Bool) →
+    batches output ((journal ++ Begin output from to ∷ []) ++ Done output ok reports ∷ []) ≡ batches output journal ++ record { views = views_in (Some (from, to)) (offers output journal); ok = ok } ∷ []
+batches-more reports output journal from to ok =
     let begin : Entry = Begin output from to in
     let before : List Entry = journal ++ begin ∷ [] in
-    let end : Entry = Done output ok [] in
+    let end : Entry = Done output ok reports in
     let range : Option (ℕ × ℕ) = Some (from, to) in
     let begun : (ranges_of (lane_events output before)).begun ≡ range = sym (begun_is output before) ∙ begun_from-push output None journal begin ∙ begins-here (begun_from output None journal) output from to in
     let views : offers output before ≡ offers output journal = offers-push output journal begin ∙ append-nil (offers output journal) in
     batches-push output before end
     ∙ ap (λ (bs : List BatchSays). bs ++ batches_by output (offers output before) (ranges_of (lane_events output before)).begun end) (batches-same output journal begin tt)
     ∙ ap (λ (r : Option (ℕ × ℕ)). batches output journal ++ batches_by output (offers output before) r end) begun
-    ∙ ap (λ (vs : List Content). batches output journal ++ batches_by output vs range end) views
-    ∙ ap (λ (bs : List BatchSays). batches output journal ++ bs) (ends-here output (offers output journal) range ok)
+    ∙ ap (λ (vs : List Offer). batches output journal ++ batches_by output vs range end) views
+    ∙ ap (λ (bs : List BatchSays). batches output journal ++ bs) (ends-here reports output (offers output journal) range ok)
 
 -- one batch more, of whose text a part was sent
-pub Sent-more : (core : CoreState) (journal : List Entry) (output : ℕ) (batch : Batch) (ok : Bool) (bytes part : List ℕ) → Stands core journal → output < length core.setup.outputs → IsBatchOf (lane_at core.lanes output) batch →
-    IsPart ok (batch_text batch.metrics) part → Sent journal output bytes → Sent ((journal ++ Begin output batch.from batch.to ∷ []) ++ Done output ok [] ∷ []) output (bytes ++ part)
-Sent-more core journal output batch ok bytes part h b is p s =
+pub Sent-more : (reports : List Report) (core : CoreState) (journal : List Entry) (output : ℕ) (batch : Batch) (ok : Bool) (bytes part : List ℕ) → Stands core journal → output < length core.setup.outputs → IsBatchOf (lane_at core.lanes output) batch →
+    IsPart ok (batch_text batch.metrics) part → Sent journal output bytes → Sent ((journal ++ Begin output batch.from batch.to ∷ []) ++ Done output ok reports ∷ []) output (bytes ++ part)
+Sent-more reports core journal output batch ok bytes part h b is p s =
     let views : List Content = views_in (Some (batch.from, batch.to)) (offers output journal) in
     let says : BatchSays = record { views = views; ok = ok } in
     let q : IsPart ok (batch_text views) part = subst (λ (vs : List Content). IsPart ok (batch_text vs) part) (batch_views core journal output batch h b is) p in
-    subst (λ (bs : List BatchSays). AreSent bs (bytes ++ part)) (sym (batches-more output journal batch.from batch.to ok)) (AreSent-append (batches output journal) bytes says part s q)
+    subst (λ (bs : List BatchSays). AreSent bs (bytes ++ part)) (sym (batches-more reports output journal batch.from batch.to ok)) (AreSent-append (batches output journal) bytes says part s q)
 
 -- what was sent, once a batch was begun, put and done
-pub sent_more : (core : CoreState) (journal : List Entry) (output : ℕ) (batch : Batch) (held mid new : Option (List ℕ)) (text : List ℕ) (result : Result (Unit {0}) PutFault) →
+pub sent_more : (reports : List Report) (core : CoreState) (journal : List Entry) (output : ℕ) (batch : Batch) (held mid new : Option (List ℕ)) (text : List ℕ) (result : Result (Unit {0}) PutFault) →
     Stands core journal → output < length core.setup.outputs → IsBatchOf (lane_at core.lanes output) batch → text ≡ batch_text batch.metrics → (result ≡ Err OutOfMemory → ⊥) →
     AppendsSo held mid (Sent journal output) → PutAppends mid new text result →
-    AppendsSo held new (Sent ((journal ++ Begin output batch.from batch.to ∷ []) ++ Done output (accepted result) [] ∷ []) output)
-sent_more core journal output batch held mid new text result h b is t n a put =
-    AppendsSo-put (Sent journal output) (Sent ((journal ++ Begin output batch.from batch.to ∷ []) ++ Done output (accepted result) [] ∷ []) output) held mid new text result n
-    (λ bytes part p s. Sent-more core journal output batch (accepted result) bytes part h b is (subst (λ (xs : List ℕ). IsPart (accepted result) xs part) t p) s) a put
+    AppendsSo held new (Sent ((journal ++ Begin output batch.from batch.to ∷ []) ++ Done output (accepted result) reports ∷ []) output)
+sent_more reports core journal output batch held mid new text result h b is t n a put =
+    AppendsSo-put (Sent journal output) (Sent ((journal ++ Begin output batch.from batch.to ∷ []) ++ Done output (accepted result) reports ∷ []) output) held mid new text result n
+    (λ bytes part p s. Sent-more reports core journal output batch (accepted result) bytes part h b is (subst (λ (xs : List ℕ). IsPart (accepted result) xs part) t p) s) a put
 
 -- the same where the put was accepted
-pub sent_accepted : (core : CoreState) (journal : List Entry) (output : ℕ) (batch : Batch) (held mid new : Option (List ℕ)) (text : List ℕ) →
+pub sent_accepted : (reports : List Report) (core : CoreState) (journal : List Entry) (output : ℕ) (batch : Batch) (held mid new : Option (List ℕ)) (text : List ℕ) →
     Stands core journal → output < length core.setup.outputs → IsBatchOf (lane_at core.lanes output) batch → text ≡ batch_text batch.metrics →
     AppendsSo held mid (Sent journal output) → Appends mid new text →
-    AppendsSo held new (Sent ((journal ++ Begin output batch.from batch.to ∷ []) ++ Done output true [] ∷ []) output)
-sent_accepted core journal output batch held mid new text h b is t a put =
-    sent_more core journal output batch held mid new text (Ok tt) h b is t (λ e. absurd (let x : Ok tt ≡ Err OutOfMemory = e in cc)) a put
+    AppendsSo held new (Sent ((journal ++ Begin output batch.from batch.to ∷ []) ++ Done output true reports ∷ []) output)
+sent_accepted reports core journal output batch held mid new text h b is t a put =
+    sent_more reports core journal output batch held mid new text (Ok tt) h b is t (λ e. absurd (let x : Ok tt ≡ Err OutOfMemory = e in cc)) a put
 
 -- and where it failed
-pub sent_failed : (core : CoreState) (journal : List Entry) (output : ℕ) (batch : Batch) (held mid new : Option (List ℕ)) (text : List ℕ) (fault : PutFault) → fault ≡ Failed →
+pub sent_failed : (reports : List Report) (core : CoreState) (journal : List Entry) (output : ℕ) (batch : Batch) (held mid new : Option (List ℕ)) (text : List ℕ) (fault : PutFault) → fault ≡ Failed →
     Stands core journal → output < length core.setup.outputs → IsBatchOf (lane_at core.lanes output) batch → text ≡ batch_text batch.metrics →
     AppendsSo held mid (Sent journal output) → PutAppends mid new text (Err fault) →
-    AppendsSo held new (Sent ((journal ++ Begin output batch.from batch.to ∷ []) ++ Done output false [] ∷ []) output)
-sent_failed core journal output batch held mid new text fault f h b is t a put =
-    sent_more core journal output batch held mid new text (Err fault) h b is t (λ e. absurd (let x : Err Failed ≡ Err OutOfMemory = ap (λ (k : PutFault). let r : Result (Unit {0}) PutFault = Err k in r) (sym f) ∙ e in cc)) a put
+    AppendsSo held new (Sent ((journal ++ Begin output batch.from batch.to ∷ []) ++ Done output false reports ∷ []) output)
+sent_failed reports core journal output batch held mid new text fault f h b is t a put =
+    sent_more reports core journal output batch held mid new text (Err fault) h b is t (λ e. absurd (let x : Err Failed ≡ Err OutOfMemory = ap (λ (k : PutFault). let r : Result (Unit {0}) PutFault = Err k in r) (sym f) ∙ e in cc)) a put

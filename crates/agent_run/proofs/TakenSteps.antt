@@ -2,6 +2,7 @@
 use Rattle.std.proofs.Common.{◌≡◌, ◌≤◌, ◌+◌, ◌⊎◌, ℕ, ℤ, List, [], ◌∷◌, ◌++◌, length, refl, sym, ap, ◌∙◌, subst, inl, inr, append_assoc, append-nil, length-append, arith}
 use Rattle.std.specs.declared.option.Option.{Option}
 use Rattle.account.specs.declared.entry.Entry.{Entry}
+use Rattle.account.specs.declared.entry.Report.{Report}
 use Rattle.agent_base.specs.Cut.{Cut, cut}
 use Rattle.agent_base.specs.Hand.{Hand, to_come, empty_hand}
 use Rattle.agent_base.specs.Lines.{AreAllButRest}
@@ -9,7 +10,8 @@ use Rattle.agent_base.specs.Taken.{IsSpent}
 use Rattle.agent_base.proofs.RestLemmas.{all_but_rest}
 use Rattle.agent_base.specs.Told.{Told}
 use Rattle.agent_run.specs.declared.reading.Group.{Group}
-use Rattle.agent_run.specs.Gathered.{GatherSays, gathers, IsGroup, AreGroups, joined, Gathering, NamesTaken, NamesSoFar}
+use Rattle.account.specs.Says.{GatherSays}
+use Rattle.agent_run.specs.Gathered.{gathers, IsGroup, AreGroups, joined, Gathering, NamesTaken, NamesSoFar}
 use Rattle.agent_run.specs.Groups.{Reads, TakesPieces}
 use Rattle.agent_run.proofs.GroupLemmas.{told_map, told_pair, told_self, told_then, still_spent}
 use Rattle.agent_run.proofs.GatherLemmas.{AreGroups-push, joined-push, says_of, is_group, gathering_starts, gathering_same, gathering_more}
@@ -159,10 +161,10 @@ module _ (most input : ℕ) (old : List Entry) (moment : ℤ) (group : Group) (b
   told_but = told_then text left_before left_after (NamesSoFar most old input before) (TakesPieces r.read before after) (NamesBut most old input r.read after) h r.whatever_follows (λ xs ys zs a b. names_but most input old r.read before after xs ys zs a b)
 
   -- the group is full, and was gathered
-  pub told_names_more : (new : List Entry) → gathers input new ≡ gathers input old ++ says_of moment group ∷ [] → length r.read ≡ most → Told text left_after (NamesSoFar most new input after)
-  told_names_more new more full =
+  pub told_names_more : (number : Option ℕ) (reports : List Report) (new : List Entry) → gathers input new ≡ gathers input old ++ says_of input moment group number reports ∷ [] → length r.read ≡ most → Told text left_after (NamesSoFar most new input after)
+  told_names_more number reports new more full =
       told_map text left_after (NamesBut most old input r.read after) (NamesSoFar most new input after)
-      (λ xs zs a. names_more most input old new r.read (says_of moment group) after xs zs more (is_group moment group before after left_before left_after r) full a) told_but
+      (λ xs zs a. names_more most input old new r.read (says_of input moment group number reports) after xs zs more (is_group input moment group number reports before after left_before left_after r) full a) told_but
 
   module _ (g : Told text left_before (λ xs ys. Gathering most old input xs (to_come before ys))) (one : length (to_come after []) ≤ 1) (line : length (to_come after (10 ∷ [])) ≤ 1) where
     told_whole : Told text left_after (λ xs zs. Gathering most old input xs (r.read ++ to_come after zs))
@@ -175,10 +177,10 @@ module _ (most input : ℕ) (old : List Entry) (moment : ℤ) (group : Group) (b
     told_all = told_pair text left_after (NamesBut most old input r.read after) (λ xs zs. Gathering most old input xs (r.read ++ to_come after zs)) (NamesAll most old input r.read after) told_but told_whole (λ xs zs a b. names_all most input old r.read after xs zs a b)
 
     -- a read failed, and the group was gathered
-    pub told_taken_more : (new : List Entry) → gathers input new ≡ gathers input old ++ says_of moment group ∷ [] → Told text left_after (NamesTaken new input)
-    told_taken_more new more =
+    pub told_taken_more : (number : Option ℕ) (reports : List Report) (new : List Entry) → gathers input new ≡ gathers input old ++ says_of input moment group number reports ∷ [] → Told text left_after (NamesTaken new input)
+    told_taken_more number reports new more =
         told_map text left_after (NamesAll most old input r.read after) (NamesTaken new input)
-        (λ xs zs a. taken_more most input old new r.read after xs zs (says_of moment group) more (is_group moment group before after left_before left_after r) one line a) told_all
+        (λ xs zs a. taken_more most input old new r.read after xs zs (says_of input moment group number reports) more (is_group input moment group number reports before after left_before left_after r) one line a) told_all
 
     -- a read failed, and the group has no piece
     pub told_taken_same : (new : List Entry) → gathers input new ≡ gathers input old → group.pieces ≡ 0 → Told text left_after (NamesTaken new input)

@@ -8,6 +8,7 @@ use Rattle.metric.specs.declared.metric.Content.{Content}
 use Rattle.account.specs.Items.{items, taken, named_by}
 use Rattle.account.specs.declared.entry.Entry.{Entry}
 use Rattle.account.specs.declared.entry.Entry.TheVariants.{Gather, Ended, Take, Route, Tick, Stop, Begin, Done}
+use Rattle.account.specs.declared.entry.Report.{Report}
 use Rattle.account.specs.declared.entry.Verdict.{Verdict}
 use Rattle.pipeline_core.specs.CoreState.{CoreState}
 use Rattle.pipeline_core.specs.Stands.{Stands}
@@ -53,10 +54,10 @@ worked-push journal e h w =
     (AreWorked-push (items journal ++ named_by e) journal e (AreWorked-more (items journal) (named_by e) journal w) (WorkedBy-more (items journal) (named_by e) e h))
 
 -- an item that was routed as it is
-pub worked_route : (journal : List Entry) (item : ℕ) (metric : Content) (verdict : Verdict) (aggs outs : List (Option Content)) → slice_get (items journal) item ≡ Some metric →
-    AllByRecursion (λ (view : Option Content). view ≡ Some metric) outs → Worked journal → Worked (journal ++ Route item (Some metric) verdict aggs outs [] ∷ [])
-worked_route journal item metric verdict aggs outs at views w =
-    worked-push journal (Route item (Some metric) verdict aggs outs []) (record { metric = metric; is_item = at; is_whole = refl; views = views }) w
+pub worked_route : (journal : List Entry) (item : ℕ) (metric : Content) (verdict : Verdict) (aggs outs : List (Option Content)) (reports : List Report) → slice_get (items journal) item ≡ Some metric →
+    AllByRecursion (λ (view : Option Content). view ≡ Some metric) outs → Worked journal → Worked (journal ++ Route item (Some metric) verdict aggs outs reports ∷ [])
+worked_route journal item metric verdict aggs outs reports at views w =
+    worked-push journal (Route item (Some metric) verdict aggs outs reports) (record { metric = metric; is_item = at; is_whole = refl; views = views }) w
 
 first_behind : (k : ℕ) (xs : List Content) → slice_get (drop k xs) 0 ≡ slice_get xs k
 first_behind zero [] = refl

@@ -2,7 +2,8 @@
 use Rattle.std.specs.Prelude.{ℕ, ℤ, List, [], ◌∷◌, ◌++◌, map}
 use Rattle.account.specs.declared.entry.Entry.{Entry}
 use Rattle.account.specs.declared.entry.Entry.TheVariants.{Tick, Stop}
-use Rattle.agent_run.specs.Gathered.{GatherSays, gathers}
+use Rattle.account.specs.Says.{GatherSays}
+use Rattle.agent_run.specs.Gathered.{gathers}
 
 -- the moments of an input's Gathers, in order
 abbrev pub gather_moments : ℕ → List Entry → List ℤ

@@ -12,8 +12,7 @@ use Rattle.metric.specs.declared.metric.Content.{Content}
 use Rattle.line_proto.specs.declared.fault.LineFault.{LineFault}
 use Rattle.line_proto.specs.Reading.{reading}
 use Rattle.account.specs.declared.entry.Entry.{Entry}
-use Rattle.account.specs.declared.entry.Entry.TheVariants.{Gather, Ended, Take, Route, Tick, Stop, Begin}
-use Rattle.account.specs.declared.entry.Entry.TheVariants.{Done}
+use Rattle.account.specs.Says.{GatherSays, gather_of}
 use Rattle.pipeline_core.specs.Legal.{has_ended}
 
 -- a piece is refused at a moment where it is too long, or no line, and neither blank nor a comment
@@ -32,33 +31,13 @@ abbrev pub readings : ℤ → Cut → List Content
 readings moment TooLong = []
 readings moment (Whole piece) = metric_of (reading piece moment)
 
--- what a Gather says
-pub record GatherSays : Type 0 where
-  pub moment : ℤ
-  pub pieces : ℕ
-  pub refused : ℕ
-  pub passed : ℕ
-  pub filtered : ℕ
-  pub metrics : List Content
+-- what an entry says where it is a Gather of the input
+abbrev pub said_by : ℕ → Option GatherSays → List GatherSays
+said_by input None = []
+said_by input (Some says) = if says.input == input then says ∷ [] else []
 
 abbrev pub gathers_by : ℕ → Entry → List GatherSays
-gathers_by input (Gather number moment pieces refused passed filtered metrics group reports) =
-    if number == input then
-    (record {
-      moment = moment;
-      pieces = pieces;
-      refused = refused;
-      passed = passed;
-      filtered = filtered;
-      metrics = metrics;
-    } ∷ []) else []
-gathers_by input (Ended number) = []
-gathers_by input (Take item) = []
-gathers_by input (Route item whole verdict aggs outs reports) = []
-gathers_by input (Tick moment made) = []
-gathers_by input (Stop moment made) = []
-gathers_by input (Begin output from to) = []
-gathers_by input (Done output ok reports) = []
+gathers_by input e = said_by input (gather_of e)
 
 -- the Gathers of an input, in order
 unfoldable pub gathers : ℕ → List Entry → List GatherSays

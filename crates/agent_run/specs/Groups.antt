@@ -97,7 +97,7 @@ abbrev pub IsOffered : Bool → ℤ → Group → CoreState → CoreState → Ty
 IsOffered true moment group old new =
     ((group.pieces ≡ 0) × (new ≡ old))
     ⊎ ((0 < group.pieces) × (new ≡ after_gather old (gathered_of moment group))
-    × Continues old new (gather_entry (gathered_of moment group)))
+    × Continues old new (gather_entry old (gathered_of moment group)))
 IsOffered false moment group old new = (new ≡ old) × (2 ^ 32 ≤ old.gathered + length group.metrics.items)
 
 -- a group of so many pieces was gathered

@@ -11,7 +11,8 @@ use Rattle.journal_text.specs.declared.setup.JournalSetup.{JournalSetup}
 use Rattle.journal_text.specs.SetupText.{setup_text}
 use Rattle.journal_text.specs.JournalText.{entries_text, journal_text}
 use Rattle.agent_run.specs.Headline.{Change, change, IsPutSo}
-use Rattle.agent_run.specs.Routes.{unrouted, RoutesInOrder, RouteOnInOrder}
+use Rattle.account.specs.Items.{unrouted_items}
+use Rattle.agent_run.specs.Routes.{RoutesInOrder, RouteOnInOrder}
 use Rattle.agent_run.specs.declared.journal.JournalJob.{JournalJob}
 
 -- the journal's part of a run: what the journal is about, the items that have no Route yet, how many entries
@@ -61,7 +62,7 @@ pub record Notes (setup : JournalSetup) (held : Option (List ℕ)) (faults : ℕ
     (part : JournalPart) : Type 0 where
   pub about : part.setup ≡ setup
   pub counted : part.entries ≡ length journal
-  pub kept_are : part.kept ≡ unrouted journal
+  pub kept_are : part.kept ≡ unrouted_items journal
   pub in_order : RoutesInOrder 0 0 journal
   pub later : faults ≤ part.faults
   pub put : IsNotedSo part.failed (change held part.held faults part.faults) setup journal
@@ -69,7 +70,7 @@ pub record Notes (setup : JournalSetup) (held : Option (List ℕ)) (faults : ℕ
 -- the text of entries behind a journal was added, and these items have no Route then
 pub record IsSpelled (journal entries : List Entry) (left : List Content)
     (text new_text : List ℕ) : Type 0 where
-  pub left_are : left ≡ unrouted (journal ++ entries)
+  pub left_are : left ≡ unrouted_items (journal ++ entries)
   pub spelled : new_text ≡ text ++ entries_text (items journal) entries
   pub in_order : RoutesInOrder 0 0 (journal ++ entries)
 
@@ -77,7 +78,7 @@ pub record IsSpelled (journal entries : List Entry) (left : List Content)
 -- come in order
 abbrev pub SpellsOn : List Entry → List Content → List Content → List ℕ → List ℕ → Type 0
 SpellsOn entries kept left text new_text =
-    (journal : List Entry) → kept ≡ unrouted journal → RoutesInOrder 0 0 journal
+    (journal : List Entry) → kept ≡ unrouted_items journal → RoutesInOrder 0 0 journal
     → RouteOnInOrder journal entries
     → IsSpelled journal entries left text new_text
 

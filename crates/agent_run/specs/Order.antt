@@ -4,7 +4,10 @@ use Rattle.account.specs.Setup.{Setup}
 use Rattle.account.specs.Items.{raw_items}
 use Rattle.account.specs.Numbers.{output_numbers}
 use Rattle.account.specs.declared.entry.Entry.{Entry}
-use Rattle.account.specs.declared.entry.Entry.TheVariants.{Gather, Begin}
+use Rattle.account.specs.declared.entry.Entry.TheVariants.{Begin}
+use Rattle.account.specs.Says.{GatherSays, gather_of}
+use Rattle.std.specs.declared.option.Option.{Option}
+use Rattle.std.specs.declared.option.Option.TheVariants.{Some, None}
 use Rattle.out_lane.specs.LaneEvents.{LaneEvent, Done}
 use Rattle.pipeline_core.specs.Offers.{lane_events}
 use Rattle.pipeline_core.specs.Totals.{totals}
@@ -25,11 +28,13 @@ pub record IsDrained (setup : Setup) (before : List Entry) : Type 0 where
       ⊎ EndsFailed (lane_events output before)
 
 -- so it is before a Gather; before a Begin no item is raw
+abbrev pub IsDrainedFor : Setup → List Entry → Option GatherSays → Type 0
+IsDrainedFor setup before None = Unit {0}
+IsDrainedFor setup before (Some says) = IsDrained setup before
+
 abbrev pub IsOrderly : Setup → List Entry → Entry → Type 0
-IsOrderly setup before (Gather input moment pieces refused passed filtered metrics group reports) = IsDrained
-    setup before
 IsOrderly setup before (Begin output from to) = raw_items before ≡ []
-IsOrderly setup before _ = Unit {0}
+IsOrderly setup before e = IsDrainedFor setup before (gather_of e)
 
 -- so it is before each of the entries, which come after those before them
 unfoldable pub AreOrderly : Setup → List Entry → List Entry → Type 0

@@ -1,23 +1,8 @@
 -- The order in which items get their Routes.
-use Rattle.std.specs.Prelude.{◌≡◌, ◌<◌, ◌+◌, ℕ, List, [], ◌∷◌, length, drop}
-use Rattle.metric.specs.declared.metric.Content.{Content}
+use Rattle.std.specs.Prelude.{◌≡◌, ◌<◌, ◌+◌, ℕ, List, [], ◌∷◌, length}
 use Rattle.account.specs.declared.entry.Entry.{Entry}
 use Rattle.account.specs.declared.entry.Entry.TheVariants.{Route}
-use Rattle.account.specs.Items.{named_by, items}
-
--- one for a Route, none for another entry
-abbrev pub routes_by : Entry → ℕ
-routes_by (Route item whole verdict aggs outs reports) = 1
-routes_by _ = 0
-
--- how many items were routed
-unfoldable pub routes : List Entry → ℕ
-routes [] = 0
-routes (e ∷ es) = routes_by e + routes es
-
--- the items that have no Route yet, oldest first, where Routes come in order
-abbrev pub unrouted : List Entry → List Content
-unrouted journal = drop (routes journal) (items journal)
+use Rattle.account.specs.Items.{named_by, items, routes_by, routes}
 
 -- a Route names the first item that has no Route yet, where so many items were routed and so many are known
 abbrev pub IsNextRoute : ℕ → ℕ → Entry → Type 0

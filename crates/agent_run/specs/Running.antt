@@ -9,9 +9,10 @@ use Rattle.pipeline_core.specs.Steps.{after_cut}
 use Rattle.pipeline_core.specs.declared.routing.Routed.{Routed}
 use Rattle.agent_run.specs.declared.pipe_run.PipeRun.{PipeRun}
 
--- there is one output, no item is in hand, and no batch is in flight
+-- there is one output and no aggregator, no item is in hand, and no batch is in flight
 pub record IsReady (core : CoreState) : Type 0 where
   pub one : length core.setup.outputs ≡ 1
+  pub no_aggs : core.setup.aggs ≡ []
   pub lane_count : length core.lanes ≡ 1
   pub some : 1 ≤ (lane_at core.lanes 0).batch
   pub empty_handed : core.held ≡ None

@@ -8,7 +8,8 @@ use Rattle.metric.specs.declared.metric.Content.{Content}
 use Rattle.line_proto.specs.LineText.{line_text}
 use Rattle.account.specs.declared.entry.Entry.{Entry}
 use Rattle.account.specs.declared.entry.Entry.TheVariants.{Begin, Done}
-use Rattle.pipeline_core.specs.Offers.{offered_by}
+use Rattle.pipeline_core.specs.Offers.{offered_by, views_of}
+use Rattle.pipeline_core.specs.declared.output.Offer.{Offer}
 
 -- a batch that is done: the views of its range, and whether it was accepted
 pub record BatchSays : Type 0 where
@@ -16,9 +17,9 @@ pub record BatchSays : Type 0 where
   pub ok : Bool
 
 -- the views at the positions of a range
-abbrev pub views_in : Option (ℕ × ℕ) → List Content → List Content
-views_in None views = []
-views_in (Some range) views = take (range.1 - range.0) (drop range.0 views)
+abbrev pub views_in : Option (ℕ × ℕ) → List Offer → List Content
+views_in None all = []
+views_in (Some range) all = views_of (take (range.1 - range.0) (drop range.0 all))
 
 -- the range of an output that is begun after an entry
 abbrev pub begun_after : ℕ → Option (ℕ × ℕ) → Entry → Option (ℕ × ℕ)
@@ -26,17 +27,17 @@ begun_after output begun (Begin number from to) = if number == output then Some 
 begun_after output begun (Done number ok reports) = if number == output then None else begun
 begun_after output begun _ = begun
 
--- the batch of an output that an entry ends, where these views were offered before it
-abbrev pub batches_by : ℕ → List Content → Option (ℕ × ℕ) → Entry → List BatchSays
-batches_by output views begun (Done number ok reports) = if number == output then
-    (record { views = views_in begun views; ok = ok } ∷ []) else []
-batches_by output views begun _ = []
+-- the batch of an output that an entry ends, where these were offered before it
+abbrev pub batches_by : ℕ → List Offer → Option (ℕ × ℕ) → Entry → List BatchSays
+batches_by output all begun (Done number ok reports) = if number == output then
+    (record { views = views_in begun all; ok = ok } ∷ []) else []
+batches_by output all begun _ = []
 
--- the batches that these entries end, where these views were offered before them and this range was begun
-unfoldable pub batches_from : ℕ → List Content → Option (ℕ × ℕ) → List Entry → List BatchSays
-batches_from output views begun [] = []
-batches_from output views begun (e ∷ es) =
-    batches_by output views begun e ++ batches_from output (views ++ offered_by output e)
+-- the batches that these entries end, where these were offered before them and this range was begun
+unfoldable pub batches_from : ℕ → List Offer → Option (ℕ × ℕ) → List Entry → List BatchSays
+batches_from output all begun [] = []
+batches_from output all begun (e ∷ es) =
+    batches_by output all begun e ++ batches_from output (all ++ offered_by output e)
     (begun_after output begun e) es
 
 -- the batches of an output that are done, in order

@@ -132,16 +132,16 @@ fn write_front(
 // Adds the text of entries, given the items that have no Route yet.
 fn write_entries(
     alloc: Global,
-    unrouted: &mut VecDeque<Metric>,
+    unrouted_items: &mut VecDeque<Metric>,
     entries: &[Entry],
     text: &mut Vec<u8>,
 ) -> Result<(), OutOfMemory>
     requires { All IsWholeOrRemoved entries.now }
     ensures { OnOk result
-        (SpellsOn entries.now unrouted.old.items unrouted.new.items text.old.items text.new.items) }
+        (SpellsOn entries.now unrouted_items.old.items unrouted_items.new.items text.old.items text.new.items) }
 {
     for entry in entries {
-        write_one(alloc, unrouted, entry, text)?;
+        write_one(alloc, unrouted_items, entry, text)?;
     }
     Ok(())
 }
@@ -149,15 +149,15 @@ fn write_entries(
 // Adds the text of an entry, given the items that have no Route yet.
 fn write_one(
     alloc: Global,
-    unrouted: &mut VecDeque<Metric>,
+    unrouted_items: &mut VecDeque<Metric>,
     entry: &Entry,
     text: &mut Vec<u8>,
 ) -> Result<(), OutOfMemory>
     requires { IsWholeOrRemoved entry.now }
     ensures { OnOk result
-        (SpellsOn (entry.now ∷ []) unrouted.old.items unrouted.new.items text.old.items text.new.items) }
+        (SpellsOn (entry.now ∷ []) unrouted_items.old.items unrouted_items.new.items text.old.items text.new.items) }
 {
-    let item = item_of(unrouted, entry)?;
+    let item = item_of(unrouted_items, entry)?;
     write_entry(alloc, item.as_slice(), entry, text)?;
     Ok(())
 }
@@ -180,25 +180,28 @@ fn put_part<K: Sink>(sink: &mut K, failed: bool, text: &[u8]) -> Result<bool, Ou
 
 // The item of a Route, the first of those that weren't routed; the metrics that another entry names
 // are kept until they are routed.
-fn item_of(unrouted: &mut VecDeque<Metric>, entry: &Entry) -> Result<Option<Metric>, OutOfMemory>
+fn item_of(
+    unrouted_items: &mut VecDeque<Metric>,
+    entry: &Entry,
+) -> Result<Option<Metric>, OutOfMemory>
     ensures one { IfOk result (λ item. HasItem (option_to_list item) entry.now) }
     ensures rest { IfOk result
-        (λ item. unrouted.old.items ++ named_by entry.now ≡ option_to_list item ++ unrouted.new.items) }
+        (λ item. unrouted_items.old.items ++ named_by entry.now ≡ option_to_list item ++ unrouted_items.new.items) }
 {
     match entry {
         Entry::Gather { metrics, .. } => {
-            keep(unrouted, metrics.as_slice())?;
+            keep(unrouted_items, metrics.as_slice())?;
             Ok(None)
         }
         Entry::Tick { made, .. } => {
-            keep(unrouted, made.as_slice())?;
+            keep(unrouted_items, made.as_slice())?;
             Ok(None)
         }
         Entry::Stop { made, .. } => {
-            keep(unrouted, made.as_slice())?;
+            keep(unrouted_items, made.as_slice())?;
             Ok(None)
         }
-        Entry::Route { .. } => match unrouted.pop_front() {
+        Entry::Route { .. } => match unrouted_items.pop_front() {
             Some(item) => Ok(Some(item)),
             None => Err(OutOfMemory),
         },
@@ -210,11 +213,11 @@ fn item_of(unrouted: &mut VecDeque<Metric>, entry: &Entry) -> Result<Option<Metr
 }
 
 // Keeps items until they are routed.
-fn keep(unrouted: &mut VecDeque<Metric>, metrics: &[Metric]) -> Result<(), OutOfMemory>
-    ensures { OnOk result (unrouted.new.items ≡ unrouted.old.items ++ metrics.now) }
+fn keep(unrouted_items: &mut VecDeque<Metric>, metrics: &[Metric]) -> Result<(), OutOfMemory>
+    ensures { OnOk result (unrouted_items.new.items ≡ unrouted_items.old.items ++ metrics.now) }
 {
     for metric in metrics {
-        unrouted.push_back(metric.copy()?)?;
+        unrouted_items.push_back(metric.copy()?)?;
     }
     Ok(())
 }

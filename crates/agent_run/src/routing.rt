@@ -15,13 +15,15 @@ use std::alloc::Global;
 fn route(alloc: Global, core: &mut Core, item: Item) -> Result<(), OutOfMemory>
     requires held { core.old.held ≡ Some item.number }
     requires one { length core.old.setup.outputs ≡ 1 }
+    requires no_aggs { core.old.setup.aggs ≡ [] }
     requires stands { HasJournal core.old }
     ensures ok { OnOk result (IsRoutable core.old core.new) }
     ensures held { OnOk result (core.new.held ≡ None) }
     ensures raw { OnOk result (core.new.raw ≡ core.old.raw) }
     ensures stands { StillStands result core.new }
     ensures after { OnOk result (core.new ≡ after_route core.old (as_it_is item.number item.metric)) }
-    ensures continues { OnOk result (Continues core.old core.new (route_entry (as_it_is item.number item.metric))) }
+    ensures continues { OnOk result (Continues core.old core.new
+        (route_entry core.old (as_it_is item.number item.metric))) }
 {
     let view = item.metric.copy()?;
     core.route(Routed {

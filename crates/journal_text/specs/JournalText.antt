@@ -11,8 +11,8 @@ use Rattle.account.specs.declared.entry.Verdict.{Verdict}
 use Rattle.account.specs.declared.entry.Verdict.TheVariants.{Passes, Consumed, Late, Removed}
 use Rattle.account.specs.declared.entry.Report.{Report}
 use Rattle.account.specs.declared.entry.Entry.{Entry}
-use Rattle.account.specs.declared.entry.Entry.TheVariants.{Gather, Ended, Take, Route, Tick, Stop, Begin}
-use Rattle.account.specs.declared.entry.Entry.TheVariants.{Done}
+use Rattle.account.specs.declared.entry.Entry.TheVariants.{Ended, Take, Route, Tick, Stop, Begin, Done}
+use Rattle.account.specs.Says.{GatherSays, gather_of}
 use Rattle.account.specs.Items.{items, named_by}
 use Rattle.account.specs.Views.{HasViews}
 use Rattle.std.specs.Fmt.{signed_decimal}
@@ -85,11 +85,16 @@ gather_line input moment numbers group =
     codes "gather " ++ decimal input ++ codes " " ++ signed_decimal moment ++ spaced numbers
     ++ codes " " ++ group_text group ++ codes "\n"
 
+-- the text of a Gather, and nothing where there is none
+unfoldable pub gather_text : Option GatherSays → List ℕ
+gather_text None = []
+gather_text (Some says) =
+    gather_line says.input says.moment
+    (says.pieces ∷ says.refused ∷ says.passed ∷ says.filtered ∷ length says.metrics ∷ []) says.group
+    ++ metric_lines says.metrics ++ report_lines says.reports
+
 -- an entry, with the item of a Route: its line, its metrics and its reports
 unfoldable pub entry_text : List Content → Entry → List ℕ
-entry_text item (Gather input moment pieces refused passed filtered metrics group reports) =
-    gather_line input moment (pieces ∷ refused ∷ passed ∷ filtered ∷ length metrics ∷ []) group
-    ++ metric_lines metrics ++ report_lines reports
 entry_text item (Ended input) = codes "ended " ++ decimal input ++ codes "\n"
 entry_text item (Take taken) = codes "take " ++ decimal taken ++ codes "\n"
 entry_text item (Route routed whole verdict aggs outs reports) =
@@ -105,12 +110,7 @@ entry_text item (Begin output from to) =
 entry_text item (Done output ok reports) =
     codes "done " ++ decimal output ++ (if ok then codes " ok\n" else codes " failed\n")
     ++ report_lines reports
-
--- the text of a Gather, and nothing for another entry
-unfoldable pub gather_text : Entry → List ℕ
-gather_text (Gather input moment pieces refused passed filtered metrics group reports) =
-    entry_text [] (Gather input moment pieces refused passed filtered metrics group reports)
-gather_text _ = []
+entry_text item e = gather_text (gather_of e)
 
 -- the text of a Route with its item, and nothing for another entry
 unfoldable pub route_text : List Content → Entry → List ℕ

@@ -4,9 +4,9 @@ use Rattle.std.specs.declared.option.Option.{Option}
 use Rattle.std.specs.declared.option.Option.TheVariants.{Some, None}
 use Rattle.account.specs.AccountText.{numbered}
 use Rattle.std.specs.Fmt.{signed_decimal}
-use Rattle.journal_text.specs.declared.setup.AggWord.{AggWord}
-use Rattle.journal_text.specs.declared.setup.AggWord.TheVariants.{MinMax, Basic, Merge, Final}
-use Rattle.journal_text.specs.declared.setup.AggLine.{AggLine}
+use Rattle.account.specs.declared.setup.AggWord.{AggWord}
+use Rattle.account.specs.declared.setup.AggWord.TheVariants.{MinMax, Basic, Merge, Final}
+use Rattle.account.specs.declared.setup.AggLine.{AggLine}
 use Rattle.journal_text.specs.declared.setup.JournalSetup.{JournalSetup}
 
 -- the line of an input: plain, or tracked with the most groups that may be undelivered

@@ -10,4 +10,5 @@ mod tests;
 
 pub use entry::{write_end, write_entry};
 pub use laws::{equal_are_same, text_grows};
-pub use setup::{AggLine, AggWord, JournalSetup, write_setup};
+pub use account::{AggLine, AggWord};
+pub use setup::{JournalSetup, write_setup};

@@ -1,7 +1,8 @@
 -- How many of the routed metrics have each fate.
 use Rattle.std.proofs.Common.{◌≡◌, ℕ, ◌+◌, cond, if◌then◌else◌, Bool, true, false, List, [], ◌∷◌, ◌++◌}
-use Rattle.std.proofs.Common.{length, refl, ap, ◌∙◌, arith, length-append}
+use Rattle.std.proofs.Common.{length, map, refl, ap, ◌∙◌, arith, length-append}
 use Rattle.std.specs.List.{count_by}
+use Rattle.std.proofs.lemmas.List.{length-map}
 use Rattle.std.proofs.lemmas.List.Sums.{sum_by-cons}
 use Rattle.std.specs.declared.option.Option.{Option}
 use Rattle.std.specs.declared.option.Option.TheVariants.{Some, None}
@@ -14,24 +15,17 @@ use Rattle.account.specs.declared.entry.Verdict.TheVariants as verdicts
 use Rattle.out_lane.specs.LaneEvents.{LaneEvent, fate_at}
 use Rattle.out_lane.specs.LaneCounts.{ones, positions_counted, fates_counted}
 use Rattle.out_lane.proofs.CountLemmas.{positions_counted-add}
-use Rattle.pipeline_core.specs.Offers.{offers, lane_events, offered, offered_by, view_at}
-use Rattle.pipeline_core.specs.Fates.{Fate, fate_of, fate_of_view, fates_by_verdict, fates_by, fates_from}
-use Rattle.pipeline_core.specs.Fates.{fates}
+use Rattle.pipeline_core.specs.Offers.{offers, lane_events, offer_of, offered, offered_by, view_at}
+use Rattle.pipeline_core.specs.Fates.{Fate, ItemFate, fate_of, fate_of_view, fates_by_verdict, fates_by}
+use Rattle.pipeline_core.specs.Fates.{fates_from, item_fates, fates, is_filtered, is_late, is_consumed}
+use Rattle.pipeline_core.specs.Fates.{is_written, is_buffered, is_dropped}
 use Rattle.pipeline_core.specs.Fates as fate
 use Rattle.pipeline_core.specs.Sums.{FatesAddUp}
-use Rattle.std.specs.Option.{option_to_list}
-use Rattle.pipeline_core.specs.Totals.{total_by, is_removed, routed_by, is_filtered, is_late, is_consumed}
-use Rattle.pipeline_core.specs.Totals.{is_written, is_buffered, is_dropped}
+use Rattle.pipeline_core.specs.Totals.{total_by, is_removed, routed_by}
 
 count_by-more : (t : Fate → Bool) (x : Fate) (xs : List Fate) →
     count_by t (x ∷ xs) ≡ cond (t x) 1 0 + count_by t xs
 count_by-more t x xs = sum_by-cons (λ (y : Fate). cond (t y) 1 0) x xs
-
-pub count_by-append : (t : Fate → Bool) (xs ys : List Fate) →
-    count_by t (xs ++ ys) ≡ count_by t xs + count_by t ys
-count_by-append t [] ys = omega arith
-count_by-append t (x ∷ xs) ys =
-    omega (arith, count_by-append t xs ys, count_by-more t x (xs ++ ys), count_by-more t x xs)
 
 one : (b : Bool) → cond b 1 0 ≡ ones b
 one true = refl
@@ -53,33 +47,47 @@ kept_out t o _ = 0
 abbrev pub test_at : (Fate → Bool) → ℕ → List LaneEvent → ℕ → Bool
 test_at t limit events p = t (fate_of (fate_at limit events p))
 
-by_view : (t : Fate → Bool) (limit : ℕ) (events : List LaneEvent) (position : ℕ) (view : Option Content) →
-    count_by t (fate_of_view limit events position view ∷ []) ≡ kept_out_by t verdicts.Passes view + positions_counted (test_at t limit events) position (length (option_to_list view))
-by_view t limit events position None = omega (arith, one (t fate.Filtered))
-by_view t limit events position (Some view) = omega (arith, one (t (fate_of (fate_at limit events position))))
+by_view : (t : Fate → Bool) (limit : ℕ) (events : List LaneEvent) (position item : ℕ) (view : Option Content) →
+    count_by t (fate_of_view limit events position view ∷ []) ≡ kept_out_by t verdicts.Passes view + positions_counted (test_at t limit events) position (length (offer_of item view))
+by_view t limit events position item None = omega (arith, one (t fate.Filtered))
+by_view t limit events position item (Some view) = omega (arith, one (t (fate_of (fate_at limit events position))))
 
-by_verdict : (t : Fate → Bool) (limit : ℕ) (events : List LaneEvent) (position : ℕ) (verdict : Verdict) (view : Option Content) → count_by t (fates_by_verdict limit events position verdict view) ≡ kept_out_by t verdict view + positions_counted (test_at t limit events) position (length (offered verdict view))
-by_verdict t limit events position verdicts.Passes view = by_view t limit events position view
-by_verdict t limit events position verdicts.Consumed view = omega (arith, one (t fate.Consumed))
-by_verdict t limit events position verdicts.Late view = omega (arith, one (t fate.Late))
-by_verdict t limit events position verdicts.Removed view = omega arith
+-- the fates of items
+abbrev fates_in : List ItemFate → List Fate
+fates_in xs = map (λ (x : ItemFate). x.fate) xs
+
+-- an item's fates, where these are they
+abbrev of_item : ℕ → List Fate → List ItemFate
+of_item item all = map (λ (fate : Fate). record { item = item; fate = fate }) all
+
+by_verdict : (t : Fate → Bool) (limit : ℕ) (events : List LaneEvent) (position item : ℕ) (verdict : Verdict) (view : Option Content) → count_by t (fates_in (of_item item (fates_by_verdict limit events position verdict view))) ≡ kept_out_by t verdict view + positions_counted (test_at t limit events) position (length (offered item verdict view))
+by_verdict t limit events position item verdicts.Passes view = by_view t limit events position item view
+by_verdict t limit events position item verdicts.Consumed view = omega (arith, one (t fate.Consumed))
+by_verdict t limit events position item verdicts.Late view = omega (arith, one (t fate.Late))
+by_verdict t limit events position item verdicts.Removed view = omega arith
 
 by_entry : (t : Fate → Bool) (limit o : ℕ) (events : List LaneEvent) (position : ℕ) (e : Entry) →
-    count_by t (fates_by limit o events position e) ≡ kept_out t o e + positions_counted (test_at t limit events) position (length (offered_by o e))
+    count_by t (fates_in (fates_by limit o events position e)) ≡ kept_out t o e + positions_counted (test_at t limit events) position (length (offered_by o e))
 by_entry t limit o events position (Gather input moment pieces refused passed filtered metrics group reports) =
     omega arith
 by_entry t limit o events position (Ended input) = omega arith
 by_entry t limit o events position (Take item) = omega arith
 by_entry t limit o events position (Route item whole verdict aggs outs reports) =
-    by_verdict t limit events position verdict (view_at o outs)
+    by_verdict t limit events position item verdict (view_at o outs)
 by_entry t limit o events position (Tick moment made) = omega arith
 by_entry t limit o events position (Stop moment made) = omega arith
 by_entry t limit o events position (Begin number from to) = omega arith
 by_entry t limit o events position (Done number ok reports) = omega arith
 
+count_by-in : (t : Fate → Bool) (xs ys : List ItemFate) →
+    count_by t (fates_in (xs ++ ys)) ≡ count_by t (fates_in xs) + count_by t (fates_in ys)
+count_by-in t [] ys = omega arith
+count_by-in t (x ∷ xs) ys =
+    omega (arith, count_by-in t xs ys, count_by-more t x.fate (fates_in (xs ++ ys)), count_by-more t x.fate (fates_in xs))
+
 -- of the fates, those of metrics that came to no lane, and those of positions
 fates_from-counted : (t : Fate → Bool) (limit o : ℕ) (events : List LaneEvent) (position : ℕ) (es : List Entry) →
-    count_by t (fates_from limit o events position es) ≡ total_by (kept_out t o) es + positions_counted (test_at t limit events) position (length (offers o es))
+    count_by t (fates_in (fates_from limit o events position es)) ≡ total_by (kept_out t o) es + positions_counted (test_at t limit events) position (length (offers o es))
 unfolding fates_from total_by offers
 fates_from-counted t limit o events position [] = omega arith
 fates_from-counted t limit o events position (e ∷ es) =
@@ -88,9 +96,9 @@ fates_from-counted t limit o events position (e ∷ es) =
     let all : length (offered_by o e ++ offers o es) ≡ n + m = length-append (offered_by o e) (offers o es) in
     let both : positions_counted (test_at t limit events) position (length (offered_by o e ++ offers o es)) ≡ positions_counted (test_at t limit events) position n + positions_counted (test_at t limit events) (position + n) m =
     ap (positions_counted (test_at t limit events) position) all ∙ positions_counted-add (test_at t limit events) position n m in
-    let front : count_by t (fates_by limit o events position e) ≡ kept_out t o e + positions_counted (test_at t limit events) position n = by_entry t limit o events position e in
-    let back : count_by t (fates_from limit o events (position + n) es) ≡ total_by (kept_out t o) es + positions_counted (test_at t limit events) (position + n) m = fates_from-counted t limit o events (position + n) es in
-    omega (arith, count_by-append t (fates_by limit o events position e) (fates_from limit o events (position + n) es))
+    let front : count_by t (fates_in (fates_by limit o events position e)) ≡ kept_out t o e + positions_counted (test_at t limit events) position n = by_entry t limit o events position e in
+    let back : count_by t (fates_in (fates_from limit o events (position + n) es)) ≡ total_by (kept_out t o) es + positions_counted (test_at t limit events) (position + n) m = fates_from-counted t limit o events (position + n) es in
+    omega (arith, count_by-in t (fates_by limit o events position e) (fates_from limit o events (position + n) es))
 
 -- how many of the routed metrics have a fate that passes a test
 pub fates-counted : (t : Fate → Bool) (limit o : ℕ) (es : List Entry) →
@@ -119,11 +127,11 @@ all_six [] = refl
 all_six (x ∷ xs) =
     omega (arith, all_six xs, six x, count_by-more is_filtered x xs, count_by-more is_late x xs, count_by-more is_consumed x xs, count_by-more is_written x xs, count_by-more is_buffered x xs, count_by-more is_dropped x xs)
 
-by_verdict-length : (limit : ℕ) (events : List LaneEvent) (position : ℕ) (verdict : Verdict) (view : Option Content) → length (fates_by_verdict limit events position verdict view) ≡ (if is_removed verdict then 0 else 1)
-by_verdict-length limit events position verdicts.Passes view = refl
-by_verdict-length limit events position verdicts.Consumed view = refl
-by_verdict-length limit events position verdicts.Late view = refl
-by_verdict-length limit events position verdicts.Removed view = refl
+by_verdict-length : (limit : ℕ) (events : List LaneEvent) (position item : ℕ) (verdict : Verdict) (view : Option Content) → length (of_item item (fates_by_verdict limit events position verdict view)) ≡ (if is_removed verdict then 0 else 1)
+by_verdict-length limit events position item verdicts.Passes view = refl
+by_verdict-length limit events position item verdicts.Consumed view = refl
+by_verdict-length limit events position item verdicts.Late view = refl
+by_verdict-length limit events position item verdicts.Removed view = refl
 
 by_entry-length : (limit o : ℕ) (events : List LaneEvent) (position : ℕ) (e : Entry) →
     length (fates_by limit o events position e) ≡ routed_by e
@@ -132,7 +140,7 @@ by_entry-length limit o events position (Gather input moment pieces refused pass
 by_entry-length limit o events position (Ended input) = refl
 by_entry-length limit o events position (Take item) = refl
 by_entry-length limit o events position (Route item whole verdict aggs outs reports) =
-    by_verdict-length limit events position verdict (view_at o outs)
+    by_verdict-length limit events position item verdict (view_at o outs)
 by_entry-length limit o events position (Tick moment made) = refl
 by_entry-length limit o events position (Stop moment made) = refl
 by_entry-length limit o events position (Begin number from to) = refl
@@ -150,4 +158,5 @@ fates_from-length limit o events position (e ∷ es) =
 pub fates_add_up : FatesAddUp
 fates_add_up limit output journal =
     all_six (fates limit output journal)
+    ∙ length-map (item_fates limit output journal) (λ (x : ItemFate). x.fate)
     ∙ fates_from-length limit output (lane_events output journal) 0 journal

@@ -5,7 +5,6 @@ use Rattle.std.proofs.lemmas.List.{drop-append-le, drop-drop}
 use Rattle.std.proofs.Math.Bool.{or-false}
 use Rattle.std.specs.declared.option.Option.{Option}
 use Rattle.std.specs.declared.option.Option.TheVariants.{None}
-use Rattle.metric.specs.declared.metric.Content.{Content}
 use Rattle.account.specs.Setup.{Setup}
 use Rattle.account.specs.Items.{named_by, items, takes_by, taken, raw_items, held_after, in_hand_from}
 use Rattle.account.specs.Items.{in_hand}
@@ -14,6 +13,7 @@ use Rattle.account.specs.declared.entry.Entry.{Entry}
 use Rattle.account.specs.declared.entry.Entry.TheVariants.{Gather, Ended, Take, Route, Tick, Stop, Begin}
 use Rattle.account.specs.declared.entry.Entry.TheVariants.{Done}
 use Rattle.out_lane.specs.LaneEvents.{LaneEvent}
+use Rattle.pipeline_core.specs.declared.output.Offer.{Offer}
 use Rattle.pipeline_core.specs.Offers.{offers, offered_by, lane_events, lane_events_by}
 use Rattle.pipeline_core.specs.Legal.{has_stop, is_stop, has_ended, is_ended_of, gathered_count, gathered_by}
 use Rattle.pipeline_core.specs.Legal.{counted_from, moment_after, Meets, AreLegal, IsLegal}
@@ -37,7 +37,7 @@ pub offers-push : (o : ℕ) (es : List Entry) (e : Entry) →
 unfolding offers
 offers-push o [] e = append-nil (offered_by o e)
 offers-push o (x ∷ es) e =
-    ap (λ (ms : List Content). offered_by o x ++ ms) (offers-push o es e)
+    ap (λ (ms : List Offer). offered_by o x ++ ms) (offers-push o es e)
     ∙ sym (append_assoc (offered_by o x) (offers o es) (offered_by o e))
 
 pub lane_events-push : (o : ℕ) (es : List Entry) (e : Entry) →
@@ -97,7 +97,7 @@ within_by : (setup : Setup) (before : List Entry) (e : Entry) → Meets setup be
 within_by setup before (Gather input moment pieces refused passed filtered metrics group reports) m h =
     omega arith
 within_by setup before (Ended input) m h = omega arith
-within_by setup before (Take item) m h = omega (arith, m.first, m.raw)
+within_by setup before (Take item) m h = omega (arith, m.line.first, m.line.raw)
 within_by setup before (Route item whole verdict aggs outs reports) m h = omega arith
 within_by setup before (Tick moment made) m h = omega arith
 within_by setup before (Stop moment made) m h = omega arith

@@ -17,99 +17,89 @@ use Rattle.metric.specs.declared.metric.Content.{Content}
 use Rattle.account.specs.declared.entry.Entry.{Entry}
 use Rattle.account.specs.Numbers.{Numbers, output_numbers, unread_input, no_numbers, unreached_output}
 use Rattle.account.specs.Numbers.{with_output}
+use Rattle.account.specs.declared.numbers.InputNumbers.{InputNumbers}
 use Rattle.account.specs.declared.numbers.OutputNumbers.{OutputNumbers}
 use Rattle.out_lane.specs.Lane.{LaneState, empty_lane}
 use Rattle.out_lane.specs.Lane as lane
-use Rattle.pipeline_core.specs.Offers.{view_at}
+use Rattle.pipeline_core.specs.Offers.{view_at, views_of}
+use Rattle.pipeline_core.specs.declared.output.Offer.{Offer}
 use Rattle.pipeline_core.proofs.Offering.{lanes_with-at, outputs_with-at, length-lanes_with}
 use Rattle.pipeline_core.proofs.Offering.{length-outputs_with}
 use Rattle.pipeline_core.specs.declared.setup.CoreSetup.{CoreSetup}
 use Rattle.pipeline_core.specs.declared.setup.InSetup.{InSetup}
 use Rattle.pipeline_core.specs.declared.setup.OutSetup.{OutSetup}
-use Rattle.pipeline_core.specs.CoreState.{setup_of, lane_of, sizes, most_undelivered, CoreState, IsCore}
-use Rattle.pipeline_core.specs.CoreState.{IsOutput, sizes_at, flights, in_flight, held_count, lane_at}
+use Rattle.pipeline_core.specs.CoreState.{setup_of, lane_of, sizes, most_undelivered, is_tracked, CoreState}
+use Rattle.pipeline_core.specs.CoreState.{IsCore, IsOutput, InputsAgree, sizes_at, flights, in_flight}
+use Rattle.pipeline_core.specs.CoreState.{held_count, lane_at}
 use Rattle.pipeline_core.specs.declared.gathering.Gathered.{Gathered}
 use Rattle.pipeline_core.specs.Steps.{after_gather, after_ended, after_take, lanes_routed, numbers_routed}
 use Rattle.pipeline_core.specs.Steps.{HasFew, lane_with, numbers_with, buffered_more, lane_done, count_done}
-use Rattle.pipeline_core.specs.Steps.{counted_done, HasNumbers}
+use Rattle.pipeline_core.specs.Steps.{counted_done, HasNumbers, HasItems}
 
-in_flight-le : (x : LaneState Content) → in_flight x ≤ 1
+in_flight-le : (x : LaneState Offer) → in_flight x ≤ 1
 in_flight-le x = elim (is_some x.flight) as (λ b. (if b then 1 else 0) ≤ 1) [ true ↦ omega arith | false ↦ omega arith ]
 
 -- no more batches are in flight than there are outputs
-pub flights-le : (lanes : List (LaneState Content)) → flights lanes ≤ length lanes
+pub flights-le : (lanes : List (LaneState Offer)) → flights lanes ≤ length lanes
 flights-le lanes = omega (arith, sum_by-le in_flight 1 lanes (λ k d h. in_flight-le (get_or lanes k d)))
 
 -- entries, the moment and the stop have no part in it
 pub kept_entries : (s : CoreState) (stored : List Entry) (counted : ℤ) (stopped : Bool) → IsCore s → IsCore (record s { stored = stored; counted = counted; stopped = stopped })
 kept_entries s stored counted stopped h =
-    record {
-      lanes = h.lanes;
-      inputs = h.inputs;
-      outputs = h.outputs;
-      ended = h.ended;
-      few = h.few;
-      untracked = h.untracked;
-      counted = h.counted;
-      below = h.below;
-      routed = h.routed;
-      each = h.each;
-    }
+    record { outputs = h.outputs; inputs = h.inputs; items = h.items; untracked = h.untracked; no_aggs = h.no_aggs }
 
-pub kept_gather : (s : CoreState) (g : Gathered) (stored : List Entry) → IsCore s → HasNumbers s g → IsCore (record (after_gather s g) { stored = stored })
-kept_gather s g stored h few =
+-- an input's numbers have no part in the others
+inputs_kept : (inputs : List (Option ℕ)) (numbers : List InputNumbers) (ended : List Bool) (i : ℕ) (x : InputNumbers) → InputsAgree inputs numbers ended → InputsAgree inputs (set numbers i x) ended
+inputs_kept inputs numbers ended i x h = record { number_count = length-set numbers i x ∙ h.number_count; ended_count = h.ended_count }
+
+pub kept_gather : (s : CoreState) (g : Gathered) (stored : List Entry) → IsCore s → HasNumbers s g → HasItems s g → IsCore (record (after_gather s g) { stored = stored })
+kept_gather s g stored h few items =
     record {
-      lanes = h.lanes;
-      inputs = length-set s.numbers.inputs _ _ ∙ h.inputs;
       outputs = h.outputs;
-      ended = h.ended;
-      few = h.few;
+      inputs = inputs_kept s.setup.inputs s.numbers.inputs s.ended g.input _ h.inputs;
+      items = record {
+        come = omega (arith, length-append s.raw g.metrics, h.items.come);
+        few = omega (arith, length-append s.raw g.metrics, items);
+        few_gathered = few;
+        gone = h.items.gone;
+      };
       untracked = h.untracked;
-      counted = omega (arith, length-append s.raw g.metrics, h.counted);
-      below = few;
-      routed = h.routed;
-      each = h.each;
+      no_aggs = h.no_aggs;
     }
 
 pub kept_ended : (s : CoreState) (input : ℕ) (stored : List Entry) → IsCore s → IsCore (record (after_ended s input) { stored = stored })
 kept_ended s input stored h =
     record {
-      lanes = h.lanes;
-      inputs = length-set s.numbers.inputs _ _ ∙ h.inputs;
       outputs = h.outputs;
-      ended = length-set s.ended _ _ ∙ h.ended;
-      few = h.few;
+      inputs = record { number_count = length-set s.numbers.inputs _ _ ∙ h.inputs.number_count; ended_count = length-set s.ended _ _ ∙ h.inputs.ended_count };
+      items = h.items;
       untracked = h.untracked;
-      counted = h.counted;
-      below = h.below;
-      routed = h.routed;
-      each = h.each;
+      no_aggs = h.no_aggs;
     }
 
 pub kept_take : (s : CoreState) (stored : List Entry) → IsCore s → s.held ≡ None → 0 < length s.raw → IsCore (record (after_take s) { stored = stored })
 kept_take s stored h empty some =
     record {
-      lanes = h.lanes;
-      inputs = h.inputs;
       outputs = h.outputs;
-      ended = h.ended;
-      few = h.few;
+      inputs = h.inputs;
+      items = record {
+        come = omega (arith, length-drop 1 s.raw, h.items.come);
+        few = omega (arith, length-drop 1 s.raw, h.items.few);
+        few_gathered = h.items.few_gathered;
+        gone = omega (arith, h.items.gone, ap held_count empty);
+      };
       untracked = h.untracked;
-      counted = omega (arith, length-drop 1 s.raw, h.counted);
-      below = h.below;
-      routed = omega (arith, h.routed, ap held_count empty);
-      each = h.each;
+      no_aggs = h.no_aggs;
     }
 
--- with an item in hand, fewer items were routed than gathered
-pub few_routed : (s : CoreState) (item : ℕ) → IsCore s → s.held ≡ Some item →
-    s.numbers.removed + s.numbers.routed < 2 ^ 32
-few_routed s item h held = omega (arith, h.routed, h.counted, h.below, ap held_count held)
+-- there are few enough items that one more may be routed
+pub few_routed : (s : CoreState) → IsCore s → s.numbers.removed + s.numbers.routed < 2 ^ 63
+few_routed s h = omega (arith, h.items.gone, h.items.few)
 
-none_flies : (x : LaneState Content) → x.flight ≡ None → in_flight x ≡ 0
-none_flies x h = ap (λ (o : Option (ℕ × List Content)). if is_some o then 1 else 0) h
+none_flies : (x : LaneState Offer) → x.flight ≡ None → in_flight x ≡ 0
+none_flies x h = ap (λ (o : Option (ℕ × List Offer)). if is_some o then 1 else 0) h
 
-one_flies : (x : LaneState Content) → IsSome x.flight → in_flight x ≡ 1
+one_flies : (x : LaneState Offer) → IsSome x.flight → in_flight x ≡ 1
 one_flies x h = ap (λ (b : Bool). if b then 1 else 0) h
 
 pub not_full : (m n : ℕ) → m < n → (m == n) ≡ false
@@ -119,7 +109,7 @@ pub full : (m n : ℕ) → m ≡ n → (m == n) ≡ true
 full m n h = grind (arith, nat_tests)
 
 -- one more waits
-output_pushed : (size : ℕ × ℕ) (routed : ℕ) (x : OutputNumbers) (at : LaneState Content) (view : Content) →
+output_pushed : (size : ℕ × ℕ) (routed : ℕ) (x : OutputNumbers) (at : LaneState Offer) (view : Offer) →
     IsOutput size routed x at → length at.waiting < at.limit →
     IsOutput size (routed + 1) (buffered_more at x) (lane.after_push at view)
 output_pushed size routed x at view h b =
@@ -127,47 +117,47 @@ output_pushed size routed x at view h b =
     let whole : length all ≡ length at.waiting + 1 = length-append at.waiting (view ∷ []) in
     let kept : length (drop (length all - at.limit) all) ≡ length all - (length all - at.limit) = length-drop (length all - at.limit) all in
     rw (not_full (length at.waiting) at.limit b)
-    (record { batch = h.batch; limit = h.limit; some = h.some; fits = h.fits; waits = omega (arith, kept); buffered = omega (arith, kept, whole, h.buffered); all = omega (arith, h.all); pushed = omega (arith, h.pushed) })
+    (record { batch = h.batch; limit = h.limit; some = h.some; fits = h.fits; waits = omega (arith, kept); flies = h.flies; buffered = omega (arith, kept, whole, h.buffered); all = omega (arith, h.all); pushed = omega (arith, h.pushed) })
 
 -- one more waits, and the oldest doesn't
-output_pushed_full : (size : ℕ × ℕ) (routed : ℕ) (x : OutputNumbers) (at : LaneState Content) (view : Content) → IsOutput size routed x at → length at.waiting ≡ at.limit → IsOutput size (routed + 1) (buffered_more at x) (lane.after_push at view)
+output_pushed_full : (size : ℕ × ℕ) (routed : ℕ) (x : OutputNumbers) (at : LaneState Offer) (view : Offer) → IsOutput size routed x at → length at.waiting ≡ at.limit → IsOutput size (routed + 1) (buffered_more at x) (lane.after_push at view)
 output_pushed_full size routed x at view h e =
     let all = at.waiting ++ view ∷ [] in
     let whole : length all ≡ length at.waiting + 1 = length-append at.waiting (view ∷ []) in
     let kept : length (drop (length all - at.limit) all) ≡ length all - (length all - at.limit) = length-drop (length all - at.limit) all in
     rw (full (length at.waiting) at.limit e)
-    (record { batch = h.batch; limit = h.limit; some = h.some; fits = h.fits; waits = omega (arith, kept); buffered = omega (arith, kept, whole, e, h.buffered); all = omega (arith, h.all); pushed = omega (arith, h.pushed) })
+    (record { batch = h.batch; limit = h.limit; some = h.some; fits = h.fits; waits = omega (arith, kept); flies = h.flies; buffered = omega (arith, kept, whole, e, h.buffered); all = omega (arith, h.all); pushed = omega (arith, h.pushed) })
 
 -- an output agrees once a view was offered to it
-pub output_offered : (size : ℕ × ℕ) (routed : ℕ) (x : OutputNumbers) (at : LaneState Content) (view : Option Content) → IsOutput size routed x at → IsOutput size (routed + 1) (numbers_with view at x) (lane_with view at)
-output_offered size routed x at None h =
-    record { batch = h.batch; limit = h.limit; some = h.some; fits = h.fits; waits = h.waits; buffered = h.buffered; all = omega (arith, h.all); pushed = omega (arith, h.pushed) }
-output_offered size routed x at (Some view) h =
+pub output_offered : (size : ℕ × ℕ) (routed : ℕ) (x : OutputNumbers) (at : LaneState Offer) (item : ℕ) (view : Option Content) → IsOutput size routed x at → IsOutput size (routed + 1) (numbers_with view at x) (lane_with item view at)
+output_offered size routed x at item None h =
+    record { batch = h.batch; limit = h.limit; some = h.some; fits = h.fits; waits = h.waits; flies = h.flies; buffered = h.buffered; all = omega (arith, h.all); pushed = omega (arith, h.pushed) }
+output_offered size routed x at item (Some view) h =
     elim (eq-or-lt_of_le h.waits) [
-      | inl e ↦ output_pushed_full size routed x at view h e
-      | inr b ↦ output_pushed size routed x at view h b
+      | inl e ↦ output_pushed_full size routed x at (record { item = item; view = view }) h e
+      | inr b ↦ output_pushed size routed x at (record { item = item; view = view }) h b
     ]
 
 -- an output agrees once its batch was begun
-pub output_begun : (size : ℕ × ℕ) (routed : ℕ) (x : OutputNumbers) (at : LaneState Content) →
+pub output_begun : (size : ℕ × ℕ) (routed : ℕ) (x : OutputNumbers) (at : LaneState Offer) →
     at.flight ≡ None → IsOutput size routed x at → IsOutput size routed x (lane.after_begin at)
 output_begun size routed x at none h =
-    record { batch = h.batch; limit = h.limit; some = h.some; fits = h.fits; waits = omega (arith, length-drop at.batch at.waiting, h.waits); buffered = omega (arith, length-drop at.batch at.waiting, length-take at.batch at.waiting, h.buffered, ap (λ (o : Option (ℕ × List Content)). length (lane.batch_items o)) none); all = h.all; pushed = h.pushed }
+    record { batch = h.batch; limit = h.limit; some = h.some; fits = h.fits; waits = omega (arith, length-drop at.batch at.waiting, h.waits); flies = omega (arith, length-take at.batch at.waiting); buffered = omega (arith, length-drop at.batch at.waiting, length-take at.batch at.waiting, h.buffered, ap (λ (o : Option (ℕ × List Offer)). length (lane.batch_items o)) none); all = h.all; pushed = h.pushed }
 
 -- an output agrees once its batch was accepted, or failed
-pub output_done : (ok : Bool) (size : ℕ × ℕ) (routed : ℕ) (x : OutputNumbers) (at : LaneState Content) →
+pub output_done : (ok : Bool) (size : ℕ × ℕ) (routed : ℕ) (x : OutputNumbers) (at : LaneState Offer) →
     IsOutput size routed x at → IsOutput size routed (counted_done ok (count_done ok at) x) (lane_done ok at)
 output_done true size routed x at h =
-    record { batch = h.batch; limit = h.limit; some = h.some; fits = h.fits; waits = h.waits; buffered = omega (arith, h.buffered); all = omega (arith, h.all, h.buffered); pushed = h.pushed }
+    record { batch = h.batch; limit = h.limit; some = h.some; fits = h.fits; waits = h.waits; flies = omega arith; buffered = omega (arith, h.buffered); all = omega (arith, h.all, h.buffered); pushed = h.pushed }
 output_done false size routed x at h =
     let all = lane.flying at ++ at.waiting in
     let whole : length all ≡ length (lane.flying at) + length at.waiting = length-append (lane.flying at) at.waiting in
     let kept : length (drop (length all - at.limit) all) ≡ length all - (length all - at.limit) = length-drop (length all - at.limit) all in
     let gone : length (take (length all - at.limit) all) ≡ length all - at.limit = length-take-le (length all - at.limit) all (omega arith) in
-    record { batch = h.batch; limit = h.limit; some = h.some; fits = h.fits; waits = omega (arith, kept); buffered = omega (arith, kept, gone, whole, h.buffered); all = omega (arith, h.all, h.buffered, gone, whole); pushed = h.pushed }
+    record { batch = h.batch; limit = h.limit; some = h.some; fits = h.fits; waits = omega (arith, kept); flies = omega arith; buffered = omega (arith, kept, gone, whole, h.buffered); all = omega (arith, h.all, h.buffered, gone, whole); pushed = h.pushed }
 
 -- with another lane and other numbers at one output, each output agrees
-pub each_with : (sizes : List (ℕ × ℕ)) (routed : ℕ) (all : List OutputNumbers) (lanes : List (LaneState Content)) (o : ℕ) (x : OutputNumbers) (at : LaneState Content) → o < length all → o < length lanes →
+pub each_with : (sizes : List (ℕ × ℕ)) (routed : ℕ) (all : List OutputNumbers) (lanes : List (LaneState Offer)) (o : ℕ) (x : OutputNumbers) (at : LaneState Offer) → o < length all → o < length lanes →
     ((k : ℕ) → k < length sizes → IsOutput (get_or sizes k (0, 0)) routed (get_or all k unreached_output) (lane_at lanes k)) → IsOutput (get_or sizes o (0, 0)) routed x at →
     (k : ℕ) → k < length sizes →
     IsOutput (get_or sizes k (0, 0)) routed (get_or (set all o x) k unreached_output) (lane_at (set lanes o at) k)
@@ -186,45 +176,40 @@ kept_as : (whole : Option Content) (s : CoreState) (outs : List (Option Content)
     IsCore (record s {
       held =
           None;
-      lanes = lanes_routed whole outs s.lanes;
+      lanes = lanes_routed item whole outs s.lanes;
       numbers = numbers_routed whole outs s.lanes s.numbers;
       stored = stored;
     })
 kept_as None s outs item stored held h =
     record {
-      lanes = h.lanes;
-      inputs = h.inputs;
       outputs = h.outputs;
-      ended = h.ended;
-      few = h.few;
+      inputs = h.inputs;
+      items = record { come = h.items.come; few = h.items.few; few_gathered = h.items.few_gathered; gone = omega (arith, h.items.gone, ap held_count held) };
       untracked = h.untracked;
-      counted = h.counted;
-      below = h.below;
-      routed = omega (arith, h.routed, ap held_count held);
-      each = h.each;
+      no_aggs = h.no_aggs;
     }
 kept_as (Some whole) s outs item stored held h =
     record {
-      lanes = length-lanes_with outs s.lanes ∙ h.lanes;
+      outputs = record {
+        lane_count = length-lanes_with item outs s.lanes ∙ h.outputs.lane_count;
+        number_count = length-outputs_with outs s.lanes s.numbers.outputs ∙ h.outputs.number_count;
+        few = h.outputs.few;
+        each =
+            λ o b. rw (lanes_with-at item outs s.lanes o (omega (arith, h.outputs.lane_count)), outputs_with-at outs s.lanes s.numbers.outputs o (omega (arith, h.outputs.number_count)))
+            (output_offered (sizes_at s.setup o) s.numbers.routed (output_numbers s.numbers o) (lane_at s.lanes o) item (view_at o outs) (h.outputs.each o b));
+      };
       inputs = h.inputs;
-      outputs = length-outputs_with outs s.lanes s.numbers.outputs ∙ h.outputs;
-      ended = h.ended;
-      few = h.few;
+      items = record { come = h.items.come; few = h.items.few; few_gathered = h.items.few_gathered; gone = omega (arith, h.items.gone, ap held_count held) };
       untracked = h.untracked;
-      counted = h.counted;
-      below = h.below;
-      routed = omega (arith, h.routed, ap held_count held);
-      each =
-          λ o b. rw (lanes_with-at outs s.lanes o (omega (arith, h.lanes)), outputs_with-at outs s.lanes s.numbers.outputs o (omega (arith, h.outputs)))
-          (output_offered (sizes_at s.setup o) s.numbers.routed (output_numbers s.numbers o) (lane_at s.lanes o) (view_at o outs) (h.each o b));
+      no_aggs = h.no_aggs;
     }
 
-pub length-lanes_routed : (whole : Option Content) (outs : List (Option Content)) (lanes : List (LaneState Content)) → length (lanes_routed whole outs lanes) ≡ length lanes
-length-lanes_routed None outs lanes = refl
-length-lanes_routed (Some whole) outs lanes = length-lanes_with outs lanes
+pub length-lanes_routed : (item : ℕ) (whole : Option Content) (outs : List (Option Content)) (lanes : List (LaneState Offer)) → length (lanes_routed item whole outs lanes) ≡ length lanes
+length-lanes_routed item None outs lanes = refl
+length-lanes_routed item (Some whole) outs lanes = length-lanes_with item outs lanes
 
-pub kept_route : (s : CoreState) (whole : Option Content) (outs : List (Option Content)) (item : ℕ) (lanes : List (LaneState Content)) (numbers : Numbers) (stored : List Entry) → s.held ≡ Some item →
-    lanes ≡ lanes_routed whole outs s.lanes → numbers ≡ numbers_routed whole outs s.lanes s.numbers → IsCore s → IsCore (record s {
+pub kept_route : (s : CoreState) (whole : Option Content) (outs : List (Option Content)) (item : ℕ) (lanes : List (LaneState Offer)) (numbers : Numbers) (stored : List Entry) → s.held ≡ Some item →
+    lanes ≡ lanes_routed item whole outs s.lanes → numbers ≡ numbers_routed whole outs s.lanes s.numbers → IsCore s → IsCore (record s {
       held =
           None;
       lanes = lanes;
@@ -232,39 +217,39 @@ pub kept_route : (s : CoreState) (whole : Option Content) (outs : List (Option C
       stored = stored;
     })
 kept_route s whole outs item lanes numbers stored held l n h =
-    subst (λ (x : List (LaneState Content)). IsCore (record s { held = None; lanes = x; numbers = numbers; stored = stored })) (sym l)
-    (subst (λ (x : Numbers). IsCore (record s { held = None; lanes = lanes_routed whole outs s.lanes; numbers = x; stored = stored })) (sym n)
+    subst (λ (x : List (LaneState Offer)). IsCore (record s { held = None; lanes = x; numbers = numbers; stored = stored })) (sym l)
+    (subst (λ (x : Numbers). IsCore (record s { held = None; lanes = lanes_routed item whole outs s.lanes; numbers = x; stored = stored })) (sym n)
     (kept_as whole s outs item stored held h))
 
 -- few enough metrics came to each output that one more may
-pub has_few : (s : CoreState) (item : ℕ) → s.held ≡ Some item → IsCore s → (o : ℕ) → o < length s.lanes →
+pub has_few : (s : CoreState) → IsCore s → (o : ℕ) → o < length s.lanes →
     HasFew (output_numbers s.numbers o) (lane_at s.lanes o)
-has_few s item held h o b =
-    let e = h.each o (omega (arith, h.lanes)) in
-    let few = few_routed s item h held in
+has_few s h o b =
+    let e = h.outputs.each o (omega (arith, h.outputs.lane_count)) in
+    let few = few_routed s h in
     record { filtered = omega (arith, few, e.all); buffered = omega (arith, few, e.all); dropped = omega (arith, few, e.all); pushed = omega (arith, few, e.pushed) }
 
 -- a batch is begun
-pub kept_begin : (s : CoreState) (o : ℕ) (at : LaneState Content) (stored : List Entry) → o < length s.setup.outputs → (lane_at s.lanes o).flight ≡ None → at ≡ lane.after_begin (lane_at s.lanes o) → IsCore s → IsCore (record s { lanes = set s.lanes o at; stored = stored })
+pub kept_begin : (s : CoreState) (o : ℕ) (at : LaneState Offer) (stored : List Entry) → o < length s.setup.outputs → (lane_at s.lanes o).flight ≡ None → at ≡ lane.after_begin (lane_at s.lanes o) → IsCore s → IsCore (record s { lanes = set s.lanes o at; stored = stored })
 kept_begin s o at stored b none e h =
     record {
-      lanes = length-set s.lanes o at ∙ h.lanes;
+      outputs = record {
+        lane_count = length-set s.lanes o at ∙ h.outputs.lane_count;
+        number_count = h.outputs.number_count;
+        few = h.outputs.few;
+        each =
+            λ k c. subst (λ (xs : List OutputNumbers). IsOutput (sizes_at s.setup k) s.numbers.routed (get_or xs k unreached_output) (lane_at (set s.lanes o at) k)) (set-get_or s.numbers.outputs o unreached_output)
+            (each_with s.setup.outputs s.numbers.routed s.numbers.outputs s.lanes o (output_numbers s.numbers o) at (omega (arith, h.outputs.number_count)) (omega (arith, h.outputs.lane_count)) h.outputs.each
+            (subst (IsOutput (sizes_at s.setup o) s.numbers.routed (output_numbers s.numbers o)) (sym e) (output_begun (sizes_at s.setup o) s.numbers.routed (output_numbers s.numbers o) (lane_at s.lanes o) none (h.outputs.each o b))) k c);
+      };
       inputs = h.inputs;
-      outputs = h.outputs;
-      ended = h.ended;
-      few = h.few;
+      items = h.items;
       untracked = h.untracked;
-      counted = h.counted;
-      below = h.below;
-      routed = h.routed;
-      each =
-          λ k c. subst (λ (xs : List OutputNumbers). IsOutput (sizes_at s.setup k) s.numbers.routed (get_or xs k unreached_output) (lane_at (set s.lanes o at) k)) (set-get_or s.numbers.outputs o unreached_output)
-          (each_with s.setup.outputs s.numbers.routed s.numbers.outputs s.lanes o (output_numbers s.numbers o) at (omega (arith, h.outputs)) (omega (arith, h.lanes)) h.each
-          (subst (IsOutput (sizes_at s.setup o) s.numbers.routed (output_numbers s.numbers o)) (sym e) (output_begun (sizes_at s.setup o) s.numbers.routed (output_numbers s.numbers o) (lane_at s.lanes o) none (h.each o b))) k c);
+      no_aggs = h.no_aggs;
     }
 
 -- a batch is done
-pub kept_done : (s : CoreState) (o : ℕ) (ok : Bool) (at : LaneState Content) (numbers : Numbers) (stored : List Entry) → o < length s.setup.outputs → at ≡ lane_done ok (lane_at s.lanes o) →
+pub kept_done : (s : CoreState) (o : ℕ) (ok : Bool) (at : LaneState Offer) (numbers : Numbers) (stored : List Entry) → o < length s.setup.outputs → at ≡ lane_done ok (lane_at s.lanes o) →
     numbers ≡ with_output s.numbers o (counted_done ok (count_done ok (lane_at s.lanes o)) (output_numbers s.numbers o)) → IsCore s → IsCore (record s {
       lanes =
           set s.lanes o at;
@@ -275,28 +260,28 @@ kept_done s o ok at numbers stored b e n h =
     let x : OutputNumbers = counted_done ok (count_done ok (lane_at s.lanes o)) (output_numbers s.numbers o) in
     subst (λ (m : Numbers). IsCore (record s { lanes = set s.lanes o at; numbers = m; stored = stored })) (sym n)
     (record {
-      lanes = length-set s.lanes o at ∙ h.lanes;
+      outputs = record {
+        lane_count = length-set s.lanes o at ∙ h.outputs.lane_count;
+        number_count = length-set s.numbers.outputs o x ∙ h.outputs.number_count;
+        few = h.outputs.few;
+        each =
+            each_with s.setup.outputs s.numbers.routed s.numbers.outputs s.lanes o x at (omega (arith, h.outputs.number_count)) (omega (arith, h.outputs.lane_count)) h.outputs.each
+            (subst (IsOutput (sizes_at s.setup o) s.numbers.routed x) (sym e) (output_done ok (sizes_at s.setup o) s.numbers.routed (output_numbers s.numbers o) (lane_at s.lanes o) (h.outputs.each o b)));
+      };
       inputs = h.inputs;
-      outputs = length-set s.numbers.outputs o x ∙ h.outputs;
-      ended = h.ended;
-      few = h.few;
+      items = h.items;
       untracked = h.untracked;
-      counted = h.counted;
-      below = h.below;
-      routed = h.routed;
-      each =
-          each_with s.setup.outputs s.numbers.routed s.numbers.outputs s.lanes o x at (omega (arith, h.outputs)) (omega (arith, h.lanes)) h.each
-          (subst (IsOutput (sizes_at s.setup o) s.numbers.routed x) (sym e) (output_done ok (sizes_at s.setup o) s.numbers.routed (output_numbers s.numbers o) (lane_at s.lanes o) (h.each o b)));
+      no_aggs = h.no_aggs;
     })
 
 -- one batch fewer is in flight
-pub flights_done : (lanes : List (LaneState Content)) (o : ℕ) (at : LaneState Content) → o < length lanes →
+pub flights_done : (lanes : List (LaneState Offer)) (o : ℕ) (at : LaneState Offer) → o < length lanes →
     IsSome (lane_at lanes o).flight → at.flight ≡ None → flights (set lanes o at) + 1 ≡ flights lanes
 flights_done lanes o at b some none =
     omega (arith, sum_by-set in_flight lanes o at (empty_lane 0 0) b, one_flies (lane_at lanes o) some, none_flies at none)
 
 -- once a batch is done none is in flight
-pub none_left : (ok : Bool) (at : LaneState Content) → (lane_done ok at).flight ≡ None
+pub none_left : (ok : Bool) (at : LaneState Offer) → (lane_done ok at).flight ≡ None
 none_left true at = refl
 none_left false at = refl
 
@@ -305,14 +290,14 @@ none_flies_yet [] = refl
 none_flies_yet (x ∷ outputs) = omega (arith, none_flies_yet outputs)
 
 -- nothing is in flight at first
-pub spare_at_first : (outputs : List OutSetup) (lanes : List (LaneState Content)) →
+pub spare_at_first : (outputs : List OutSetup) (lanes : List (LaneState Offer)) →
     lanes ≡ map lane_of outputs → flights lanes ≡ 0
 spare_at_first outputs lanes e = ap flights e ∙ none_flies_yet outputs
 
 -- an output at which nothing waits agrees
 empty_output : (x : OutSetup) → 1 ≤ x.batch → x.batch ≤ x.limit →
     IsOutput (x.batch, x.limit) 0 unreached_output (lane_of x)
-empty_output x some fits = record { batch = refl; limit = refl; some = some; fits = fits; waits = omega arith; buffered = refl; all = refl; pushed = omega arith }
+empty_output x some fits = record { batch = refl; limit = refl; some = some; fits = fits; waits = omega arith; flies = omega arith; buffered = refl; all = refl; pushed = omega arith }
 
 -- what stands where a list of set-ups has no output, and no input
 pub no_output : OutSetup
@@ -336,26 +321,29 @@ untracked_at_first inputs h k d b =
     ∙ ap (λ (t : Bool). if t then Some (get_or inputs k no_input).max_undelivered else None) (h k no_input within)
 
 -- a core in which nothing happened
-pub kept_first : (setup : CoreSetup) (raw : List Content) (lanes : List (LaneState Content)) (numbers : Numbers) (stored : List Entry) (counted : ℤ) (ended : List Bool) →
+pub kept_first : (setup : CoreSetup) (raw : List Content) (lanes : List (LaneState Offer)) (numbers : Numbers) (stored : List Entry) (counted : ℤ) (ended : List Bool) →
     length setup.outputs ≤ 16 → All (λ (x : InSetup). x.tracked ≡ false) setup.inputs → All (λ (x : OutSetup). (1 ≤ x.batch) × (x.batch ≤ x.limit)) setup.outputs →
-    raw ≡ [] → lanes ≡ map lane_of setup.outputs → numbers ≡ no_numbers (replicate (length setup.inputs) false) (length setup.outputs) → ended ≡ replicate (length setup.inputs) false →
+    raw ≡ [] → lanes ≡ map lane_of setup.outputs → numbers ≡ no_numbers (map is_tracked setup.inputs) (length setup.outputs) → ended ≡ replicate (length setup.inputs) false →
     IsCore (record { setup = setup_of setup; raw = raw; taken = 0; held = None; lanes = lanes; numbers = numbers; stored = stored; gathered = 0; counted = counted; ended = ended; stopped = false })
 kept_first setup raw lanes numbers stored counted ended few untracked sized r l n e =
     rw (r, l, n, e)
     (record {
-      lanes = length-map setup.outputs lane_of ∙ sym (length-map setup.outputs sizes);
-      inputs = length-map _ unread_input ∙ length-replicate (length setup.inputs) false ∙ sym (length-map setup.inputs most_undelivered);
-      outputs = length-replicate (length setup.outputs) unreached_output ∙ sym (length-map setup.outputs sizes);
-      ended = length-replicate (length setup.inputs) false ∙ sym (length-map setup.inputs most_undelivered);
-      few = omega (arith, length-map setup.outputs sizes);
-      untracked = untracked_at_first setup.inputs untracked;
-      counted = refl;
-      below = omega arith;
-      routed = refl;
-      each = λ k b. each_at_first setup.outputs sized k (omega (arith, length-map setup.outputs sizes));
+      outputs = record {
+        lane_count = length-map setup.outputs lane_of ∙ sym (length-map setup.outputs sizes);
+        number_count = length-replicate (length setup.outputs) unreached_output ∙ sym (length-map setup.outputs sizes);
+        few = omega (arith, length-map setup.outputs sizes);
+        each = λ k b. each_at_first setup.outputs sized k (omega (arith, length-map setup.outputs sizes));
+      };
+      inputs = record {
+        number_count = length-map _ unread_input ∙ length-map setup.inputs is_tracked ∙ sym (length-map setup.inputs most_undelivered);
+        ended_count = length-replicate (length setup.inputs) false ∙ sym (length-map setup.inputs most_undelivered);
+      };
+      items = record { come = refl; few = omega arith; few_gathered = omega arith; gone = refl };
+      untracked = record { none = untracked_at_first setup.inputs untracked };
+      no_aggs = record { none = refl };
     })
 
-pub kept_gathered : (s : CoreState) (g : Gathered) (raw : List Content) (numbers : Numbers) (gathered : ℕ) (stored : List Entry) → IsCore s → HasNumbers s g →
+pub kept_gathered : (s : CoreState) (g : Gathered) (raw : List Content) (numbers : Numbers) (gathered : ℕ) (stored : List Entry) → IsCore s → HasNumbers s g → HasItems s g →
     raw ≡ s.raw ++ g.metrics → numbers ≡ (after_gather s g).numbers → gathered ≡ s.gathered + length g.metrics → IsCore (record s {
       raw =
           raw;
@@ -363,19 +351,19 @@ pub kept_gathered : (s : CoreState) (g : Gathered) (raw : List Content) (numbers
       gathered = gathered;
       stored = stored;
     })
-kept_gathered s g raw numbers gathered stored h few r n e = rw (r, n, e) (kept_gather s g stored h few)
+kept_gathered s g raw numbers gathered stored h few items r n e = rw (r, n, e) (kept_gather s g stored h few items)
 
 -- a batch that is begun is in flight
-pub flies : (s : CoreState) (o : ℕ) (at : LaneState Content) → IsCore s → o < length s.setup.outputs →
+pub flies : (s : CoreState) (o : ℕ) (at : LaneState Offer) → IsCore s → o < length s.setup.outputs →
     at ≡ lane.after_begin (lane_at s.lanes o) → IsSome (lane_at (set s.lanes o at) o).flight
 flies s o at h b e =
-    subst (λ (y : LaneState Content). IsSome y.flight)
-    (sym (get_or-set_same s.lanes o at (empty_lane 0 0) (omega (arith, h.lanes)) ∙ e)) refl
+    subst (λ (y : LaneState Offer). IsSome y.flight)
+    (sym (get_or-set_same s.lanes o at (empty_lane 0 0) (omega (arith, h.outputs.lane_count)) ∙ e)) refl
 
 -- a batch has metrics
 pub some_begun : (s : CoreState) (o : ℕ) (metrics : List Content) → IsCore s → o < length s.setup.outputs →
-    metrics ≡ take (lane_at s.lanes o).batch (lane_at s.lanes o).waiting → 0 < length (lane_at s.lanes o).waiting →
+    metrics ≡ views_of (take (lane_at s.lanes o).batch (lane_at s.lanes o).waiting) → 0 < length (lane_at s.lanes o).waiting →
     0 < length metrics
 some_begun s o metrics h b e some =
-    let x : LaneState Content = lane_at s.lanes o in
-    omega (arith, ap length e, length-take x.batch x.waiting, (h.each o b).some)
+    let x : LaneState Offer = lane_at s.lanes o in
+    omega (arith, ap length e, length-map (take x.batch x.waiting) (λ (offer : Offer). offer.view), length-take x.batch x.waiting, (h.outputs.each o b).some)

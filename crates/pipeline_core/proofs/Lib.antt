@@ -4,7 +4,10 @@ pub mod JournalPush
 pub mod FateCounts
 pub mod TotalPush
 pub mod OutputPush
+pub mod GroupLemmas
+pub mod ShapeLemmas
 pub mod Standing
 pub mod StandsSteps
 pub mod StandsLanes
 pub mod StandsCuts
+pub mod GroupExamples

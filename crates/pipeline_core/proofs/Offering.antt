@@ -15,11 +15,12 @@ use Rattle.account.specs.Numbers.{Numbers, output_numbers, with_output, dropped_
 use Rattle.account.specs.declared.numbers.OutputNumbers.{OutputNumbers}
 use Rattle.out_lane.specs.Lane.{LaneState, empty_lane}
 use Rattle.pipeline_core.specs.Offers.{view_at, view_among}
+use Rattle.pipeline_core.specs.declared.output.Offer.{Offer}
 use Rattle.pipeline_core.specs.CoreState.{lane_at}
 use Rattle.pipeline_core.specs.Steps.{lane_with, numbers_with, lanes_with, outputs_with}
 
 -- the outputs whose views are left are as they were, and the others have got theirs
-pub record Offered (lanes₀ : List (LaneState Content)) (numbers₀ : Numbers) (views left : List (Option Content)) (lanes : List (LaneState Content)) (numbers : Numbers) : Type 0 where
+pub record Offered (item : ℕ) (lanes₀ : List (LaneState Offer)) (numbers₀ : Numbers) (views left : List (Option Content)) (lanes : List (LaneState Offer)) (numbers : Numbers) : Type 0 where
   pub left_of : (k : ℕ) → k < length left → get_or left k None ≡ get_or views k None
   pub most : length left ≤ length views
   pub as_many : length lanes ≡ length lanes₀
@@ -28,36 +29,36 @@ pub record Offered (lanes₀ : List (LaneState Content)) (numbers₀ : Numbers) 
   pub lane_before : (o : ℕ) → o < length left → lane_at lanes o ≡ lane_at lanes₀ o
   pub number_before : (o : ℕ) → o < length left → output_numbers numbers o ≡ output_numbers numbers₀ o
   pub lane_after : (o : ℕ) → length left ≤ o → o < length lanes₀ →
-      lane_at lanes o ≡ lane_with (view_at o views) (lane_at lanes₀ o)
+      lane_at lanes o ≡ lane_with item (view_at o views) (lane_at lanes₀ o)
   pub number_after : (o : ℕ) → length left ≤ o → o < length lanes₀ →
       output_numbers numbers o ≡ numbers_with (view_at o views) (lane_at lanes₀ o) (output_numbers numbers₀ o)
 
 -- what stands at a place of the list is the output's lane
-pub placed : (lanes : List (LaneState Content)) (o : ℕ) (x : LaneState Content) → o < length lanes →
+pub placed : (lanes : List (LaneState Offer)) (o : ℕ) (x : LaneState Offer) → o < length lanes →
     x ≡ get_or lanes o x → lane_at lanes o ≡ x
 placed lanes o x b e =
     get_or_from_slice_get lanes o x (empty_lane 0 0) (slice_get_read lanes (length lanes) o x refl b e)
 
 -- an output whose lane is full
-pub full_at : (lanes : List (LaneState Content)) (o : ℕ) (x : LaneState Content) (dropped : Bool) →
+pub full_at : (lanes : List (LaneState Offer)) (o : ℕ) (x : LaneState Offer) (dropped : Bool) →
     o < length lanes → x ≡ get_or lanes o x → dropped ≡ (length x.waiting == x.limit) → dropped ≡ true →
     (length (lane_at lanes o).waiting == (lane_at lanes o).limit) ≡ true
 full_at lanes o x dropped b e d t =
-    ap (λ (y : LaneState Content). length y.waiting == y.limit) (placed lanes o x b e) ∙ sym d ∙ t
+    ap (λ (y : LaneState Offer). length y.waiting == y.limit) (placed lanes o x b e) ∙ sym d ∙ t
 
 -- the view at an output
 pub view-get_or : (views : List (Option Content)) (k : ℕ) → k < length views →
     view_at k views ≡ get_or views k None
 view-get_or views k h = ap view_among (slice_get-get_or views k None h)
 
-pub offered_more : (lanes₀ : List (LaneState Content)) (numbers₀ : Numbers) (views left rest : List (Option Content)) (view : Option Content) (lanes lanes' : List (LaneState Content)) (numbers numbers' : Numbers) →
+pub offered_more : (item : ℕ) (lanes₀ : List (LaneState Offer)) (numbers₀ : Numbers) (views left rest : List (Option Content)) (view : Option Content) (lanes lanes' : List (LaneState Offer)) (numbers numbers' : Numbers) →
     length views ≡ length lanes₀ → length numbers₀.outputs ≡ length lanes₀ → left ≡ rest ++ view ∷ [] →
-    lanes' ≡ slice_set lanes (length rest) (lane_with view (lane_at lanes (length rest))) →
+    lanes' ≡ slice_set lanes (length rest) (lane_with item view (lane_at lanes (length rest))) →
     numbers' ≡ with_output numbers (length rest) (numbers_with view (lane_at lanes (length rest)) (output_numbers numbers (length rest))) →
-    Offered lanes₀ numbers₀ views left lanes numbers → Offered lanes₀ numbers₀ views rest lanes' numbers'
-offered_more lanes₀ numbers₀ views left rest view lanes lanes' numbers numbers' vs os l ls ns h =
+    Offered item lanes₀ numbers₀ views left lanes numbers → Offered item lanes₀ numbers₀ views rest lanes' numbers'
+offered_more item lanes₀ numbers₀ views left rest view lanes lanes' numbers numbers' vs os l ls ns h =
     let len : length left ≡ length rest + 1 = ap length l ∙ length-append rest (view ∷ []) in
-    let y : LaneState Content = lane_with view (lane_at lanes (length rest)) in
+    let y : LaneState Offer = lane_with item view (lane_at lanes (length rest)) in
     let z : OutputNumbers = numbers_with view (lane_at lanes (length rest)) (output_numbers numbers (length rest)) in
     let here : view_at (length rest) views ≡ view = view-get_or views (length rest) (omega (arith, h.most)) ∙ sym (h.left_of (length rest) (omega arith)) ∙ ap (λ (xs : List (Option Content)). get_or xs (length rest) None) l ∙ get_or_push rest view None (length rest) refl in
     record {
@@ -66,62 +67,62 @@ offered_more lanes₀ numbers₀ views left rest view lanes lanes' numbers numbe
       as_many = ap length ls ∙ length-set lanes (length rest) y ∙ h.as_many;
       numbered = ap (λ (n : Numbers). length n.outputs) ns ∙ length-set numbers.outputs (length rest) z ∙ h.numbered;
       rest = ns ∙ ap (λ (n : Numbers). with_output n (length rest) (numbers_with view (lane_at lanes (length rest)) (output_numbers numbers (length rest)))) h.rest ∙ ap (λ (n : Numbers). record numbers₀ { outputs = n.outputs }) (sym ns);
-      lane_before = λ o b. ap (λ (x : List (LaneState Content)). lane_at x o) ls ∙ get_or-set_other lanes (length rest) o y (empty_lane 0 0) (omega arith) ∙ h.lane_before o (omega arith);
+      lane_before = λ o b. ap (λ (x : List (LaneState Offer)). lane_at x o) ls ∙ get_or-set_other lanes (length rest) o y (empty_lane 0 0) (omega arith) ∙ h.lane_before o (omega arith);
       number_before = λ o b. ap (λ (n : Numbers). output_numbers n o) ns ∙ get_or-set_other numbers.outputs (length rest) o z unreached_output (omega arith) ∙ h.number_before o (omega arith);
       lane_after = λ o b c. elim (eq-or-lt_of_le b) [
-        | inl e ↦ subst (λ (n : ℕ). lane_at lanes' n ≡ lane_with (view_at n views) (lane_at lanes₀ n)) e
-            (ap (λ (x : List (LaneState Content)). lane_at x (length rest)) ls ∙ get_or-set_same lanes (length rest) y (empty_lane 0 0) (omega (arith, h.as_many))
-            ∙ ap (λ (v : Option Content). lane_with v (lane_at lanes (length rest))) (sym here)
-            ∙ ap (lane_with (view_at (length rest) views)) (h.lane_before (length rest) (omega arith)))
-        | inr m ↦ ap (λ (x : List (LaneState Content)). lane_at x o) ls ∙ get_or-set_other lanes (length rest) o y (empty_lane 0 0) (omega arith) ∙ h.lane_after o (omega arith) c
+        | inl e ↦ subst (λ (n : ℕ). lane_at lanes' n ≡ lane_with item (view_at n views) (lane_at lanes₀ n)) e
+            (ap (λ (x : List (LaneState Offer)). lane_at x (length rest)) ls ∙ get_or-set_same lanes (length rest) y (empty_lane 0 0) (omega (arith, h.as_many))
+            ∙ ap (λ (v : Option Content). lane_with item v (lane_at lanes (length rest))) (sym here)
+            ∙ ap (lane_with item (view_at (length rest) views)) (h.lane_before (length rest) (omega arith)))
+        | inr m ↦ ap (λ (x : List (LaneState Offer)). lane_at x o) ls ∙ get_or-set_other lanes (length rest) o y (empty_lane 0 0) (omega arith) ∙ h.lane_after o (omega arith) c
       ];
       number_after = λ o b c. elim (eq-or-lt_of_le b) [
         | inl e ↦ subst (λ (n : ℕ). output_numbers numbers' n ≡ numbers_with (view_at n views) (lane_at lanes₀ n) (output_numbers numbers₀ n)) e
             (ap (λ (n : Numbers). output_numbers n (length rest)) ns ∙ get_or-set_same numbers.outputs (length rest) z unreached_output (omega (arith, h.numbered))
             ∙ ap (λ (v : Option Content). numbers_with v (lane_at lanes (length rest)) (output_numbers numbers (length rest))) (sym here)
-            ∙ ap (λ (x : LaneState Content). numbers_with (view_at (length rest) views) x (output_numbers numbers (length rest))) (h.lane_before (length rest) (omega arith))
+            ∙ ap (λ (x : LaneState Offer). numbers_with (view_at (length rest) views) x (output_numbers numbers (length rest))) (h.lane_before (length rest) (omega arith))
             ∙ ap (numbers_with (view_at (length rest) views) (lane_at lanes₀ (length rest))) (h.number_before (length rest) (omega arith)))
         | inr m ↦ ap (λ (n : Numbers). output_numbers n o) ns ∙ get_or-set_other numbers.outputs (length rest) o z unreached_output (omega arith) ∙ h.number_after o (omega arith) c
       ];
     }
 
 -- an output's lane, once all views were offered
-pub lanes_with-at : (views : List (Option Content)) (lanes : List (LaneState Content)) (o : ℕ) →
-    o < length lanes → lane_at (lanes_with views lanes) o ≡ lane_with (view_at o views) (lane_at lanes o)
-lanes_with-at views lanes o h =
-    get_or-map (λ (x : ℕ × LaneState Content). lane_with (view_at x.0 views) x.1) (enumerate_from 0 lanes) o (0, empty_lane 0 0) (empty_lane 0 0) (omega (arith, length-enumerate_from 0 lanes))
-    ∙ ap (λ (x : ℕ × LaneState Content). lane_with (view_at x.0 views) x.1) (get_or-enumerate_from 0 lanes o (0, empty_lane 0 0) h)
-    ∙ ap (λ (n : ℕ). lane_with (view_at n views) (lane_at lanes o)) (omega arith)
+pub lanes_with-at : (item : ℕ) (views : List (Option Content)) (lanes : List (LaneState Offer)) (o : ℕ) →
+    o < length lanes → lane_at (lanes_with item views lanes) o ≡ lane_with item (view_at o views) (lane_at lanes o)
+lanes_with-at item views lanes o h =
+    get_or-map (λ (x : ℕ × LaneState Offer). lane_with item (view_at x.0 views) x.1) (enumerate_from 0 lanes) o (0, empty_lane 0 0) (empty_lane 0 0) (omega (arith, length-enumerate_from 0 lanes))
+    ∙ ap (λ (x : ℕ × LaneState Offer). lane_with item (view_at x.0 views) x.1) (get_or-enumerate_from 0 lanes o (0, empty_lane 0 0) h)
+    ∙ ap (λ (n : ℕ). lane_with item (view_at n views) (lane_at lanes o)) (omega arith)
 
 -- and its numbers
-pub outputs_with-at : (views : List (Option Content)) (lanes : List (LaneState Content)) (all : List OutputNumbers) (o : ℕ) → o < length all → get_or (outputs_with views lanes all) o unreached_output ≡ numbers_with (view_at o views) (lane_at lanes o) (get_or all o unreached_output)
+pub outputs_with-at : (views : List (Option Content)) (lanes : List (LaneState Offer)) (all : List OutputNumbers) (o : ℕ) → o < length all → get_or (outputs_with views lanes all) o unreached_output ≡ numbers_with (view_at o views) (lane_at lanes o) (get_or all o unreached_output)
 outputs_with-at views lanes all o h =
     get_or-map (λ (x : ℕ × OutputNumbers). numbers_with (view_at x.0 views) (lane_at lanes x.0) x.1) (enumerate_from 0 all) o (0, unreached_output) unreached_output (omega (arith, length-enumerate_from 0 all))
     ∙ ap (λ (x : ℕ × OutputNumbers). numbers_with (view_at x.0 views) (lane_at lanes x.0) x.1) (get_or-enumerate_from 0 all o (0, unreached_output) h)
     ∙ ap (λ (n : ℕ). numbers_with (view_at n views) (lane_at lanes n) (get_or all o unreached_output)) (omega arith)
 
-pub length-lanes_with : (views : List (Option Content)) (lanes : List (LaneState Content)) →
-    length (lanes_with views lanes) ≡ length lanes
-length-lanes_with views lanes = length-map _ _ ∙ length-enumerate_from 0 lanes
+pub length-lanes_with : (item : ℕ) (views : List (Option Content)) (lanes : List (LaneState Offer)) →
+    length (lanes_with item views lanes) ≡ length lanes
+length-lanes_with item views lanes = length-map _ _ ∙ length-enumerate_from 0 lanes
 
-pub length-outputs_with : (views : List (Option Content)) (lanes : List (LaneState Content)) (all : List OutputNumbers) → length (outputs_with views lanes all) ≡ length all
+pub length-outputs_with : (views : List (Option Content)) (lanes : List (LaneState Offer)) (all : List OutputNumbers) → length (outputs_with views lanes all) ≡ length all
 length-outputs_with views lanes all = length-map _ _ ∙ length-enumerate_from 0 all
 
 -- once no view is left, each output has got its view
-pub offered_lanes : (lanes₀ : List (LaneState Content)) (numbers₀ : Numbers) (views left : List (Option Content)) (lanes : List (LaneState Content)) (numbers : Numbers) → length left ≡ 0 → Offered lanes₀ numbers₀ views left lanes numbers → lanes ≡ lanes_with views lanes₀
-offered_lanes lanes₀ numbers₀ views left lanes numbers none h =
-    ext_get_or (empty_lane 0 0) lanes (lanes_with views lanes₀) (h.as_many ∙ sym (length-lanes_with views lanes₀))
-    (λ o b. h.lane_after o (omega arith) (omega (arith, h.as_many)) ∙ sym (lanes_with-at views lanes₀ o (omega (arith, h.as_many))))
+pub offered_lanes : (item : ℕ) (lanes₀ : List (LaneState Offer)) (numbers₀ : Numbers) (views left : List (Option Content)) (lanes : List (LaneState Offer)) (numbers : Numbers) → length left ≡ 0 → Offered item lanes₀ numbers₀ views left lanes numbers → lanes ≡ lanes_with item views lanes₀
+offered_lanes item lanes₀ numbers₀ views left lanes numbers none h =
+    ext_get_or (empty_lane 0 0) lanes (lanes_with item views lanes₀) (h.as_many ∙ sym (length-lanes_with item views lanes₀))
+    (λ o b. h.lane_after o (omega arith) (omega (arith, h.as_many)) ∙ sym (lanes_with-at item views lanes₀ o (omega (arith, h.as_many))))
 
-pub offered_numbers : (lanes₀ : List (LaneState Content)) (numbers₀ : Numbers) (views left : List (Option Content)) (lanes : List (LaneState Content)) (numbers : Numbers) → length left ≡ 0 → length numbers₀.outputs ≡ length lanes₀ → Offered lanes₀ numbers₀ views left lanes numbers →
+pub offered_numbers : (item : ℕ) (lanes₀ : List (LaneState Offer)) (numbers₀ : Numbers) (views left : List (Option Content)) (lanes : List (LaneState Offer)) (numbers : Numbers) → length left ≡ 0 → length numbers₀.outputs ≡ length lanes₀ → Offered item lanes₀ numbers₀ views left lanes numbers →
     numbers ≡ record numbers₀ { outputs = outputs_with views lanes₀ numbers₀.outputs }
-offered_numbers lanes₀ numbers₀ views left lanes numbers none os h =
+offered_numbers item lanes₀ numbers₀ views left lanes numbers none os h =
     h.rest ∙ ap (λ (xs : List OutputNumbers). record numbers₀ { outputs = xs })
     (ext_get_or unreached_output numbers.outputs (outputs_with views lanes₀ numbers₀.outputs) (h.numbered ∙ sym (length-outputs_with views lanes₀ numbers₀.outputs))
     (λ o b. h.number_after o (omega arith) (omega (arith, h.numbered)) ∙ sym (outputs_with-at views lanes₀ numbers₀.outputs o (omega (arith, h.numbered)))))
 
 -- one view is buffered, and the oldest that waited is dropped
-pub buffered_dropped : (a mid new : Numbers) (o : ℕ) (view : Option Content) (metric : Content) (at : LaneState Content) → o < length a.outputs → view ≡ Some metric → (length at.waiting == at.limit) ≡ true →
+pub buffered_dropped : (a mid new : Numbers) (o : ℕ) (view : Option Content) (metric : Content) (at : LaneState Offer) → o < length a.outputs → view ≡ Some metric → (length at.waiting == at.limit) ≡ true →
     mid ≡ with_output a o (record (output_numbers a o) {
       buffered =
           (output_numbers a o).buffered + 1;

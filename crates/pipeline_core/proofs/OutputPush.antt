@@ -4,7 +4,7 @@ use Rattle.std.proofs.Common.{refl, sym, ap, ◌∙◌, arith}
 use Rattle.std.specs.Option.{option_to_list}
 use Rattle.std.specs.Prelude.{slice_get}
 use Rattle.std.proofs.Math.Nat.{eq-or-lt_of_le}
-use Rattle.metric.specs.declared.metric.Content.{Content}
+use Rattle.pipeline_core.specs.declared.output.Offer.{Offer}
 use Rattle.account.specs.Setup.{Setup}
 use Rattle.account.specs.Numbers.{Numbers, dropped_more}
 use Rattle.account.specs.declared.numbers.InputNumbers.{InputNumbers}
@@ -16,10 +16,10 @@ use Rattle.out_lane.specs.Lane.{LaneState, flying, pushed_out, failed_out}
 use Rattle.out_lane.specs.LaneCounts.{ones}
 use Rattle.out_lane.specs.LaneLaws.{KeepsFates, Becomes, Pushes, Accepts, Fails}
 use Rattle.pipeline_core.specs.Offers.{offers, offered_by, lane_events, lane_events_by}
-use Rattle.pipeline_core.specs.Fates.{Fate, fate_of, fates}
+use Rattle.pipeline_core.specs.Fates.{Fate, fate_of, fates, is_filtered, is_late, is_consumed, is_written}
+use Rattle.pipeline_core.specs.Fates.{is_buffered, is_dropped}
 use Rattle.pipeline_core.specs.Fates as fate
-use Rattle.pipeline_core.specs.Totals.{totals, made_by, removed_by, routed_by, output_total, is_filtered}
-use Rattle.pipeline_core.specs.Totals.{is_late, is_consumed, is_written, is_buffered, is_dropped}
+use Rattle.pipeline_core.specs.Totals.{totals, made_by, removed_by, routed_by, output_total}
 use Rattle.pipeline_core.specs.Steps.{buffered_more, counted_done, count_done}
 use Rattle.pipeline_core.proofs.FateCounts.{kept_out, total_by-push}
 use Rattle.pipeline_core.proofs.Keeping.{full, not_full}
@@ -71,7 +71,7 @@ output_begins limit o es e event l v k h =
     (count-keep is_dropped limit o es e event l v (k is_dropped) h)
 
 -- a view that comes, by which n others are dropped
-output_comes : (limit o : ℕ) (es : List Entry) (e : Entry) (view : Content) (views : List Content) →
+output_comes : (limit o : ℕ) (es : List Entry) (e : Entry) (view : Offer) (views : List Offer) →
     lane_events_by o e ≡ lane.Push ∷ [] → offered_by o e ≡ view ∷ [] →
     ((t : Fate → Bool) → kept_out t o e ≡ 0) →
     lane.fate_at limit (lane_events o es ++ lane.Push ∷ []) (length (offers o es)) ≡ lane.Buffered → Becomes limit (lane_events o es) (lane_events o es ++ lane.Push ∷ []) (offers o es) lane.Dropped views →
@@ -91,24 +91,24 @@ output_comes limit o es e view views l v k new h =
     (omega (arith, count-come is_buffered limit o es e view views l v (k is_buffered) new h))
     (omega (arith, count-come is_dropped limit o es e view views l v (k is_dropped) new h))
 
-slice_get_first : (xs : List Content) → 0 < length xs → length (option_to_list (slice_get xs 0)) ≡ 1
+slice_get_first : (xs : List Offer) → 0 < length xs → length (option_to_list (slice_get xs 0)) ≡ 1
 slice_get_first [] h = absurd (omega (arith, h))
 slice_get_first (x ∷ xs) h = refl
 
-pushed_count : (at : LaneState Content) → 1 ≤ at.limit → length at.waiting ≤ at.limit → (x : OutputNumbers) → dropped_more (record x { buffered = x.buffered + 1 }) (length (option_to_list (pushed_out at))) ≡ buffered_more at x
+pushed_count : (at : LaneState Offer) → 1 ≤ at.limit → length at.waiting ≤ at.limit → (x : OutputNumbers) → dropped_more (record x { buffered = x.buffered + 1 }) (length (option_to_list (pushed_out at))) ≡ buffered_more at x
 pushed_count at some most x = elim (eq-or-lt_of_le most) [
   | inl e ↦ rw (full (length at.waiting) at.limit e) (ap (dropped_more (record x { buffered = x.buffered + 1 })) (slice_get_first at.waiting (omega (arith, e))))
   | inr m ↦ rw (not_full (length at.waiting) at.limit m) (same_numbers (dropped_more (record x { buffered = x.buffered + 1 }) 0) (record x { buffered = x.buffered + 1 }) refl refl refl refl (omega arith) (omega arith))
 ]
 
 -- a view is pushed
-pub output_pushes : (batch limit o : ℕ) (es : List Entry) (e : Entry) (view : Content) (at : LaneState Content) → lane_events_by o e ≡ lane.Push ∷ [] → offered_by o e ≡ view ∷ [] → ((t : Fate → Bool) → kept_out t o e ≡ 0) →
+pub output_pushes : (batch limit o : ℕ) (es : List Entry) (e : Entry) (view : Offer) (at : LaneState Offer) → lane_events_by o e ≡ lane.Push ∷ [] → offered_by o e ≡ view ∷ [] → ((t : Fate → Bool) → kept_out t o e ≡ 0) →
     1 ≤ at.limit → length at.waiting ≤ at.limit → Pushes batch limit (lane_events o es) (offers o es) at view → output_total limit o (es ++ e ∷ []) ≡ buffered_more at (output_total limit o es)
 output_pushes batch limit o es e view at l v k some most h =
     output_comes limit o es e view (option_to_list (pushed_out at)) l v k h.comes h.dropped ∙ pushed_count at some most (output_total limit o es)
 
 -- a batch is accepted
-pub output_accepts : (batch limit o : ℕ) (es : List Entry) (e : Entry) (at : LaneState Content) →
+pub output_accepts : (batch limit o : ℕ) (es : List Entry) (e : Entry) (at : LaneState Offer) →
     lane_events_by o e ≡ lane.Done true ∷ [] → offered_by o e ≡ [] →
     ((t : Fate → Bool) → kept_out t o e ≡ 0) →
     Accepts batch limit (lane_events o es) (offers o es) at → output_total limit o (es ++ e ∷ []) ≡ counted_done true (count_done true at) (output_total limit o es)
@@ -122,7 +122,7 @@ output_accepts batch limit o es e at l v k h =
     (omega (arith, count-become is_dropped limit o es e (lane.Done true) lane.Written (flying at) l v (k is_dropped) h.written))
 
 -- a batch fails
-pub output_fails : (batch limit o : ℕ) (es : List Entry) (e : Entry) (at : LaneState Content) →
+pub output_fails : (batch limit o : ℕ) (es : List Entry) (e : Entry) (at : LaneState Offer) →
     lane_events_by o e ≡ lane.Done false ∷ [] → offered_by o e ≡ [] →
     ((t : Fate → Bool) → kept_out t o e ≡ 0) →
     Fails batch limit (lane_events o es) (offers o es) at → output_total limit o (es ++ e ∷ []) ≡ counted_done false (count_done false at) (output_total limit o es)

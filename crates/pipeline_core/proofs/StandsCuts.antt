@@ -1,5 +1,5 @@
 -- A new core stands for the empty journal, and a cut changes no journal.
-use Rattle.std.proofs.Common.{◌≡◌, ◌<◌, ◌≤◌, ℕ, Bool, false, List, [], length, map, replicate, is_some, refl}
+use Rattle.std.proofs.Common.{◌≡◌, ◌<◌, ◌≤◌, ℕ, Bool, true, false, List, [], length, map, replicate, is_some, refl}
 use Rattle.std.proofs.Common.{sym, ap, ◌∙◌, subst, arith, append-nil, get_or, if◌then◌else◌}
 use Rattle.std.proofs.lemmas.Option.{slice_get-get_or}
 use Rattle.std.proofs.lemmas.List.{ext_get_or, get_or-map, get_or-replicate, length-map, length-replicate}
@@ -11,13 +11,13 @@ use Rattle.account.specs.declared.entry.Entry.{Entry}
 use Rattle.out_lane.specs.Lane.{empty_lane}
 use Rattle.out_lane.specs.LaneLaws.{IsLaneOf}
 use Rattle.out_lane.proofs.LaneLemmas.{new_is_lane}
-use Rattle.metric.specs.declared.metric.Content.{Content}
+use Rattle.pipeline_core.specs.declared.output.Offer.{Offer}
 use Rattle.pipeline_core.specs.Offers.{offers, lane_events}
 use Rattle.pipeline_core.specs.Fates.{fates_from}
 use Rattle.pipeline_core.specs.Legal.{AreLegal, has_stop, has_ended, gathered_count, counted_from}
 use Rattle.pipeline_core.specs.Totals.{totals, total_by, input_total_from}
 use Rattle.pipeline_core.specs.CoreState.{CoreState, setup_of, first_state, lane_at, lane_of, sizes}
-use Rattle.pipeline_core.specs.CoreState.{most_undelivered}
+use Rattle.pipeline_core.specs.CoreState.{most_undelivered, is_tracked}
 use Rattle.pipeline_core.specs.Stands.{Stands}
 use Rattle.pipeline_core.specs.Steps.{after_cut}
 use Rattle.pipeline_core.specs.declared.setup.CoreSetup.{CoreSetup}
@@ -57,19 +57,24 @@ lanes_at_first : (outputs : List OutSetup) →
 unfolding lane_events offers
 lanes_at_first outputs sized o b =
     rw (get_or-map sizes outputs o no_output (0, 0) b, get_or-map lane_of outputs o no_output (empty_lane 0 0) b)
-    (new_is_lane Content (get_or outputs o no_output).batch (get_or outputs o no_output).limit (sized o no_output b).0 (sized o no_output b).1)
+    (new_is_lane Offer (get_or outputs o no_output).batch (get_or outputs o no_output).limit (sized o no_output b).0 (sized o no_output b).1)
 
-inputs_at_first : (setup : CoreSetup) → All (λ (x : InSetup). x.tracked ≡ false) setup.inputs →
-    map unread_input (replicate (length setup.inputs) false) ≡ (totals (setup_of setup) []).inputs
+some_if : (t : Bool) (n : ℕ) → is_some (if t then Some n else None) ≡ t
+some_if true n = refl
+some_if false n = refl
+
+inputs_at_first : (setup : CoreSetup) →
+    map unread_input (map is_tracked setup.inputs) ≡ (totals (setup_of setup) []).inputs
 unfolding input_total_from
-inputs_at_first setup untracked =
+inputs_at_first setup =
     let n : length (setup_of setup).inputs ≡ length setup.inputs = length-map setup.inputs most_undelivered in
-    let m : length (replicate (length setup.inputs) false) ≡ length setup.inputs = length-replicate (length setup.inputs) false in
-    let l : length (map unread_input (replicate (length setup.inputs) false)) ≡ length setup.inputs = length-map (replicate (length setup.inputs) false) unread_input ∙ m in
-    ext_get_or (unread_input false) (map unread_input (replicate (length setup.inputs) false)) (totals (setup_of setup) []).inputs (l ∙ sym n ∙ sym (length-inputs (setup_of setup) []))
+    let m : length (map is_tracked setup.inputs) ≡ length setup.inputs = length-map setup.inputs is_tracked in
+    let l : length (map unread_input (map is_tracked setup.inputs)) ≡ length setup.inputs = length-map (map is_tracked setup.inputs) unread_input ∙ m in
+    ext_get_or (unread_input false) (map unread_input (map is_tracked setup.inputs)) (totals (setup_of setup) []).inputs (l ∙ sym n ∙ sym (length-inputs (setup_of setup) []))
     (λ i b. let c : i < length setup.inputs = omega arith in
-    get_or-map unread_input (replicate (length setup.inputs) false) i false (unread_input false) (omega arith) ∙ ap unread_input (get_or-replicate (length setup.inputs) i false false c)
-    ∙ ap (λ (t : Bool). unread_input t) (sym (ap is_some (get_or-map most_undelivered setup.inputs i no_input None c ∙ ap (λ (t : Bool). if t then Some (get_or setup.inputs i no_input).max_undelivered else None) (untracked i no_input c))))
+    get_or-map unread_input (map is_tracked setup.inputs) i false (unread_input false) (omega arith)
+    ∙ ap unread_input (get_or-map is_tracked setup.inputs i no_input false c)
+    ∙ ap unread_input (sym (ap is_some (get_or-map most_undelivered setup.inputs i no_input None c) ∙ some_if (get_or setup.inputs i no_input).tracked (get_or setup.inputs i no_input).max_undelivered))
     ∙ sym (inputs-at (setup_of setup) [] i (omega arith)))
 
 outputs_at_first : (setup : CoreSetup) →
@@ -81,10 +86,10 @@ outputs_at_first setup =
     ext_get_or unreached_output (replicate (length setup.outputs) unreached_output) (totals (setup_of setup) []).outputs (m ∙ sym n ∙ sym (length-outputs (setup_of setup) []))
     (λ o b. get_or-replicate (length setup.outputs) o unreached_output unreached_output (omega arith) ∙ sym (outputs-at (setup_of setup) [] o (omega arith)))
 
-pub stands_first : (setup : CoreSetup) → All (λ (x : InSetup). x.tracked ≡ false) setup.inputs →
+pub stands_first : (setup : CoreSetup) →
     All (λ (x : OutSetup). (1 ≤ x.batch) × (x.batch ≤ x.limit)) setup.outputs → Stands (first_state setup) []
 unfolding AreLegal items taken in_hand_from has_stop has_ended gathered_count counted_from total_by
-stands_first setup untracked sized =
+stands_first setup sized =
     record {
       legal = tt;
       raw = refl;
@@ -92,7 +97,7 @@ stands_first setup untracked sized =
       held = refl;
       lanes = λ o b. lanes_at_first setup.outputs sized o (omega (arith, length-map setup.outputs sizes));
       lane_count = length-map setup.outputs lane_of ∙ sym (length-map setup.outputs sizes);
-      numbers = same_totals (first_state setup).numbers (totals (setup_of setup) []) (inputs_at_first setup untracked) refl refl refl (outputs_at_first setup);
+      numbers = same_totals (first_state setup).numbers (totals (setup_of setup) []) (inputs_at_first setup) refl refl refl (outputs_at_first setup);
       front = [];
       stored = refl;
       gathered = refl;
@@ -105,7 +110,6 @@ stands_first setup untracked sized =
     }
 
 pub first_stands : (setup : CoreSetup) (n : CoreState) → n ≡ first_state setup →
-    All (λ (x : InSetup). x.tracked ≡ false) setup.inputs →
     All (λ (x : OutSetup). (1 ≤ x.batch) × (x.batch ≤ x.limit)) setup.outputs → Stands n []
-first_stands setup n q untracked sized =
-    subst (λ (m : CoreState). Stands m []) (sym q) (stands_first setup untracked sized)
+first_stands setup n q sized =
+    subst (λ (m : CoreState). Stands m []) (sym q) (stands_first setup sized)

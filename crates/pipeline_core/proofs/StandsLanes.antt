@@ -7,7 +7,7 @@ use Rattle.std.proofs.Math.Nat.{eq-or-lt_of_le}
 use Rattle.std.proofs.lemmas.Bool.{cases_lt}
 use Rattle.std.proofs.lemmas.Option.{slice_get-get_or}
 use Rattle.std.proofs.lemmas.List.{get_or-set_same, get_or-set_other, length-set}
-use Rattle.std.specs.Option.{option_to_list}
+use Rattle.std.specs.List.{AllByRecursion}
 use Rattle.std.specs.declared.option.Option.{Option}
 use Rattle.std.specs.declared.option.Option.TheVariants.{Some, None}
 use Rattle.metric.specs.declared.metric.Content.{Content}
@@ -22,15 +22,17 @@ use Rattle.out_lane.specs.Lane as lane
 use Rattle.out_lane.specs.LaneLaws.{IsLaneOf, Answers, Begins}
 use Rattle.out_lane.proofs.LaneLemmas.{begun_answer, push_meets, begin_meets, accept_meets, fail_meets}
 use Rattle.pipeline_core.specs.Fates.{Fate}
-use Rattle.pipeline_core.specs.Offers.{offers, offered_by, lane_events, lane_events_by, view_at, pushes}
+use Rattle.pipeline_core.specs.Offers.{offers, offer_of, offered_by, lane_events, lane_events_by, view_at}
+use Rattle.pipeline_core.specs.Offers.{pushes}
+use Rattle.pipeline_core.specs.declared.output.Offer.{Offer}
 use Rattle.account.specs.Views.{HasViews}
-use Rattle.pipeline_core.specs.Legal.{verdict_of}
+use Rattle.pipeline_core.specs.Windows.{verdict_of, judged}
 use Rattle.pipeline_core.specs.Totals.{totals, output_total}
 use Rattle.pipeline_core.specs.CoreState.{CoreState, IsCore, lane_at, sizes_at}
 use Rattle.pipeline_core.specs.Stands.{Stands, Continues}
 use Rattle.pipeline_core.specs.Steps.{after_begin, after_done, after_route, route_entry, lane_with}
 use Rattle.pipeline_core.specs.Steps.{numbers_with, lanes_with, outputs_with, lanes_routed, numbers_routed}
-use Rattle.pipeline_core.specs.Steps.{lane_done, count_done, counted_done}
+use Rattle.pipeline_core.specs.Steps.{lane_done, count_done, counted_done, done_entry}
 use Rattle.pipeline_core.specs.declared.routing.Routed.{Routed}
 use Rattle.account.specs.declared.entry.Verdict.TheVariants as verdicts
 use Rattle.pipeline_core.proofs.FateCounts.{kept_out, kept_out_by}
@@ -40,16 +42,17 @@ use Rattle.pipeline_core.proofs.TotalPush.{inputs-same, outputs-same, outputs-se
 use Rattle.pipeline_core.proofs.OutputPush.{output_stays, output_filters, output_begins, output_pushes}
 use Rattle.pipeline_core.proofs.OutputPush.{output_accepts, output_fails, totals-push}
 use Rattle.pipeline_core.proofs.Standing.{stands_grows, lanes_stay, ended_stays}
-use Rattle.pipeline_core.proofs.StandsSteps.{differs, same_number, outputs_stay}
+use Rattle.pipeline_core.proofs.StandsSteps.{differs, same_number, outputs_stay, nil_of_length}
+use Rattle.pipeline_core.proofs.StandsSteps.{nothing_reported, settles_none}
 
 -- a batch that is done, at its output's lane
-lane_is_done : (ok : Bool) (b l : ℕ) (es : List LaneEvent) (offs : List Content) (x : LaneState Content) →
+lane_is_done : (ok : Bool) (b l : ℕ) (es : List LaneEvent) (offs : List Offer) (x : LaneState Offer) →
     IsSome x.flight → IsLaneOf b l es offs x → IsLaneOf b l (es ++ events.Done ok ∷ []) offs (lane_done ok x)
 lane_is_done true b l es offs x some h = (accept_meets b l es offs x h some).state
 lane_is_done false b l es offs x some h = (fail_meets b l es offs x h some).state
 
 -- entries of one output
-lanes_one : (s : CoreState) (journal : List Entry) (e : Entry) (o : ℕ) (x : LaneState Content) (event : LaneEvent) → Stands s journal → o < length s.setup.outputs → lane_events_by o e ≡ event ∷ [] →
+lanes_one : (s : CoreState) (journal : List Entry) (e : Entry) (o : ℕ) (x : LaneState Offer) (event : LaneEvent) → Stands s journal → o < length s.setup.outputs → lane_events_by o e ≡ event ∷ [] →
     ((k : ℕ) → k ≢ o → lane_events_by k e ≡ []) → ((k : ℕ) → offered_by k e ≡ []) →
     IsLaneOf (sizes_at s.setup o).0 (sizes_at s.setup o).1 (lane_events o journal ++ event ∷ []) (offers o journal) x →
     (k : ℕ) → k < length s.setup.outputs →
@@ -57,25 +60,25 @@ lanes_one : (s : CoreState) (journal : List Entry) (e : Entry) (o : ℕ) (x : La
 lanes_one s journal e o x event h b here others none new k c =
     let stays : k ≢ o → IsLaneOf (sizes_at s.setup k).0 (sizes_at s.setup k).1 (lane_events k journal ++ lane_events_by k e) (offers k journal ++ offered_by k e) (lane_at (set s.lanes o x) k) =
     λ d. subst (λ (ls : List LaneEvent). IsLaneOf (sizes_at s.setup k).0 (sizes_at s.setup k).1 (lane_events k journal ++ ls) (offers k journal ++ offered_by k e) (lane_at (set s.lanes o x) k)) (sym (others k d))
-    (subst (λ (vs : List Content). IsLaneOf (sizes_at s.setup k).0 (sizes_at s.setup k).1 (lane_events k journal ++ []) (offers k journal ++ vs) (lane_at (set s.lanes o x) k)) (sym (none k))
+    (subst (λ (vs : List Offer). IsLaneOf (sizes_at s.setup k).0 (sizes_at s.setup k).1 (lane_events k journal ++ []) (offers k journal ++ vs) (lane_at (set s.lanes o x) k)) (sym (none k))
     (subst (IsLaneOf (sizes_at s.setup k).0 (sizes_at s.setup k).1 (lane_events k journal ++ []) (offers k journal ++ [])) (sym (get_or-set_other s.lanes o k x (empty_lane 0 0) d)) (lanes_stay s journal h k c))) in
     elim (cases_lt k o) [
       | inl l ↦ stays (omega arith)
       | inr l ↦ elim (eq-or-lt_of_le l) [
         | inl q ↦ subst (λ (j : ℕ). IsLaneOf (sizes_at s.setup j).0 (sizes_at s.setup j).1 (lane_events j journal ++ lane_events_by j e) (offers j journal ++ offered_by j e) (lane_at (set s.lanes o x) j)) q
             (subst (λ (ls : List LaneEvent). IsLaneOf (sizes_at s.setup o).0 (sizes_at s.setup o).1 (lane_events o journal ++ ls) (offers o journal ++ offered_by o e) (lane_at (set s.lanes o x) o)) (sym here)
-            (subst (λ (vs : List Content). IsLaneOf (sizes_at s.setup o).0 (sizes_at s.setup o).1 (lane_events o journal ++ event ∷ []) vs (lane_at (set s.lanes o x) o)) (sym (append-nil (offers o journal)) ∙ ap (λ (vs : List Content). offers o journal ++ vs) (sym (none o)))
+            (subst (λ (vs : List Offer). IsLaneOf (sizes_at s.setup o).0 (sizes_at s.setup o).1 (lane_events o journal ++ event ∷ []) vs (lane_at (set s.lanes o x) o)) (sym (append-nil (offers o journal)) ∙ ap (λ (vs : List Offer). offers o journal ++ vs) (sym (none o)))
             (subst (IsLaneOf (sizes_at s.setup o).0 (sizes_at s.setup o).1 (lane_events o journal ++ event ∷ []) (offers o journal)) (sym (get_or-set_same s.lanes o x (empty_lane 0 0) (omega (arith, h.lane_count)))) new)))
         | inr q ↦ stays (omega arith)
       ]
     ]
 
-pub stands_begin : (s : CoreState) (o from to : ℕ) → o < length s.setup.outputs →
+pub stands_begin : (s : CoreState) (o from to : ℕ) → IsCore s → o < length s.setup.outputs →
     (lane_at s.lanes o).flight ≡ None → 0 < length (lane_at s.lanes o).waiting →
     from ≡ waiting_from (lane_at s.lanes o) → to ≡ waiting_from (lane_at s.lanes o) + min (lane_at s.lanes o).batch (length (lane_at s.lanes o).waiting) → Continues s (after_begin s o from to) (Begin o from to)
-stands_begin s o from to b none some f t journal h =
+stands_begin s o from to core b none some f t journal h =
     let e : Entry = Begin o from to in
-    let x : LaneState Content = lane_at s.lanes o in
+    let x : LaneState Offer = lane_at s.lanes o in
     let es : List LaneEvent = lane_events o journal in
     let batch : ℕ = (sizes_at s.setup o).0 in
     let limit : ℕ = (sizes_at s.setup o).1 in
@@ -93,14 +96,14 @@ stands_begin s o from to b none some f t journal h =
     ] in
     stands_grows s (after_begin s o from to) journal e h
     (record {
-      meets = record { batch = batch; limit = limit; known = slice_get-get_or s.setup.outputs o (0, 0) b; next = got.meets };
+      meets = record { line = record { batch = batch; limit = limit; known = slice_get-get_or s.setup.outputs o (0, 0) b; next = got.meets }; reports = settles_none s journal e core h refl refl };
       raw = sym (append-nil s.raw);
       taken_is = omega arith;
       held = refl;
       lanes = lanes_one s journal e o (lane.after_begin x) (events.Begin from to) h b here others (λ k. refl) got.state;
       lane_count = length-set s.lanes o (lane.after_begin x);
       numbers =
-          totals-push s.setup journal e s.numbers s.numbers h.numbers (ap (λ (n : Numbers). n.inputs) h.numbers ∙ sym (inputs-same s.setup journal e (λ i y. refl))) (omega arith) (omega arith) (omega arith)
+          totals-push s.setup journal e s.numbers s.numbers h.numbers (ap (λ (n : Numbers). n.inputs) h.numbers ∙ sym (inputs-same s.setup journal e (λ i y. nothing_reported i y))) (omega arith) (omega arith) (omega arith)
           (ap (λ (n : Numbers). n.outputs) h.numbers ∙ sym (outputs-same s.setup journal e totals_stay));
       stored = refl;
       gathered = omega arith;
@@ -111,7 +114,7 @@ stands_begin s o from to b none some f t journal h =
     })
 
 -- the numbers of a batch that is done
-total_is_done : (ok : Bool) (b l o : ℕ) (journal : List Entry) (e : Entry) (x : LaneState Content) →
+total_is_done : (ok : Bool) (b l o : ℕ) (journal : List Entry) (e : Entry) (x : LaneState Offer) →
     lane_events_by o e ≡ events.Done ok ∷ [] → offered_by o e ≡ [] →
     ((t : Fate → Bool) → kept_out t o e ≡ 0) →
     IsSome x.flight → IsLaneOf b l (lane_events o journal) (offers o journal) x → output_total l o (journal ++ e ∷ []) ≡ counted_done ok (count_done ok x) (output_total l o journal)
@@ -120,11 +123,12 @@ total_is_done true b l o journal e x v w k some h =
 total_is_done false b l o journal e x v w k some h =
     output_fails b l o journal e x v w k (fail_meets b l (lane_events o journal) (offers o journal) x h some)
 
-pub stands_done : (s : CoreState) (o : ℕ) (ok : Bool) → o < length s.setup.outputs →
-    IsSome (lane_at s.lanes o).flight → Continues s (after_done s o ok) (Done o ok [])
-stands_done s o ok b some journal h =
+pub stands_done : (s : CoreState) (o : ℕ) (ok : Bool) → IsCore s → o < length s.setup.outputs →
+    IsSome (lane_at s.lanes o).flight → Continues s (after_done s o ok) (done_entry s o ok)
+unfolding done_entry
+stands_done s o ok core b some journal h =
     let e : Entry = Done o ok [] in
-    let x : LaneState Content = lane_at s.lanes o in
+    let x : LaneState Offer = lane_at s.lanes o in
     let batch : ℕ = (sizes_at s.setup o).0 in
     let limit : ℕ = (sizes_at s.setup o).1 in
     let here : lane_events_by o e ≡ events.Done ok ∷ [] = ap (λ (q : Bool). if q then events.Done ok ∷ [] else []) (same_number o) in
@@ -132,14 +136,14 @@ stands_done s o ok b some journal h =
     let old : OutputNumbers = get_or (totals s.setup journal).outputs o unreached_output in
     stands_grows s (after_done s o ok) journal e h
     (record {
-      meets = record { known = b; begun = (accept_meets batch limit (lane_events o journal) (offers o journal) x (h.lanes o b) some).meets; no_reports = refl };
+      meets = record { line = record { known = b; begun = (accept_meets batch limit (lane_events o journal) (offers o journal) x (h.lanes o b) some).meets }; reports = settles_none s journal e core h refl refl };
       raw = sym (append-nil s.raw);
       taken_is = omega arith;
       held = refl;
       lanes = lanes_one s journal e o (lane_done ok x) (events.Done ok) h b here others (λ k. refl) (lane_is_done ok batch limit (lane_events o journal) (offers o journal) x some (h.lanes o b));
       lane_count = length-set s.lanes o (lane_done ok x);
       numbers =
-          totals-push s.setup journal e s.numbers (after_done s o ok).numbers h.numbers (ap (λ (n : Numbers). n.inputs) h.numbers ∙ sym (inputs-same s.setup journal e (λ i y. refl))) (omega arith) (omega arith) (omega arith)
+          totals-push s.setup journal e s.numbers (after_done s o ok).numbers h.numbers (ap (λ (n : Numbers). n.inputs) h.numbers ∙ sym (inputs-same s.setup journal e (λ i y. nothing_reported i y))) (omega arith) (omega arith) (omega arith)
           (ap (λ (n : Numbers). set n.outputs o (counted_done ok (count_done ok x) (get_or n.outputs o unreached_output))) h.numbers
           ∙ sym (outputs-set s.setup journal e o (counted_done ok (count_done ok x) old) b (λ k c d. output_stays (sizes_at s.setup k).1 k journal e (others k d) refl (λ t. refl))
           (total_is_done ok batch limit o journal e x here refl (λ t. refl) some (h.lanes o b) ∙ ap (counted_done ok (count_done ok x)) (sym (outputs-at s.setup journal o b)))));
@@ -151,35 +155,43 @@ stands_done s o ok b some journal h =
       stopped = sym (or-false s.stopped);
     })
 
+-- there are no views of aggregators
+no_views : (s : CoreState) (aggs : List (Option Content)) → IsCore s → length aggs ≡ length s.setup.aggs →
+    AllByRecursion (λ (view : Option Content). view ≡ None) aggs
+no_views s aggs core number =
+    subst (AllByRecursion (λ (view : Option Content). view ≡ None))
+    (sym (nil_of_length aggs (number ∙ ap length core.no_aggs.none))) tt
+
 -- a view that is offered, at its output's lane
-lane_is_offered : (view : Option Content) (b l : ℕ) (es : List LaneEvent) (offs : List Content) (x : LaneState Content) → IsLaneOf b l es offs x → IsLaneOf b l (es ++ pushes (option_to_list view)) (offs ++ option_to_list view) (lane_with view x)
-lane_is_offered None b l es offs x h = rw (append-nil es, append-nil offs) h
-lane_is_offered (Some view) b l es offs x h = (push_meets b l es offs x view h).state
+lane_is_offered : (item : ℕ) (view : Option Content) (b l : ℕ) (es : List LaneEvent) (offs : List Offer) (x : LaneState Offer) → IsLaneOf b l es offs x → IsLaneOf b l (es ++ pushes (offer_of item view)) (offs ++ offer_of item view) (lane_with item view x)
+lane_is_offered item None b l es offs x h = rw (append-nil es, append-nil offs) h
+lane_is_offered item (Some view) b l es offs x h = (push_meets b l es offs x (record { item = item; view = view }) h).state
 
 -- whether a metric that passes with such a view is kept out, and passes a test
 abbrev kept_view : (Fate → Bool) → Option Content → ℕ
 kept_view t view = kept_out_by t verdicts.Passes view
 
 -- and its numbers
-total_is_offered : (view : Option Content) (b l o : ℕ) (journal : List Entry) (item : ℕ) (whole : Content) (aggs outs : List (Option Content)) (x : LaneState Content) → view_at o outs ≡ view → 1 ≤ x.limit → length x.waiting ≤ x.limit →
+total_is_offered : (view : Option Content) (b l o : ℕ) (journal : List Entry) (item : ℕ) (whole : Content) (aggs outs : List (Option Content)) (x : LaneState Offer) → view_at o outs ≡ view → 1 ≤ x.limit → length x.waiting ≤ x.limit →
     IsLaneOf b l (lane_events o journal) (offers o journal) x → output_total l o (journal ++ Route item (Some whole) (verdict_of (Some whole)) aggs outs [] ∷ []) ≡ numbers_with view x (output_total l o journal)
 total_is_offered None b l o journal item whole aggs outs x v some most h =
     let e : Entry = Route item (Some whole) (verdict_of (Some whole)) aggs outs [] in
-    output_filters l o journal e (ap (λ (w : Option Content). pushes (option_to_list w)) v) (ap (λ (w : Option Content). option_to_list w) v) (λ t. ap (kept_view t) v)
+    output_filters l o journal e (ap (λ (w : Option Content). pushes (offer_of item w)) v) (ap (offer_of item) v) (λ t. ap (kept_view t) v)
 total_is_offered (Some view) b l o journal item whole aggs outs x v some most h =
     let e : Entry = Route item (Some whole) (verdict_of (Some whole)) aggs outs [] in
-    output_pushes b l o journal e view x (ap (λ (w : Option Content). pushes (option_to_list w)) v) (ap (λ (w : Option Content). option_to_list w) v) (λ t. ap (kept_view t) v) some most (push_meets b l (lane_events o journal) (offers o journal) x view h)
+    output_pushes b l o journal e (record { item = item; view = view }) x (ap (λ (w : Option Content). pushes (offer_of item w)) v) (ap (offer_of item) v) (λ t. ap (kept_view t) v) some most (push_meets b l (lane_events o journal) (offers o journal) x (record { item = item; view = view }) h)
 
 stands_routed : (whole : Option Content) (s : CoreState) (item : ℕ) (aggs outs : List (Option Content)) →
-    IsCore s → s.held ≡ Some item → aggs ≡ [] → length outs ≡ length s.setup.outputs → HasViews whole outs →
+    IsCore s → s.held ≡ Some item → length aggs ≡ length s.setup.aggs → length outs ≡ length s.setup.outputs → HasViews whole (aggs ++ outs) →
     Continues s (record s {
       held =
           None;
-      lanes = lanes_routed whole outs s.lanes;
+      lanes = lanes_routed item whole outs s.lanes;
       numbers = numbers_routed whole outs s.lanes s.numbers;
       stored = s.stored ++ Route item whole (verdict_of whole) aggs outs [] ∷ [];
     }) (Route item whole (verdict_of whole) aggs outs [])
-stands_routed None s item aggs outs core held none count views journal h =
+unfolding judged
+stands_routed None s item aggs outs core held number count views journal h =
     let e : Entry = Route item None (verdict_of None) aggs outs [] in
     stands_grows s (record s {
       held =
@@ -188,14 +200,14 @@ stands_routed None s item aggs outs core held none count views journal h =
       stored = s.stored ++ e ∷ [];
     }) journal e h
     (record {
-      meets = record { held = sym h.held ∙ held; judged = refl; aggregators = none; outputs = count; views = views; no_reports = refl };
+      meets = record { line = record { held = sym h.held ∙ held; aggregators = number; outputs = count; views = views; made = λ m. no_views s aggs core number; verdict_is = refl }; reports = settles_none s journal e core h refl refl };
       raw = sym (append-nil s.raw);
       taken_is = omega arith;
       held = refl;
       lanes = lanes_stay s journal h;
       lane_count = refl;
       numbers =
-          totals-push s.setup journal e s.numbers (numbers_routed None outs s.lanes s.numbers) h.numbers (ap (λ (n : Numbers). n.inputs) h.numbers ∙ sym (inputs-same s.setup journal e (λ i y. refl))) (omega arith) (omega arith) (omega arith)
+          totals-push s.setup journal e s.numbers (numbers_routed None outs s.lanes s.numbers) h.numbers (ap (λ (n : Numbers). n.inputs) h.numbers ∙ sym (inputs-same s.setup journal e (λ i y. nothing_reported i y))) (omega arith) (omega arith) (omega arith)
           (ap (λ (n : Numbers). n.outputs) h.numbers ∙ sym (outputs_stay s.setup journal e (λ o. refl) (λ o. refl) (λ o t. refl)));
       stored = refl;
       gathered = omega arith;
@@ -204,30 +216,30 @@ stands_routed None s item aggs outs core held none count views journal h =
       ended_count = refl;
       stopped = sym (or-false s.stopped);
     })
-stands_routed (Some whole) s item aggs outs core held none count views journal h =
+stands_routed (Some whole) s item aggs outs core held number count views journal h =
     let e : Entry = Route item (Some whole) (verdict_of (Some whole)) aggs outs [] in
     stands_grows s (record s {
       held =
           None;
-      lanes = lanes_with outs s.lanes;
+      lanes = lanes_with item outs s.lanes;
       numbers = numbers_routed (Some whole) outs s.lanes s.numbers;
       stored = s.stored ++ e ∷ [];
     }) journal e h
     (record {
-      meets = record { held = sym h.held ∙ held; judged = refl; aggregators = none; outputs = count; views = views; no_reports = refl };
+      meets = record { line = record { held = sym h.held ∙ held; aggregators = number; outputs = count; views = views; made = λ m. no_views s aggs core number; verdict_is = refl }; reports = settles_none s journal e core h refl refl };
       raw = sym (append-nil s.raw);
       taken_is = omega arith;
       held = refl;
       lanes =
-          λ o b. subst (IsLaneOf (sizes_at s.setup o).0 (sizes_at s.setup o).1 (lane_events o journal ++ pushes (option_to_list (view_at o outs))) (offers o journal ++ option_to_list (view_at o outs))) (sym (lanes_with-at outs s.lanes o (omega (arith, h.lane_count))))
-          (lane_is_offered (view_at o outs) (sizes_at s.setup o).0 (sizes_at s.setup o).1 (lane_events o journal) (offers o journal) (lane_at s.lanes o) (h.lanes o b));
-      lane_count = length-lanes_with outs s.lanes;
+          λ o b. subst (IsLaneOf (sizes_at s.setup o).0 (sizes_at s.setup o).1 (lane_events o journal ++ pushes (offer_of item (view_at o outs))) (offers o journal ++ offer_of item (view_at o outs))) (sym (lanes_with-at item outs s.lanes o (omega (arith, h.lane_count))))
+          (lane_is_offered item (view_at o outs) (sizes_at s.setup o).0 (sizes_at s.setup o).1 (lane_events o journal) (offers o journal) (lane_at s.lanes o) (h.lanes o b));
+      lane_count = length-lanes_with item outs s.lanes;
       numbers =
-          totals-push s.setup journal e s.numbers (numbers_routed (Some whole) outs s.lanes s.numbers) h.numbers (ap (λ (n : Numbers). n.inputs) h.numbers ∙ sym (inputs-same s.setup journal e (λ i y. refl))) (omega arith) (omega arith) (omega arith)
-          (sym (outputs-as s.setup journal e (outputs_with outs s.lanes s.numbers.outputs) (length-outputs_with outs s.lanes s.numbers.outputs ∙ core.outputs)
-          (λ o b. total_is_offered (view_at o outs) (sizes_at s.setup o).0 (sizes_at s.setup o).1 o journal item whole aggs outs (lane_at s.lanes o) refl (omega (arith, (core.each o b).some, (core.each o b).fits)) (core.each o b).waits (h.lanes o b)
+          totals-push s.setup journal e s.numbers (numbers_routed (Some whole) outs s.lanes s.numbers) h.numbers (ap (λ (n : Numbers). n.inputs) h.numbers ∙ sym (inputs-same s.setup journal e (λ i y. nothing_reported i y))) (omega arith) (omega arith) (omega arith)
+          (sym (outputs-as s.setup journal e (outputs_with outs s.lanes s.numbers.outputs) (length-outputs_with outs s.lanes s.numbers.outputs ∙ core.outputs.number_count)
+          (λ o b. total_is_offered (view_at o outs) (sizes_at s.setup o).0 (sizes_at s.setup o).1 o journal item whole aggs outs (lane_at s.lanes o) refl (omega (arith, (core.outputs.each o b).some, (core.outputs.each o b).fits)) (core.outputs.each o b).waits (h.lanes o b)
           ∙ ap (numbers_with (view_at o outs) (lane_at s.lanes o)) (sym (ap (λ (n : Numbers). get_or n.outputs o unreached_output) h.numbers ∙ outputs-at s.setup journal o b))
-          ∙ sym (outputs_with-at outs s.lanes s.numbers.outputs o (omega (arith, core.outputs))))));
+          ∙ sym (outputs_with-at outs s.lanes s.numbers.outputs o (omega (arith, core.outputs.number_count))))));
       stored = refl;
       gathered = omega arith;
       counted = refl;
@@ -237,18 +249,19 @@ stands_routed (Some whole) s item aggs outs core held none count views journal h
     })
 
 pub route_stands : (s n : CoreState) (r : Routed) → n ≡ after_route s r → IsCore s → s.held ≡ Some r.item →
-    r.aggs ≡ [] → length r.outs ≡ length s.setup.outputs → HasViews r.whole r.outs →
-    Continues s n (route_entry r)
-route_stands s n r q core held none count views =
-    subst (λ (m : CoreState). Continues s m (route_entry r)) (sym q) (stands_routed r.whole s r.item r.aggs r.outs core held none count views)
+    length r.aggs ≡ length s.setup.aggs → length r.outs ≡ length s.setup.outputs →
+    HasViews r.whole (r.aggs ++ r.outs) → Continues s n (route_entry s r)
+unfolding route_entry
+route_stands s n r q core held number count views =
+    subst (λ (m : CoreState). Continues s m (route_entry s r)) (sym q) (stands_routed r.whole s r.item r.aggs r.outs core held number count views)
 
-pub begin_stands : (s n : CoreState) (o from to : ℕ) → n ≡ after_begin s o from to →
+pub begin_stands : (s n : CoreState) (o from to : ℕ) → n ≡ after_begin s o from to → IsCore s →
     o < length s.setup.outputs → (lane_at s.lanes o).flight ≡ None → 0 < length (lane_at s.lanes o).waiting →
     from ≡ waiting_from (lane_at s.lanes o) → to ≡ waiting_from (lane_at s.lanes o) + min (lane_at s.lanes o).batch (length (lane_at s.lanes o).waiting) → Continues s n (Begin o from to)
-begin_stands s n o from to q b none some f t =
-    subst (λ (m : CoreState). Continues s m (Begin o from to)) (sym q) (stands_begin s o from to b none some f t)
+begin_stands s n o from to q core b none some f t =
+    subst (λ (m : CoreState). Continues s m (Begin o from to)) (sym q) (stands_begin s o from to core b none some f t)
 
-pub done_stands : (s n : CoreState) (o : ℕ) (ok : Bool) → n ≡ after_done s o ok → o < length s.setup.outputs →
-    IsSome (lane_at s.lanes o).flight → Continues s n (Done o ok [])
-done_stands s n o ok q b some =
-    subst (λ (m : CoreState). Continues s m (Done o ok [])) (sym q) (stands_done s o ok b some)
+pub done_stands : (s n : CoreState) (o : ℕ) (ok : Bool) → n ≡ after_done s o ok → IsCore s →
+    o < length s.setup.outputs → IsSome (lane_at s.lanes o).flight → Continues s n (done_entry s o ok)
+done_stands s n o ok q core b some =
+    subst (λ (m : CoreState). Continues s m (done_entry s o ok)) (sym q) (stands_done s o ok core b some)

@@ -9,10 +9,13 @@ use Rattle.std.proofs.lemmas.Option.{slice_get-get_or, slice_get_within, get_or_
 use Rattle.std.proofs.lemmas.List.{get_or-set_same, get_or-set_other, length-set}
 use Rattle.std.specs.Int.{int_max}
 use Rattle.std.specs.Prelude.{slice_get}
+use Rattle.std.specs.declared.option.Option.{Option}
 use Rattle.std.specs.declared.option.Option.TheVariants.{Some, None}
 use Rattle.metric.specs.declared.metric.Content.{Content}
 use Rattle.account.specs.Setup.{Setup}
 use Rattle.account.specs.Items.{items, taken}
+use Rattle.account.specs.Says.{GatherSays, gather_of, reports_of}
+use Rattle.account.specs.Origins.{group_inputs_said}
 use Rattle.account.specs.Numbers.{Numbers, unread_input, gathered_more}
 use Rattle.account.specs.declared.numbers.InputNumbers.{InputNumbers}
 use Rattle.account.specs.declared.entry.Entry.{Entry}
@@ -20,21 +23,25 @@ use Rattle.account.specs.declared.entry.Entry.TheVariants.{Ended, Take, Stop}
 use Rattle.pipeline_core.specs.Fates.{Fate}
 use Rattle.pipeline_core.specs.Offers.{offered_by, lane_events_by}
 use Rattle.pipeline_core.specs.Legal.{has_ended}
-use Rattle.pipeline_core.specs.Totals.{totals}
+use Rattle.pipeline_core.specs.Totals.{totals, reported_with, gathered_with, gathers_too, group_count}
+use Rattle.pipeline_core.specs.Groups.{reports_at}
+use Rattle.pipeline_core.specs.Windows.{made_by_stop}
 use Rattle.pipeline_core.specs.CoreState.{CoreState, IsCore, sizes_at}
 use Rattle.pipeline_core.specs.Stands.{Stands, Continues}
 use Rattle.pipeline_core.specs.Steps.{after_gather, after_ended, after_take, after_stop, gather_entry}
+use Rattle.pipeline_core.specs.Steps.{stop_entry}
 use Rattle.pipeline_core.specs.Steps.{HasNumbers, HasPlace}
 use Rattle.pipeline_core.specs.declared.gathering.Gathered.{Gathered}
 use Rattle.std.proofs.lemmas.Bool.Decides.{nat_tests}
 use Rattle.std.proofs.lemmas.Int.{ints}
+use Rattle.pipeline_core.proofs.GroupLemmas.{nothing_settles}
 use Rattle.pipeline_core.proofs.Keeping.{full}
 use Rattle.pipeline_core.proofs.FateCounts.{kept_out}
 use Rattle.pipeline_core.proofs.TotalPush.{inputs-same, inputs-set, outputs-same}
 use Rattle.pipeline_core.proofs.OutputPush.{output_stays, totals-push}
 use Rattle.pipeline_core.proofs.Standing.{stands_grows, lanes_stay, ended_stays}
 
-nil_of_length : (xs : List Content) → length xs ≡ 0 → xs ≡ []
+pub nil_of_length : {X : Type 0} (xs : List X) → length xs ≡ 0 → xs ≡ []
 nil_of_length [] h = refl
 nil_of_length (x ∷ xs) h = absurd (omega (arith, h))
 
@@ -59,6 +66,23 @@ placed_raw : (raw : List Content) (n : ℕ) → (length raw ≡ 0) ⊎ (length r
 placed_raw raw n (inl h) = inl (nil_of_length raw h)
 placed_raw raw n (inr h) = inr h
 
+-- without reports an input's numbers stay
+pub nothing_reported : (input : ℕ) (x : InputNumbers) → reported_with input x [] ≡ x
+unfolding reported_with
+nothing_reported input x = refl
+
+-- an entry that begins no group, and by which none settles
+pub settles_none : (s : CoreState) (journal : List Entry) (e : Entry) → IsCore s → Stands s journal →
+    group_inputs_said (gather_of e) ≡ [] → reports_of e ≡ [] → reports_of e ≡ reports_at s.setup journal e
+settles_none s journal e core h none quiet =
+    quiet ∙ sym (nothing_settles s.setup journal e core.untracked.none h.legal none)
+
+-- an input's numbers with those of a Gather that has no group
+ungrouped_more : (x : InputNumbers) (says : GatherSays) → says.group ≡ None → gathers_too x says ≡ gathered_more x says.pieces says.refused says.passed says.filtered (length says.metrics)
+ungrouped_more x says none =
+    ap (λ (n : ℕ). record (gathered_more x says.pieces says.refused says.passed says.filtered (length says.metrics)) { undelivered = n })
+    (ap (λ (group : Option ℕ). x.undelivered + group_count group) none ∙ (let e : x.undelivered + 0 ≡ x.undelivered = omega arith in e))
+
 -- an entry that does nothing at the outputs
 pub outputs_stay : (setup : Setup) (journal : List Entry) (e : Entry) → ((o : ℕ) → lane_events_by o e ≡ []) →
     ((o : ℕ) → offered_by o e ≡ []) → ((o : ℕ) (t : Fate → Bool) → kept_out t o e ≡ 0) →
@@ -66,20 +90,20 @@ pub outputs_stay : (setup : Setup) (journal : List Entry) (e : Entry) → ((o : 
 outputs_stay setup journal e l v k =
     outputs-same setup journal e (λ o b. output_stays (sizes_at setup o).1 o journal e (l o) (v o) (k o))
 
-pub stands_take : (s : CoreState) → s.held ≡ None → 0 < length s.raw →
+pub stands_take : (s : CoreState) → IsCore s → s.held ≡ None → 0 < length s.raw →
     Continues s (after_take s) (Take s.taken)
-stands_take s none some journal h =
+stands_take s core none some journal h =
     let e : Entry = Take s.taken in
     stands_grows s (after_take s) journal e h
     (record {
-      meets = record { empty_handed = sym h.held ∙ none; first = h.taken_is; raw = omega (arith, ap length h.raw, length-drop (taken journal) (items journal), h.taken_is) };
+      meets = record { line = record { empty_handed = sym h.held ∙ none; first = h.taken_is; raw = omega (arith, ap length h.raw, length-drop (taken journal) (items journal), h.taken_is) }; reports = settles_none s journal e core h refl refl };
       raw = ap (drop 1) (sym (append-nil s.raw));
       taken_is = refl;
       held = refl;
       lanes = lanes_stay s journal h;
       lane_count = refl;
       numbers =
-          totals-push s.setup journal e s.numbers s.numbers h.numbers (ap (λ (n : Numbers). n.inputs) h.numbers ∙ sym (inputs-same s.setup journal e (λ i x. refl))) (omega arith) (omega arith) (omega arith)
+          totals-push s.setup journal e s.numbers s.numbers h.numbers (ap (λ (n : Numbers). n.inputs) h.numbers ∙ sym (inputs-same s.setup journal e (λ i x. nothing_reported i x))) (omega arith) (omega arith) (omega arith)
           (ap (λ (n : Numbers). n.outputs) h.numbers ∙ sym (outputs_stay s.setup journal e (λ o. refl) (λ o. refl) (λ o t. refl)));
       stored = refl;
       gathered = omega arith;
@@ -89,20 +113,21 @@ stands_take s none some journal h =
       stopped = sym (or-false s.stopped);
     })
 
-pub stands_stop : (s : CoreState) (moment : ℤ) → s.stopped ≡ false →
-    Continues s (after_stop s moment) (Stop (int_max moment s.counted) [])
-stands_stop s moment going journal h =
+pub stands_stop : (s : CoreState) (moment : ℤ) → IsCore s → s.stopped ≡ false →
+    Continues s (after_stop s moment) (stop_entry s moment)
+unfolding stop_entry made_by_stop
+stands_stop s moment core going journal h =
     let e : Entry = Stop (int_max moment s.counted) [] in
     stands_grows s (after_stop s moment) journal e h
     (record {
-      meets = record { going = sym h.stopped ∙ going; later = subst (λ (m : ℤ). m ≤ℤ int_max moment s.counted) h.counted (below_max moment s.counted); nothing_made = refl };
+      meets = record { line = record { going = sym h.stopped ∙ going; later = subst (λ (m : ℤ). m ≤ℤ int_max moment s.counted) h.counted (below_max moment s.counted); all_made = refl }; reports = settles_none s journal e core h refl refl };
       raw = sym (append-nil s.raw);
       taken_is = omega arith;
       held = refl;
       lanes = lanes_stay s journal h;
       lane_count = refl;
       numbers =
-          totals-push s.setup journal e s.numbers s.numbers h.numbers (ap (λ (n : Numbers). n.inputs) h.numbers ∙ sym (inputs-same s.setup journal e (λ i x. refl))) (omega arith) (omega arith) (omega arith)
+          totals-push s.setup journal e s.numbers s.numbers h.numbers (ap (λ (n : Numbers). n.inputs) h.numbers ∙ sym (inputs-same s.setup journal e (λ i x. nothing_reported i x))) (omega arith) (omega arith) (omega arith)
           (ap (λ (n : Numbers). n.outputs) h.numbers ∙ sym (outputs_stay s.setup journal e (λ o. refl) (λ o. refl) (λ o t. refl)));
       stored = refl;
       gathered = omega arith;
@@ -137,7 +162,7 @@ stands_ended s input core reading going journal h =
     let n : input < length s.setup.inputs = omega (arith, slice_get_within s.ended input false reading, h.ended_count) in
     stands_grows s (after_ended s input) journal e h
     (record {
-      meets = record { known = n; going = sym h.stopped ∙ going; reading = some_same (has_ended input journal) false (sym (h.ended input n) ∙ reading) };
+      meets = record { line = record { known = n; going = sym h.stopped ∙ going; reading = some_same (has_ended input journal) false (sym (h.ended input n) ∙ reading) }; reports = settles_none s journal e core h refl refl };
       raw = sym (append-nil s.raw);
       taken_is = omega arith;
       held = refl;
@@ -145,8 +170,8 @@ stands_ended s input core reading going journal h =
       lane_count = refl;
       numbers = totals-push s.setup journal e s.numbers (after_ended s input).numbers h.numbers
           (ap (λ (m : Numbers). set m.inputs input (record (get_or m.inputs input (unread_input false)) { has_ended = true })) h.numbers
-          ∙ sym (inputs-set s.setup journal e input (record (get_or (totals s.setup journal).inputs input (unread_input false)) { has_ended = true }) n (λ k x d. ap (λ (t : Bool). if t then record x { has_ended = true } else x) (differs input k (omega (arith, d))))
-          (ap (λ (t : Bool). if t then record (get_or (totals s.setup journal).inputs input (unread_input false)) { has_ended = true } else get_or (totals s.setup journal).inputs input (unread_input false)) (same_number input))))
+          ∙ sym (inputs-set s.setup journal e input (record (get_or (totals s.setup journal).inputs input (unread_input false)) { has_ended = true }) n (λ k x d. nothing_reported k (if input == k then record x { has_ended = true } else x) ∙ ap (λ (t : Bool). if t then record x { has_ended = true } else x) (differs input k (omega (arith, d))))
+          (nothing_reported input (if input == input then record (get_or (totals s.setup journal).inputs input (unread_input false)) { has_ended = true } else get_or (totals s.setup journal).inputs input (unread_input false)) ∙ ap (λ (t : Bool). if t then record (get_or (totals s.setup journal).inputs input (unread_input false)) { has_ended = true } else get_or (totals s.setup journal).inputs input (unread_input false)) (same_number input))))
           (omega arith) (omega arith) (omega arith)
           (ap (λ (m : Numbers). m.outputs) h.numbers ∙ sym (outputs_stay s.setup journal e (λ o. refl) (λ o. refl) (λ o t. refl)));
       stored = refl;
@@ -158,22 +183,28 @@ stands_ended s input core reading going journal h =
     })
 
 pub stands_gather : (s : CoreState) (g : Gathered) → IsCore s → slice_get s.ended g.input ≡ Some false →
-    s.stopped ≡ false → HasNumbers s g → HasPlace s g → Continues s (after_gather s g) (gather_entry g)
+    s.stopped ≡ false → HasNumbers s g → HasPlace s g → Continues s (after_gather s g) (gather_entry s g)
+unfolding gather_entry
 stands_gather s g core reading going few place journal h =
-    let e : Entry = gather_entry g in
+    let e : Entry = gather_entry s g in
+    let says : GatherSays = record { input = g.input; moment = g.moment; pieces = g.pieces; refused = g.refused; passed = g.passed; filtered = g.filtered; metrics = g.metrics; group = None; reports = [] } in
     let n : g.input < length s.setup.inputs = omega (arith, slice_get_within s.ended g.input false reading, h.ended_count) in
     let more : InputNumbers → InputNumbers = λ x. gathered_more x g.pieces g.refused g.passed g.filtered (length g.metrics) in
     let old : InputNumbers = get_or (totals s.setup journal).inputs g.input (unread_input false) in
     stands_grows s (after_gather s g) journal e h
     (record {
       meets = record {
-        untracked = slice_get-get_or s.setup.inputs g.input None n ∙ ap Some (core.untracked g.input None n);
-        going = sym h.stopped ∙ going;
-        reading = some_same (has_ended g.input journal) false (sym (h.ended g.input n) ∙ reading);
-        fits = omega (arith, h.gathered, few);
-        room = subst (λ (xs : List Content). (xs ≡ []) ⊎ (length xs + length g.metrics ≤ 10000)) h.raw (placed_raw s.raw (length g.metrics) place);
-        no_group = refl;
-        no_reports = refl;
+        line = record {
+          most = None;
+          known = slice_get-get_or s.setup.inputs g.input None n ∙ ap Some (core.untracked.none g.input None n);
+          going = sym h.stopped ∙ going;
+          reading = some_same (has_ended g.input journal) false (sym (h.ended g.input n) ∙ reading);
+          fits = omega (arith, h.gathered, few);
+          room = subst (λ (xs : List Content). (xs ≡ []) ⊎ (length xs + length g.metrics ≤ 10000)) h.raw (placed_raw s.raw (length g.metrics) place);
+          few = tt;
+          group = refl;
+        };
+        reports = settles_none s journal e core h refl refl;
       };
       raw = refl;
       taken_is = omega arith;
@@ -182,8 +213,8 @@ stands_gather s g core reading going few place journal h =
       lane_count = refl;
       numbers = totals-push s.setup journal e s.numbers (after_gather s g).numbers h.numbers
           (ap (λ (m : Numbers). set m.inputs g.input (more (get_or m.inputs g.input (unread_input false)))) h.numbers
-          ∙ sym (inputs-set s.setup journal e g.input (more old) n (λ k x d. ap (λ (t : Bool). if t then more x else x) (differs g.input k (omega (arith, d))))
-          (ap (λ (t : Bool). if t then more old else old) (same_number g.input))))
+          ∙ sym (inputs-set s.setup journal e g.input (more old) n (λ k x d. nothing_reported k (gathered_with k x (Some says)) ∙ ap (λ (t : Bool). if t then gathers_too x says else x) (differs g.input k (omega (arith, d))))
+          (nothing_reported g.input (gathered_with g.input old (Some says)) ∙ ap (λ (t : Bool). if t then gathers_too old says else old) (same_number g.input) ∙ ungrouped_more old says refl)))
           (omega arith) (omega arith) (omega arith)
           (ap (λ (m : Numbers). m.outputs) h.numbers ∙ sym (outputs_stay s.setup journal e (λ o. refl) (λ o. refl) (λ o t. refl)));
       stored = refl;
@@ -198,9 +229,9 @@ stands_gather s g core reading going few place journal h =
 by_step : (s n t : CoreState) (e : Entry) → n ≡ t → Continues s t e → Continues s n e
 by_step s n t e q h = subst (λ (m : CoreState). Continues s m e) (sym q) h
 
-pub take_stands : (s n : CoreState) → n ≡ after_take s → s.held ≡ None → 0 < length s.raw →
+pub take_stands : (s n : CoreState) → n ≡ after_take s → IsCore s → s.held ≡ None → 0 < length s.raw →
     Continues s n (Take s.taken)
-take_stands s n q none some = by_step s n (after_take s) (Take s.taken) q (stands_take s none some)
+take_stands s n q core none some = by_step s n (after_take s) (Take s.taken) q (stands_take s core none some)
 
 pub ended_stands : (s n : CoreState) (input : ℕ) → n ≡ after_ended s input → IsCore s →
     slice_get s.ended input ≡ Some false → s.stopped ≡ false → Continues s n (Ended input)
@@ -209,11 +240,11 @@ ended_stands s n input q core reading going =
 
 pub gather_stands : (s n : CoreState) (g : Gathered) → n ≡ after_gather s g → IsCore s →
     slice_get s.ended g.input ≡ Some false → s.stopped ≡ false → HasNumbers s g → HasPlace s g →
-    Continues s n (gather_entry g)
+    Continues s n (gather_entry s g)
 gather_stands s n g q core reading going few place =
-    by_step s n (after_gather s g) (gather_entry g) q (stands_gather s g core reading going few place)
+    by_step s n (after_gather s g) (gather_entry s g) q (stands_gather s g core reading going few place)
 
-pub stop_stands : (s n : CoreState) (moment : ℤ) → n ≡ after_stop s moment → s.stopped ≡ false →
-    Continues s n (Stop (int_max moment s.counted) [])
-stop_stands s n moment q going =
-    by_step s n (after_stop s moment) (Stop (int_max moment s.counted) []) q (stands_stop s moment going)
+pub stop_stands : (s n : CoreState) (moment : ℤ) → n ≡ after_stop s moment → IsCore s → s.stopped ≡ false →
+    Continues s n (stop_entry s moment)
+stop_stands s n moment q core going =
+    by_step s n (after_stop s moment) (stop_entry s moment) q (stands_stop s moment core going)

@@ -10,7 +10,7 @@ use Rattle.std.proofs.lemmas.Bool.{cases_lt}
 use Rattle.std.proofs.lemmas.List.{get_or-set_same, get_or-set_other, ext_get_or, length-set, get_or-map}
 use Rattle.std.proofs.lemmas.List.{length-map}
 use Rattle.std.proofs.lemmas.List.FromFn.{get_or-enumerate_from, length-enumerate_from}
-use Rattle.metric.specs.declared.metric.Content.{Content}
+use Rattle.pipeline_core.specs.declared.output.Offer.{Offer}
 use Rattle.account.specs.Setup.{Setup}
 use Rattle.account.specs.Numbers.{unread_input, unreached_output}
 use Rattle.account.specs.declared.numbers.InputNumbers.{InputNumbers}
@@ -142,13 +142,13 @@ abbrev pub tested : (Fate → Bool) → LaneFate → Bool
 tested t f = t (fate_of f)
 
 -- the counts with one entry more
-count-push : (t : Fate → Bool) (limit o : ℕ) (es : List Entry) (e : Entry) (events : List LaneEvent) (views : List Content) → lane_events_by o e ≡ events → offered_by o e ≡ views →
+count-push : (t : Fate → Bool) (limit o : ℕ) (es : List Entry) (e : Entry) (events : List LaneEvent) (views : List Offer) → lane_events_by o e ≡ events → offered_by o e ≡ views →
     count_by t (fates limit o (es ++ e ∷ [])) ≡ total_by (kept_out t o) es + kept_out t o e + fates_counted (tested t) limit (lane_events o es ++ events) (length (offers o es ++ views))
 count-push t limit o es e events views l v =
     let a : lane_events o (es ++ e ∷ []) ≡ lane_events o es ++ events = lane_events-push o es e ∙ ap (λ (x : List LaneEvent). lane_events o es ++ x) l in
-    let b : offers o (es ++ e ∷ []) ≡ offers o es ++ views = offers-push o es e ∙ ap (λ (x : List Content). offers o es ++ x) v in
+    let b : offers o (es ++ e ∷ []) ≡ offers o es ++ views = offers-push o es e ∙ ap (λ (x : List Offer). offers o es ++ x) v in
     let c : fates_counted (tested t) limit (lane_events o (es ++ e ∷ [])) (length (offers o (es ++ e ∷ []))) ≡ fates_counted (tested t) limit (lane_events o es ++ events) (length (offers o es ++ views)) =
-    ap (λ (x : List LaneEvent). fates_counted (tested t) limit x (length (offers o (es ++ e ∷ [])))) a ∙ ap (λ (x : List Content). fates_counted (tested t) limit (lane_events o es ++ events) (length x)) b in
+    ap (λ (x : List LaneEvent). fates_counted (tested t) limit x (length (offers o (es ++ e ∷ [])))) a ∙ ap (λ (x : List Offer). fates_counted (tested t) limit (lane_events o es ++ events) (length x)) b in
     omega (arith, fates-counted t limit o (es ++ e ∷ []), total_by-push (kept_out t o) es e)
 
 -- an entry that does nothing at the output's lane
@@ -157,7 +157,7 @@ pub count-plain : (t : Fate → Bool) (limit o : ℕ) (es : List Entry) (e : Ent
     count_by t (fates limit o (es ++ e ∷ [])) ≡ count_by t (fates limit o es) + kept_out t o e
 count-plain t limit o es e l v =
     let a : fates_counted (tested t) limit (lane_events o es ++ []) (length (offers o es ++ [])) ≡ fates_counted (tested t) limit (lane_events o es) (length (offers o es)) =
-    ap (λ (x : List LaneEvent). fates_counted (tested t) limit x (length (offers o es ++ []))) (append-nil (lane_events o es)) ∙ ap (λ (x : List Content). fates_counted (tested t) limit (lane_events o es) (length x)) (append-nil (offers o es)) in
+    ap (λ (x : List LaneEvent). fates_counted (tested t) limit x (length (offers o es ++ []))) (append-nil (lane_events o es)) ∙ ap (λ (x : List Offer). fates_counted (tested t) limit (lane_events o es) (length x)) (append-nil (offers o es)) in
     omega (arith, count-push t limit o es e [] [] l v, fates-counted t limit o es)
 
 -- an entry that begins a batch of the output
@@ -167,20 +167,20 @@ pub count-keep : (t : Fate → Bool) (limit o : ℕ) (es : List Entry) (e : Entr
     count_by t (fates limit o (es ++ e ∷ [])) ≡ count_by t (fates limit o es)
 count-keep t limit o es e event l v z k =
     let a : fates_counted (tested t) limit (lane_events o es ++ event ∷ []) (length (offers o es ++ [])) ≡ fates_counted (tested t) limit (lane_events o es ++ event ∷ []) (length (offers o es)) =
-    ap (λ (x : List Content). fates_counted (tested t) limit (lane_events o es ++ event ∷ []) (length x)) (append-nil (offers o es)) in
+    ap (λ (x : List Offer). fates_counted (tested t) limit (lane_events o es ++ event ∷ []) (length x)) (append-nil (offers o es)) in
     omega (arith, count-push t limit o es e (event ∷ []) [] l v, fates-counted t limit o es, keeps_counted (tested t) limit (lane_events o es) (lane_events o es ++ event ∷ []) (offers o es) k)
 
 -- an entry by which some views are no longer buffered
-pub count-become : (t : Fate → Bool) (limit o : ℕ) (es : List Entry) (e : Entry) (event : LaneEvent) (fate : LaneFate) (views : List Content) → lane_events_by o e ≡ event ∷ [] → offered_by o e ≡ [] → kept_out t o e ≡ 0 →
+pub count-become : (t : Fate → Bool) (limit o : ℕ) (es : List Entry) (e : Entry) (event : LaneEvent) (fate : LaneFate) (views : List Offer) → lane_events_by o e ≡ event ∷ [] → offered_by o e ≡ [] → kept_out t o e ≡ 0 →
     Becomes limit (lane_events o es) (lane_events o es ++ event ∷ []) (offers o es) fate views →
     count_by t (fates limit o (es ++ e ∷ [])) + ones (tested t lane.Buffered) * length views ≡ count_by t (fates limit o es) + ones (tested t fate) * length views
 count-become t limit o es e event fate views l v z k =
     let a : fates_counted (tested t) limit (lane_events o es ++ event ∷ []) (length (offers o es ++ [])) ≡ fates_counted (tested t) limit (lane_events o es ++ event ∷ []) (length (offers o es)) =
-    ap (λ (x : List Content). fates_counted (tested t) limit (lane_events o es ++ event ∷ []) (length x)) (append-nil (offers o es)) in
+    ap (λ (x : List Offer). fates_counted (tested t) limit (lane_events o es ++ event ∷ []) (length x)) (append-nil (offers o es)) in
     omega (arith, count-push t limit o es e (event ∷ []) [] l v, fates-counted t limit o es, becomes_counted (tested t) limit (lane_events o es) (lane_events o es ++ event ∷ []) (offers o es) fate views k)
 
 -- an entry by which a view comes, and others are no longer buffered
-pub count-come : (t : Fate → Bool) (limit o : ℕ) (es : List Entry) (e : Entry) (view : Content) (views : List Content) → lane_events_by o e ≡ lane.Push ∷ [] → offered_by o e ≡ view ∷ [] → kept_out t o e ≡ 0 →
+pub count-come : (t : Fate → Bool) (limit o : ℕ) (es : List Entry) (e : Entry) (view : Offer) (views : List Offer) → lane_events_by o e ≡ lane.Push ∷ [] → offered_by o e ≡ view ∷ [] → kept_out t o e ≡ 0 →
     fate_at limit (lane_events o es ++ lane.Push ∷ []) (length (offers o es)) ≡ lane.Buffered →
     Becomes limit (lane_events o es) (lane_events o es ++ lane.Push ∷ []) (offers o es) lane.Dropped views →
     count_by t (fates limit o (es ++ e ∷ [])) + ones (tested t lane.Buffered) * length views ≡ count_by t (fates limit o es) + ones (tested t lane.Dropped) * length views + ones (tested t lane.Buffered)

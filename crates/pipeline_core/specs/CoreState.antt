@@ -6,10 +6,12 @@ use Rattle.std.specs.declared.option.Option.{Option}
 use Rattle.std.specs.declared.option.Option.TheVariants.{Some, None}
 use Rattle.metric.specs.declared.metric.Content.{Content}
 use Rattle.account.specs.Setup.{Setup}
-use Rattle.account.specs.Numbers.{Numbers, no_numbers, output_numbers, sum_of_fates}
+use Rattle.account.specs.Numbers.{Numbers, no_numbers, sum_of_fates, unreached_output}
+use Rattle.account.specs.declared.numbers.InputNumbers.{InputNumbers}
 use Rattle.account.specs.declared.numbers.OutputNumbers.{OutputNumbers}
 use Rattle.account.specs.declared.entry.Entry.{Entry}
 use Rattle.out_lane.specs.Lane.{LaneState, empty_lane, flying}
+use Rattle.pipeline_core.specs.declared.output.Offer.{Offer}
 use Rattle.pipeline_core.specs.declared.setup.CoreSetup.{CoreSetup}
 use Rattle.pipeline_core.specs.declared.setup.InSetup.{InSetup}
 use Rattle.pipeline_core.specs.declared.setup.OutSetup.{OutSetup}
@@ -23,7 +25,7 @@ pub record CoreState : Type 0 where
   -- the item in hand
   pub held : Option ℕ
   -- what waits at each output, and its batch in flight
-  pub lanes : List (LaneState Content)
+  pub lanes : List (LaneState Offer)
   pub numbers : Numbers
   -- the entries since the last cut
   pub stored : List Entry
@@ -39,20 +41,25 @@ pub record CoreState : Type 0 where
 abbrev pub most_undelivered : InSetup → Option ℕ
 most_undelivered input = if input.tracked then Some input.max_undelivered else None
 
+-- whether an input is tracked
+abbrev pub is_tracked : InSetup → Bool
+is_tracked input = input.tracked
+
 -- an output's batch size and its buffer limit
 abbrev pub sizes : OutSetup → ℕ × ℕ
 sizes output = (output.batch, output.limit)
 
--- the set-up of a journal, of what a core is set up with
+-- the set-up of a journal, of what a core is set up with: without aggregators
 abbrev pub setup_of : CoreSetup → Setup
 setup_of setup = record {
   start = setup.start;
   inputs = map most_undelivered setup.inputs;
+  aggs = [];
   outputs = map sizes setup.outputs;
 }
 
 -- an output at which nothing waits
-abbrev pub lane_of : OutSetup → LaneState Content
+abbrev pub lane_of : OutSetup → LaneState Offer
 lane_of output = empty_lane output.batch output.limit
 
 -- nothing happened yet
@@ -63,7 +70,7 @@ first_state setup = record {
   taken = 0;
   held = None;
   lanes = map lane_of setup.outputs;
-  numbers = no_numbers (replicate (length setup.inputs) false) (length setup.outputs);
+  numbers = no_numbers (map is_tracked setup.inputs) (length setup.outputs);
   stored = [];
   gathered = 0;
   counted = setup.start;
@@ -72,7 +79,7 @@ first_state setup = record {
 }
 
 -- an output's lane
-abbrev pub lane_at : List (LaneState Content) → ℕ → LaneState Content
+abbrev pub lane_at : List (LaneState Offer) → ℕ → LaneState Offer
 lane_at lanes output = slice_index_or lanes output (empty_lane 0 0)
 
 -- an output's sizes
@@ -85,35 +92,64 @@ held_count None = 0
 held_count (Some item) = 1
 
 -- one where a batch is in flight
-abbrev pub in_flight : LaneState Content → ℕ
+abbrev pub in_flight : LaneState Offer → ℕ
 in_flight lane = if is_some lane.flight then 1 else 0
 
 -- how many batches are in flight
-abbrev pub flights : List (LaneState Content) → ℕ
+abbrev pub flights : List (LaneState Offer) → ℕ
 flights lanes = sum_by in_flight lanes
 
 -- an output's sizes, its numbers and its lane agree
-pub record IsOutput (size : ℕ × ℕ) (routed : ℕ) (x : OutputNumbers) (lane : LaneState Content) : Type 0 where
+pub record IsOutput (size : ℕ × ℕ) (routed : ℕ) (x : OutputNumbers) (lane : LaneState Offer) : Type 0 where
   pub batch : lane.batch ≡ size.0
   pub limit : lane.limit ≡ size.1
   pub some : 1 ≤ lane.batch
   pub fits : lane.batch ≤ lane.limit
   pub waits : length lane.waiting ≤ lane.limit
+  pub flies : length (flying lane) ≤ lane.batch
   pub buffered : x.buffered ≡ length (flying lane) + length lane.waiting
   pub all : sum_of_fates x ≡ routed
   pub pushed : lane.pushed ≤ routed
 
+-- each output of the set-up, which are few, has a lane and numbers, and they agree
+pub record OutputsAgree (sizes : List (ℕ × ℕ)) (routed : ℕ) (numbers : List OutputNumbers)
+    (lanes : List (LaneState Offer)) : Type 0 where
+  pub lane_count : length lanes ≡ length sizes
+  pub number_count : length numbers ≡ length sizes
+  pub few : length sizes ≤ 16
+  pub each : (output : ℕ) → output < length sizes →
+      IsOutput (slice_index_or sizes output (0, 0)) routed (slice_index_or numbers output unreached_output)
+      (lane_at lanes output)
+
+-- each input of the set-up has numbers, and may end
+pub record InputsAgree (inputs : List (Option ℕ)) (numbers : List InputNumbers) (ended : List Bool)
+    : Type 0 where
+  pub number_count : length numbers ≡ length inputs
+  pub ended_count : length ended ≡ length inputs
+
+-- each item was gathered or made; there are fewer than 2^63, and fewer than 2^32 that were gathered; those that
+-- were taken were removed or routed, but for the one in hand
+pub record ItemsAgree (raw taken held gathered made removed routed : ℕ) : Type 0 where
+  pub come : taken + raw ≡ gathered + made
+  pub few : taken + raw < 2 ^ 63
+  pub few_gathered : gathered < 2 ^ 32
+  pub gone : removed + routed + held ≡ taken
+
+-- no input is tracked
+pub record IsUntracked (setup : Setup) : Type 0 where
+  pub none : All (λ x. x ≡ None) setup.inputs
+
+-- there are no aggregators
+pub record HasNoAggs (setup : Setup) : Type 0 where
+  pub none : setup.aggs ≡ []
+
 -- what a core keeps agrees
 pub record IsCore (state : CoreState) : Type 0 where
-  pub lanes : length state.lanes ≡ length state.setup.outputs
-  pub inputs : length state.numbers.inputs ≡ length state.setup.inputs
-  pub outputs : length state.numbers.outputs ≡ length state.setup.outputs
-  pub ended : length state.ended ≡ length state.setup.inputs
-  pub few : length state.setup.outputs ≤ 16
-  pub untracked : All (λ x. x ≡ None) state.setup.inputs
-  pub counted : state.taken + length state.raw ≡ state.gathered
-  pub below : state.gathered < 2 ^ 32
-  pub routed : state.numbers.removed + state.numbers.routed + held_count state.held ≡ state.taken
-  pub each : (output : ℕ) → output < length state.setup.outputs →
-      IsOutput (sizes_at state.setup output) state.numbers.routed
-      (output_numbers state.numbers output) (lane_at state.lanes output)
+  pub outputs :
+      OutputsAgree state.setup.outputs state.numbers.routed state.numbers.outputs state.lanes
+  pub inputs : InputsAgree state.setup.inputs state.numbers.inputs state.ended
+  pub items :
+      ItemsAgree (length state.raw) state.taken (held_count state.held) state.gathered state.numbers.made
+      state.numbers.removed state.numbers.routed
+  pub untracked : IsUntracked state.setup
+  pub no_aggs : HasNoAggs state.setup

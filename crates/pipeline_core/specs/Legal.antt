@@ -1,20 +1,22 @@
 -- What a journal may say, entry by entry.
 use Rattle.std.specs.Prelude.{◌≡◌, ◌<◌, ◌≤◌, ◌⊎◌, ℕ, ℤ, ◌≤ℤ◌, ◌+◌, ◌^◌, ◌==◌, ◌||◌, Bool, true, false, List}
-use Rattle.std.specs.Prelude.{[], ◌∷◌, ◌++◌, length, slice_get}
+use Rattle.std.specs.Prelude.{[], ◌∷◌, ◌++◌, length, slice_get, IfSome}
+use Rattle.std.specs.List.{AllByRecursion}
 use Rattle.std.specs.declared.option.Option.{Option}
 use Rattle.std.specs.declared.option.Option.TheVariants.{Some, None}
 use Rattle.metric.specs.declared.metric.Content.{Content}
 use Rattle.account.specs.Setup.{Setup}
 use Rattle.account.specs.Items.{items, taken, raw_items, in_hand}
+use Rattle.account.specs.Origins.{is_made}
+use Rattle.account.specs.Says.{GatherSays, gather_of, metrics_said, reports_of}
 use Rattle.account.specs.Views.{HasViews}
 use Rattle.account.specs.declared.entry.Entry.{Entry}
-use Rattle.account.specs.declared.entry.Entry.TheVariants.{Gather, Ended, Take, Route, Tick, Stop, Begin}
-use Rattle.account.specs.declared.entry.Entry.TheVariants.{Done}
-use Rattle.account.specs.declared.entry.Report.{Report}
+use Rattle.account.specs.declared.entry.Entry.TheVariants.{Ended, Take, Route, Tick, Stop, Begin, Done}
 use Rattle.account.specs.declared.entry.Verdict.{Verdict}
-use Rattle.account.specs.declared.entry.Verdict.TheVariants as verdicts
 use Rattle.out_lane.specs.LaneEvents.{ranges_of, IsNextRange, IsOpen}
 use Rattle.pipeline_core.specs.Offers.{lane_events}
+use Rattle.pipeline_core.specs.Groups.{live_count, next_group, reports_at}
+use Rattle.pipeline_core.specs.Windows.{judged, made_by_tick, made_by_stop}
 
 -- whether an entry is a Stop, or the Ended of an input
 abbrev pub is_stop : Entry → Bool
@@ -35,8 +37,7 @@ has_ended input (e ∷ es) = is_ended_of input e || has_ended input es
 
 -- how many metrics an entry gathers
 abbrev pub gathered_by : Entry → ℕ
-gathered_by (Gather input moment pieces refused passed filtered metrics group reports) = length metrics
-gathered_by _ = 0
+gathered_by e = length (metrics_said (gather_of e))
 
 unfoldable pub gathered_count : List Entry → ℕ
 gathered_count [] = 0
@@ -52,22 +53,23 @@ unfoldable pub counted_from : ℤ → List Entry → ℤ
 counted_from counted [] = counted
 counted_from counted (e ∷ es) = counted_from (moment_after counted e) es
 
--- the verdict on an item where there are no aggregators
-abbrev pub verdict_of : Option Content → Verdict
-verdict_of None = verdicts.Removed
-verdict_of (Some whole) = verdicts.Passes
-
--- the next pieces of an input that isn't tracked: it hasn't ended, and nothing is stopped; all gathered
--- metrics are fewer than 2^32, and no item is raw or the raw ones with these are at most 10,000
-pub record MeetsGather (setup : Setup) (before : List Entry) (input : ℕ) (metrics : List Content)
-    (group : Option ℕ) (reports : List Report) : Type 0 where
-  pub untracked : slice_get setup.inputs input ≡ Some None
+-- the next pieces of an input: it hasn't ended, and nothing is stopped; all gathered metrics are fewer than
+-- 2^32, and no item is raw or the raw ones with these are at most 10,000; a tracked input has fewer live groups
+-- than it may have, and the pieces are its next group
+pub record MeetsGather (setup : Setup) (before : List Entry) (says : GatherSays) : Type 0 where
+  pub most : Option ℕ
+  pub known : slice_get setup.inputs says.input ≡ Some most
   pub going : has_stop before ≡ false
-  pub reading : has_ended input before ≡ false
-  pub fits : gathered_count before + length metrics < 2 ^ 32
-  pub room : (raw_items before ≡ []) ⊎ (length (raw_items before) + length metrics ≤ 10000)
-  pub no_group : group ≡ None
-  pub no_reports : reports ≡ []
+  pub reading : has_ended says.input before ≡ false
+  pub fits : gathered_count before + length says.metrics < 2 ^ 32
+  pub room : (raw_items before ≡ []) ⊎ (length (raw_items before) + length says.metrics ≤ 10000)
+  pub few : IfSome most (λ m. live_count setup before says.input < m)
+  pub group : says.group ≡ next_group most before
+
+-- so it is where an entry is a Gather
+abbrev pub MeetsGathered : Setup → List Entry → Option GatherSays → Type 0
+MeetsGathered setup before None = ⊥
+MeetsGathered setup before (Some says) = MeetsGather setup before says
 
 pub record MeetsEnded (setup : Setup) (before : List Entry) (input : ℕ) : Type 0 where
   pub known : input < length setup.inputs
@@ -80,21 +82,23 @@ pub record MeetsTake (before : List Entry) (item : ℕ) : Type 0 where
   pub first : item ≡ taken before
   pub raw : item < length (items before)
 
--- the item in hand, with one view per output and, as there are none, no view of an aggregator
+-- the item in hand, with one view per aggregator and one per output; an item that was made has none at the
+-- aggregators; the verdict is that of the windows
 pub record MeetsRoute (setup : Setup) (before : List Entry) (item : ℕ) (whole : Option Content)
-    (verdict : Verdict) (aggs outs : List (Option Content)) (reports : List Report) : Type 0 where
+    (verdict : Verdict) (aggs outs : List (Option Content)) : Type 0 where
   pub held : in_hand before ≡ Some item
-  pub judged : verdict ≡ verdict_of whole
-  pub aggregators : aggs ≡ []
+  pub aggregators : length aggs ≡ length setup.aggs
   pub outputs : length outs ≡ length setup.outputs
-  pub views : HasViews whole outs
-  pub no_reports : reports ≡ []
+  pub views : HasViews whole (aggs ++ outs)
+  pub made : is_made before item ≡ true → AllByRecursion (λ (view : Option Content). view ≡ None) aggs
+  pub verdict_is : verdict ≡ judged setup before whole aggs
 
--- nothing is stopped, and time doesn't go back; without aggregators nothing is made
-pub record MeetsMoment (setup : Setup) (before : List Entry) (moment : ℤ) (made : List Content) : Type 0 where
+-- nothing is stopped, and time doesn't go back; the windows make these metrics
+pub record MeetsMoment (setup : Setup) (before : List Entry) (moment : ℤ) (made all : List Content)
+    : Type 0 where
   pub going : has_stop before ≡ false
   pub later : counted_from setup.start before ≤ℤ moment
-  pub nothing_made : made ≡ []
+  pub all_made : made ≡ all
 
 -- the next range of an output
 pub record MeetsBegin (setup : Setup) (before : List Entry) (output from to : ℕ) : Type 0 where
@@ -104,23 +108,28 @@ pub record MeetsBegin (setup : Setup) (before : List Entry) (output from to : �
   pub next : IsNextRange batch limit (ranges_of (lane_events output before)) from to
 
 -- a range of the output is open
-pub record MeetsDone (setup : Setup) (before : List Entry) (output : ℕ) (reports : List Report) : Type 0 where
+pub record MeetsDone (setup : Setup) (before : List Entry) (output : ℕ) : Type 0 where
   pub known : output < length setup.outputs
   pub begun : IsOpen (ranges_of (lane_events output before)).begun
-  pub no_reports : reports ≡ []
 
--- the entry may come after those before it
-abbrev pub Meets : Setup → List Entry → Entry → Type 0
-Meets setup before (Gather input moment pieces refused passed filtered metrics group reports) =
-    MeetsGather setup before input metrics group reports
-Meets setup before (Ended input) = MeetsEnded setup before input
-Meets setup before (Take item) = MeetsTake before item
-Meets setup before (Route item whole verdict aggs outs reports) =
-    MeetsRoute setup before item whole verdict aggs outs reports
-Meets setup before (Tick moment made) = MeetsMoment setup before moment made
-Meets setup before (Stop moment made) = MeetsMoment setup before moment made
-Meets setup before (Begin output from to) = MeetsBegin setup before output from to
-Meets setup before (Done output ok reports) = MeetsDone setup before output reports
+-- what an entry says may be said after those before it, but for its reports
+abbrev pub MeetsLine : Setup → List Entry → Entry → Type 0
+MeetsLine setup before (Ended input) = MeetsEnded setup before input
+MeetsLine setup before (Take item) = MeetsTake before item
+MeetsLine setup before (Route item whole verdict aggs outs reports) =
+    MeetsRoute setup before item whole verdict aggs outs
+MeetsLine setup before (Tick moment made) =
+    MeetsMoment setup before moment made (made_by_tick setup before moment)
+MeetsLine setup before (Stop moment made) =
+    MeetsMoment setup before moment made (made_by_stop setup before moment)
+MeetsLine setup before (Begin output from to) = MeetsBegin setup before output from to
+MeetsLine setup before (Done output ok reports) = MeetsDone setup before output
+MeetsLine setup before e = MeetsGathered setup before (gather_of e)
+
+-- the entry may come after those before it: its reports are the groups that settle at it
+pub record Meets (setup : Setup) (before : List Entry) (e : Entry) : Type 0 where
+  pub line : MeetsLine setup before e
+  pub reports : reports_of e ≡ reports_at setup before e
 
 -- each entry may come after those before it
 unfoldable pub AreLegal : Setup → List Entry → List Entry → Type 0

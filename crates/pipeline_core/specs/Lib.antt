@@ -1,10 +1,14 @@
 pub mod Offers
 pub mod Fates
+pub mod Groups
+pub mod Windows
 pub mod Legal
 pub mod Totals
 pub mod CoreState
 pub mod CoreView
 pub mod OutputView
 pub mod Steps
+pub mod Shapes
 pub mod Stands
 pub mod Sums
+pub mod Laws

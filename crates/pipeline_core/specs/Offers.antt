@@ -1,16 +1,15 @@
 -- What a journal offers to an output, and what became of it.
-use Rattle.std.specs.Prelude.{ℕ, ◌==◌, List, [], ◌∷◌, ◌++◌, slice_get, if◌then◌else◌}
+use Rattle.std.specs.Prelude.{ℕ, ◌==◌, List, [], ◌∷◌, ◌++◌, map, slice_get, if◌then◌else◌}
 use Rattle.std.specs.declared.option.Option.{Option}
 use Rattle.std.specs.declared.option.Option.TheVariants.{Some, None}
-use Rattle.std.specs.Option.{option_to_list}
 use Rattle.metric.specs.declared.metric.Content.{Content}
 use Rattle.account.specs.declared.entry.Entry.{Entry}
-use Rattle.account.specs.declared.entry.Entry.TheVariants.{Gather, Ended, Take, Route, Tick, Stop, Begin}
-use Rattle.account.specs.declared.entry.Entry.TheVariants.{Done}
+use Rattle.account.specs.declared.entry.Entry.TheVariants.{Route, Begin, Done}
 use Rattle.account.specs.declared.entry.Verdict.{Verdict}
-use Rattle.account.specs.declared.entry.Verdict.TheVariants.{Passes, Consumed, Late, Removed}
-use Rattle.out_lane.specs.LaneEvents.{LaneEvent, LaneFate, fate_at}
+use Rattle.account.specs.declared.entry.Verdict.TheVariants.{Passes}
+use Rattle.out_lane.specs.LaneEvents.{LaneEvent}
 use Rattle.out_lane.specs.LaneEvents as lane
+use Rattle.pipeline_core.specs.declared.output.Offer.{Offer}
 
 -- the view at an output, where there is one
 abbrev pub view_among : Option (Option Content) → Option Content
@@ -20,45 +19,42 @@ view_among (Some view) = view
 abbrev pub view_at : ℕ → List (Option Content) → Option Content
 view_at output outs = view_among (slice_get outs output)
 
--- a metric that passes offers its view at an output, where it has one there
-abbrev pub offered : Verdict → Option Content → List Content
-offered Passes view = option_to_list view
-offered Consumed view = []
-offered Late view = []
-offered Removed view = []
+-- an item's view as an offer, where there is one
+abbrev pub offer_of : ℕ → Option Content → List Offer
+offer_of item None = []
+offer_of item (Some view) = record { item = item; view = view } ∷ []
 
--- the view that an entry offers to an output
-abbrev pub offered_by : ℕ → Entry → List Content
-offered_by output (Gather input moment pieces refused passed filtered metrics group reports) = []
-offered_by output (Ended input) = []
-offered_by output (Take item) = []
-offered_by output (Route item whole verdict aggs outs reports) = offered verdict (view_at output outs)
-offered_by output (Tick moment made) = []
-offered_by output (Stop moment made) = []
-offered_by output (Begin number from to) = []
-offered_by output (Done number ok reports) = []
+-- an item that passes offers its view at an output, where it has one there
+abbrev pub offered : ℕ → Verdict → Option Content → List Offer
+offered item Passes view = offer_of item view
+offered item _ view = []
 
--- the views that the entries offer to an output, in order; a place in this list is a position
-unfoldable pub offers : ℕ → List Entry → List Content
+-- what an entry offers to an output
+abbrev pub offered_by : ℕ → Entry → List Offer
+offered_by output (Route item whole verdict aggs outs reports) = offered item verdict (view_at output outs)
+offered_by output _ = []
+
+-- what the entries offer to an output, in order: each view with its item; a place in this list is a position
+unfoldable pub offers : ℕ → List Entry → List Offer
 offers output [] = []
 offers output (e ∷ es) = offered_by output e ++ offers output es
 
--- a view that is offered comes to the output
-abbrev pub pushes : List Content → List LaneEvent
+-- the views of offers
+abbrev pub views_of : List Offer → List Content
+views_of all = map (λ (offer : Offer). offer.view) all
+
+-- what is offered comes to the output
+abbrev pub pushes : List Offer → List LaneEvent
 pushes [] = []
-pushes (view ∷ views) = lane.Push ∷ pushes views
+pushes (offer ∷ others) = lane.Push ∷ pushes others
 
 -- what an entry does at an output
 abbrev pub lane_events_by : ℕ → Entry → List LaneEvent
-lane_events_by output (Gather input moment pieces refused passed filtered metrics group reports) = []
-lane_events_by output (Ended input) = []
-lane_events_by output (Take item) = []
 lane_events_by output (Route item whole verdict aggs outs reports) =
-    pushes (offered verdict (view_at output outs))
-lane_events_by output (Tick moment made) = []
-lane_events_by output (Stop moment made) = []
+    pushes (offered item verdict (view_at output outs))
 lane_events_by output (Begin number from to) = if number == output then lane.Begin from to ∷ [] else []
 lane_events_by output (Done number ok reports) = if number == output then lane.Done ok ∷ [] else []
+lane_events_by output _ = []
 
 -- what the entries do at an output
 unfoldable pub lane_events : ℕ → List Entry → List LaneEvent

@@ -1,11 +1,11 @@
 -- How an output is seen.
 use Rattle.std.specs.Prelude.{◌≡◌, ◌≤◌, [], IsSome, length, vec_capacity}
-use Rattle.metric.specs.declared.metric.Content.{Content}
 use Rattle.out_lane.specs.Lane.{LaneState}
+use Rattle.pipeline_core.specs.declared.output.Offer.{Offer}
 use Rattle.pipeline_core.specs.declared.output.Output.TheInside.{Inside}
 
 -- an output is seen as its lane
-abbrev pub output_state : Inside → LaneState Content
+abbrev pub output_state : Inside → LaneState Offer
 output_state o = o.lane
 
 -- no more wait than may, and what comes back of a batch in flight has room

@@ -14,8 +14,8 @@ use Rattle.account.specs.declared.entry.Entry.{Entry}
 use Rattle.account.specs.declared.entry.Entry.TheVariants as entries
 use Rattle.out_lane.specs.Lane.{LaneState}
 use Rattle.out_lane.specs.Lane as lane
-use Rattle.pipeline_core.specs.Offers.{view_at}
-use Rattle.pipeline_core.specs.Legal.{verdict_of}
+use Rattle.pipeline_core.specs.Offers.{view_at, views_of}
+use Rattle.pipeline_core.specs.Windows.{verdict_of}
 use Rattle.pipeline_core.specs.CoreState.{CoreState, lane_at}
 use Rattle.pipeline_core.specs.declared.gathering.Gathered.{Gathered}
 use Rattle.pipeline_core.specs.declared.gathering.GatherRefused.{GatherRefused}
@@ -23,10 +23,12 @@ use Rattle.pipeline_core.specs.declared.gathering.GatherRefused.TheVariants.{Out
 use Rattle.pipeline_core.specs.declared.gathering.GatherRefused.TheVariants.{HeldUndelivered, HeldRaw}
 use Rattle.pipeline_core.specs.declared.routing.Routed.{Routed}
 use Rattle.pipeline_core.specs.declared.batches.Batch.{Batch}
+use Rattle.pipeline_core.specs.declared.output.Offer.{Offer}
 
--- the entry of what was gathered
-abbrev pub gather_entry : Gathered → Entry
-gather_entry g = entries.Gather g.input g.moment g.pieces g.refused g.passed g.filtered g.metrics None []
+-- the entry of what was gathered: it has no group, and no group settles, since no input is tracked
+unfoldable pub gather_entry : CoreState → Gathered → Entry
+gather_entry state g =
+    entries.Gather g.input g.moment g.pieces g.refused g.passed g.filtered g.metrics None []
 
 -- the metrics become raw items
 abbrev pub after_gather : CoreState → Gathered → CoreState
@@ -36,13 +38,17 @@ after_gather state g = record state {
       with_input state.numbers g.input
       (gathered_more (input_numbers state.numbers g.input) g.pieces g.refused g.passed g.filtered
       (length g.metrics));
-  stored = state.stored ++ gather_entry g ∷ [];
+  stored = state.stored ++ gather_entry state g ∷ [];
   gathered = state.gathered + length g.metrics;
 }
 
 -- all gathered metrics with these are fewer than 2^32
 abbrev pub HasNumbers : CoreState → Gathered → Type 0
 HasNumbers state g = state.gathered + length g.metrics < 2 ^ 32
+
+-- there are fewer than 2^63 items with these
+abbrev pub HasItems : CoreState → Gathered → Type 0
+HasItems state g = state.taken + length state.raw + length g.metrics < 2 ^ 63
 
 -- no item is raw, or the raw ones with these are at most 10,000
 abbrev pub HasPlace : CoreState → Gathered → Type 0
@@ -73,54 +79,54 @@ after_take state = record state {
   stored = state.stored ++ entries.Take state.taken ∷ [];
 }
 
--- the entry of what was routed
-abbrev pub route_entry : Routed → Entry
-route_entry r = entries.Route r.item r.whole (verdict_of r.whole) r.aggs r.outs []
+-- the entry of what was routed: without aggregators it passes unless it was removed, and no group settles
+unfoldable pub route_entry : CoreState → Routed → Entry
+route_entry state r = entries.Route r.item r.whole (verdict_of r.whole) r.aggs r.outs []
 
--- an output's lane, once its view was offered
-abbrev pub lane_with : Option Content → LaneState Content → LaneState Content
-lane_with None x = x
-lane_with (Some view) x = lane.after_push x view
+-- an output's lane, once an item's view was offered
+abbrev pub lane_with : ℕ → Option Content → LaneState Offer → LaneState Offer
+lane_with item None x = x
+lane_with item (Some view) x = lane.after_push x (record { item = item; view = view })
 
 -- an output's numbers, once a view was buffered: where as many wait as may, the oldest is dropped
-abbrev pub buffered_more : LaneState Content → OutputNumbers → OutputNumbers
+abbrev pub buffered_more : LaneState Offer → OutputNumbers → OutputNumbers
 buffered_more at x =
     if length at.waiting == at.limit
     then dropped_more (record x { buffered = x.buffered + 1 }) 1
     else record x { buffered = x.buffered + 1 }
 
 -- an output's numbers, once its view was offered; without one the metric was filtered
-abbrev pub numbers_with : Option Content → LaneState Content → OutputNumbers → OutputNumbers
+abbrev pub numbers_with : Option Content → LaneState Offer → OutputNumbers → OutputNumbers
 numbers_with None at x = record x { filtered = x.filtered + 1 }
 numbers_with (Some view) at x = buffered_more at x
 
 -- few enough metrics came to an output that one more may
-pub record HasFew (x : OutputNumbers) (at : LaneState Content) : Type 0 where
-  pub filtered : x.filtered < 2 ^ 32
-  pub buffered : x.buffered < 2 ^ 32
-  pub dropped : x.dropped < 2 ^ 32
-  pub pushed : at.pushed < 2 ^ 32
+pub record HasFew (x : OutputNumbers) (at : LaneState Offer) : Type 0 where
+  pub filtered : x.filtered < 2 ^ 63
+  pub buffered : x.buffered < 2 ^ 63
+  pub dropped : x.dropped < 2 ^ 63
+  pub pushed : at.pushed < 2 ^ 63
 
--- each output's lane, once its view was offered
-abbrev pub lanes_with : List (Option Content) → List (LaneState Content) → List (LaneState Content)
-lanes_with outs lanes =
-    map (λ (x : ℕ × LaneState Content). lane_with (view_at x.0 outs) x.1) (enumerate_from 0 lanes)
+-- each output's lane, once the item's view there was offered
+abbrev pub lanes_with : ℕ → List (Option Content) → List (LaneState Offer) → List (LaneState Offer)
+lanes_with item outs lanes =
+    map (λ (x : ℕ × LaneState Offer). lane_with item (view_at x.0 outs) x.1) (enumerate_from 0 lanes)
 
 -- each output's numbers, once its view was offered
-abbrev pub outputs_with : List (Option Content) → List (LaneState Content) → List OutputNumbers →
+abbrev pub outputs_with : List (Option Content) → List (LaneState Offer) → List OutputNumbers →
     List OutputNumbers
 outputs_with outs lanes all =
     map (λ (x : ℕ × OutputNumbers). numbers_with (view_at x.0 outs) (lane_at lanes x.0) x.1)
     (enumerate_from 0 all)
 
 -- the lanes, once an item was routed; a removed one is offered to none
-abbrev pub lanes_routed : Option Content → List (Option Content) → List (LaneState Content) →
-    List (LaneState Content)
-lanes_routed None outs lanes = lanes
-lanes_routed (Some whole) outs lanes = lanes_with outs lanes
+abbrev pub lanes_routed : ℕ → Option Content → List (Option Content) → List (LaneState Offer) →
+    List (LaneState Offer)
+lanes_routed item None outs lanes = lanes
+lanes_routed item (Some whole) outs lanes = lanes_with item outs lanes
 
 -- the numbers, once an item was routed
-abbrev pub numbers_routed : Option Content → List (Option Content) → List (LaneState Content) → Numbers →
+abbrev pub numbers_routed : Option Content → List (Option Content) → List (LaneState Offer) → Numbers →
     Numbers
 numbers_routed None outs lanes numbers = record numbers { removed = numbers.removed + 1 }
 numbers_routed (Some whole) outs lanes numbers =
@@ -130,16 +136,28 @@ numbers_routed (Some whole) outs lanes numbers =
 abbrev pub after_route : CoreState → Routed → CoreState
 after_route state r = record state {
   held = None;
-  lanes = lanes_routed r.whole r.outs state.lanes;
+  lanes = lanes_routed r.item r.whole r.outs state.lanes;
   numbers = numbers_routed r.whole r.outs state.lanes state.numbers;
-  stored = state.stored ++ route_entry r ∷ [];
+  stored = state.stored ++ route_entry state r ∷ [];
 }
 
--- the moment that counts is the greater one, and nothing is gathered any more
+-- the moment that counts is the greater one
+abbrev pub moment_at : CoreState → ℤ → ℤ
+moment_at state moment = int_max moment state.counted
+
+-- the entry of a tick at a moment: without aggregators nothing is made
+unfoldable pub tick_entry : CoreState → ℤ → Entry
+tick_entry state moment = entries.Tick (moment_at state moment) []
+
+-- the entry of the stop at a moment: without aggregators nothing is made
+unfoldable pub stop_entry : CoreState → ℤ → Entry
+stop_entry state moment = entries.Stop (moment_at state moment) []
+
+-- nothing is gathered any more
 abbrev pub after_stop : CoreState → ℤ → CoreState
 after_stop state moment = record state {
-  stored = state.stored ++ entries.Stop (int_max moment state.counted) [] ∷ [];
-  counted = int_max moment state.counted;
+  stored = state.stored ++ stop_entry state moment ∷ [];
+  counted = moment_at state moment;
   stopped = true;
 }
 
@@ -151,18 +169,18 @@ after_begin state output from to = record state {
 }
 
 -- an output's lane, once its batch was accepted, or failed
-abbrev pub lane_done : Bool → LaneState Content → LaneState Content
+abbrev pub lane_done : Bool → LaneState Offer → LaneState Offer
 lane_done true x = lane.after_accept x
 lane_done false x = lane.after_fail x
 
 -- the oldest waiting metrics, as many as a batch has at most, with their positions
-pub record IsBatchOf (x : LaneState Content) (batch : Batch) : Type 0 where
+pub record IsBatchOf (x : LaneState Offer) (batch : Batch) : Type 0 where
   pub from : batch.from ≡ lane.waiting_from x
   pub to : batch.to ≡ lane.waiting_from x + min x.batch (length x.waiting)
-  pub metrics : batch.metrics ≡ take x.batch x.waiting
+  pub metrics : batch.metrics ≡ views_of (take x.batch x.waiting)
 
 -- how many metrics leave an output as its batch is accepted, or fails
-abbrev pub count_done : Bool → LaneState Content → ℕ
+abbrev pub count_done : Bool → LaneState Offer → ℕ
 count_done true x = length (lane.flying x)
 count_done false x = length (lane.failed_out x)
 
@@ -170,6 +188,10 @@ count_done false x = length (lane.failed_out x)
 abbrev pub counted_done : Bool → ℕ → OutputNumbers → OutputNumbers
 counted_done true n x = written_more x n
 counted_done false n x = dropped_more x n
+
+-- the entry of a batch that was accepted, or failed: no group settles, since no input is tracked
+unfoldable pub done_entry : CoreState → ℕ → Bool → Entry
+done_entry state output ok = entries.Done output ok []
 
 -- no batch of the output is in flight: its metrics are written, or wait again, and of these the oldest are
 -- dropped where there are too many
@@ -179,7 +201,7 @@ after_done state output ok = record state {
   numbers =
       with_output state.numbers output
       (counted_done ok (count_done ok (lane_at state.lanes output)) (output_numbers state.numbers output));
-  stored = state.stored ++ entries.Done output ok [] ∷ [];
+  stored = state.stored ++ done_entry state output ok ∷ [];
 }
 
 -- no entry is stored

@@ -1,31 +1,64 @@
 -- The numbers of a journal.
-use Rattle.std.specs.Prelude.{ℕ, ◌+◌, ◌==◌, Bool, true, false, is_some, List, [], ◌∷◌, length, map, count_by}
+use Rattle.std.specs.Prelude.{ℕ, ◌+◌, ◌-◌, ◌==◌, Bool, true, false, is_some, List, [], ◌∷◌, length, map, count_by}
 use Rattle.std.specs.Prelude.{if◌then◌else◌}
 use Rattle.std.specs.List.{enumerate_from}
 use Rattle.std.specs.declared.option.Option.{Option}
+use Rattle.std.specs.declared.option.Option.TheVariants.{Some, None}
 use Rattle.account.specs.Setup.{Setup}
 use Rattle.account.specs.Numbers.{Numbers, gathered_more, unread_input}
 use Rattle.account.specs.declared.numbers.InputNumbers.{InputNumbers}
 use Rattle.account.specs.declared.numbers.OutputNumbers.{OutputNumbers}
 use Rattle.account.specs.declared.entry.Entry.{Entry}
-use Rattle.account.specs.declared.entry.Entry.TheVariants.{Gather, Ended, Route, Tick, Stop}
+use Rattle.account.specs.declared.entry.Entry.TheVariants.{Ended, Route, Tick, Stop}
+use Rattle.account.specs.declared.entry.Report.{Report}
+use Rattle.account.specs.Says.{GatherSays, gather_of, reports_of}
 use Rattle.account.specs.declared.entry.Verdict.{Verdict}
 use Rattle.account.specs.declared.entry.Verdict.TheVariants as verdicts
-use Rattle.pipeline_core.specs.Fates.{Fate, fates}
-use Rattle.pipeline_core.specs.Fates as fate
+use Rattle.pipeline_core.specs.Fates.{Fate, fates, is_filtered, is_late, is_consumed, is_written}
+use Rattle.pipeline_core.specs.Fates.{is_buffered, is_dropped}
 
--- an input's numbers with those of an entry: a Gather of the input adds what it says, and its Ended is marked
+-- an input's numbers with those of a Gather: where it is the input's, what it says is added, and its group is
+-- not delivered yet
+abbrev pub group_count : Option ℕ → ℕ
+group_count None = 0
+group_count (Some group) = 1
+
+abbrev pub gathers_too : InputNumbers → GatherSays → InputNumbers
+gathers_too x says =
+    let more : InputNumbers =
+    gathered_more x says.pieces says.refused says.passed says.filtered (length says.metrics) in
+    record more { undelivered = more.undelivered + group_count says.group }
+
+abbrev pub gathered_with : ℕ → InputNumbers → Option GatherSays → InputNumbers
+gathered_with input x None = x
+gathered_with input x (Some says) = if says.input == input then gathers_too x says else x
+
+-- the same with those of any entry: the Ended of the input is marked
+abbrev pub said_with : ℕ → InputNumbers → Entry → InputNumbers
+said_with input x (Ended number) = if number == input then record x { has_ended = true } else x
+said_with input x e = gathered_with input x (gather_of e)
+
+-- one group of an input settled: it is delivered or rejected
+abbrev pub settled_with : InputNumbers → Bool → InputNumbers
+settled_with x true = record x { delivered = x.delivered + 1; undelivered = x.undelivered - 1 }
+settled_with x false = record x { rejected = x.rejected + 1; undelivered = x.undelivered - 1 }
+
+-- an input's numbers with the reports of its groups
+unfoldable pub reported_with : ℕ → InputNumbers → List Report → InputNumbers
+reported_with input x [] = x
+reported_with input x (report ∷ reports) =
+    reported_with input (if report.input == input then settled_with x report.delivered else x) reports
+
+-- an input's numbers with those of an entry: what it says, and then its reports
 abbrev pub input_with : ℕ → InputNumbers → Entry → InputNumbers
-input_with input x (Gather number moment pieces refused passed filtered metrics group reports) =
-    if number == input then gathered_more x pieces refused passed filtered (length metrics) else x
-input_with input x (Ended number) = if number == input then record x { has_ended = true } else x
-input_with input x _ = x
+input_with input x e = reported_with input (said_with input x e) (reports_of e)
 
 unfoldable pub input_total_from : ℕ → InputNumbers → List Entry → InputNumbers
 input_total_from input x [] = x
 input_total_from input x (e ∷ es) = input_total_from input (input_with input x e) es
 
--- the sums over an input's Gathers, and whether it has ended
+-- the sums over an input's Gathers, whether it has ended, and how many of its groups were delivered, were
+-- rejected, and haven't settled
 abbrev pub input_total : ℕ → Bool → List Entry → InputNumbers
 input_total input tracked journal = input_total_from input (unread_input tracked) journal
 
@@ -51,31 +84,6 @@ routed_by _ = 0
 unfoldable pub total_by : (Entry → ℕ) → List Entry → ℕ
 total_by count [] = 0
 total_by count (e ∷ es) = count e + total_by count es
-
--- whether a fate is this one
-abbrev pub is_filtered : Fate → Bool
-is_filtered fate.Filtered = true
-is_filtered _ = false
-
-abbrev pub is_late : Fate → Bool
-is_late fate.Late = true
-is_late _ = false
-
-abbrev pub is_consumed : Fate → Bool
-is_consumed fate.Consumed = true
-is_consumed _ = false
-
-abbrev pub is_written : Fate → Bool
-is_written fate.Written = true
-is_written _ = false
-
-abbrev pub is_buffered : Fate → Bool
-is_buffered fate.Buffered = true
-is_buffered _ = false
-
-abbrev pub is_dropped : Fate → Bool
-is_dropped fate.Dropped = true
-is_dropped _ = false
 
 -- how many of the fates are each
 abbrev pub output_numbers_of : List Fate → OutputNumbers

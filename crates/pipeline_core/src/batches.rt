@@ -4,7 +4,7 @@ ghost use Rattle.account.specs.Numbers.{with_output, output_numbers, IsOutputBel
 ghost use Rattle.pipeline_core.specs.CoreState.{lane_at};
 ghost use Rattle.account.specs.declared.entry.Entry.TheVariants as entries;
 ghost use Rattle.pipeline_core.specs.Stands.{Continues};
-ghost use Rattle.pipeline_core.specs.Steps.{after_begin, after_done, IsBatchOf, counted_done};
+ghost use Rattle.pipeline_core.specs.Steps.{after_begin, after_done, done_entry, IsBatchOf, counted_done};
 
 use crate::room::make_room;
 use crate::state::Core;
@@ -70,11 +70,12 @@ impl Core {
     }
 
     /// Ends an output's batch in flight: accepted, or failed. Takes no memory.
+    #[tactic(auto, unfolding(crate::specs::Steps::done_entry))]
     pub fn done(&mut self, output: u32, ok: bool)
         requires known { output < length self.old.setup.outputs }
         requires begun { IsSome (lane_at self.old.lanes output).flight }
         ensures after { self.new ≡ after_done self.old output ok }
-        ensures stands { Continues self.old self.new (entries.Done output ok []) }
+        ensures stands { Continues self.old self.new (done_entry self.old output ok) }
     {
         let chosen = &mut self.outputs[output as usize];
         let count = chosen.done(ok);
@@ -91,7 +92,7 @@ impl Core {
 fn count_done(account: &mut Account, output: u32, ok: bool, count: u32)
     requires known { output < length account.old.outputs }
     requires held { count ≤ (output_numbers account.old output).buffered }
-    requires few { IsOutputBelow (2 ^ 32) (output_numbers account.old output) }
+    requires few { IsOutputBelow (2 ^ 63) (output_numbers account.old output) }
     ensures { account.new ≡ with_output account.old output
         (counted_done ok count (output_numbers account.old output)) }
 {

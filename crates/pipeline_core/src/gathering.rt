@@ -90,14 +90,18 @@ const MOST_RAW: usize = 10_000;
 // A run gathers fewer metrics than this, 2^32, so that their number fits in a `u32`.
 const GATHERED_LIMIT: usize = 1 << 32;
 
+// A run has fewer items than this, 2^63.
+const ITEM_LIMIT: u64 = 1 << 63;
+
 impl Core {
     /// Counts what was read of an input; its metrics become items. A refusal leaves all as it was.
+    #[tactic(auto, unfolding(crate::specs::Steps::gather_entry))]
     pub fn gather(&mut self, g: Gathered) -> Result<(), GatherRefused>
         requires reading { slice_get self.old.ended g.input ≡ Some false }
         requires going { self.old.stopped ≡ false }
         ensures answer { IsGatherAnswer self.old g result }
         ensures ok { OnOk result (self.new ≡ after_gather self.old g) }
-        ensures stands { OnOk result (Continues self.old self.new (gather_entry g)) }
+        ensures stands { OnOk result (Continues self.old self.new (gather_entry self.old g)) }
         ensures err { OnErr result (self.new ≡ self.old) }
     {
         let count = g.metrics.as_slice().len();
@@ -106,6 +110,9 @@ impl Core {
         }
         if !has_place(self.raw.len(), count) {
             return Err(GatherRefused::HeldRaw(g));
+        }
+        if !has_numbers(self.taken, self.raw.len(), count) {
+            return Err(GatherRefused::OutOfMemory);
         }
         if !self.account.has_room() {
             return Err(GatherRefused::OutOfMemory);
@@ -181,6 +188,15 @@ impl Core {
             metric,
         })
     }
+}
+
+// Whether there are fewer than 2^63 items with so many more, where so many were taken and are raw.
+fn has_numbers(taken: u64, raw: usize, count: usize) -> bool
+    ensures { IsTrue result ↔ (taken + raw + count < 2 ^ 63) }
+{
+    taken < ITEM_LIMIT
+        && (raw as u64) < ITEM_LIMIT - taken
+        && (count as u64) < ITEM_LIMIT - taken - raw as u64
 }
 
 // Whether so many metrics may come where so many items are raw.

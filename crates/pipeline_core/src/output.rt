@@ -5,26 +5,35 @@ ghost use Rattle.out_lane.specs.Lane.{empty_lane, after_push, after_begin, flyin
 ghost use Rattle.pipeline_core.specs.Steps.{IsBatchOf, lane_done, count_done};
 
 use crate::batches::{Batch, BeginAnswer};
-use crate::room::copies_of;
+use crate::room::views_of;
 use fixed_num::{OutOfMemory, Seq};
 use metric::Metric;
 use out_lane::Lane;
 use std::alloc::Global;
 use std::marker::Model;
 
+/// What an item offers to an output.
+#[derive(Drop)]
+pub struct Offer {
+    /// The item: items are counted from 0.
+    pub item: u64,
+    /// Its view at the output.
+    pub view: Metric,
+}
+
 /// What waits at an output, its batch in flight, and the room for what comes back of that batch.
 #[derive(Drop)]
 pub(crate) struct Output {
-    lane: Lane<Metric>,
+    lane: Lane<Offer>,
     batch: u32,
-    back: Vec<Metric>,
+    back: Vec<Offer>,
 }
 
 impl Model for Output {
-    ghost use Rattle.metric.specs.declared.metric.Content.{Content};
     ghost use Rattle.out_lane.specs.Lane.{LaneState};
+    ghost use Rattle.pipeline_core.specs.declared.output.Offer.{Offer};
 
-    ghost Value = { LaneState Content };
+    ghost Value = { LaneState Offer };
 
     ghost use Rattle.pipeline_core.specs.OutputView.{output_state, IsOutputKept};
 
@@ -47,13 +56,13 @@ impl Output {
         })
     }
 
-    /// Lets a view wait, and tells whether the oldest one that waited was dropped for it.
-    pub(crate) fn push(&mut self, view: Metric) -> bool
+    /// Lets an offer wait, and tells whether the oldest one that waited was dropped for it.
+    pub(crate) fn push(&mut self, offer: Offer) -> bool
         requires { self.old.pushed < 2 ^ 63 }
-        ensures lane { self.new ≡ after_push self.old view }
+        ensures lane { self.new ≡ after_push self.old offer }
         ensures dropped { result ≡ (length self.old.waiting == self.old.limit) }
     {
-        self.lane.push(view).is_some()
+        self.lane.push(offer).is_some()
     }
 
     /// Whether a batch is in flight.
@@ -65,7 +74,7 @@ impl Output {
 
     /// How many views wait or are in flight.
     pub(crate) fn buffered(&self) -> u64
-        requires few { length (flying self.now) + length self.now.waiting < 2 ^ 32 }
+        requires flies { length (flying self.now) ≤ self.now.batch }
         ensures { result ≡ length (flying self.now) + length self.now.waiting }
     {
         self.lane.flight().len() as u64 + u64::from(self.lane.waiting())
@@ -100,7 +109,7 @@ impl Output {
         let Ok((from, to)) = self.lane.begin() else {
             unreachable!();
         };
-        let Ok(metrics) = copies_of(alloc, self.lane.flight()) else {
+        let Ok(metrics) = views_of(alloc, self.lane.flight()) else {
             self.lane.fail(&mut back);
             return Err(OutOfMemory);
         };
@@ -115,7 +124,7 @@ impl Output {
     /// Ends the batch in flight, accepted or failed, and answers how many views leave by it.
     pub(crate) fn done(&mut self, ok: bool) -> u32
         requires begun { IsSome self.old.flight }
-        requires few { length (flying self.old) + length self.old.waiting < 2 ^ 32 }
+        requires flies { length (flying self.old) ≤ self.old.batch }
         ensures lane { self.new ≡ lane_done ok self.old }
         ensures count { result ≡ count_done ok self.old }
     {

@@ -1,6 +1,8 @@
 //! Room for entries and copies of metrics.
 ghost use Rattle.std.specs.Prelude.{◌≡◌, ◌+◌, ◌≤◌, length, vec_len, vec_capacity, IfOk, OnOk};
+ghost use Rattle.pipeline_core.specs.Offers.{views_of};
 
+use crate::output::Offer;
 use account::Entry;
 use fixed_num::OutOfMemory;
 use metric::Metric;
@@ -36,6 +38,17 @@ pub(crate) fn queue_of(alloc: Global, metrics: &[Metric]) -> Result<VecDeque<Met
 {
     let copies = copies_of(alloc, metrics)?;
     Ok(VecDeque::from_vec(copies))
+}
+
+/// Copies of the views of offers, in order.
+pub(crate) fn views_of(alloc: Global, offers: &[Offer]) -> Result<Vec<Metric>, OutOfMemory>
+    ensures { IfOk result (λ views. views.items ≡ views_of offers.now) }
+{
+    let mut views = Vec::with_capacity(alloc, offers.len())?;
+    for offer in offers {
+        views.push(offer.view.copy()?)?;
+    }
+    Ok(views)
 }
 
 /// Copies of views, in order.

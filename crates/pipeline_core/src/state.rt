@@ -2,18 +2,16 @@
 ghost use Rattle.std.specs.Prelude.{◌≡◌, ◌≤◌, ◌<◌, ◌+◌, [], length, map, true, false, IfOk, OnOk, OnErr, ◌↔◌};
 ghost use Rattle.std.specs.Prelude.{List, IsTrue, IsSome, slice_get};
 ghost use Rattle.std.specs.List.{All};
-ghost use Rattle.pipeline_core.specs.CoreState.{first_state, lane_of, lane_at};
+ghost use Rattle.pipeline_core.specs.CoreState.{first_state, lane_of, lane_at, is_tracked};
 ghost use Rattle.account.specs.declared.entry.Entry.{Entry};
-ghost use Rattle.account.specs.declared.entry.Entry.TheVariants as entries;
-ghost use Rattle.std.specs.Int.{int_max};
 ghost use Rattle.pipeline_core.specs.Stands.{Stands, Continues};
 ghost use Rattle.pipeline_core.specs.Totals.{totals};
-ghost use Rattle.pipeline_core.specs.Steps.{after_stop, after_cut};
+ghost use Rattle.pipeline_core.specs.Steps.{after_stop, after_cut, stop_entry};
 ghost use Rattle.account.specs.Numbers.{output_numbers};
 
 use crate::output::Output;
 use crate::room::make_room;
-use crate::setup::{CoreSetup, OutSetup};
+use crate::setup::{CoreSetup, InSetup, OutSetup};
 use account::{Account, Entry};
 use fixed_num::{Moment, OutOfMemory, Seq};
 use metric::Metric;
@@ -73,8 +71,9 @@ impl Core {
     {
         let inputs = setup.inputs.as_slice().len();
         let ended = vec![in alloc; false; inputs]?;
+        let tracked = tracked_flags(alloc, setup.inputs.as_slice())?;
         let outputs = empty_outputs(alloc, setup.outputs.as_slice())?;
-        let account = Account::new(alloc, ended.as_slice(), outputs.len() as u32)?;
+        let account = Account::new(alloc, tracked.as_slice(), outputs.len() as u32)?;
         let counted = setup.start;
         Ok(Core {
             alloc,
@@ -94,11 +93,11 @@ impl Core {
 
     /// Stops the gathering. The moment that counts (nanoseconds since 1970) is the greater of this one
     /// and the last one counted. Without memory all stays as it was.
+    #[tactic(auto, unfolding(crate::specs::Steps::stop_entry))]
     pub fn stop(&mut self, moment: Moment) -> Result<(), OutOfMemory>
         requires { self.old.stopped ≡ false }
         ensures ok { OnOk result (self.new ≡ after_stop self.old moment) }
-        ensures stands { OnOk result
-            (Continues self.old self.new (entries.Stop (int_max moment self.old.counted) [])) }
+        ensures stands { OnOk result (Continues self.old self.new (stop_entry self.old moment)) }
         ensures err { OnErr result (self.new ≡ self.old) }
     {
         make_room(&mut self.stored, self.outputs.len())?;
@@ -152,9 +151,10 @@ impl Core {
         self.held
     }
 
-    /// How many outputs there are.
+    /// How many outputs there are. There are no aggregators yet.
     pub fn output_count(&self) -> usize
-        ensures { result ≡ length self.now.setup.outputs }
+        ensures outputs { result ≡ length self.now.setup.outputs }
+        ensures no_aggregators { self.now.setup.aggs ≡ [] }
     {
         self.outputs.len()
     }
@@ -186,6 +186,17 @@ impl Core {
     {
         &self.account
     }
+}
+
+// Whether each input is tracked, in order.
+fn tracked_flags(alloc: Global, inputs: &[InSetup]) -> Result<Vec<bool>, OutOfMemory>
+    ensures { IfOk result (λ flags. flags.items ≡ map is_tracked inputs.now) }
+{
+    let flags = inputs
+        .iter()
+        .map(|input| input.tracked)
+        .collect::<Vec<bool>>(alloc)?;
+    Ok(flags)
 }
 
 // Outputs of these sizes, in order, at which nothing waits.

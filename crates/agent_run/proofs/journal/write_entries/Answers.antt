@@ -2,9 +2,9 @@ use Rattle.agent_run.proofs.NotedLemmas.{spells_no_more, spells_more, spells_all
 use Rattle.agent_run.proofs.journal.write_entries.Goals as goal
 
 pub loop-entry-init : goal.loop-entry-init
-loop-entry-init c = spells_no_more c.args.entries.now c.args.unrouted.now.items c.args.text.now.items
+loop-entry-init c = spells_no_more c.args.entries.now c.args.unrouted_items.now.items c.args.text.now.items
 
 pub loop-entry-preserved : goal.loop-entry-preserved
 loop-entry-preserved c =
-    spells_more c.loop-entry.entry-index c.args.entries.now c.entry-item.result c.args.unrouted.now.items c.loop-entry.unrouted.items c.write_one.new.unrouted.items c.args.text.now.items c.loop-entry.text.items c.write_one.new.text.items
+    spells_more c.loop-entry.entry-index c.args.entries.now c.entry-item.result c.args.unrouted_items.now.items c.loop-entry.unrouted_items.items c.write_one.new.unrouted_items.items c.args.text.now.items c.loop-entry.text.items c.write_one.new.text.items
     c.loop-entry-test.true c.entry-item.is c.loop-entry.invariant c.in_ok-write_one.ensures

@@ -8,5 +8,5 @@ use Rattle.agent_run.proofs.journal.write_one.Goals as goal
 pub returns : goal.returns
 returns c =
     let item : List Content = option_to_list c.in_ok-item.item in
-    spells_entry c.args.entry.now item c.args.unrouted.now.items c.item_of.new.unrouted.items c.args.text.now.items c.write_entry.new.out.items c.in_ok-item.ensures.one c.in_ok-item.ensures.rest
+    spells_entry c.args.entry.now item c.args.unrouted_items.now.items c.item_of.new.unrouted_items.items c.args.text.now.items c.write_entry.new.out.items c.in_ok-item.ensures.one c.in_ok-item.ensures.rest
     (c.in_ok-write_entry.ensures.ok ∙ ap (λ (i : List Content). c.args.text.now.items ++ entry_text i c.args.entry.now) (slice_is c.in_ok-item.item c.as_slice.result.now c.as_slice.ensures))

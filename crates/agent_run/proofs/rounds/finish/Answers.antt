@@ -2,9 +2,8 @@ use Rattle.std.proofs.Common.{◌≡◌, ℤ, [], ◌∷◌, subst}
 use Rattle.std.proofs.lemmas.Int.{to_z-of_z}
 use mir.Syntax.{w64}
 use mir.Val.{of_z, to_z}
-use Rattle.account.specs.declared.entry.Entry.TheVariants.{Stop}
 use Rattle.pipeline_core.specs.Stands.{Continues}
-use Rattle.pipeline_core.specs.Steps.{after_stop}
+use Rattle.pipeline_core.specs.Steps.{after_stop, stop_entry}
 use Rattle.std.specs.Int.{int_max}
 use Rattle.agent_run.specs.Progress.{Surroundings}
 use Rattle.agent_run.proofs.ProgressLemmas.{went_stop}
@@ -20,7 +19,7 @@ returns-clause-goes g c = λ start now w.
     let stopped : Surroundings = record now { counted_at = int_max c.args.moment start.setup.start ∷ [] } in
     let same : to_z w64 (of_z w64 c.args.moment) ≡ c.args.moment = to_z-of_z w64 c.args.moment c.ranges.moment in
     let after_stopped = subst (λ (m : ℤ). c.stop.new.self ≡ after_stop c.args.run.now.core m) same c.in_ok-stop.ensures.ok in
-    let stands = subst (λ (m : ℤ). Continues c.args.run.now.core c.stop.new.self (Stop (int_max m c.args.run.now.core.counted) [])) same c.in_ok-stop.ensures.stands in
+    let stands = subst (λ (m : ℤ). Continues c.args.run.now.core c.stop.new.self (stop_entry c.args.run.now.core m)) same c.in_ok-stop.ensures.stands in
     let a = went_stop start c.args.run.now.core c.stop.new.self c.args.run.now.pieces c.args.run.now.failed before c.args.moment after_stopped stands w in
     let b = c.in_ok-route_all.ensures.goes start (record before { counted_at = int_max c.args.moment start.setup.start ∷ [] }) a in
     c.in_ok-send_rest.ensures.sends start stopped b

@@ -1,5 +1,5 @@
 use Rattle.std.specs.Prelude.{pos, false}
-use Rattle.journal_text.specs.declared.setup.AggWord.TheVariants.{MinMax}
+use Rattle.account.specs.declared.setup.AggWord.TheVariants.{MinMax}
 use Rattle.account.proofs.NumberedLemmas.{numbered_step, numbered-none}
 use Rattle.journal_text.specs.SetupText.{agg_line}
 use Rattle.text_parts.proofs.Adding.{extends_after, fails}

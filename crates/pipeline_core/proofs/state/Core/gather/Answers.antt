@@ -3,6 +3,7 @@ use Rattle.std.proofs.lemmas.Grind.{common_steps}
 use Rattle.metric.specs.declared.metric.Content.{Content}
 use Rattle.account.specs.Numbers.{with_input, input_numbers, gathered_more}
 use Rattle.pipeline_core.specs.CoreView.{core_state}
+use Rattle.pipeline_core.specs.Steps.{gather_entry}
 use Rattle.pipeline_core.specs.CoreState.{CoreState, IsCore}
 use Rattle.pipeline_core.proofs.StandsSteps.{gather_stands}
 use Rattle.pipeline_core.proofs.Keeping.{kept_gathered, flights-le}
@@ -14,6 +15,7 @@ invariant_of-self-2 c =
       core =
           kept_gathered (core_state c.self.inside) c.args.g c.append.new.self.items c.gathered.new.self _ _ c.self.invariant.core
           (omega (arith, ap length c.as_slice-count.ensures))
+          (grind (arith, common_steps))
           (c.in_ok-append.ensures.items ∙ ap (λ (xs : List Content). c.self.inside.raw.items ++ xs) (c.in_ok-copies.ensures ∙ c.as_slice.ensures))
           (c.gathered.ensures ∙ ap (λ (xs : List Content). with_input c.self.inside.account c.args.g.input (gathered_more (input_numbers c.self.inside.account c.args.g.input) c.args.g.pieces c.args.g.refused c.args.g.passed c.args.g.filtered (length xs))) c.as_slice-count.ensures)
           (ap (λ (xs : List Content). c.self.inside.gathered + length xs) c.as_slice-count.ensures);
@@ -21,6 +23,7 @@ invariant_of-self-2 c =
     }
 
 pub returns-clause-stands : goal.returns-clause-stands
+unfolding gather_entry
 returns-clause-stands c =
     gather_stands c.args.self.now _ c.args.g (search rules) (subst IsCore c.self.view_is c.self.invariant.core) c.requires.reading c.requires.going
     (omega (arith, ap (λ (s : CoreState). s.gathered) c.self.view_is, ap length c.as_slice-count.ensures)) (grind (arith, common_steps))

@@ -3,23 +3,24 @@ use Rattle.std.proofs.lemmas.Grind.{common_steps}
 use Rattle.std.proofs.lemmas.List.{length-map}
 use Rattle.account.specs.Numbers.{no_numbers}
 use Rattle.pipeline_core.specs.declared.setup.InSetup.{InSetup}
-use Rattle.pipeline_core.specs.CoreState.{lane_of}
+use Rattle.pipeline_core.specs.CoreState.{lane_of, is_tracked}
 use Rattle.pipeline_core.proofs.StandsCuts.{first_stands}
 use Rattle.pipeline_core.proofs.Keeping.{kept_first, spare_at_first}
 use Rattle.pipeline_core.proofs.state.Core.new.Goals as goal
 
 pub invariant_of-result : goal.invariant_of-result
 invariant_of-result c =
-    let lanes : c.in_ok-outputs.outputs.items ≡ map lane_of c.args.setup.outputs = c.in_ok-outputs.ensures ∙ ap (map lane_of) c.as_slice.ensures in
+    let lanes : c.in_ok-outputs.outputs.items ≡ map lane_of c.args.setup.outputs = c.in_ok-outputs.ensures ∙ ap (map lane_of) c.as_slice-2.ensures in
     let flags : c.in_ok-ended.ended.items ≡ replicate (length c.args.setup.inputs) false = c.in_ok-ended.ensures.items_if_clones_equal (λ y h. h) ∙ ap (λ (xs : List InSetup). replicate (length xs) false) c.as_slice-inputs.ensures in
+    let tracked : c.as_slice-3.result.now ≡ map is_tracked c.args.setup.inputs = c.as_slice-3.ensures.value ∙ c.in_ok-tracked.ensures ∙ ap (map is_tracked) c.as_slice.ensures in
     let count : c.len.result ≡ length c.args.setup.outputs = omega (arith, ap length lanes, length-map c.args.setup.outputs lane_of) in
     record {
       core =
           kept_first c.args.setup c.new-2.result.items c.in_ok-outputs.outputs.items c.in_ok-account.account _ _ c.in_ok-ended.ended.items c.requires.outputs c.requires.untracked c.requires.sizes c.new-2.ensures.items lanes
-          (c.in_ok-account.ensures ∙ ap (λ (xs : List Bool). no_numbers xs c.len.result) (c.as_slice-2.ensures.value ∙ flags) ∙ ap (no_numbers (replicate (length c.args.setup.inputs) false)) count) flags;
+          (c.in_ok-account.ensures ∙ ap (λ (xs : List Bool). no_numbers xs c.len.result) tracked ∙ ap (no_numbers (map is_tracked c.args.setup.inputs)) count) flags;
       spare = omega (arith, spare_at_first c.args.setup.outputs c.in_ok-outputs.outputs.items lanes, c.new-3.ensures.len);
     }
 
 pub returns-clause-stands : goal.returns-clause-stands
 returns-clause-stands c =
-    first_stands c.args.setup _ (grind (arith, common_steps)) c.requires.untracked c.requires.sizes
+    first_stands c.args.setup _ (grind (arith, common_steps)) c.requires.sizes

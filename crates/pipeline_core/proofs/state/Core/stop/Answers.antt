@@ -1,5 +1,7 @@
-use Rattle.std.proofs.Common.{rules, arith}
+use Rattle.std.proofs.Common.{rules, subst, arith}
+use Rattle.pipeline_core.specs.CoreState.{IsCore}
 use Rattle.pipeline_core.specs.CoreView.{core_state}
+use Rattle.pipeline_core.specs.Steps.{stop_entry}
 use Rattle.pipeline_core.proofs.StandsSteps.{stop_stands}
 use Rattle.pipeline_core.proofs.Keeping.{kept_entries, flights-le}
 use Rattle.pipeline_core.proofs.state.Core.stop.Goals as goal
@@ -12,4 +14,6 @@ invariant_of-self-2 c =
     }
 
 pub returns-clause-stands : goal.returns-clause-stands
-returns-clause-stands c = stop_stands c.args.self.now _ c.args.moment (search rules) c.requires
+unfolding stop_entry
+returns-clause-stands c =
+    stop_stands c.args.self.now _ c.args.moment (search rules) (subst IsCore c.self.view_is c.self.invariant.core) c.requires

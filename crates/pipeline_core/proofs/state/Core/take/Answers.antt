@@ -1,6 +1,6 @@
-use Rattle.std.proofs.Common.{◌≡◌, ◌<◌, length, None, ap, sym, ◌∙◌, rules, arith}
+use Rattle.std.proofs.Common.{◌≡◌, ◌<◌, length, None, ap, sym, ◌∙◌, subst, rules, arith}
 use Rattle.std.proofs.lemmas.Grind.{common_steps}
-use Rattle.pipeline_core.specs.CoreState.{CoreState}
+use Rattle.pipeline_core.specs.CoreState.{CoreState, IsCore}
 use Rattle.pipeline_core.proofs.StandsSteps.{take_stands}
 use Rattle.pipeline_core.specs.CoreView.{core_state}
 use Rattle.pipeline_core.proofs.Keeping.{kept_take, flights-le}
@@ -19,6 +19,6 @@ pub returns-clause-stands : goal.returns-clause-stands
 returns-clause-stands c =
     let empty : c.self.inside.held ≡ None = grind (arith, common_steps) in
     let some : 0 < length c.self.inside.raw.items = grind (arith, common_steps) in
-    take_stands c.args.self.now _ (search rules)
+    take_stands c.args.self.now _ (search rules) (subst IsCore c.self.view_is c.self.invariant.core)
     (ap (λ (s : CoreState). s.held) (sym c.self.view_is) ∙ empty)
     (omega (arith, some, ap (λ (s : CoreState). length s.raw) c.self.view_is))

@@ -1,0 +1,127 @@
+-- A journal with a tracked input and two outputs: what settles when, by the definitions. What is expected is written
+-- from the meanings: the reports stand in the entries, and the fates and numbers below.
+use Rattle.std.proofs.Common.{◌≡◌, ℕ, Bool, true, false, List, [], ◌∷◌, ◌++◌, map, refl}
+use Rattle.std.specs.Prelude.{pos}
+use Rattle.std.specs.declared.option.Option.{Option}
+use Rattle.std.specs.declared.option.Option.TheVariants.{Some, None}
+use Rattle.metric.specs.declared.metric.Content.{Content}
+use Rattle.account.specs.Setup.{Setup}
+use Rattle.account.specs.Says.{reports_of}
+use Rattle.account.specs.Items.{items, taken, routes}
+use Rattle.account.specs.Origins.{Origin, origins, raw_of, is_made, group_inputs, groups}
+use Rattle.account.specs.declared.entry.Entry.{Entry}
+use Rattle.account.specs.declared.entry.Entry.TheVariants.{Gather, Take, Route, Begin, Done}
+use Rattle.account.specs.declared.entry.Report.{Report}
+use Rattle.account.specs.declared.entry.Verdict.TheVariants.{Passes, Removed}
+use Rattle.account.specs.declared.numbers.InputNumbers.{InputNumbers}
+use Rattle.out_lane.specs.LaneEvents.{ranges_from, accepted_from}
+use Rattle.pipeline_core.specs.Offers.{offers, lane_events}
+use Rattle.pipeline_core.specs.Fates.{Fate, ItemFate, item_fates, fates_from}
+use Rattle.pipeline_core.specs.Fates as fate
+use Rattle.pipeline_core.specs.Groups.{copies, live_count, reports_at}
+use Rattle.pipeline_core.specs.Totals.{input_total, input_total_from, reported_with}
+
+-- an input that may have five live groups; an output with batches of two and room for two, and one with batches
+-- of one and room for three
+setup : Setup
+setup = record { start = pos 0; inputs = Some 5 ∷ []; aggs = []; outputs = (2, 2) ∷ (1, 3) ∷ [] }
+
+-- what was told of a group of the input
+told : ℕ → Bool → Report
+told group delivered = record { group = group; input = 0; delivered = delivered }
+
+-- a group with these metrics, and what is told then
+group : ℕ → List Content → List Report → Entry
+group number metrics reports = Gather 0 (pos 0) 1 0 0 0 metrics (Some number) reports
+
+-- an item goes to the first output, to both, or to none of them, or is removed
+first both none gone : Content → ℕ → List Report → Entry
+first m item reports = Route item (Some m) Passes [] (Some m ∷ None ∷ []) reports
+both m item reports = Route item (Some m) Passes [] (Some m ∷ Some m ∷ []) reports
+none m item reports = Route item (Some m) Passes [] (None ∷ None ∷ []) reports
+gone m item reports = Route item None Removed [] (None ∷ None ∷ []) reports
+
+-- Group 0 has no metric. Group 1 has items 0 and 1, of which one is removed and the other goes to no output. Items 2
+-- and 3, each a group, wait at the first output, and item 2 at the second one too, until items 4 and 5 come there:
+-- they are dropped, and of item 2 a copy is left, which the second output accepts. While a batch of items 4 and 5 is in
+-- flight items 6 and 7 come, so that they are dropped as it fails. A batch of items 6 and 7 fails and goes back, and is
+-- accepted then.
+journal : Content → List Entry
+journal m =
+    group 0 [] (told 0 true ∷ [])
+    ∷ group 1 (m ∷ m ∷ []) []
+    ∷ Take 0
+    ∷ gone m 0 []
+    ∷ Take 1
+    ∷ none m 1 (told 1 true ∷ [])
+    ∷ group 2 (m ∷ []) []
+    ∷ group 3 (m ∷ []) []
+    ∷ Take 2
+    ∷ both m 2 []
+    ∷ Take 3
+    ∷ first m 3 []
+    ∷ group 4 (m ∷ []) []
+    ∷ group 5 (m ∷ []) []
+    ∷ Take 4
+    ∷ first m 4 []
+    ∷ Take 5
+    ∷ first m 5 (told 3 false ∷ [])
+    ∷ Begin 1 0 1
+    ∷ Done 1 true (told 2 false ∷ [])
+    ∷ Begin 0 2 4
+    ∷ group 6 (m ∷ m ∷ []) []
+    ∷ Take 6
+    ∷ first m 6 []
+    ∷ Take 7
+    ∷ first m 7 []
+    ∷ Done 0 false (told 4 false ∷ told 5 false ∷ [])
+    ∷ Begin 0 4 6
+    ∷ Done 0 false []
+    ∷ Begin 0 4 6
+    ∷ Done 0 true (told 6 true ∷ [])
+    ∷ []
+
+-- the reports of each of the entries, which come after those before them, by the definition
+unfoldable settled : List Entry → List Entry → List (List Report)
+settled before [] = []
+settled before (e ∷ es) = reports_at setup before e ∷ settled (before ++ e ∷ []) es
+
+-- each entry has the reports that the definition gives it
+pub each_is_told : (m : Content) → settled [] (journal m) ≡ map reports_of (journal m)
+unfolding settled reports_at origins items taken routes group_inputs offers lane_events fates_from ranges_from
+unfolding accepted_from
+each_is_told m = refl
+
+-- an item and its fate
+fated : ℕ → Fate → ItemFate
+fated item kind = record { item = item; fate = kind }
+
+-- at the first output
+pub fates_at_first : (m : Content) → item_fates 2 0 (journal m) ≡
+    fated 1 fate.Filtered ∷ fated 2 fate.Dropped ∷ fated 3 fate.Dropped ∷ fated 4 fate.Dropped
+    ∷ fated 5 fate.Dropped ∷ fated 6 fate.Written ∷ fated 7 fate.Written ∷ []
+unfolding offers lane_events fates_from ranges_from accepted_from
+fates_at_first m = refl
+
+-- at the second output
+pub fates_at_second : (m : Content) → item_fates 3 1 (journal m) ≡
+    fated 1 fate.Filtered ∷ fated 2 fate.Written ∷ fated 3 fate.Filtered ∷ fated 4 fate.Filtered
+    ∷ fated 5 fate.Filtered ∷ fated 6 fate.Filtered ∷ fated 7 fate.Filtered ∷ []
+unfolding offers lane_events fates_from ranges_from accepted_from
+fates_at_second m = refl
+
+-- of the seven groups three were delivered and four rejected, and none is live
+pub counts : (m : Content) → input_total 0 true (journal m) ≡ record {
+  tracked = true;
+  pieces = 7;
+  refused = 0;
+  passed = 0;
+  filtered = 0;
+  gathered = 8;
+  has_ended = false;
+  delivered = 3;
+  rejected = 4;
+  undelivered = 0;
+}
+unfolding input_total_from reported_with
+counts m = refl

@@ -23,22 +23,28 @@ use Rattle.pipeline_core.specs.Totals.{input_total, input_total_from, reported_w
 
 -- an input that may have five live groups; an output with batches of two and room for two, and one with batches
 -- of one and room for three
-setup : Setup
+abbrev pub setup : Setup
 setup = record { start = pos 0; inputs = Some 5 ∷ []; aggs = []; outputs = (2, 2) ∷ (1, 3) ∷ [] }
 
 -- what was told of a group of the input
-told : ℕ → Bool → Report
+abbrev pub told : ℕ → Bool → Report
 told group delivered = record { group = group; input = 0; delivered = delivered }
 
 -- a group with these metrics, and what is told then
-group : ℕ → List Content → List Report → Entry
+abbrev pub group : ℕ → List Content → List Report → Entry
 group number metrics reports = Gather 0 (pos 0) 1 0 0 0 metrics (Some number) reports
 
 -- an item goes to the first output, to both, or to none of them, or is removed
-first both none gone : Content → ℕ → List Report → Entry
+abbrev pub first : Content → ℕ → List Report → Entry
 first m item reports = Route item (Some m) Passes [] (Some m ∷ None ∷ []) reports
+
+abbrev pub both : Content → ℕ → List Report → Entry
 both m item reports = Route item (Some m) Passes [] (Some m ∷ Some m ∷ []) reports
+
+abbrev pub none : Content → ℕ → List Report → Entry
 none m item reports = Route item (Some m) Passes [] (None ∷ None ∷ []) reports
+
+abbrev pub gone : Content → ℕ → List Report → Entry
 gone m item reports = Route item None Removed [] (None ∷ None ∷ []) reports
 
 -- Group 0 has no metric. Group 1 has items 0 and 1, of which one is removed and the other goes to no output. Items 2
@@ -46,7 +52,7 @@ gone m item reports = Route item None Removed [] (None ∷ None ∷ []) reports
 -- they are dropped, and of item 2 a copy is left, which the second output accepts. While a batch of items 4 and 5 is in
 -- flight items 6 and 7 come, so that they are dropped as it fails. A batch of items 6 and 7 fails and goes back, and is
 -- accepted then.
-journal : Content → List Entry
+abbrev pub journal : Content → List Entry
 journal m =
     group 0 [] (told 0 true ∷ [])
     ∷ group 1 (m ∷ m ∷ []) []
@@ -82,18 +88,17 @@ journal m =
     ∷ []
 
 -- the reports of each of the entries, which come after those before them, by the definition
-unfoldable settled : List Entry → List Entry → List (List Report)
+unfoldable pub settled : List Entry → List Entry → List (List Report)
 settled before [] = []
 settled before (e ∷ es) = reports_at setup before e ∷ settled (before ++ e ∷ []) es
 
 -- each entry has the reports that the definition gives it
 pub each_is_told : (m : Content) → settled [] (journal m) ≡ map reports_of (journal m)
-unfolding settled reports_at origins items taken routes group_inputs offers lane_events fates_from ranges_from
-unfolding accepted_from
+unfolding settled reports_at origins items taken routes group_inputs offers lane_events fates_from ranges_from accepted_from
 each_is_told m = refl
 
 -- an item and its fate
-fated : ℕ → Fate → ItemFate
+abbrev pub fated : ℕ → Fate → ItemFate
 fated item kind = record { item = item; fate = kind }
 
 -- at the first output

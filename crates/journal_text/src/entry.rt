@@ -2,6 +2,7 @@
 ghost use Rattle.std.specs.Prelude.{◌≡◌, ◌++◌, OnOk, OnErr, length, codes, decimal, if◌then◌else◌};
 ghost use Rattle.text_parts.specs.Adds.{Adds};
 ghost use Rattle.std.specs.Fmt.{signed_decimal};
+ghost use Rattle.account.specs.Says.{gather_of};
 ghost use Rattle.journal_text.specs.JournalText.{beside_text, whole_text, view_text, views_text};
 ghost use Rattle.journal_text.specs.JournalText.{verdict_text, routed_text, metric_lines, report_line};
 ghost use Rattle.journal_text.specs.JournalText.{report_lines, group_text, spaced, gather_line, gather_text};
@@ -251,7 +252,7 @@ fn done_ending(ok: bool) -> &'static str
 // Appends a Gather: its line, its metrics and its reports. Another entry adds nothing.
 #[tactic(auto, unfolding(crate::specs::JournalText::gather_text, crate::specs::JournalText::entry_text))]
 fn append_gather(alloc: Global, e: &Entry, out: &mut Vec<u8>) -> Result<(), OutOfMemory>
-    ensures { Adds result out.old.items out.new.items (gather_text e.now) }
+    ensures { Adds result out.old.items out.new.items (gather_text (gather_of e.now)) }
 {
     let Entry::Gather {
         input,

@@ -8,7 +8,7 @@ mod setup;
 #[cfg(test)]
 mod tests;
 
+pub use account::{AggLine, AggWord};
 pub use entry::{write_end, write_entry};
 pub use laws::{equal_are_same, text_grows};
-pub use account::{AggLine, AggWord};
 pub use setup::{JournalSetup, write_setup};

@@ -184,15 +184,15 @@ unfolding batches_from
 sent_first output held = AppendsSo-nil (Sent [] output) held AreSent-none
 
 -- the items behind a place begin where as many come before the end
-behind : (k : ℕ) (views waiting : List Content) → waiting ≡ drop k views → drop (length views - length waiting) views ≡ waiting
+behind : (k : ℕ) (views waiting : List Offer) → waiting ≡ drop k views → drop (length views - length waiting) views ≡ waiting
 behind k views waiting e =
     elim (cases_lt (length views) k) [
       | inl l ↦
           (let none : drop k views ≡ [] = drop_of_length-le views {i = k} (omega arith) in
-          let empty : length waiting ≡ 0 = ap (λ (xs : List Content). length xs) (e ∙ none) in
+          let empty : length waiting ≡ 0 = ap (λ (xs : List Offer). length xs) (e ∙ none) in
           ap (λ (n : ℕ). drop n views) (let n : length views - length waiting ≡ length views = omega arith in n) ∙ drop_of_length-le views {i = length views} (omega arith) ∙ sym (e ∙ none))
       | inr g ↦
-          (let many : length waiting ≡ length views - k = ap (λ (xs : List Content). length xs) e ∙ length-drop k views in
+          (let many : length waiting ≡ length views - k = ap (λ (xs : List Offer). length xs) e ∙ length-drop k views in
           ap (λ (n : ℕ). drop n views) (let n : length views - length waiting ≡ k = omega arith in n) ∙ sym e)
     ]
 

@@ -10,7 +10,7 @@ ghost use Rattle.pipeline_core.specs.Steps.{route_entry, after_route, lane_with,
 ghost use Rattle.pipeline_core.specs.Steps.{outputs_with, lanes_routed, numbers_routed, HasFew};
 
 use crate::output::Output;
-use crate::room::{make_room, view_copies};
+use crate::room::{Views, make_room, view_copies};
 use crate::state::Core;
 use account::{Account, Entry, Verdict};
 use fixed_num::{OutOfMemory, Seq};
@@ -70,12 +70,7 @@ fn judged(whole: &Option<Metric>) -> Verdict
 }
 
 // Counts an item, and offers each output its view unless the item was removed.
-fn hand_out(
-    outputs: &mut Vec<Output>,
-    account: &mut Account,
-    whole: &Option<Metric>,
-    views: Vec<Option<Metric>>,
-)
+fn hand_out(outputs: &mut Vec<Output>, account: &mut Account, whole: &Option<Metric>, views: Views)
     requires views { length views.items ≡ length outputs.old.items }
     requires numbers { length account.old.outputs ≡ length outputs.old.items }
     requires count { length outputs.old.items ≤ 16 }
@@ -95,7 +90,7 @@ fn hand_out(
 }
 
 // Offers each output its view, and counts what became of it.
-fn offer_views(outputs: &mut Vec<Output>, account: &mut Account, mut views: Vec<Option<Metric>>)
+fn offer_views(outputs: &mut Vec<Output>, account: &mut Account, mut views: Views)
     requires views { length views.items ≡ length outputs.old.items }
     requires numbers { length account.old.outputs ≡ length outputs.old.items }
     requires count { length outputs.old.items ≤ 16 }

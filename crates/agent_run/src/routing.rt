@@ -30,7 +30,7 @@ fn route(alloc: Global, core: &mut Core, item: Item) -> Result<(), OutOfMemory>
         item: item.number,
         whole: Some(item.metric),
         aggs: Seq::of(Vec::new(alloc)),
-        outs: Seq::of(vec![in alloc; Some(view)]?),
+        outs: Seq::of_one(Some(view)),
     })?;
     Ok(())
 }

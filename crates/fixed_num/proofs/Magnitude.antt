@@ -1,16 +1,16 @@
 -- The number with a capped exponent agrees with the number below the limit.
 use Rattle.std.proofs.Common.{◌≡◌, ℕ, zero, suc, ◌+◌, ◌-◌, ◌*◌, ◌/◌, ◌%◌, ◌^◌, ◌<◌, ◌≤◌, min, refl, sym, ap, subst, ◌∙◌, arith, true, false, inl, inr, Bool, cond, List, [], ◌∷◌, ◌++◌, length, take, drop}
 use Rattle.std.specs.Prelude.{MatchBool, if◌then◌else◌}
-use Rattle.std.specs.Str.Parse.{digits_value, AllDigits}
+use Rattle.std.specs.Str.Parse.{digits_value, digits_value_after, AllDigits}
 use Rattle.std.proofs.Math.Nat.{mul-le-mul_right, pow-suc, one-le-pow, pow-le-pow_right}
 use Rattle.std.proofs.lemmas.Bool.{cases_lt, cases_order}
 use Rattle.std.proofs.lemmas.Nat.{pow-add, le-div}
-use Rattle.std.proofs.lemmas.List.{take-append-drop, length-drop}
+use Rattle.std.proofs.lemmas.List.{take-append-drop, length-drop, length-append}
 use Rattle.std.proofs.lemmas.Int.Digits.{digits_value-lt}
 use Rattle.fixed_num.specs.Rounded.{rounded, AgreesBelow}
 use Rattle.fixed_num.specs.Decimal.{Decimal, billionths}
 use Rattle.fixed_num.proofs.Rounding.{rounds_down, rounds_up, rounds_even, scaled, whole, nothing, mark, mark_is, marked}
-use Rattle.fixed_num.proofs.Values.{AllDigits-drop, value_of_parts}
+use Rattle.fixed_num.proofs.Values.{AllDigits-drop, AllDigits-append, value_append, value_of_parts}
 
 ten_pos : (k : ℕ) → 0 < 10 ^ k
 ten_pos k = one-le-pow k 10 (omega arith)
@@ -139,3 +139,17 @@ plain d n r none is e =
       | true ↦ rw down all
       | false ↦ rw up all
     ]
+
+-- ---- digits that are few
+
+pub few_fit : (ds : List ℕ) → AllDigits 10 ds → length ds ≤ 19 → digits_value 10 ds < 2 ^ 64
+few_fit ds all few =
+    let p : 10 ^ length ds ≤ 10 ^ 19 = pow-le-pow_right {n = 10} (omega arith) {i = length ds} {j = 19} few in
+    omega (arith, p, digits_value-lt 10 ds all)
+
+pub both_fit : (xs ys : List ℕ) (v : ℕ) → AllDigits 10 xs → AllDigits 10 ys → length xs ≤ 19 → length ys ≤ 19 - length xs
+    → v ≡ digits_value 10 xs → digits_value_after 10 v ys < 2 ^ 64
+both_fit xs ys v all more few fewer e =
+    let len : length (xs ++ ys) ≡ length xs + length ys = length-append xs ys in
+    let fits = few_fit (xs ++ ys) (AllDigits-append xs ys all more) (omega arith) in
+    rw (e, sym (value_append 0 xs ys)) fits

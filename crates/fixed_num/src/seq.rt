@@ -1,6 +1,5 @@
 //! A vector that contracts see as its list.
-ghost use Rattle.std.specs.Prelude.{◌≡◌};
-ghost use Rattle.std.specs.Borrow.{sem};
+ghost use Rattle.std.specs.Prelude.{◌≡◌, [], ◌∷◌};
 ghost use Rattle.std.specs.Cmp.Lexicographic.{pointwise, lists_per, lists_equiv, slice_cmp};
 ghost use Rattle.std.specs.Cmp.Lexicographic.{slice_partial_cmp, lists_agrees, lists_total, lists_ties};
 ghost use Rattle.std.specs.Cmp.Lexicographic.{lists_po};
@@ -11,51 +10,57 @@ use std::cmp::Ordering;
 use std::hash::{Hash, Hasher};
 use std::marker::Model;
 
-/// A vector that contracts see as its list.
+/// How a list is kept.
+#[derive(Drop, Debug)]
+enum Kept<T: Drop> {
+    /// One element, in place.
+    One([T; 1]),
+    /// Any number of elements, in memory of their own where there are some.
+    Many(Vec<T>),
+}
+
+/// A vector that contracts see as its list. A list of one element may take no memory but its own.
 #[derive(Drop, Debug)]
 pub struct Seq<T: Drop> {
-    items: Vec<T>,
+    kept: Kept<T>,
 }
 
 impl<T: Drop> Model for Seq<T> {
     ghost use Rattle.std.specs.Prelude.{List};
+    ghost use Rattle.fixed_num.specs.Kept.{kept_items};
 
     ghost Value = { List T };
 
-    ghost view = { λ s. s.items.items };
+    ghost view = { λ s. kept_items s.kept };
 }
 
 impl<T: Drop> Seq<T> {
-    ghost use Rattle.fixed_num.specs.SeqLends.{lends_elements};
-
     /// The list of a vector.
     pub fn of(items: Vec<T>) -> Seq<T>
         ensures { result ≡ items.items }
     {
-        Seq { items }
+        Seq {
+            kept: Kept::Many(items),
+        }
+    }
+
+    /// The list of one element. It takes no memory but its own.
+    pub fn of_one(item: T) -> Seq<T>
+        ensures { result ≡ item ∷ [] }
+    {
+        Seq {
+            kept: Kept::One([item]),
+        }
     }
 
     /// The elements, in order.
     pub fn as_slice(&self) -> &[T]
         ensures { result.now ≡ self.now }
     {
-        self.items.as_slice()
-    }
-
-    /// The elements, to be written: the list becomes what was written through the answer.
-    pub fn as_mut_slice(&mut self) -> &mut [T]
-        ensures* writes_back { sem 𝓛 (lends_elements T.row self.entry result) }
-        ensures value { result.now ≡ self.old }
-    {
-        self.items.as_mut_slice()
-    }
-
-    /// The vector again.
-    pub fn into_vec(self) -> Vec<T>
-        ensures { result.items ≡ self }
-    {
-        let Seq { items } = self;
-        items
+        match &self.kept {
+            Kept::One(item) => &item[..],
+            Kept::Many(items) => items.as_slice(),
+        }
     }
 }
 
@@ -65,7 +70,7 @@ impl<T: PartialEq + Drop> PartialEq for Seq<T> {
     ghost laws = { lists_per T.laws };
 
     fn eq(&self, other: &Self) -> bool {
-        self.items == other.items
+        self.as_slice() == other.as_slice()
     }
 }
 
@@ -79,7 +84,7 @@ impl<T: PartialOrd + Drop> PartialOrd for Seq<T> {
     ghost laws = { lists_po T.PartialOrd.laws };
 
     fn partial_cmp(&self, other: &Self) -> Option<Ordering> {
-        self.items.partial_cmp(&other.items)
+        self.as_slice().partial_cmp(other.as_slice())
     }
 }
 
@@ -93,7 +98,7 @@ impl<T: Ord + Drop> Ord for Seq<T> {
     ghost matches_eq = { lists_ties T.cmp T.matches_eq };
 
     fn cmp(&self, other: &Self) -> Ordering {
-        self.items.cmp(&other.items)
+        self.as_slice().cmp(other.as_slice())
     }
 }
 
@@ -103,6 +108,6 @@ impl<T: Hash + Drop> Hash for Seq<T> {
     ghost respects_eq = { (items_Alike (record { fed = T.respects_eq })).fed };
 
     fn hash<H: Hasher>(&self, state: &mut H) {
-        self.items.hash(state);
+        self.as_slice().hash(state);
     }
 }

@@ -131,7 +131,7 @@ fn value_of(parts: &Parts) -> u128
 }
 
 /// The number that the digits spell behind those of a number; None where it is 2^64 or more.
-pub fn value_after(start: u64, digits: &[u8]) -> Option<u64>
+fn value_after(start: u64, digits: &[u8]) -> Option<u64>
     requires { AllDigits 10 digits.now }
     ensures { let value = digits_value_after 10 start digits.now in SomeIff result (value < 2 ^ 64) value }
 {
@@ -142,12 +142,75 @@ pub fn value_after(start: u64, digits: &[u8]) -> Option<u64>
     Some(value)
 }
 
+/// The number that the digits spell behind those of a number, where it is below 2^64.
+fn fitting_after(start: u64, digits: &[u8]) -> u64
+    requires digits { AllDigits 10 digits.now }
+    requires fits { digits_value_after 10 start digits.now < 2 ^ 64 }
+    ensures { result ≡ digits_value_after 10 start digits.now }
+{
+    let mut value = start;
+    for b in digits {
+        value = value * 10 + (b - b'0') as u64;
+    }
+    value
+}
+
+/// So many digits always spell a number below 2^64.
+const FITTING: usize = 19;
+
+/// The number that the digits spell; None where it is 2^64 or more.
+pub fn value_of_digits(digits: &[u8]) -> Option<u64>
+    requires { AllDigits 10 digits.now }
+    ensures { let value = digits_value 10 digits.now in SomeIff result (value < 2 ^ 64) value }
+{
+    if digits.len() <= FITTING {
+        return Some(fitting_after(0, digits));
+    }
+    value_after(0, digits)
+}
+
+/// The number that the digits spell with others behind them, where it is below 2^64.
+fn value_of_both(front: &[u8], back: &[u8]) -> Option<u64>
+    requires { AllDigits 10 front.now × AllDigits 10 back.now }
+    ensures { IfSome result (λ value. value ≡ digits_value 10 (front.now ++ back.now)) }
+{
+    if front.len() <= FITTING && back.len() <= FITTING - front.len() {
+        return Some(fitting_after(fitting_after(0, front), back));
+    }
+    let first = value_after(0, front)?;
+    let number = value_after(first, back)?;
+    Some(number)
+}
+
+/// The powers of ten that are below 2^63.
+static POWERS: [u64; 19] = [
+    1,
+    10,
+    100,
+    1_000,
+    10_000,
+    100_000,
+    1_000_000,
+    10_000_000,
+    100_000_000,
+    1_000_000_000,
+    10_000_000_000,
+    100_000_000_000,
+    1_000_000_000_000,
+    10_000_000_000_000,
+    100_000_000_000_000,
+    1_000_000_000_000_000,
+    10_000_000_000_000_000,
+    100_000_000_000_000_000,
+    1_000_000_000_000_000_000,
+];
+
 /// A power of ten.
 fn power_of_ten(exponent: usize) -> u64
     requires { exponent ≤ 18 }
     ensures { result ≡ 10 ^ exponent }
 {
-    10_u64.pow(exponent as u32)
+    POWERS[exponent]
 }
 
 /// A quotient, rounded half to even.
@@ -190,7 +253,7 @@ fn plain_value(parts: &Parts) -> Option<u128>
     if 27 < places || !parts.exponent.is_empty() {
         return None;
     }
-    let number = value_after(value_after(0, parts.whole)?, parts.fraction)?;
+    let number = value_of_both(parts.whole, parts.fraction)?;
     Some(scaled(number, places))
 }
 

@@ -5,7 +5,7 @@ ghost use Rattle.fixed_num.specs.Whole.{as_int, numeral_read_as, int_read_as, ui
 
 use crate::fixed::NumFault;
 use crate::grammar::{digits_at, sign_at};
-use crate::value::value_after;
+use crate::value::value_of_digits;
 
 /// The number that one digit or more spell.
 #[tactic(auto, unfolding(crate::specs::Whole::numeral_read_as))]
@@ -15,7 +15,7 @@ fn read_numeral(digits: &[u8]) -> Result<u64, NumFault>
     if digits.is_empty() || digits_at(digits) != digits.len() {
         return Err(NumFault::NotANumber);
     }
-    value_after(0, digits).ok_or(NumFault::NumberRange)
+    value_of_digits(digits).ok_or(NumFault::NumberRange)
 }
 
 /// Whether a minus stands first.

@@ -3,7 +3,8 @@ use Rattle.std.proofs.Common.{◌≡◌, ℕ, suc, ◌+◌, true, false, List, [
 use Rattle.std.proofs.Common.{refl, sym, ◌∙◌, ap, append_assoc, arith}
 use Rattle.std.specs.List.{prefix_len, list_all}
 use Rattle.std.proofs.lemmas.List.{append-nil, nil_from_length}
-use Rattle.journal_text.specs.MetricText.{is_plain, byte_text, escaped}
+use Rattle.metric.specs.Plain.{is_plain}
+use Rattle.journal_text.specs.MetricText.{byte_text, escaped}
 use Rattle.std.proofs.Common.{◌≤◌, length-take}
 use Rattle.std.proofs.lemmas.Grind.{common_steps}
 use Rattle.std.proofs.Math.Seq.{take-append_seam}

@@ -1,18 +1,13 @@
 -- The text of a metric in a journal.
-use Rattle.std.specs.Prelude.{ℕ, ◌+◌, ◌/◌, ◌%◌, ◌==◌, ◌&&◌, ◌||◌, nat_lt, nat_le, Bool, List, [], ◌∷◌, ◌++◌}
+use Rattle.std.specs.Prelude.{ℕ, ◌+◌, ◌/◌, ◌%◌, nat_lt, List, [], ◌∷◌, ◌++◌}
 use Rattle.std.specs.Prelude.{codes, decimal, if◌then◌else◌}
 use Rattle.std.specs.Fmt.{signed_decimal}
 use Rattle.std.specs.List.{flat_map}
 use Rattle.fixed_num.specs.Canonical.{canonical_text}
+use Rattle.metric.specs.Plain.{is_plain}
 use Rattle.metric.specs.declared.value.Value.{Value}
 use Rattle.metric.specs.declared.value.Value.TheVariants as value
 use Rattle.metric.specs.declared.metric.Content.{Content}
-
--- an upper-case letter, a lower-case letter, a digit, or one of `_ . - :`
-unfoldable pub is_plain : ℕ → Bool
-is_plain b =
-    (nat_le 65 b && nat_le b 90) || (nat_le 97 b && nat_le b 122) || (nat_le 48 b && nat_le b 57)
-    || b == 95 || b == 46 || b == 45 || b == 58
 
 -- an upper-case hexadecimal digit
 unfoldable pub hex_digit : ℕ → ℕ

@@ -1,33 +1,15 @@
 //! The text of a metric.
 ghost use Rattle.std.specs.Prelude.{◌≡◌, ◌++◌, ◌<◌, ◌≤◌, false, OnOk, length, codes};
-ghost use Rattle.std.specs.List.{flat_map, list_all, prefix_len};
+ghost use Rattle.std.specs.List.{flat_map, prefix_len};
 ghost use Rattle.text_parts.specs.Adds.{Adds};
-ghost use Rattle.journal_text.specs.MetricText.{is_plain, hex_digit, byte_text, escaped, value_text};
+ghost use Rattle.metric.specs.Plain.{is_plain};
+ghost use Rattle.journal_text.specs.MetricText.{hex_digit, byte_text, escaped, value_text};
 ghost use Rattle.journal_text.specs.MetricText.{tag_text, field_text, fields_text, metric_text};
 
 use fixed_num::OutOfMemory;
-use metric::{Metric, Text, Value};
+use metric::{Metric, Text, Value, is_plain};
 use std::alloc::Global;
 use text_parts::{append_signed, append_unsigned, append_words};
-
-// Each plain byte stands at its own place, and a comma, which isn't plain, at every other place.
-static PLAIN: [u8; 256] = *b"\
-    ,,,,,,,,,,,,,,,,,,,,,,,,,,,,,,,,\
-    ,,,,,,,,,,,,,-.,0123456789:,,,,,\
-    ,ABCDEFGHIJKLMNOPQRSTUVWXYZ,,,,_\
-    ,abcdefghijklmnopqrstuvwxyz,,,,,\
-    ,,,,,,,,,,,,,,,,,,,,,,,,,,,,,,,,\
-    ,,,,,,,,,,,,,,,,,,,,,,,,,,,,,,,,\
-    ,,,,,,,,,,,,,,,,,,,,,,,,,,,,,,,,\
-    ,,,,,,,,,,,,,,,,,,,,,,,,,,,,,,,,";
-
-// Is it an upper-case letter, a lower-case letter, a digit, or one of `_ . - :`?
-#[inline]
-fn is_plain(b: u8) -> bool
-    ensures { result ≡ is_plain b }
-{
-    PLAIN[b as usize] != b','
-}
 
 // An upper-case hexadecimal digit.
 #[tactic(auto, unfolding(crate::specs::MetricText::hex_digit))]
@@ -77,19 +59,12 @@ fn append_escaped(out: &mut Vec<u8>, bytes: &[u8]) -> Result<(), OutOfMemory>
     }
 }
 
-// Are all bytes plain?
-fn are_plain(bytes: &[u8]) -> bool
-    ensures { result ≡ list_all is_plain bytes.now }
-{
-    bytes.iter().all(|b| is_plain(*b))
-}
-
 // Appends a name, a key or a text. Most are plain.
 fn append_text(out: &mut Vec<u8>, text: &Text) -> Result<(), OutOfMemory>
     ensures { Adds result out.old.items out.new.items (escaped text.now) }
 {
     let bytes = text.as_str().as_bytes();
-    if are_plain(bytes) {
+    if text.is_plain() {
         out.extend_from_slice(bytes)?;
     } else {
         append_escaped(out, bytes)?;

@@ -146,9 +146,20 @@ fn append_quoted(text: &Text, out: &mut Vec<u8>) -> Result<(), OutOfMemory>
         (codes "\"" ++ escaped text_escapes (on_one_line text.now) ++ codes "\"") }
 {
     out.push(b'"')?;
-    append_escaped(Marks::Quoted, text.as_str().as_bytes(), out)?;
+    append_inside(text, out)?;
     out.push(b'"')?;
     Ok(())
+}
+
+/// Appends a text as it stands between double quotes. A plain one needs no escapes.
+fn append_inside(text: &Text, out: &mut Vec<u8>) -> Result<(), OutOfMemory>
+    ensures { Adds result out.old.items out.new.items (escaped text_escapes (on_one_line text.now)) }
+{
+    let bytes = text.as_str().as_bytes();
+    if text.is_plain() {
+        return Ok(out.extend_from_slice(bytes)?);
+    }
+    append_escaped(Marks::Quoted, bytes, out)
 }
 
 /// Appends a measurement.
@@ -164,6 +175,9 @@ fn append_name(name: &Text, out: &mut Vec<u8>) -> Result<(), OutOfMemory>
         out.push(b'_')?;
         return append_escaped(Marks::Name, &kept[1..], out);
     }
+    if name.is_plain() {
+        return Ok(out.extend_from_slice(kept)?);
+    }
     append_escaped(Marks::Name, kept, out)
 }
 
@@ -175,6 +189,9 @@ fn append_key(key: &Text, out: &mut Vec<u8>) -> Result<(), OutOfMemory>
     let kept = trim(key.as_str().as_bytes());
     if kept.is_empty() {
         return Ok(out.push(b'_')?);
+    }
+    if key.is_plain() {
+        return Ok(out.extend_from_slice(kept)?);
     }
     append_escaped(Marks::Key, kept, out)
 }

@@ -3,4 +3,5 @@ pub mod Glob
 pub mod GlobScan
 pub mod Metric
 pub mod Pairs
+pub mod Plain
 pub mod Text

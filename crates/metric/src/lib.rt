@@ -7,6 +7,7 @@ mod glob_scan;
 mod glob_text;
 mod laws;
 mod metric;
+mod plain;
 mod text;
 mod value;
 
@@ -14,6 +15,7 @@ pub use builder::{BuildFault, Builder};
 pub use glob::{Element, Glob, GlobFault, tests_matches};
 pub use laws::{first_order, growth, key_order};
 pub use metric::{Content, Metric};
+pub use plain::{are_plain, is_plain};
 pub use text::Text;
 pub use value::Value;
 

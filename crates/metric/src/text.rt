@@ -1,5 +1,8 @@
 //! UTF-8 text that contracts see as its bytes.
-ghost use Rattle.std.specs.Prelude.{◌≡◌, IfOk, nat_eq};
+ghost use Rattle.std.specs.Prelude.{◌≡◌, true, IfOk, nat_eq};
+ghost use Rattle.std.specs.List.{list_all};
+ghost use Rattle.metric.specs.Text.{kept_bytes, IsKept};
+ghost use Rattle.metric.specs.Plain.{is_plain};
 ghost use Rattle.std.specs.Cmp.Lexicographic.{pointwise};
 ghost use Rattle.std.specs.Cmp.{partial_equiv_from_equiv};
 ghost use Rattle.std.specs.Cmp.Lexicographic.{nat_list_eq_equiv, nat_list_cmp_total, slice_cmp};
@@ -10,6 +13,7 @@ ghost use Rattle.std.specs.Ordering.{nat_cmp, as_partial_cmp};
 ghost use Rattle.std.specs.Hash as fed;
 ghost use Rattle.std.specs.String.{string_bytes};
 
+use crate::plain::are_plain;
 use arrayvec::ArrayString;
 use fixed_num::OutOfMemory;
 use std::alloc::Global;
@@ -23,8 +27,12 @@ const IN_PLACE: usize = 24;
 /// How a text is kept.
 #[derive(Drop, Debug)]
 enum Kept {
+    /// In place, and plain.
+    PlainShort(ArrayString<IN_PLACE>),
     /// In place.
     Short(ArrayString<IN_PLACE>),
+    /// In memory of its own, and plain.
+    PlainLong(String),
     /// In memory of its own.
     Long(String),
 }
@@ -37,11 +45,13 @@ pub struct Text {
 
 impl Model for Text {
     ghost use Rattle.std.specs.Prelude.{List, ℕ};
-    ghost use Rattle.metric.specs.Text.{kept_bytes};
+    ghost use Rattle.metric.specs.Text.{kept_bytes, IsKept};
 
     ghost Value = { List ℕ };
 
     ghost view = { λ t. kept_bytes t.kept };
+
+    ghost invariant = { λ t. IsKept t.kept };
 }
 
 impl Text {
@@ -49,15 +59,17 @@ impl Text {
     pub fn of(alloc: Global, s: &str) -> Result<Text, OutOfMemory>
         ensures { IfOk result (λ t. t ≡ s.now) }
     {
+        let plain = are_plain(s.as_bytes());
         if s.len() <= IN_PLACE {
             let mut short = ArrayString::new();
             short.push_str(s);
             return Ok(Text {
-                kept: Kept::Short(short),
+                kept: short_text(plain, short),
             });
         }
+        let long = String::from_str(alloc, s)?;
         Ok(Text {
-            kept: Kept::Long(String::from_str(alloc, s)?),
+            kept: long_text(plain, long),
         })
     }
 
@@ -75,9 +87,50 @@ impl Text {
         ensures { result.now ≡ self.now }
     {
         match &self.kept {
+            Kept::PlainShort(text) => text.as_str(),
             Kept::Short(text) => text.as_str(),
+            Kept::PlainLong(text) => text.as_str(),
             Kept::Long(text) => text.as_str(),
         }
+    }
+
+    /// Whether the text is known to have plain bytes alone: letters, digits and `_ . - :`. One that was made of a
+    /// string isn't looked at.
+    pub fn is_plain(&self) -> bool
+        ensures { result ≡ true → list_all is_plain self.now ≡ true }
+    {
+        match &self.kept {
+            Kept::PlainShort(_) => true,
+            Kept::Short(_) => false,
+            Kept::PlainLong(_) => true,
+            Kept::Long(_) => false,
+        }
+    }
+}
+
+/// A text that stands in place.
+fn short_text(plain: bool, text: ArrayString<IN_PLACE>) -> Kept
+    requires { plain ≡ true → list_all is_plain text.bytes ≡ true }
+    ensures bytes { kept_bytes result ≡ text.bytes }
+    ensures kept { IsKept result }
+{
+    if plain {
+        Kept::PlainShort(text)
+    } else {
+        Kept::Short(text)
+    }
+}
+
+/// A text in memory of its own.
+fn long_text(plain: bool, text: String) -> Kept
+    requires { plain ≡ true → list_all is_plain (string_bytes text) ≡ true }
+    ensures bytes { kept_bytes result ≡ string_bytes text }
+    ensures kept { IsKept result }
+{
+    if plain {
+        Kept::PlainLong(text)
+    } else {
+        Kept::Long(text)
     }
 }
 

@@ -6,6 +6,7 @@ use crate::output::Offer;
 use account::Entry;
 use fixed_num::OutOfMemory;
 use metric::Metric;
+use smallvec::SmallVec;
 use std::alloc::Global;
 use std::collections::VecDeque;
 
@@ -51,14 +52,14 @@ pub(crate) fn views_of(alloc: Global, offers: &[Offer]) -> Result<Vec<Metric>, O
     Ok(views)
 }
 
+/// The views of an item, of which one stands in place.
+pub(crate) type Views = SmallVec<Option<Metric>, 1>;
+
 /// Copies of views, in order.
-pub(crate) fn view_copies(
-    alloc: Global,
-    views: &[Option<Metric>],
-) -> Result<Vec<Option<Metric>>, OutOfMemory>
+pub(crate) fn view_copies(alloc: Global, views: &[Option<Metric>]) -> Result<Views, OutOfMemory>
     ensures { IfOk result (λ copies. copies.items ≡ views.now) }
 {
-    let mut copies = Vec::with_capacity(alloc, views.len())?;
+    let mut copies = SmallVec::with_capacity(alloc, views.len())?;
     for view in views {
         let copy = match view {
             Some(metric) => Some(metric.copy()?),

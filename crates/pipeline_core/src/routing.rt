@@ -10,7 +10,7 @@ ghost use Rattle.pipeline_core.specs.Steps.{route_entry, after_route, lane_with,
 ghost use Rattle.pipeline_core.specs.Steps.{outputs_with, lanes_routed, numbers_routed, HasFew};
 
 use crate::output::{Offer, Output};
-use crate::room::{make_room, view_copies};
+use crate::room::{Views, make_room, view_copies};
 use crate::state::Core;
 use account::{Account, Entry, Verdict};
 use fixed_num::{OutOfMemory, Seq};
@@ -82,7 +82,7 @@ fn hand_out(
     account: &mut Account,
     item: u64,
     whole: &Option<Metric>,
-    views: Vec<Option<Metric>>,
+    views: Views,
 )
     requires views { length views.items ≡ length outputs.old.items }
     requires numbers { length account.old.outputs ≡ length outputs.old.items }
@@ -103,12 +103,7 @@ fn hand_out(
 }
 
 // Offers each output the item's view there, and counts what became of it.
-fn offer_views(
-    outputs: &mut Vec<Output>,
-    account: &mut Account,
-    item: u64,
-    mut views: Vec<Option<Metric>>,
-)
+fn offer_views(outputs: &mut Vec<Output>, account: &mut Account, item: u64, mut views: Views)
     requires views { length views.items ≡ length outputs.old.items }
     requires numbers { length account.old.outputs ≡ length outputs.old.items }
     requires count { length outputs.old.items ≤ 16 }

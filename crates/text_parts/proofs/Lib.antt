@@ -4,4 +4,5 @@ pub mod Utf8
 pub mod Items
 pub mod Adding
 pub mod Spans
+pub mod Stopping
 pub mod Escaping

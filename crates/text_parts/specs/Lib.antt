@@ -6,4 +6,5 @@ pub mod Grammar
 pub mod Adds
 pub mod Bytes
 pub mod Span
+pub mod Stops
 pub mod Escaped

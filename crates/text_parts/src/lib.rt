@@ -7,6 +7,7 @@ mod error;
 mod laws;
 mod part;
 mod span;
+mod stops;
 
 pub use append::{
     append_bytes, append_int, append_line, append_numbers, append_signed, append_uint,

@@ -1,12 +1,11 @@
 //! Parts of a piece, found in one pass and copied only where they have escapes.
-ghost use Rattle.std.specs.Prelude.{◌≡◌, ◌≤◌, ◌==◌, ◌||◌, false, length, slice_range};
-ghost use Rattle.std.specs.List.{position};
+ghost use Rattle.std.specs.Prelude.{◌≡◌, ◌≤◌, slice_range};
 ghost use Rattle.std.specs.Str.{IsCharBoundary};
-ghost use Rattle.text_parts.specs.Bytes.{backslash};
-ghost use Rattle.text_parts.specs.Kinds.{kind_of, ends_of, IsAsciiPart};
+ghost use Rattle.text_parts.specs.Kinds.{kind_of, IsAsciiPart};
 ghost use Rattle.text_parts.specs.Span.{IsSpan};
 
 use crate::part::{Part, part_len};
+use crate::stops::stop_at;
 
 /// Where a part stands in a piece.
 #[derive(Clone, Copy, Debug, PartialEq, Eq)]
@@ -19,18 +18,7 @@ pub struct Span {
     pub escaped: bool,
 }
 
-/// The first byte that ends a part, or backslash.
-#[inline(always)]
-fn end_or_backslash(part: &Part, bytes: &[u8]) -> Option<usize>
-    ensures { result ≡ position (λ b. ends_of part.now b || b == backslash) bytes.now }
-{
-    bytes
-        .iter()
-        .position(|b| part.ends_before(*b) || *b == b'\\')
-}
-
-/// Where the part stands that begins at a place of a piece. Escapes are looked at only behind the first
-/// backslash.
+/// Where the part stands that begins at a place of a piece. Escapes are looked at only behind the first backslash.
 #[inline(always)]
 pub fn span_at(part: &Part, piece: &str, i: usize) -> Span
     requires boundary { IsCharBoundary piece.now i }
@@ -40,7 +28,7 @@ pub fn span_at(part: &Part, piece: &str, i: usize) -> Span
 {
     let bytes = piece.as_bytes();
     let (_, rest) = bytes.split_at(i);
-    let first = end_or_backslash(part, rest).unwrap_or(rest.len());
+    let first = stop_at(part, rest);
     if first < rest.len() && rest[first] == b'\\' {
         let (_, tail) = rest.split_at(first);
         return Span {

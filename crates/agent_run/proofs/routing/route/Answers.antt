@@ -4,7 +4,7 @@ use Rattle.agent_run.proofs.routing.route.Goals as goal
 
 pub returns-clause-ok : goal.returns-clause-ok
 returns-clause-ok c =
-    let kept = lanes_kept c.args.item.number c.of-2.result c.args.core.now.lanes in
+    let kept = lanes_kept c.args.item.number c.of_one.result c.args.core.now.lanes in
     rw c.in_ok-route.ensures.ok (record { setup = refl; ended = refl; stopped = refl; lane_count = kept.count; batch = kept.batch; flight = kept.flight })
 
 pub returns-clause-stands : goal.returns-clause-stands

@@ -1,6 +1,14 @@
-use Rattle.std.proofs.Common.{arith, ◌≤◌, ◌^◌}
-use Rattle.std.proofs.Math.Nat.{pow-le-pow_right}
+-- the table is held against the powers by computing
+use Rattle.std.proofs.Common.{◌≡◌, ℕ, ◌<◌, ◌^◌, nat_eq, get_or, List, true, refl, arith}
+use Rattle.std.proofs.lemmas.Bool.{agree_below, agree_below_at, eqb-true}
+use Rattle.fixed_num.specs.declared.value.TheConstants.{POWERS}
 use Rattle.fixed_num.proofs.value.power_of_ten.Goals as goal
 
-pub pow-requires : goal.pow-requires
-pow-requires c = let p : 10 ^ c.args.exponent ≤ 10 ^ 18 = pow-le-pow_right {n = 10} (omega arith) {i = c.args.exponent} {j = 18} c.requires in omega (arith, p)
+from_table : (table : List ℕ) (k : ℕ) → k < 19
+    → agree_below (λ i. nat_eq (get_or table i 0) (10 ^ i)) (λ _. true) 19 ≡ true
+    → get_or table k 0 ≡ 10 ^ k
+from_table table k fits same =
+    eqb-true _ _ (agree_below_at (λ i. nat_eq (get_or table i 0) (10 ^ i)) (λ _. true) 19 k same fits)
+
+pub returns : goal.returns
+returns c = from_table POWERS c.args.exponent (omega arith) refl

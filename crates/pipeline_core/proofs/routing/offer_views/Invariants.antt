@@ -1,4 +1,4 @@
-use Rattle.std.proofs.Common.{vec_len}
+use Rattle.smallvec.specs.SmallVec.{small_vec_len}
 use Rattle.pipeline_core.proofs.Offering.{Offered}
 use Rattle.pipeline_core.proofs.routing.offer_views.Given as goal
 
@@ -8,4 +8,4 @@ invariant-loop-view l =
     Offered l.fn.item l.fn.outputs.items l.fn.account l.fn.views.items l.views.items l.outputs.items l.account
 
 abbrev pub decreases-loop-view : goal.decreases-loop-view
-decreases-loop-view l = vec_len l.views
+decreases-loop-view l = small_vec_len l.views

@@ -1,9 +1,9 @@
 -- the table is held against the definition at each of the 256 bytes, by computing
 use Rattle.std.proofs.Common.{◌≡◌, ℕ, ◌<◌, not, nat_eq, get_or, List, true, refl, arith}
 use Rattle.std.proofs.lemmas.Bool.{agree_below, agree_below_at}
-use Rattle.journal_text.specs.declared.metrics.TheConstants.{PLAIN}
-use Rattle.journal_text.specs.MetricText.{is_plain}
-use Rattle.journal_text.proofs.metrics.is_plain.Goals as goal
+use Rattle.metric.specs.declared.plain.TheConstants.{PLAIN}
+use Rattle.metric.specs.Plain.{is_plain}
+use Rattle.metric.proofs.plain.is_plain.Goals as goal
 
 from_table : (table : List ℕ) (b : ℕ) → b < 256
     → agree_below (λ k. not (nat_eq (get_or table k 0) 44)) is_plain 256 ≡ true

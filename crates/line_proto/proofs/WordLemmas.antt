@@ -1,0 +1,90 @@
+-- Texts of plain bytes are written as they are.
+use Rattle.std.proofs.Common.{◌≡◌, ◌==◌, ◌-◌, ◌<◌, ℕ, zero, suc, Bool, true, false, List, [], ◌∷◌, length, take, get_or, refl, sym, ap, ◌∙◌}
+use Rattle.std.specs.Prelude.{codes}
+use Rattle.std.specs.List.{list_all, suffix_len}
+use Rattle.std.proofs.lemmas.Bool.{and_parts, ne_eqb}
+use Rattle.metric.specs.Plain.{is_plain}
+use Rattle.text_parts.specs.Escaped.{escaped}
+use Rattle.line_proto.specs.LineText.{on_one_line, trimmed, text_escapes, key_text, name_text, is_bare}
+use Rattle.line_proto.proofs.WriteLemmas.{bare_text, kept_key, kept_name}
+
+clash : (b c : ℕ) → is_plain b ≡ true → is_plain c ≡ false → b ≡ c → ⊥
+clash b c plain marked same = let e : false ≡ true = sym marked ∙ ap is_plain (sym same) ∙ plain in absurd (cc)
+
+apart : (b c : ℕ) → is_plain b ≡ true → is_plain c ≡ false → (b == c) ≡ false
+apart b c plain marked = ne_eqb b c (clash b c plain marked)
+
+apart_from : (b c : ℕ) → is_plain b ≡ true → is_plain c ≡ false → (c == b) ≡ false
+apart_from b c plain marked = ne_eqb c b (λ same. clash b c plain marked (sym same))
+
+-- ---- marks that aren't plain
+
+no_newline : is_plain 10 ≡ false
+unfolding is_plain
+no_newline = refl
+
+no_carriage_return : is_plain 13 ≡ false
+unfolding is_plain
+no_carriage_return = refl
+
+no_space : is_plain 32 ≡ false
+unfolding is_plain
+no_space = refl
+
+no_double_quote : is_plain 34 ≡ false
+unfolding is_plain
+no_double_quote = refl
+
+no_comma : is_plain 44 ≡ false
+unfolding is_plain
+no_comma = refl
+
+no_equals_sign : is_plain 61 ≡ false
+unfolding is_plain
+no_equals_sign = refl
+
+no_backslash : is_plain 92 ≡ false
+unfolding is_plain
+no_backslash = refl
+
+bare_key : (b : ℕ) → is_plain b ≡ true → is_bare (codes ",= ") b ≡ true
+bare_key b plain =
+    rw (apart b 10 plain no_newline, apart b 13 plain no_carriage_return, apart_from b 44 plain no_comma, apart_from b 61 plain no_equals_sign, apart_from b 32 plain no_space) refl
+
+bare_name : (b : ℕ) → is_plain b ≡ true → is_bare (codes ", ") b ≡ true
+bare_name b plain =
+    rw (apart b 10 plain no_newline, apart b 13 plain no_carriage_return, apart_from b 44 plain no_comma, apart_from b 32 plain no_space) refl
+
+bare_quoted : (b : ℕ) → is_plain b ≡ true → is_bare (codes "\"\\") b ≡ true
+bare_quoted b plain =
+    rw (apart b 10 plain no_newline, apart b 13 plain no_carriage_return, apart_from b 34 plain no_double_quote, apart_from b 92 plain no_backslash) refl
+
+all_bare : (marks text : List ℕ) → ((b : ℕ) → is_plain b ≡ true → is_bare marks b ≡ true) → list_all is_plain text ≡ true
+    → list_all (is_bare marks) text ≡ true
+all_bare marks [] bare h = refl
+all_bare marks (b ∷ bs) bare h =
+    let parts = and_parts (is_plain b) (list_all is_plain bs) h in
+    rw (bare b parts.0, all_bare marks bs bare parts.1) refl
+
+front_plain : (n : ℕ) (text : List ℕ) → list_all is_plain text ≡ true → list_all is_plain (take n text) ≡ true
+front_plain zero text h = refl
+front_plain (suc n) [] h = refl
+front_plain (suc n) (b ∷ bs) h =
+    let parts = and_parts (is_plain b) (list_all is_plain bs) h in
+    rw (parts.0, front_plain n bs parts.1) refl
+
+kept_plain : (text kept : List ℕ) → kept ≡ trimmed text → list_all is_plain text ≡ true → list_all is_plain kept ≡ true
+kept_plain text kept is h =
+    ap (list_all is_plain) is ∙ front_plain (length text - suffix_len (λ b. b == 92) text) text h
+
+pub word_key : (key kept : List ℕ) → kept ≡ trimmed key → 0 < length kept → list_all is_plain key ≡ true → kept ≡ key_text key
+word_key key kept is some h =
+    sym (bare_text (codes ",= ") kept (all_bare (codes ",= ") kept bare_key (kept_plain key kept is h))) ∙ kept_key key kept is some
+
+pub word_name : (name kept : List ℕ) → kept ≡ trimmed name → 0 < length kept → (get_or kept 0 0 == 35) ≡ false → list_all is_plain name ≡ true
+    → kept ≡ name_text name
+word_name name kept is some no_hash h =
+    sym (bare_text (codes ", ") kept (all_bare (codes ", ") kept bare_name (kept_plain name kept is h))) ∙ kept_name name kept 0 is some no_hash
+
+pub word_quoted : (text : List ℕ) → list_all is_plain text ≡ true → text ≡ escaped text_escapes (on_one_line text)
+word_quoted text h = sym (bare_text (codes "\"\\") text (all_bare (codes "\"\\") text bare_quoted h))

@@ -46,17 +46,18 @@ abbrev pub done_of : Entry → Option DoneSays
 done_of (Done output ok reports) = Some (record { output = output; ok = ok; reports = reports })
 done_of _ = None
 
--- the metrics of a Gather, and its reports
+-- the metrics of a Gather
 abbrev pub metrics_said : Option GatherSays → List Content
 metrics_said None = []
 metrics_said (Some says) = says.metrics
 
-abbrev pub reports_said : Option GatherSays → List Report
-reports_said None = []
-reports_said (Some says) = says.reports
+-- the reports of a Gather, or of a Done
+abbrev pub reports_said : Option GatherSays → Option DoneSays → List Report
+reports_said (Some says) done = says.reports
+reports_said None (Some says) = says.reports
+reports_said None None = []
 
 -- the groups that an entry says settled by it
 abbrev pub reports_of : Entry → List Report
 reports_of (Route item whole verdict aggs outs reports) = reports
-reports_of (Done output ok reports) = reports
-reports_of e = reports_said (gather_of e)
+reports_of e = reports_said (gather_of e) (done_of e)

@@ -20,6 +20,7 @@ use Rattle.pipeline_core.specs.CoreState.{CoreState, lane_at}
 use Rattle.pipeline_core.specs.Offers.{offers, offered_by, lane_events, lane_events_by, pushes, offered, view_at, views_of}
 use Rattle.pipeline_core.specs.declared.output.Offer.{Offer}
 use Rattle.account.specs.declared.entry.Report.{Report}
+use Rattle.account.specs.Says.{DoneSays, done_of}
 use Rattle.pipeline_core.specs.Stands.{Stands}
 use Rattle.pipeline_core.specs.Steps.{IsBatchOf}
 use Rattle.pipeline_core.specs.declared.batches.Batch.{Batch}
@@ -100,9 +101,12 @@ batches-push output es e =
     ∙ ap (λ (b : Option (ℕ × ℕ)). batches output es ++ batches_by output (offers output es) b e) (begun_is output es)
 
 -- an entry that isn't the end of the output's batch
+abbrev pub EndsNoneSaid : ℕ → Option DoneSays → Type 0
+EndsNoneSaid output None = Unit {0}
+EndsNoneSaid output (Some says) = (says.output == output) ≡ false
+
 abbrev pub EndsNone : ℕ → Entry → Type 0
-EndsNone output (Done number ok reports) = (number == output) ≡ false
-EndsNone output _ = Unit {0}
+EndsNone output e = EndsNoneSaid output (done_of e)
 
 ends_none : (output : ℕ) (views : List Offer) (begun : Option (ℕ × ℕ)) (e : Entry) → EndsNone output e → batches_by output views begun e ≡ []
 ends_none output views begun (Gather input moment pieces refused passed filtered metrics group reports) h = refl

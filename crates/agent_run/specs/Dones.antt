@@ -3,12 +3,17 @@ use Rattle.std.specs.Prelude.{◌≡◌, ℕ, ◌==◌, Bool, false, not, List, 
 use Rattle.std.specs.Prelude.{if◌then◌else◌}
 use Rattle.pipeline_core.specs.Legal.{is_stop}
 use Rattle.account.specs.declared.entry.Entry.{Entry}
-use Rattle.account.specs.declared.entry.Entry.TheVariants.{Done}
+use Rattle.account.specs.Says.{DoneSays, done_of}
+use Rattle.std.specs.declared.option.Option.{Option}
+use Rattle.std.specs.declared.option.Option.TheVariants.{Some, None}
 
--- whether the batch that an entry ends was accepted
+-- whether the batch of an output that ends was accepted
+abbrev pub oks_said : ℕ → Option DoneSays → List Bool
+oks_said output None = []
+oks_said output (Some says) = if says.output == output then says.ok ∷ [] else []
+
 abbrev pub dones_by : ℕ → Entry → List Bool
-dones_by output (Done number ok reports) = if number == output then ok ∷ [] else []
-dones_by output _ = []
+dones_by output e = oks_said output (done_of e)
 
 -- whether each batch of an output that is done was accepted, in order
 unfoldable pub dones : ℕ → List Entry → List Bool

@@ -7,7 +7,8 @@ use Rattle.std.specs.declared.option.Option.TheVariants.{Some, None}
 use Rattle.metric.specs.declared.metric.Content.{Content}
 use Rattle.line_proto.specs.LineText.{line_text}
 use Rattle.account.specs.declared.entry.Entry.{Entry}
-use Rattle.account.specs.declared.entry.Entry.TheVariants.{Begin, Done}
+use Rattle.account.specs.declared.entry.Entry.TheVariants.{Begin}
+use Rattle.account.specs.Says.{DoneSays, done_of}
 use Rattle.pipeline_core.specs.Offers.{offered_by, views_of}
 use Rattle.pipeline_core.specs.declared.output.Offer.{Offer}
 
@@ -21,17 +22,24 @@ abbrev pub views_in : Option (ℕ × ℕ) → List Offer → List Content
 views_in None all = []
 views_in (Some range) all = views_of (take (range.1 - range.0) (drop range.0 all))
 
+-- no range of an output is begun once its batch was done
+abbrev pub begun_behind : ℕ → Option (ℕ × ℕ) → Option DoneSays → Option (ℕ × ℕ)
+begun_behind output begun None = begun
+begun_behind output begun (Some says) = if says.output == output then None else begun
+
 -- the range of an output that is begun after an entry
 abbrev pub begun_after : ℕ → Option (ℕ × ℕ) → Entry → Option (ℕ × ℕ)
 begun_after output begun (Begin number from to) = if number == output then Some (from, to) else begun
-begun_after output begun (Done number ok reports) = if number == output then None else begun
-begun_after output begun _ = begun
+begun_after output begun e = begun_behind output begun (done_of e)
 
 -- the batch of an output that an entry ends, where these were offered before it
+abbrev pub batches_said : ℕ → List Offer → Option (ℕ × ℕ) → Option DoneSays → List BatchSays
+batches_said output all begun None = []
+batches_said output all begun (Some says) = if says.output == output then
+    (record { views = views_in begun all; ok = says.ok } ∷ []) else []
+
 abbrev pub batches_by : ℕ → List Offer → Option (ℕ × ℕ) → Entry → List BatchSays
-batches_by output all begun (Done number ok reports) = if number == output then
-    (record { views = views_in begun all; ok = ok } ∷ []) else []
-batches_by output all begun _ = []
+batches_by output all begun e = batches_said output all begun (done_of e)
 
 -- the batches that these entries end, where these were offered before them and this range was begun
 unfoldable pub batches_from : ℕ → List Offer → Option (ℕ × ℕ) → List Entry → List BatchSays

@@ -4,7 +4,8 @@ use Rattle.std.specs.declared.option.Option.{Option}
 use Rattle.std.specs.declared.option.Option.TheVariants.{Some, None}
 use Rattle.metric.specs.declared.metric.Content.{Content}
 use Rattle.account.specs.declared.entry.Entry.{Entry}
-use Rattle.account.specs.declared.entry.Entry.TheVariants.{Route, Begin, Done}
+use Rattle.account.specs.declared.entry.Entry.TheVariants.{Route, Begin}
+use Rattle.account.specs.Says.{DoneSays, done_of}
 use Rattle.account.specs.declared.entry.Verdict.{Verdict}
 use Rattle.account.specs.declared.entry.Verdict.TheVariants.{Passes}
 use Rattle.out_lane.specs.LaneEvents.{LaneEvent}
@@ -48,13 +49,17 @@ abbrev pub pushes : List Offer → List LaneEvent
 pushes [] = []
 pushes (offer ∷ others) = lane.Push ∷ pushes others
 
+-- the end of a batch, where it is one of the output
+abbrev pub ends_said : ℕ → Option DoneSays → List LaneEvent
+ends_said output None = []
+ends_said output (Some says) = if says.output == output then lane.Done says.ok ∷ [] else []
+
 -- what an entry does at an output
 abbrev pub lane_events_by : ℕ → Entry → List LaneEvent
 lane_events_by output (Route item whole verdict aggs outs reports) =
     pushes (offered item verdict (view_at output outs))
 lane_events_by output (Begin number from to) = if number == output then lane.Begin from to ∷ [] else []
-lane_events_by output (Done number ok reports) = if number == output then lane.Done ok ∷ [] else []
-lane_events_by output _ = []
+lane_events_by output e = ends_said output (done_of e)
 
 -- what the entries do at an output
 unfoldable pub lane_events : ℕ → List Entry → List LaneEvent

@@ -7,8 +7,8 @@ use Rattle.std.proofs.lemmas.Str.{IsUtf8-from_is_utf8}
 use Rattle.std.proofs.lemmas.Bool.{eqb-true, eqb-false, ltb-true, ltb-false}
 use Rattle.std.proofs.lemmas.List.{drop-drop, get_or-drop, get_or_past, length-drop, length-take-le, append-nil, take-append-drop, drop_all}
 use Rattle.text_parts.specs.Part.{Kind, part_len, len_at, text_at, plain}
-use Rattle.text_parts.specs.Grammar.{Mark, Escaped, Bare, spelled, meant, IsPart}
-use Rattle.text_parts.proofs.Marks.{found, part_is_read}
+use Rattle.text_parts.specs.Grammar.{Mark, Escaped, Bare, spelled, meant, IsPart, HasNone, IsWritten}
+use Rattle.text_parts.proofs.MarkLemmas.{found, part_is_read}
 use Rattle.text_parts.proofs.Spans.{unhidden_part}
 use Rattle.std.proofs.lemmas.List.{take_at, length-append}
 use Rattle.std.proofs.Common.{inl, inr, add-zero}
@@ -19,14 +19,16 @@ use Rattle.text_parts.proofs.Utf8.{either}
 use Rattle.text_parts.proofs.Spans.{position_or_len_le}
 use Rattle.metric.specs.declared.value.Value.{Value}
 use Rattle.metric.specs.declared.metric.Content.{Content}
+use Rattle.metric.specs.Draft.{Tag, Field, has_too_many}
+use Rattle.text_parts.specs.Pairs.{pair_text, pairs_text, Meaning, AllAre}
 use Rattle.line_proto.specs.declared.fault.LineKind.{LineKind}
 use Rattle.line_proto.specs.declared.fault.LineFault.{LineFault}
 use Rattle.line_proto.specs.Kinds.{name_part, key_part, tag_value_part, text_part, value_part}
 use Rattle.line_proto.specs.Values.{value_of, time_of}
-use Rattle.line_proto.specs.Reading.{is_value_end, text_value_at, Tag, Field, Line, placed, name_at, key_at, tag_value_at, tag_at, plain_value_at, value_at, field_at, fields_at, tags_at, behind_spaces, spaced_fields_at, time_len, written_time_at, time_at, line_at, metric_at, text_reading, reading, limited, has_too_many, content_of, is_blank_or_comment}
-use Rattle.line_proto.specs.Grammar.{HasNone, ends_word, is_space, IsWritten, Written, spaces, pair_text, pairs_text, time_text}
+use Rattle.line_proto.specs.Reading.{is_value_end, text_value_at, Line, placed, name_at, key_at, tag_value_at, tag_at, plain_value_at, value_at, field_at, fields_at, tags_at, behind_spaces, spaced_fields_at, time_len, written_time_at, time_at, line_at, metric_at, text_reading, reading, limited, content_of, is_blank_or_comment}
+use Rattle.line_proto.specs.Grammar.{ends_word, is_space, Written, spaces, time_text}
 use Rattle.line_proto.specs.Grammar.{behind_name, line_spelling, IsTag, IsQuoted, IsUnquoted, NoQuote, IsField}
-use Rattle.line_proto.specs.Grammar.{Meaning, AllAre, IsTime, NoHash, IsLine}
+use Rattle.line_proto.specs.Grammar.{IsTime, NoHash, IsLine}
 use Rattle.line_proto.proofs.Takes.{Meets}
 
 -- ---- chains that gave an answer

@@ -13,6 +13,9 @@ use Rattle.line_proto.specs.Kinds.{name_part, key_part, tag_value_part, text_par
 use Rattle.line_proto.specs.LineText.{as_written, name_escapes, key_escapes, text_escapes}
 use Rattle.text_parts.specs.Escaped.{escaped}
 use Rattle.text_parts.specs.Escaped.{Suits, NoBackslashEnd}
+use Rattle.text_parts.specs.Marks.{escapes_of, is_mark_of}
+use Rattle.text_parts.proofs.Escaping.{escaped-same, written_as_it_is}
+use Rattle.line_proto.specs.declared.write.TheConstants.{NAME_MARKS, KEY_MARKS, TEXT_MARKS}
 
 -- a byte is one of the marks
 abbrev pub is_mark : List ℕ → ℕ → Bool
@@ -89,6 +92,28 @@ key_marks b = rw (eqb_turned 44 b, eqb_turned 61 b, eqb_turned 32 b) (three (b =
 
 pub text_marks : (b : ℕ) → is_mark (codes "\"\\") b ≡ (b == 34 || b == 92)
 text_marks b = rw (eqb_turned 34 b, eqb_turned 92 b) (two (b == 34) (b == 92))
+
+-- ---- the escapes of a line's parts, as the code gives them
+
+once_more : (x y : Bool) → ((x || y) || y) ≡ (x || y)
+once_more true y = refl
+once_more false true = refl
+once_more false false = refl
+
+pub name_same : (text : List ℕ) → escaped (escapes_of NAME_MARKS) text ≡ escaped name_escapes text
+name_same text =
+    let same : (b : ℕ) → is_mark_of NAME_MARKS b ≡ is_mark (codes ", ") b = λ b. once_more (b == 44) (b == 32) ∙ sym (name_marks b) in
+    escaped-same (escapes_of NAME_MARKS) name_escapes same (λ b is. written_as_it_is NAME_MARKS refl b (same b ∙ is)) text
+
+pub key_same : (text : List ℕ) → escaped (escapes_of KEY_MARKS) text ≡ escaped key_escapes text
+key_same text =
+    let same : (b : ℕ) → is_mark_of KEY_MARKS b ≡ is_mark (codes ",= ") b = λ b. sym (key_marks b) in
+    escaped-same (escapes_of KEY_MARKS) key_escapes same (λ b is. written_as_it_is KEY_MARKS refl b (same b ∙ is)) text
+
+pub text_same : (text : List ℕ) → escaped (escapes_of TEXT_MARKS) text ≡ escaped text_escapes text
+text_same text =
+    let same : (b : ℕ) → is_mark_of TEXT_MARKS b ≡ is_mark (codes "\"\\") b = λ b. once_more (b == 34) (b == 92) ∙ sym (text_marks b) in
+    escaped-same (escapes_of TEXT_MARKS) text_escapes same (λ b is. written_as_it_is TEXT_MARKS refl b (same b ∙ is)) text
 
 turned_key : (x y z : Bool) → ((y || x) || z) ≡ true → ((x || y) || z) ≡ true
 turned_key true y z e = refl

@@ -1,46 +1,52 @@
 -- A whole line.
 use Rattle.std.proofs.Common.{◌≡◌, ℕ, ℤ, ◌<◌, true, false, cond, List, [], ◌∷◌, length, Result, Ok, Err, Option, refl, sym, ap, subst, arith}
-use Rattle.std.specs.Prelude.{◌==◌}
+use Rattle.std.specs.Prelude.{◌==◌, Some}
 use Rattle.std.specs.Str.Lossy.{utf8_valid_len}
 use Rattle.std.specs.Str.{IsUtf8, is_utf8}
 use Rattle.std.proofs.lemmas.Str.{IsUtf8-from_is_utf8, is_utf8-from_IsUtf8}
-use Rattle.std.proofs.lemmas.Bool.{ne_eqb}
-use Rattle.line_proto.specs.declared.draft.Draft.{Draft}
-use Rattle.line_proto.specs.Draft.{StandsFor, IsReady}
-use Rattle.line_proto.proofs.Drafts.{longer_pair}
 use Rattle.text_parts.specs.Many.{items_at}
 use Rattle.text_parts.specs.declared.error.ReadError.{ReadError}
 use Rattle.text_parts.specs.declared.error.ReadError.TheVariants as errors
 use Rattle.text_parts.specs.Chain.{◌>>=◌, Fails}
 use Rattle.metric.specs.declared.metric.Content.{Content}
-use Rattle.metric.specs.declared.builder.BuildFault.{BuildFault}
-use Rattle.metric.specs.declared.builder.BuildFault.TheVariants as builds
-use Rattle.metric.specs.Building.{Parts, finished, Finishes}
-use Rattle.metric.specs.Pairs.{has_empty_key, with_values, with_pair, in_first_order, in_first_order_on}
+use Rattle.metric.specs.declared.draft.DraftFault.{DraftFault}
+use Rattle.metric.specs.declared.draft.DraftFault.TheVariants as drafts
+use Rattle.metric.specs.Pairs.{with_pair, in_first_order, in_first_order_on}
+use Rattle.metric.specs.Draft.{Tag, Field, Drafted, StandsFor, IsReady, drafted, has_too_many}
+use Rattle.metric.proofs.DraftLemmas.{longer_pair}
 use Rattle.line_proto.specs.declared.fault.LineFault.{LineFault}
-use Rattle.line_proto.specs.declared.fault.LineKind.TheVariants.{NotUtf8, NoFields}
-use Rattle.line_proto.specs.Reading.{Tag, Field, fault, behind_spaces, field_at, fields_at, name_at, tags_at, spaced_fields_at, time_at, line_at, limited, metric_at, text_reading, reading}
+use Rattle.line_proto.specs.declared.fault.LineKind.TheVariants.{NotUtf8, NoFields, TooMany}
+use Rattle.line_proto.specs.Reading.{fault, behind_spaces, field_at, fields_at, name_at, tags_at, spaced_fields_at, time_at, line_at, limited, content_of, metric_at, text_reading, reading}
 use Rattle.std.proofs.lemmas.Int.{to_z-of_z}
 use mir.Val.{SFits, of_z, to_z}
 use mir.Syntax.{w64}
 
 -- ---- finishing
 
-pub finished_is : (parts : Parts) (time : ℤ) → 0 < length parts.name → has_empty_key parts.tags ≡ false → has_empty_key parts.fields ≡ false → 0 < length parts.fields
-    → finished parts time ≡ Ok (record { name = parts.name; tags = with_values parts.tags; fields = parts.fields; time = time })
-finished_is parts time named tags fields some =
-    let name : (length parts.name == 0) ≡ false = ne_eqb _ _ (λ e. absurd (omega arith)) in
-    let field : (length parts.fields == 0) ≡ false = ne_eqb _ _ (λ e. absurd (omega arith)) in
-    rw (name, tags, fields, field) refl
+metric_of : Result Content DraftFault → Content → Content
+metric_of (Ok metric) other = metric
+metric_of (Err f) other = other
 
-ok_err : (wanted : Result Content BuildFault) (content : Content) (f : BuildFault) → wanted ≡ Ok content → wanted ≡ Err f → ⊥
-ok_err wanted content f is h = cc
+pub limited_ok : (name : List ℕ) (tags : List Tag) (fields : List Field) (time : ℤ) (metric : Content) → drafted name tags fields time ≡ Ok metric
+    → limited (record { name = name; tags = tags; fields = fields; time = time }) ≡ Ok (Some metric)
+unfolding metric_of
+limited_ok name tags fields time metric e =
+    let content : Content = content_of (record { name = name; tags = tags; fields = fields; time = time }) in
+    elim (has_too_many tags fields) as (λ t. cond {A = Result Content DraftFault} t (Err drafts.TooMany) (Ok content) ≡ Ok metric
+    → cond {A = Result (Option Content) LineFault} t (Err (record { kind = TooMany; place = 0 })) (Ok (Some content)) ≡ Ok (Some metric)) [
+      | true ↦ λ is. absurd cc
+      | false ↦ λ is. ap (λ (r : Result Content DraftFault). Ok (Some (metric_of r metric))) is
+    ] e
 
-pub only_memory : (f : BuildFault) (wanted : Result Content BuildFault) (content : Content) → wanted ≡ Ok content → Finishes (Err f) wanted → f ≡ builds.OutOfMemory
-only_memory builds.OutOfMemory wanted content is h = refl
-only_memory builds.EmptyName wanted content is h = absurd (ok_err wanted content builds.EmptyName is h)
-only_memory builds.EmptyKey wanted content is h = absurd (ok_err wanted content builds.EmptyKey is h)
-only_memory builds.NoFields wanted content is h = absurd (ok_err wanted content builds.NoFields is h)
+pub limited_err : (name : List ℕ) (tags : List Tag) (fields : List Field) (time : ℤ) → drafted name tags fields time ≡ Err drafts.TooMany
+    → limited (record { name = name; tags = tags; fields = fields; time = time }) ≡ Err (record { kind = TooMany; place = 0 })
+limited_err name tags fields time e =
+    let content : Content = content_of (record { name = name; tags = tags; fields = fields; time = time }) in
+    elim (has_too_many tags fields) as (λ t. cond {A = Result Content DraftFault} t (Err drafts.TooMany) (Ok content) ≡ Err drafts.TooMany
+    → cond {A = Result (Option Content) LineFault} t (Err (record { kind = TooMany; place = 0 })) (Ok (Some content)) ≡ Err (record { kind = TooMany; place = 0 })) [
+      | true ↦ λ is. refl
+      | false ↦ λ is. absurd cc
+    ] e
 
 -- ---- the chain of a line's readings
 
@@ -110,7 +116,7 @@ first_some [] some = absurd (omega arith)
 first_some (pair ∷ given) some = kept_some ((pair.0, pair.1) ∷ []) given (omega arith)
 
 -- the draft of a line that is read makes a metric
-pub ready : (piece : List ℕ) (k l : ℕ) (draft : Draft) (tags : List Tag) (fields : List Field) (name : List ℕ) → draft.builder.name ≡ name → 0 < length name
+pub ready : (piece : List ℕ) (k l : ℕ) (draft : Drafted) (tags : List Tag) (fields : List Field) (name : List ℕ) → draft.parts.name ≡ name → 0 < length name
     → spaced_fields_at piece k ≡ Ok (fields, l) → StandsFor draft tags fields → IsReady draft
 ready piece k l draft tags fields name is filled read s = record {
   named = subst (λ (n : List ℕ). 0 < length n) (sym is) filled;

@@ -8,8 +8,9 @@ use Rattle.text_parts.specs.declared.error.ReadError.{ReadError}
 use Rattle.text_parts.specs.declared.error.ReadError.TheVariants as errors
 use Rattle.text_parts.specs.Chain.{Fails}
 use Rattle.text_parts.specs.Many.{items_at}
+use Rattle.metric.specs.Draft.{Field}
 use Rattle.line_proto.specs.declared.fault.LineFault.{LineFault}
-use Rattle.line_proto.specs.Reading.{Field, field_at, fields_at}
+use Rattle.line_proto.specs.Reading.{field_at, fields_at}
 
 -- where a comma stands
 pub comma_is : (piece : List ℕ) (at : ℕ) → eqb (get_or piece at 0) 44 ≡ true → get_or piece at 0 ≡ 44

@@ -23,7 +23,8 @@ use Rattle.fixed_num.proofs.Again.{places, reads_canonical}
 use Rattle.fixed_num.proofs.SpelledInts.{reads_ints, reads_uints}
 use Rattle.metric.specs.declared.value.Value.{Value}
 use Rattle.metric.specs.declared.value.Value.TheVariants.{Int, Uint, Fixed, «Bool» as Truth, Text}
-use Rattle.line_proto.specs.Grammar.{HasNone, ends_word, is_space}
+use Rattle.text_parts.specs.Grammar.{HasNone}
+use Rattle.line_proto.specs.Grammar.{ends_word, is_space}
 use Rattle.line_proto.specs.LineText.{value_text}
 use Rattle.metric.specs.Metric.{IsValue}
 use Rattle.line_proto.proofs.PlainBytes.{IsNoText}

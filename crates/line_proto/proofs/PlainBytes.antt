@@ -6,7 +6,7 @@ use Rattle.std.specs.Str.{IsUtf8, IsAscii}
 use Rattle.std.proofs.lemmas.Bool.{or_parts, and_parts, ltb-true}
 use Rattle.std.proofs.lemmas.List.{reverse-append}
 use Rattle.std.proofs.lemmas.Str.{IsUtf8-append, IsUtf8-from_ascii}
-use Rattle.line_proto.specs.Grammar.{HasNone}
+use Rattle.text_parts.specs.Grammar.{HasNone}
 use Rattle.line_proto.specs.OneLine.{ends_line}
 use Rattle.metric.specs.declared.value.Value.{Value}
 use Rattle.metric.specs.declared.value.Value.TheVariants.{Int, Uint, Fixed, «Bool» as Truth, Text}

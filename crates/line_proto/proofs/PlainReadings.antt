@@ -5,7 +5,7 @@ use Rattle.std.specs.Prelude.{◌&&◌, ◌||◌, ◌==◌, ◌⊎◌}
 use Rattle.std.specs.List.{AllByRecursion}
 use Rattle.std.proofs.lemmas.Bool.{or_parts, eqb-true, ne_eqb, ltb-false}
 use Rattle.text_parts.specs.Part.{Kind, is_escape}
-use Rattle.text_parts.specs.Grammar.{Mark, Escaped, Bare, spelled, meant, IsPart}
+use Rattle.text_parts.specs.Grammar.{Mark, Escaped, Bare, spelled, meant, IsPart, HasNone, IsWritten}
 use Rattle.fixed_num.specs.declared.fixed.NumFault.{NumFault}
 use Rattle.fixed_num.specs.declared.fixed.NumFault.TheVariants as numbers
 use Rattle.fixed_num.specs.Fixed.{read_as}
@@ -15,12 +15,14 @@ use Rattle.metric.specs.declared.value.Value.TheVariants as values
 use Rattle.metric.specs.declared.metric.Content.{Content}
 use Rattle.metric.specs.Pairs.{in_key_order, in_key_order_on, in_first_order, in_first_order_on, with_sorted, with_pair, with_values}
 use Rattle.metric.proofs.MetricLemmas.{each_pair, each_sorted}
+use Rattle.text_parts.specs.Pairs.{pair_text, pairs_text, AllAre}
+use Rattle.metric.specs.Draft.{Tag, Field, has_too_many}
 use Rattle.line_proto.specs.declared.fault.LineKind.{LineKind}
 use Rattle.line_proto.specs.Kinds.{name_part, key_part, tag_value_part, text_part}
 use Rattle.line_proto.specs.Values.{typed, number_of, truth_of, value_of, value_from, last_byte, before_last_byte}
-use Rattle.line_proto.specs.Grammar.{HasNone, NoHash, IsWritten, Written, spaces, pair_text, pairs_text, behind_fields, behind_tags, behind_name}
-use Rattle.line_proto.specs.Grammar.{line_spelling, IsTag, IsQuoted, IsUnquoted, IsField, AllAre, IsLine}
-use Rattle.line_proto.specs.Reading.{Tag, Field, Line, content_of, has_too_many, reading}
+use Rattle.line_proto.specs.Grammar.{NoHash, Written, spaces, behind_fields, behind_tags, behind_name}
+use Rattle.line_proto.specs.Grammar.{line_spelling, IsTag, IsQuoted, IsUnquoted, IsField, IsLine}
+use Rattle.line_proto.specs.Reading.{Line, content_of, reading}
 use Rattle.line_proto.specs.OneLine.{ends_line}
 use Rattle.text_parts.specs.Escaped.{NoBackslashEnd}
 use Rattle.line_proto.specs.RoundTrip.{IsPlainWord, IsPlainValue, IsPlain}

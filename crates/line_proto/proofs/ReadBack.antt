@@ -8,7 +8,7 @@ use Rattle.std.specs.Str.{IsUtf8}
 use Rattle.std.proofs.lemmas.Bool.{or_parts}
 use Rattle.std.proofs.lemmas.List.{append-nil, reverse-append, length-append, take_all}
 use Rattle.std.proofs.lemmas.Str.{IsUtf8-append}
-use Rattle.text_parts.specs.Grammar.{Ends}
+use Rattle.text_parts.specs.Grammar.{Ends, HasNone, IsWritten}
 use Rattle.text_parts.specs.Part.{Kind}
 use Rattle.metric.specs.declared.metric.Content.{Content}
 use Rattle.metric.specs.declared.value.Value.{Value}
@@ -16,13 +16,15 @@ use Rattle.metric.specs.declared.value.Value.TheVariants.{Int, Uint, Fixed, «Bo
 use Rattle.metric.specs.Metric as metrics
 use Rattle.metric.specs.Metric.{IsMetric, IsWord, IsValue}
 use Rattle.metric.specs.Pairs.{in_key_order, in_first_order, with_values}
+use Rattle.text_parts.specs.Pairs.{pair_text, pairs_text, AllAre}
+use Rattle.metric.specs.Draft.{Tag, Field}
 use Rattle.line_proto.specs.Kinds.{name_part, key_part, tag_value_part, text_part}
-use Rattle.line_proto.specs.Grammar.{HasNone, NoHash, NoQuote, IsWritten, Written, pair_text, pairs_text, line_spelling, IsTag, IsField}
-use Rattle.line_proto.specs.Grammar.{IsQuoted, IsUnquoted, AllAre, IsLine}
+use Rattle.line_proto.specs.Grammar.{NoHash, NoQuote, Written, line_spelling, IsTag, IsField}
+use Rattle.line_proto.specs.Grammar.{IsQuoted, IsUnquoted, IsLine}
 use Rattle.line_proto.specs.LineText.{on_one_line, trimmed, name_text, key_text, value_text, tag_text, field_text, name_escapes, key_escapes, text_escapes}
 use Rattle.text_parts.specs.Escaped.{escaped}
 use Rattle.line_proto.specs.LineText.{head_text, line_text}
-use Rattle.line_proto.specs.Reading.{Tag, Field, Line, content_of, reading}
+use Rattle.line_proto.specs.Reading.{Line, content_of, reading}
 use Rattle.line_proto.specs.OneLine.{ends_line}
 use Rattle.text_parts.specs.Escaped.{Escapes, Suits, NoBackslashEnd}
 use Rattle.line_proto.specs.RoundTrip.{IsPlainWord, IsPlainValue, IsPlain}

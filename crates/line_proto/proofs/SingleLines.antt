@@ -8,12 +8,12 @@ use Rattle.std.proofs.lemmas.Bool.{ne_eqb}
 use Rattle.metric.specs.declared.value.Value.{Value}
 use Rattle.metric.specs.declared.value.Value.TheVariants.{Int, Uint, Fixed, «Bool» as Truth, Text}
 use Rattle.metric.specs.declared.metric.Content.{Content}
-use Rattle.line_proto.specs.Grammar.{HasNone}
+use Rattle.text_parts.specs.Grammar.{HasNone}
+use Rattle.metric.specs.Draft.{Tag, Field}
 use Rattle.line_proto.specs.LineText.{spaced, on_one_line, trimmed, or_underscore, without_hash, name_text, key_text, value_text, tag_text, field_text, head_text, line_text, as_written, text_escapes}
 use Rattle.text_parts.specs.Escaped.{escaped_byte, escaped}
 use Rattle.line_proto.specs.OneLine.{ends_line}
 use Rattle.metric.specs.Metric.{IsMetric, IsValue, IsField}
-use Rattle.line_proto.specs.Reading.{Tag, Field}
 use Rattle.line_proto.proofs.NumberTexts.{number_none, number_signed, number_decimal, number_canonical}
 use Rattle.line_proto.proofs.PlainBytes.{none-append}
 

@@ -8,19 +8,21 @@ use Rattle.std.proofs.lemmas.Str.{is_utf8-from_IsUtf8}
 use Rattle.std.proofs.lemmas.Bool.{ne_eqb, eq-eqb}
 use Rattle.std.proofs.lemmas.List.{take_at, drop_at, drop-drop, get_or-drop, length-append, append-nil}
 use Rattle.text_parts.specs.Part.{Kind, part_len, len_at, text_at, plain}
-use Rattle.text_parts.specs.Grammar.{Mark, Escaped, Bare, spelled, meant, IsPart}
-use Rattle.text_parts.proofs.Marks.{part_is_read}
+use Rattle.text_parts.specs.Grammar.{Mark, Escaped, Bare, spelled, meant, IsPart, HasNone, IsWritten}
+use Rattle.text_parts.proofs.MarkLemmas.{part_is_read}
 use Rattle.text_parts.proofs.Spans.{unhidden_part}
 use Rattle.text_parts.specs.Many.{Reader, many_at}
 use Rattle.metric.specs.declared.value.Value.{Value}
+use Rattle.metric.specs.Draft.{Tag, Field, has_too_many}
+use Rattle.text_parts.specs.Pairs.{pair_text, pairs_text, Meaning, AllAre}
 use Rattle.line_proto.specs.declared.fault.LineFault.{LineFault}
 use Rattle.line_proto.specs.Kinds.{name_part, key_part, tag_value_part, text_part, value_part}
 use Rattle.fixed_num.specs.Decimal.{decimal_of}
 use Rattle.line_proto.specs.Values.{value_of, truth_of, number_of, time_of}
-use Rattle.line_proto.specs.Reading.{is_value_end, text_value_at, Tag, Field, Line, name_at, key_at, tag_value_at, tag_at, plain_value_at, value_at, field_at, tags_at, fields_at, behind_spaces, spaced_fields_at, written_time_at, time_at, time_len, line_at, content_of, has_too_many, metric_at, text_reading, reading}
-use Rattle.line_proto.specs.Grammar.{HasNone, ends_word, is_space, IsWritten, Written, spaces, pair_text, pairs_text, time_text}
+use Rattle.line_proto.specs.Reading.{is_value_end, text_value_at, Line, name_at, key_at, tag_value_at, tag_at, plain_value_at, value_at, field_at, tags_at, fields_at, behind_spaces, spaced_fields_at, written_time_at, time_at, time_len, line_at, content_of, metric_at, text_reading, reading}
+use Rattle.line_proto.specs.Grammar.{ends_word, is_space, Written, spaces, time_text}
 use Rattle.line_proto.specs.Grammar.{behind_fields, behind_tags, behind_name, line_spelling, IsTag, IsQuoted, IsUnquoted, NoQuote, IsField}
-use Rattle.line_proto.specs.Grammar.{Meaning, AllAre, IsTime, NoHash, IsLine}
+use Rattle.line_proto.specs.Grammar.{IsTime, NoHash, IsLine}
 
 -- the text begins with a byte that passes the test, or is empty
 abbrev pub Meets : (ℕ → Bool) → List ℕ → Type 0

@@ -11,15 +11,17 @@ use Rattle.text_parts.specs.Chain.{◌>>=◌}
 use Rattle.text_parts.specs.Part.{len_at, text_at}
 use Rattle.text_parts.specs.Many.{Reader, many_at, items_at}
 use Rattle.text_parts.proofs.Spans.{position_or_len_le}
+use Rattle.text_parts.specs.Pairs.{Meaning}
+use Rattle.metric.specs.Draft.{has_too_many}
 use Rattle.line_proto.specs.declared.fault.LineKind.{LineKind}
 use Rattle.line_proto.specs.declared.fault.LineKind.TheVariants.{NoFields, BadKey, BadValue, BadTime, NotUtf8, TooMany}
 use Rattle.line_proto.specs.declared.fault.LineFault.{LineFault}
 use Rattle.line_proto.specs.Kinds.{name_part, key_part, tag_value_part, text_part, value_part}
 use Rattle.line_proto.specs.Values.{value_of, time_of}
-use Rattle.line_proto.specs.Grammar.{Meaning, IsTag, IsField, is_space}
+use Rattle.line_proto.specs.Grammar.{IsTag, IsField, is_space}
 use Rattle.line_proto.specs.Reading.{fault, placed, name_at, key_at, tag_value_at, tag_at, text_value_at, plain_value_at, value_at}
 use Rattle.line_proto.specs.Reading.{field_at, tags_at, fields_at, behind_spaces, spaced_fields_at, time_len, written_time_at, time_at, line_at}
-use Rattle.line_proto.specs.Reading.{limited, has_too_many, content_of, metric_at, is_blank_or_comment, is_value_end, text_reading, reading}
+use Rattle.line_proto.specs.Reading.{limited, content_of, metric_at, is_blank_or_comment, is_value_end, text_reading, reading}
 use Rattle.line_proto.proofs.Again.{PairRead, ends_meet, name_again, key_again, tag_again, field_again, many_again, byte_spans, spaces_again, spaced_fields_again}
 
 place_or : {A : Type 0} → Result A LineFault → ℕ

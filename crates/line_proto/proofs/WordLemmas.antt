@@ -1,12 +1,12 @@
 -- Texts of plain bytes are written as they are.
-use Rattle.std.proofs.Common.{◌≡◌, ◌==◌, ◌-◌, ◌<◌, ℕ, zero, suc, Bool, true, false, List, [], ◌∷◌, length, take, get_or, refl, sym, ap, ◌∙◌}
+use Rattle.std.proofs.Common.{◌≡◌, ◌==◌, ◌-◌, ◌<◌, ℕ, zero, suc, true, false, List, [], ◌∷◌, length, take, get_or, refl, sym, ap, ◌∙◌}
 use Rattle.std.specs.Prelude.{codes}
 use Rattle.std.specs.List.{list_all, suffix_len}
 use Rattle.std.proofs.lemmas.Bool.{and_parts, ne_eqb}
 use Rattle.metric.specs.Plain.{is_plain}
 use Rattle.text_parts.specs.Escaped.{escaped}
-use Rattle.line_proto.specs.LineText.{on_one_line, trimmed, text_escapes, key_text, name_text, is_bare}
-use Rattle.line_proto.proofs.WriteLemmas.{bare_text, kept_key, kept_name}
+use Rattle.line_proto.specs.LineText.{on_one_line, trimmed, text_escapes, key_text, name_text}
+use Rattle.line_proto.proofs.WriteLemmas.{is_bare, bare_text, kept_key, kept_name}
 
 clash : (b c : ℕ) → is_plain b ≡ true → is_plain c ≡ false → b ≡ c → ⊥
 clash b c plain marked same = let e : false ≡ true = sym marked ∙ ap is_plain (sym same) ∙ plain in absurd (cc)

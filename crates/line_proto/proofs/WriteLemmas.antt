@@ -8,10 +8,15 @@ use Rattle.std.proofs.lemmas.List.Folds.{flat_map-map}
 use Rattle.std.specs.List.{take-map}
 use Rattle.std.specs.Prelude.{codes}
 use Rattle.metric.specs.declared.value.Value.{Value}
-use Rattle.line_proto.specs.LineText.{spaced, on_one_line, trimmed, or_underscore, without_hash, key_text, name_text, field_text, is_bare, as_written, name_escapes, key_escapes}
-use Rattle.text_parts.specs.Escaped.{escaped, escaped_byte}
+use Rattle.line_proto.specs.OneLine.{ends_line}
+use Rattle.line_proto.specs.LineText.{spaced, on_one_line, trimmed, or_underscore, without_hash, key_text, name_text, field_text, as_written, name_escapes, key_escapes}
+use Rattle.text_parts.specs.Escaped.{Escapes, escaped, escaped_byte}
 
 -- ---- bytes that are written as they are
+
+-- a byte that is written as it is
+abbrev pub is_bare : List ℕ → ℕ → Bool
+is_bare marks b = not (b == 10) && not (b == 13) && not (list_any (λ mark. mark == b) marks)
 
 bare_byte : (marks : List ℕ) (b : ℕ) → is_bare marks b ≡ true → escaped_byte (as_written marks) (spaced b) ≡ b ∷ []
 bare_byte marks b h =
@@ -22,9 +27,9 @@ bare_byte marks b h =
     let no_mark : list_any (λ mark. mark == b) marks ≡ false = not-true _ ends.1 in
     rw (no_newline, no_return, no_mark) refl
 
-pub written_bytes : (marks text : List ℕ) → escaped (as_written marks) (on_one_line text) ≡ flat_map (λ b. escaped_byte (as_written marks) (spaced b)) text
+written_bytes : (e : Escapes) (text : List ℕ) → escaped e (on_one_line text) ≡ flat_map (λ b. escaped_byte e (spaced b)) text
 unfolding escaped
-written_bytes marks text = flat_map-map (escaped_byte (as_written marks)) spaced text
+written_bytes e text = flat_map-map (escaped_byte e) spaced text
 
 bare_bytes : (marks text : List ℕ) → list_all (is_bare marks) text ≡ true → flat_map (λ b. escaped_byte (as_written marks) (spaced b)) text ≡ text
 bare_bytes marks [] h = refl
@@ -33,7 +38,15 @@ bare_bytes marks (b ∷ bs) h =
     rw (bare_byte marks b parts.0) (ap (λ rest. b ∷ rest) (bare_bytes marks bs parts.1))
 
 pub bare_text : (marks text : List ℕ) → list_all (is_bare marks) text ≡ true → escaped (as_written marks) (on_one_line text) ≡ text
-bare_text marks text h = written_bytes marks text ∙ bare_bytes marks text h
+bare_text marks text h = written_bytes (as_written marks) text ∙ bare_bytes marks text h
+
+-- a text without ends of lines is in one line
+pub same_line : (text : List ℕ) → list_all (λ b. not (ends_line b)) text ≡ true → on_one_line text ≡ text
+same_line [] h = refl
+same_line (b ∷ bs) h =
+    let parts = and_parts (not (ends_line b)) (list_all (λ c. not (ends_line c)) bs) h in
+    let no_end : ends_line b ≡ false = not-true _ parts.0 in
+    rw no_end (ap (λ (rest : List ℕ). b ∷ rest) (same_line bs parts.1))
 
 -- ---- backslashes at the end
 
@@ -65,10 +78,10 @@ trimmed-on_one_line text =
 -- ---- loops
 
 -- all bytes were written
-pub all_written : (out old marks text : List ℕ) (i : ℕ) → length text ≤ i → out ≡ old ++ flat_map (λ b. escaped_byte (as_written marks) (spaced b)) (take i text) → out ≡ old ++ escaped (as_written marks) (on_one_line text)
-all_written out old marks text i end h =
+pub all_written : (out old : List ℕ) (e : Escapes) (text : List ℕ) (i : ℕ) → length text ≤ i → out ≡ old ++ flat_map (λ b. escaped_byte e (spaced b)) (take i text) → out ≡ old ++ escaped e (on_one_line text)
+all_written out old e text i end h =
     let all : take i text ≡ text = grind (arith, common_steps) in
-    h ∙ ap (λ bytes. old ++ flat_map (λ b. escaped_byte (as_written marks) (spaced b)) bytes) all ∙ ap (λ bytes. old ++ bytes) (sym (written_bytes marks text))
+    h ∙ ap (λ bytes. old ++ flat_map (λ b. escaped_byte e (spaced b)) bytes) all ∙ ap (λ bytes. old ++ bytes) (sym (written_bytes e text))
 
 -- ---- keys and names
 

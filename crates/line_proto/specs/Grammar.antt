@@ -1,21 +1,17 @@
 -- Lines as they are written.
-use Rattle.std.specs.Prelude.{◌≡◌, ◌<◌, ℕ, ℤ, ◌==◌, ◌||◌, Bool, false, List, [], ◌∷◌, ◌++◌, length, replicate}
+use Rattle.std.specs.Prelude.{◌≡◌, ◌<◌, ℕ, ℤ, ◌==◌, ◌||◌, Bool, false, List, [], ◌∷◌, ◌++◌, replicate}
 use Rattle.std.specs.Prelude.{Option, Some, None, Ok, ◌⊎◌}
 use Rattle.std.specs.Str.{IsUtf8}
 use Rattle.text_parts.specs.Bytes.{space, double_quote, hash, comma, equals_sign}
-use Rattle.text_parts.specs.Grammar.{Mark, spelled, meant, IsPart}
-use Rattle.text_parts.specs.Part.{Kind}
+use Rattle.text_parts.specs.Grammar.{Mark, spelled, meant, IsPart, HasNone, IsWritten}
+use Rattle.text_parts.specs.Pairs.{pair_text, pairs_text, AllAre}
 use Rattle.metric.specs.declared.value.Value.{Value}
 use Rattle.metric.specs.declared.value.Value.TheVariants.{Text}
 use Rattle.metric.specs.declared.metric.Content.{Content}
+use Rattle.metric.specs.Draft.{Tag, Field, has_too_many}
 use Rattle.line_proto.specs.Kinds.{name_part, key_part, tag_value_part, text_part}
 use Rattle.line_proto.specs.Values.{value_of, time_of}
-use Rattle.line_proto.specs.Reading.{Tag, Field, Line, content_of, has_too_many, reading}
-
--- no byte passes the test
-abbrev pub HasNone : (ℕ → Bool) → List ℕ → Type 0
-HasNone p [] = Unit {0}
-HasNone p (b ∷ bs) = (p b ≡ false) × HasNone p bs
+use Rattle.line_proto.specs.Reading.{Line, content_of, reading}
 
 -- what ends the value of a field; a space
 abbrev pub ends_word : ℕ → Bool
@@ -23,14 +19,6 @@ ends_word b = b == comma || b == space
 
 abbrev pub is_space : ℕ → Bool
 is_space b = b == space
-
--- the text is a filled part of this kind in front of the rest, and means this
-pub record IsWritten (k : Kind) (text rest means : List ℕ) : Type 0 where
-  pub some : 0 < length text
-  pub marks : List Mark
-  pub is : text ≡ spelled marks
-  pub part : IsPart k marks rest
-  pub says : meant k marks ≡ means
 
 -- a line as it is written: spaces, a measurement, tags, spaces, fields, perhaps spaces and a time, spaces
 pub record Written : Type 0 where
@@ -45,15 +33,6 @@ pub record Written : Type 0 where
 
 abbrev pub spaces : ℕ → List ℕ
 spaces n = replicate n space
-
--- `key=value`
-abbrev pub pair_text : List ℕ × List ℕ → List ℕ
-pair_text pair = pair.0 ++ equals_sign ∷ pair.1
-
--- pairs, each behind a comma
-abbrev pub pairs_text : List (List ℕ × List ℕ) → List ℕ
-pairs_text [] = []
-pairs_text (pair ∷ pairs) = comma ∷ (pair_text pair ++ pairs_text pairs)
 
 -- a time behind its spaces
 abbrev pub time_text : Option (ℕ × List ℕ) → List ℕ
@@ -101,17 +80,6 @@ pub record IsUnquoted (written : List ℕ) (value : Value) : Type 0 where
 pub record IsField (written : List ℕ × List ℕ) (rest : List ℕ) (field : Field) : Type 0 where
   pub key : IsWritten key_part written.0 (equals_sign ∷ (written.1 ++ rest)) field.0
   pub value : IsQuoted written.1 rest field.1 ⊎ IsUnquoted written.1 field.1
-
--- what a written pair in front of a rest may be
-abbrev pub Meaning : Type 0 → Type 1
-Meaning X = List ℕ × List ℕ → List ℕ → X → Type 0
-
--- the written pairs in front of the rest are the items, one by one
-abbrev pub AllAre : {X : Type 0} → Meaning X → List (List ℕ × List ℕ) → List ℕ → List X → Type 0
-AllAre Is [] rest [] = Unit {0}
-AllAre Is [] rest (x ∷ xs) = ⊥
-AllAre Is (w ∷ ws) rest [] = ⊥
-AllAre Is (w ∷ ws) rest (x ∷ xs) = Is w (pairs_text ws ++ rest) x × AllAre Is ws rest xs
 
 -- the time that is written behind a space, or the moment where none is
 abbrev pub IsTime : Option (ℕ × List ℕ) → ℤ → ℤ → Type 0

@@ -5,7 +5,6 @@ pub mod Views
 pub mod Draft
 pub mod Grammar
 pub mod LineText
-pub mod Marks
 pub mod OneLine
 pub mod RoundTrip
 pub mod Faults

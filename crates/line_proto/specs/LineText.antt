@@ -1,5 +1,5 @@
 -- The text of a metric in line protocol.
-use Rattle.std.specs.Prelude.{◌==◌, ◌||◌, ◌&&◌, not, ◌-◌, ℕ, Bool, List, [], ◌∷◌, ◌++◌, length, take, map}
+use Rattle.std.specs.Prelude.{◌==◌, ◌||◌, ◌-◌, ℕ, List, [], ◌∷◌, ◌++◌, length, take, map}
 use Rattle.std.specs.Prelude.{flat_map, codes, if◌then◌else◌}
 use Rattle.std.specs.List.{list_any, suffix_len, join_by}
 use Rattle.std.specs.Fmt.{decimal, signed_decimal}
@@ -45,10 +45,6 @@ key_escapes = as_written (codes ",= ")
 
 abbrev pub text_escapes : Escapes
 text_escapes = as_written (codes "\"\\")
-
--- a byte that is written as it is
-abbrev pub is_bare : List ℕ → ℕ → Bool
-is_bare marks b = not (b == newline) && not (b == carriage_return) && not (list_any (λ mark. mark == b) marks)
 
 -- a measurement
 unfoldable pub name_text : List ℕ → List ℕ

@@ -3,7 +3,7 @@ use Rattle.std.specs.Prelude.{◌≡◌, ℕ, ◌==◌, ◌||◌, Bool, List, �
 use Rattle.metric.specs.declared.metric.Content.{Content}
 use Rattle.metric.specs.Metric.{IsMetric}
 use Rattle.text_parts.specs.Bytes.{newline, carriage_return}
-use Rattle.line_proto.specs.Grammar.{HasNone}
+use Rattle.text_parts.specs.Grammar.{HasNone}
 use Rattle.line_proto.specs.LineText.{line_text}
 
 -- a newline or a carriage return

@@ -1,6 +1,6 @@
 -- Reading a line from left to right, with the first fault that is met.
 use Rattle.std.specs.Prelude.{ℕ, ℤ, ◌+◌, ◌==◌, ◌||◌, not, Bool, List, ◌∷◌, length, take, drop, Option, Some}
-use Rattle.std.specs.Prelude.{None, Result, Ok, Err, slice_index, nat_lt, if◌then◌else◌}
+use Rattle.std.specs.Prelude.{None, Result, Ok, Err, slice_index, if◌then◌else◌}
 use Rattle.std.specs.List.{position_or_len}
 use Rattle.std.specs.Str.{is_utf8}
 use Rattle.std.specs.Str.Lossy.{utf8_valid_len}
@@ -11,6 +11,7 @@ use Rattle.text_parts.specs.Many.{items_at}
 use Rattle.metric.specs.declared.value.Value.{Value}
 use Rattle.metric.specs.declared.value.Value.TheVariants as values
 use Rattle.metric.specs.declared.metric.Content.{Content}
+use Rattle.metric.specs.Draft.{Tag, Field, has_too_many}
 use Rattle.metric.specs.Pairs.{in_key_order, in_first_order, with_values}
 use Rattle.line_proto.specs.declared.fault.LineFault.{LineFault}
 use Rattle.line_proto.specs.declared.fault.LineKind.{LineKind}
@@ -18,13 +19,6 @@ use Rattle.line_proto.specs.declared.fault.LineKind.TheVariants.{NoFields, BadKe
 use Rattle.line_proto.specs.declared.fault.LineKind.TheVariants.{TooMany}
 use Rattle.line_proto.specs.Kinds.{name_part, key_part, tag_value_part, text_part, value_part}
 use Rattle.line_proto.specs.Values.{value_of, time_of}
-
--- a tag is a key and its value; so is a field
-abbrev pub Tag : Type 0
-Tag = List ℕ × List ℕ
-
-abbrev pub Field : Type 0
-Field = List ℕ × Value
 
 -- a fault at a place
 abbrev pub fault : {A : Type 0} → LineKind → ℕ → Result A LineFault
@@ -153,10 +147,6 @@ content_of line = record {
 }
 
 -- a metric has at most 64 tags and 256 fields
-abbrev pub has_too_many : List Tag → List Field → Bool
-has_too_many tags fields =
-    nat_lt 64 (length (in_key_order tags)) || nat_lt 256 (length (in_first_order fields))
-
 abbrev pub limited : Line → Result (Option Content) LineFault
 limited line = if has_too_many line.tags line.fields then fault TooMany 0 else Ok (Some (content_of line))
 

@@ -6,10 +6,12 @@ use Rattle.metric.specs.Metric.{IsMetric}
 use Rattle.metric.specs.declared.value.Value.{Value}
 use Rattle.metric.specs.declared.value.Value.TheVariants.{Int, Uint, Fixed, «Bool» as Truth, Text}
 use Rattle.metric.specs.declared.metric.Content.{Content}
-use Rattle.line_proto.specs.Grammar.{HasNone, NoHash}
+use Rattle.text_parts.specs.Grammar.{HasNone}
+use Rattle.metric.specs.Draft.{Tag, Field}
+use Rattle.line_proto.specs.Grammar.{NoHash}
 use Rattle.line_proto.specs.LineText.{line_text}
 use Rattle.line_proto.specs.OneLine.{ends_line}
-use Rattle.line_proto.specs.Reading.{Tag, Field, reading}
+use Rattle.line_proto.specs.Reading.{reading}
 
 -- a name, a key or the value of a tag that is written as it is, but for escapes
 pub record IsPlainWord (text : List ℕ) : Type 0 where

@@ -1,7 +1,6 @@
 //! InfluxDB line protocol: readings of lines, and the lines of metrics.
 #![tactic(auto)]
 
-mod draft;
 mod fault;
 mod laws;
 mod read;

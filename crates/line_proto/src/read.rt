@@ -2,17 +2,17 @@
 ghost use Rattle.std.specs.Prelude.{◌≡◌, ◌≤◌, List, [], length, IfOk};
 ghost use Rattle.std.specs.Str.{IsCharBoundary};
 ghost use Rattle.text_parts.specs.Chain.{Gives};
-ghost use Rattle.line_proto.specs.Draft.{StandsFor, HasFields};
-ghost use Rattle.line_proto.specs.Reading.{Tag, spaced_fields_at, metric_at, text_reading, reading};
+ghost use Rattle.metric.specs.Draft.{Tag, Field, StandsFor, IsReady};
+ghost use Rattle.line_proto.specs.Draft.{HasFields};
+ghost use Rattle.line_proto.specs.Reading.{spaced_fields_at, limited, metric_at, text_reading, reading};
 ghost use Rattle.line_proto.specs.Views.{Answers};
 
-use crate::draft::Draft;
 use crate::fault::{LineFault, LineKind};
 use crate::read_items::{begin, read_fields, read_tags};
 use crate::read_parts::{behind_spaces, fault, name_at};
 use crate::read_value::time_at;
 use fixed_num::Moment;
-use metric::Metric;
+use metric::{Draft, DraftFault, Metric};
 use std::alloc::Global;
 use text_parts::ReadError;
 
@@ -25,7 +25,7 @@ fn read_spaced_fields(
     draft: &mut Draft,
 ) -> Result<usize, ReadError<LineFault>>
     requires boundary { IsCharBoundary piece.now i }
-    ensures name { draft.new.builder.name ≡ draft.old.builder.name }
+    ensures name { draft.new.parts.name ≡ draft.old.parts.name }
     ensures fields { (tags : List Tag) → StandsFor draft.old tags []
         → HasFields draft.new tags result (spaced_fields_at piece.now i) }
     ensures behind { IfOk result (λ x. x ≤ length piece.now) }
@@ -35,6 +35,20 @@ fn read_spaced_fields(
         return Err(fault(LineKind::NoFields, start));
     }
     read_fields(alloc, piece, start, draft)
+}
+
+/// The metric of a draft at a time, unless there are too many tags or fields.
+fn finish(draft: Draft, time: Moment) -> Result<Option<Metric>, ReadError<LineFault>>
+    requires { IsReady draft }
+    ensures { (tags : List Tag) (fields : List Field) → StandsFor draft tags fields
+        → Gives (λ x. x) result
+        (limited (record { name = draft.parts.name; tags = tags; fields = fields; time = time })) }
+{
+    match draft.finish(time) {
+        Ok(metric) => Ok(Some(metric)),
+        Err(DraftFault::OutOfMemory) => Err(ReadError::OutOfMemory),
+        Err(DraftFault::TooMany) => Err(fault(LineKind::TooMany, 0)),
+    }
 }
 
 /// The metric of the line that begins at a place.
@@ -52,7 +66,7 @@ fn metric_at(
     let i = read_tags(alloc, piece, name.end, &mut draft)?;
     let i = read_spaced_fields(alloc, piece, i, &mut draft)?;
     let time = time_at(piece.as_bytes(), i, moment)?;
-    draft.finish(time)
+    finish(draft, time)
 }
 
 /// The metric that a text is, or none where it is blank or a comment.

@@ -6,15 +6,15 @@ ghost use Rattle.text_parts.specs.Bytes.{comma};
 ghost use Rattle.text_parts.specs.Part.{text_at};
 ghost use Rattle.text_parts.specs.Span.{IsSpan};
 ghost use Rattle.text_parts.specs.declared.error.ReadError.TheVariants.{OutOfMemory};
-ghost use Rattle.line_proto.specs.Draft.{StandsFor, HasTags, HasFields};
+ghost use Rattle.metric.specs.Draft.{StandsFor, Tag, Field};
+ghost use Rattle.line_proto.specs.Draft.{HasTags, HasFields};
 ghost use Rattle.line_proto.specs.Kinds.{name_part, key_part, tag_value_part};
-ghost use Rattle.line_proto.specs.Reading.{Tag, Field, tags_at, fields_at};
+ghost use Rattle.line_proto.specs.Reading.{tags_at, fields_at};
 
-use crate::draft::Draft;
 use crate::fault::LineFault;
 use crate::read_parts::{KEY, NAME, TAG_VALUE, tag_at};
 use crate::read_value::field_at;
-use metric::Value;
+use metric::{Draft, Value};
 use std::alloc::Global;
 use text_parts::{ReadError, Span, part_text, span_text};
 
@@ -28,39 +28,15 @@ fn comma_at(piece: &str, at: usize) -> bool
 /// A metric whose measurement stands there, with no tags and no fields yet.
 pub(crate) fn begin(alloc: Global, piece: &str, name: &Span) -> Result<Draft, ReadError<LineFault>>
     requires { IsSpan name_part piece.now name.now }
-    ensures name { IfOk result (λ draft. draft.builder.name ≡ text_at name_part piece.now name.now.start) }
+    ensures name { IfOk result (λ draft. draft.parts.name ≡ text_at name_part piece.now name.now.start) }
     ensures none { IfOk result (λ draft. StandsFor draft [] []) }
     ensures err { IfErr result (λ e. e ≡ OutOfMemory) }
 {
     if name.escaped {
         let name = part_text(alloc, &NAME, piece, name.start)?;
-        return Draft::new(alloc, name.as_str());
+        return Ok(Draft::new(alloc, name.as_str())?);
     }
-    Draft::new(alloc, span_text(piece, name))
-}
-
-/// Puts a tag into a draft whose key or value has a backslash.
-fn put_escaped_tag(
-    alloc: Global,
-    piece: &str,
-    key: &Span,
-    value: &Span,
-    draft: &mut Draft,
-) -> Result<(), ReadError<LineFault>>
-    requires key { IsSpan key_part piece.now key.now }
-    requires filled { key.now.start < key.now.end }
-    requires value { IsSpan tag_value_part piece.now value.now }
-    ensures name { draft.new.builder.name ≡ draft.old.builder.name }
-    ensures ok { IfOk result (λ done. (tags : List Tag) (fields : List Field)
-        → StandsFor draft.old tags fields → StandsFor draft.new (tags ++ (
-          text_at key_part piece.now key.now.start,
-          text_at tag_value_part piece.now value.now.start,
-        ) ∷ []) fields) }
-    ensures err { IfErr result (λ e. e ≡ OutOfMemory) }
-{
-    let key = part_text(alloc, &KEY, piece, key.start)?;
-    let value = part_text(alloc, &TAG_VALUE, piece, value.start)?;
-    draft.tag(key.as_str(), value.as_str())
+    Ok(Draft::new(alloc, span_text(piece, name))?)
 }
 
 /// Puts a tag into a draft.
@@ -74,7 +50,7 @@ fn put_tag(
     requires key { IsSpan key_part piece.now key.now }
     requires filled { key.now.start < key.now.end }
     requires value { IsSpan tag_value_part piece.now value.now }
-    ensures name { draft.new.builder.name ≡ draft.old.builder.name }
+    ensures name { draft.new.parts.name ≡ draft.old.parts.name }
     ensures ok { IfOk result (λ done. (tags : List Tag) (fields : List Field)
         → StandsFor draft.old tags fields → StandsFor draft.new (tags ++ (
           text_at key_part piece.now key.now.start,
@@ -83,9 +59,12 @@ fn put_tag(
     ensures err { IfErr result (λ e. e ≡ OutOfMemory) }
 {
     if key.escaped || value.escaped {
-        return put_escaped_tag(alloc, piece, key, value, draft);
+        let key = part_text(alloc, &KEY, piece, key.start)?;
+        let value = part_text(alloc, &TAG_VALUE, piece, value.start)?;
+        return Ok(draft.tag(key.as_str(), value.as_str())?);
     }
-    draft.tag(span_text(piece, key), span_text(piece, value))
+    draft.tag(span_text(piece, key), span_text(piece, value))?;
+    Ok(())
 }
 
 /// Puts a field into a draft.
@@ -98,7 +77,7 @@ fn put_field(
 ) -> Result<(), ReadError<LineFault>>
     requires key { IsSpan key_part piece.now key.now }
     requires filled { key.now.start < key.now.end }
-    ensures name { draft.new.builder.name ≡ draft.old.builder.name }
+    ensures name { draft.new.parts.name ≡ draft.old.parts.name }
     ensures ok { IfOk result (λ done. (tags : List Tag) (fields : List Field)
         → StandsFor draft.old tags fields
         → StandsFor draft.new tags (fields ++ (text_at key_part piece.now key.now.start, value) ∷ [])) }
@@ -106,9 +85,10 @@ fn put_field(
 {
     if key.escaped {
         let key = part_text(alloc, &KEY, piece, key.start)?;
-        return draft.field(key.as_str(), value);
+        return Ok(draft.field(key.as_str(), value)?);
     }
-    draft.field(span_text(piece, key), value)
+    draft.field(span_text(piece, key), value)?;
+    Ok(())
 }
 
 /// Puts the tags that stand at a place into a draft, and gives the place behind them.
@@ -120,7 +100,7 @@ pub(crate) fn read_tags(
 ) -> Result<usize, ReadError<LineFault>>
     requires boundary { IsCharBoundary piece.now i }
     requires none { StandsFor draft.old [] [] }
-    ensures name { draft.new.builder.name ≡ draft.old.builder.name }
+    ensures name { draft.new.parts.name ≡ draft.old.parts.name }
     ensures tags { HasTags draft.new result (tags_at piece.now i) }
     ensures behind { IfOk result (λ x. IsCharBoundary piece.now x) }
 {
@@ -141,7 +121,7 @@ pub(crate) fn read_fields(
     draft: &mut Draft,
 ) -> Result<usize, ReadError<LineFault>>
     requires boundary { IsCharBoundary piece.now i }
-    ensures name { draft.new.builder.name ≡ draft.old.builder.name }
+    ensures name { draft.new.parts.name ≡ draft.old.parts.name }
     ensures fields { (tags : List Tag) → StandsFor draft.old tags []
         → HasFields draft.new tags result (fields_at piece.now i) }
     ensures behind { IfOk result (λ x. x ≤ length piece.now) }

@@ -13,9 +13,15 @@ ghost use Rattle.line_proto.specs.Reading.{name_at, key_at, tag_value_at, tag_at
 use crate::fault::{LineFault, LineKind};
 use text_parts::{Part, ReadError, Span, span_at};
 
+/// What ends a measurement and the value of a tag.
+const NAME_ENDS: [u8; 3] = [b',', b' ', b' '];
+
+/// What a backslash hides in keys and the values of tags.
+const KEY_ESCAPES: [u8; 3] = [b',', b'=', b' '];
+
 /// A measurement.
 pub(crate) const NAME: Part = Part {
-    ends: [b',', b' ', b' '],
+    ends: NAME_ENDS,
     escapes: [b',', b' ', b' '],
     newlines: false,
 };
@@ -23,14 +29,14 @@ pub(crate) const NAME: Part = Part {
 /// The key of a tag or a field.
 pub(crate) const KEY: Part = Part {
     ends: [b'=', b',', b' '],
-    escapes: [b',', b'=', b' '],
+    escapes: KEY_ESCAPES,
     newlines: false,
 };
 
 /// The value of a tag.
 pub(crate) const TAG_VALUE: Part = Part {
-    ends: [b',', b' ', b' '],
-    escapes: [b',', b'=', b' '],
+    ends: NAME_ENDS,
+    escapes: KEY_ESCAPES,
     newlines: false,
 };
 

@@ -1,17 +1,21 @@
 //! Metrics as lines of InfluxDB line protocol.
-ghost use Rattle.std.specs.Prelude.{◌≡◌, ◌==◌, ◌++◌, flat_map, codes, OnOk, OnErr};
-ghost use Rattle.std.specs.List.{list_all, list_any, join_by};
-ghost use Rattle.line_proto.specs.LineText.{spaced, on_one_line, trimmed, is_bare, as_written, text_escapes};
-ghost use Rattle.text_parts.specs.Escaped.{escaped_byte, escaped};
+ghost use Rattle.std.specs.Prelude.{◌≡◌, ◌++◌, not, flat_map, codes, OnOk, OnErr};
+ghost use Rattle.std.specs.List.{list_all, join_by};
+ghost use Rattle.line_proto.specs.OneLine.{ends_line};
+ghost use Rattle.line_proto.specs.LineText.{spaced, on_one_line, trimmed, text_escapes};
+ghost use Rattle.text_parts.specs.Escaped.{escaped};
+ghost use Rattle.text_parts.specs.Marks.{escapes_of};
 ghost use Rattle.line_proto.specs.LineText.{name_text, key_text, value_text, tag_text, field_text, head_text};
 ghost use Rattle.line_proto.specs.LineText.{line_text};
-ghost use Rattle.line_proto.specs.Marks.{marks_of};
 ghost use Rattle.text_parts.specs.Adds.{Adds};
 
 use fixed_num::OutOfMemory;
 use metric::{Metric, Text, Value};
 use std::alloc::Global;
-use text_parts::{append_int, append_signed, append_uint, append_words, settle};
+use text_parts::{
+    Marks, append_escaped, append_escaped_byte, append_int, append_signed, append_uint,
+    append_words, settle,
+};
 
 /// Appends a metric's line: `measurement,key=value.. field=value,.. time` and a newline, the tags in the
 /// order of their keys, the fields in theirs, the time in nanoseconds since 1970. A newline or carriage
@@ -159,7 +163,7 @@ fn append_inside(text: &Text, out: &mut Vec<u8>) -> Result<(), OutOfMemory>
     if text.is_plain() {
         return Ok(out.extend_from_slice(bytes)?);
     }
-    append_escaped(Marks::Quoted, bytes, out)
+    append_in_line(out, &TEXT_MARKS, bytes)
 }
 
 /// Appends a measurement.
@@ -173,12 +177,12 @@ fn append_name(name: &Text, out: &mut Vec<u8>) -> Result<(), OutOfMemory>
     }
     if kept[0] == b'#' {
         out.push(b'_')?;
-        return append_escaped(Marks::Name, &kept[1..], out);
+        return append_in_line(out, &NAME_MARKS, &kept[1..]);
     }
     if name.is_plain() {
         return Ok(out.extend_from_slice(kept)?);
     }
-    append_escaped(Marks::Name, kept, out)
+    append_in_line(out, &NAME_MARKS, kept)
 }
 
 /// Appends a key or the value of a tag.
@@ -193,7 +197,7 @@ fn append_key(key: &Text, out: &mut Vec<u8>) -> Result<(), OutOfMemory>
     if key.is_plain() {
         return Ok(out.extend_from_slice(kept)?);
     }
-    append_escaped(Marks::Key, kept, out)
+    append_in_line(out, &KEY_MARKS, kept)
 }
 
 /// The text without the backslashes at its end.
@@ -207,88 +211,53 @@ fn trim(text: &[u8]) -> &[u8]
     &text[..end]
 }
 
-/// The kinds of text, each with its marks: the bytes that are escaped by a backslash.
-#[derive(Clone, Copy)]
-enum Marks {
-    /// A measurement.
-    Name,
-    /// A key or the value of a tag.
-    Key,
-    /// A text between double quotes.
-    Quoted,
-}
+/// What is escaped in a measurement.
+const NAME_MARKS: Marks = Marks {
+    bytes: [b',', b' ', b' '],
+    written: [b',', b' ', b' '],
+};
 
-/// Is a byte one of the marks?
-fn is_mark(marks: Marks, byte: u8) -> bool
-    ensures { result ≡ list_any (λ mark. mark == byte) (marks_of marks) }
-{
-    match marks {
-        Marks::Name => matches!(byte, b',' | b' '),
-        Marks::Key => matches!(byte, b',' | b'=' | b' '),
-        Marks::Quoted => matches!(byte, b'"' | b'\\'),
-    }
-}
+/// What is escaped in a key and in the value of a tag.
+const KEY_MARKS: Marks = Marks {
+    bytes: [b',', b'=', b' '],
+    written: [b',', b'=', b' '],
+};
 
-/// Does a measurement have neither marks nor ends of lines?
-fn is_bare_name(text: &[u8]) -> bool
-    ensures { result ≡ list_all (is_bare (codes ", ")) text.now }
-{
-    text.iter()
-        .all(|byte| !matches!(*byte, b'\n' | b'\r' | b',' | b' '))
-}
+/// What is escaped in a text between double quotes.
+const TEXT_MARKS: Marks = Marks {
+    bytes: [b'"', b'\\', b'\\'],
+    written: [b'"', b'\\', b'\\'],
+};
 
-/// Does a key or the value of a tag have neither marks nor ends of lines?
-fn is_bare_key(text: &[u8]) -> bool
-    ensures { result ≡ list_all (is_bare (codes ",= ")) text.now }
+/// A byte, or a space in place of a newline or a carriage return.
+fn spaced(byte: u8) -> u8
+    ensures { result ≡ spaced byte }
 {
-    text.iter().all(|byte| !matches!(*byte, b'\n' | b'\r' | b',' | b'=' | b' '))
-}
-
-/// Does a text between double quotes have neither marks nor ends of lines?
-fn is_bare_quoted(text: &[u8]) -> bool
-    ensures { result ≡ list_all (is_bare (codes "\"\\")) text.now }
-{
-    text.iter()
-        .all(|byte| !matches!(*byte, b'\n' | b'\r' | b'"' | b'\\'))
-}
-
-/// Does the text have neither marks nor ends of lines?
-fn all_bare(marks: Marks, text: &[u8]) -> bool
-    ensures { result ≡ list_all (is_bare (marks_of marks)) text.now }
-{
-    match marks {
-        Marks::Name => is_bare_name(text),
-        Marks::Key => is_bare_key(text),
-        Marks::Quoted => is_bare_quoted(text),
-    }
-}
-
-/// Appends a text in one line with its marks escaped. A text that needs no change is copied whole.
-fn append_escaped(marks: Marks, text: &[u8], out: &mut Vec<u8>) -> Result<(), OutOfMemory>
-    ensures { Adds result out.old.items out.new.items
-        (escaped (as_written (marks_of marks)) (on_one_line text.now)) }
-{
-    if all_bare(marks, text) {
-        return Ok(out.extend_from_slice(text)?);
-    }
-    for byte in text {
-        append_byte(marks, *byte, out)?;
-    }
-    Ok(())
-}
-
-fn append_byte(marks: Marks, byte: u8, out: &mut Vec<u8>) -> Result<(), OutOfMemory>
-    ensures { Adds result out.old.items out.new.items
-        (escaped_byte (as_written (marks_of marks)) (spaced byte)) }
-{
-    let byte = if byte == b'\n' || byte == b'\r' {
+    if byte == b'\n' || byte == b'\r' {
         b' '
     } else {
         byte
-    };
-    if is_mark(marks, byte) {
-        out.push(b'\\')?;
     }
-    out.push(byte)?;
+}
+
+/// Does a text have no end of a line?
+fn is_one_line(text: &[u8]) -> bool
+    ensures { result ≡ list_all (λ b. not (ends_line b)) text.now }
+{
+    text.iter().all(|byte| *byte != b'\n' && *byte != b'\r')
+}
+
+/// Appends a text in one line with its marks escaped.
+fn append_in_line(out: &mut Vec<u8>, marks: &Marks, text: &[u8]) -> Result<(), OutOfMemory>
+    ensures { Adds result out.old.items out.new.items
+        (escaped (escapes_of marks.now) (on_one_line text.now)) }
+{
+    if is_one_line(text) {
+        append_escaped(out, marks, text)?;
+        return Ok(());
+    }
+    for byte in text {
+        append_escaped_byte(out, marks, spaced(*byte))?;
+    }
     Ok(())
 }

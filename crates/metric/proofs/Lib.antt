@@ -6,3 +6,4 @@ pub mod GlobLemmas
 pub mod GlobScanLemmas
 pub mod GlobTextLemmas
 pub mod KeptLemmas
+pub mod DraftLemmas

@@ -1,4 +1,5 @@
 pub mod Building
+pub mod Draft
 pub mod Glob
 pub mod GlobScan
 pub mod Metric

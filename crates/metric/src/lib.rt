@@ -2,6 +2,7 @@
 #![tactic(auto)]
 
 mod builder;
+mod draft;
 mod glob;
 mod glob_scan;
 mod glob_text;
@@ -12,10 +13,11 @@ mod text;
 mod value;
 
 pub use builder::{BuildFault, Builder};
+pub use draft::{Draft, DraftFault};
 pub use glob::{Element, Glob, GlobFault, tests_matches};
 pub use laws::{first_order, growth, key_order};
 pub use metric::{Content, Metric};
-pub use plain::{are_plain, is_plain};
+pub use plain::is_plain;
 pub use text::Text;
 pub use value::Value;
 

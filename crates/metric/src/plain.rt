@@ -23,12 +23,12 @@ pub fn is_plain(b: u8) -> bool
 }
 
 /// Are all bytes plain? Each is looked at, with no branch on what it is.
-pub fn are_plain(bytes: &[u8]) -> bool
+pub(crate) fn are_plain(bytes: &[u8]) -> bool
     ensures { result ≡ list_all is_plain bytes.now }
 {
     let mut all = true;
     for b in bytes {
-        all = all & is_plain(*b);
+        all &= is_plain(*b);
     }
     all
 }

@@ -1,9 +1,13 @@
 -- An escaped text is a part that means the text.
-use Rattle.std.proofs.Common.{◌≡◌, ℕ, true, false, cond, List, [], ◌∷◌, ◌++◌, refl, sym, ap, subst, ◌∙◌, inl, inr}
-use Rattle.std.specs.Prelude.{◌==◌, ◌⊎◌}
-use Rattle.std.proofs.lemmas.Bool.{eqb-true, eq-eqb}
+use Rattle.std.proofs.Common.{◌≡◌, ◌≤◌, ℕ, true, false, not, cond, List, [], ◌∷◌, ◌++◌, length, take, get_or, refl, sym, ap, subst, ◌∙◌, inl, inr, arith}
+use Rattle.std.specs.Prelude.{◌==◌, ◌||◌, ◌⊎◌}
+use Rattle.std.specs.List.{list_all, flat_map}
+use Rattle.std.proofs.lemmas.Bool.{eqb-true, eq-eqb, and_parts, not-true}
+use Rattle.std.proofs.lemmas.Grind.{common_steps}
 use Rattle.text_parts.specs.Part.{Kind, is_escape}
 use Rattle.text_parts.specs.Grammar.{Mark, Escaped, Bare, spelled, meant, Ends, IsPart}
+use Rattle.text_parts.specs.declared.escapes.Marks.{Marks}
+use Rattle.text_parts.specs.Marks.{is_mark_of, written_of}
 use Rattle.text_parts.specs.Escaped.{Escapes, escaped_byte, escaped, IsNotIn, NoBackslashEnd, HidesMarks, Suits}
 
 -- what the bytes of an escaped text are
@@ -106,3 +110,50 @@ part_of k e (b ∷ bs) rest s ends =
 pub escaped_is_part : (k : Kind) (e : Escapes) (text rest : List ℕ) → Suits k e text → Ends k rest
     → (marks : List Mark) × (escaped e text ≡ spelled marks) × IsPart k marks rest × (meant k marks ≡ text)
 escaped_is_part k e text rest s ends = (marks_for e text, spelled_is e text, part_of k e text rest s ends, means_text k e s.means text)
+
+-- ---- writing
+
+-- a text without marks is written as it is
+pub unmarked_text : (e : Escapes) (text : List ℕ) → list_all (λ b. not (e.is_mark b)) text ≡ true → escaped e text ≡ text
+unfolding escaped
+unmarked_text e [] h = refl
+unmarked_text e (b ∷ bs) h =
+    let parts = and_parts (not (e.is_mark b)) (list_all (λ c. not (e.is_mark c)) bs) h in
+    let none : e.is_mark b ≡ false = not-true _ parts.0 in
+    rw none (ap (λ (rest : List ℕ). b ∷ rest) (unmarked_text e bs parts.1))
+
+-- all bytes were written
+pub all_written : (out old : List ℕ) (e : Escapes) (text : List ℕ) (i : ℕ) → length text ≤ i → out ≡ old ++ flat_map (escaped_byte e) (take i text)
+    → out ≡ old ++ escaped e text
+unfolding escaped
+all_written out old e text i end h =
+    let all : take i text ≡ text = grind (arith, common_steps) in
+    h ∙ ap (λ bytes. old ++ flat_map (escaped_byte e) bytes) all
+
+-- texts are written alike by escapes of the same marks, where each is written alike
+pub escaped-same : (d e : Escapes) → ((b : ℕ) → d.is_mark b ≡ e.is_mark b) → ((b : ℕ) → e.is_mark b ≡ true → d.written b ≡ e.written b) → (text : List ℕ)
+    → escaped d text ≡ escaped e text
+unfolding escaped
+escaped-same d e marks written [] = refl
+escaped-same d e marks written (b ∷ bs) =
+    rw (byte, escaped-same d e marks written bs) refl
+  where
+    byte : escaped_byte d b ≡ escaped_byte e b
+    byte = elim (e.is_mark b) as (λ t. e.is_mark b ≡ t → escaped_byte d b ≡ cond t (92 ∷ e.written b ∷ []) (b ∷ [])) [
+      | true ↦ λ is. rw (marks b, is, written b is) refl
+      | false ↦ λ is. rw (marks b, is) refl
+    ] refl
+
+written_one : (b x y z : ℕ) → ((b == x || b == y) || b == z) ≡ true → cond (b == x) x (cond (b == y) y z) ≡ b
+written_one b x y z h =
+    elim (b == x) as (λ t. (b == x) ≡ t → ((t || b == y) || b == z) ≡ true → cond t x (cond (b == y) y z) ≡ b) [
+      | true ↦ λ e g. sym (eqb-true b x e)
+      | false ↦ λ e g. elim (b == y) as (λ s. (b == y) ≡ s → (s || b == z) ≡ true → cond s y z ≡ b) [
+        | true ↦ λ f k. sym (eqb-true b y f)
+        | false ↦ λ f k. sym (eqb-true b z k)
+      ] refl g
+    ] refl h
+
+-- marks that are written as they are
+pub written_as_it_is : (m : Marks) → m.written ≡ m.bytes → (b : ℕ) → is_mark_of m b ≡ true → written_of m b ≡ b
+written_as_it_is m same b is = rw same (written_one b (get_or m.bytes 0 0) (get_or m.bytes 1 0) (get_or m.bytes 2 0) is)

@@ -1,5 +1,5 @@
 pub mod Parts
-pub mod Marks
+pub mod MarkLemmas
 pub mod Utf8
 pub mod Items
 pub mod Adding

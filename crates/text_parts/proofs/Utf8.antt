@@ -9,7 +9,7 @@ use Rattle.text_parts.specs.Part.{Kind, plain, part_len}
 use Rattle.text_parts.specs.Grammar.{Mark, Escaped, Bare, IsPart, Ends}
 use Rattle.text_parts.specs.declared.part.Part.{Part}
 use Rattle.text_parts.specs.Kinds.{kind_of, meaning_of, IsAsciiPart}
-use Rattle.text_parts.proofs.Marks.{found}
+use Rattle.text_parts.proofs.MarkLemmas.{found}
 
 -- a byte below 128 can be left out
 pub without_ascii : (xs ys : List ℕ) (b : ℕ) → b < 128 → IsUtf8 (xs ++ b ∷ ys) → IsUtf8 (xs ++ ys)

@@ -1,5 +1,5 @@
 -- A part is a concatenation of marks: an escape, or a byte that stands for itself.
-use Rattle.std.specs.Prelude.{◌≡◌, ℕ, true, false, List, [], ◌∷◌, ◌++◌, length, drop}
+use Rattle.std.specs.Prelude.{◌≡◌, ◌<◌, ℕ, Bool, true, false, List, [], ◌∷◌, ◌++◌, length, drop}
 use Rattle.text_parts.specs.Bytes.{backslash}
 use Rattle.text_parts.specs.Part.{Kind, part_len, plain, is_escape}
 
@@ -41,3 +41,16 @@ PartIsRead = (k : Kind) (marks : List Mark) (rest : List ℕ) → IsPart k marks
 abbrev pub ReadIsPart : Type 0
 ReadIsPart = (k : Kind) (bs : List ℕ) → (marks : List Mark)
     × (bs ≡ spelled marks ++ drop (part_len k bs) bs) × IsPart k marks (drop (part_len k bs) bs)
+
+-- the text is a filled part of this kind in front of the rest, and means this
+pub record IsWritten (k : Kind) (text rest means : List ℕ) : Type 0 where
+  pub some : 0 < length text
+  pub marks : List Mark
+  pub is : text ≡ spelled marks
+  pub part : IsPart k marks rest
+  pub says : meant k marks ≡ means
+
+-- no byte passes the test
+abbrev pub HasNone : (ℕ → Bool) → List ℕ → Type 0
+HasNone p [] = Unit {0}
+HasNone p (b ∷ bs) = (p b ≡ false) × HasNone p bs

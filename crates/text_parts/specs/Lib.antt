@@ -8,3 +8,5 @@ pub mod Bytes
 pub mod Span
 pub mod Stops
 pub mod Escaped
+pub mod Marks
+pub mod Pairs

@@ -4,6 +4,7 @@
 
 mod append;
 mod error;
+mod escapes;
 mod laws;
 mod part;
 mod span;
@@ -14,6 +15,7 @@ pub use append::{
     append_unsigned, append_words, settle,
 };
 pub use error::ReadError;
+pub use escapes::{Marks, append_escaped, append_escaped_byte};
 pub use laws::{escaped_is_part, part_is_read, read_is_part};
 pub use part::{Part, part_len, part_text, plain_bytes};
 pub use span::{Span, span_at, span_text};

@@ -1,7 +1,8 @@
 use Rattle.std.proofs.Common.{◌∙◌, ◌++◌, ◌∷◌, [], sym, refl}
 use Rattle.text_parts.proofs.Items.{nothing_read, one_more, failed_read, all_read}
 use Rattle.std.proofs.lemmas.Result.{err_from_is_err_and}
-use Rattle.line_proto.specs.Reading.{Tag, tag_at, tags_at}
+use Rattle.metric.specs.Draft.{Tag}
+use Rattle.line_proto.specs.Reading.{tag_at, tags_at}
 use Rattle.text_parts.specs.Part.{text_at}
 use Rattle.line_proto.specs.Kinds.{key_part, tag_value_part}
 use Rattle.line_proto.proofs.Loops.{comma_is, comma_within, comma_boundary, no_comma}

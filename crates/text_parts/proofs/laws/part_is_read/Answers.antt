@@ -1,4 +1,4 @@
-use Rattle.text_parts.proofs.Marks as marks
+use Rattle.text_parts.proofs.MarkLemmas as marks
 use Rattle.text_parts.proofs.laws.part_is_read.Goals as goal
 
 pub returns : goal.returns

@@ -1,4 +1,4 @@
-use Rattle.text_parts.proofs.Marks.{found}
+use Rattle.text_parts.proofs.MarkLemmas.{found}
 use Rattle.text_parts.proofs.laws.read_is_part.Goals as goal
 
 pub returns : goal.returns

@@ -1,4 +1,4 @@
-use Rattle.std.proofs.Common.{◌==◌, ◌||◌, ◌∙◌, sym, ℕ, Bool, arith}
+use Rattle.std.proofs.Common.{◌==◌, ◌||◌, ◌∙◌, sym, arith}
 use Rattle.std.proofs.lemmas.List.Sums.{position_or_len_is}
 use Rattle.text_parts.specs.Kinds.{ends_of}
 use Rattle.text_parts.proofs.Stopping.{found, missed, says_behind}

@@ -8,9 +8,7 @@ use Rattle.std.specs.declared.cmp.Ordering.{Ordering}
 use Rattle.std.specs.declared.cmp.Ordering.TheVariants.{Less, Equal, Greater}
 use Rattle.std.proofs.lemmas.Bool.{ltb-true, lt-ltb, ne_eqb}
 use Rattle.metric.specs.Pairs.{with_pair, with_sorted, beside, in_first_order, in_first_order_on, in_key_order, in_key_order_on, has_empty_key}
-use Rattle.line_proto.specs.declared.draft.Draft.{Draft}
-use Rattle.line_proto.specs.Reading.{Tag, Field, has_too_many}
-use Rattle.line_proto.specs.Draft.{StandsFor}
+use Rattle.metric.specs.Draft.{Tag, Field, Drafted, has_too_many, StandsFor}
 
 -- ---- one more pair
 
@@ -96,7 +94,7 @@ more_fields tags fields field many = grown_right (ltb 64 (length (in_key_order t
 
 -- ---- drafts
 
-pub full_tag : (draft : Draft) (tags : List Tag) (fields : List Field) (tag : Tag) → draft.too_many ≡ true → StandsFor draft tags fields → StandsFor draft (tags ++ tag ∷ []) fields
+pub full_tag : (draft : Drafted) (tags : List Tag) (fields : List Field) (tag : Tag) → draft.too_many ≡ true → StandsFor draft tags fields → StandsFor draft (tags ++ tag ∷ []) fields
 full_tag draft tags fields tag full s = record {
   many = full ∙ sym (more_tags tags fields tag (sym s.many ∙ full));
   tags_kept = λ e. absurd (true_false (sym full ∙ e));
@@ -108,7 +106,7 @@ full_tag draft tags fields tag full s = record {
     true_false : true ≡ false → ⊥
     true_false e = cc
 
-pub full_field : (draft : Draft) (tags : List Tag) (fields : List Field) (field : Field) → draft.too_many ≡ true → StandsFor draft tags fields → StandsFor draft tags (fields ++ field ∷ [])
+pub full_field : (draft : Drafted) (tags : List Tag) (fields : List Field) (field : Field) → draft.too_many ≡ true → StandsFor draft tags fields → StandsFor draft tags (fields ++ field ∷ [])
 full_field draft tags fields field full s = record {
   many = full ∙ sym (more_fields tags fields field (sym s.many ∙ full));
   tags_kept = s.tags_kept;
@@ -120,19 +118,19 @@ full_field draft tags fields field full s = record {
     true_false : true ≡ false → ⊥
     true_false e = cc
 
-pub one_tag : (old new : Draft) (tags : List Tag) (fields : List Field) (tag : Tag) → old.too_many ≡ false → 0 < length tag.0
-    → new.builder ≡ record old.builder { tags = with_sorted old.builder.tags tag.0 tag.1 } → new.too_many ≡ ltb 64 (length new.builder.tags)
+pub one_tag : (old new : Drafted) (tags : List Tag) (fields : List Field) (tag : Tag) → old.too_many ≡ false → 0 < length tag.0
+    → new.parts ≡ record old.parts { tags = with_sorted old.parts.tags tag.0 tag.1 } → new.too_many ≡ ltb 64 (length new.parts.tags)
     → StandsFor old tags fields → StandsFor new (tags ++ tag ∷ []) fields
 one_tag old new tags fields tag open_still filled built many s =
-    let kept : new.builder.tags ≡ in_key_order (tags ++ tag ∷ []) = ap (λ b. b.tags) built ∙ rw (s.tags_kept open_still) (sym (in_key_order_push [] tags tag)) in
+    let kept : new.parts.tags ≡ in_key_order (tags ++ tag ∷ []) = ap (λ b. b.tags) built ∙ rw (s.tags_kept open_still) (sym (in_key_order_push [] tags tag)) in
     let few : ltb 256 (length (in_first_order fields)) ≡ false = (or_false (ltb 64 (length (in_key_order tags))) (ltb 256 (length (in_first_order fields))) (sym s.many ∙ open_still)).1 in
-    let same : new.builder.fields ≡ old.builder.fields = ap (λ b. b.fields) built in
+    let same : new.parts.fields ≡ old.parts.fields = ap (λ b. b.fields) built in
     let key : (length tag.0 == 0) ≡ false = ne_eqb _ _ (λ e. absurd (omega arith)) in
     record {
       many = many ∙ rw (kept, few) (sym (or_none (ltb 64 (length (in_key_order (tags ++ tag ∷ []))))));
       tags_kept = λ e. kept;
       fields_kept = λ e. same ∙ s.fields_kept open_still;
-      tag_keys = λ e. ap (λ b. has_empty_key b.tags) built ∙ keyed_sorted old.builder.tags tag.0 tag.1 key (s.tag_keys open_still);
+      tag_keys = λ e. ap (λ b. has_empty_key b.tags) built ∙ keyed_sorted old.parts.tags tag.0 tag.1 key (s.tag_keys open_still);
       field_keys = λ e. ap has_empty_key same ∙ s.field_keys open_still;
     }
   where
@@ -140,23 +138,23 @@ one_tag old new tags fields tag open_still filled built many s =
     or_none true = refl
     or_none false = refl
 
-pub one_field : (old new : Draft) (tags : List Tag) (fields : List Field) (field : Field) → old.too_many ≡ false → 0 < length field.0
-    → new.builder ≡ record old.builder { fields = with_pair old.builder.fields field.0 field.1 } → new.too_many ≡ ltb 256 (length new.builder.fields)
+pub one_field : (old new : Drafted) (tags : List Tag) (fields : List Field) (field : Field) → old.too_many ≡ false → 0 < length field.0
+    → new.parts ≡ record old.parts { fields = with_pair old.parts.fields field.0 field.1 } → new.too_many ≡ ltb 256 (length new.parts.fields)
     → StandsFor old tags fields → StandsFor new tags (fields ++ field ∷ [])
 one_field old new tags fields field open_still filled built many s =
-    let kept : new.builder.fields ≡ in_first_order (fields ++ field ∷ []) = ap (λ b. b.fields) built ∙ rw (s.fields_kept open_still) (sym (in_first_order_push [] fields field)) in
+    let kept : new.parts.fields ≡ in_first_order (fields ++ field ∷ []) = ap (λ b. b.fields) built ∙ rw (s.fields_kept open_still) (sym (in_first_order_push [] fields field)) in
     let few : ltb 64 (length (in_key_order tags)) ≡ false = (or_false (ltb 64 (length (in_key_order tags))) (ltb 256 (length (in_first_order fields))) (sym s.many ∙ open_still)).0 in
-    let same : new.builder.tags ≡ old.builder.tags = ap (λ b. b.tags) built in
+    let same : new.parts.tags ≡ old.parts.tags = ap (λ b. b.tags) built in
     let key : (length field.0 == 0) ≡ false = ne_eqb _ _ (λ e. absurd (omega arith)) in
     record {
       many = many ∙ rw (kept, few) refl;
       tags_kept = λ e. same ∙ s.tags_kept open_still;
       fields_kept = λ e. kept;
       tag_keys = λ e. ap has_empty_key same ∙ s.tag_keys open_still;
-      field_keys = λ e. ap (λ b. has_empty_key b.fields) built ∙ keyed_pair old.builder.fields field.0 field.1 key (s.field_keys open_still);
+      field_keys = λ e. ap (λ b. has_empty_key b.fields) built ∙ keyed_pair old.parts.fields field.0 field.1 key (s.field_keys open_still);
     }
 
-pub none_yet : (draft : Draft) → draft.too_many ≡ false → draft.builder.tags ≡ [] → draft.builder.fields ≡ [] → StandsFor draft [] []
+pub none_yet : (draft : Drafted) → draft.too_many ≡ false → draft.parts.tags ≡ [] → draft.parts.fields ≡ [] → StandsFor draft [] []
 unfolding in_key_order_on in_first_order_on
 none_yet draft few no_tags no_fields = record {
   many = few;

@@ -1,0 +1,9 @@
+use Rattle.std.proofs.Common.{◌≡◌, ◌++◌, take}
+use Rattle.std.specs.List.{flat_map}
+use Rattle.text_parts.specs.Escaped.{escaped_byte}
+use Rattle.text_parts.specs.Marks.{escapes_of}
+use Rattle.line_proto.specs.LineText.{spaced}
+use Rattle.line_proto.proofs.write.append_in_line.Given as goal
+
+abbrev pub invariant-loop-byte : goal.invariant-loop-byte
+invariant-loop-byte l = l.out.items ≡ l.fn.out.items ++ flat_map (λ b. escaped_byte (escapes_of l.marks) (spaced b)) (take l.byte-index l.text)

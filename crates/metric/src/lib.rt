@@ -16,8 +16,3 @@ pub use laws::{first_order, growth, key_order};
 pub use metric::{Content, Metric};
 pub use text::Text;
 pub use value::Value;
-
-#[cfg(test)]
-mod glob_tests;
-#[cfg(test)]
-mod tests;

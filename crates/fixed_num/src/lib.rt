@@ -20,6 +20,3 @@ pub use whole::{read_int, read_uint};
 
 /// A moment: nanoseconds since the first of January 1970, UTC.
 pub type Moment = i64;
-
-#[cfg(test)]
-mod tests;

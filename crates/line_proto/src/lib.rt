@@ -16,8 +16,3 @@ pub use laws::{
 };
 pub use read::read_line;
 pub use write::write_line;
-
-#[cfg(test)]
-mod tests;
-#[cfg(test)]
-mod write_tests;

@@ -20,8 +20,3 @@ pub use metric::{Content, Metric};
 pub use plain::is_plain;
 pub use text::Text;
 pub use value::Value;
-
-#[cfg(test)]
-mod glob_tests;
-#[cfg(test)]
-mod tests;

@@ -7,6 +7,3 @@ mod rules;
 
 pub use filter::Filter;
 pub use rules::FilterRules;
-
-#[cfg(test)]
-mod tests;

@@ -1,6 +1,6 @@
 //! Lines as the rules of InfluxDB line protocol give them.
-use super::*;
 use fixed_num::Fixed;
+use line_proto::write_line;
 use metric::{Builder, Text, Value};
 use std::test::Fail;
 

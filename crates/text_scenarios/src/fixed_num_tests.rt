@@ -1,6 +1,6 @@
 //! Texts of numbers against answers from outside: the rules in plain words, IEEE 754 shortest texts, and
 //! InfluxDB's documentation.
-use super::*;
+use fixed_num::{Fixed, NumFault, OutOfMemory, read_int, read_uint};
 use std::alloc::Global;
 use std::process::Abort;
 use std::test::Fail;

@@ -1,6 +1,10 @@
-use super::*;
+//! Parts of texts from the examples of two formats' documentation, and what is appended.
 use fixed_num::OutOfMemory;
 use std::test::Fail;
+use text_parts::{
+    Part, append_bytes, append_line, append_numbers, append_signed, append_unsigned, append_words,
+    part_len, part_text, plain_bytes, settle,
+};
 
 const KEY: Part = Part {
     ends: [b'=', b',', b' '],

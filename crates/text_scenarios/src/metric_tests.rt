@@ -1,6 +1,6 @@
 //! Metrics as the rules in plain words make them.
-use super::*;
 use fixed_num::{Fixed, OutOfMemory};
+use metric::{BuildFault, Builder, Metric, Text, Value};
 use std::alloc::Global;
 use std::test::Fail;
 

@@ -1,6 +1,6 @@
 //! Lines of line protocol's documentation, and one line for each fault.
-use super::*;
 use fixed_num::OutOfMemory;
+use line_proto::{read_line, write_line};
 use std::alloc::Global;
 use std::process::Abort;
 use std::test::Fail;

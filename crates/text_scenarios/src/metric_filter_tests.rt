@@ -1,7 +1,7 @@
 //! Filters as the rules in plain words work.
-use super::*;
 use fixed_num::{OutOfMemory, Seq};
 use metric::{Builder, Glob, Metric, Text, Value};
+use metric_filter::{Filter, FilterRules};
 use std::alloc::Global;
 use std::test::Fail;
 

@@ -1,5 +1,5 @@
 //! Globs as the rules in plain words read and match them.
-use super::*;
+use metric::{Glob, GlobFault};
 use std::alloc::Global;
 use std::test::Fail;
 

@@ -9,6 +9,7 @@ mod first;
 mod keys;
 mod places;
 mod plugins;
+mod read;
 mod settings;
 mod table_faults;
 mod tables;
@@ -18,3 +19,4 @@ mod values;
 
 pub use config::{AgentConf, Config, InFormat, InputConf, OutFormat, OutputConf};
 pub use fault::{Class, ConfigFault, ConfigKind};
+pub use read::read_config;

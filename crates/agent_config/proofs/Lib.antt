@@ -1,3 +1,5 @@
+mod DecimalLemmas
 mod FirstLemmas
 mod ReadLemmas
 mod TextLemmas
+mod TimeLemmas

@@ -27,69 +27,73 @@ number_behind n (b ∷ bs) = number_behind (n * 10 + (b - 48)) bs
 abbrev pub digits_len : List ℕ → ℕ
 digits_len text = prefix_len is_digit text
 
--- the nanoseconds of the unit that a text begins with, and how long it is
-abbrev pub unit_of : List ℕ → Option (ℕ × ℕ)
+-- the nanoseconds of the unit that a text begins with, and what is behind it
+abbrev pub unit_of : List ℕ → Option (ℕ × List ℕ)
 unit_of text =
-    if bytes_eq (take 2 text) (codes "ns") then Some (1, 2)
-    else if bytes_eq (take 2 text) (codes "us") then Some (1000, 2)
-    else if bytes_eq (take 2 text) (codes "ms") then Some (1000000, 2)
-    else if bytes_eq (take 1 text) (codes "s") then Some (1000000000, 1)
-    else if bytes_eq (take 1 text) (codes "m") then Some (60000000000, 1)
-    else if bytes_eq (take 1 text) (codes "h") then Some (3600000000000, 1)
+    if bytes_eq (take 2 text) (codes "ns") then Some (1, drop 2 text)
+    else if bytes_eq (take 2 text) (codes "us") then Some (1000, drop 2 text)
+    else if bytes_eq (take 2 text) (codes "ms") then Some (1000000, drop 2 text)
+    else if bytes_eq (take 1 text) (codes "s") then Some (1000000000, drop 1 text)
+    else if bytes_eq (take 1 text) (codes "m") then Some (60000000000, drop 1 text)
+    else if bytes_eq (take 1 text) (codes "h") then Some (3600000000000, drop 1 text)
     else None
 
--- 1 where a text begins with a point, 0 where it doesn't
-abbrev pub point_len : List ℕ → ℕ
-point_len text = if bytes_eq (take 1 text) (codes ".") then 1 else 0
+-- is the first byte of a text a point
+abbrev pub has_point : List ℕ → Bool
+has_point text = bytes_eq (take 1 text) (codes ".")
 
--- how many digits stand behind a point that a text begins with; 0 where it begins with no point
-abbrev pub places_len : List ℕ → ℕ
-places_len text = if bytes_eq (take 1 text) (codes ".") then digits_len (drop 1 text) else 0
+-- the digits behind a point that a text may begin with
+abbrev pub places_of : List ℕ → List ℕ
+places_of text = if has_point text then take (digits_len (drop 1 text)) (drop 1 text) else []
 
--- the decimal that a text begins with: its digits before the point and behind it, and what is behind them
-pub record Decimal : Type 0 where
+-- what is behind a point that a text may begin with, and the digits behind that
+abbrev pub behind_places : List ℕ → List ℕ
+behind_places text = if has_point text then drop (digits_len (drop 1 text)) (drop 1 text) else text
+
+-- a decimal and a unit: the digits before the point and behind it, the nanoseconds of the unit, and what is behind
+pub record Pair : Type 0 where
   pub whole : List ℕ
   pub places : List ℕ
+  pub unit : ℕ
   pub behind : List ℕ
 
-abbrev pub decimal_of : List ℕ → Decimal
-decimal_of text = record {
-  whole = take (digits_len text) text;
-  places = take (places_len after) (drop (point_len after) after);
-  behind = drop (places_len after) (drop (point_len after) after);
-}
-  where
-    after : List ℕ
-    after = drop (digits_len text) text
+-- one of a unit that is there
+abbrev pub with_unit : List ℕ → List ℕ → Option (ℕ × List ℕ) → Option Pair
+with_unit whole places None = None
+with_unit whole places (Some unit) =
+    Some (record { whole = whole; places = places; unit = unit.0; behind = unit.1 })
 
--- a decimal of a unit, where so many places of a nanosecond count as one
-abbrev pub scaled : ℕ → Decimal → ℕ → ℕ
-scaled places decimal unit =
-    number_behind (number_behind 0 decimal.whole) decimal.places * unit
-    * 10 ^ (places - length decimal.places)
+-- one with a digit
+abbrev pub with_digits : List ℕ → List ℕ → Option (ℕ × List ℕ) → Option Pair
+with_digits whole places unit =
+    if length whole == 0 && length places == 0 then None else with_unit whole places unit
 
--- the decimal and the unit that a text begins with, scaled, and what is behind them
-abbrev pub pair_of : ℕ → List ℕ → Option (ℕ × List ℕ)
-pair_of places text =
-    if length (decimal_of text).whole + length (decimal_of text).places == 0 then None
-    else option_map (λ unit. (scaled places (decimal_of text) unit.0, drop unit.1 (decimal_of text).behind))
-    (unit_of (decimal_of text).behind)
+-- the decimal and the unit that a text begins with
+abbrev pub pair_of : List ℕ → Option Pair
+pair_of text =
+    with_digits (take (digits_len text) text) (places_of (drop (digits_len text) text))
+    (unit_of (behind_places (drop (digits_len text) text)))
 
--- the sum of at most so many pairs, which are the whole text, scaled
-abbrev pub sum_of : ℕ → ℕ → List ℕ → Option ℕ
+-- the value of a pair, in units of which 10 ^ places are a nanosecond
+abbrev pub scaled : ℕ → Pair → ℕ
+scaled places pair =
+    number_behind (number_behind 0 pair.whole) pair.places * pair.unit * 10 ^ (places - length pair.places)
+
+-- the sum of at most so many pairs, which are the whole text, in the same units
+unfoldable pub sum_of : ℕ → ℕ → List ℕ → Option ℕ
 sum_of zero places text = if length text == 0 then Some 0 else None
 sum_of (suc most) places text =
     if length text == 0 then Some 0
-    else option_and_then (λ pair. option_map (λ others. pair.0 + others) (sum_of most places pair.1))
-    (pair_of places text)
+    else option_and_then (λ pair. option_map (λ others. scaled places pair + others)
+    (sum_of most places pair.behind)) (pair_of text)
 
--- the whole number of nanoseconds that a scaled sum is, where it is above 0 and fits
-abbrev pub whole_of : ℕ → ℕ → Option ℕ
+-- the whole number of nanoseconds that such a sum is, where it is above 0 and fits
+unfoldable pub whole_of : ℕ → ℕ → Option ℕ
 whole_of places sum = if sum % 10 ^ places == 0 then fitting (sum / 10 ^ places) else None
 
 -- the nanoseconds that a text spells: pairs of a decimal and a unit, whose sum is whole, above 0 and fits. No
 -- decimal in a text has more places than the text has bytes
-abbrev pub time_of_text : List ℕ → Option ℕ
+unfoldable pub time_of_text : List ℕ → Option ℕ
 time_of_text text = option_and_then (whole_of (length text)) (sum_of (length text) (length text) text)
 
 -- ---- whole numbers of seconds

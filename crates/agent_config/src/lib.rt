@@ -3,6 +3,7 @@
 
 mod class_faults;
 mod config;
+mod decimals;
 mod fault;
 mod filters;
 mod first;
@@ -11,6 +12,7 @@ mod places;
 mod plugins;
 mod read;
 mod settings;
+mod sums;
 mod table_faults;
 mod tables;
 mod texts;

@@ -4,6 +4,8 @@ ghost use Rattle.toml.specs.View.{view};
 ghost use Rattle.agent_config.specs.Durations.{time_of_seconds, time_of_text};
 ghost use Rattle.agent_config.specs.Faults.{time_in};
 
+use crate::decimals::pair_of;
+use crate::sums::{add, time, zero};
 use fixed_num::OutOfMemory;
 use std::alloc::Global;
 use toml::Value;
@@ -42,9 +44,16 @@ fn time_of_seconds(seconds: i64) -> Option<i64>
 fn time_of_text(alloc: Global, text: &str) -> Result<Option<i64>, OutOfMemory>
     ensures { IfOk result (λ time. time ≡ option_map pos (time_of_text text.now)) }
 {
-    let _places: Vec<u8> = Vec::new(alloc);
-    if text.is_empty() {
-        return Ok(None);
+    let mut rest = text.as_bytes();
+    let mut sum = zero(alloc, rest.len())?;
+    while !rest.is_empty() {
+        let Some(pair) = pair_of(rest) else {
+            return Ok(None);
+        };
+        if !add(&mut sum, &pair) {
+            return Ok(None);
+        }
+        rest = pair.behind;
     }
-    Err(OutOfMemory)
+    Ok(time(&sum))
 }

@@ -66,14 +66,14 @@ pub place_more : (places digits : List ℕ) (n before at unit carry w0 sum : ℕ
 place_more places digits n before at unit carry w0 sum len one lt fits is so_far =
     let rest = drop before digits in
     let split : drop at digits ≡ get_or digits at 0 ∷ rest =
-        drop_more digits at 0 lt ∙ ap (λ k. get_or digits at 0 ∷ drop k digits) (sym one) in
+    drop_more digits at 0 lt ∙ ap (λ k. get_or digits at 0 ∷ drop k digits) (sym one) in
     let left : length rest ≡ length digits - before = length-drop before digits in
     let behind : length rest + (n - length digits) ≡ n - before = omega arith in
     let next : n - at ≡ suc (n - before) = omega arith in
     let e : at + 1 + (n - before) ≡ length places = omega arith in
     let tenth : 10 ^ (n - at) ≡ 10 ^ (n - before) * 10 = ap (λ k. 10 ^ k) next ∙ pow-suc 10 (n - before) in
     let joined : 10 ^ length rest * 10 ^ (n - length digits) ≡ 10 ^ (n - before) =
-        sym (pow-add 10 (length rest) (n - length digits)) ∙ ap (λ k. 10 ^ k) behind in
+    sym (pow-add 10 (length rest) (n - length digits)) ∙ ap (λ k. 10 ^ k) behind in
     carried (weight (set places at (sum % 10))) (weight places) w0 (get_or places at 0) (sum % 10) (sum / 10) sum
     (get_or digits at 0 - 48) unit carry (10 ^ (n - before)) (10 ^ (n - at)) (number_behind 0 rest)
     (number_behind 0 (drop at digits)) (10 ^ (n - length digits)) (10 ^ length rest)
@@ -130,10 +130,10 @@ pub too_many : (n whole : ℕ) (pair : Pair) (before : List ℕ) → length pair
     → (longest + 1) * 10 ^ n ≤ (whole * 10 ^ n + weight before) + scaled n pair
 too_many n whole pair before fits some long =
     let a = too_many_parts (longest + 1) (number_behind 0 pair.whole) pair.unit (10 ^ n) (10 ^ length pair.places)
-        (10 ^ (n - length pair.places)) (number_behind 0 pair.places) (omega arith) some
-        (joins (length pair.places) n fits) in
+    (10 ^ (n - length pair.places)) (number_behind 0 pair.places) (omega arith) some
+    (joins (length pair.places) n fits) in
     let b = ap (λ m. m * pair.unit * 10 ^ (n - length pair.places))
-        (number_split (number_behind 0 pair.whole) pair.places) in
+    (number_split (number_behind 0 pair.whole) pair.places) in
     omega (arith, a, b)
 
 -- digits are below the next power
@@ -172,10 +172,10 @@ whole_there n whole places zeros =
     let z = weight_zero places zeros in
     let some : 0 < 10 ^ n = omega (arith, one-le-pow n 10 (omega arith)) in
     let rest : (whole * 10 ^ n + weight places) % 10 ^ n ≡ 0 =
-        mul-add-mod_self_right whole (10 ^ n) (weight places) ∙ ap (λ w. w % 10 ^ n) z ∙ zero-mod (10 ^ n) in
+    mul-add-mod_self_right whole (10 ^ n) (weight places) ∙ ap (λ w. w % 10 ^ n) z ∙ zero-mod (10 ^ n) in
     let front : (whole * 10 ^ n + weight places) / 10 ^ n ≡ whole =
-        mul-add-div_right some whole (weight places)
-        ∙ ap (λ w. whole + w / 10 ^ n) z ∙ ap (λ w. whole + w) (zero-div (10 ^ n)) ∙ omega arith in
+    mul-add-div_right some whole (weight places)
+    ∙ ap (λ w. whole + w / 10 ^ n) z ∙ ap (λ w. whole + w) (zero-div (10 ^ n)) ∙ omega arith in
     rw (rest, front) refl
 
 pub whole_not : (n whole : ℕ) (places : List ℕ) → length places ≡ n → AreDigits places
@@ -184,7 +184,7 @@ unfolding whole_of
 whole_not n whole places len digits some =
     let below : weight places < 10 ^ n = rw len at (weight_below places digits) in
     let rest : (whole * 10 ^ n + weight places) % 10 ^ n ≡ weight places =
-        mod-mul-add whole (10 ^ n) (weight places) below in
+    mod-mul-add whole (10 ^ n) (weight places) below in
     let test : (weight places == 0) ≡ false = ne_eqb (weight places) 0 (weight_some places some) in
     rw (rest, test) refl
 

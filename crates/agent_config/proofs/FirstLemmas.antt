@@ -35,8 +35,8 @@ pub first_beside : (root agent : Members) (journal : List ℕ) (limits : Limits)
 first_beside root agent journal limits classes a j l c tables plugins =
     let agent' = table_at (codes "agent") root in
     let none : first (classes_faults (agent_limits agent') (classes_of root)) ≡ None =
-        ap (λ cs. first (classes_faults (agent_limits agent') cs)) (sym c)
-        ∙ ap (λ ls. first (classes_faults ls classes)) (sym (l ∙ ap agent_limits a)) ∙ plugins in
+    ap (λ cs. first (classes_faults (agent_limits agent') cs)) (sym c)
+    ∙ ap (λ ls. first (classes_faults ls classes)) (sym (l ∙ ap agent_limits a)) ∙ plugins in
     ap (λ p. first (beside_faults p classes)) (j ∙ ap journal_of a)
     ∙ ap (λ cs. first (beside_faults (journal_of agent') cs)) c
     ∙ sym (first_behind (table_faults root) _ tables

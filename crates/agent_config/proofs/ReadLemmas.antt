@@ -29,7 +29,7 @@ no_tree text refused =
     elim (is_utf8 text) as (λ utf8. is_utf8 text ≡ utf8
     → None ≡ (if nat_le (length text) longest_text && utf8 then parse_document text else None)) [
       | true ↦ λ e. either_none (nat_le (length text) longest_text) (parse_document text)
-      (refused (IsUtf8-from_is_utf8 text e))
+          (refused (IsUtf8-from_is_utf8 text e))
       | false ↦ λ e. not_utf8 (nat_le (length text) longest_text) (parse_document text)
     ] refl
 
@@ -41,6 +41,6 @@ pub all_read : (text : List ℕ) (root : Members) (config : Config) → Some roo
     → first (faults_of root) ≡ None → config ≡ config_of root
     → (text_faults text ≡ []) × (option_map config_of (tree_of text) ≡ Some config)
 all_read text root config t f c = (
-      ap faults_in (sym t) ∙ none_first (faults_of root) f,
-      ap (option_map config_of) (sym t) ∙ ap Some (sym c),
-    )
+  ap faults_in (sym t) ∙ none_first (faults_of root) f,
+  ap (option_map config_of) (sym t) ∙ ap Some (sym c),
+)

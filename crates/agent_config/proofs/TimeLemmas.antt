@@ -26,8 +26,8 @@ begin text rest value whole none = record {
   most = length text;
   enough = omega (arith, ap length whole);
   same = ap (λ v. AnswerOf (length text) v (length text) rest) none
-  ∙ ap (λ r. AnswerOf (length text) 0 (length text) r) whole
-  ∙ ap (option_and_then (whole_of (length text))) (zero_more (sum_of (length text) (length text) text));
+      ∙ ap (λ r. AnswerOf (length text) 0 (length text) r) whole
+      ∙ ap (option_and_then (whole_of (length text))) (zero_more (sum_of (length text) (length text) text));
 }
 
 sum_next : (most n : ℕ) (rest : List ℕ) (pair : Pair) → 0 < length rest → pair_of rest ≡ Some pair
@@ -67,9 +67,9 @@ next_of text rest value after (suc most) pair enough same some e is less = recor
   most = most;
   enough = omega arith;
   same = shift (length text) value (scaled (length text) pair) after (sum_of most (length text) pair.behind) is
-  ∙ ap (λ s. option_and_then (whole_of (length text)) (option_map (λ x. value + x) s))
-  (sym (sum_next most (length text) rest pair some e))
-  ∙ same;
+      ∙ ap (λ s. option_and_then (whole_of (length text)) (option_map (λ x. value + x) s))
+      (sym (sum_next most (length text) rest pair some e))
+      ∙ same;
 }
 
 pub next : (text rest : List ℕ) (value after n : ℕ) (pair : Pair) → SoFar text rest value → 0 < length rest

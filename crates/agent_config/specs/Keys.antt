@@ -5,7 +5,6 @@ use Rattle.std.specs.Str.{bytes_eq}
 use Rattle.agent_config.specs.declared.keys.Shape.{Shape}
 use Rattle.agent_config.specs.declared.keys.Shape.TheVariants.{Anything, Count, Truth, Place, Format, Files, Duration}
 use Rattle.agent_config.specs.declared.keys.Shape.TheVariants.{Globs, TagGlobs}
-
 use Rattle.agent_config.specs.declared.keys.Keys.{Keys}
 use Rattle.agent_config.specs.declared.keys.Keys.TheVariants.{Agent, Input, Output}
 

@@ -22,3 +22,6 @@ mod values;
 pub use config::{AgentConf, Config, InFormat, InputConf, OutFormat, OutputConf};
 pub use fault::{Class, ConfigFault, ConfigKind};
 pub use read::read_config;
+
+#[cfg(test)]
+mod tests;

@@ -10,8 +10,10 @@ use crate::config::{AgentConf, Config, InFormat, InputConf, OutFormat, OutputCon
 use crate::filters::filter_of;
 use crate::places::place_of;
 use crate::plugins::{Plugin, classes_of};
-use crate::tables::{Limits, MOST_COUNTED, agent_limits, count_at, journal_of, members_in, own_limits};
-use crate::tables::{table_at, value_at};
+use crate::tables::{
+    Limits, MOST_COUNTED, agent_limits, count_at, journal_of, members_in, own_limits, table_at,
+    value_at,
+};
 use crate::times::time_in;
 use fixed_num::{OutOfMemory, Seq};
 use metric::Text;

@@ -43,7 +43,9 @@ pub(crate) fn add(sum: &mut Sum, pair: &Pair) -> bool
         return false;
     };
     let carry = add_places(sum.places.as_mut_slice(), pair.places, pair.unit);
-    let whole = u128::from(sum.whole) + u128::from(number) * u128::from(pair.unit) + u128::from(carry);
+    let whole = u128::from(sum.whole)
+        + u128::from(number) * u128::from(pair.unit)
+        + u128::from(carry);
     if whole > u128::from(LONGEST) {
         return false;
     }

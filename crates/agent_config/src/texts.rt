@@ -12,7 +12,10 @@ use std::alloc::Global;
 use toml::Value;
 
 /// The texts of a value that is a list of texts; None where it is none.
-pub(crate) fn texts_in<'a>(alloc: Global, value: &'a Value) -> Result<Option<Vec<&'a str>>, OutOfMemory>
+pub(crate) fn texts_in<'a>(
+    alloc: Global,
+    value: &'a Value,
+) -> Result<Option<Vec<&'a str>>, OutOfMemory>
     ensures { IfOk result (λ texts. option_map (λ t. now_of t.items) texts ≡ texts_in (view value.now)) }
 {
     match value.as_array() {

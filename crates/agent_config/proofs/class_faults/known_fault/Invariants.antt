@@ -7,6 +7,6 @@ abbrev pub invariant-loop-plugin : goal.invariant-loop-plugin
 invariant-loop-plugin l = record {
   counted : l.number ≡ l.plugin-index;
   left : first (numbered l.class (plugin_faults l.class l.limits) l.number
-  (plugins_view (drop l.plugin-index l.plugins)))
+      (plugins_view (drop l.plugin-index l.plugins)))
       ≡ first (numbered l.class (plugin_faults l.class l.limits) 0 (plugins_view l.plugins));
 }

@@ -19,8 +19,8 @@ returns-then-whole-from-clause-value c =
     let pair = c.args.pair.now in
     let total = c.from.result + c.from-2.result * c.from-3.result + c.from-4.result in
     let is : total ≡ sum.whole + number_behind 0 pair.whole.now * pair.unit + c.add_places-carry.result =
-        same_total _ _ _ _ _ _ _ _ c.from.ensures (c.from-2.ensures ∙ c.in-Some.ensures) c.from-3.ensures
-        c.from-4.ensures in
+    same_total _ _ _ _ _ _ _ _ c.from.ensures (c.from-2.ensures ∙ c.in-Some.ensures) c.from-3.ensures
+    c.from-4.ensures in
     let long : longest < total = omega arith in
     too_much (places_len sum) sum.whole c.add_places-carry.result total (pair_view pair) sum.places.items
     c.add_places-carry.new.places c.requires.fits
@@ -33,11 +33,11 @@ returns-clause-value c =
     let after = c.add_places-carry.new.places in
     let total = c.from.result + c.from-2.result * c.from-3.result + c.from-4.result in
     let is : total ≡ sum.whole + number_behind 0 pair.whole.now * pair.unit + c.add_places-carry.result =
-        same_total _ _ _ _ _ _ _ _ c.from.ensures (c.from-2.ensures ∙ c.in-Some.ensures) c.from-3.ensures
-        c.from-4.ensures in
+    same_total _ _ _ _ _ _ _ _ c.from.ensures (c.from-2.ensures ∙ c.in-Some.ensures) c.from-3.ensures
+    c.from-4.ensures in
     let len : length after ≡ places_len sum = search rules in
     let items : (with_items sum.places after).items ≡ after =
-        take_at after _ sum.places.len (len ∙ sym sum.places.ok.0) in
+    take_at after _ sum.places.len (len ∙ sym sum.places.ok.0) in
     ap (λ places. total * 10 ^ length places + weight places) items
     ∙ ap (λ n. total * 10 ^ n + weight after) len
     ∙ ap (λ t. t * 10 ^ places_len sum + weight after) is

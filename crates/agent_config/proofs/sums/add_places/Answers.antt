@@ -15,5 +15,5 @@ loop-at-preserved c =
       small = omega arith;
       digits = digits-set l.places (l.at - 1) (sum % 10) l.invariant.digits small;
       value = place_more l.places c.args.digits.now (length c.args.places.now) l.at (l.at - 1) c.args.unit l.carry _ sum
-      l.invariant.len one (omega arith) c.requires.fits c.place_sum-sum.ensures.value l.invariant.value;
+          l.invariant.len one (omega arith) c.requires.fits c.place_sum-sum.ensures.value l.invariant.value;
     }

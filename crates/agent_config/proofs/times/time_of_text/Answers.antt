@@ -8,7 +8,7 @@ use Rattle.agent_config.proofs.times.time_of_text.Goals as goal
 pub loop-rest-init : goal.loop-rest-init
 loop-rest-init c = record {
   so_far = begin c.args.text.now c.as_bytes-rest.result.now (value_of c.in_ok-sum.sum) c.as_bytes-rest.ensures.value
-  c.in_ok-sum.ensures.value;
+      c.in_ok-sum.ensures.value;
   len = c.in_ok-sum.ensures.len ∙ c.as_bytes-rest.ensures.len;
   within = omega arith;
   digits = c.in_ok-sum.ensures.digits;
@@ -38,8 +38,8 @@ loop-rest-preserved c =
     let some = some_left c.is_empty.result l.rest.now c.is_empty.ensures test in
     record {
       so_far = next c.args.text.now l.rest.now (value_of l.sum) (value_of c.add.new.sum) (places_len l.sum)
-      (pair_view c.in-Some.pair) l.invariant.so_far some c.in-Some.ensures.value l.invariant.len
-      c.if-not-add.ensures.value c.in-Some.ensures.behind;
+          (pair_view c.in-Some.pair) l.invariant.so_far some c.in-Some.ensures.value l.invariant.len
+          c.if-not-add.ensures.value c.in-Some.ensures.behind;
       len = c.if-not-add.ensures.len ∙ l.invariant.len;
       within = omega (arith, c.in-Some.ensures.behind);
       digits = c.if-not-add.ensures.digits;

@@ -1,13 +1,15 @@
 -- Digits, the numbers that they spell, and sums of them.
-use Rattle.std.proofs.Common.{◌≡◌, ◌+◌, ◌-◌, ◌*◌, ◌/◌, ◌%◌, ◌^◌, ◌<◌, ◌≤◌, ℕ, suc, zero, List, [], ◌∷◌, length, drop}
-use Rattle.std.proofs.Common.{get_or, set, refl, sym, ap, ◌∙◌, arith, Bool, true, false, Option, Some, None, inl, inr}
-use Rattle.std.proofs.lemmas.Bool.{and_parts, cases_Bool, eqb-true, eqb-false, ne_eqb, false≢true}
+use Rattle.std.proofs.Common.{◌≡◌, ◌+◌, ◌-◌, ◌*◌, ◌/◌, ◌%◌, ◌^◌, ◌<◌, ◌≤◌, ℕ, suc, zero, List, [], ◌∷◌}
+use Rattle.std.proofs.Common.{length, drop}
+use Rattle.std.proofs.Common.{get_or, set, refl, sym, ap, ◌∙◌, arith, true, false, None}
+use Rattle.std.proofs.lemmas.Bool.{and_parts, eqb-true, ne_eqb, false≢true}
 use Rattle.std.proofs.lemmas.List.{drop_more, length-set, length-drop}
 use Rattle.std.proofs.lemmas.Nat.{div-add-mod', mod-mul-add, pow-add}
-use Rattle.std.proofs.Math.Nat.{pow-suc, one-le-pow, mul-le-mul_right, le-mul_of_pos_right, mul-add-mod_self_right}
+use Rattle.std.proofs.Math.Nat.{pow-suc, one-le-pow, mul-le-mul_right, le-mul_of_pos_right}
+use Rattle.std.proofs.Math.Nat.{mul-add-mod_self_right}
 use Rattle.std.proofs.Math.Nat.{mul-add-div_right, zero-div, zero-mod}
 use Rattle.std.specs.List.{list_all}
-use Rattle.std.specs.Prelude.{◌==◌, ◌&&◌, replicate}
+use Rattle.std.specs.Prelude.{◌==◌, replicate}
 use Rattle.agent_config.specs.Durations.{Pair, fitting, longest, number_behind, scaled, whole_of}
 use Rattle.agent_config.specs.Sums.{AreDigits, weight}
 
@@ -74,7 +76,8 @@ place_more places digits n before at unit carry w0 sum len one lt fits is so_far
     let tenth : 10 ^ (n - at) ≡ 10 ^ (n - before) * 10 = ap (λ k. 10 ^ k) next ∙ pow-suc 10 (n - before) in
     let joined : 10 ^ length rest * 10 ^ (n - length digits) ≡ 10 ^ (n - before) =
     sym (pow-add 10 (length rest) (n - length digits)) ∙ ap (λ k. 10 ^ k) behind in
-    carried (weight (set places at (sum % 10))) (weight places) w0 (get_or places at 0) (sum % 10) (sum / 10) sum
+    carried (weight (set places at (sum % 10))) (weight places) w0 (get_or places at 0) (sum % 10)
+    (sum / 10) sum
     (get_or digits at 0 - 48) unit carry (10 ^ (n - before)) (10 ^ (n - at)) (number_behind 0 rest)
     (number_behind 0 (drop at digits)) (10 ^ (n - length digits)) (10 ^ length rest)
     (weight-set places at (sum % 10) (n - before) e) tenth joined
@@ -129,7 +132,8 @@ pub too_many : (n whole : ℕ) (pair : Pair) (before : List ℕ) → length pair
     → longest < number_behind 0 pair.whole
     → (longest + 1) * 10 ^ n ≤ (whole * 10 ^ n + weight before) + scaled n pair
 too_many n whole pair before fits some long =
-    let a = too_many_parts (longest + 1) (number_behind 0 pair.whole) pair.unit (10 ^ n) (10 ^ length pair.places)
+    let a = too_many_parts (longest + 1) (number_behind 0 pair.whole) pair.unit (10 ^ n)
+    (10 ^ length pair.places)
     (10 ^ (n - length pair.places)) (number_behind 0 pair.places) (omega arith) some
     (joins (length pair.places) n fits) in
     let b = ap (λ m. m * pair.unit * 10 ^ (n - length pair.places))
@@ -162,7 +166,8 @@ positive (suc d) p w some h = absurd (omega arith)
 pub weight_some : (digits : List ℕ) → list_all (λ d. d == 0) digits ≡ false → weight digits ≡ 0 → ⊥
 weight_some [] h z = false≢true (sym h)
 weight_some (d ∷ digits) h z =
-    let both = positive d (10 ^ length digits) (weight digits) (one-le-pow (length digits) 10 (omega arith)) z in
+    let both = positive d (10 ^ length digits) (weight digits) (one-le-pow (length digits) 10
+    (omega arith)) z in
     weight_some digits (rw both.0 at h) both.1
 
 pub whole_there : (n whole : ℕ) (places : List ℕ) → list_all (λ d. d == 0) places ≡ true
@@ -199,5 +204,6 @@ digits-set (d ∷ digits) zero x h small (suc k) = h (suc k)
 digits-set (d ∷ digits) (suc i) x h small zero = h 0
 digits-set (d ∷ digits) (suc i) x h small (suc k) = digits-set digits i x (λ j. h (suc j)) small k
 
-pub same_total : (a b u c a' b' u' c' : ℕ) → a ≡ a' → b ≡ b' → u ≡ u' → c ≡ c' → a + b * u + c ≡ a' + b' * u' + c'
+pub same_total : (a b u c a' b' u' c' : ℕ) → a ≡ a' → b ≡ b' → u ≡ u' → c ≡ c'
+    → a + b * u + c ≡ a' + b' * u' + c'
 same_total a b u c a' b' u' c' e f g h = cc

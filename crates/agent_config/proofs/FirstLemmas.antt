@@ -1,5 +1,5 @@
 -- The first of a list that is made of two.
-use Rattle.std.proofs.Common.{◌≡◌, ℕ, List, [], ◌∷◌, ◌++◌, Option, Some, None, option_map, map, refl, sym, ◌∙◌}
+use Rattle.std.proofs.Common.{◌≡◌, ℕ, List, [], ◌∷◌, ◌++◌, Some, None, option_map, refl, sym, ◌∙◌}
 use Rattle.std.proofs.Common.{ap}
 use Rattle.std.specs.Prelude.{codes}
 use Rattle.toml.specs.Data.{Members}
@@ -7,7 +7,6 @@ use Rattle.agent_config.specs.Faults.{first, at, Classes, classes_of, classes_fa
 use Rattle.agent_config.specs.Faults.{agent_limits, beside_faults, journal_of, table_at}
 use Rattle.agent_config.specs.declared.tables.Limits.{Limits}
 use Rattle.agent_config.specs.declared.fault.Class.{Class}
-use Rattle.agent_config.specs.declared.fault.ConfigFault.{ConfigFault}
 use Rattle.agent_config.specs.declared.fault.ConfigKind.{ConfigKind}
 
 -- it is that of the second, where the first has none
@@ -30,7 +29,8 @@ first_at class number (kind ∷ kinds) = refl
 -- where the tables and the classes have no fault, the first is one of classes beside others
 pub first_beside : (root agent : Members) (journal : List ℕ) (limits : Limits) (classes : Classes)
     → agent ≡ table_at (codes "agent") root → journal ≡ journal_of agent → limits ≡ agent_limits agent
-    → classes ≡ classes_of root → first (table_faults root) ≡ None → first (classes_faults limits classes) ≡ None
+    → classes ≡ classes_of root → first (table_faults root) ≡ None
+    → first (classes_faults limits classes) ≡ None
     → first (beside_faults journal classes) ≡ first (faults_of root)
 first_beside root agent journal limits classes a j l c tables plugins =
     let agent' = table_at (codes "agent") root in

@@ -1,5 +1,6 @@
 -- What is known of a text once it is read.
-use Rattle.std.proofs.Common.{◌≡◌, ◌≤◌, ℕ, Bool, true, false, List, [], ◌∷◌, length, Option, Some, None, option_map}
+use Rattle.std.proofs.Common.{◌≡◌, ◌≤◌, ℕ, Bool, true, false, List, [], ◌∷◌, length, Option, Some, None}
+use Rattle.std.proofs.Common.{option_map}
 use Rattle.std.proofs.Common.{refl, sym, ap, ◌∙◌}
 use Rattle.std.proofs.lemmas.Bool.{le-leb}
 use Rattle.std.proofs.lemmas.Str.{IsUtf8-from_is_utf8, is_utf8-from_IsUtf8}
@@ -16,7 +17,8 @@ pub tree_there : (text : List ℕ) (tree : Members) → length text ≤ 1048576 
 tree_there text tree fits utf8 parsed =
     rw (le-leb (length text) 1048576 fits, is_utf8-from_IsUtf8 text utf8, parsed) refl
 
-either_none : {X : Type 0} (short : Bool) (tree : Option X) → tree ≡ None → None ≡ (if short && true then tree else None)
+either_none : {X : Type 0} (short : Bool) (tree : Option X) → tree ≡ None
+    → None ≡ (if short && true then tree else None)
 either_none true tree none = sym none
 either_none false tree none = refl
 

@@ -1,15 +1,13 @@
 -- Lists of values, and of texts.
-use Rattle.std.proofs.Common.{◌≡◌, ◌+◌, ◌<◌, ◌≤◌, ℕ, List, [], ◌∷◌, ◌++◌, length, drop, get_or, map, Bor, arith}
-use Rattle.std.proofs.Common.{Option, Some, None, option_map, refl, sym, ap, ◌∙◌, append_assoc, Bool, true, false}
+use Rattle.std.proofs.Common.{◌≡◌, ◌+◌, ◌<◌, ◌≤◌, ℕ, List, [], ◌∷◌, ◌++◌, length, drop, get_or, Bor}
+use Rattle.std.proofs.Common.{Option, Some, None, option_map, refl, sym, ap, ◌∙◌, append_assoc}
 use Rattle.std.proofs.lemmas.List.{drop_more, drop_all, append-nil}
 use Rattle.std.specs.Prelude.{option_and_then}
 use Rattle.toml.specs.Data.{Data, Items, as_str}
 use Rattle.toml.specs.View.{items_view, view}
 use Rattle.toml.specs.declared.value.Value.{Value}
-use Rattle.agent_config.specs.Faults.{first, glob_faults, is_glob, only_item, texts_of, unless}
+use Rattle.agent_config.specs.Faults.{only_item, texts_of}
 use Rattle.agent_config.specs.Seen.{now_of}
-use Rattle.agent_config.specs.declared.fault.ConfigKind.{ConfigKind}
-use Rattle.agent_config.specs.declared.fault.ConfigKind.TheVariants.{BadGlob}
 
 -- a list that hasn't one value has no only item
 pub not_one : (values : List Value) → (length values ≡ 1 → ⊥) → only_item (items_view values) ≡ None
@@ -23,7 +21,8 @@ now_of-push [] text = refl
 now_of-push (x ∷ texts) text = ap (λ ts. x.now ∷ ts) (now_of-push texts text)
 
 behind_both : (front : List (List ℕ)) (text : List ℕ) (rest : Option (List (List ℕ)))
-    → option_map (λ r. (front ++ text ∷ []) ++ r) rest ≡ option_map (λ r. front ++ r) (option_map (λ r. text ∷ r) rest)
+    → option_map (λ r. (front ++ text ∷ []) ++ r) rest
+    ≡ option_map (λ r. front ++ r) (option_map (λ r. text ∷ r) rest)
 behind_both front text None = refl
 behind_both front text (Some rest) = ap Some (append_assoc front (text ∷ []) rest)
 
@@ -42,10 +41,12 @@ no_text : (d : Data) (ds : Items) → None ≡ as_str d
 no_text d ds none = rw (← none) refl
 
 pub texts_more : (texts : List (Bor (List ℕ))) (values : List Value) (i : ℕ) (d : Value) (text : Bor (List ℕ))
-    → i < length values → Some text.now ≡ as_str (view (get_or values i d)) → TextsSoFar texts (drop i values) values
+    → i < length values → Some text.now ≡ as_str (view (get_or values i d))
+    → TextsSoFar texts (drop i values) values
     → TextsSoFar (texts ++ text ∷ []) (drop (i + 1) values) values
 texts_more texts values i d text lt some so_far =
-    ap (λ ts. option_map (λ rest. ts ++ rest) (texts_of (items_view (drop (i + 1) values)))) (now_of-push texts text)
+    ap (λ ts. option_map (λ rest. ts ++ rest) (texts_of (items_view (drop (i + 1) values))))
+    (now_of-push texts text)
     ∙ behind_both (now_of texts) text.now (texts_of (items_view (drop (i + 1) values)))
     ∙ ap (option_map (λ rest. now_of texts ++ rest))
     (sym (ap (λ vs. texts_of (items_view vs)) (drop_more values i d lt)
@@ -56,7 +57,8 @@ pub texts_none : (texts : List (Bor (List ℕ))) (values : List Value) (i : ℕ)
     → i < length values → None ≡ as_str (view (get_or values i d)) → TextsSoFar texts (drop i values) values
     → None ≡ texts_of (items_view values)
 texts_none texts values i d lt none so_far =
-    sym (ap (option_map (λ rest. now_of texts ++ rest)) (ap (λ vs. texts_of (items_view vs)) (drop_more values i d lt)
+    sym (ap (option_map (λ rest. now_of texts ++ rest)) (ap (λ vs. texts_of (items_view vs))
+    (drop_more values i d lt)
     ∙ no_text (view (get_or values i d)) (items_view (drop (i + 1) values)) none))
     ∙ so_far
 
@@ -64,5 +66,6 @@ pub texts_all : (texts : List (Bor (List ℕ))) (values : List Value) (i : ℕ) 
     → TextsSoFar texts (drop i values) values → Some (now_of texts) ≡ texts_of (items_view values)
 texts_all texts values i past so_far =
     ap Some (sym (append-nil (now_of texts)))
-    ∙ sym (ap (λ vs. option_map (λ rest. now_of texts ++ rest) (texts_of (items_view vs))) (drop_all i values past))
+    ∙ sym (ap (λ vs. option_map (λ rest. now_of texts ++ rest) (texts_of (items_view vs)))
+    (drop_all i values past))
     ∙ so_far

@@ -1,14 +1,17 @@
 -- The time that a text gives, pair by pair.
-use Rattle.std.proofs.Common.{◌≡◌, ◌+◌, ◌*◌, ◌/◌, ◌%◌, ◌^◌, ◌<◌, ◌≤◌, ℕ, suc, zero, List, length, refl, sym, ap, ◌∙◌, arith}
+use Rattle.std.proofs.Common.{◌≡◌, ◌+◌, ◌*◌, ◌/◌, ◌%◌, ◌^◌, ◌<◌, ◌≤◌, ℕ, suc, zero, List, length, refl, sym}
+use Rattle.std.proofs.Common.{ap, ◌∙◌, arith}
 use Rattle.std.proofs.Common.{Bool, true, false, Option, Some, None, option_map, add-zero, subst, zero-add}
 use Rattle.std.proofs.lemmas.Bool.{eq-eqb, eqb-false, eqb-true, ne_eqb, lt-leb}
 use Rattle.std.proofs.Math.Nat.{le-div_iff_mul-le, one-le-pow}
 use Rattle.std.specs.Prelude.{◌==◌, ◌&&◌, if◌then◌else◌, nat_le, option_and_then}
-use Rattle.agent_config.specs.Durations.{Pair, fitting, longest, pair_of, scaled, sum_of, time_of_text, whole_of}
+use Rattle.agent_config.specs.Durations.{Pair, fitting, longest, pair_of, scaled, sum_of, time_of_text}
+use Rattle.agent_config.specs.Durations.{whole_of}
 
 -- the time of a value and of the pairs that are left
 abbrev pub AnswerOf : ℕ → ℕ → ℕ → List ℕ → Option ℕ
-AnswerOf n value most rest = option_and_then (whole_of n) (option_map (λ others. value + others) (sum_of most n rest))
+AnswerOf n value most rest =
+    option_and_then (whole_of n) (option_map (λ others. value + others) (sum_of most n rest))
 
 -- a value and what is left of a text give its time
 pub record SoFar (text rest : List ℕ) (value : ℕ) : Type 0 where
@@ -61,12 +64,14 @@ shift n value amount after (Some x) e =
 
 next_of : (text rest : List ℕ) (value after most : ℕ) (pair : Pair) → length rest ≤ most
     → AnswerOf (length text) value most rest ≡ time_of_text text → 0 < length rest → pair_of rest ≡ Some pair
-    → after ≡ value + scaled (length text) pair → length pair.behind < length rest → SoFar text pair.behind after
+    → after ≡ value + scaled (length text) pair → length pair.behind < length rest
+    → SoFar text pair.behind after
 next_of text rest value after zero pair enough same some e is less = absurd (omega arith)
 next_of text rest value after (suc most) pair enough same some e is less = record {
   most = most;
   enough = omega arith;
-  same = shift (length text) value (scaled (length text) pair) after (sum_of most (length text) pair.behind) is
+  same = shift (length text) value (scaled (length text) pair) after (sum_of most
+      (length text) pair.behind) is
       ∙ ap (λ s. option_and_then (whole_of (length text)) (option_map (λ x. value + x) s))
       (sym (sum_next most (length text) rest pair some e))
       ∙ same;

@@ -1,5 +1,5 @@
 -- Times, as texts and as whole numbers of seconds spell them.
-use Rattle.std.specs.Prelude.{◌==◌, ◌&&◌, ◌+◌, ◌*◌, ◌-◌, ◌/◌, ◌^◌, ◌%◌, ◌++◌, ℕ, ℤ, pos, negsuc, zero, suc}
+use Rattle.std.specs.Prelude.{◌==◌, ◌&&◌, ◌+◌, ◌*◌, ◌-◌, ◌/◌, ◌^◌, ◌%◌, ℕ, ℤ, pos, negsuc, zero, suc}
 use Rattle.std.specs.Prelude.{Bool, List, [], ◌∷◌, length, codes, nat_le, take, drop}
 use Rattle.std.specs.Prelude.{Option, Some, None, option_map, option_and_then, if◌then◌else◌}
 use Rattle.std.specs.List.{prefix_len}
@@ -50,7 +50,8 @@ places_of text = if has_point text then take (digits_len (drop 1 text)) (drop 1 
 abbrev pub behind_places : List ℕ → List ℕ
 behind_places text = if has_point text then drop (digits_len (drop 1 text)) (drop 1 text) else text
 
--- a decimal and a unit: the digits before the point and behind it, the nanoseconds of the unit, and what is behind
+-- a decimal and a unit: the digits before the point and behind it, the nanoseconds of the unit, and what is
+-- behind
 pub record Pair : Type 0 where
   pub whole : List ℕ
   pub places : List ℕ

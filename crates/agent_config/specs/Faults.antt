@@ -1,11 +1,13 @@
 -- What is wrong with a configuration: a list, of which the first counts.
-use Rattle.std.specs.Prelude.{◌≡◌, ◌==◌, ◌&&◌, ◌||◌, ◌+◌, ℕ, ℤ, pos, negsuc, zero, suc, Bool, true, false, not}
-use Rattle.std.specs.Prelude.{List, [], ◌∷◌, ◌++◌, length, map, flat_map, chars, codes, nat_le, nat_lt}
-use Rattle.std.specs.Prelude.{Option, Some, None, is_some, option_and_then, option_map, unwrap_or, if◌then◌else◌}
+use Rattle.std.specs.Prelude.{◌==◌, ◌&&◌, ◌||◌, ◌+◌, ℕ, ℤ, pos, negsuc, Bool, true, false, not}
+use Rattle.std.specs.Prelude.{List, [], ◌∷◌, ◌++◌, length, map, chars, codes, nat_le}
+use Rattle.std.specs.Prelude.{Option, Some, None, is_some, option_and_then, option_map, unwrap_or}
+use Rattle.std.specs.Prelude.{if◌then◌else◌}
 use Rattle.std.specs.List.{list_any}
 use Rattle.std.specs.Str.{bytes_eq, is_utf8}
-use Rattle.toml.specs.Data.{Data, array, table, Items, no_items, item}
-use Rattle.toml.specs.Data.{Members, no_members, member, get_member, as_table, as_array, as_str, as_integer, as_bool}
+use Rattle.toml.specs.Data.{Data, Items, no_items, item}
+use Rattle.toml.specs.Data.{Members, no_members, member, get_member, as_table, as_array, as_str, as_integer}
+use Rattle.toml.specs.Data.{as_bool}
 use Rattle.toml.specs.Parse.{parse_document}
 use Rattle.metric.specs.Glob.{glob_of}
 use Rattle.agent_config.specs.Durations.{time_of_text, time_of_seconds}
@@ -13,13 +15,17 @@ use Rattle.agent_config.specs.Keys.{is_root_key, shape_of}
 use Rattle.agent_config.specs.declared.keys.Keys.{Keys}
 use Rattle.agent_config.specs.declared.keys.Keys.TheVariants as keys_of
 use Rattle.agent_config.specs.declared.keys.Shape.{Shape}
-use Rattle.agent_config.specs.declared.keys.Shape.TheVariants.{Anything, Count, Truth, Place, Format, Files, Duration}
+use Rattle.agent_config.specs.declared.keys.Shape.TheVariants.{Anything, Count, Truth, Place, Format, Files}
+use Rattle.agent_config.specs.declared.keys.Shape.TheVariants.{Duration}
 use Rattle.agent_config.specs.declared.keys.Shape.TheVariants.{Globs, TagGlobs}
 use Rattle.agent_config.specs.declared.fault.ConfigFault.{ConfigFault}
 use Rattle.agent_config.specs.declared.fault.ConfigKind.{ConfigKind}
-use Rattle.agent_config.specs.declared.fault.ConfigKind.TheVariants.{NotToml, UnknownKind, UnknownKey, WrongType}
-use Rattle.agent_config.specs.declared.fault.ConfigKind.TheVariants.{Missing, OutOfRange, BadGlob, TooManyPlugins}
-use Rattle.agent_config.specs.declared.fault.ConfigKind.TheVariants.{NoInput, NoOutput, BatchAboveLimit, SamePlace}
+use Rattle.agent_config.specs.declared.fault.ConfigKind.TheVariants.{NotToml, UnknownKind, UnknownKey}
+use Rattle.agent_config.specs.declared.fault.ConfigKind.TheVariants.{WrongType}
+use Rattle.agent_config.specs.declared.fault.ConfigKind.TheVariants.{Missing, OutOfRange, BadGlob}
+use Rattle.agent_config.specs.declared.fault.ConfigKind.TheVariants.{TooManyPlugins}
+use Rattle.agent_config.specs.declared.fault.ConfigKind.TheVariants.{NoInput, NoOutput, BatchAboveLimit}
+use Rattle.agent_config.specs.declared.fault.ConfigKind.TheVariants.{SamePlace}
 use Rattle.agent_config.specs.declared.tables.Limits.{Limits}
 use Rattle.agent_config.specs.declared.fault.Class.{Class}
 use Rattle.agent_config.specs.declared.fault.Class.TheVariants.{Root, Agent, GlobalTags, Inputs, Processors}
@@ -223,7 +229,11 @@ agent_limits agent = record { batch = batch_in 1000 agent; limit = limit_in 1000
 
 -- those of an output
 abbrev pub own_limits : Limits → Members → Limits
-own_limits limits members = record { batch = batch_in limits.batch members; limit = limit_in limits.limit members }
+own_limits limits members = record {
+  batch = batch_in limits.batch members;
+  limit =
+      limit_in limits.limit members;
+}
 
 -- may a batch hold more metrics than the buffer
 abbrev pub limits_faults : Limits → List ConfigKind

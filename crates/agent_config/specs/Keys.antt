@@ -1,9 +1,10 @@
 -- The keys of the tables of a configuration, and what each takes.
-use Rattle.std.specs.Prelude.{◌||◌, ℕ, Bool, List, [], ◌∷◌, codes, Option, Some, None, if◌then◌else◌}
+use Rattle.std.specs.Prelude.{ℕ, Bool, List, [], ◌∷◌, codes, Option, Some, None, if◌then◌else◌}
 use Rattle.std.specs.List.{list_any}
 use Rattle.std.specs.Str.{bytes_eq}
 use Rattle.agent_config.specs.declared.keys.Shape.{Shape}
-use Rattle.agent_config.specs.declared.keys.Shape.TheVariants.{Anything, Count, Truth, Place, Format, Files, Duration}
+use Rattle.agent_config.specs.declared.keys.Shape.TheVariants.{Anything, Count, Truth, Place, Format, Files}
+use Rattle.agent_config.specs.declared.keys.Shape.TheVariants.{Duration}
 use Rattle.agent_config.specs.declared.keys.Shape.TheVariants.{Globs, TagGlobs}
 use Rattle.agent_config.specs.declared.keys.Keys.{Keys}
 use Rattle.agent_config.specs.declared.keys.Keys.TheVariants.{Agent, Input, Output}

@@ -1,5 +1,5 @@
 -- What is answered of a text.
-use Rattle.std.specs.Prelude.{◌≡◌, ℕ, List, [], Option, Some, option_map, Result, Ok, Err, ◌⊎◌}
+use Rattle.std.specs.Prelude.{◌≡◌, ℕ, List, [], Some, option_map, Result, Ok, Err}
 use Rattle.agent_config.specs.Faults.{first, text_faults, tree_of}
 use Rattle.agent_config.specs.Values.{config_of}
 use Rattle.agent_config.specs.declared.config.Config.{Config}
@@ -15,7 +15,3 @@ Checks text (Err fault) = first (text_faults text) ≡ Some fault
 -- the fault that no memory was left
 abbrev pub memory_fault : ConfigFault
 memory_fault = record { kind = OutOfMemory; class = Root; number = 0 }
-
--- the fault is the first of a list, or no memory was left
-abbrev pub HasFault : List ConfigFault → ConfigFault → Type 0
-HasFault faults fault = (first faults ≡ Some fault) ⊎ (fault ≡ memory_fault)

@@ -1,5 +1,6 @@
 -- A sum of times as the code keeps it: nanoseconds, and decimal places of one.
-use Rattle.std.specs.Prelude.{◌≡◌, ◌+◌, ◌*◌, ◌^◌, ◌≤◌, ℕ, List, [], ◌∷◌, length, slice_index, Bool, true, false}
+use Rattle.std.specs.Prelude.{◌≡◌, ◌+◌, ◌*◌, ◌^◌, ◌≤◌, ℕ, List, [], ◌∷◌, length, slice_index, Bool, true}
+use Rattle.std.specs.Prelude.{false}
 use Rattle.agent_config.specs.Durations.{longest, scaled}
 use Rattle.agent_config.specs.Durations.{Pair as PairData}
 use Rattle.agent_config.specs.declared.sums.Sum.{Sum}

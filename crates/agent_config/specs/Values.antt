@@ -1,7 +1,8 @@
 -- The values of a configuration, each with its default.
-use Rattle.std.specs.Prelude.{◌==◌, ◌++◌, ℕ, ℤ, pos, Bool, true, false, List, [], ◌∷◌, length, map, chars}
-use Rattle.std.specs.Prelude.{codes, Option, Some, None, option_and_then, option_to_list, if◌then◌else◌, unwrap_or}
-use Rattle.toml.specs.Data.{Data, Members, no_members, member, get_member, as_bool, as_str, as_table}
+use Rattle.std.specs.Prelude.{◌==◌, ◌++◌, ℕ, pos, Bool, true, false, List, [], ◌∷◌, length, map, chars}
+use Rattle.std.specs.Prelude.{codes, Option, Some, None, option_and_then, option_to_list, if◌then◌else◌}
+use Rattle.std.specs.Prelude.{unwrap_or}
+use Rattle.toml.specs.Data.{Members, no_members, member, get_member, as_bool, as_str, as_table}
 use Rattle.metric.specs.Glob.{glob_of}
 use Rattle.metric.specs.declared.glob.Element.{Element}
 use Rattle.metric_filter.specs.declared.rules.FilterRules.{FilterRules}
@@ -23,7 +24,8 @@ usual_interval = 10000000000
 
 -- the time between two flushes
 abbrev pub interval_of : Members → ℕ
-interval_of agent = unwrap_or (option_and_then time_in (get_member (codes "flush_interval") agent)) usual_interval
+interval_of agent =
+    unwrap_or (option_and_then time_in (get_member (codes "flush_interval") agent)) usual_interval
 
 -- may inputs be read side by side
 abbrev pub workers_of : Members → Bool
@@ -117,5 +119,6 @@ config_of root = record {
   agent = agent_of (table_at (codes "agent") root);
   globals = globals_of (table_at (codes "global_tags") root);
   inputs = map input_of (plugins_at (codes "inputs") root);
-  outputs = map (output_of (agent_limits (table_at (codes "agent") root))) (plugins_at (codes "outputs") root);
+  outputs = map (output_of (agent_limits (table_at (codes "agent") root))) (plugins_at
+      (codes "outputs") root);
 }

@@ -2,7 +2,8 @@
 ghost use Rattle.std.specs.Prelude.{◌≡◌, ◌≤◌, IfOk, None, length};
 ghost use Rattle.toml.specs.Data.{as_table};
 ghost use Rattle.toml.specs.View.{table_view, view};
-ghost use Rattle.agent_config.specs.Faults.{class_faults, file_faults_of, first, has_files, input_faults, is_known};
+ghost use Rattle.agent_config.specs.Faults.{class_faults, file_faults_of, first, has_files, input_faults};
+ghost use Rattle.agent_config.specs.Faults.{is_known};
 ghost use Rattle.agent_config.specs.Faults.{needed, numbered, output_faults, plugin_faults, unknown_faults};
 ghost use Rattle.agent_config.specs.Plugins.{plugin_view, plugins_view};
 
@@ -110,7 +111,8 @@ fn plugin_fault(
     limits: &Limits,
     plugin: &Plugin,
 ) -> Result<Option<ConfigKind>, OutOfMemory>
-    ensures { IfOk result (λ fault. fault ≡ first (plugin_faults class.now limits.now (plugin_view plugin.now))) }
+    ensures { IfOk result (λ fault. fault
+        ≡ first (plugin_faults class.now limits.now (plugin_view plugin.now))) }
 {
     if !is_known(class, plugin.kind) {
         return Ok(None);

@@ -1,5 +1,6 @@
 //! The decimals and units that times are written with.
-ghost use Rattle.std.specs.Prelude.{◌≡◌, ◌<◌, ◌≤◌, ◌+◌, ◌-◌, IfSome, MatchOption, drop, length, option_map, take};
+ghost use Rattle.std.specs.Prelude.{◌≡◌, ◌<◌, ◌≤◌, ◌+◌, ◌-◌, IfSome, MatchOption, drop, length, option_map};
+ghost use Rattle.std.specs.Prelude.{take};
 ghost use Rattle.agent_config.specs.Durations.{behind_places, digits_len, is_digit, longest, number_behind};
 ghost use Rattle.agent_config.specs.Durations.{pair_of, places_of, unit_of};
 ghost use Rattle.agent_config.specs.Pairs.{pair_view};
@@ -93,7 +94,8 @@ pub(crate) fn digit_value(digit: u8) -> u64
 
 /// The number that digits spell; None where no time is so long.
 pub(crate) fn number_of(digits: &[u8]) -> Option<u64>
-    ensures { MatchOption result (longest < number_behind 0 digits.now) (λ number. number ≡ number_behind 0 digits.now) }
+    ensures { MatchOption result (longest < number_behind 0 digits.now)
+        (λ number. number ≡ number_behind 0 digits.now) }
 {
     let mut number: u64 = 0;
     for digit in digits {

@@ -5,7 +5,8 @@ ghost use Rattle.toml.specs.View.{table_view, view};
 ghost use Rattle.metric.specs.Glob.{glob_of};
 ghost use Rattle.agent_config.specs.Faults.{members_in, texts_in};
 ghost use Rattle.agent_config.specs.Seen.{now_of};
-ghost use Rattle.agent_config.specs.Values.{filter_of, globs_at, globs_in, globs_of, tag_globs_at, tag_globs_of};
+ghost use Rattle.agent_config.specs.Values.{filter_of, globs_at, globs_in, globs_of, tag_globs_at};
+ghost use Rattle.agent_config.specs.Values.{tag_globs_of};
 
 use crate::tables::value_at;
 use crate::texts::{read_glob, texts_in};
@@ -66,7 +67,8 @@ fn add_globs_at(
     table: &Table,
     key: &str,
 ) -> Result<(), OutOfMemory>
-    ensures { IfOk result (λ _. globs.new.items ≡ globs.old.items ++ globs_at key.now (table_view table.now)) }
+    ensures { IfOk result (λ _. globs.new.items
+        ≡ globs.old.items ++ globs_at key.now (table_view table.now)) }
 {
     match value_at(table, key) {
         Some(value) => add_globs_in(alloc, globs, value),
@@ -96,7 +98,8 @@ fn add_globs(alloc: Global, globs: &mut Vec<Glob>, texts: &[&str]) -> Result<(),
 
 /// Adds the glob that a text spells, if it spells one.
 fn add_glob(alloc: Global, globs: &mut Vec<Glob>, text: &str) -> Result<(), OutOfMemory>
-    ensures { IfOk result (λ _. globs.new.items ≡ globs.old.items ++ option_to_list (glob_of (chars text.now))) }
+    ensures { IfOk result (λ _. globs.new.items
+        ≡ globs.old.items ++ option_to_list (glob_of (chars text.now))) }
 {
     match read_glob(alloc, text)? {
         Some(glob) => Ok(globs.push(glob)?),

@@ -2,7 +2,8 @@
 ghost use Rattle.std.specs.Prelude.{◌≡◌, ◌≤◌, IfOk, None, codes, length};
 ghost use Rattle.toml.specs.Data.{no_members};
 ghost use Rattle.toml.specs.View.{table_view};
-ghost use Rattle.agent_config.specs.Faults.{at, beside_faults, classes_faults, faults_of, first, table_faults};
+ghost use Rattle.agent_config.specs.Faults.{at, beside_faults, classes_faults, faults_of, first};
+ghost use Rattle.agent_config.specs.Faults.{table_faults};
 ghost use Rattle.agent_config.specs.Faults.{global_faults};
 ghost use Rattle.agent_config.specs.Plugins.{classes_view};
 
@@ -92,7 +93,8 @@ fn classes_fault(
     limits: &Limits,
     classes: &Classes,
 ) -> Result<Option<ConfigFault>, OutOfMemory>
-    ensures first { IfOk result (λ fault. fault ≡ first (classes_faults limits.now (classes_view classes.now))) }
+    ensures first { IfOk result (λ fault. fault
+        ≡ first (classes_faults limits.now (classes_view classes.now))) }
     ensures few { IfOk result (λ fault. fault ≡ None
         → (length classes.now.inputs.items ≤ 16) × (length classes.now.outputs.items ≤ 16)) }
 {

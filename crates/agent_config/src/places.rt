@@ -77,7 +77,8 @@ fn add_places<'a>(
 fn same_fault(class: &Class, places: &[&str], from: usize) -> Option<ConfigFault>
     requires within { from ≤ length places.now }
     requires few { length places.now ≤ 17 }
-    ensures { result ≡ first (same_faults class.now 0 (now_of (take from places.now)) (now_of (drop from places.now))) }
+    ensures { result
+        ≡ first (same_faults class.now 0 (now_of (take from places.now)) (now_of (drop from places.now))) }
 {
     let mut number: u32 = 0;
     for at in from..places.len() {

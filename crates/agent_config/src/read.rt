@@ -1,9 +1,9 @@
 //! Reading a configuration.
-ghost use Rattle.std.specs.Prelude.{◌≡◌, [], IfOk, IfErr, Some, option_map};
+ghost use Rattle.std.specs.Prelude.{◌≡◌, ◌≢◌, [], IfOk, IfErr, Some, option_map};
 ghost use Rattle.toml.specs.View.{table_view};
-ghost use Rattle.agent_config.specs.Faults.{text_faults, tree_of};
+ghost use Rattle.agent_config.specs.Faults.{first, text_faults, tree_of};
 ghost use Rattle.agent_config.specs.Values.{config_of};
-ghost use Rattle.agent_config.specs.Reading.{Checks, HasFault};
+ghost use Rattle.agent_config.specs.Reading.{Checks, memory_fault};
 
 use crate::config::Config;
 use crate::fault::{ConfigFault, ConfigKind};
@@ -17,13 +17,15 @@ use toml::Table;
 const LONGEST_TEXT: usize = 1_048_576;
 
 /// What a configuration in TOML 1.1 says. Where the text has faults the first of them is the error: what is
-/// wrong, in which class, and at which plugin of it. An error OutOfMemory, which is the root's at number 0,
-/// says nothing of the text. `docs/configuration.md` has the keys, their defaults and ranges, and the order of
-/// the faults.
+/// wrong, in which class, and at which plugin of it. An error OutOfMemory, which is of the root at number 0,
+/// says nothing of the text. `docs/configuration.md` has the keys, their defaults and ranges, and the order
+/// of faults.
 pub fn read_config(alloc: Global, text: &[u8]) -> Result<Config, ConfigFault>
     ensures ok { IfOk result (λ config. (text_faults text.now ≡ [])
         × (option_map config_of (tree_of text.now) ≡ Some config)) }
-    ensures err { IfErr result (HasFault (text_faults text.now)) }
+    ensures first { IfErr result (λ fault. fault.kind ≢ ConfigKind.OutOfMemory
+        → first (text_faults text.now) ≡ Some fault) }
+    ensures memory { IfErr result (λ fault. fault.kind ≡ ConfigKind.OutOfMemory → fault ≡ memory_fault) }
 {
     match checked(alloc, text) {
         Ok(Ok(config)) => Ok(config),

@@ -3,7 +3,8 @@ ghost use Rattle.std.specs.Prelude.{◌≡◌, ◌++◌, IfOk, map, pos};
 ghost use Rattle.toml.specs.Data.{as_str, no_members};
 ghost use Rattle.toml.specs.View.{table_view, view};
 ghost use Rattle.agent_config.specs.Plugins.{plugin_view, plugins_view};
-ghost use Rattle.agent_config.specs.Values.{agent_of, config_of, global_tag, globals_of, input_of, interval_of};
+ghost use Rattle.agent_config.specs.Values.{agent_of, config_of, global_tag, globals_of, input_of};
+ghost use Rattle.agent_config.specs.Values.{interval_of};
 ghost use Rattle.agent_config.specs.Values.{output_of, workers_of};
 
 use crate::config::{AgentConf, Config, InFormat, InputConf, OutFormat, OutputConf};

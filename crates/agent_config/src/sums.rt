@@ -59,7 +59,8 @@ fn add_places(places: &mut [u8], digits: &[u8], unit: u64) -> u64
     requires unit { unit ≤ 3600000000000 }
     requires digits { AreDigits places.old }
     ensures value { weight places.new + result * 10 ^ length places.old
-        ≡ weight places.old + number_behind 0 digits.now * unit * 10 ^ (length places.old - length digits.now) }
+        ≡ weight places.old
+        + number_behind 0 digits.now * unit * 10 ^ (length places.old - length digits.now) }
     ensures small { result ≤ 100000000000000 }
     ensures digits { AreDigits places.new }
 {

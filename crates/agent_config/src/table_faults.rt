@@ -3,7 +3,8 @@ ghost use Rattle.std.specs.Prelude.{◌≡◌, IfOk};
 ghost use Rattle.toml.specs.Data.{as_str};
 ghost use Rattle.toml.specs.View.{table_view, view};
 ghost use Rattle.agent_config.specs.Faults.{agent_faults, entry_faults, first, global_faults};
-ghost use Rattle.agent_config.specs.Faults.{global_tag_faults, keys_faults, limits_faults, root_key_faults, root_value_faults};
+ghost use Rattle.agent_config.specs.Faults.{global_tag_faults, keys_faults, limits_faults, root_key_faults};
+ghost use Rattle.agent_config.specs.Faults.{root_value_faults};
 
 use crate::fault::ConfigKind;
 use crate::keys::{Keys, is_root_key};

@@ -26,7 +26,8 @@ pub(crate) fn texts_in<'a>(
 
 /// The texts of values; None where one is no text.
 fn texts_of<'a>(alloc: Global, values: &'a [Value]) -> Result<Option<Vec<&'a str>>, OutOfMemory>
-    ensures { IfOk result (λ texts. option_map (λ t. now_of t.items) texts ≡ texts_of (items_view values.now)) }
+    ensures { IfOk result (λ texts. option_map (λ t. now_of t.items) texts
+        ≡ texts_of (items_view values.now)) }
 {
     let mut texts = Vec::new(alloc);
     for value in values {

@@ -3,7 +3,8 @@ ghost use Rattle.std.specs.Prelude.{◌≡◌, Some, IfOk, option_copied, option
 ghost use Rattle.toml.specs.Data.{as_str, as_table};
 ghost use Rattle.toml.specs.View.{table_view, view};
 ghost use Rattle.agent_config.specs.Faults.{file_faults, first, format_faults, is_counted, list_faults};
-ghost use Rattle.agent_config.specs.Faults.{listed_faults, number_faults, place_faults, tag_faults, tagged_faults};
+ghost use Rattle.agent_config.specs.Faults.{listed_faults, number_faults, place_faults, tag_faults};
+ghost use Rattle.agent_config.specs.Faults.{tagged_faults};
 ghost use Rattle.agent_config.specs.Faults.{texts_in, time_faults, unless, value_faults};
 
 use crate::fault::ConfigKind;

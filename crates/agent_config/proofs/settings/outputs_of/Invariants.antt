@@ -4,4 +4,5 @@ use Rattle.agent_config.specs.Values.{output_of}
 use Rattle.agent_config.proofs.settings.outputs_of.Given as goal
 
 abbrev pub invariant-loop-plugin : goal.invariant-loop-plugin
-invariant-loop-plugin l = l.outputs.items ≡ map (output_of l.limits) (plugins_view (take l.plugin-index l.plugins))
+invariant-loop-plugin l = l.outputs.items
+    ≡ map (output_of l.limits) (plugins_view (take l.plugin-index l.plugins))

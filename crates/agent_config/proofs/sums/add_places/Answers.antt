@@ -14,6 +14,7 @@ loop-at-preserved c =
       len = length-set l.places (l.at - 1) (sum % 10) ∙ l.invariant.len;
       small = omega arith;
       digits = digits-set l.places (l.at - 1) (sum % 10) l.invariant.digits small;
-      value = place_more l.places c.args.digits.now (length c.args.places.now) l.at (l.at - 1) c.args.unit l.carry _ sum
+      value = place_more l.places c.args.digits.now (length c.args.places.now) l.at
+          (l.at - 1) c.args.unit l.carry _ sum
           l.invariant.len one (omega arith) c.requires.fits c.place_sum-sum.ensures.value l.invariant.value;
     }

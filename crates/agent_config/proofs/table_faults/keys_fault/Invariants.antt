@@ -5,4 +5,5 @@ use Rattle.agent_config.proofs.table_faults.keys_fault.Given as goal
 
 abbrev pub invariant-loop-key : goal.invariant-loop-key
 invariant-loop-key l =
-    first (keys_faults l.keys (members_view l.key-iterator)) ≡ first (keys_faults l.keys (members_view l.table.entries))
+    first (keys_faults l.keys (members_view l.key-iterator))
+    ≡ first (keys_faults l.keys (members_view l.table.entries))

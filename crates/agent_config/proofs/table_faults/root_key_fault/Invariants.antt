@@ -5,4 +5,5 @@ use Rattle.agent_config.proofs.table_faults.root_key_fault.Given as goal
 
 abbrev pub invariant-loop-key : goal.invariant-loop-key
 invariant-loop-key l =
-    first (root_key_faults (members_view l.key-iterator)) ≡ first (root_key_faults (members_view l.root.entries))
+    first (root_key_faults (members_view l.key-iterator))
+    ≡ first (root_key_faults (members_view l.root.entries))

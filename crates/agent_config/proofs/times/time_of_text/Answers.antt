@@ -1,4 +1,4 @@
-use Rattle.std.proofs.Common.{◌≡◌, Bool, true, false, length, arith, rules, ap, ◌∙◌, option_map, pos}
+use Rattle.std.proofs.Common.{◌≡◌, true, false, arith, rules, ap, ◌∙◌, option_map, pos}
 use Rattle.agent_config.specs.Durations.{whole_of}
 use Rattle.agent_config.specs.Pairs.{pair_view}
 use Rattle.agent_config.specs.Sums.{places_len, value_of}
@@ -7,7 +7,8 @@ use Rattle.agent_config.proofs.times.time_of_text.Goals as goal
 
 pub loop-rest-init : goal.loop-rest-init
 loop-rest-init c = record {
-  so_far = begin c.args.text.now c.as_bytes-rest.result.now (value_of c.in_ok-sum.sum) c.as_bytes-rest.ensures.value
+  so_far = begin c.args.text.now c.as_bytes-rest.result.now
+      (value_of c.in_ok-sum.sum) c.as_bytes-rest.ensures.value
       c.in_ok-sum.ensures.value;
   len = c.in_ok-sum.ensures.len ∙ c.as_bytes-rest.ensures.len;
   within = omega arith;
@@ -52,4 +53,5 @@ returns c =
     let none = none_left c.is_empty.result l.rest.now c.is_empty.ensures test in
     c.time.ensures
     ∙ ap (λ n. option_map (λ x. pos x) (whole_of n (value_of l.sum))) l.invariant.len
-    ∙ ap (option_map (λ x. pos x)) (ends_at c.args.text.now l.rest.now (value_of l.sum) l.invariant.so_far none)
+    ∙ ap (option_map (λ x. pos x)) (ends_at c.args.text.now l.rest.now
+    (value_of l.sum) l.invariant.so_far none)

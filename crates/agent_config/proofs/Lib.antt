@@ -1,0 +1,6 @@
+mod DecimalLemmas
+mod FirstLemmas
+mod KindLemmas
+mod ReadLemmas
+mod TextLemmas
+mod TimeLemmas

@@ -1,0 +1,10 @@
+use Rattle.std.proofs.Common.{◌≡◌, ◌++◌}
+use Rattle.toml.specs.View.{members_view}
+use Rattle.agent_config.specs.Faults.{plugins_of}
+use Rattle.agent_config.specs.Plugins.{plugins_view}
+use Rattle.agent_config.proofs.plugins.plugins_of.Given as goal
+
+abbrev pub invariant-loop-kind : goal.invariant-loop-kind
+invariant-loop-kind l =
+    plugins_view l.plugins.items ++ plugins_of (members_view l.kind-iterator)
+    ≡ plugins_of (members_view l.class.entries)

@@ -1,0 +1,9 @@
+pub mod Durations
+pub mod Faults
+pub mod Keys
+pub mod Pairs
+pub mod Plugins
+pub mod Reading
+pub mod Seen
+pub mod Sums
+pub mod Values

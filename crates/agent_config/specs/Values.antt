@@ -1,0 +1,124 @@
+-- The values of a configuration, each with its default.
+use Rattle.std.specs.Prelude.{◌==◌, ◌++◌, ℕ, pos, Bool, true, false, List, [], ◌∷◌, length, map, chars}
+use Rattle.std.specs.Prelude.{codes, Option, Some, None, option_and_then, option_to_list, if◌then◌else◌}
+use Rattle.std.specs.Prelude.{unwrap_or}
+use Rattle.toml.specs.Data.{Members, no_members, member, get_member, as_bool, as_str, as_table}
+use Rattle.metric.specs.Glob.{glob_of}
+use Rattle.metric.specs.declared.glob.Element.{Element}
+use Rattle.metric_filter.specs.declared.rules.FilterRules.{FilterRules}
+use Rattle.agent_config.specs.Faults.{texts_in, count_at, agent_limits, own_limits, members_in, time_in}
+use Rattle.agent_config.specs.Faults.{Plugin, place_of, journal_of, table_at, plugins_at, most_counted}
+use Rattle.agent_config.specs.declared.tables.Limits.{Limits}
+use Rattle.agent_config.specs.declared.config.AgentConf.{AgentConf}
+use Rattle.agent_config.specs.declared.config.Config.{Config}
+use Rattle.agent_config.specs.declared.config.InFormat.TheVariants as read
+use Rattle.agent_config.specs.declared.config.InputConf.{InputConf}
+use Rattle.agent_config.specs.declared.config.OutFormat.TheVariants as written
+use Rattle.agent_config.specs.declared.config.OutputConf.{OutputConf}
+
+-- ---- the agent
+
+-- ten seconds
+abbrev pub usual_interval : ℕ
+usual_interval = 10000000000
+
+-- the time between two flushes
+abbrev pub interval_of : Members → ℕ
+interval_of agent =
+    unwrap_or (option_and_then time_in (get_member (codes "flush_interval") agent)) usual_interval
+
+-- may inputs be read side by side
+abbrev pub workers_of : Members → Bool
+workers_of agent = unwrap_or (option_and_then as_bool (get_member (codes "workers") agent)) true
+
+abbrev pub agent_of : Members → AgentConf
+agent_of agent = record {
+  gather_pieces = count_at (codes "gather_pieces") most_counted 1000 agent;
+  final_tries = count_at (codes "final_tries") 100 3 agent;
+  flush_interval = pos (interval_of agent);
+  skip_second = false;
+  workers = workers_of agent;
+  journal = journal_of agent;
+}
+
+-- ---- global tags: those with a value, in the order of their keys
+
+abbrev pub global_tag : List ℕ → Option (List ℕ) → List (List ℕ × List ℕ)
+global_tag key None = []
+global_tag key (Some value) = if length value == 0 then [] else (key, value) ∷ []
+
+abbrev pub globals_of : Members → List (List ℕ × List ℕ)
+globals_of no_members = []
+globals_of (member key value members) = global_tag key (as_str value) ++ globals_of members
+
+-- ---- filters
+
+-- the globs that texts spell; a text that spells none is left out
+abbrev pub globs_of : List (List ℕ) → List (List Element)
+globs_of [] = []
+globs_of (text ∷ texts) = option_to_list (glob_of (chars text)) ++ globs_of texts
+
+-- the globs of a value that is a list of texts; another has none
+abbrev pub globs_in : Option (List (List ℕ)) → List (List Element)
+globs_in None = []
+globs_in (Some texts) = globs_of texts
+
+-- the globs at a key
+abbrev pub globs_at : List ℕ → Members → List (List Element)
+globs_at key members = globs_in (option_and_then texts_in (get_member key members))
+
+-- the globs of each key of a table
+abbrev pub tag_globs_of : Members → List (List ℕ × List (List Element))
+tag_globs_of no_members = []
+tag_globs_of (member key value members) = (key, globs_in (texts_in value)) ∷ tag_globs_of members
+
+abbrev pub tag_globs_at : List ℕ → Members → List (List ℕ × List (List Element))
+tag_globs_at key members = tag_globs_of (table_at key members)
+
+-- the filter of a plugin: the older names of two lists are added behind the newer ones
+abbrev pub filter_of : Members → FilterRules
+filter_of members = record {
+  namepass = globs_at (codes "namepass") members;
+  namedrop = globs_at (codes "namedrop") members;
+  fieldinclude = globs_at (codes "fieldinclude") members ++ globs_at (codes "fieldpass") members;
+  fieldexclude = globs_at (codes "fieldexclude") members ++ globs_at (codes "fielddrop") members;
+  taginclude = globs_at (codes "taginclude") members;
+  tagexclude = globs_at (codes "tagexclude") members;
+  tagpass = tag_globs_at (codes "tagpass") members;
+  tagdrop = tag_globs_at (codes "tagdrop") members;
+}
+
+-- ---- inputs and outputs
+
+abbrev pub plugin_members : Plugin → Members
+plugin_members plugin = members_in (as_table plugin.value)
+
+abbrev pub input_of : Plugin → InputConf
+input_of plugin = record {
+  place = place_of plugin;
+  format = read.Influx;
+  tracked = false;
+  max_undelivered = 1000;
+  filter = filter_of (plugin_members plugin);
+}
+
+-- an output: its batch size and its buffer limit are the agent's where it has none
+abbrev pub output_of : Limits → Plugin → OutputConf
+output_of limits plugin = record {
+  place = place_of plugin;
+  format = written.Influx;
+  batch = (own_limits limits (plugin_members plugin)).batch;
+  limit = (own_limits limits (plugin_members plugin)).limit;
+  filter = filter_of (plugin_members plugin);
+}
+
+-- ---- the whole
+
+abbrev pub config_of : Members → Config
+config_of root = record {
+  agent = agent_of (table_at (codes "agent") root);
+  globals = globals_of (table_at (codes "global_tags") root);
+  inputs = map input_of (plugins_at (codes "inputs") root);
+  outputs = map (output_of (agent_limits (table_at (codes "agent") root))) (plugins_at
+      (codes "outputs") root);
+}

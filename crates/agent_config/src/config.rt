@@ -1,0 +1,78 @@
+//! What a configuration says.
+use fixed_num::Seq;
+use metric::Text;
+use metric_filter::Filter;
+
+/// A format that is read.
+#[derive(Clone, Copy, Debug, PartialEq, Eq)]
+pub enum InFormat {
+    /// InfluxDB line protocol.
+    Influx,
+}
+
+/// A format that is written.
+#[derive(Clone, Copy, Debug, PartialEq, Eq)]
+pub enum OutFormat {
+    /// InfluxDB line protocol.
+    Influx,
+}
+
+/// What holds for the whole run.
+#[derive(Debug, Drop)]
+pub struct AgentConf {
+    /// At most so many pieces are gathered at once.
+    pub gather_pieces: u32,
+    /// So many rounds in succession may accept no batch at the end.
+    pub final_tries: u32,
+    /// Nanoseconds between two flushes.
+    pub flush_interval: i64,
+    /// Are flushes put off to whole seconds?
+    pub skip_second: bool,
+    /// May inputs be read side by side?
+    pub workers: bool,
+    /// Where the journal goes.
+    pub journal: Text,
+}
+
+/// An input.
+#[derive(Debug, Drop)]
+pub struct InputConf {
+    /// What is read.
+    pub place: Text,
+    /// Its format.
+    pub format: InFormat,
+    /// Is each of its groups of metrics followed until it is delivered?
+    pub tracked: bool,
+    /// At most so many groups are undelivered at once.
+    pub max_undelivered: u32,
+    /// What passes of it.
+    pub filter: Filter,
+}
+
+/// An output.
+#[derive(Debug, Drop)]
+pub struct OutputConf {
+    /// Where it is written.
+    pub place: Text,
+    /// Its format.
+    pub format: OutFormat,
+    /// At most so many metrics go out at once.
+    pub batch: u32,
+    /// At most so many metrics are buffered.
+    pub limit: u32,
+    /// What passes to it.
+    pub filter: Filter,
+}
+
+/// A configuration.
+#[derive(Debug, Drop)]
+pub struct Config {
+    /// What holds for the whole run.
+    pub agent: AgentConf,
+    /// The tags that each metric gets that lacks them, in the order of their keys; no value is empty.
+    pub globals: Seq<(Text, Text)>,
+    /// The inputs, in the order of their numbers.
+    pub inputs: Seq<InputConf>,
+    /// The outputs, in the order of their numbers.
+    pub outputs: Seq<OutputConf>,
+}

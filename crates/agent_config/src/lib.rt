@@ -1,0 +1,27 @@
+//! Configurations: what a run reads, filters and writes, from a text in TOML.
+#![tactic(auto)]
+
+mod class_faults;
+mod config;
+mod decimals;
+mod fault;
+mod filters;
+mod first;
+mod keys;
+mod places;
+mod plugins;
+mod read;
+mod settings;
+mod sums;
+mod table_faults;
+mod tables;
+mod texts;
+mod times;
+mod values;
+
+pub use config::{AgentConf, Config, InFormat, InputConf, OutFormat, OutputConf};
+pub use fault::{Class, ConfigFault, ConfigKind};
+pub use read::read_config;
+
+#[cfg(test)]
+mod tests;

@@ -1,0 +1,67 @@
+//! Reading a configuration.
+ghost use Rattle.std.specs.Prelude.{◌≡◌, ◌≢◌, [], IfOk, IfErr, Some, option_map};
+ghost use Rattle.toml.specs.View.{table_view};
+ghost use Rattle.agent_config.specs.Faults.{first, text_faults, tree_of};
+ghost use Rattle.agent_config.specs.Values.{config_of};
+ghost use Rattle.agent_config.specs.Reading.{Checks, memory_fault};
+
+use crate::config::Config;
+use crate::fault::{ConfigFault, ConfigKind};
+use crate::first::{first_fault, root_fault};
+use crate::settings::config_of;
+use fixed_num::OutOfMemory;
+use std::alloc::Global;
+use toml::Table;
+
+/// The longest text that is read: 1 MiB.
+const LONGEST_TEXT: usize = 1_048_576;
+
+/// What a configuration in TOML 1.1 says. Where the text has faults the first of them is the error: what is
+/// wrong, in which class, and at which plugin of it. An error OutOfMemory, which is of the root at number 0,
+/// says nothing of the text. `docs/configuration.md` has the keys, their defaults and ranges, and the order
+/// of faults.
+pub fn read_config(alloc: Global, text: &[u8]) -> Result<Config, ConfigFault>
+    ensures ok { IfOk result (λ config. (text_faults text.now ≡ [])
+        × (option_map config_of (tree_of text.now) ≡ Some config)) }
+    ensures first { IfErr result (λ fault. fault.kind ≢ ConfigKind.OutOfMemory
+        → first (text_faults text.now) ≡ Some fault) }
+    ensures memory { IfErr result (λ fault. fault.kind ≡ ConfigKind.OutOfMemory → fault ≡ memory_fault) }
+{
+    match checked(alloc, text) {
+        Ok(Ok(config)) => Ok(config),
+        Ok(Err(fault)) => Err(fault),
+        Err(OutOfMemory) => Err(root_fault(ConfigKind::OutOfMemory)),
+    }
+}
+
+/// What a configuration says, or its first fault.
+fn checked(alloc: Global, text: &[u8]) -> Result<Result<Config, ConfigFault>, OutOfMemory>
+    ensures { IfOk result (Checks text.now) }
+{
+    let Some(root) = tree_of(alloc, text)? else {
+        return Ok(Err(root_fault(ConfigKind::NotToml)));
+    };
+    let empty = Table::new(alloc);
+    if let Some(fault) = first_fault(alloc, &root, &empty)? {
+        return Ok(Err(fault));
+    }
+    Ok(Ok(config_of(alloc, &root, &empty)?))
+}
+
+/// The tree of a text that isn't too long; None where it is no TOML.
+fn tree_of(alloc: Global, text: &[u8]) -> Result<Option<Table>, OutOfMemory>
+    ensures { IfOk result (λ tree. option_map table_view tree ≡ tree_of text.now) }
+{
+    if text.len() > LONGEST_TEXT {
+        return Ok(None);
+    }
+    match toml::table_from_slice(alloc, text) {
+        Ok(table) => Ok(Some(table)),
+        Err(fault) => {
+            if fault.is_memory() {
+                return Err(OutOfMemory);
+            }
+            Ok(None)
+        }
+    }
+}

@@ -87,10 +87,8 @@ impl Text {
         ensures { result.now ≡ self.now }
     {
         match &self.kept {
-            Kept::PlainShort(text) => text.as_str(),
-            Kept::Short(text) => text.as_str(),
-            Kept::PlainLong(text) => text.as_str(),
-            Kept::Long(text) => text.as_str(),
+            Kept::PlainShort(text) | Kept::Short(text) => text.as_str(),
+            Kept::PlainLong(text) | Kept::Long(text) => text.as_str(),
         }
     }
 
@@ -99,12 +97,7 @@ impl Text {
     pub fn is_plain(&self) -> bool
         ensures { result ≡ true → list_all is_plain self.now ≡ true }
     {
-        match &self.kept {
-            Kept::PlainShort(_) => true,
-            Kept::Short(_) => false,
-            Kept::PlainLong(_) => true,
-            Kept::Long(_) => false,
-        }
+        matches!(self.kept, Kept::PlainShort(_) | Kept::PlainLong(_))
     }
 }
 

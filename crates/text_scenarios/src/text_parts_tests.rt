@@ -66,3 +66,18 @@ fn text_grows(rt: HostRuntime) -> Result<(), Fail> {
     assert_eq!(rt; out.as_slice(), b"old ".as_slice());
     Ok(())
 }
+
+// Label values of the OpenMetrics text format.
+#[test]
+fn texts_are_escaped(rt: HostRuntime) -> Result<(), Fail> {
+    let label = Marks {
+        bytes: [b'"', b'\\', b'\n'],
+        written: [b'"', b'\\', b'n'],
+    };
+    let mut out = Vec::new(rt.alloc());
+    append_escaped(&mut out, &label, b"GET")?;
+    append_escaped(&mut out, &label, b" C:\\DIR\nsays \"no\"")?;
+    append_escaped_byte(&mut out, &label, b'\n')?;
+    assert_eq!(rt; out.as_slice(), br#"GET C:\\DIR\nsays \"no\"\n"#.as_slice());
+    Ok(())
+}

@@ -1,5 +1,5 @@
 -- Parts of a line without a backslash.
-use Rattle.std.proofs.Common.{◌≡◌, ℕ, zero, suc, ◌+◌, ◌<◌, Bool, true, false, ltb, eqb, List, length, drop, get_or, add-zero, subst, refl, sym, ap, ◌∙◌, arith, inl, inr}
+use Rattle.std.proofs.Common.{◌≡◌, ℕ, zero, suc, ◌+◌, ◌<◌, Bool, true, false, ltb, eqb, List, [], ◌∷◌, length, drop, get_or, add-zero, subst, refl, sym, ap, ◌∙◌, arith, inl, inr}
 use Rattle.std.specs.Prelude.{◌==◌, ◌||◌, not}
 use Rattle.std.specs.List.{position_or_len, prefix_len}
 use Rattle.std.proofs.lemmas.Bool.{eqb-true, ltb-true, ltb-false}
@@ -9,6 +9,7 @@ use Rattle.std.proofs.lemmas.List.{get_or-drop, get_or_past, length-drop}
 use Rattle.std.proofs.lemmas.List.Sums.{prefix_len_passes}
 use Rattle.text_parts.specs.Part.{Kind}
 use Rattle.text_parts.specs.Kinds.{kind_of}
+use Rattle.text_parts.specs.Stops.{is_any_of}
 use Rattle.text_parts.proofs.Spans.{position_or_len_le}
 use Rattle.text_parts.proofs.Utf8.{EndsLow, either}
 use Rattle.line_proto.specs.Kinds.{name_part, key_part, tag_value_part, text_part, value_part}
@@ -44,6 +45,21 @@ tag_value_kind = same_kind (kind_of TAG_VALUE) tag_value_part (λ b. once_more (
 
 pub text_kind : kind_of TEXT ≡ text_part
 text_kind = same_kind (kind_of TEXT) text_part (λ b. twice (b == 34)) (λ b. once_more (b == 34) (b == 92)) (λ b. refl)
+
+-- ---- bytes that are looked for, as the code gives them
+
+same_test : (p q : ℕ → Bool) → ((b : ℕ) → p b ≡ q b) → p ≡ q
+same_test p q same = λ i. λ b. same b i
+
+pub comma_or_space : is_any_of (44 ∷ 32 ∷ 32 ∷ 32 ∷ []) ≡ (λ b. b == 44 || b == 32)
+comma_or_space = same_test _ _ (λ b. ap (λ (t : Bool). t || b == 32) (once_more (b == 44) (b == 32)) ∙ once_more (b == 44) (b == 32))
+
+pub space_alone : is_any_of (32 ∷ 32 ∷ 32 ∷ 32 ∷ []) ≡ (λ b. b == 32)
+space_alone = same_test _ _ (λ b. ap (λ (t : Bool). t || b == 32) (twice (b == 32)) ∙ both_same (b == 32))
+  where
+    both_same : (t : Bool) → (t || t) ≡ t
+    both_same true = refl
+    both_same false = refl
 
 not_not : (b : Bool) → not (not b) ≡ true → b ≡ true
 not_not true e = refl

@@ -1,7 +1,7 @@
 //! The parts of a line: names, keys, tag values, texts and words.
 ghost use Rattle.std.specs.Prelude.{◌≡◌, ◌==◌, ◌||◌, ◌+◌, ◌<◌, ◌≤◌, not, length, take, drop, slice_index};
 ghost use Rattle.std.specs.Prelude.{IfOk};
-ghost use Rattle.std.specs.List.{position};
+ghost use Rattle.std.specs.List.{position, position_or_len};
 ghost use Rattle.std.specs.Str.{IsUtf8, IsCharBoundary};
 ghost use Rattle.text_parts.specs.Bytes.{equals_sign};
 ghost use Rattle.text_parts.specs.Chain.{Gives};
@@ -11,7 +11,7 @@ ghost use Rattle.line_proto.specs.Kinds.{name_part, key_part, tag_value_part, te
 ghost use Rattle.line_proto.specs.Reading.{name_at, key_at, tag_value_at, tag_at, behind_spaces, time_len};
 
 use crate::fault::{LineFault, LineKind};
-use text_parts::{Part, ReadError, Span, span_at};
+use text_parts::{Part, ReadError, Span, first_of, span_at};
 
 /// What ends a measurement and the value of a tag.
 const NAME_ENDS: [u8; 3] = [b',', b' ', b' '];
@@ -90,18 +90,20 @@ pub(crate) fn text_span(piece: &str, i: usize) -> Span
     span_at(&TEXT, piece, i)
 }
 
-/// The first comma or space.
-fn word_end(bytes: &[u8]) -> Option<usize>
-    ensures { result ≡ position (λ b. b == 44 || b == 32) bytes.now }
+/// The first comma or space; the length where there is none.
+fn word_end(bytes: &[u8]) -> usize
+    ensures value { result ≡ position_or_len (λ b. b == 44 || b == 32) bytes.now }
+    ensures bound { result ≤ length bytes.now }
 {
-    bytes.iter().position(|b| *b == b',' || *b == b' ')
+    first_of([b',', b' ', b' ', b' '], bytes)
 }
 
-/// The first space.
-fn first_space(bytes: &[u8]) -> Option<usize>
-    ensures { result ≡ position (λ b. b == 32) bytes.now }
+/// The first space; the length where there is none.
+fn first_space(bytes: &[u8]) -> usize
+    ensures value { result ≡ position_or_len (λ b. b == 32) bytes.now }
+    ensures bound { result ≤ length bytes.now }
 {
-    bytes.iter().position(|b| *b == b' ')
+    first_of([b' '; 4], bytes)
 }
 
 /// The first byte other than a space.
@@ -118,7 +120,7 @@ pub(crate) fn word_at(piece: &str, i: usize) -> &str
     ensures end { IsCharBoundary piece.now (i + length result.now) }
 {
     let (_, rest) = piece.split_at(i);
-    let (word, _) = rest.split_at(word_end(rest.as_bytes()).unwrap_or(rest.len()));
+    let (word, _) = rest.split_at(word_end(rest.as_bytes()));
     word
 }
 
@@ -130,7 +132,7 @@ pub(crate) fn unspaced_at(piece: &[u8], i: usize) -> &[u8]
     ensures end { i + length result.now ≤ length piece.now }
 {
     let (_, rest) = piece.split_at(i);
-    let (word, _) = rest.split_at(first_space(rest).unwrap_or(rest.len()));
+    let (word, _) = rest.split_at(first_space(rest));
     word
 }
 

@@ -39,16 +39,16 @@ says_front p bytes m says = record {
   none = says.none;
 }
 
-pub says_stop : (e0 e1 e2 : ℕ) (bytes : List ℕ) (m0 m1 m2 m3 : ℕ)
+pub says_any : (e0 e1 e2 e3 : ℕ) (bytes : List ℕ) (m0 m1 m2 m3 : ℕ)
     → Says (λ b. b == e0) (chunk 0 16 bytes) m0 → Says (λ b. b == e1) (chunk 0 16 bytes) m1
-    → Says (λ b. b == e2) (chunk 0 16 bytes) m2 → Says (λ b. b == 92) (chunk 0 16 bytes) m3
-    → Says (λ b. b == e0 || b == e1 || b == e2 || b == 92) bytes (bit_or (bit_or (bit_or m0 m1) m2) m3)
-says_stop e0 e1 e2 bytes m0 m1 m2 m3 s0 s1 s2 s3 =
+    → Says (λ b. b == e2) (chunk 0 16 bytes) m2 → Says (λ b. b == e3) (chunk 0 16 bytes) m3
+    → Says (λ b. b == e0 || b == e1 || b == e2 || b == e3) bytes (bit_or (bit_or (bit_or m0 m1) m2) m3)
+says_any e0 e1 e2 e3 bytes m0 m1 m2 m3 s0 s1 s2 s3 =
     let lanes = chunk 0 16 bytes in
     let two = says_either (λ b. b == e0) (λ b. b == e1) lanes m0 m1 s0 s1 in
     let three = says_either (λ b. b == e0 || b == e1) (λ b. b == e2) lanes (bit_or m0 m1) m2 two s2 in
-    says_front (λ b. b == e0 || b == e1 || b == e2 || b == 92) bytes _
-    (says_either (λ b. b == e0 || b == e1 || b == e2) (λ b. b == 92) lanes (bit_or (bit_or m0 m1) m2) m3 three s3)
+    says_front (λ b. b == e0 || b == e1 || b == e2 || b == e3) bytes _
+    (says_either (λ b. b == e0 || b == e1 || b == e2) (λ b. b == e3) lanes (bit_or (bit_or m0 m1) m2) m3 three s3)
 
 bit_true : (t : Bool) → cond {A = ℕ} t 1 0 ≡ 1 → t ≡ true
 bit_true true e = refl

@@ -19,3 +19,4 @@ pub use escapes::{Marks, append_escaped, append_escaped_byte};
 pub use laws::{escaped_is_part, part_is_read, read_is_part};
 pub use part::{Part, part_len, part_text, plain_bytes};
 pub use span::{Span, span_at, span_text};
+pub use stops::first_of;

@@ -22,7 +22,7 @@ pub struct Part {
 impl Part {
     ghost use Rattle.text_parts.specs.Kinds.{ends_of, escapes_of, meaning_of};
 
-    pub(crate) fn ends_before(&self, byte: u8) -> bool
+    fn ends_before(&self, byte: u8) -> bool
         ensures { result ≡ ends_of self.now byte }
     {
         byte == self.ends[0] || byte == self.ends[1] || byte == self.ends[2]

@@ -1,11 +1,13 @@
 //! Parts of a piece, found in one pass and copied only where they have escapes.
-ghost use Rattle.std.specs.Prelude.{◌≡◌, ◌≤◌, slice_range};
+ghost use Rattle.std.specs.Prelude.{◌≡◌, ◌≤◌, ◌==◌, ◌||◌, length, slice_range};
+ghost use Rattle.std.specs.List.{position_or_len};
 ghost use Rattle.std.specs.Str.{IsCharBoundary};
-ghost use Rattle.text_parts.specs.Kinds.{kind_of, IsAsciiPart};
+ghost use Rattle.text_parts.specs.Bytes.{backslash};
+ghost use Rattle.text_parts.specs.Kinds.{kind_of, ends_of, IsAsciiPart};
 ghost use Rattle.text_parts.specs.Span.{IsSpan};
 
 use crate::part::{Part, part_len};
-use crate::stops::stop_at;
+use crate::stops::first_of;
 
 /// Where a part stands in a piece.
 #[derive(Clone, Copy, Debug, PartialEq, Eq)]
@@ -16,6 +18,15 @@ pub struct Span {
     pub end: usize,
     /// Whether it has a backslash. If not its text is what stands there; else `part_text` gives it.
     pub escaped: bool,
+}
+
+/// The first byte that ends a part, or backslash; the length where there is none.
+#[inline(always)]
+fn stop_at(part: &Part, bytes: &[u8]) -> usize
+    ensures value { result ≡ position_or_len (λ b. ends_of part.now b || b == backslash) bytes.now }
+    ensures bound { result ≤ length bytes.now }
+{
+    first_of([part.ends[0], part.ends[1], part.ends[2], b'\\'], bytes)
 }
 
 /// Where the part stands that begins at a place of a piece. Escapes are looked at only behind the first backslash.

@@ -1,12 +1,9 @@
-//! The bytes that end a part, looked for sixteen at a time.
-ghost use Rattle.std.specs.Prelude.{◌≡◌, ◌≢◌, ◌<◌, ◌≤◌, ◌==◌, ◌||◌, ℕ, length};
+//! The first of some bytes, looked for sixteen at a time.
+ghost use Rattle.std.specs.Prelude.{◌≡◌, ◌≢◌, ◌<◌, ◌≤◌, ◌==◌, ℕ, length};
 ghost use Rattle.std.specs.Int.{bit_at};
 ghost use Rattle.std.specs.List.{position_or_len};
-ghost use Rattle.text_parts.specs.Bytes.{backslash};
-ghost use Rattle.text_parts.specs.Kinds.{ends_of};
-ghost use Rattle.text_parts.specs.Stops.{Says};
+ghost use Rattle.text_parts.specs.Stops.{is_any_of, Says};
 
-use crate::part::Part;
 use std::simd::prelude::*;
 
 /// How many bytes are looked at together.
@@ -20,17 +17,15 @@ fn equal_bits(lanes: u8x16, byte: u8) -> u64
     lanes.simd_eq(u8x16::splat(byte)).to_bitmask()
 }
 
-/// Which of the first bytes end a part, or are a backslash.
+/// Which of the first bytes are one of these.
 #[inline(always)]
-fn stop_bits(part: &Part, bytes: &[u8]) -> u64
+fn any_bits(stops: [u8; 4], bytes: &[u8]) -> u64
     requires { LANES ≤ length bytes.now }
-    ensures { Says (λ b. ends_of part.now b || b == backslash) bytes.now result }
+    ensures { Says (is_any_of stops) bytes.now result }
 {
     let lanes = u8x16::from_slice(bytes);
-    let ends = equal_bits(lanes, part.ends[0])
-        | equal_bits(lanes, part.ends[1])
-        | equal_bits(lanes, part.ends[2]);
-    ends | equal_bits(lanes, b'\\')
+    let front = equal_bits(lanes, stops[0]) | equal_bits(lanes, stops[1]);
+    front | equal_bits(lanes, stops[2]) | equal_bits(lanes, stops[3])
 }
 
 /// The place of the lowest bit.
@@ -43,30 +38,31 @@ fn lowest(bits: u64) -> usize
     bits.trailing_zeros() as usize
 }
 
-/// Whether a byte ends a part, or is a backslash.
+/// Whether a byte is one of these.
 #[inline(always)]
-fn stops(part: &Part, byte: u8) -> bool
-    ensures { result ≡ (ends_of part.now byte || byte == backslash) }
+fn is_any(stops: [u8; 4], byte: u8) -> bool
+    ensures { result ≡ is_any_of stops byte }
 {
-    part.ends_before(byte) || byte == b'\\'
+    byte == stops[0] || byte == stops[1] || byte == stops[2] || byte == stops[3]
 }
 
-/// The place of the first byte that ends a part, or backslash; the length where there is none.
+/// The place of the first byte that is one of four; the length where there is none. Where there are fewer than four
+/// such bytes, one of them is given again.
 #[inline(always)]
-pub(crate) fn stop_at(part: &Part, bytes: &[u8]) -> usize
-    ensures value { result ≡ position_or_len (λ b. ends_of part.now b || b == backslash) bytes.now }
+pub fn first_of(stops: [u8; 4], bytes: &[u8]) -> usize
+    ensures value { result ≡ position_or_len (is_any_of stops) bytes.now }
     ensures bound { result ≤ length bytes.now }
 {
     let mut at = 0;
     while LANES <= bytes.len() - at {
-        let bits = stop_bits(part, &bytes[at..]);
+        let bits = any_bits(stops, &bytes[at..]);
         if bits != 0 {
             return at + lowest(bits);
         }
         at += LANES;
     }
     let mut last = at;
-    while last < bytes.len() && !stops(part, bytes[last]) {
+    while last < bytes.len() && !is_any(stops, bytes[last]) {
         last += 1;
     }
     last

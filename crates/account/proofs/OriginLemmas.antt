@@ -26,8 +26,13 @@ pub origins-match : OriginsMatch
 unfolding origins items
 origins-match [] = refl
 origins-match (e ∷ es) =
-    omega (arith, length-append (origins_by e) (origins es), length-append (named_by e) (items es),
-    length-origins_by e, origins-match es)
+    omega (
+      arith,
+      length-append (origins_by e) (origins es),
+      length-append (named_by e) (items es),
+      length-origins_by e,
+      origins-match es,
+    )
 
 pub group_inputs-push : (es : List Entry) (e : Entry) →
     group_inputs (es ++ e ∷ []) ≡ group_inputs es ++ group_inputs_said (gather_of e)

@@ -20,6 +20,3 @@ pub use piece::{CutKind, Piece, PieceFault};
 pub use pieces::{Pieces, cuts_lines};
 pub use standard::{StdSink, StdSource};
 pub use world::{OpenFault, World};
-
-#[cfg(test)]
-mod tests;

@@ -5,8 +5,6 @@ mod entry;
 mod laws;
 mod metrics;
 mod setup;
-#[cfg(test)]
-mod tests;
 
 pub use account::{AggLine, AggWord};
 pub use entry::{write_end, write_entry};

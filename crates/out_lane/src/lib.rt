@@ -19,6 +19,3 @@ pub enum BeginAnswer {
     /// No item waits.
     NothingWaiting,
 }
-
-#[cfg(test)]
-mod tests;

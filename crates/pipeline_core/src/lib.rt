@@ -17,6 +17,3 @@ pub use output::Offer;
 pub use routing::Routed;
 pub use setup::{CoreSetup, InSetup, OutSetup};
 pub use state::{Core, CutAnswer};
-
-#[cfg(test)]
-mod tests;

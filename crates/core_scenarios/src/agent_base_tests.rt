@@ -1,6 +1,7 @@
+//! Pieces, and the parts of a world in memory, call after call.
 ghost use Rattle.std.specs.Prelude.{◌≤◌};
 
-use crate::{
+use agent_base::{
     Clock, CutKind, Failed, MemClock, MemSink, MemSource, MemWorld, OpenFault, PieceFault, Pieces,
     PutFault, Sink, Source, StdSink, StdSource, World,
 };

@@ -1,8 +1,9 @@
+//! The text of a whole journal, and of entries of each kind.
 ghost use Rattle.std.specs.Prelude.{◌≡◌, [], ◌∷◌, IfOk};
 
-use crate::{AggLine, AggWord, JournalSetup, write_end, write_entry, write_setup};
 use account::{Entry, Report, Verdict};
 use fixed_num::{Fixed, OutOfMemory, Seq};
+use journal_text::{AggLine, AggWord, JournalSetup, write_end, write_entry, write_setup};
 use metric::{BuildFault, Builder, Metric, Text, Value};
 use std::alloc::Global;
 

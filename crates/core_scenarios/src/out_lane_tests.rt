@@ -1,5 +1,5 @@
 //! Calls of small lanes, one after another.
-use crate::{BeginAnswer, Lane};
+use out_lane::{BeginAnswer, Lane};
 use std::test::Fail;
 
 /// One item waits at most, so a failed batch gives way to a newer item.

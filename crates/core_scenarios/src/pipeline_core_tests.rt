@@ -3,10 +3,10 @@ ghost use Rattle.std.specs.Prelude.{◌≡◌, ◌≤◌, length, IfOk, true, fa
 ghost use Rattle.std.specs.List.{All};
 ghost use Rattle.account.specs.Views.{HasViews};
 
-use crate::{Core, CoreSetup, Gathered, InSetup, OutSetup, Routed};
 use account::Entry;
 use fixed_num::{OutOfMemory, Seq};
 use metric::{Builder, Metric, Value};
+use pipeline_core::{Core, CoreSetup, Gathered, InSetup, OutSetup, Routed};
 use std::alloc::Global;
 use std::test::Fail;
 

@@ -53,7 +53,7 @@ metrics_said (Some says) = says.metrics
 
 -- the reports of a Gather, or of a Done
 abbrev pub reports_said : Option GatherSays → Option DoneSays → List Report
-reports_said (Some says) done = says.reports
+reports_said (Some says) _ = says.reports
 reports_said None (Some says) = says.reports
 reports_said None None = []
 

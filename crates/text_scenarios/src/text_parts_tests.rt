@@ -2,8 +2,8 @@
 use fixed_num::OutOfMemory;
 use std::test::Fail;
 use text_parts::{
-    Part, append_bytes, append_line, append_numbers, append_signed, append_unsigned, append_words,
-    part_len, part_text, plain_bytes, settle,
+    Marks, Part, append_bytes, append_escaped, append_escaped_byte, append_line, append_numbers,
+    append_signed, append_unsigned, append_words, part_len, part_text, plain_bytes, settle,
 };
 
 const KEY: Part = Part {

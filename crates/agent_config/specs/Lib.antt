@@ -1,5 +1,6 @@
 pub mod Durations
 pub mod Faults
+pub mod FaultyKey
 pub mod Keys
 pub mod Pairs
 pub mod Plugins

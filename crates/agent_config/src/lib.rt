@@ -5,6 +5,7 @@ mod class_faults;
 mod config;
 mod decimals;
 mod fault;
+mod faulty;
 mod filters;
 mod first;
 mod keys;
@@ -21,6 +22,7 @@ mod values;
 
 pub use config::{AgentConf, Config, InFormat, InputConf, OutFormat, OutputConf};
 pub use fault::{Class, ConfigFault, ConfigKind};
+pub use faulty::faulty_key;
 pub use read::read_config;
 
 #[cfg(test)]

@@ -46,7 +46,10 @@ pub(crate) fn classes_of<'a>(
 }
 
 /// The plugins of a class, by number.
-fn plugins_of<'a>(alloc: Global, class: &'a Table) -> Result<Vec<Plugin<'a>>, OutOfMemory>
+pub(crate) fn plugins_of<'a>(
+    alloc: Global,
+    class: &'a Table,
+) -> Result<Vec<Plugin<'a>>, OutOfMemory>
     ensures { IfOk result (λ plugins. plugins_view plugins.items ≡ plugins_of (table_view class.now)) }
 {
     let mut plugins = Vec::new(alloc);

@@ -49,7 +49,7 @@ fn checked(alloc: Global, text: &[u8]) -> Result<Result<Config, ConfigFault>, Ou
 }
 
 /// The tree of a text that isn't too long; None where it is no TOML.
-fn tree_of(alloc: Global, text: &[u8]) -> Result<Option<Table>, OutOfMemory>
+pub(crate) fn tree_of(alloc: Global, text: &[u8]) -> Result<Option<Table>, OutOfMemory>
     ensures { IfOk result (λ tree. option_map table_view tree ≡ tree_of text.now) }
 {
     if text.len() > LONGEST_TEXT {

@@ -32,7 +32,7 @@ pub(crate) fn keys_fault(
 
 /// The first fault of a key and its value.
 #[tactic(auto, unfolding(crate::specs::Faults::entry_faults))]
-fn key_fault(
+pub(crate) fn key_fault(
     alloc: Global,
     keys: &Keys,
     key: &str,
@@ -77,7 +77,7 @@ pub(crate) fn global_fault(tags: &Table) -> Option<ConfigKind>
 }
 
 /// The fault of a global tag.
-fn global_tag_fault(key: &str, value: &Value) -> Option<ConfigKind>
+pub(crate) fn global_tag_fault(key: &str, value: &Value) -> Option<ConfigKind>
     ensures { result ≡ first (global_tag_faults key.now (as_str (view value.now))) }
 {
     if !value.is_str() {

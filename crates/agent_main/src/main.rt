@@ -3,10 +3,13 @@
 
 mod losses;
 mod real;
+mod reasons;
 
 use agent_run::{Status, agent};
+use fixed_num::OutOfMemory;
 use losses::losses;
 use real::{RealWorld, StandardStreams, open_standard};
+use reasons::{reason, text_at};
 use std::alloc::Global;
 use std::env;
 use std::io::ErrorKind;
@@ -18,7 +21,7 @@ fn advice(status: Status) -> &'static str {
         Status::Done => "",
         Status::Usage => {
             "hogzent: usage: hogzent pipe IN OUT BATCH LIMIT, with 1 <= BATCH <= LIMIT <= 10000, \
-            and OUT not agent.journal"
+            and OUT not agent.journal; or hogzent check CONFIG"
         }
         Status::Config => "hogzent: the configuration was refused",
         Status::ReadFault => {
@@ -47,29 +50,53 @@ fn losses_in(alloc: Global, account: &[u8]) -> Option<String> {
     losses(alloc, text).ok()?
 }
 
+/// What standard error is told of a configuration that was refused: its first fault, where its file can be
+/// read once more.
+fn refusal(rt: &HostRuntime, alloc: Global, place: &str) -> Option<String> {
+    let text = text_at(rt, alloc, place)?;
+    let reason = reason(alloc, text.as_slice()).ok()??;
+    format!(in alloc; "hogzent: the configuration {place} was refused: {reason}").ok()
+}
+
+/// What standard error is told of an end that isn't Done.
+fn tell(rt: &HostRuntime, alloc: Global, words: &[String], status: Status) {
+    if let (Status::Config, [_, place]) = (status, words) {
+        if let Some(text) = refusal(rt, alloc, place.as_str()) {
+            let _ = rt.eprintln(text);
+            return;
+        }
+    }
+    let _ = rt.eprintln(advice(status));
+}
+
+/// The words, without the program's name; none where a word isn't UTF-8, which makes them no command.
+fn words_of(rt: &HostRuntime, alloc: Global) -> Result<Vec<String>, OutOfMemory> {
+    match env::args(rt) {
+        Ok(words) => Ok(words.skip(1).collect::<Vec<String>>(alloc)?),
+        Err(fault) => match fault.kind() {
+            ErrorKind::OutOfMemory => Err(OutOfMemory),
+            _ => Ok(Vec::new(alloc)),
+        },
+    }
+}
+
 /// Runs the words in the real world, given what stands behind the standard streams, and tells standard
-/// error of an end that isn't Done, or of what was refused or dropped. A word that isn't UTF-8 makes the
-/// words no command.
+/// error of an end that isn't Done, or of what was refused or dropped.
 fn run_words(rt: &HostRuntime, standard: StandardStreams) -> Status {
     let alloc = rt.alloc();
-    let mut world = RealWorld::new(rt, alloc, rt.stdin(), rt.stdout(), standard);
-    let status = match env::args(rt) {
-        Ok(words) => match words.skip(1).collect::<Vec<String>>(alloc) {
-            Ok(words) => agent(alloc, words.as_slice(), &mut world),
-            Err(_) => Status::OutOfMemory,
-        },
-        Err(fault) => match fault.kind() {
-            ErrorKind::OutOfMemory => Status::OutOfMemory,
-            _ => agent(alloc, &[], &mut world),
-        },
+    let Ok(words) = words_of(rt, alloc) else {
+        let _ = rt.eprintln(advice(Status::OutOfMemory));
+        return Status::OutOfMemory;
     };
+    let mut world = RealWorld::new(rt, alloc, rt.stdin(), rt.stdout(), standard);
+    let status = agent(alloc, words.as_slice(), &mut world);
     if world.not_emptied() != 0 {
         let _ = rt.eprintln(
             "hogzent: an output file that nothing was written to could not be made empty",
         );
     }
     if status != Status::Done {
-        let _ = rt.eprintln(advice(status));
+        tell(rt, alloc, words.as_slice(), status);
     } else if let Some(text) = losses_in(alloc, world.reported()) {
         let _ = rt.eprintln(text);
     }
@@ -92,3 +119,5 @@ fn main(rt: HostRuntime) -> ExitCode {
 
 #[cfg(test)]
 mod losses_tests;
+#[cfg(test)]
+mod reasons_tests;

@@ -1,5 +1,5 @@
 -- What a run leaves at its end, and what it begins with.
-use Rattle.std.proofs.Common.{◌≡◌, ◌≤◌, ℕ, zero, suc, ℤ, ◌+◌, ◌==◌, min, Bool, true, false, List, [], ◌∷◌, ◌++◌, length, refl, sym, ap, ◌∙◌, subst, inl, inr, arith, append-nil}
+use Rattle.std.proofs.Common.{◌≡◌, ◌≤◌, ℕ, zero, suc, ℤ, ◌+◌, ◌==◌, min, Bool, true, false, List, [], ◌∷◌, ◌++◌, length, refl, sym, ap, ◌∙◌, subst, inl, inr, arith}
 use Rattle.std.specs.Prelude.{◌≢◌, IfSome, not, ◌⊎◌, count_by, slice_get}
 use Rattle.std.specs.Int.{int_max}
 use Rattle.std.specs.declared.option.Option.{Option}
@@ -25,7 +25,7 @@ use Rattle.agent_base.specs.Counts.{RoseBy}
 use Rattle.agent_run.specs.Dones.{dones, behind_stop, LastFailed}
 use Rattle.agent_run.specs.EntryMoments.{gather_moments, counted_moments}
 use Rattle.agent_run.specs.Gathered.{Gathered}
-use Rattle.agent_run.specs.Headline.{Change, IsUnread, IsRun, EndsSo, IsPutSo, IsLeft, Ran, buffered_at_end, account_of, text_of}
+use Rattle.agent_run.specs.Headline.{Change, IsUnread, IsRun, EndsSo, IsPutSo, IsLeft, Ran, buffered_at_end, account_of}
 use Rattle.agent_run.specs.Noted.{JournalPart, Notes}
 use Rattle.agent_run.specs.Order.{EndsFailed, IsDrained, NothingBuffered}
 use Rattle.agent_run.specs.PipeSetup.{pipe_setup, journal_setup_of}

@@ -16,3 +16,4 @@ pub mod SendSteps
 pub mod GatherSteps
 pub mod FinishSteps
 pub mod HeadlineLemmas
+pub mod CheckLemmas

@@ -1,17 +1,15 @@
 -- What was put of a journal's text, part by part.
-use Rattle.std.proofs.Common.{◌≡◌, ◌≤◌, ◌<◌, ◌+◌, ◌-◌, ◌==◌, ℕ, zero, suc, min, Bool, true, false, List, [], ◌∷◌, ◌++◌, length, take, drop, get_or, refl, sym, ap, ◌∙◌, arith, subst, append_assoc, append-nil, length-append, if◌then◌else◌}
+use Rattle.std.proofs.Common.{◌≡◌, ◌≤◌, ◌<◌, ◌+◌, ◌==◌, ℕ, zero, suc, Bool, true, false, List, [], ◌∷◌, ◌++◌, length, take, drop, get_or, refl, sym, ap, ◌∙◌, arith, subst, append_assoc, append-nil, length-append}
 use Rattle.std.specs.Prelude.{◌≢◌, MatchOption}
 use Rattle.std.specs.Io.KnownBytes.{Appends}
 use Rattle.std.specs.Option.{option_to_list}
 use Rattle.std.specs.declared.option.Option.{Option}
 use Rattle.std.specs.declared.option.Option.TheVariants.{Some, None}
 use Rattle.std.proofs.lemmas.Bool.{ne_eqb}
-use Rattle.std.proofs.lemmas.List.{drop_at, drop_more, take_more, take_all, take-take}
-use Rattle.std.proofs.Math.Seq.{take-append_seam}
+use Rattle.std.proofs.lemmas.List.{drop_at, drop_more, take_more, take_all}
 use Rattle.metric.specs.declared.metric.Content.{Content}
 use Rattle.account.specs.declared.entry.Entry.{Entry}
 use Rattle.account.specs.Items.{named_by, items}
-use Rattle.account.proofs.ItemLemmas.{items-push}
 use Rattle.agent_base.specs.Counts.{Rose}
 use Rattle.journal_text.specs.declared.setup.JournalSetup.{JournalSetup}
 use Rattle.journal_text.specs.SetupText.{setup_text}

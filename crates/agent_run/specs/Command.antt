@@ -3,6 +3,8 @@ use Rattle.std.specs.Prelude.{◌≡◌, ◌≢◌, ◌≤◌, ℕ, List, [], �
 use Rattle.std.specs.Str.Parse.{IsNumeral, digits_value}
 use Rattle.std.specs.declared.alloc.Global.{Global}
 use Rattle.std.specs.String.{string_bytes}
+use Rattle.agent_run.specs.declared.command.Command.{Command}
+use Rattle.agent_run.specs.declared.command.Command.TheVariants.{Check, Pipe}
 
 -- the output place of the journal
 abbrev pub journal_place : List ℕ
@@ -24,10 +26,24 @@ pub record IsPipeOf (command output batch_word limit_word : List ℕ) (batch lim
   pub ordered : batch ≤ limit
   pub most : limit ≤ 10000
 
--- the words are this command
+-- the words are `pipe IN OUT BATCH LIMIT`
 pub record IsPipe (words : List (String Global)) (input output : List ℕ) (batch limit : ℕ) : Type 0 where
   pub command : List ℕ
   pub batch_word : List ℕ
   pub limit_word : List ℕ
   pub words_are : map string_bytes words ≡ command ∷ input ∷ output ∷ batch_word ∷ limit_word ∷ []
   pub pipe : IsPipeOf command output batch_word limit_word batch limit
+
+-- the words are `check CONFIG`
+abbrev pub IsCheck : List (String Global) → List ℕ → Type 0
+IsCheck words place = map string_bytes words ≡ codes "check" ∷ place ∷ []
+
+-- the words are no command
+pub record IsNoCommand (words : List (String Global)) : Type 0 where
+  pub no_pipe : (input output : List ℕ) (batch limit : ℕ) → IsPipe words input output batch limit → ⊥
+  pub no_check : (place : List ℕ) → IsCheck words place → ⊥
+
+-- the words are this command
+abbrev pub IsCommand : List (String Global) → Command → Type 0
+IsCommand words (Pipe pipe) = IsPipe words pipe.input.now pipe.output.now pipe.batch pipe.limit
+IsCommand words (Check place) = IsCheck words place.now

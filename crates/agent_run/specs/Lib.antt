@@ -16,3 +16,4 @@ pub mod EntryMoments
 pub mod Causes
 pub mod Progress
 pub mod Headline
+pub mod Checking

@@ -41,6 +41,10 @@ usage_line = codes "usage\n"
 abbrev pub open_fault_line : List ℕ → List ℕ
 open_fault_line place = codes "fault: open " ++ place ++ codes "\n"
 
+-- the line that says which place wasn't read
+abbrev pub read_fault_line : List ℕ → List ℕ
+read_fault_line place = codes "fault: read " ++ place ++ codes "\n"
+
 -- a place that wasn't opened: that of the input, or one of the two output places; every other place is as
 -- before
 abbrev pub IsUnopenedOf : List ℕ → List ℕ → List ℕ → (List ℕ → Place) → (List ℕ → Place) → (List ℕ → Place)

@@ -1,7 +1,7 @@
 //! The words of a command.
 ghost use Rattle.std.specs.Prelude.{◌≡◌, ◌≢◌, ◌==◌, ◌<◌, ◌≤◌, ℕ, List, [], ◌∷◌, length, map, string_bytes};
 ghost use Rattle.std.specs.Prelude.{MatchOption, slice_index};
-ghost use Rattle.agent_run.specs.Command.{IsNumber, IsPipe, IsPipeOf};
+ghost use Rattle.agent_run.specs.Command.{IsCheck, IsCommand, IsNoCommand, IsNumber, IsPipe, IsPipeOf};
 
 use fixed_num::read_uint;
 
@@ -22,6 +22,15 @@ pub struct Pipe<'a> {
     pub batch: u32,
     /// How many metrics wait at most.
     pub limit: u32,
+}
+
+/// A command.
+#[derive(Clone, Copy, Debug)]
+pub enum Command<'a> {
+    /// Runs one input and one output.
+    Pipe(Pipe<'a>),
+    /// Checks the configuration at a place.
+    Check(&'a str),
 }
 
 fn begins_with_plus(bytes: &[u8]) -> bool
@@ -102,12 +111,49 @@ fn pipe_of<'a>(words: &Words<'a>) -> Option<Pipe<'a>>
     })
 }
 
-/// The pipe that the words are; None exactly where they are no command.
-pub fn read_command(words: &[String]) -> Option<Pipe<'_>>
+/// The pipe that the words are.
+fn pipe_in(words: &[String]) -> Option<Pipe<'_>>
     ensures { MatchOption result
         ((input output : List ℕ) (batch limit : ℕ) → IsPipe words.now input output batch limit → ⊥)
         (λ pipe. IsPipe words.now pipe.input.now pipe.output.now pipe.batch pipe.limit) }
 {
     let five = five_of(words)?;
     pipe_of(&five)
+}
+
+/// The words, where they are two.
+fn two_of(words: &[String]) -> Option<(&str, &str)>
+    ensures { MatchOption result (length words.now ≢ 2)
+        (λ w. map string_bytes words.now ≡ w.0.now ∷ w.1.now ∷ []) }
+{
+    let [command, place] = words else {
+        return None;
+    };
+    Some((command.as_str(), place.as_str()))
+}
+
+/// The place that the words want to be checked.
+fn check_in(words: &[String]) -> Option<&str>
+    ensures { MatchOption result ((place : List ℕ) → IsCheck words.now place → ⊥)
+        (λ place. IsCheck words.now place.now) }
+{
+    let (command, place) = two_of(words)?;
+    if command == "check" {
+        Some(place)
+    } else {
+        None
+    }
+}
+
+/// The command that the words are; None exactly where they are none.
+pub fn read_command(words: &[String]) -> Option<Command<'_>>
+    ensures { MatchOption result (IsNoCommand words.now) (IsCommand words.now) }
+{
+    if let Some(place) = check_in(words) {
+        return Some(Command::Check(place));
+    }
+    match pipe_in(words) {
+        Some(pipe) => Some(Command::Pipe(pipe)),
+        None => None,
+    }
 }

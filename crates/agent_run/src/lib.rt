@@ -3,12 +3,14 @@
 #![tactic(auto)]
 
 mod batch;
+mod checking;
 mod command;
 mod gathering;
 mod journal;
 mod opening;
 mod pipe_run;
 mod reading;
+mod reporting;
 mod rounds;
 mod routing;
 mod sending;

@@ -1,20 +1,21 @@
 //! The top call.
-ghost use Rattle.std.specs.Prelude.{◌≡◌, ◌≢◌, ◌≤◌, ◌⊎◌, ◌||◌, ℕ, List, Bool, true, false, IfOk, MatchOption};
-ghost use Rattle.std.specs.Prelude.{string_bytes};
+ghost use Rattle.std.specs.Prelude.{◌≡◌, ◌≢◌, ◌≤◌, ◌⊎◌, ◌||◌, ℕ, List, Bool, true, false, MatchOption};
 ghost use Rattle.agent_base.specs.Places.{AreHome, SameAtAll, SameBut};
-ghost use Rattle.agent_run.specs.Command.{IsPipe, journal_place};
-ghost use Rattle.agent_run.specs.Places.{AreOpensSame, ReportsLine, IsRefused, IsUnused, SameButTwo};
-ghost use Rattle.agent_run.specs.Places.{open_fault_line};
+ghost use Rattle.agent_run.specs.Checking.{HasChecked};
+ghost use Rattle.agent_run.specs.Command.{IsCheck, IsNoCommand, IsPipe, journal_place};
+ghost use Rattle.agent_run.specs.Places.{AreOpensSame, IsRefused, IsUnused, SameButTwo};
 ghost use Rattle.agent_run.specs.Headline.{Ends, IsPutSo, PipeEnds, NothingRose, change, place_change};
 ghost use Rattle.agent_run.specs.Headline.{report_change, status_of};
 ghost use Rattle.agent_run.specs.Opening.{IsRefusalAnswer, place_of};
 
-use crate::command::{JOURNAL, Pipe, read_command};
+use crate::checking::check_call;
+use crate::command::{Command, JOURNAL, Pipe, read_command};
 use crate::opening::{Parts, Refusal, open_parts};
+use crate::reporting::{report_line, report_open_fault};
 use crate::rounds::{Ending, run};
 use crate::status::Status;
 use agent_base::{PutFault, World};
-use std::alloc::{AllocError, Global};
+use std::alloc::Global;
 
 /// The number of the run's clock. Input i has clock 3 + i; 1 and 2 are kept for the processors and the journal.
 const RUN_CLOCK: u32 = 0;
@@ -27,27 +28,6 @@ const INPUT_CLOCK: u32 = 3;
 
 /// How long a wait of the input's clock pauses: 10 milliseconds, in nanoseconds.
 const INPUT_PAUSE: i64 = 10_000_000;
-
-/// Reports a line, and answers the status, unless memory was short.
-fn report_line<W: World>(world: &mut W, line: &[u8], status: Status) -> Status
-    ensures answer { ((result ≡ status) × ReportsLine (W.rest world.old) (W.rest world.new) line.now)
-        ⊎ (result ≡ Status.OutOfMemory) }
-    ensures ins { SameAtAll (W.in_at world.old) (W.in_at world.new) }
-    ensures outs { SameAtAll (W.out_at world.old) (W.out_at world.new) }
-    ensures moments { SameAtAll (W.moments world.old) (W.moments world.new) }
-{
-    match world.report(line) {
-        Err(PutFault::OutOfMemory) => Status::OutOfMemory,
-        _ => status,
-    }
-}
-
-/// The line that says which place wasn't opened.
-fn open_fault_line(alloc: Global, place: &str) -> Result<String, AllocError>
-    ensures { IfOk result (λ line. string_bytes line ≡ open_fault_line place.now) }
-{
-    format!(in alloc; "fault: open {place}\n")
-}
 
 /// Reports the account, and says how the run ended.
 fn report_account<W: World>(ending: &Ending, world: &mut W) -> Status
@@ -148,12 +128,9 @@ fn refuse<W: World>(alloc: Global, pipe: &Pipe<'_>, refusal: Refusal, world: &mu
     ensures outs { SameAtAll (W.out_at world.old) (W.out_at world.new) }
     ensures moments { SameAtAll (W.moments world.old) (W.moments world.new) }
 {
-    let Some(place) = refused_place(pipe, refusal) else {
-        return Status::OutOfMemory;
-    };
-    match open_fault_line(alloc, place) {
-        Ok(line) => report_line(world, line.as_bytes(), Status::OpenFault),
-        Err(_) => Status::OutOfMemory,
+    match refused_place(pipe, refusal) {
+        Some(place) => report_open_fault(alloc, world, place),
+        None => Status::OutOfMemory,
     }
 }
 
@@ -193,48 +170,55 @@ fn run_pipe<W: World>(alloc: Global, pipe: &Pipe<'_>, world: &mut W) -> Status
 
 /// Runs the command that the words are, over a world of which no part is out, and gives all parts back.
 ///
-/// The only command is `pipe IN OUT BATCH LIMIT`: it reads line protocol at IN and writes it to OUT in
-/// batches of at most BATCH metrics, of which at most LIMIT wait; it writes the journal to
-/// `agent.journal`, and reports the account. It always returns.
+/// `pipe IN OUT BATCH LIMIT` reads line protocol at IN and writes it to OUT in batches of at most BATCH
+/// metrics, of which at most LIMIT wait; it writes the journal to `agent.journal`, and reports the account.
+/// `check CONFIG` reads a configuration at CONFIG, and reports `ok`, or its first fault as
+/// `config: KIND CLASS NUMBER`. It always returns.
 pub fn agent<W: World>(alloc: Global, words: &[String], world: &mut W) -> Status
     requires ins { AreHome (W.in_at world.old) }
     requires outs { AreHome (W.out_at world.old) }
 
     // Usage comes exactly where the words are no command, but for want of memory; nothing else changes.
-    ensures usage { result ≡ Status.Usage → (input output : List ℕ) (batch limit : ℕ)
-        → IsPipe words.now input output batch limit → ⊥ }
-    ensures no_command { ((input output : List ℕ) (batch limit : ℕ)
-        → IsPipe words.now input output batch limit → ⊥) → (result ≡ Status.Usage)
-        ⊎ (result ≡ Status.OutOfMemory) }
+    ensures usage { result ≡ Status.Usage → IsNoCommand words.now }
+    ensures no_command { IsNoCommand words.now → (result ≡ Status.Usage) ⊎ (result ≡ Status.OutOfMemory) }
     ensures usage_leaves { result ≡ Status.Usage
         → IsUnused (W.in_at world.old) (W.in_at world.new) (W.out_at world.old) (W.out_at world.new)
         (W.rest world.old) (W.rest world.new) }
 
-    ensures config { result ≢ Status.Config }
+    // A check of a configuration: each status says what it says, and all else but the report is as before.
+    ensures check { (place : List ℕ) → IsCheck words.now place
+        → HasChecked result place (W.in_at world.old) (W.in_at world.new) (W.out_at world.old)
+        (W.out_at world.new) (W.rest world.old) (W.rest world.new) (W.moments world.old)
+        (W.moments world.new) }
 
-    // OpenFault comes only where one of the three places wasn't opened: that is counted there, and all else
-    // is as before.
-    ensures open { result ≡ Status.OpenFault → (input output : List ℕ) × (batch limit : ℕ)
+    // Config comes only of a check.
+    ensures config { result ≡ Status.Config → (place : List ℕ) × IsCheck words.now place }
+
+    // OpenFault of a pipe comes only where one of the three places wasn't opened: that is counted there, and
+    // all else is as before.
+    ensures open { result ≡ Status.OpenFault → ((place : List ℕ) × IsCheck words.now place)
+        ⊎ ((input output : List ℕ) × (batch limit : ℕ)
         × IsPipe words.now input output batch limit
         × IsRefused (W.in_at world.old) (W.in_at world.new) (W.out_at world.old) (W.out_at world.new)
-        (W.rest world.old) (W.rest world.new) input output }
+        (W.rest world.old) (W.rest world.new) input output) }
 
     // The headline: what a run that ended with one of the other statuses left behind.
-    ensures headline { (result ≢ Status.Usage) → (result ≢ Status.OpenFault) → (result ≢ Status.OutOfMemory) →
-        PipeEnds result words.now (W.in_at world.old) (W.in_at world.new) (W.out_at world.old)
+    ensures headline { ((place : List ℕ) → IsCheck words.now place → ⊥)
+        → (result ≢ Status.Usage) → (result ≢ Status.OpenFault) → (result ≢ Status.OutOfMemory)
+        → PipeEnds result words.now (W.in_at world.old) (W.in_at world.new) (W.out_at world.old)
         (W.out_at world.new) (W.rest world.old) (W.rest world.new) (W.moments world.old) }
 
-    // A command, no count of the world that rose, and no limit that was reached: Done, or out of memory.
-    ensures complete { ((input output : List ℕ) × (batch limit : ℕ)
-        × IsPipe words.now input output batch limit) →
+    // A command, no count of the world that rose, no fault of a configuration, and no limit that was reached:
+    // Done, or out of memory.
+    ensures complete { (IsNoCommand words.now → ⊥) →
         NothingRose (W.in_at world.old) (W.in_at world.new) (W.out_at world.old) (W.out_at world.new)
         (W.rest world.old) (W.rest world.new) →
-        (result ≢ Status.Limit) → (result ≡ Status.Done) ⊎ (result ≡ Status.OutOfMemory) }
+        (result ≢ Status.Limit) → (result ≢ Status.Config)
+        → (result ≡ Status.Done) ⊎ (result ≡ Status.OutOfMemory) }
 
-    // Whatever the status: words that are no command change nothing but the report, and a command leaves
-    // every place and every clock that it doesn't name as it was.
-    ensures no_command_leaves { ((input output : List ℕ) (batch limit : ℕ)
-        → IsPipe words.now input output batch limit → ⊥) →
+    // Whatever the status: words that are no command change nothing but the report, and a pipe leaves every
+    // place and every clock that it doesn't name as it was.
+    ensures no_command_leaves { IsNoCommand words.now →
         SameAtAll (W.in_at world.old) (W.in_at world.new)
         × SameAtAll (W.out_at world.old) (W.out_at world.new)
         × SameAtAll (W.moments world.old) (W.moments world.new) }
@@ -249,7 +233,8 @@ pub fn agent<W: World>(alloc: Global, words: &[String], world: &mut W) -> Status
     ensures outs_home { AreHome (W.out_at world.new) }
 {
     match read_command(words) {
-        Some(pipe) => run_pipe(alloc, &pipe, world),
+        Some(Command::Pipe(pipe)) => run_pipe(alloc, &pipe, world),
+        Some(Command::Check(place)) => check_call(alloc, world, place),
         None => report_line(world, b"usage\n", Status::Usage),
     }
 }

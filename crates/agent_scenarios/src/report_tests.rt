@@ -12,9 +12,9 @@ use std::test::Fail;
 
 /// A world in memory, with a sink that is told the report.
 #[derive(Drop)]
-struct ToldWorld {
-    parts: MemWorld,
-    report: MemSink,
+pub struct ToldWorld {
+    pub parts: MemWorld,
+    pub report: MemSink,
 }
 
 impl World for ToldWorld {

@@ -234,6 +234,9 @@ fn no_commands(rt: HostRuntime) -> Result<(), Fail> {
         "pipe a b 0 1",
         "pipe a b 1 10001",
         "pipe a b +1 1",
+        "check",
+        "check a b",
+        "checks a",
     ];
     for line in lines {
         let case = Case {

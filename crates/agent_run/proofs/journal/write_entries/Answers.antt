@@ -1,4 +1,4 @@
-use Rattle.agent_run.proofs.NotedLemmas.{spells_no_more, spells_more, spells_all}
+use Rattle.agent_run.proofs.NotedLemmas.{spells_no_more, spells_more}
 use Rattle.agent_run.proofs.journal.write_entries.Goals as goal
 
 pub loop-entry-init : goal.loop-entry-init

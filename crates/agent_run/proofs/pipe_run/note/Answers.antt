@@ -1,4 +1,4 @@
-use Rattle.std.proofs.Common.{◌≡◌, [], List, length, ap, sym, ◌∙◌, subst}
+use Rattle.std.proofs.Common.{List, ◌∙◌, subst}
 use Rattle.account.specs.declared.entry.Entry.{Entry}
 use Rattle.agent_run.specs.Noted.{part_of, NotesOn}
 use Rattle.agent_run.proofs.ProgressLemmas.{went_cut}

@@ -1,12 +1,10 @@
-use Rattle.std.proofs.Common.{◌≡◌, ℕ, ℤ, ap, sym, subst, ◌∙◌, Option, rules}
-use Rattle.std.specs.Prelude.{IfOk}
+use Rattle.std.proofs.Common.{◌≡◌, ℕ, ap, subst, rules}
 use Rattle.std.proofs.lemmas.Int.{to_z-of_z}
 use mir.Syntax.{w64}
 use mir.Val.{of_z, to_z}
-use Rattle.agent_base.specs.Moments.{Moments, Gives}
-use Rattle.agent_run.specs.Headline.{Change, Ran, change}
-use Rattle.agent_run.specs.declared.rounds.Ending.{Ending}
-use Rattle.agent_run.proofs.HeadlineLemmas.{change_is, ran_as}
+use Rattle.agent_base.specs.Moments.{Gives}
+use Rattle.agent_run.specs.Headline.{change}
+use Rattle.agent_run.proofs.HeadlineLemmas.{ran_as}
 use Rattle.agent_run.proofs.rounds.run.Goals as goal
 
 pub run_from-ran-requires-clause-first : goal.run_from-ran-requires-clause-first

@@ -1,0 +1,12 @@
+use Rattle.std.proofs.Common.{◌∙◌, rules}
+use Rattle.agent_run.proofs.CheckLemmas.{taken_more}
+use Rattle.agent_run.proofs.checking.fill.Goals as goal
+
+pub loop-len-preserved : goal.loop-len-preserved
+loop-len-preserved g c =
+    let left = g.S.Source.left in record {
+      room = c.read_from.ensures.len ∙ c.loop-len.invariant.room;
+      within = search rules;
+      taken = taken_more (left c.args.src.now) (left c.loop-len.src) (left c.read_from.new.src) c.loop-len.buf c.read_from.new.buf c.loop-len.len c.in-Ok.n c.loop-len.invariant.taken c.read_from.ensures.before c.in-Ok.ensures.bytes.0;
+      later = search rules;
+    }

@@ -1,0 +1,14 @@
+use Rattle.std.proofs.Common.{◌≡◌, ◌≤◌, ◌-◌, length, take}
+use Rattle.std.specs.Io.KnownBytes.{Consumes}
+use Rattle.agent_run.proofs.checking.fill.Given as goal
+
+abbrev pub invariant-loop-len : goal.invariant-loop-len
+invariant-loop-len g l = record {
+  room : length l.buf ≡ length l.fn.buf;
+  within : l.len ≤ length l.fn.buf;
+  taken : Consumes (g.S.Source.left l.fn.src) (g.S.Source.left l.src) (take l.len l.buf);
+  later : g.S.Source.faults l.fn.src ≤ g.S.Source.faults l.src;
+}
+
+abbrev pub decreases-loop-len : goal.decreases-loop-len
+decreases-loop-len g l = length l.fn.buf - l.len

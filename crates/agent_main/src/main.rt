@@ -58,15 +58,30 @@ fn refusal(rt: &HostRuntime, alloc: Global, place: &str) -> Option<String> {
     format!(in alloc; "hogzent: the configuration {place} was refused: {reason}").ok()
 }
 
+/// What standard error is told of a check that ended so, where it isn't what it is told of a run.
+fn check_advice(status: Status) -> &'static str {
+    match status {
+        Status::ReadFault => "hogzent: the configuration could not be read",
+        Status::OpenFault => "hogzent: the configuration could not be opened",
+        Status::ReportFault => "hogzent: the report could not be written whole",
+        Status::OutOfMemory => "hogzent: out of memory; the configuration was not checked",
+        _ => advice(status),
+    }
+}
+
 /// What standard error is told of an end that isn't Done.
 fn tell(rt: &HostRuntime, alloc: Global, words: &[String], status: Status) {
-    if let (Status::Config, [_, place]) = (status, words) {
+    let [_, place] = words else {
+        let _ = rt.eprintln(advice(status));
+        return;
+    };
+    if status == Status::Config {
         if let Some(text) = refusal(rt, alloc, place.as_str()) {
             let _ = rt.eprintln(text);
             return;
         }
     }
-    let _ = rt.eprintln(advice(status));
+    let _ = rt.eprintln(check_advice(status));
 }
 
 /// The words, without the program's name; none where a word isn't UTF-8, which makes them no command.

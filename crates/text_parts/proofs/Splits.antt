@@ -118,11 +118,11 @@ cut_is_first byte text =
 
 -- ---- the parts
 
-split_none : (p : ℕ → Bool) (bs : List ℕ) → HasNone p bs → slice_split p bs ≡ bs ∷ []
+pub split_none : (p : ℕ → Bool) (bs : List ℕ) → HasNone p bs → slice_split p bs ≡ bs ∷ []
 split_none p [] h = refl
 split_none p (b ∷ bs) h = rw (h.0, split_none p bs h.1) refl
 
-split_found : (p : ℕ → Bool) (bs : List ℕ) (y : ℕ) (ys : List ℕ) → HasNone p bs → p y ≡ true → slice_split p (bs ++ y ∷ ys) ≡ bs ∷ slice_split p ys
+pub split_found : (p : ℕ → Bool) (bs : List ℕ) (y : ℕ) (ys : List ℕ) → HasNone p bs → p y ≡ true → slice_split p (bs ++ y ∷ ys) ≡ bs ∷ slice_split p ys
 split_found p [] y ys h e = rw e refl
 split_found p (b ∷ bs) y ys h e = rw (h.0, split_found p bs y ys h.1 e) refl
 

@@ -12,9 +12,8 @@ use line_proto::{LineKind, read_line, write_line};
 use metric::Metric;
 use statsd_text::{StatsdKind, read_packet_line};
 use std::alloc::Global;
-use std::env;
-use std::fmt;
 use std::process::ExitCode;
+use std::{env, fmt};
 
 /// The moment at which each piece is read.
 const MOMENT: Moment = 7;
@@ -69,7 +68,7 @@ impl Probe {
     }
 
     /// A piece is refused.
-    fn refuse<K: fmt::Debug>(&mut self, kind: K, place: usize) -> Result<(), OutOfMemory> {
+    fn refuse<K: fmt::Debug + Drop>(&mut self, kind: K, place: usize) -> Result<(), OutOfMemory> {
         self.refused = self.refused.saturating_add(1);
         if self.shows {
             let words = format!(in self.alloc; "{:?} {}", kind, place)?;

@@ -8,7 +8,7 @@ use mir.Val.{SFits, of_z, to_z}
 use mir.Syntax.{w64}
 use Rattle.text_parts.specs.declared.error.ReadError.{ReadError}
 use Rattle.text_parts.specs.declared.error.ReadError.TheVariants as errors
-use Rattle.text_parts.specs.Chain.{◌>>=◌, Fails}
+use Rattle.text_parts.specs.Chain.{Fails}
 use Rattle.text_parts.specs.Split.{parts_of, each}
 use Rattle.metric.specs.declared.metric.Content.{Content}
 use Rattle.metric.specs.Draft.{Tag}
@@ -21,7 +21,7 @@ use Rattle.statsd_text.specs.Sections.{Sections, sections}
 use Rattle.statsd_text.specs.Tags.{head_of, later_tags}
 use Rattle.statsd_text.specs.Said.{part_of, field_name}
 use Rattle.statsd_text.specs.Reading.{type_tag, content_of, limited, line_reading, text_reading, reading}
-use Rattle.statsd_text.specs.TagMap.{IsKeyed, kept_content}
+use Rattle.statsd_text.specs.TagMap.{kept_content}
 use Rattle.statsd_text.proofs.KeptTags.{kept_tag, in_key_order_on_more}
 
 pub sections_fail : (e : ReadError StatsdFault) (piece : List ℕ) (moment : ℤ) → Fails e (sections piece) → Fails e (line_reading piece moment)

@@ -1,7 +1,7 @@
 -- What is read as metrics is written as a line.
 use Rattle.std.proofs.Common.{◌≡◌, ℕ, ℤ, suc, ◌+◌, ◌<◌, Bool, true, false, cond, List, [], ◌∷◌, ◌++◌, length, map, take, drop, get_or, Result, Ok, Err, Option, Some, None, refl, sym, ap, subst, ◌∙◌, arith, ◌⊎◌, inl, inr}
-use Rattle.std.specs.Prelude.{◌||◌, ◌&&◌, ◌==◌, codes, filter, not}
-use Rattle.std.specs.List.{AllByRecursion, join_with_byte, list_any, slice_split, count_by}
+use Rattle.std.specs.Prelude.{◌||◌, ◌&&◌, ◌==◌, codes, filter}
+use Rattle.std.specs.List.{AllByRecursion, join_with_byte, list_any, slice_split}
 use Rattle.std.specs.Str.{IsUtf8, is_utf8}
 use Rattle.std.specs.Str.Lossy.{utf8_valid_len}
 use Rattle.std.proofs.lemmas.Bool.{eqb-true, eqb-false, ne_eqb}
@@ -11,12 +11,11 @@ use Rattle.std.proofs.lemmas.Str.{IsUtf8-from_is_utf8}
 use Rattle.text_parts.specs.Grammar.{HasNone}
 use Rattle.text_parts.specs.Pairs.{pair_text, pairs_text}
 use Rattle.text_parts.specs.Chain.{◌>>=◌}
-use Rattle.text_parts.specs.Split.{PartAt, is_byte, first_part, placed, parts_of, each, behind_first, AllLack}
+use Rattle.text_parts.specs.Split.{PartAt, is_byte, first_part, placed, parts_of, each, behind_first}
 use Rattle.text_parts.proofs.Splits.{cut_is_first, parts_none}
 use Rattle.fixed_num.specs.declared.fixed.NumFault.{NumFault}
 use Rattle.fixed_num.specs.declared.fixed.NumFault.TheVariants as numbers
 use Rattle.fixed_num.specs.Fixed.{read_as}
-use Rattle.metric.specs.declared.value.Value.{Value}
 use Rattle.metric.specs.declared.metric.Content.{Content}
 use Rattle.metric.specs.Draft.{Tag}
 use Rattle.statsd_text.specs.declared.fault.StatsdFault.{StatsdFault}
@@ -26,9 +25,9 @@ use Rattle.statsd_text.specs.declared.said.MetricType.{MetricType}
 use Rattle.statsd_text.specs.declared.said.Said.{Said}
 use Rattle.statsd_text.specs.Sections.{fault, Sections, sections, sections_of, marker_len}
 use Rattle.statsd_text.specs.Tags.{name_of, head_tag, valued, head_of, later_tag, later_tags, is_filled, value_or_true}
-use Rattle.statsd_text.specs.Said.{Texts, texts_of, texts_from, typed, rate_text, type_of, value_of, field_of, placed_at, rate_of, rate_read, rate_from, is_positive, counted, part_of}
+use Rattle.statsd_text.specs.Said.{Texts, texts_of, texts_from, typed, rate_text, type_of, value_of, field_of, placed_at, rate_of, rate_from, is_positive, counted, part_of}
 use Rattle.statsd_text.specs.Reading.{content_of, has_too_many, limited, line_reading, is_blank, text_reading, reading}
-use Rattle.statsd_text.specs.Grammar.{ends_name, ends_key, ends_value, ends_later_key, ends_later_value, WrittenPart, rate_spelling, part_spelling, LaterTag, Nothing, Flag, Pair, later_spelling, Written, head_spelling, parts_spelling, end_spelling, line_spelling}
+use Rattle.statsd_text.specs.Grammar.{ends_name, WrittenPart, rate_spelling, part_spelling, LaterTag, Nothing, Flag, Pair, later_spelling, Written, parts_spelling, end_spelling, line_spelling}
 use Rattle.statsd_text.specs.Grammar.{IsHeadTag, IsRate, IsPart, AreParts, IsLaterTag, given_later, AreLater, given_end, IsLine, metrics_of, ReadIsWritten}
 use Rattle.statsd_text.proofs.Lacking.{or_false, none_front, none_back, both_none, any_none}
 
@@ -224,17 +223,20 @@ part_written place text said colons e =
     let whole : text ≡ texts.0.value ++ 124 ∷ (found.name ++ rate_spelling written.rate) = found.is ∙ ap (λ (t : List ℕ). texts.0.value ++ 124 ∷ (found.name ++ t)) written.is in
     let none = both_none (is_byte 58) (is_byte 124) texts.0.value (none_front (is_byte 58) texts.0.value (124 ∷ (found.name ++ rate_spelling written.rate)) (subst (HasNone (is_byte 58)) whole colons)) found.none in
     let one : Said = record { metric_type = texts.0.metric_type; field = field_of texts.0.metric_type texts.0.value; value = result.0 } in
-    let w : WrittenPart = record { value = texts.0.value; type_text = found.name; rate = written.rate } in
-    (w, whole, subst (IsPart w) (same_ok one said result.2) (record {
-      none = none;
-      named = found.named;
-      number = value.0;
-      is_value = placed_ok place (value_of texts.0.metric_type texts.0.value) value.0 value.1;
-      rate = rate.0;
-      is_rate = written.read;
-      counts = placed_ok place (counted texts.0.metric_type value.0 rate.0) result.0 result.1;
-      field = refl;
-    }))
+    let w : WrittenPart = record { value = texts.0.value; type_text = found.name; rate = written.rate } in (
+      w,
+      whole,
+      subst (IsPart w) (same_ok one said result.2) (record {
+        none = none;
+        named = found.named;
+        number = value.0;
+        is_value = placed_ok place (value_of texts.0.metric_type texts.0.value) value.0 value.1;
+        rate = rate.0;
+        is_rate = written.read;
+        counts = placed_ok place (counted texts.0.metric_type value.0 rate.0) result.0 result.1;
+        field = refl;
+      }),
+    )
 
 parts_written : (place : ℕ) (texts : List (List ℕ)) (said : List Said) → AllByRecursion (HasNone (is_byte 58)) texts → each part_of (placed place texts) ≡ Ok said
     → (ws : List WrittenPart) × (texts ≡ map part_spelling ws) × AreParts ws said

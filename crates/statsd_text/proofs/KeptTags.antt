@@ -1,10 +1,8 @@
 -- Tags that are put in the order of their keys, and those of them that have a value.
 use Rattle.std.proofs.Common.{◌≡◌, ℕ, ◌<◌, Bool, true, false, cond, not, List, [], ◌∷◌, ◌++◌, length, refl, sym, ap, subst, ◌∙◌, arith}
 use Rattle.std.specs.Prelude.{◌==◌, ◌||◌}
-use Rattle.std.specs.List.{AllByRecursion}
 use Rattle.std.specs.List.Sorted.{IsStrictlySortedBy}
 use Rattle.std.specs.BTreeMap.{insert_entry}
-use Rattle.std.specs.Map.{keys_of}
 use Rattle.std.specs.declared.cmp.Ordering.{Ordering}
 use Rattle.std.specs.declared.cmp.Ordering.TheVariants.{Less, Equal, Greater}
 use Rattle.std.specs.Ordering.{is_eq, ordering_reverse}
@@ -102,22 +100,22 @@ kept_one (tag ∷ tags) key value h =
     elim (length tag.1 == 0) as (λ t. (length tag.1 == 0) ≡ t
     → with_values (with_sorted (cond (not t) (tag ∷ with_values tags) (with_values tags)) key value) ≡ with_values (with_sorted (tag ∷ tags) key value)) [
       | true ↦ λ none. elim (key_cmp tag.0 key) as (λ o. key_cmp tag.0 key ≡ o
-        → with_values (with_sorted (with_values tags) key value) ≡ with_values (beside o tag (key, value) tags (with_sorted tags key value))) [
-          | Less ↦ λ e. rw none (kept_one tags key value h.1)
-          | Equal ↦ λ e.
-              let above : AllKeys (λ k. key_cmp key k ≡ Less) tags = subst (λ (a : List ℕ). AllKeys (λ k. key_cmp a k ≡ Less) tags) (same_key tag.0 key e) h.0 in
-              rw (put_first (with_values tags) key value (all_values (λ k. key_cmp key k ≡ Less) tags above)) (with_first key value tags)
-          | Greater ↦ λ e.
-              let above : AllKeys (λ k. key_cmp key k ≡ Less) tags = all_less key tag.0 tags (turned tag.0 key Greater e) h.0 in
-              rw (put_first (with_values tags) key value (all_values (λ k. key_cmp key k ≡ Less) tags above), none) (with_first key value tags)
-        ] refl
+          → with_values (with_sorted (with_values tags) key value) ≡ with_values (beside o tag (key, value) tags (with_sorted tags key value))) [
+            | Less ↦ λ e. rw none (kept_one tags key value h.1)
+            | Equal ↦ λ e.
+                let above : AllKeys (λ k. key_cmp key k ≡ Less) tags = subst (λ (a : List ℕ). AllKeys (λ k. key_cmp a k ≡ Less) tags) (same_key tag.0 key e) h.0 in
+                rw (put_first (with_values tags) key value (all_values (λ k. key_cmp key k ≡ Less) tags above)) (with_first key value tags)
+            | Greater ↦ λ e.
+                let above : AllKeys (λ k. key_cmp key k ≡ Less) tags = all_less key tag.0 tags (turned tag.0 key Greater e) h.0 in
+                rw (put_first (with_values tags) key value (all_values (λ k. key_cmp key k ≡ Less) tags above), none) (with_first key value tags)
+          ] refl
       | false ↦ λ some. elim (key_cmp tag.0 key) as (λ o. key_cmp tag.0 key ≡ o
-        → with_values (beside o tag (key, value) (with_values tags) (with_sorted (with_values tags) key value))
-        ≡ with_values (beside o tag (key, value) tags (with_sorted tags key value))) [
-          | Less ↦ λ e. rw some (ap (λ (ts : List Tag). tag ∷ ts) (kept_one tags key value h.1))
-          | Equal ↦ λ e. with_first key value tags
-          | Greater ↦ λ e. rw (some, values_twice tags) refl
-        ] refl
+          → with_values (beside o tag (key, value) (with_values tags) (with_sorted (with_values tags) key value))
+          ≡ with_values (beside o tag (key, value) tags (with_sorted tags key value))) [
+            | Less ↦ λ e. rw some (ap (λ (ts : List Tag). tag ∷ ts) (kept_one tags key value h.1))
+            | Equal ↦ λ e. with_first key value tags
+            | Greater ↦ λ e. rw (some, values_twice tags) refl
+          ] refl
     ] refl
 
 -- a tag among the given tags that have a value is that tag among all given ones

@@ -1,7 +1,7 @@
 -- Texts without some bytes, and lines up to their `|#`.
-use Rattle.std.proofs.Common.{◌≡◌, ℕ, ℤ, suc, ◌+◌, ◌<◌, ◌≤◌, Bool, true, false, cond, eqb, List, [], ◌∷◌, ◌++◌, length, get_or, drop, Result, Ok, Option, Some, None, refl, sym, ap, subst, ◌∙◌, arith}
-use Rattle.std.specs.Prelude.{◌||◌, ◌&&◌, ◌==◌, nat_lt, codes}
-use Rattle.std.specs.List.{AllByRecursion, join_with_byte, list_any}
+use Rattle.std.proofs.Common.{◌≡◌, ℕ, ℤ, suc, ◌+◌, ◌<◌, ◌≤◌, Bool, true, false, cond, List, [], ◌∷◌, ◌++◌, length, get_or, drop, Ok, Option, Some, None, refl, sym, ap, subst, ◌∙◌, arith}
+use Rattle.std.specs.Prelude.{◌||◌, ◌&&◌, ◌==◌, codes}
+use Rattle.std.specs.List.{list_any}
 use Rattle.std.specs.Str.{bytes_eq}
 use Rattle.std.specs.Str.Parse.{AllDigits}
 use Rattle.std.proofs.lemmas.Bool.{ne_eqb, eqb-true}
@@ -10,7 +10,6 @@ use Rattle.std.proofs.lemmas.Str.Parse.{digit_from_value}
 use Rattle.std.proofs.lemmas.Slice.Eq.{bytes_eq-Decides}
 use Rattle.text_parts.specs.Grammar.{HasNone}
 use Rattle.text_parts.specs.Split.{is_byte}
-use Rattle.fixed_num.specs.declared.fixed.NumFault.{NumFault}
 use Rattle.fixed_num.specs.Decimal.{Decimal, decimal_of}
 use Rattle.fixed_num.specs.Fixed.{read_as, fixed_of}
 use Rattle.fixed_num.specs.Grammar.{Sign, NoSign, Plus, Minus, sign_text, Power, NoPower, Small, Capital, power_text, FitsPower, Digits, Without, With, digits_text, whole_of, fraction_of, Spelled, spelling, IsDecimal}

@@ -1,7 +1,7 @@
 -- A fault's place is in the piece, or its length.
-use Rattle.std.proofs.Common.{◌≡◌, ℕ, ℤ, zero, suc, ◌+◌, ◌<◌, ◌≤◌, Bool, true, false, cond, ltb, List, [], ◌∷◌, ◌++◌, length, map, take, drop}
-use Rattle.std.proofs.Common.{Option, Result, Ok, Err, Some, None, refl, sym, ap, subst, arith}
-use Rattle.std.specs.Prelude.{◌==◌, ◌||◌, ◌&&◌, not, filter, pos}
+use Rattle.std.proofs.Common.{◌≡◌, ℕ, ℤ, ◌+◌, ◌<◌, ◌≤◌, Bool, true, false, cond, List, [], ◌∷◌, ◌++◌, length, map, drop}
+use Rattle.std.proofs.Common.{Option, Result, Ok, Err, Some, None, refl, ap, subst, arith}
+use Rattle.std.specs.Prelude.{◌==◌, ◌&&◌, not, filter}
 use Rattle.std.specs.List.{AllByRecursion, slice_split, join_with_byte}
 use Rattle.std.specs.Str.Lossy.{utf8_valid_len}
 use Rattle.std.specs.Str.{is_utf8}
@@ -14,18 +14,15 @@ use Rattle.text_parts.proofs.Splits.{cut_is_first}
 use Rattle.fixed_num.specs.declared.fixed.NumFault.{NumFault}
 use Rattle.fixed_num.specs.declared.fixed.NumFault.TheVariants as numbers
 use Rattle.fixed_num.specs.Fixed.{read_as}
-use Rattle.metric.specs.Draft.{Tag}
 use Rattle.metric.specs.declared.metric.Content.{Content}
 use Rattle.statsd_text.specs.declared.fault.StatsdFault.{StatsdFault}
 use Rattle.statsd_text.specs.declared.fault.StatsdKind.{StatsdKind}
 use Rattle.statsd_text.specs.declared.fault.StatsdKind.TheVariants as kinds
-use Rattle.statsd_text.specs.declared.said.MetricType.TheVariants as types
 use Rattle.statsd_text.specs.declared.said.MetricType.{MetricType}
-use Rattle.statsd_text.specs.declared.said.Said.{Said}
-use Rattle.statsd_text.specs.Sections.{fault, Sections, sections, sections_of, marker_len, before_marker, behind_marker}
+use Rattle.statsd_text.specs.Sections.{fault, Sections, sections, sections_of, marker_len}
 use Rattle.statsd_text.specs.Tags.{name_of, head_tag, valued, head_of, later_tag, later_tags, is_filled}
-use Rattle.statsd_text.specs.Said.{Texts, texts_of, texts_from, typed, type_of, rate_text, value_of, placed_at, rate_from, rate_read, rate_of, counted, part_of, is_positive}
-use Rattle.statsd_text.specs.Reading.{content_of, limited, has_too_many, line_reading, is_blank, text_reading, reading}
+use Rattle.statsd_text.specs.Said.{Texts, texts_of, texts_from, typed, type_of, rate_text, value_of, placed_at, rate_from, rate_of, counted, part_of, is_positive}
+use Rattle.statsd_text.specs.Reading.{content_of, limited, line_reading, is_blank, text_reading, reading}
 
 -- a fault, if it is one, is at most at a place
 pub record Within {A : Type 0} (end : ℕ) (reading : Result A StatsdFault) : Type 0 where

@@ -1,28 +1,26 @@
 -- What is written as a line is read as its metrics.
-use Rattle.std.proofs.Common.{◌≡◌, ℕ, ℤ, suc, ◌+◌, ◌<◌, Bool, true, false, cond, List, [], ◌∷◌, ◌++◌, length, map, take, drop, Result, Ok, Err, Option, Some, None, refl, sym, ap, subst, ◌∙◌, arith, append_assoc}
-use Rattle.std.specs.Prelude.{◌||◌, ◌&&◌, ◌==◌, codes, filter, not}
-use Rattle.std.specs.List.{AllByRecursion, join_with_byte, list_any, list_all, slice_split}
-use Rattle.std.specs.Str.{IsUtf8, is_utf8}
+use Rattle.std.proofs.Common.{◌≡◌, ℕ, ℤ, suc, ◌+◌, ◌<◌, Bool, true, false, List, [], ◌∷◌, ◌++◌, length, map, drop, Ok, Option, Some, None, refl, sym, ap, subst, ◌∙◌, arith, append_assoc}
+use Rattle.std.specs.Prelude.{◌||◌, ◌&&◌, ◌==◌, codes, filter}
+use Rattle.std.specs.List.{AllByRecursion, join_with_byte, list_any, slice_split}
+use Rattle.std.specs.Str.{is_utf8}
 use Rattle.std.proofs.lemmas.Bool.{ne_eqb}
-use Rattle.std.proofs.lemmas.List.{append-nil, take_at, take_all, drop_all, length-append}
+use Rattle.std.proofs.lemmas.List.{append-nil, take_at, drop_all, length-append}
 use Rattle.std.proofs.lemmas.Str.{is_utf8-from_IsUtf8}
 use Rattle.text_parts.specs.Grammar.{HasNone}
 use Rattle.text_parts.specs.Pairs.{pair_text, pairs_text}
-use Rattle.text_parts.specs.Chain.{◌>>=◌}
-use Rattle.text_parts.specs.Split.{PartAt, is_byte, first_part, placed, parts_of, each, AllLack}
+use Rattle.text_parts.specs.Split.{is_byte, placed, parts_of, each, AllLack}
 use Rattle.text_parts.proofs.Splits.{split_none, split_found, first_is_cut, joined_are_split}
 use Rattle.fixed_num.specs.Fixed.{read_as}
 use Rattle.metric.specs.declared.value.Value.{Value}
 use Rattle.metric.specs.Draft.{Tag}
-use Rattle.statsd_text.specs.declared.fault.StatsdFault.{StatsdFault}
 use Rattle.statsd_text.specs.declared.said.Said.{Said}
-use Rattle.statsd_text.specs.Sections.{Sections, sections, marker_len}
+use Rattle.statsd_text.specs.Sections.{sections, marker_len}
 use Rattle.statsd_text.specs.Tags.{head_tag, head_of, later_tag, later_tags, is_filled}
 use Rattle.statsd_text.specs.Said.{texts_of, type_of, value_of, field_of, rate_of, is_positive, counted, part_of}
-use Rattle.statsd_text.specs.Reading.{content_of, has_too_many, limited, line_reading, is_blank, text_reading, reading}
+use Rattle.statsd_text.specs.Reading.{limited, line_reading, is_blank, text_reading, reading}
 use Rattle.statsd_text.specs.Grammar.{ends_name, ends_key, ends_value, ends_later_key, ends_later_value, WrittenPart, rate_spelling, part_spelling, LaterTag, Nothing, Flag, Pair, later_spelling, Written, head_spelling, parts_spelling, end_spelling, line_spelling}
 use Rattle.statsd_text.specs.Grammar.{IsHeadTag, IsRate, IsPart, AreParts, IsLaterTag, given_later, AreLater, given_end, IsLine, metrics_of, WrittenIsRead}
-use Rattle.statsd_text.proofs.Lacking.{or_false, fewer, none_append, none_any, both_none, decimal_none, type_text, IsTypeText, Unmarked, marked_at, unmarked_more, unmarked_bar, unmarked_append, ends_rate}
+use Rattle.statsd_text.proofs.Lacking.{or_false, fewer, none_append, none_any, decimal_none, type_text, Unmarked, marked_at, unmarked_more, unmarked_bar, unmarked_append, ends_rate}
 
 not_empty : (text : List ℕ) → 0 < length text → (length text == 0) ≡ false
 not_empty text some = ne_eqb (length text) 0 (λ e. absurd (omega arith))
@@ -210,8 +208,8 @@ part_unmarked w said rest is h =
     let name_none : HasNone (is_byte 124) w.type_text = fewer ends_rate (is_byte 124) (λ b e. (value_parts b e).1) w.type_text named.none in
     let behind : Unmarked (w.type_text ++ (rate_spelling w.rate ++ rest)) = unmarked_append w.type_text (rate_spelling w.rate ++ rest) name_none (rate_unmarked w.rate is.rate rest is.is_rate h) in
     let whole : part_spelling w ++ rest ≡ w.value ++ 124 ∷ (w.type_text ++ (rate_spelling w.rate ++ rest)) =
-        append_assoc w.value (124 ∷ (w.type_text ++ rate_spelling w.rate)) rest
-        ∙ ap (λ (t : List ℕ). w.value ++ 124 ∷ t) (append_assoc w.type_text (rate_spelling w.rate) rest) in
+    append_assoc w.value (124 ∷ (w.type_text ++ rate_spelling w.rate)) rest
+    ∙ ap (λ (t : List ℕ). w.value ++ 124 ∷ t) (append_assoc w.type_text (rate_spelling w.rate) rest) in
     subst Unmarked (sym whole) (unmarked_append w.value (124 ∷ (w.type_text ++ (rate_spelling w.rate ++ rest))) value_none
     (subst (λ (t : List ℕ). Unmarked (124 ∷ t)) (sym (ap (λ (t : List ℕ). t ++ (rate_spelling w.rate ++ rest)) named.is))
     (unmarked_bar named.first (named.rest ++ (rate_spelling w.rate ++ rest)) named.no_hash

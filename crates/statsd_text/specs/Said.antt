@@ -1,5 +1,5 @@
 -- What a part of a line says.
-use Rattle.std.specs.Prelude.{ℕ, ℤ, ◌+◌, ◌==◌, ◌||◌, not, Bool, true, false, zero, suc, pos, negsuc, List, length}
+use Rattle.std.specs.Prelude.{ℕ, ℤ, ◌+◌, ◌==◌, ◌||◌, Bool, true, false, zero, suc, pos, negsuc, List, length}
 use Rattle.std.specs.Prelude.{drop, codes, Option, Some, None, Result, Ok, Err, slice_index, if◌then◌else◌}
 use Rattle.std.specs.Str.{bytes_eq}
 use Rattle.text_parts.specs.Chain.{◌>>=◌}

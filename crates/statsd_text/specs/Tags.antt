@@ -1,6 +1,6 @@
 -- The name and the tags of a line.
-use Rattle.std.specs.Prelude.{ℕ, ◌==◌, ◌||◌, not, Bool, List, [], ◌∷◌, ◌++◌, length, filter, codes, Option, Some}
-use Rattle.std.specs.Prelude.{None, Result, Ok, Err, if◌then◌else◌}
+use Rattle.std.specs.Prelude.{ℕ, ◌==◌, ◌||◌, not, Bool, List, [], ◌∷◌, length, filter, codes, Option, Some}
+use Rattle.std.specs.Prelude.{None, Result, Ok, if◌then◌else◌}
 use Rattle.std.specs.List.{list_any}
 use Rattle.text_parts.specs.Bytes.{comma, equals_sign}
 use Rattle.text_parts.specs.Chain.{◌>>=◌}

@@ -232,10 +232,7 @@ fn rate_read(place: usize, rate: &Placed) -> Result<Option<Fixed>, ReadError<Sta
 
 /// The rate of a value at a place, where one is written.
 #[tactic(auto, unfolding(crate::specs::Said::rate_of))]
-fn rate_of(
-    place: usize,
-    rate: &Option<Placed>,
-) -> Result<Option<Fixed>, ReadError<StatsdFault>>
+fn rate_of(place: usize, rate: &Option<Placed>) -> Result<Option<Fixed>, ReadError<StatsdFault>>
     ensures { Gives (λ x. x) result (rate_of place (option_map part_at rate.now)) }
 {
     match rate {
@@ -245,11 +242,7 @@ fn rate_of(
 }
 
 /// A value divided by its rate, where it is that of a counter.
-fn counted(
-    metric_type: MetricType,
-    value: Value,
-    rate: Option<Fixed>,
-) -> Result<Value, StatsdKind>
+fn counted(metric_type: MetricType, value: Value, rate: Option<Fixed>) -> Result<Value, StatsdKind>
     ensures { result ≡ counted metric_type value rate }
 {
     match (metric_type, rate) {

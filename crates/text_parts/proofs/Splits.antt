@@ -1,17 +1,17 @@
 -- Texts cut at a byte.
-use Rattle.std.proofs.Common.{◌≡◌, ℕ, suc, ◌+◌, ◌<◌, Bool, true, false, cond, ltb, eqb, List, [], ◌∷◌, ◌++◌, length, get_or, take, drop, take_all, Option, Some, None, refl, sym, ap, subst, ◌∙◌, arith}
-use Rattle.std.specs.Prelude.{not, ◌==◌, ◌||◌, nat_lt}
-use Rattle.std.specs.List.{position_or_len, prefix_len, before_first, after_first, slice_split, onto_first, join_with_byte, AllByRecursion}
+use Rattle.std.proofs.Common.{◌≡◌, ℕ, suc, ◌+◌, ◌<◌, Bool, true, false, cond, ltb, List, [], ◌∷◌, ◌++◌, length, get_or, take, drop, take_all, Option, Some, None, refl, sym, ap, subst, ◌∙◌, arith}
+use Rattle.std.specs.Prelude.{not, ◌==◌, ◌||◌}
+use Rattle.std.specs.List.{position_or_len, before_first, after_first, slice_split, onto_first, join_with_byte, AllByRecursion}
 use Rattle.std.specs.Str.{IsUtf8, IsCharBoundary}
 use Rattle.std.proofs.lemmas.Bool.{eqb-true, eq-eqb, lt-ltb, le-ltb, ltb-true, ltb-false}
 use Rattle.std.proofs.lemmas.List.{length-append, append-nil, take_at}
-use Rattle.std.proofs.lemmas.List.Sums.{passes_at_first, split_at_first, prefix_len-le-length}
+use Rattle.std.proofs.lemmas.List.Sums.{passes_at_first, split_at_first}
 use Rattle.std.proofs.lemmas.List.Splits.{slice_split_first, join_with_byte-slice_split}
 use Rattle.std.proofs.lemmas.Str.{IsCharBoundary-after_ascii}
 use Rattle.text_parts.specs.Stops.{is_any_of}
 use Rattle.text_parts.specs.Part.{Kind}
 use Rattle.text_parts.specs.Grammar.{HasNone}
-use Rattle.text_parts.specs.Split.{PartAt, is_byte, first_part, placed, parts_of, AllLack, behind_first, JoinedAreSplit, SplitAreJoined, FirstIsCut, CutIsFirst}
+use Rattle.text_parts.specs.Split.{is_byte, first_part, placed, parts_of, behind_first, JoinedAreSplit, SplitAreJoined, FirstIsCut, CutIsFirst}
 use Rattle.text_parts.specs.Parts.{parts_left}
 use Rattle.text_parts.proofs.Utf8.{EndsLow}
 use Rattle.text_parts.proofs.Spans.{unhidden_rest_boundary, position_or_len_le}

@@ -1,6 +1,6 @@
 -- Texts cut at a byte.
 use Rattle.std.specs.Prelude.{◌≡◌, ℕ, ◌+◌, ◌<◌, ◌^◌, Bool, ◌==◌, List, [], ◌∷◌, ◌++◌, length, nat_lt, Option}
-use Rattle.std.specs.Prelude.{Some, None, Result, Ok, Err, if◌then◌else◌}
+use Rattle.std.specs.Prelude.{Some, None, Result, Ok, if◌then◌else◌}
 use Rattle.std.specs.List.{slice_split, join_with_byte, before_first, after_first, position_or_len}
 use Rattle.std.specs.List.{AllByRecursion}
 use Rattle.text_parts.specs.Chain.{◌>>=◌}

@@ -1,6 +1,5 @@
 use Rattle.std.proofs.Common.{◌≡◌, [], take}
-use Rattle.metric.specs.Pairs.{in_key_order, has_empty_key}
-use Rattle.std.specs.Prelude.{false}
+use Rattle.metric.specs.Pairs.{in_key_order}
 use Rattle.statsd_text.proofs.metrics.metric_of.Given as goal
 
 abbrev pub invariant-loop-key : goal.invariant-loop-key

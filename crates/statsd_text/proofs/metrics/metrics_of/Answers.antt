@@ -1,10 +1,9 @@
-use Rattle.std.proofs.Common.{◌≡◌, ◌<◌, ◌++◌, ◌∷◌, [], true, false, List, Err, map, refl, sym, subst, ◌∙◌}
+use Rattle.std.proofs.Common.{◌≡◌, ◌<◌, ◌++◌, ◌∷◌, [], true, false, List, map, refl, subst}
 use Rattle.std.specs.Prelude.{◌||◌, Bool, ℕ, ℤ, length}
 use Rattle.std.specs.List.{list_any}
 use Rattle.std.specs.Vec.Iter.{into_iter_items}
 use Rattle.std.proofs.lemmas.Bool.{lt-ltb}
 use Rattle.std.proofs.lemmas.Int.{to_z-of_z}
-use mir.Val.{of_z, to_z}
 use mir.Syntax.{w64}
 use Rattle.metric.specs.declared.metric.Content.{Content}
 use Rattle.metric.specs.Draft.{Tag}

@@ -1,4 +1,4 @@
-use Rattle.std.proofs.Common.{◌≡◌, ◌++◌, map, Result}
+use Rattle.std.proofs.Common.{◌≡◌, ◌++◌, map}
 use Rattle.statsd_text.specs.Reading.{has_too_many}
 use Rattle.statsd_text.specs.TagMap.{kept_content}
 use Rattle.std.specs.List.{list_any}

@@ -1,7 +1,6 @@
-use Rattle.std.proofs.Common.{◌≡◌, ◌∙◌, List, Result, subst, sym}
+use Rattle.std.proofs.Common.{◌∙◌, List, Result, subst}
 use Rattle.std.proofs.lemmas.Result.{err_from_is_err_and}
 use Rattle.std.proofs.lemmas.Int.{to_z-of_z}
-use mir.Val.{of_z, to_z}
 use mir.Syntax.{w64}
 use Rattle.text_parts.specs.Chain.{Gives}
 use Rattle.metric.specs.declared.metric.Content.{Content}
@@ -9,7 +8,6 @@ use Rattle.statsd_text.specs.declared.fault.StatsdFault.{StatsdFault}
 use Rattle.statsd_text.specs.Views.{sections_view}
 use Rattle.statsd_text.proofs.Chains.{sections_fail, head_fails, later_fails, said_fails, metrics_are}
 use Rattle.statsd_text.proofs.KeptTags.{keyed_values}
-use Rattle.statsd_text.specs.TagMap.{IsKeyed}
 use Rattle.statsd_text.proofs.read.read_line.Goals as goal
 
 pub returns-in_err-line : goal.returns-in_err-line

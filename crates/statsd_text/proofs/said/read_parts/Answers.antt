@@ -1,4 +1,3 @@
-use Rattle.std.proofs.Common.{◌∙◌, sym}
 use Rattle.std.proofs.lemmas.Result.{err_from_is_err_and}
 use Rattle.text_parts.specs.Split.{parts_of}
 use Rattle.text_parts.proofs.Each.{one_more, failed_read, all_read}

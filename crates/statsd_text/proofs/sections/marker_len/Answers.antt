@@ -1,5 +1,4 @@
-use Rattle.std.proofs.Common.{◌≡◌, true, false, drop, sym, ◌∙◌, arith}
-use Rattle.statsd_text.specs.Sections.{is_marker}
+use Rattle.std.proofs.Common.{sym, ◌∙◌, arith}
 use Rattle.statsd_text.proofs.Lacking.{end_at, more_at, all_read}
 use Rattle.statsd_text.proofs.sections.marker_len.Goals as goal
 

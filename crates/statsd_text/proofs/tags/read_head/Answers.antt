@@ -1,8 +1,8 @@
-use Rattle.std.proofs.Common.{◌≡◌, List, ℕ, Result, Ok, Err, refl, sym, ap, ◌∙◌}
+use Rattle.std.proofs.Common.{◌≡◌, List, ℕ, Ok, refl}
 use Rattle.std.proofs.lemmas.Result.{err_from_is_err_and}
 use Rattle.text_parts.specs.declared.error.ReadError.{ReadError}
 use Rattle.text_parts.specs.declared.error.ReadError.TheVariants as errors
-use Rattle.text_parts.specs.Chain.{◌>>=◌, Fails}
+use Rattle.text_parts.specs.Chain.{Fails}
 use Rattle.text_parts.specs.Split.{PartAt, parts_of, each}
 use Rattle.metric.specs.Draft.{Tag}
 use Rattle.statsd_text.specs.declared.fault.StatsdFault.{StatsdFault}

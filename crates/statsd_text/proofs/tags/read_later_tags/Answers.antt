@@ -3,7 +3,6 @@ use Rattle.std.proofs.lemmas.Result.{err_from_is_err_and}
 use Rattle.std.specs.Prelude.{◌==◌, filter}
 use Rattle.text_parts.specs.Split.{PartAt, parts_of}
 use Rattle.text_parts.proofs.Each.{nothing_read, one_more, failed_read, all_read}
-use Rattle.metric.specs.Draft.{Tag}
 use Rattle.metric.specs.Pairs.{in_key_order_on}
 use Rattle.metric.proofs.DraftLemmas.{in_key_order_push}
 use Rattle.statsd_text.specs.Tags.{later_tag, later_tags, is_filled}

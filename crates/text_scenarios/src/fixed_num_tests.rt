@@ -172,7 +172,13 @@ fn quotients(rt: HostRuntime) -> Result<(), Fail> {
     for row in QUOTIENTS {
         let mut out = Vec::new(alloc);
         append_quotient(alloc, &row, &mut out)?;
-        assert_eq!(rt; out.as_slice(), row.want.as_bytes(), "{} by {}", row.number, row.by);
+        assert_eq!(rt;
+            out.as_slice(),
+            row.want.as_bytes(),
+            "{} by {}",
+            row.number,
+            row.by
+        );
     }
     Ok(())
 }

@@ -1,5 +1,5 @@
-"""StatsD lines as docs/formats.md has them, in plain Python: reading, and seeded lines. What is read is written as
-line protocol.
+"""StatsD lines as docs/formats.md has them, in plain Python: reading, and seeded lines. What is read is
+written as line protocol.
 
 Nothing here was taken from the program: where the two differ, one of them or the document is wrong.
 """
@@ -149,13 +149,14 @@ EXAMPLES = [
     b" x : 1|c",
     b"   ",
 ]
-PUT_IN = [b":", b"|", b"@", b"#", b",", b"=", b"+", b"-", b".", b"|#", b"|@", b"c", b"0", b" ", b"\r", b"\xc3", b"\xff"]
+PUT_IN = [b":", b"|", b"@", b"#", b",", b"=", b"+", b"-", b".", b"|#", b"|@", b"c", b"0", b" ", b"\r"]
+PUT_IN += [b"\xc3", b"\xff"]
 
 PLAIN = [b"a", b"b", b"cpu", b"host", b"x.y", b"metric_type", b"0", b"-", b"\\", b" ", b'"', "é".encode()]
-NUMBERS = b"""0 1 -1 +1 12.345 .5 5. 1e3 -2.5E-3 1e-10 5e-10 15e-10 25e-10 -0 +0 1e19 1e20 -1e20 2e-9 0.5 0.1 3 7
-18446744073709551615 18446744073709551616 18446744073709551615.9999999995 -18446744073709551615.9999999994
-0.33333333333 0.000000001 0.0000000004 0.4 1e99999999999999 1e-99999999999999 0e99999999999999 . + e1 nan inf 1_0
-0x1 1e --1 1,5""".split()
+NUMBERS = b"""0 1 -1 +1 12.345 .5 5. 1e3 -2.5E-3 1e-10 5e-10 15e-10 25e-10 -0 +0 1e19 1e20 -1e20 2e-9 0.5
+0.1 3 7 18446744073709551615 18446744073709551616 18446744073709551615.9999999995
+-18446744073709551615.9999999994 0.33333333333 0.000000001 0.0000000004 0.4 1e99999999999999
+1e-99999999999999 0e99999999999999 . + e1 nan inf 1_0 0x1 1e --1 1,5""".split()
 NAMES = [b"c", b"c", b"g", b"g", b"ms", b"h", b"s", b"d", b"", b"C", b"m", b"ms "]
 
 
@@ -246,7 +247,7 @@ def number(rng):
 
 
 def crowded(rng):
-    """A line with about as many tags as there may be, some of them twice or empty, in the name and behind `|#`."""
+    """A line with about as many tags as there may be, some twice or empty, in the name and behind `|#`."""
     count, twice, gone = rng.randint(61, 68), rng.randrange(3), rng.randrange(3)
     keys = [b"k%d" % max(at - twice, 0) for at in range(count)]
     rng.shuffle(keys)

@@ -5,8 +5,8 @@
 PROBE is format_probe: each piece that it reads must give the line, or the fault and its place, that the
 module format_FORMAT gives, which follows docs/formats.md alone. Where the format is line protocol PROGRAM is the
 agent: `pipe` must write these lines too, and what it wrote must be read by `pipe` without a refusal and written
-again, as the same line. Where the document itself has another line, that one must come, and the number of these lines is printed. Of
-the differences the first ten are printed, with their bytes.
+again, as the same line; where the document itself has another line, that one must come, and the number of these
+lines is printed. Of the differences the first ten are printed, with their bytes.
 """
 
 import importlib

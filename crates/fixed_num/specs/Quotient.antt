@@ -1,5 +1,6 @@
 -- The quotient of two numbers of billionths.
-use Rattle.std.specs.Prelude.{ℕ, ◌*◌, ◌^◌, ◌==◌, Bool, true, false, ℤ, pos, negsuc, neg_ℤ, unsigned_abs, nat_lt}
+use Rattle.std.specs.Prelude.{ℕ, ◌*◌, ◌^◌, ◌==◌, Bool, true, false, ℤ, pos, negsuc, neg_ℤ, unsigned_abs}
+use Rattle.std.specs.Prelude.{nat_lt}
 use Rattle.std.specs.Prelude.{Option, Some, None, if◌then◌else◌}
 use Rattle.fixed_num.specs.Rounded.{rounded}
 

@@ -84,8 +84,8 @@ impl Fixed {
         })
     }
 
-    /// The number divided by another, rounded half to even to a whole number of billionths. None exactly where
-    /// the other is 0 or the rounded quotient is out of range.
+    /// The number divided by another, rounded half to even to a whole number of billionths. None exactly
+    /// where the other is 0 or the rounded quotient is out of range.
     pub fn divide(self, by: Fixed) -> Option<Fixed>
         ensures { result ≡ divided self by }
     {

@@ -2,8 +2,8 @@
 //! the format IN at the moment 7, and writes what OUT asks for. `influx` writes the line of each metric,
 //! `KIND PLACE` for a piece that is refused, and `TooLong` for one that is too long; `count` writes nothing
 //! of them. The last line says how many pieces, refusals, passed samples and metrics there were. IN is
-//! `influx` or `statsd`. The status is 2 where the words are others, and 1 where standard input or output failed or
-//! memory was wanting.
+//! `influx` or `statsd`. The status is 2 where the words are others, and 1 where standard input or output
+//! failed or memory was wanting.
 #![tactic(auto)]
 
 use agent_base::{CutKind, Piece, PieceFault, Pieces, Sink, Source, StdSink, StdSource};
@@ -184,8 +184,8 @@ fn shows(word: &str) -> Option<bool> {
     }
 }
 
-/// The format of the pieces, and whether what is written of them is asked for; none where the words are no words of
-/// this program.
+/// The format of the pieces, and whether what is written of them is asked for; none where the words are no
+/// words of this program.
 fn asked(words: &[String]) -> Option<(Format, bool)> {
     match words {
         [format, shown] => Some((format_of(format.as_str())?, shows(shown.as_str())?)),

@@ -55,7 +55,7 @@ is_blank piece = list_all (is_byte space) piece
 unfoldable pub text_reading : List ℕ → ℤ → Result (List Content) StatsdFault
 text_reading piece moment = if is_blank piece then Ok [] else line_reading piece moment
 
--- the metrics of a piece; the piece has to be UTF-8, else the fault is at the end of its longest front that is
+-- the metrics of a piece; it has to be UTF-8, else the fault is at the end of its longest front that is
 unfoldable pub reading : List ℕ → ℤ → Result (List Content) StatsdFault
 reading piece moment =
     if is_utf8 piece then text_reading piece moment else fault NotUtf8 (utf8_valid_len piece)

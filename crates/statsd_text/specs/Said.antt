@@ -108,7 +108,8 @@ is_positive (negsuc n) = false
 
 -- a rate is above 0; one that is out of range is a fault of the value, unless it is negative
 abbrev pub rate_from : ℕ → ℕ → Bool → Result ℤ NumFault → Result (Option ℤ) StatsdFault
-rate_from place bar_place negative (Ok rate) = if is_positive rate then Ok (Some rate) else fault BadRate bar_place
+rate_from place bar_place negative (Ok rate) =
+    if is_positive rate then Ok (Some rate) else fault BadRate bar_place
 rate_from place bar_place negative (Err numbers.NotANumber) = fault BadRate bar_place
 rate_from place bar_place negative (Err numbers.NumberRange) =
     if negative then fault BadRate bar_place else fault NumberRange place

@@ -1,5 +1,6 @@
 -- The sections of a line: its head, its parts, and the tags behind `|#`.
-use Rattle.std.specs.Prelude.{ℕ, ◌+◌, ◌==◌, ◌&&◌, Bool, false, List, [], ◌∷◌, length, take, drop, Option, Some, None, Result}
+use Rattle.std.specs.Prelude.{ℕ, ◌+◌, ◌==◌, ◌&&◌, Bool, false, List, [], ◌∷◌, length, take, drop, Option}
+use Rattle.std.specs.Prelude.{Some, None, Result}
 use Rattle.std.specs.Prelude.{Ok, Err, if◌then◌else◌}
 use Rattle.text_parts.specs.Bytes.{hash}
 use Rattle.text_parts.specs.Split.{PartAt, first_part}
@@ -31,7 +32,7 @@ before_marker text = take (marker_len text) text
 abbrev pub behind_marker : List ℕ → List ℕ
 behind_marker text = drop (marker_len text + 2) text
 
--- the head, which begins the piece; the parts; and the tags behind `|#`, which are empty where there is no `|#`
+-- the head, which begins the piece; the parts; and the tags behind `|#`, which are empty where there is none
 pub record Sections : Type 0 where
   pub head : List ℕ
   pub parts : PartAt

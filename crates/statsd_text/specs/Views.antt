@@ -33,7 +33,8 @@ texts_view texts = record {
 -- the tags that were read were put among others, a later one of a key over an earlier one
 abbrev pub HasTags : List Tag → List Tag → Result (Unit {0}) (ReadError StatsdFault)
     → Result (List Tag) StatsdFault → Type 0
-HasTags old new (Ok done) reading = (given : List Tag) × (reading ≡ Ok given) × (new ≡ in_key_order_on old given)
+HasTags old new (Ok done) reading =
+    (given : List Tag) × (reading ≡ Ok given) × (new ≡ in_key_order_on old given)
 HasTags old new (Err e) reading = Fails e reading
 
 -- beside the tags the head's name was given

@@ -33,10 +33,10 @@ pub enum StatsdKind {
 pub struct StatsdFault {
     /// What is wrong.
     pub kind: StatsdKind,
-    /// An index into the piece, or its length where something is missing at its end: the first byte of the tag, of
-    /// the value (for `NumberRange` too) or of the type at fault; the end of a part without a `|`; the `|` before
-    /// a rate. It is 0 for `OutOfMemory`, `BadName` and `TooMany`, the piece's length for `NoColon`, and the end of
-    /// the longest valid front for `NotUtf8`.
+    /// An index into the piece, or its length where something is missing at its end: the first byte of the
+    /// tag, of the value (for `NumberRange` too) or of the type at fault; the end of a part without a `|`;
+    /// the `|` before a rate. It is 0 for `OutOfMemory`, `BadName` and `TooMany`, the piece's length for
+    /// `NoColon`, and the end of the longest valid front for `NotUtf8`.
     pub place: usize,
 }
 

@@ -54,12 +54,12 @@ fn read_text(
     read_line(alloc, piece, moment)
 }
 
-/// Reads a piece without its newline as a StatsD line: a name with tags, then parts, each a value with its type
-/// and perhaps a rate, then perhaps tags behind `|#`, as etsy's StatsD, DogStatsD and Telegraf have it. Gives a
-/// metric for each part, in order, at the moment that is handed in; none where the piece is empty or has nothing
-/// but spaces. `NotUtf8` comes before all else; then the first fault of the head, of the tags behind `|#`, and of
-/// the parts from left to right counts, with its place; `TooMany` comes last, where there is no other fault.
-/// `OutOfMemory`, at place 0, may come in place of any answer.
+/// Reads a piece without its newline as a StatsD line: a name with tags, then parts, each a value with its
+/// type and perhaps a rate, then perhaps tags behind `|#`, as etsy's StatsD, DogStatsD and Telegraf have it.
+/// Gives a metric for each part, in order, at the moment that is handed in; none where the piece is empty or
+/// has nothing but spaces. `NotUtf8` comes before all else; then the first fault of the head, of the tags
+/// behind `|#`, and of the parts from left to right counts, with its place; `TooMany` comes last, where there
+/// is no other fault. `OutOfMemory`, at place 0, may come in place of any answer.
 pub fn read_packet_line(
     alloc: Global,
     piece: &[u8],

@@ -5,7 +5,8 @@ ghost use Rattle.text_parts.specs.Split.{Fits, each, parts_of};
 ghost use Rattle.fixed_num.specs.Fixed.{read_as};
 ghost use Rattle.statsd_text.specs.Said.{type_of, type_name, texts_of, number_value, value_of, begins_signed};
 ghost use Rattle.statsd_text.specs.Said.{placed_at, member_value, field_of, field_name};
-ghost use Rattle.statsd_text.specs.Said.{is_positive, rate_text, rate_read, rate_of, divided_value, counted, part_of};
+ghost use Rattle.statsd_text.specs.Said.{is_positive, rate_text, rate_read, rate_of, divided_value};
+ghost use Rattle.statsd_text.specs.Said.{counted, part_of};
 ghost use Rattle.statsd_text.specs.Views.{part_at, texts_view};
 
 use crate::fault::{StatsdFault, StatsdKind, fault};

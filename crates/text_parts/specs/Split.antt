@@ -50,7 +50,8 @@ AllLack byte texts = AllByRecursion (HasNone (is_byte byte)) texts
 
 -- texts without the separator, joined by it, are split into these texts
 abbrev pub JoinedAreSplit : Type 0
-JoinedAreSplit = (separator : ℕ) (first : List ℕ) (others : List (List ℕ)) → AllLack separator (first ∷ others)
+JoinedAreSplit = (separator : ℕ) (first : List ℕ) (others : List (List ℕ))
+    → AllLack separator (first ∷ others)
     → slice_split (is_byte separator) (join_with_byte separator (first ∷ others)) ≡ first ∷ others
 
 -- a text is its parts joined by the separator, and no part has it

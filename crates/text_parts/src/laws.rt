@@ -25,8 +25,8 @@ pub fn parts_are_split()
     ensures split { SplitAreJoined }
 {}
 
-/// A text without a byte, and with the byte and a rest behind it, is cut behind the text; and a text is its first
-/// part, which lacks the byte, alone or with the byte and what stands behind it.
+/// A text without a byte, and with the byte and a rest behind it, is cut behind the text; and a text is its
+/// first part, which lacks the byte, alone or with the byte and what stands behind it.
 pub fn text_is_cut()
     ensures cut { FirstIsCut }
     ensures first { CutIsFirst }

@@ -13,7 +13,8 @@ struct Case {
     want: &'static str,
 }
 
-/// What a piece reads as at the moment 50: the lines of its metrics, each with a newline, or a fault with its place.
+/// What a piece reads as at the moment 50: the lines of its metrics, each with a newline, or a fault with its
+/// place.
 fn shown(alloc: Global, piece: &[u8]) -> Result<Vec<u8>, OutOfMemory> {
     let mut out = Vec::new(alloc);
     match read_packet_line(alloc, piece, 50) {
@@ -287,8 +288,8 @@ fn first_faults(rt: HostRuntime) -> Result<(), Fail> {
     Ok(())
 }
 
-/// A line with `count` tags `t0`, `t1` and so on in the name, each with the value `1`, and its end; how many tags the
-/// metric has, none where it is refused as `TooMany` at 0.
+/// A line with `count` tags `t0`, `t1` and so on in the name, each with the value `1`, and its end; how many
+/// tags the metric has, none where it is refused as `TooMany` at 0.
 #[derive(Clone, Copy)]
 struct Limit {
     count: usize,

@@ -1,8 +1,9 @@
-"""Writes an input of line protocol: inputs.py KIND LINES FILE.
+"""Writes an input of line protocol, or of StatsD lines: inputs.py KIND LINES FILE.
 
-KIND is telegraf, small or escaped. The same words give the same bytes, and a shorter input begins a longer
-one. Each line is as Hogzent writes it (tags sorted by key, canonical numbers with at most nine decimals, a
-time), so that an output must equal its input. Only escaped has backslashes and double quotes.
+KIND is telegraf, small, escaped or statsd. The same words give the same bytes, and a shorter input begins a
+longer one. Each line of line protocol is as Hogzent writes it (tags sorted by key, canonical numbers with at
+most nine decimals, a time), so that an output must equal its input. Only escaped has backslashes and double
+quotes.
 """
 
 import random
@@ -118,7 +119,22 @@ def small_line(rng, number):
     return "cpu,host=h%d v=%di %d000000\n" % (rng.randrange(10), rng.randrange(100), number % 10 + 1)
 
 
-KINDS = {"telegraf": telegraf_line, "small": small_line, "escaped": escaped_line}
+def statsd_line(rng, number):
+    """A StatsD line as services send it: mostly timings and counters, some with a rate, few with tags."""
+    name = "app%d.%s.%s" % (rng.randrange(10), rng.choice(SERVICES), rng.choice(["latency", "hits", "errors", "queue"]))
+    chance = rng.random()
+    if chance < 0.6:
+        return "%s:%s|ms\n" % (name, decimal(rng, 500, 3))
+    if chance < 0.8:
+        return "%s:%d|c\n" % (name, rng.randrange(1, 50))
+    if chance < 0.9:
+        return "%s:1|c|@0.1\n" % name
+    if chance < 0.97:
+        return "%s:%d|g\n" % (name, rng.randrange(10_000))
+    return "%s:%d|c|#env:prod,region:%s\n" % (name, rng.randrange(1, 50), rng.choice(REGIONS))
+
+
+KINDS = {"telegraf": telegraf_line, "small": small_line, "escaped": escaped_line, "statsd": statsd_line}
 
 
 def main(kind, lines, path):

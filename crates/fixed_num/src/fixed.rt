@@ -1,9 +1,11 @@
 //! Numbers with nine decimals.
 ghost use Rattle.std.specs.Prelude.{◌≡◌, ◌<◌, ◌+◌, ◌++◌, length, vec_len, vec_capacity, OnOk, OnErr, SomeIff};
+ghost use Rattle.fixed_num.specs.Quotient.{is_negative, divided};
 ghost use Rattle.fixed_num.specs.Range.{InRange};
 
 use crate::grammar::parts_of;
 use crate::memory::OutOfMemory;
+use crate::quotient::quotient_magnitude;
 use crate::text::{LONGEST, split, write_number};
 use crate::value::magnitude;
 use std::alloc::Global;
@@ -82,6 +84,26 @@ impl Fixed {
         })
     }
 
+    /// The number divided by another, rounded half to even to a whole number of billionths. None exactly
+    /// where the other is 0 or the rounded quotient is out of range.
+    pub fn divide(self, by: Fixed) -> Option<Fixed>
+        ensures { result ≡ divided self by }
+    {
+        if by.billionths == 0 {
+            return None;
+        }
+        let (number, divisor) = (self.billionths, by.billionths);
+        let magnitude = quotient_magnitude(number.unsigned_abs(), divisor.unsigned_abs());
+        if LIMIT <= magnitude {
+            return None;
+        }
+        let value = magnitude as i128;
+        let negative = is_negative(number) != is_negative(divisor);
+        Some(Fixed {
+            billionths: if negative { -value } else { value },
+        })
+    }
+
     /// Appends the canonical text: `-` where the number is negative, the whole digits without leading zeros
     /// (`0` where there are none) and, where the fraction is not zero, `.` and its digits without the zeros
     /// at their end. `OutOfMemory`, which comes only where `out` has no room for the text, leaves it as it
@@ -97,4 +119,11 @@ impl Fixed {
         out.extend_from_slice(&buffer[start..end])?;
         Ok(())
     }
+}
+
+/// Whether a number is below 0.
+fn is_negative(number: i128) -> bool
+    ensures { result ≡ is_negative number }
+{
+    number < 0
 }

@@ -5,6 +5,7 @@ mod fixed;
 mod grammar;
 mod laws;
 mod memory;
+mod quotient;
 mod seq;
 mod text;
 mod value;

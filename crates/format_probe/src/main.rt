@@ -2,17 +2,18 @@
 //! the format IN at the moment 7, and writes what OUT asks for. `influx` writes the line of each metric,
 //! `KIND PLACE` for a piece that is refused, and `TooLong` for one that is too long; `count` writes nothing
 //! of them. The last line says how many pieces, refusals, passed samples and metrics there were. IN is
-//! `influx`. The status is 2 where the words are others, and 1 where standard input or output failed or
-//! memory was wanting.
+//! `influx` or `statsd`. The status is 2 where the words are others, and 1 where standard input or output
+//! failed or memory was wanting.
 #![tactic(auto)]
 
 use agent_base::{CutKind, Piece, PieceFault, Pieces, Sink, Source, StdSink, StdSource};
 use fixed_num::{Moment, OutOfMemory};
-use line_proto::{LineFault, LineKind, read_line, write_line};
+use line_proto::{LineKind, read_line, write_line};
 use metric::Metric;
+use statsd_text::{StatsdKind, read_packet_line};
 use std::alloc::Global;
-use std::env;
 use std::process::ExitCode;
+use std::{env, fmt};
 
 /// The moment at which each piece is read.
 const MOMENT: Moment = 7;
@@ -20,10 +21,18 @@ const MOMENT: Moment = 7;
 /// The text is put once it has so many bytes.
 const FULL: usize = 65_536;
 
+/// The format of the pieces.
+#[derive(Clone, Copy, Debug, PartialEq, Eq)]
+enum Format {
+    Influx,
+    Statsd,
+}
+
 /// What was read and isn't put yet.
 #[derive(Drop)]
 struct Probe {
     alloc: Global,
+    format: Format,
     shows: bool,
     pieces: u64,
     refused: u64,
@@ -59,13 +68,10 @@ impl Probe {
     }
 
     /// A piece is refused.
-    fn refuse(&mut self, fault: LineFault) -> Result<(), OutOfMemory> {
-        if fault.kind == LineKind::OutOfMemory {
-            return Err(OutOfMemory);
-        }
+    fn refuse<K: fmt::Debug + Drop>(&mut self, kind: K, place: usize) -> Result<(), OutOfMemory> {
         self.refused = self.refused.saturating_add(1);
         if self.shows {
-            let words = format!(in self.alloc; "{:?} {}", fault.kind, fault.place)?;
+            let words = format!(in self.alloc; "{:?} {}", kind, place)?;
             self.line(words.as_str())?;
         }
         Ok(())
@@ -81,13 +87,40 @@ impl Probe {
         Ok(())
     }
 
-    /// Reads a piece.
-    fn piece(&mut self, piece: &Piece) -> Result<(), OutOfMemory> {
-        self.pieces = self.pieces.saturating_add(1);
+    /// Reads a piece as line protocol.
+    fn influx(&mut self, piece: &Piece) -> Result<(), OutOfMemory> {
         match read_line(self.alloc, piece.bytes(), MOMENT) {
             Ok(Some(metric)) => self.read(&metric),
             Ok(None) => Ok(()),
-            Err(fault) => self.refuse(fault),
+            Err(fault) => match fault.kind {
+                LineKind::OutOfMemory => Err(OutOfMemory),
+                kind => self.refuse(kind, fault.place),
+            },
+        }
+    }
+
+    /// Reads a piece as a StatsD line.
+    fn statsd(&mut self, piece: &Piece) -> Result<(), OutOfMemory> {
+        match read_packet_line(self.alloc, piece.bytes(), MOMENT) {
+            Ok(metrics) => {
+                for metric in &metrics {
+                    self.read(metric)?;
+                }
+                Ok(())
+            }
+            Err(fault) => match fault.kind {
+                StatsdKind::OutOfMemory => Err(OutOfMemory),
+                kind => self.refuse(kind, fault.place),
+            },
+        }
+    }
+
+    /// Reads a piece.
+    fn piece(&mut self, piece: &Piece) -> Result<(), OutOfMemory> {
+        self.pieces = self.pieces.saturating_add(1);
+        match self.format {
+            Format::Influx => self.influx(piece),
+            Format::Statsd => self.statsd(piece),
         }
     }
 
@@ -133,19 +166,29 @@ fn run<S: Source, K: Sink>(
     probe.put(sink)
 }
 
-/// Whether the words ask for what is written of each piece; none where they are no words of this program.
-fn shows(words: &[String]) -> Option<bool> {
+/// The format that a word names.
+fn format_of(word: &str) -> Option<Format> {
+    match word {
+        "influx" => Some(Format::Influx),
+        "statsd" => Some(Format::Statsd),
+        _ => None,
+    }
+}
+
+/// Whether a word asks for what is written of each piece.
+fn shows(word: &str) -> Option<bool> {
+    match word {
+        "influx" => Some(true),
+        "count" => Some(false),
+        _ => None,
+    }
+}
+
+/// The format of the pieces, and whether what is written of them is asked for; none where the words are no
+/// words of this program.
+fn asked(words: &[String]) -> Option<(Format, bool)> {
     match words {
-        [format, shown] => {
-            if format.as_str() != "influx" {
-                return None;
-            }
-            match shown.as_str() {
-                "influx" => Some(true),
-                "count" => Some(false),
-                _ => None,
-            }
-        }
+        [format, shown] => Some((format_of(format.as_str())?, shows(shown.as_str())?)),
         _ => None,
     }
 }
@@ -156,11 +199,11 @@ fn main(rt: HostRuntime) -> ExitCode {
         Ok(words) => words.skip(1).collect::<Vec<String>>(alloc),
         Err(_) => return ExitCode::from(2),
     };
-    let shows = match &words {
-        Ok(words) => shows(words.as_slice()),
+    let asked = match &words {
+        Ok(words) => asked(words.as_slice()),
         Err(_) => return ExitCode::from(1),
     };
-    let Some(shows) = shows else {
+    let Some((format, shows)) = asked else {
         return ExitCode::from(2);
     };
     let Ok(mut pieces) = Pieces::new(alloc, CutKind::Lines) else {
@@ -168,6 +211,7 @@ fn main(rt: HostRuntime) -> ExitCode {
     };
     let mut probe = Probe {
         alloc,
+        format,
         shows,
         pieces: 0,
         refused: 0,

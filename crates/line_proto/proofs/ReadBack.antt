@@ -30,7 +30,7 @@ use Rattle.text_parts.specs.Escaped.{Escapes, Suits, NoBackslashEnd}
 use Rattle.line_proto.specs.RoundTrip.{IsPlainWord, IsPlainValue, IsPlain}
 use Rattle.line_proto.proofs.EscapedParts.{ends_before, one_ascii, escaped-IsUtf8, suits_name, suits_key, suits_tag_value, suits_text, name_low, key_low, text_low}
 use Rattle.text_parts.proofs.Escaping.{escaped_is_part}
-use Rattle.line_proto.proofs.KeptPairs.{sorted_stay, distinct_stay, filled_stay, few}
+use Rattle.metric.proofs.KeptPairs.{sorted_stay, distinct_stay, filled_stay, few}
 use Rattle.line_proto.proofs.NumberTexts.{plain_value, plain_time}
 use Rattle.line_proto.proofs.PlainBytes.{Clean, IsNoText}
 use Rattle.line_proto.proofs.SingleLines.{single}

@@ -57,7 +57,7 @@ keyed_beside Less pair key value pairs others filled all rest = both_false (leng
 keyed_beside Equal pair key value pairs others filled all rest = keyed key value pairs filled (or_false (length pair.0 == 0) (has_empty_key pairs) all).1
 keyed_beside Greater pair key value pairs others filled all rest = keyed key value (pair ∷ pairs) filled all
 
-keyed_sorted : {X : Type 0} (pairs : List (List ℕ × X)) (key : List ℕ) (value : X) → (length key == 0) ≡ false → has_empty_key pairs ≡ false → has_empty_key (with_sorted pairs key value) ≡ false
+pub keyed_sorted : {X : Type 0} (pairs : List (List ℕ × X)) (key : List ℕ) (value : X) → (length key == 0) ≡ false → has_empty_key pairs ≡ false → has_empty_key (with_sorted pairs key value) ≡ false
 unfolding with_sorted
 keyed_sorted [] key value filled all = keyed key value [] filled refl
 keyed_sorted (pair ∷ pairs) key value filled all = keyed_beside (slice_cmp nat_cmp pair.0 key) pair key value pairs (with_sorted pairs key value) filled all (keyed_sorted pairs key value filled (or_false (length pair.0 == 0) (has_empty_key pairs) all).1)

@@ -7,3 +7,4 @@ pub mod GlobScanLemmas
 pub mod GlobTextLemmas
 pub mod KeptLemmas
 pub mod DraftLemmas
+pub mod KeptPairs

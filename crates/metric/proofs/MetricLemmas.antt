@@ -88,7 +88,7 @@ some_tags P (tag ∷ tags) h =
     elim (length tag.1 == 0) as (λ t. AllKeys P (cond (not t) (tag ∷ with_values tags) (with_values tags)))
     [ true ↦ some_tags P tags h.1 | false ↦ (h.0, some_tags P tags h.1) ]
 
-sorted_tags : (tags : List (List ℕ × List ℕ)) → IsInKeyOrder tags → IsInKeyOrder (with_values tags)
+pub sorted_tags : (tags : List (List ℕ × List ℕ)) → IsInKeyOrder tags → IsInKeyOrder (with_values tags)
 unfolding IsStrictlySortedBy
 sorted_tags [] h = tt
 sorted_tags (tag ∷ tags) h =

@@ -75,11 +75,23 @@ impl Builder {
     pub fn new(alloc: Global, name: &str) -> Result<Builder, OutOfMemory>
         ensures { IfOk result (λ b. b ≡ record { name = name.now; tags = []; fields = [] }) }
     {
+        Builder::with_room(alloc, name, ROOM, ROOM)
+    }
+
+    /// The same, with room for so many tags and fields before memory is asked for again.
+    pub fn with_room(
+        alloc: Global,
+        name: &str,
+        tags: usize,
+        fields: usize,
+    ) -> Result<Builder, OutOfMemory>
+        ensures { IfOk result (λ b. b ≡ record { name = name.now; tags = []; fields = [] }) }
+    {
         Ok(Builder {
             alloc,
             name: Text::of(alloc, name)?,
-            tags: Vec::with_capacity(alloc, ROOM)?,
-            fields: Vec::with_capacity(alloc, ROOM)?,
+            tags: Vec::with_capacity(alloc, tags)?,
+            fields: Vec::with_capacity(alloc, fields)?,
         })
     }
 

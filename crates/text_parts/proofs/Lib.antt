@@ -6,3 +6,5 @@ pub mod Adding
 pub mod Spans
 pub mod Stopping
 pub mod Escaping
+pub mod Splits
+pub mod Each

@@ -2,6 +2,8 @@ pub mod Chain
 pub mod Part
 pub mod Kinds
 pub mod Many
+pub mod Split
+pub mod Parts
 pub mod Grammar
 pub mod Adds
 pub mod Bytes

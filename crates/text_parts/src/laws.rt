@@ -1,6 +1,7 @@
 //! Laws of parts.
 ghost use Rattle.text_parts.specs.Escaped.{EscapedIsPart};
 ghost use Rattle.text_parts.specs.Grammar.{PartIsRead, ReadIsPart};
+ghost use Rattle.text_parts.specs.Split.{JoinedAreSplit, SplitAreJoined, FirstIsCut, CutIsFirst};
 
 /// A part before an end is read whole, and as what it means.
 pub fn part_is_read()
@@ -15,4 +16,18 @@ pub fn read_is_part()
 /// A text whose marks are escaped is a part that means the text, before an end.
 pub fn escaped_is_part()
     ensures { EscapedIsPart }
+{}
+
+/// Texts without a separator, joined by it, are split into these texts; and a text is its parts joined by the
+/// separator, which no part has.
+pub fn parts_are_split()
+    ensures joined { JoinedAreSplit }
+    ensures split { SplitAreJoined }
+{}
+
+/// A text without a byte, and with the byte and a rest behind it, is cut behind the text; and a text is its
+/// first part, which lacks the byte, alone or with the byte and what stands behind it.
+pub fn text_is_cut()
+    ensures cut { FirstIsCut }
+    ensures first { CutIsFirst }
 {}

@@ -8,6 +8,7 @@ mod escapes;
 mod laws;
 mod part;
 mod span;
+mod split;
 mod stops;
 
 pub use append::{
@@ -16,7 +17,8 @@ pub use append::{
 };
 pub use error::ReadError;
 pub use escapes::{Marks, append_escaped, append_escaped_byte};
-pub use laws::{escaped_is_part, part_is_read, read_is_part};
+pub use laws::{escaped_is_part, part_is_read, parts_are_split, read_is_part, text_is_cut};
 pub use part::{Part, part_len, part_text, plain_bytes};
 pub use span::{Span, span_at, span_text};
+pub use split::{Placed, Separated, first_part};
 pub use stops::first_of;

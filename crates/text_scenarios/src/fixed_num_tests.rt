@@ -97,6 +97,92 @@ fn doubles(rt: HostRuntime) -> Result<(), Fail> {
     Ok(())
 }
 
+/// A number, what it is divided by, and the quotient; `none` where there is none.
+#[derive(Clone, Copy)]
+struct Quotient {
+    number: &'static str,
+    by: &'static str,
+    want: &'static str,
+}
+
+const QUOTIENTS: [Quotient; 9] = [
+    Quotient {
+        number: "1",
+        by: "3",
+        want: "0.333333333",
+    },
+    Quotient {
+        number: "-2",
+        by: "3",
+        want: "-0.666666667",
+    },
+    Quotient {
+        number: "0.000000001",
+        by: "2",
+        want: "0",
+    },
+    Quotient {
+        number: "0.000000003",
+        by: "2",
+        want: "0.000000002",
+    },
+    Quotient {
+        number: "0.000000001",
+        by: "0.4",
+        want: "0.000000002",
+    },
+    Quotient {
+        number: "-1",
+        by: "-8",
+        want: "0.125",
+    },
+    Quotient {
+        number: "0",
+        by: "-5",
+        want: "0",
+    },
+    Quotient {
+        number: "9223372036854775808",
+        by: "0.5",
+        want: "none",
+    },
+    Quotient {
+        number: "1",
+        by: "0",
+        want: "none",
+    },
+];
+
+/// Appends the quotient of two decimals; `none` where there is none.
+fn append_quotient(alloc: Global, row: &Quotient, out: &mut Vec<u8>) -> Result<(), OutOfMemory> {
+    let number = Fixed::read(row.number.as_bytes());
+    let by = Fixed::read(row.by.as_bytes());
+    let (Ok(number), Ok(by)) = (number, by) else {
+        return Ok(out.extend_from_slice(b"no numbers")?);
+    };
+    match number.divide(by) {
+        Some(quotient) => quotient.append(alloc, out),
+        None => Ok(out.extend_from_slice(b"none")?),
+    }
+}
+
+#[test]
+fn quotients(rt: HostRuntime) -> Result<(), Fail> {
+    let alloc = rt.alloc();
+    for row in QUOTIENTS {
+        let mut out = Vec::new(alloc);
+        append_quotient(alloc, &row, &mut out)?;
+        assert_eq!(rt;
+            out.as_slice(),
+            row.want.as_bytes(),
+            "{} by {}",
+            row.number,
+            row.by
+        );
+    }
+    Ok(())
+}
+
 #[test]
 fn whole_numbers(rt: HostRuntime) {
     let ints = [

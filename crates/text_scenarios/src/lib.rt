@@ -14,4 +14,6 @@ mod metric_glob_tests;
 #[cfg(test)]
 mod metric_tests;
 #[cfg(test)]
+mod statsd_text_tests;
+#[cfg(test)]
 mod text_parts_tests;

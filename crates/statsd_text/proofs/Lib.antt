@@ -1,0 +1,6 @@
+pub mod KeptTags
+pub mod Places
+pub mod Lacking
+pub mod Spells
+pub mod Founds
+pub mod Chains

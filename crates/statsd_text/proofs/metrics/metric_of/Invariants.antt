@@ -1,0 +1,10 @@
+use Rattle.std.proofs.Common.{◌≡◌, [], take}
+use Rattle.metric.specs.Pairs.{in_key_order}
+use Rattle.statsd_text.proofs.metrics.metric_of.Given as goal
+
+abbrev pub invariant-loop-key : goal.invariant-loop-key
+invariant-loop-key l = record {
+  name : l.builder.name ≡ l.name;
+  tags : l.builder.tags ≡ in_key_order (take l.key-index l.tags);
+  fields : l.builder.fields ≡ [];
+}

@@ -1,0 +1,50 @@
+-- What a reader of lines returned.
+use Rattle.std.specs.Prelude.{◌≡◌, ℕ, List, Vec, option_map, Result, Ok, Err, ◌⊎◌}
+use Rattle.std.specs.Borrow.{Bor}
+use Rattle.std.specs.declared.alloc.Global.{Global}
+use Rattle.text_parts.specs.Chain.{Fails}
+use Rattle.text_parts.specs.declared.error.ReadError.{ReadError}
+use Rattle.text_parts.specs.declared.split.Placed.{Placed}
+use Rattle.text_parts.specs.Split.{PartAt}
+use Rattle.metric.specs.declared.metric.Content.{Content}
+use Rattle.metric.specs.Draft.{Tag}
+use Rattle.metric.specs.Pairs.{in_key_order_on}
+use Rattle.statsd_text.specs.declared.fault.StatsdFault.{StatsdFault}
+use Rattle.statsd_text.specs.declared.fault.StatsdKind.TheVariants.{OutOfMemory}
+use Rattle.statsd_text.specs.declared.sections.Line.{Line}
+use Rattle.statsd_text.specs.declared.said.PartTexts.{PartTexts}
+use Rattle.statsd_text.specs.Sections.{Sections}
+use Rattle.statsd_text.specs.Said.{Texts}
+
+-- a part, as the code has it
+abbrev pub part_at : Placed → PartAt
+part_at part = (part.place, part.text.now)
+
+abbrev pub sections_view : Line → Sections
+sections_view line = record { head = line.head.now; parts = part_at line.parts; tags = part_at line.tags }
+
+abbrev pub texts_view : PartTexts → Texts
+texts_view texts = record {
+  value = texts.value.now;
+  metric_type = texts.metric_type;
+  rate = option_map part_at texts.rate;
+}
+
+-- the tags that were read were put among others, a later one of a key over an earlier one
+abbrev pub HasTags : List Tag → List Tag → Result (Unit {0}) (ReadError StatsdFault)
+    → Result (List Tag) StatsdFault → Type 0
+HasTags old new (Ok done) reading =
+    (given : List Tag) × (reading ≡ Ok given) × (new ≡ in_key_order_on old given)
+HasTags old new (Err e) reading = Fails e reading
+
+-- beside the tags the head's name was given
+abbrev pub HasHead : List Tag → List Tag → Result (Bor (List ℕ)) (ReadError StatsdFault)
+    → Result (List ℕ × List Tag) StatsdFault → Type 0
+HasHead old new (Ok name) reading =
+    (given : List Tag) × (reading ≡ Ok (name.now, given)) × (new ≡ in_key_order_on old given)
+HasHead old new (Err e) reading = Fails e reading
+
+-- the result is the reading, or memory ran out
+abbrev pub Answers : Result (Vec Content Global) StatsdFault → Result (List Content) StatsdFault → Type 0
+Answers (Ok metrics) reading = reading ≡ Ok metrics.items
+Answers (Err e) reading = (e ≡ record { kind = OutOfMemory; place = 0 }) ⊎ (reading ≡ Err e)

@@ -1,0 +1,18 @@
+//! Laws of readings.
+ghost use Rattle.statsd_text.specs.Faults.{FaultIsWithin};
+ghost use Rattle.statsd_text.specs.Grammar.{WrittenIsRead, ReadIsWritten};
+
+/// What is written as a line is read as its metrics.
+pub fn written_is_read()
+    ensures { WrittenIsRead }
+{}
+
+/// What is read as metrics, but where it is blank, is written as a line.
+pub fn read_is_written()
+    ensures { ReadIsWritten }
+{}
+
+/// A fault's place is in the piece, or its length.
+pub fn fault_is_within()
+    ensures { FaultIsWithin }
+{}

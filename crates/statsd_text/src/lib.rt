@@ -1,0 +1,14 @@
+//! StatsD lines: readings of lines, a metric for each part.
+#![tactic(auto)]
+
+mod fault;
+mod laws;
+mod metrics;
+mod read;
+mod said;
+mod sections;
+mod tags;
+
+pub use fault::{StatsdFault, StatsdKind};
+pub use laws::{fault_is_within, read_is_written, written_is_read};
+pub use read::read_packet_line;

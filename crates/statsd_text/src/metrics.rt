@@ -1,0 +1,80 @@
+//! The metrics of a line.
+ghost use Rattle.std.specs.Prelude.{◌≡◌, ◌<◌, length, map, IfOk};
+ghost use Rattle.text_parts.specs.Chain.{Gives};
+ghost use Rattle.metric.specs.Pairs.{with_values};
+ghost use Rattle.statsd_text.specs.Reading.{limited};
+ghost use Rattle.statsd_text.specs.TagMap.{IsKeyed, IsReady, kept_content};
+
+use crate::fault::{StatsdFault, StatsdKind, fault};
+use crate::said::Said;
+use fixed_num::{Moment, OutOfMemory};
+use metric::{BuildFault, Builder, Metric, Text};
+use std::alloc::Global;
+use text_parts::ReadError;
+
+/// The most tags of a metric.
+const MOST_TAGS: usize = 64;
+
+/// The metric of a part at a time, with the tags of its line.
+fn metric_of(
+    alloc: Global,
+    name: &str,
+    tags: &[(Text, Text)],
+    said: Said,
+    moment: Moment,
+) -> Result<Metric, OutOfMemory>
+    requires named { 0 < length name.now }
+    requires keyed { IsKeyed tags.now }
+    ensures { IfOk result (λ metric. metric ≡ kept_content name.now tags.now moment said) }
+{
+    let mut builder = Builder::with_room(alloc, name, tags.len() + 1, 1)?;
+    for (key, value) in tags {
+        builder.tag(key.as_str(), value.as_str())?;
+    }
+    builder.tag("metric_type", said.metric_type.name())?;
+    builder.field(said.field.text(), said.value)?;
+    finish(builder, moment)
+}
+
+/// The metric at a time, of a builder with a name, a field and no empty key.
+fn finish(builder: Builder, moment: Moment) -> Result<Metric, OutOfMemory>
+    requires { IsReady builder }
+    ensures { IfOk result (λ metric. metric ≡ record {
+      name = builder.name;
+      tags = with_values builder.tags;
+      fields = builder.fields;
+      time = moment;
+    }) }
+{
+    match builder.finish(moment) {
+        Ok(metric) => Ok(metric),
+        Err(fault) => match fault {
+            BuildFault::OutOfMemory => Err(OutOfMemory),
+            _ => unreachable!(),
+        },
+    }
+}
+
+/// The metrics of the parts of a line at a time, with the tags of the line, unless they are too many.
+pub(crate) fn metrics_of(
+    alloc: Global,
+    name: &str,
+    tags: &[(Text, Text)],
+    said: Vec<Said>,
+    moment: Moment,
+) -> Result<Vec<Metric>, ReadError<StatsdFault>>
+    requires named { 0 < length name.now }
+    requires keyed { IsKeyed tags.now }
+    ensures { Gives (λ metrics. metrics.items) result
+        (limited (map (kept_content name.now tags.now moment) said.items)) }
+{
+    let mut metrics = Vec::with_capacity(alloc, said.len())?;
+    for part in said {
+        let metric = metric_of(alloc, name, tags, part, moment)?;
+        if metric.tags().len() > MOST_TAGS {
+            return Err(fault(StatsdKind::TooMany, 0));
+        }
+        metrics.push(metric)?;
+    }
+    Ok(metrics)
+}

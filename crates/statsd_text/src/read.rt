@@ -1,0 +1,87 @@
+//! Reading a line.
+ghost use Rattle.std.specs.Prelude.{◌≡◌};
+ghost use Rattle.text_parts.specs.Chain.{Gives};
+ghost use Rattle.statsd_text.specs.Reading.{is_blank, line_reading, text_reading, reading};
+ghost use Rattle.statsd_text.specs.Views.{Answers};
+
+use crate::fault::{StatsdFault, StatsdKind};
+use crate::metrics::metrics_of;
+use crate::said::read_parts;
+use crate::sections::sections;
+use crate::tags::{read_head, read_later_tags, with_values};
+use fixed_num::Moment;
+use metric::Metric;
+use std::alloc::Global;
+use std::collections::BTreeMap;
+use text_parts::ReadError;
+
+/// The metrics of a line.
+fn read_line(
+    alloc: Global,
+    piece: &str,
+    moment: Moment,
+) -> Result<Vec<Metric>, ReadError<StatsdFault>>
+    ensures { Gives (λ metrics. metrics.items) result (line_reading piece.now moment) }
+{
+    let line = sections(piece)?;
+    let mut tags = BTreeMap::new(alloc);
+    let name = read_head(alloc, line.head, &mut tags)?;
+    read_later_tags(alloc, line.tags, &mut tags)?;
+    let said = read_parts(alloc, line.parts)?;
+    let tags = with_values(alloc, tags)?;
+    metrics_of(alloc, name, tags.as_slice(), said, moment)
+}
+
+/// Whether a text has nothing but spaces.
+fn is_blank(text: &str) -> bool
+    ensures { result ≡ is_blank text.now }
+{
+    text.as_bytes().iter().all(|byte| *byte == b' ')
+}
+
+/// The metrics of a text, none where it is blank.
+#[tactic(auto, unfolding(crate::specs::Reading::text_reading))]
+fn read_text(
+    alloc: Global,
+    piece: &str,
+    moment: Moment,
+) -> Result<Vec<Metric>, ReadError<StatsdFault>>
+    ensures { Gives (λ metrics. metrics.items) result (text_reading piece.now moment) }
+{
+    if is_blank(piece) {
+        return Ok(Vec::new(alloc));
+    }
+    read_line(alloc, piece, moment)
+}
+
+/// Reads a piece without its newline as a StatsD line: a name with tags, then parts, each a value with its
+/// type and perhaps a rate, then perhaps tags behind `|#`, as etsy's StatsD, DogStatsD and Telegraf have it.
+/// Gives a metric for each part, in order, at the moment that is handed in; none where the piece is empty or
+/// has nothing but spaces. `NotUtf8` comes before all else; then the first fault of the head, of the tags
+/// behind `|#`, and of the parts from left to right counts, with its place; `TooMany` comes last, where there
+/// is no other fault. `OutOfMemory`, at place 0, may come in place of any answer.
+pub fn read_packet_line(
+    alloc: Global,
+    piece: &[u8],
+    moment: Moment,
+) -> Result<Vec<Metric>, StatsdFault>
+    ensures { Answers result (reading piece.now moment) }
+{
+    let text = match str::from_utf8(piece) {
+        Ok(text) => text,
+        Err(e) => {
+            return Err(StatsdFault {
+                kind: StatsdKind::NotUtf8,
+                place: e.valid_up_to(),
+            });
+        }
+    };
+    match read_text(alloc, text, moment) {
+        Ok(metrics) => Ok(metrics),
+        Err(ReadError::OutOfMemory) => Err(StatsdFault {
+            kind: StatsdKind::OutOfMemory,
+            place: 0,
+        }),
+        Err(ReadError::Fault(fault)) => Err(fault),
+    }
+}

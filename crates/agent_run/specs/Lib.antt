@@ -2,17 +2,4 @@ pub mod Status
 pub mod Command
 pub mod Places
 pub mod Opening
-pub mod Running
-pub mod Gathered
-pub mod Groups
-pub mod Sent
-pub mod Worked
-pub mod Routes
-pub mod Noted
-pub mod PipeSetup
-pub mod Dones
-pub mod Order
-pub mod EntryMoments
-pub mod Causes
-pub mod Progress
 pub mod Headline

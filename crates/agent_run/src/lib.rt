@@ -2,16 +2,8 @@
 //! every event.
 #![tactic(auto)]
 
-mod batch;
 mod command;
-mod gathering;
-mod journal;
 mod opening;
-mod pipe_run;
-mod reading;
-mod rounds;
-mod routing;
-mod sending;
 mod status;
 mod top;
 

@@ -54,7 +54,7 @@ UNREAD_JOURNAL = SET_UP + b"stop 0 0\n" + UNREAD + b"end 1\n"
 
 USAGE = (
     b"hogzent: usage: hogzent pipe IN OUT BATCH LIMIT, with 1 <= BATCH <= LIMIT <= 10000,"
-    b" and OUT not agent.journal\n"
+    b" and OUT not agent.journal; or hogzent check CONFIG\n"
 )
 READ_FAULT = (
     b"hogzent: a read of the input failed;"
@@ -664,9 +664,69 @@ RUNS = [
 ]
 
 
+SOUND = b"[[inputs.file]]\nfiles = [\"a\"]\n[[outputs.file]]\nfiles = [\"b\"]\n"
+MISSPELLED = b"[agent]\nmetric_bufer_limit = 5\n"
+
+
+def checked(name, line, before=None, **others):
+    """A case in which a configuration is checked: no file changes."""
+    return Case(name, line, {"c": SOUND} if before is None else before, **{"report": b"ok\n", **others})
+
+
+CHECKS = [
+    checked("a configuration is checked", "hogzent check c"),
+    checked("a configuration at standard input", "hogzent check stdin < c"),
+    checked(
+        "a configuration with a fault",
+        "hogzent check c",
+        {"c": MISSPELLED},
+        status=3,
+        report=b"config: UnknownKey agent 0\n",
+        told=b'hogzent: the configuration c was refused: [agent], "metric_bufer_limit": there is no such key\n',
+    ),
+    checked(
+        "a configuration through a pipe can't be read again",
+        "cat c | hogzent check /dev/stdin",
+        {"c": MISSPELLED},
+        status=3,
+        report=b"config: UnknownKey agent 0\n",
+        told=b"hogzent: the configuration was refused\n",
+    ),
+    checked(
+        "a configuration without an end",
+        "hogzent check /dev/zero",
+        status=3,
+        report=b"config: NotToml root 0\n",
+        told=b"hogzent: the configuration was refused\n",
+    ),
+    checked(
+        "a configuration that is a folder",
+        "hogzent check c",
+        {"c": Folder()},
+        status=4,
+        report=b"fault: read c\n",
+        told=b"hogzent: the configuration could not be read\n",
+    ),
+    checked(
+        "a configuration that isn't there",
+        "hogzent check nowhere",
+        status=5,
+        report=b"fault: open nowhere\n",
+        told=b"hogzent: the configuration could not be opened\n",
+    ),
+    checked(
+        "a check whose report can't be written",
+        "hogzent check c > /dev/full",
+        status=7,
+        report=b"",
+        told=b"hogzent: the report could not be written whole\n",
+    ),
+]
+
+
 def main(program):
     """Runs each case in a folder of its own, and prints a line for each and one for all."""
-    runs = [(case.name, partial(run_case, case)) for case in CASES] + RUNS
+    runs = [(case.name, partial(run_case, case)) for case in CASES + CHECKS] + RUNS
     failed = 0
     for name, run in runs:
         with tempfile.TemporaryDirectory() as folder:

@@ -5,3 +5,7 @@ pub mod Origins
 pub mod Views
 pub mod Numbers
 pub mod AccountText
+pub mod Gathers
+pub mod Dones
+pub mod EntryMoments
+pub mod Routes

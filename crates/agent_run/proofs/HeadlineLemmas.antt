@@ -1,7 +1,6 @@
 -- What each status of a run says.
 use Rattle.std.proofs.Common.{◌≡◌, ◌≤◌, ◌<◌, ℕ, ℤ, ◌^◌, Bool, true, false, List, refl, sym, ap, ◌∙◌, subst, inl, inr, arith, cond, replicate}
-use Rattle.std.specs.Prelude.{◌≢◌, not, ◌⊎◌, ◌||◌, count_by, IfOk, Result, Ok}
-use Rattle.fixed_num.specs.declared.memory.OutOfMemory.{OutOfMemory}
+use Rattle.std.specs.Prelude.{◌≢◌, not, ◌⊎◌, ◌||◌, count_by}
 use Rattle.std.specs.declared.option.Option.{Option}
 use Rattle.std.proofs.lemmas.List.Sums.{sum_by-append}
 use Rattle.agent_base.specs.Counts.{Rose, RoseBy}
@@ -9,16 +8,19 @@ use Rattle.agent_base.specs.Moments.{Moments}
 use Rattle.agent_base.specs.Places.{Place, Rest}
 use Rattle.account.specs.declared.entry.Entry.{Entry}
 use Rattle.agent_run.specs.Command.{journal_place}
-use Rattle.agent_run.specs.Dones.{dones, behind_stop, failed_count, LastFailed}
-use Rattle.agent_run.specs.Headline.{Change, change, IsRun, EndsSo, IsPutSo, IsLeft, Ran, IsReportFault, Ends, status_of, buffered_at_end, account_of, text_of, place_change, report_change, NothingRose}
-use Rattle.agent_run.specs.PipeSetup.{pipe_setup}
+use Rattle.account.specs.Dones.{dones, failed_count, LastFailed}
+use Rattle.pipeline_core.specs.Stopped.{behind_stop}
+use Rattle.agent_workers.specs.Run.{Change, change, IsRun, EndsSo, IsPutSo, IsLeft, Ran, buffered_at_end, account_of, text_of}
+use Rattle.agent_run.specs.Headline.{IsReportFault, Ends, status_of, place_change, report_change, NothingRose}
+use Rattle.agent_workers.specs.PipeSetup.{pipe_setup}
 use Rattle.agent_run.specs.Places.{IsRefused}
-use Rattle.agent_run.specs.declared.reading.InState.{InState}
-use Rattle.agent_run.specs.declared.reading.InState.TheVariants as states
-use Rattle.agent_run.specs.declared.rounds.Ending.{Ending}
+use Rattle.agent_workers.specs.declared.input.InState.{InState}
+use Rattle.agent_workers.specs.declared.input.InState.TheVariants as states
+use Rattle.agent_workers.specs.declared.serial.Ending.{Ending}
 use Rattle.agent_run.specs.declared.status.Status.{Status}
 use Rattle.agent_run.specs.declared.status.Status.TheVariants as statuses
-use Rattle.agent_run.proofs.DoneLemmas.{behind_fewer}
+use Rattle.pipeline_core.proofs.StopLemmas.{behind_fewer}
+use Rattle.agent_workers.proofs.RanLemmas.{change_is}
 
 module _ (batch limit : ℕ) (input output noted reported : Change) (run_moments input_moments : Option Moments) where
   module _ (start : ℤ) (journal : List Entry) (run : IsRun (pipe_setup batch limit start) input output run_moments input_moments journal) where
@@ -83,10 +85,6 @@ module _ (batch limit : ℕ) (input output noted reported : Change) (run_moments
   done_or_short statuses.Config e i o n r l = absurd e
   done_or_short statuses.OpenFault e i o n r l = absurd e
 
--- the same change, by other terms
-pub change_is : (before first after last : Option (List ℕ)) (a b c d : ℕ) → before ≡ first → after ≡ last → a ≡ b → c ≡ d → change before after a c ≡ change first last b d
-change_is before first after last a b c d e f g h = rw (e, f, g, h) refl
-
 -- the same of a place
 pub taken_in : (before after : Option (List ℕ)) (a b : ℕ) (place last : Place) → place.bytes ≡ after → place.part_faults ≡ b → last ≡ place → change before after a b ≡ change before last.bytes a last.part_faults
 taken_in before after a b place last bytes faults same =
@@ -141,15 +139,3 @@ module _ (batch limit : ℕ) (input output noted reported : Change) (run_moments
   -- where memory was short nothing is promised
   pub short_ends : status ≡ statuses.OutOfMemory → Ends batch limit input output noted reported run_moments input_moments status
   short_ends e = rw e tt
-
--- what a run left, by other terms
-pub ran_as : (batch limit : ℕ) (r : Result Ending OutOfMemory) (input output noted other : Change) (run_moments other_moments input_moments : Option Moments) → noted ≡ other → run_moments ≡ other_moments →
-    IfOk r (λ ending. Ran batch limit ending input output noted run_moments input_moments) → IfOk r (λ ending. Ran batch limit ending input output other other_moments input_moments)
-ran_as batch limit r input output noted other run_moments other_moments input_moments n m h =
-    subst (λ (x : Option Moments). IfOk r (λ ending. Ran batch limit ending input output other x input_moments)) m
-    (subst (λ (x : Change). IfOk r (λ ending. Ran batch limit ending input output x run_moments input_moments)) n h)
-
--- of a run that ended
-pub ran_of : (batch limit : ℕ) (r : Result Ending OutOfMemory) (ending : Ending) (input output noted : Change) (run_moments input_moments : Option Moments) → r ≡ Ok ending → IfOk r (λ e. Ran batch limit e input output noted run_moments input_moments)
-    → Ran batch limit ending input output noted run_moments input_moments
-ran_of batch limit r ending input output noted run_moments input_moments is h = subst (λ (x : Result Ending OutOfMemory). IfOk x (λ e. Ran batch limit e input output noted run_moments input_moments)) is h

@@ -11,7 +11,8 @@ use Rattle.agent_config.specs.declared.fault.Class.TheVariants as classes
 use Rattle.agent_config.specs.declared.fault.ConfigFault.{ConfigFault}
 use Rattle.agent_config.specs.declared.fault.ConfigKind.{ConfigKind}
 use Rattle.agent_config.specs.declared.fault.ConfigKind.TheVariants as kinds
-use Rattle.agent_run.specs.Headline.{IsPutSo, report_change}
+use Rattle.agent_run.specs.Headline.{report_change}
+use Rattle.agent_workers.specs.Run.{IsPutSo}
 use Rattle.agent_run.specs.Places.{IsUnopened, ReportsLine, open_fault_line, read_fault_line}
 use Rattle.agent_run.specs.declared.status.Status.{Status}
 use Rattle.agent_run.specs.declared.status.Status.TheVariants as statuses

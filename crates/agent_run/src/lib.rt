@@ -2,18 +2,10 @@
 //! every event.
 #![tactic(auto)]
 
-mod batch;
 mod checking;
 mod command;
-mod gathering;
-mod journal;
 mod opening;
-mod pipe_run;
-mod reading;
 mod reporting;
-mod rounds;
-mod routing;
-mod sending;
 mod status;
 mod top;
 

@@ -1,6 +1,9 @@
 //! How a run ended.
-ghost use Rattle.std.specs.Prelude.{◌≡◌};
+ghost use Rattle.std.specs.Prelude.{◌≡◌, ◌||◌};
+ghost use Rattle.agent_run.specs.Headline.{status_of};
 ghost use Rattle.agent_run.specs.Status.{code_of};
+
+use agent_workers::{Ending, InState};
 
 /// How a run ended.
 #[derive(Clone, Copy, Debug, PartialEq, Eq)]
@@ -42,5 +45,23 @@ impl Status {
             Status::Limit => 8,
             Status::OutOfMemory => 9,
         }
+    }
+}
+
+/// The status of a run that came to this end, given whether the put of the report failed.
+pub fn run_status(ending: &Ending, report_failed: bool) -> Status
+    ensures { result ≡ status_of ending.now.state (ending.now.journal_failed || report_failed)
+        ending.now.left }
+{
+    if ending.state == InState::LimitReached {
+        Status::Limit
+    } else if ending.journal_failed || report_failed {
+        Status::ReportFault
+    } else if ending.state == InState::Faulted {
+        Status::ReadFault
+    } else if ending.left {
+        Status::Left
+    } else {
+        Status::Done
     }
 }

@@ -4,17 +4,19 @@ ghost use Rattle.agent_base.specs.Places.{AreHome, SameAtAll, SameBut};
 ghost use Rattle.agent_run.specs.Checking.{HasChecked};
 ghost use Rattle.agent_run.specs.Command.{IsCheck, IsNoCommand, IsPipe, journal_place};
 ghost use Rattle.agent_run.specs.Places.{AreOpensSame, IsRefused, IsUnused, SameButTwo};
-ghost use Rattle.agent_run.specs.Headline.{Ends, IsPutSo, PipeEnds, NothingRose, change, place_change};
-ghost use Rattle.agent_run.specs.Headline.{report_change, status_of};
+ghost use Rattle.agent_run.specs.Headline.{Ends, PipeEnds, NothingRose, place_change, report_change};
+ghost use Rattle.agent_run.specs.Headline.{status_of};
+ghost use Rattle.agent_workers.specs.Run.{IsPutSo, change};
 ghost use Rattle.agent_run.specs.Opening.{IsRefusalAnswer, place_of};
 
 use crate::checking::check_call;
 use crate::command::{Command, JOURNAL, Pipe, read_command};
 use crate::opening::{Parts, Refusal, open_parts};
 use crate::reporting::{report_line, report_open_fault};
-use crate::rounds::{Ending, run};
-use crate::status::Status;
+use crate::status::{Status, run_status};
 use agent_base::{PutFault, World};
+use agent_workers::{Ending, run};
+use pipeline_core::OutSetup;
 use std::alloc::Global;
 
 /// The number of the run's clock. Input i has clock 3 + i; 1 and 2 are kept for the processors and the journal.
@@ -40,8 +42,8 @@ fn report_account<W: World>(ending: &Ending, world: &mut W) -> Status
     ensures moments { SameAtAll (W.moments world.old) (W.moments world.new) }
 {
     match world.report(&ending.account) {
-        Ok(()) => ending.status(false),
-        Err(PutFault::Failed) => ending.status(true),
+        Ok(()) => run_status(ending, false),
+        Err(PutFault::Failed) => run_status(ending, true),
         Err(PutFault::OutOfMemory) => Status::OutOfMemory,
     }
 }
@@ -90,7 +92,10 @@ fn run_parts<W: World>(
     let mut input_clock = world.clock(INPUT_CLOCK, INPUT_PAUSE);
     let (journal, ran) = run(
         alloc,
-        pipe,
+        OutSetup {
+            batch: pipe.batch,
+            limit: pipe.limit,
+        },
         &mut source,
         &mut sink,
         journal,

@@ -1,2 +1,3 @@
 pub mod MetricLemmas
 pub mod JournalLemmas
+pub mod SoFarLemmas

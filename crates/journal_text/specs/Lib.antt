@@ -1,3 +1,4 @@
 pub mod MetricText
 pub mod SetupText
 pub mod JournalText
+pub mod SoFar

@@ -11,3 +11,8 @@ pub mod StandsSteps
 pub mod StandsLanes
 pub mod StandsCuts
 pub mod GroupExamples
+pub mod StopLemmas
+pub mod RouteLemmas
+pub mod OrderLemmas
+pub mod SentLemmas
+pub mod WorkedLemmas

@@ -12,3 +12,7 @@ pub mod Shapes
 pub mod Stands
 pub mod Sums
 pub mod Laws
+pub mod Stopped
+pub mod Order
+pub mod Sent
+pub mod Worked

@@ -1,6 +1,8 @@
 use Rattle.std.proofs.Common.{◌∙◌, refl, arith}
-use Rattle.agent_run.specs.Headline.{change, report_change}
-use Rattle.agent_run.proofs.HeadlineLemmas.{ends_as, taken_in, report_is, reported_ends, ran_of}
+use Rattle.agent_workers.specs.Run.{change}
+use Rattle.agent_run.specs.Headline.{report_change}
+use Rattle.agent_run.proofs.HeadlineLemmas.{ends_as, taken_in, report_is, reported_ends}
+use Rattle.agent_workers.proofs.RanLemmas.{ran_of}
 use Rattle.agent_run.specs.Command.{journal_place}
 use Rattle.agent_run.proofs.PlaceLemmas.{given_opens, two_given_opens, ins_home, outs_home}
 use Rattle.agent_run.proofs.top.run_parts.Goals as goal

@@ -1,6 +1,7 @@
 use Rattle.std.proofs.Common.{inl, inr, refl}
 use Rattle.agent_run.specs.Command.{journal_place}
-use Rattle.agent_run.specs.Headline.{change, place_change, report_change}
+use Rattle.agent_workers.specs.Run.{change}
+use Rattle.agent_run.specs.Headline.{place_change, report_change}
 use Rattle.agent_run.proofs.HeadlineLemmas.{ends_as, opened, report_is, never_open, short_ends}
 use Rattle.agent_run.proofs.PlaceLemmas.{is_refused, opened_opens, two_opened_opens}
 use Rattle.agent_run.proofs.top.run_pipe.Goals as goal

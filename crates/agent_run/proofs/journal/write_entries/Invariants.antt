@@ -1,5 +1,0 @@
-use Rattle.agent_run.proofs.NotedLemmas.{SpellsFirst}
-use Rattle.agent_run.proofs.journal.write_entries.Given as goal
-
-abbrev pub invariant-loop-entry : goal.invariant-loop-entry
-invariant-loop-entry l = SpellsFirst l.entry-index l.entries l.fn.unrouted_items.items l.unrouted_items.items l.fn.text.items l.text.items

@@ -1,6 +1,0 @@
-use Rattle.std.proofs.Common.{◌∙◌}
-use Rattle.agent_run.proofs.StandingLemmas.{cut_whole}
-use Rattle.agent_run.proofs.rounds.end_journal.Goals as goal
-
-pub end-requires : goal.end-requires
-end-requires g c = cut_whole c.args.run.now.core c.as_slice.result.now (c.as_slice.ensures.value ∙ c.in_ok-entries.ensures) c.requires.stands

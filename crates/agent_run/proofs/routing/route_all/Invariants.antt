@@ -1,6 +1,0 @@
-use Rattle.agent_run.specs.Progress.{GoesOn}
-use Rattle.agent_run.specs.Running.{IsReady, IsRoutable, HasJournal}
-use Rattle.agent_run.proofs.routing.route_all.Given as goal
-
-abbrev pub invariant-loop-taken : goal.invariant-loop-taken
-invariant-loop-taken l = record { ready : IsReady l.run.core; kept : IsRoutable l.fn.run.core l.run.core; stands : HasJournal l.run.core; goes : GoesOn l.fn.run l.run }

@@ -1,0 +1,13 @@
+pub mod RoseLemmas
+pub mod FinishSteps
+pub mod GatherLemmas
+pub mod GatherSteps
+pub mod GroupLemmas
+pub mod RanLemmas
+pub mod MomentLemmas
+pub mod NotedLemmas
+pub mod ProgressLemmas
+pub mod SendSteps
+pub mod SentLemmas
+pub mod StandingLemmas
+pub mod TakenSteps

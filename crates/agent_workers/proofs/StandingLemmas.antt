@@ -1,0 +1,124 @@
+-- Cores that stand for a journal, and the entries that they keep.
+use Rattle.std.proofs.Common.{◌≡◌, ◌≤◌, ◌<◌, ◌+◌, ℕ, zero, suc, true, List, [], ◌∷◌, ◌++◌, length, take, refl, sym, ap, ◌∙◌, arith, subst}
+use Rattle.std.specs.Prelude.{All, ◌↔◌, map, slice_set}
+use Rattle.std.specs.List.{AllByRecursion, enumerate_from}
+use Rattle.std.specs.declared.option.Option.{Option}
+use Rattle.std.specs.declared.option.Option.TheVariants.{Some, None}
+use Rattle.std.proofs.lemmas.List.{length-drop, length-take}
+use Rattle.metric.specs.declared.metric.Content.{Content}
+use Rattle.account.specs.Setup.{Setup}
+use Rattle.account.specs.Views.{HasViews}
+use Rattle.account.specs.declared.entry.Entry.{Entry}
+use Rattle.account.specs.declared.entry.Entry.TheVariants.{Gather, Ended, Take, Route, Tick, Stop, Begin, Done}
+use Rattle.account.specs.declared.entry.Verdict.{Verdict}
+use Rattle.account.specs.declared.entry.Verdict.TheVariants as verdicts
+use Rattle.out_lane.specs.Lane.{LaneState, after_begin}
+use Rattle.pipeline_core.specs.CoreState.{CoreState, lane_at}
+use Rattle.pipeline_core.specs.Offers.{view_at}
+use Rattle.pipeline_core.specs.Steps.{lane_done, lane_with, lanes_with}
+use Rattle.pipeline_core.specs.Legal.{AreLegal, Meets}
+use Rattle.pipeline_core.specs.Windows.{judged}
+use Rattle.pipeline_core.specs.declared.output.Offer.{Offer}
+use Rattle.pipeline_core.proofs.ShapeLemmas.{removed-has-no-whole}
+use Rattle.pipeline_core.specs.Stands.{Stands}
+use Rattle.journal_text.specs.JournalText.{IsWholeOrRemoved}
+use Rattle.agent_workers.specs.Running.{HasJournal}
+
+pub has : {core : CoreState} {journal : List Entry} → Stands core journal → HasJournal core
+has {core} {journal} s = record { journal = journal; stands = s }
+
+-- one entry more
+pub continues : {old new : CoreState} {e : Entry} → ((journal : List Entry) → Stands old journal → Stands new (journal ++ e ∷ [])) → HasJournal old → HasJournal new
+continues {old} {new} {e} more h = record { journal = h.journal ++ e ∷ []; stands = more h.journal h.stands }
+
+-- a verdict that is judged is Removed exactly where there is no whole
+whole_or_none : (setup : Setup) (before : List Entry) (whole : Option Content) (aggs : List (Option Content)) (verdict : Verdict) → verdict ≡ judged setup before whole aggs → (verdict ≡ verdicts.Removed) ↔ (whole ≡ None)
+whole_or_none setup before whole aggs verdict e = subst (λ (v : Verdict). (v ≡ verdicts.Removed) ↔ (whole ≡ None)) (sym e) (removed-has-no-whole setup before whole aggs)
+
+none_split : (aggs outs : List (Option Content)) → AllByRecursion (λ (view : Option Content). view ≡ None) (aggs ++ outs) → AllByRecursion (λ (view : Option Content). view ≡ None) aggs × AllByRecursion (λ (view : Option Content). view ≡ None) outs
+none_split [] outs h = (tt, h)
+none_split (x ∷ aggs) outs h = ((h.0, (none_split aggs outs h.1).0), (none_split aggs outs h.1).1)
+
+views_split : (whole : Option Content) (aggs outs : List (Option Content)) → HasViews whole (aggs ++ outs) → HasViews whole aggs × HasViews whole outs
+views_split None aggs outs h = none_split aggs outs h
+views_split (Some whole) aggs outs h = (tt, tt)
+
+meets_whole : (setup : Setup) (before : List Entry) (e : Entry) → Meets setup before e → IsWholeOrRemoved e
+meets_whole setup before (Gather input moment pieces refused passed filtered metrics group reports) h = tt
+meets_whole setup before (Ended input) h = tt
+meets_whole setup before (Take item) h = tt
+meets_whole setup before (Route item whole verdict aggs outs reports) h = (whole_or_none setup before whole aggs verdict h.line.verdict_is, (views_split whole aggs outs h.line.views).0, (views_split whole aggs outs h.line.views).1)
+meets_whole setup before (Tick moment made) h = tt
+meets_whole setup before (Stop moment made) h = tt
+meets_whole setup before (Begin output from to) h = tt
+meets_whole setup before (Done output ok reports) h = tt
+
+legal_whole : (setup : Setup) (before es : List Entry) → AreLegal setup before es → AllByRecursion IsWholeOrRemoved es
+unfolding AreLegal
+legal_whole setup before [] h = tt
+legal_whole setup before (e ∷ es) h = (meets_whole setup before e h.0, legal_whole setup (before ++ e ∷ []) es h.1)
+
+all_behind : (P : Entry → Type 0) (front es : List Entry) → AllByRecursion P (front ++ es) → AllByRecursion P es
+all_behind P [] es h = h
+all_behind P (e ∷ front) es h = all_behind P front es h.1
+
+-- the entries that a core stores can be spelled
+pub stored_whole : (core : CoreState) → HasJournal core → AllByRecursion IsWholeOrRemoved core.stored
+stored_whole core h =
+    all_behind IsWholeOrRemoved h.stands.front core.stored (subst (AllByRecursion IsWholeOrRemoved) h.stands.stored (legal_whole core.setup [] h.journal h.stands.legal))
+
+-- a batch has an item, where one waits
+pub takes_some : {X : Type 0} (batch : ℕ) (xs : List X) → 1 ≤ batch → (length xs ≡ 0 → ⊥) → 0 < length (take batch xs)
+takes_some batch [] some ne = absurd (ne refl)
+takes_some batch (x ∷ xs) some ne = omega (arith, length-take batch (x ∷ xs))
+
+all_at : (P : Entry → Type 0) (es : List Entry) → AllByRecursion P es → All P es
+all_at P [] h zero d lt = absurd (omega arith)
+all_at P [] h (suc k) d lt = absurd (omega arith)
+all_at P (e ∷ es) h zero d lt = h.0
+all_at P (e ∷ es) h (suc k) d lt = all_at P es h.1 k d (omega arith)
+
+-- the entries that a cut gives can be spelled
+pub cut_whole : (core : CoreState) (es : List Entry) → es ≡ core.stored → HasJournal core → All IsWholeOrRemoved es
+cut_whole core es same h = all_at IsWholeOrRemoved es (rw same (stored_whole core h))
+
+-- what offering views leaves of the first lane
+pub record IsLaneKept (old new : List (LaneState Offer)) : Type 0 where
+  pub count : length new ≡ length old
+  pub batch : (lane_at new 0).batch ≡ (lane_at old 0).batch
+  pub flight : (lane_at new 0).flight ≡ (lane_at old 0).flight
+
+mapped : {A B : Type 0} (f : A → B) (xs : List A) → length (map f xs) ≡ length xs
+mapped f [] = refl
+mapped f (x ∷ xs) = ap (λ (k : ℕ). suc k) (mapped f xs)
+
+enumerated : (n : ℕ) (lanes : List (LaneState Offer)) → length (enumerate_from n lanes) ≡ length lanes
+enumerated n [] = refl
+enumerated n (x ∷ xs) = ap (λ (k : ℕ). suc k) (enumerated (n + 1) xs)
+
+with_batch : (item : ℕ) (view : Option Content) (x : LaneState Offer) → (lane_with item view x).batch ≡ x.batch
+with_batch item None x = refl
+with_batch item (Some view) x = refl
+
+with_flight : (item : ℕ) (view : Option Content) (x : LaneState Offer) → (lane_with item view x).flight ≡ x.flight
+with_flight item None x = refl
+with_flight item (Some view) x = refl
+
+pub lanes_kept : (item : ℕ) (outs : List (Option Content)) (lanes : List (LaneState Offer)) → IsLaneKept lanes (lanes_with item outs lanes)
+lanes_kept item outs [] = record { count = refl; batch = refl; flight = refl }
+lanes_kept item outs (x ∷ xs) = record {
+  count = mapped (λ (p : ℕ × LaneState Offer). lane_with item (view_at p.0 outs) p.1) (enumerate_from 0 (x ∷ xs)) ∙ enumerated 0 (x ∷ xs);
+  batch = with_batch item (view_at 0 outs) x;
+  flight = with_flight item (view_at 0 outs) x;
+}
+
+some_wait : (xs : List Offer) → (length xs ≡ 0 → ⊥) → 0 < length xs
+some_wait [] ne = absurd (ne refl)
+some_wait (x ∷ xs) ne = omega arith
+
+-- a batch that was begun and accepted: fewer items wait
+pub fewer_wait : (lanes : List (LaneState Offer)) → length lanes ≡ 1 → 1 ≤ (lane_at lanes 0).batch → (length (lane_at lanes 0).waiting ≡ 0 → ⊥) →
+    (let begun : List (LaneState Offer) = slice_set lanes 0 (after_begin (lane_at lanes 0)) in
+    length (lane_at (slice_set begun 0 (lane_done true (lane_at begun 0))) 0).waiting < length (lane_at lanes 0).waiting)
+fewer_wait [] one some ne = absurd (omega (arith, one))
+fewer_wait (x ∷ xs) one some ne = omega (arith, length-drop x.batch x.waiting, some, some_wait x.waiting ne)

@@ -1,0 +1,115 @@
+-- What the next pieces of an input say, and which pieces of its text they are.
+use Rattle.std.specs.Prelude.{◌≡◌, ◌≤◌, ◌<◌, ◌⊎◌, ◌^◌, ℕ, ℤ, ◌+◌, Bool, true, false, List, [], ◌∷◌, ◌++◌}
+use Rattle.std.specs.Prelude.{length, count_by, if◌then◌else◌}
+use Rattle.std.specs.List.{flat_map}
+use Rattle.std.specs.declared.option.Option.{Option}
+use Rattle.agent_base.specs.Cut.{Cut}
+use Rattle.agent_base.specs.Hand.{Hand, to_come}
+use Rattle.agent_base.specs.Taken.{IsSpent}
+use Rattle.agent_base.specs.Told.{Told}
+use Rattle.agent_workers.specs.declared.input.Group.{Group}
+use Rattle.agent_workers.specs.declared.input.InState.{InState}
+use Rattle.agent_workers.specs.declared.input.InState.TheVariants as states
+use Rattle.agent_workers.specs.Input.{is_refused, readings}
+use Rattle.account.specs.declared.entry.Entry.TheVariants.{Ended}
+use Rattle.pipeline_core.specs.CoreState.{CoreState}
+use Rattle.pipeline_core.specs.Stands.{Continues}
+use Rattle.pipeline_core.specs.Steps.{after_gather, after_ended, gather_entry}
+use Rattle.pipeline_core.specs.declared.gathering.Gathered.{Gathered}
+
+-- one piece more is counted, as refused where it is, and its reading is kept behind the others
+pub record CountsPiece (moment : ℤ) (piece : Cut) (old new : Group) : Type 0 where
+  pub pieces : new.pieces ≡ old.pieces + 1
+  pub refused : new.refused ≡ old.refused + (if is_refused moment piece then 1 else 0)
+  pub metrics : new.metrics.items ≡ old.metrics.items ++ readings moment piece
+
+-- bytes were taken of those that were left, and these pieces are the first to come whatever stands behind the
+-- bytes taken; or nothing is left and no piece is to come
+pub record TakesPieces (read : List Cut) (before after : Hand) (xs ys : List ℕ) : Type 0 where
+  pub taken : List ℕ
+  pub split : xs ≡ taken ++ ys
+  pub given : IsSpent after ys
+      ⊎ ((more : List ℕ) → to_come before (taken ++ more) ≡ read ++ to_come after more)
+
+-- the first piece to come is counted, and the others are to come then
+pub record ReadsPiece (moment : ℤ) (old new : Group) (before after : Hand)
+    (left_before left_after : Option (List ℕ)) : Type 0 where
+  pub piece : Cut
+  pub counted : CountsPiece moment piece old new
+  pub first : Told left_before left_after (λ xs ys. to_come before xs ≡ piece ∷ to_come after ys)
+  pub whatever_follows : Told left_before left_after (TakesPieces (piece ∷ []) before after)
+
+-- no piece is counted, and the same pieces are to come
+pub record ReadsNone (old new : Group) (before after : Hand)
+    (left_before left_after : Option (List ℕ)) : Type 0 where
+  pub same : new ≡ old
+  pub to_come_still : Told left_before left_after (λ xs ys. to_come before xs ≡ to_come after ys)
+  pub whatever_follows : Told left_before left_after (TakesPieces [] before after)
+
+-- a piece is counted where the input is read on, else none
+abbrev pub ReadsNext : InState → ℤ → Group → Group → Hand → Hand → Option (List ℕ) → Option (List ℕ) → Type 0
+ReadsNext states.Reading moment old new before after left_before left_after = ReadsPiece moment old new
+    before after left_before left_after
+ReadsNext states.Ended moment old new before after left_before left_after = ReadsNone old new before after
+    left_before left_after
+ReadsNext states.Faulted moment old new before after left_before left_after = ReadsNone old new before after
+    left_before left_after
+ReadsNext states.LimitReached moment old new before after left_before left_after = ReadsNone old new before
+    after left_before left_after
+
+-- no piece is to come
+abbrev pub IsAllRead : Option (List ℕ) → Option (List ℕ) → Hand → Type 0
+IsAllRead left_before left_after after = Told left_before left_after (λ xs ys. to_come after ys ≡ [])
+
+-- the group is what some pieces say at the moment: those are the first that were to come, and the others are
+-- to come then
+pub record Reads (moment : ℤ) (group : Group) (before after : Hand)
+    (left_before left_after : Option (List ℕ)) : Type 0 where
+  pub read : List Cut
+  pub pieces : group.pieces ≡ length read
+  pub refused : group.refused ≡ count_by (is_refused moment) read
+  pub metrics : group.metrics.items ≡ flat_map (readings moment) read
+  pub consecutive : Told left_before left_after (λ xs ys. to_come before xs ≡ read ++ to_come after ys)
+  pub whatever_follows : Told left_before left_after (TakesPieces read before after)
+
+-- and they are at most 1,000, exactly so many where the input is read on, and all where it has ended
+pub record ReadsGroup (moment : ℤ) (group : Group) (state : InState) (before after : Hand)
+    (left_before left_after : Option (List ℕ)) : Type 0 where
+  pub reads : Reads moment group before after left_before left_after
+  pub most : length reads.read ≤ 1000
+  pub full : state ≡ states.Reading → length reads.read ≡ 1000
+  pub all : state ≡ states.Ended → IsAllRead left_before left_after after
+
+-- what a group says, as the core gathers it
+abbrev pub gathered_of : ℤ → Group → Gathered
+gathered_of moment group = record {
+  input = 0;
+  moment = moment;
+  pieces = group.pieces;
+  refused = group.refused;
+  passed = 0;
+  filtered = 0;
+  metrics = group.metrics.items;
+}
+
+-- what offering a group leaves: nothing where it has no piece, else it was gathered; or the run is full
+abbrev pub IsOffered : Bool → ℤ → Group → CoreState → CoreState → Type 0
+IsOffered true moment group old new =
+    ((group.pieces ≡ 0) × (new ≡ old))
+    ⊎ ((0 < group.pieces) × (new ≡ after_gather old (gathered_of moment group))
+    × Continues old new (gather_entry old (gathered_of moment group)))
+IsOffered false moment group old new = (new ≡ old) × (2 ^ 32 ≤ old.gathered + length group.metrics.items)
+
+-- a group of so many pieces was gathered
+pub record IsGathered (pieces : ℕ) (old new : CoreState) : Type 0 where
+  pub moment : ℤ
+  pub group : Group
+  pub count : group.pieces ≡ pieces
+  pub is : new ≡ after_gather old (gathered_of moment group)
+
+-- what the end of the input leaves
+abbrev pub IsEnding : InState → CoreState → CoreState → Type 0
+IsEnding states.Reading old new = new ≡ old
+IsEnding states.Ended old new = (new ≡ after_ended old 0) × Continues old new (Ended 0)
+IsEnding states.Faulted old new = new ≡ old
+IsEnding states.LimitReached old new = new ≡ old

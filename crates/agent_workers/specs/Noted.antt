@@ -1,0 +1,76 @@
+-- What was put of a journal's text, as far as the run has come.
+use Rattle.std.specs.Prelude.{◌≡◌, ◌≤◌, ℕ, Bool, true, false, List, ◌++◌, length, take}
+use Rattle.std.specs.Io.KnownBytes.{Appends}
+use Rattle.std.specs.declared.option.Option.{Option}
+use Rattle.metric.specs.declared.metric.Content.{Content}
+use Rattle.account.specs.declared.entry.Entry.{Entry}
+use Rattle.account.specs.Items.{unrouted_items}
+use Rattle.agent_base.specs.Counts.{Rose}
+use Rattle.journal_text.specs.declared.setup.JournalSetup.{JournalSetup}
+use Rattle.journal_text.specs.JournalText.{journal_text}
+use Rattle.agent_workers.specs.Run.{Change, change, IsPutSo}
+use Rattle.account.specs.Routes.{RoutesInOrder, RouteOnInOrder}
+use Rattle.agent_workers.specs.declared.journal.JournalJob.{JournalJob}
+use Rattle.journal_text.specs.SoFar.{text_so_far, noted_text}
+
+-- the journal's part of a run: what the journal is about, the items that have no Route yet, how many entries
+-- there were, whether a put failed, and the bytes and the count of failed puts at the journal's place
+pub record JournalPart : Type 0 where
+  pub setup : JournalSetup
+  pub kept : List Content
+  pub entries : ℕ
+  pub failed : Bool
+  pub held : Option (List ℕ)
+  pub faults : ℕ
+
+-- the part, given what the sink tells
+abbrev pub part_of : {K : Type 0} → (K → Option (List ℕ)) → (K → ℕ) → JournalJob K → JournalPart
+part_of held faults job = record {
+  setup = job.setup;
+  kept = job.kept.items;
+  entries = job.entries;
+  failed = job.failed;
+  held = held job.sink;
+  faults = faults job.sink;
+}
+
+-- all of the text was put; or, where a put failed, a prefix of it
+abbrev pub IsNotedSo : Bool → Change → JournalSetup → List Entry → Type 0
+IsNotedSo false place setup journal = Appends place.before place.after (noted_text setup journal)
+IsNotedSo true place setup journal =
+    Rose place.faults_before place.faults_after
+    × ((n : ℕ) × Appends place.before place.after (take n (text_so_far setup journal)))
+
+-- a part notes a journal whose Routes come in order: it counts its entries, keeps its items without a Route,
+-- and all of its text so far was put since the run began, or a prefix where a put failed
+pub record Notes (setup : JournalSetup) (held : Option (List ℕ)) (faults : ℕ) (journal : List Entry)
+    (part : JournalPart) : Type 0 where
+  pub about : part.setup ≡ setup
+  pub counted : part.entries ≡ length journal
+  pub kept_are : part.kept ≡ unrouted_items journal
+  pub in_order : RoutesInOrder 0 0 journal
+  pub later : faults ≤ part.faults
+  pub put : IsNotedSo part.failed (change held part.held faults part.faults) setup journal
+
+-- a text was put, unless a put failed before
+abbrev pub IsPartPut : Bool → Bool → List ℕ → Option (List ℕ) → Option (List ℕ) → ℕ → ℕ → Type 0
+IsPartPut true now text held new_held faults new_faults = (now ≡ true) × (new_held ≡ held)
+    × (new_faults ≡ faults)
+IsPartPut false now text held new_held faults new_faults = IsPutSo now
+    (change held new_held faults new_faults) text × (faults ≤ new_faults)
+
+-- the part noted a journal, and now notes it with these entries behind it
+abbrev pub NotesOn : List Entry → JournalPart → JournalPart → Type 0
+NotesOn entries old new =
+    (setup : JournalSetup) (held : Option (List ℕ)) (faults : ℕ) (journal : List Entry) →
+    Notes setup held faults journal old → RouteOnInOrder journal entries
+    → Notes setup held faults (journal ++ entries) new
+
+-- the part noted a journal, and the whole text of the journal with these entries behind it is put, or a
+-- prefix where a put failed
+abbrev pub EndsOn : List Entry → List ℕ → JournalPart → JournalPart → Type 0
+EndsOn entries account old new =
+    (setup : JournalSetup) (held : Option (List ℕ)) (faults : ℕ) (journal : List Entry) →
+    Notes setup held faults journal old → RouteOnInOrder journal entries
+    → IsPutSo new.failed (change held new.held faults new.faults)
+    (journal_text setup (journal ++ entries) account)

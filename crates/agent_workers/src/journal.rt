@@ -1,0 +1,224 @@
+//! The journal's part of a run: it puts the text of the entries as they come.
+ghost use Rattle.std.specs.Prelude.{◌≡◌, ◌≢◌, ◌+◌, ◌++◌, ◌∷◌, [], false, length, All, IfOk, OnOk};
+ghost use Rattle.std.specs.Option.{option_to_list};
+ghost use Rattle.account.specs.Items.{named_by};
+ghost use Rattle.journal_text.specs.JournalText.{HasItem, IsWholeOrRemoved};
+ghost use Rattle.agent_workers.specs.Noted.{part_of, IsPartPut, NotesOn, EndsOn};
+ghost use Rattle.journal_text.specs.SoFar.{front_text, SpellsOn};
+
+use account::Entry;
+use agent_base::{PutFault, Sink};
+use fixed_num::OutOfMemory;
+use journal_text::{JournalSetup, write_end, write_entry, write_setup};
+use metric::Metric;
+use std::alloc::Global;
+use std::collections::VecDeque;
+
+/// The journal's part of a run: what the journal is about, where its text goes, and what is needed to go on
+/// with it.
+///
+/// The text goes out in parts, one put each. The first part begins with the set-up, and the last one ends
+/// with the account and the number of entries. After a put that failed nothing more is put; the entries are
+/// still counted.
+#[derive(Drop)]
+pub struct JournalJob<K: Drop> {
+    pub setup: JournalSetup,
+    pub sink: K,
+    /// The items that have no Route yet, oldest first.
+    pub kept: VecDeque<Metric>,
+    /// How many entries there were.
+    pub entries: u64,
+    /// Whether a put failed.
+    pub failed: bool,
+}
+
+impl<K: Sink + Drop> JournalJob<K> {
+    /// The part of a journal without an entry: nothing is put.
+    pub fn new(alloc: Global, setup: JournalSetup, sink: K) -> JournalJob<K>
+        ensures setup { result.setup ≡ setup }
+        ensures sink { result.sink ≡ sink }
+        ensures kept { result.kept.items ≡ [] }
+        ensures entries { result.entries ≡ 0 }
+        ensures going { result.failed ≡ false }
+    {
+        JournalJob {
+            setup,
+            sink,
+            kept: VecDeque::new(alloc),
+            entries: 0,
+            failed: false,
+        }
+    }
+
+    /// Puts the text of some entries, which follow those that came before, and counts them. Each Route among
+    /// them names the first item that has no Route yet. The text is built in `text`, in place of what it
+    /// held.
+    pub fn take(
+        &mut self,
+        alloc: Global,
+        entries: &[Entry],
+        text: &mut Vec<u8>,
+    ) -> Result<(), OutOfMemory>
+        requires whole { All IsWholeOrRemoved entries.now }
+        requires some { length entries.now ≢ 0 }
+        ensures { OnOk result (NotesOn entries.now
+            (part_of K.held K.faults self.old) (part_of K.held K.faults self.new)) }
+    {
+        self.spell(alloc, entries, text)?;
+        self.failed = put_part(&mut self.sink, self.failed, text)?;
+        Ok(())
+    }
+
+    /// Puts the text of the last entries, of the account, and of the last line.
+    pub fn end(
+        &mut self,
+        alloc: Global,
+        entries: &[Entry],
+        account: &[u8],
+        text: &mut Vec<u8>,
+    ) -> Result<(), OutOfMemory>
+        requires { All IsWholeOrRemoved entries.now }
+        ensures { OnOk result (EndsOn entries.now account.now
+            (part_of K.held K.faults self.old) (part_of K.held K.faults self.new)) }
+    {
+        self.spell(alloc, entries, text)?;
+        write_end(alloc, account, self.entries, text)?;
+        self.failed = put_part(&mut self.sink, self.failed, text)?;
+        Ok(())
+    }
+
+    // Builds the text of the next part: entries, behind the set-up where they are the first. They are
+    // counted, and their items kept.
+    fn spell(
+        &mut self,
+        alloc: Global,
+        entries: &[Entry],
+        text: &mut Vec<u8>,
+    ) -> Result<(), OutOfMemory>
+        requires { All IsWholeOrRemoved entries.now }
+        ensures spelled { OnOk result
+            (SpellsOn entries.now self.old.kept.items self.new.kept.items
+            (front_text self.old.setup self.old.entries) text.new.items) }
+        ensures counted { OnOk result (self.new.entries ≡ self.old.entries + length entries.now) }
+        ensures setup { self.new.setup ≡ self.old.setup }
+        ensures sink { self.new.sink ≡ self.old.sink }
+        ensures failed { self.new.failed ≡ self.old.failed }
+    {
+        write_front(alloc, &self.setup, self.entries, text)?;
+        write_entries(alloc, &mut self.kept, entries, text)?;
+        self.entries = self
+            .entries
+            .checked_add(entries.len() as u64)
+            .ok_or(OutOfMemory)?;
+        Ok(())
+    }
+}
+
+// Begins the text of a part, in place of what it held: with the set-up where no entry came before.
+fn write_front(
+    alloc: Global,
+    setup: &JournalSetup,
+    entries: u64,
+    text: &mut Vec<u8>,
+) -> Result<(), OutOfMemory>
+    ensures { OnOk result (text.new.items ≡ front_text setup.now entries) }
+{
+    text.clear();
+    if entries == 0 {
+        write_setup(alloc, setup, text)?;
+    }
+    Ok(())
+}
+
+// Adds the text of entries, given the items that have no Route yet.
+fn write_entries(
+    alloc: Global,
+    unrouted_items: &mut VecDeque<Metric>,
+    entries: &[Entry],
+    text: &mut Vec<u8>,
+) -> Result<(), OutOfMemory>
+    requires { All IsWholeOrRemoved entries.now }
+    ensures { OnOk result
+        (SpellsOn entries.now unrouted_items.old.items unrouted_items.new.items text.old.items text.new.items) }
+{
+    for entry in entries {
+        write_one(alloc, unrouted_items, entry, text)?;
+    }
+    Ok(())
+}
+
+// Adds the text of an entry, given the items that have no Route yet.
+fn write_one(
+    alloc: Global,
+    unrouted_items: &mut VecDeque<Metric>,
+    entry: &Entry,
+    text: &mut Vec<u8>,
+) -> Result<(), OutOfMemory>
+    requires { IsWholeOrRemoved entry.now }
+    ensures { OnOk result
+        (SpellsOn (entry.now ∷ []) unrouted_items.old.items unrouted_items.new.items text.old.items text.new.items) }
+{
+    let item = item_of(unrouted_items, entry)?;
+    write_entry(alloc, item.as_slice(), entry, text)?;
+    Ok(())
+}
+
+// Puts the text of a part, unless a put failed before, and says whether one failed.
+fn put_part<K: Sink>(sink: &mut K, failed: bool, text: &[u8]) -> Result<bool, OutOfMemory>
+    ensures { IfOk result
+        (λ now. IsPartPut failed now text.now (K.held sink.old) (K.held sink.new) (K.faults sink.old)
+        (K.faults sink.new)) }
+{
+    if failed {
+        return Ok(true);
+    }
+    match sink.put(text) {
+        Ok(()) => Ok(false),
+        Err(PutFault::Failed) => Ok(true),
+        Err(PutFault::OutOfMemory) => Err(OutOfMemory),
+    }
+}
+
+// The item of a Route, the first of those that weren't routed; the metrics that another entry names
+// are kept until they are routed.
+fn item_of(
+    unrouted_items: &mut VecDeque<Metric>,
+    entry: &Entry,
+) -> Result<Option<Metric>, OutOfMemory>
+    ensures one { IfOk result (λ item. HasItem (option_to_list item) entry.now) }
+    ensures rest { IfOk result
+        (λ item. unrouted_items.old.items ++ named_by entry.now ≡ option_to_list item ++ unrouted_items.new.items) }
+{
+    match entry {
+        Entry::Gather { metrics, .. } => {
+            keep(unrouted_items, metrics.as_slice())?;
+            Ok(None)
+        }
+        Entry::Tick { made, .. } => {
+            keep(unrouted_items, made.as_slice())?;
+            Ok(None)
+        }
+        Entry::Stop { made, .. } => {
+            keep(unrouted_items, made.as_slice())?;
+            Ok(None)
+        }
+        Entry::Route { .. } => match unrouted_items.pop_front() {
+            Some(item) => Ok(Some(item)),
+            None => Err(OutOfMemory),
+        },
+        Entry::Ended { .. } => Ok(None),
+        Entry::Take { .. } => Ok(None),
+        Entry::Begin { .. } => Ok(None),
+        Entry::Done { .. } => Ok(None),
+    }
+}
+
+// Keeps items until they are routed.
+fn keep(unrouted_items: &mut VecDeque<Metric>, metrics: &[Metric]) -> Result<(), OutOfMemory>
+    ensures { OnOk result (unrouted_items.new.items ≡ unrouted_items.old.items ++ metrics.now) }
+{
+    for metric in metrics {
+        unrouted_items.push_back(metric.copy()?)?;
+    }
+    Ok(())
+}

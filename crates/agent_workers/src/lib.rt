@@ -1,0 +1,13 @@
+//! One serial run: what an input gives is gathered, routed and sent to an output, with a journal of every
+//! event.
+#![tactic(auto)]
+
+mod input;
+mod item;
+mod journal;
+mod output;
+mod pipe_run;
+mod serial;
+
+pub use input::InState;
+pub use serial::{Ending, run};

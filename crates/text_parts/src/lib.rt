@@ -1,5 +1,5 @@
-//! What readers and writers of text formats share: parts that end before given bytes, with escapes, the chain
-//! of first faults, and writing by appending.
+//! What readers and writers of text formats share: parts that end before given bytes, with escapes, parts
+//! between separators, the chain of first faults, and writing by appending.
 #![tactic(auto)]
 
 mod append;

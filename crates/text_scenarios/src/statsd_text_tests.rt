@@ -310,10 +310,10 @@ const LIMITS: [Limit; 2] = [
     },
 ];
 
-/// How many tags the first metric of a piece has; none where it is refused as `TooMany` at 0.
+/// How many tags the first metric of a piece has; none where the piece is refused as `TooMany` at 0.
 fn tags_of(rt: &impl Abort, alloc: Global, piece: &[u8]) -> Option<usize> {
     match read_packet_line(alloc, piece, 50) {
-        Ok(metrics) => Some(metrics[0].tags().len()),
+        Ok(metrics) => metrics.first().map(|metric| metric.tags().len()),
         Err(fault) => {
             assert_eq!(rt; fault.kind, statsd_text::StatsdKind::TooMany);
             assert_eq!(rt; fault.place, 0);

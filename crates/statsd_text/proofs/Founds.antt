@@ -150,7 +150,7 @@ typed_found : (text value name : List ℕ) (rest : Option (List ℕ)) (place : �
 typed_found text value name rest place None x is none named e = absurd cc
 typed_found text value name rest place (Some metric_type) x is none named e =
     let texts : Texts = record { value = value; metric_type = metric_type; rate = rate_text (place + length name) rest } in
-    subst (TextsWritten text) (same_ok texts x e) (record {
+    subst (TextsWritten text) {x = texts} (same_ok texts x e) (record {
       name = name;
       rest = rest;
       place = place + length name;
@@ -226,7 +226,7 @@ part_written place text said colons e =
     let w : WrittenPart = record { value = texts.0.value; type_text = found.name; rate = written.rate } in (
       w,
       whole,
-      subst (IsPart w) (same_ok one said result.2) (record {
+      subst (IsPart w) {x = one} (same_ok one said result.2) (record {
         none = none;
         named = found.named;
         number = value.0;

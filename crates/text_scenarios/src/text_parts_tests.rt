@@ -2,8 +2,9 @@
 use fixed_num::OutOfMemory;
 use std::test::Fail;
 use text_parts::{
-    Marks, Part, append_bytes, append_escaped, append_escaped_byte, append_line, append_numbers,
-    append_signed, append_unsigned, append_words, part_len, part_text, plain_bytes, settle,
+    Marks, Part, Placed, Separated, append_bytes, append_escaped, append_escaped_byte, append_line,
+    append_numbers, append_signed, append_unsigned, append_words, first_part, part_len, part_text,
+    plain_bytes, settle,
 };
 
 const KEY: Part = Part {
@@ -48,6 +49,23 @@ fn parts_are_read(rt: HostRuntime) -> Result<(), Fail> {
     let text = part_text(rt.alloc(), &KEY, r"tag\ Key3=value", 0)?;
     assert_eq!(rt; text.as_str(), "tag Key3");
     Ok(())
+}
+
+// The parts of a text that begins at the place 3, each with its place; and a text cut at a byte.
+#[test]
+fn texts_are_split(rt: HostRuntime) {
+    let text = Placed {
+        place: 3,
+        text: "a,,größe",
+    };
+    let mut parts = Separated::of(b',', text);
+    for want in [Some((3, "a")), Some((5, "")), Some((6, "größe")), None] {
+        let part = parts.next().map(|part| (part.place, part.text));
+        assert_eq!(rt; part, want);
+    }
+    let (key, value) = first_part(b'=', "k=v=w");
+    assert_eq!(rt; key, "k");
+    assert_eq!(rt; value, Some("v=w"));
 }
 
 // What is appended, in the order of the calls; and what a call that failed leaves.

@@ -14,7 +14,8 @@ use crate::command::{JOURNAL, Pipe, read_command};
 use crate::opening::{Parts, Refusal, open_parts};
 use crate::status::{Status, run_status};
 use agent_base::{PutFault, World};
-use agent_workers::{Ending, run};
+use agent_workers::{Ending, RunSetup, run_one};
+use fixed_num::Seq;
 use pipeline_core::OutSetup;
 use std::alloc::{AllocError, Global};
 
@@ -29,6 +30,9 @@ const INPUT_CLOCK: u32 = 3;
 
 /// How long a wait of the input's clock pauses: 10 milliseconds, in nanoseconds.
 const INPUT_PAUSE: i64 = 10_000_000;
+
+/// How often in succession a repeat that had no batch accepted is tried at the end of a run.
+const FINAL_TRIES: u32 = 3;
 
 /// Reports a line, and answers the status, unless memory was short.
 fn report_line<W: World>(world: &mut W, line: &[u8], status: Status) -> Status
@@ -105,19 +109,23 @@ fn run_parts<W: World>(
 {
     let Parts {
         mut source,
-        mut sink,
+        sink,
         journal,
     } = parts;
-    let mut clock = world.clock(RUN_CLOCK, RUN_PAUSE);
-    let mut input_clock = world.clock(INPUT_CLOCK, INPUT_PAUSE);
-    let (journal, ran) = run(
-        alloc,
-        OutSetup {
+    let setup = RunSetup {
+        outputs: Seq::of_one(OutSetup {
             batch: pipe.batch,
             limit: pipe.limit,
-        },
+        }),
+        final_tries: FINAL_TRIES,
+    };
+    let mut clock = world.clock(RUN_CLOCK, RUN_PAUSE);
+    let mut input_clock = world.clock(INPUT_CLOCK, INPUT_PAUSE);
+    let (sink, journal, ran) = run_one(
+        alloc,
+        &setup,
         &mut source,
-        &mut sink,
+        sink,
         journal,
         &mut clock,
         &mut input_clock,

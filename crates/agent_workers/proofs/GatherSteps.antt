@@ -30,7 +30,7 @@ use Rattle.account.specs.Says.{GatherSays}
 use Rattle.account.specs.Gathers.{gathers}
 use Rattle.agent_workers.specs.Groups.{ReadsGroup, gathered_of, IsOffered, IsEnding, IsGathered}
 use Rattle.pipeline_core.specs.Order.{InOrder, IsDrained}
-use Rattle.agent_workers.specs.Progress.{Beginning, Surroundings, HasText, IsNamed, is_ended, HasState, IsClocked, IsNamedOfTaken, Said, Progress}
+use Rattle.agent_workers.specs.Progress.{Beginning, Surroundings, HasText, IsNamed, is_ended, HasState, IsClocked, IsNamedOfTaken, AllSaid, Progress}
 use Rattle.pipeline_core.specs.Worked.{Worked}
 use Rattle.agent_workers.proofs.GatherLemmas.{says_of, entry_of, gathers_own, has_ended-other, gathered_to_here, gathered_to_same, gathered, told_gathering, told_gathered_to}
 use Rattle.account.proofs.GatherLemmas.{gathers-push, gathers-other}
@@ -38,7 +38,7 @@ use Rattle.agent_workers.proofs.GroupLemmas.{told_then, told_map, told_pair, few
 use Rattle.agent_workers.proofs.TakenSteps.{told_names_more, told_taken_more, told_taken_same}
 use Rattle.account.proofs.MomentLemmas.{gather_moments-push, gather_moments-same, counted_moments-same}
 use Rattle.pipeline_core.proofs.OrderLemmas.{in_order-push}
-use Rattle.agent_workers.proofs.ProgressLemmas.{text-push, said_push, clocked_same}
+use Rattle.agent_workers.proofs.ProgressLemmas.{text-push, all_said_push, clocked_same}
 use Rattle.pipeline_core.proofs.WorkedLemmas.{worked-push}
 
 -- while the input is read on the Gathers name full groups; else the last one needn't be full
@@ -59,11 +59,12 @@ pub record HeardTo (start : Beginning) (now : Surroundings) (hand : Hand) (journ
   pub state : HasState now.state start now.read_faults now.left hand journal
   pub clocked : IfSome start.moments (λ moments. IsClocked moments now.place (gather_moments 0 journal))
 
-pub record ProgressTo (start : Beginning) (core : CoreState) (hand : Hand) (failed : ℕ) (now : Surroundings) : Type 0 where
+pub record ProgressTo (start : Beginning) (core : CoreState) (hand : Hand) (now : Surroundings) : Type 0 where
   pub journal : List Entry
   pub text : HasText start core now.journal journal
   pub heard : HeardTo start now hand journal
-  pub said : Said start now failed journal
+  pub out_count : length now.outs ≡ length start.setup.outputs
+  pub said : AllSaid start.outs now.outs journal
   pub worked : Worked journal
   pub in_order : InOrder start.setup journal
   pub counted_at : counted_moments journal ≡ now.counted_at
@@ -94,8 +95,8 @@ has_state states.Ended start new_read_faults left hand journal read_faults l lim
 has_state states.Faulted start new_read_faults left hand journal read_faults l limit below failed = (below (λ e. absurd (let x : states.Faulted ≡ states.LimitReached = e in cc)), rose_from start.read_faults read_faults new_read_faults l (failed refl))
 has_state states.LimitReached start new_read_faults left hand journal read_faults l limit below failed = inl (limit refl)
 
-module _ (start : Beginning) (core : CoreState) (before after : Hand) (failed : ℕ) (now : Surroundings) (state : InState) (moment : ℤ) (group : Group) (new_left : Option (List ℕ)) (new_read_faults new_place : ℕ)
-    (w : Progress start core before failed (record now { state = states.Reading })) (g : ReadsGroup moment group state before after now.left new_left)
+module _ (start : Beginning) (core : CoreState) (before after : Hand) (now : Surroundings) (state : InState) (moment : ℤ) (group : Group) (new_left : Option (List ℕ)) (new_read_faults new_place : ℕ)
+    (w : Progress start core before (record now { state = states.Reading })) (g : ReadsGroup moment group state before after now.left new_left)
     (gives : Gives start.moments now.place new_place moment) (read_faults : now.read_faults ≤ new_read_faults)
     (counted : Told now.left new_left (λ xs ys. before.taken + length xs ≡ after.taken + length ys))
     (limit : state ≡ states.LimitReached → after.taken ≡ 2 ^ 40) (below : (state ≡ states.LimitReached → ⊥) → after.taken < 2 ^ 40) (faulted : state ≡ states.Faulted → Rose now.read_faults new_read_faults) (one : state ≡ states.Faulted → length (to_come after []) ≤ 1) (line : state ≡ states.Faulted → length (to_come after (10 ∷ [])) ≤ 1) where
@@ -131,7 +132,7 @@ module _ (start : Beginning) (core : CoreState) (before after : Hand) (failed : 
   taken_none states.LimitReached e ne none = told_map start.bytes new_left (λ xs ys. length xs ≡ after.taken + length ys) (IsNamedOfTaken states.LimitReached w.journal after) (λ xs ys h. tt) counted_all
 
   -- no piece was read
-  pub went_none : group.pieces ≡ 0 → ProgressTo start core after failed (read_to now state new_left new_read_faults new_place)
+  pub went_none : group.pieces ≡ 0 → ProgressTo start core after (read_to now state new_left new_read_faults new_place)
   went_none empty =
       let none : length g.reads.read ≡ 0 = sym g.reads.pieces ∙ empty in
       record {
@@ -147,7 +148,8 @@ module _ (start : Beginning) (core : CoreState) (before after : Hand) (failed : 
           state = has_state state start new_read_faults new_left after w.journal now.read_faults w.heard.later limit below faulted;
           clocked = clocked_wide start.moments now.place new_place moment (gather_moments 0 w.journal) gives w.heard.clocked;
         };
-        said = record { sent = w.said.sent; put_faults = w.said.put_faults; stuck = w.said.stuck; last = w.said.last };
+        out_count = w.out_count;
+        said = w.said;
         worked = w.worked;
         in_order = w.in_order;
         counted_at = w.counted_at;
@@ -179,7 +181,7 @@ module _ (start : Beginning) (core : CoreState) (before after : Hand) (failed : 
 
   -- the group was gathered
   pub went_gathered : (next : CoreState) → 0 < group.pieces → next ≡ after_gather core (gathered_of moment group) → Continues core next (gather_entry core (gathered_of moment group)) → IsDrained start.setup w.journal
-      → ProgressTo start next after failed (read_to now state new_left new_read_faults new_place)
+      → ProgressTo start next after (read_to now state new_left new_read_faults new_place)
   went_gathered next some is more drained =
       let shape : IsGatherEntry (gathered_of moment group) (gather_entry core (gathered_of moment group)) = entries-have-shape.gathers core (gathered_of moment group) in
       let number : Option ℕ = shape.0 in
@@ -200,19 +202,20 @@ module _ (start : Beginning) (core : CoreState) (before after : Hand) (failed : 
               (gather_moments-push 0 w.journal e ∙ ap (λ (more : List GatherSays). gather_moments 0 w.journal ++ map (λ (says : GatherSays). says.moment) more) (gathers_own 0 moment group number reports))
               (clocked_more start.moments now.place new_place moment (gather_moments 0 w.journal) gives w.heard.clocked);
         };
-        said = said_push start (read_to now state new_left new_read_faults new_place) failed w.journal e tt refl refl refl (record { sent = w.said.sent; put_faults = w.said.put_faults; stuck = w.said.stuck; last = w.said.last });
+        out_count = w.out_count;
+        said = all_said_push start.outs now.outs w.journal e (λ o. record { ends = tt; none = refl; quiet = refl }) refl w.said;
         worked = worked-push w.journal e tt w.worked;
         in_order = in_order-push start.setup w.journal e w.in_order drained;
         counted_at = counted_moments-same w.journal e refl ∙ w.counted_at;
       }
 
   -- the group was offered
-  pub went_offered : (next : CoreState) → IsOffered true moment group core next → IsDrained start.setup w.journal → ProgressTo start next after failed (read_to now state new_left new_read_faults new_place)
-  went_offered next (inl none) drained = subst (λ (k : CoreState). ProgressTo start k after failed (read_to now state new_left new_read_faults new_place)) (sym none.1) (went_none none.0)
+  pub went_offered : (next : CoreState) → IsOffered true moment group core next → IsDrained start.setup w.journal → ProgressTo start next after (read_to now state new_left new_read_faults new_place)
+  went_offered next (inl none) drained = subst (λ (k : CoreState). ProgressTo start k after (read_to now state new_left new_read_faults new_place)) (sym none.1) (went_none none.0)
   went_offered next (inr some) drained = went_gathered next some.0 some.1 some.2 drained
 
   -- the group was refused, since the run is full
-  pub went_full : 2 ^ 32 ≤ core.gathered + length group.metrics.items → Progress start core after failed (read_to now states.LimitReached new_left new_read_faults new_place)
+  pub went_full : 2 ^ 32 ≤ core.gathered + length group.metrics.items → Progress start core after (read_to now states.LimitReached new_left new_read_faults new_place)
   went_full many = record {
     journal = w.journal;
     text = w.text;
@@ -236,7 +239,8 @@ module _ (start : Beginning) (core : CoreState) (before after : Hand) (failed : 
       });
       clocked = clocked_wide start.moments now.place new_place moment (gather_moments 0 w.journal) gives w.heard.clocked;
     };
-    said = record { sent = w.said.sent; put_faults = w.said.put_faults; stuck = w.said.stuck; last = w.said.last };
+    out_count = w.out_count;
+    said = w.said;
     worked = w.worked;
     in_order = w.in_order;
     counted_at = w.counted_at;
@@ -256,12 +260,13 @@ named_unended journal text left hand none h =
     (λ xs ys p. gathered 1000 0 journal xs (to_come hand ys) p (λ e. absurd (let x : false ≡ true = sym none ∙ e in cc))) h
 
 -- the same journal
-went_unended : (start : Beginning) (core : CoreState) (hand : Hand) (failed : ℕ) (now : Surroundings) (w : ProgressTo start core hand failed now) → is_ended now.state ≡ false →
-    Told start.bytes now.left (λ xs ys. IsNamed now.state w.journal xs (to_come hand ys)) → Progress start core hand failed now
-went_unended start core hand failed now w none named = record {
+went_unended : (start : Beginning) (core : CoreState) (hand : Hand) (now : Surroundings) (w : ProgressTo start core hand now) → is_ended now.state ≡ false →
+    Told start.bytes now.left (λ xs ys. IsNamed now.state w.journal xs (to_come hand ys)) → Progress start core hand now
+went_unended start core hand now w none named = record {
   journal = w.journal;
   text = w.text;
   heard = record { named = named; of_taken = w.heard.of_taken; counted = w.heard.counted; ended = w.heard.unended ∙ sym none; later = w.heard.later; state = w.heard.state; clocked = w.heard.clocked };
+  out_count = w.out_count;
   said = w.said;
   worked = w.worked;
   in_order = w.in_order;
@@ -269,17 +274,17 @@ went_unended start core hand failed now w none named = record {
 }
 
 -- the end of the input was noted, where it was reached
-pub went_ended : (state : InState) (start : Beginning) (core next : CoreState) (hand : Hand) (failed : ℕ) (now : Surroundings) → IsEnding state core next → ProgressTo start core hand failed (record now { state = state })
-    → Progress start next hand failed (record now { state = state })
-went_ended states.Reading start core next hand failed now is w =
-    subst (λ (s : CoreState). Progress start s hand failed (record now { state = states.Reading })) (sym is) (went_unended start core hand failed (record now { state = states.Reading }) w refl w.heard.named)
-went_ended states.Faulted start core next hand failed now is w =
-    subst (λ (s : CoreState). Progress start s hand failed (record now { state = states.Faulted })) (sym is)
-    (went_unended start core hand failed (record now { state = states.Faulted }) w refl (named_unended w.journal start.bytes now.left hand w.heard.unended w.heard.named))
-went_ended states.LimitReached start core next hand failed now is w =
-    subst (λ (s : CoreState). Progress start s hand failed (record now { state = states.LimitReached })) (sym is)
-    (went_unended start core hand failed (record now { state = states.LimitReached }) w refl (named_unended w.journal start.bytes now.left hand w.heard.unended w.heard.named))
-went_ended states.Ended start core next hand failed now is w = record {
+pub went_ended : (state : InState) (start : Beginning) (core next : CoreState) (hand : Hand) (now : Surroundings) → IsEnding state core next → ProgressTo start core hand (record now { state = state })
+    → Progress start next hand (record now { state = state })
+went_ended states.Reading start core next hand now is w =
+    subst (λ (s : CoreState). Progress start s hand (record now { state = states.Reading })) (sym is) (went_unended start core hand (record now { state = states.Reading }) w refl w.heard.named)
+went_ended states.Faulted start core next hand now is w =
+    subst (λ (s : CoreState). Progress start s hand (record now { state = states.Faulted })) (sym is)
+    (went_unended start core hand (record now { state = states.Faulted }) w refl (named_unended w.journal start.bytes now.left hand w.heard.unended w.heard.named))
+went_ended states.LimitReached start core next hand now is w =
+    subst (λ (s : CoreState). Progress start s hand (record now { state = states.LimitReached })) (sym is)
+    (went_unended start core hand (record now { state = states.LimitReached }) w refl (named_unended w.journal start.bytes now.left hand w.heard.unended w.heard.named))
+went_ended states.Ended start core next hand now is w = record {
   journal = w.journal ++ Ended 0 ∷ [];
   text = text-push start core next now.journal w.journal (Ended 0) w.text is.1 (ap (λ (s : CoreState). s.stored) is.0) (ap (λ (s : CoreState). s.setup) is.0);
   heard = record {
@@ -291,7 +296,8 @@ went_ended states.Ended start core next hand failed now is w = record {
     state = w.heard.state;
     clocked = clocked_same start.moments now.place (gather_moments 0 w.journal) (gather_moments 0 (w.journal ++ Ended 0 ∷ [])) (gather_moments-same 0 w.journal (Ended 0) refl) w.heard.clocked;
   };
-  said = said_push start (record now { state = states.Ended }) failed w.journal (Ended 0) tt refl refl refl w.said;
+  out_count = w.out_count;
+  said = all_said_push start.outs now.outs w.journal (Ended 0) (λ o. record { ends = tt; none = refl; quiet = refl }) refl w.said;
   worked = worked-push w.journal (Ended 0) tt w.worked;
   in_order = in_order-push start.setup w.journal (Ended 0) w.in_order tt;
   counted_at = counted_moments-same w.journal (Ended 0) refl ∙ w.counted_at;

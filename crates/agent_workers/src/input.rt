@@ -7,7 +7,7 @@ ghost use Rattle.agent_base.specs.Counts.{Rose};
 ghost use Rattle.agent_base.specs.Cut.{TooLong, Whole};
 ghost use Rattle.agent_workers.specs.Groups.{CountsPiece, IsAllRead, ReadsGroup, ReadsNext, IsOffered};
 ghost use Rattle.agent_workers.specs.Groups.{IsEnding, IsGathered};
-ghost use Rattle.agent_workers.specs.Progress.{ReadsOn, IsSettled};
+ghost use Rattle.agent_workers.specs.Progress.{ReadsOn};
 ghost use Rattle.agent_workers.specs.Running.{IsReady, IsReading, HasJournal, StillStands};
 
 use crate::pipe_run::PipeRun;
@@ -171,6 +171,7 @@ fn offer(core: &mut Core, moment: Moment, group: Group) -> Result<bool, OutOfMem
     requires stands { HasJournal core.old }
     ensures ready { OnOk result (IsReady core.new) }
     ensures reading { OnOk result (IsReading core.new) }
+    ensures setup { OnOk result (core.new.setup ≡ core.old.setup) }
     ensures stands { StillStands result core.new }
     ensures offered { IfOk result (λ accepted. IsOffered accepted moment group core.old core.new) }
 {
@@ -203,6 +204,7 @@ fn end_input(core: &mut Core, state: InState) -> Result<(), OutOfMemory>
     ensures ready { OnOk result (IsReady core.new) }
     ensures reading { OnOk result (state ≡ InState.Reading → IsReading core.new) }
     ensures going { OnOk result (core.new.stopped ≡ false) }
+    ensures setup { OnOk result (core.new.setup ≡ core.old.setup) }
     ensures stands { StillStands result core.new }
     ensures ending { OnOk result (IsEnding state core.old core.new) }
 {
@@ -221,13 +223,14 @@ pub fn gather<S: Source, C: Clock>(
 ) -> Result<InState, OutOfMemory>
     requires ready { IsReady run.old.core }
     requires reading { IsReading run.old.core }
-    requires settled { IsSettled run.old }
+    requires none_raw { run.old.core.raw ≡ [] }
     requires stands { HasJournal run.old.core }
     ensures ready { OnOk result (IsReady run.new.core) }
     ensures reading { IfOk result (λ state. state ≡ InState.Reading → IsReading run.new.core) }
     ensures further { IfOk result (λ state. state ≡ InState.Reading
         → IsGathered GATHER_PIECES run.old.core run.new.core) }
     ensures going { OnOk result (run.new.core.stopped ≡ false) }
+    ensures setup { OnOk result (run.new.core.setup ≡ run.old.core.setup) }
     ensures stands { StillStands result run.new.core }
     ensures reads { IfOk result (λ state. ReadsOn run.old run.new state (S.left source.old) (S.left source.new)
         (S.faults source.old) (S.faults source.new)

@@ -30,6 +30,10 @@ status_of states.Ended failed left = if failed then statuses.ReportFault else
 status_of states.Reading failed left = if failed then statuses.ReportFault else
     (if left then statuses.Left else statuses.Done)
 
+-- how many pieces a gather has at most
+abbrev pub gather_pieces : ℕ
+gather_pieces = 1000
+
 -- how often in succession a repeat without an accepted batch is tried at the end
 abbrev pub final_tries : ℕ
 final_tries = 3
@@ -40,7 +44,7 @@ pub record Headline (batch limit : ℕ) (input output note report : Change)
     (run_moments input_moments : Option Moments) : Type 0 where
   pub start : ℤ
   pub journal : List Entry
-  pub run : IsRun final_tries (pipe_setup batch limit start) input (output ∷ []) run_moments input_moments journal
+  pub run : IsRun gather_pieces final_tries (pipe_setup batch limit start) input (output ∷ []) run_moments input_moments journal
   pub noted : Appends note.before note.after (text_of (pipe_setup batch limit start) journal)
   pub reported : Appends report.before report.after (account_of (pipe_setup batch limit start) journal)
 
@@ -50,7 +54,7 @@ pub record TornHeadline (batch limit : ℕ) (input output note report : Change)
     (run_moments input_moments : Option Moments) : Type 0 where
   pub start : ℤ
   pub journal : List Entry
-  pub run : IsRun final_tries (pipe_setup batch limit start) input (output ∷ []) run_moments input_moments journal
+  pub run : IsRun gather_pieces final_tries (pipe_setup batch limit start) input (output ∷ []) run_moments input_moments journal
   pub journal_failed : Bool
   pub report_failed : Bool
   pub noted : IsPutSo journal_failed note (text_of (pipe_setup batch limit start) journal)
@@ -89,7 +93,7 @@ module _ (batch limit : ℕ) (input output note report : Change)
   pub record IsLimit : Type 0 where
     pub headline : TornHeadline batch limit input output note report run_moments input_moments
     pub unended : has_ended 0 headline.journal ≡ false
-    pub reached : (headline.run.taken ≡ 2 ^ 40) ⊎ IsFull 1000 headline.journal 0 input.before input.after
+    pub reached : (headline.run.taken ≡ 2 ^ 40) ⊎ IsFull gather_pieces headline.journal 0 input.before input.after
 
   -- what each status of a run says; nothing is promised where memory was short
   abbrev pub Ends : Status → Type 0

@@ -31,6 +31,9 @@ const INPUT_CLOCK: u32 = 3;
 /// How long a wait of the input's clock pauses: 10 milliseconds, in nanoseconds.
 const INPUT_PAUSE: i64 = 10_000_000;
 
+/// How many pieces one gather has at most.
+const GATHER_PIECES: u32 = 1_000;
+
 /// How often in succession a repeat that had no batch accepted is tried at the end of a run.
 const FINAL_TRIES: u32 = 3;
 
@@ -117,6 +120,7 @@ fn run_parts<W: World>(
             batch: pipe.batch,
             limit: pipe.limit,
         }),
+        gather_pieces: GATHER_PIECES,
         final_tries: FINAL_TRIES,
     };
     let mut clock = world.clock(RUN_CLOCK, RUN_PAUSE);

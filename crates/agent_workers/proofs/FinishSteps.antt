@@ -77,8 +77,8 @@ went_first start core hand outs part stands setup stored notes empty are count =
   journal = [];
   text = record { stands = stands; setup_is = setup; written = []; split = sym stored; notes = notes };
   heard = record {
-    named = told_self start.bytes (λ xs ys. IsNamed states.Reading [] xs (to_come hand ys)) (λ xs. rw empty (gathering_starts 1000 0 xs));
-    of_taken = told_names_start 1000 0 hand start.bytes empty;
+    named = told_self start.bytes (λ xs ys. IsNamed start.most states.Reading [] xs (to_come hand ys)) (λ xs. rw empty (gathering_starts start.most 0 xs));
+    of_taken = told_names_start start.most 0 hand start.bytes empty;
     counted = told_self start.bytes (λ xs ys. length xs ≡ hand.taken + length ys) (λ xs. omega (arith, ap (λ (h : Hand). h.taken) empty));
     ended = none_ended;
     later = omega arith;
@@ -109,11 +109,11 @@ drained start core hand now w raw settled = record {
       ];
 }
 
-named_ends : (state : InState) (journal : List Entry) (text : List ℕ) (rest : List Cut) → (state ≢ states.Reading) → IsNamed state journal text rest → Gathered 1000 journal 0 text
-named_ends states.Reading journal text rest ne h = absurd (ne refl)
-named_ends states.Ended journal text rest ne h = h
-named_ends states.Faulted journal text rest ne h = h
-named_ends states.LimitReached journal text rest ne h = h
+named_ends : (most : ℕ) (state : InState) (journal : List Entry) (text : List ℕ) (rest : List Cut) → (state ≢ states.Reading) → IsNamed most state journal text rest → Gathered most journal 0 text
+named_ends most states.Reading journal text rest ne h = absurd (ne refl)
+named_ends most states.Ended journal text rest ne h = h
+named_ends most states.Faulted journal text rest ne h = h
+named_ends most states.LimitReached journal text rest ne h = h
 
 -- the change of the input
 abbrev pub input_change : Beginning → Surroundings → Change
@@ -127,13 +127,13 @@ changes_at (old ∷ olds) [] o same l = absurd (omega (arith, same))
 changes_at (old ∷ olds) (new ∷ news) zero same l = refl
 changes_at (old ∷ olds) (new ∷ news) (suc o) same l = changes_at olds news o (omega (arith, same)) (omega (arith, l))
 
-unread_by : (state : InState) (start : Beginning) (now : Surroundings) (hand : Hand) (journal : List Entry) → (state ≢ states.Reading) → HasState state start now.read_faults now.left hand journal → Told start.bytes now.left (IsNamedOfTaken state journal hand) → has_ended 0 journal ≡ is_ended state → has_ended 0 journal ≡ false → IsUnread (input_change start now) hand.taken journal
+unread_by : (state : InState) (start : Beginning) (now : Surroundings) (hand : Hand) (journal : List Entry) → (state ≢ states.Reading) → HasState state start now.read_faults now.left hand journal → Told start.bytes now.left (IsNamedOfTaken start.most state journal hand) → has_ended 0 journal ≡ is_ended state → has_ended 0 journal ≡ false → IsUnread start.most (input_change start now) hand.taken journal
 unread_by states.Reading start now hand journal ne h t e f = absurd (ne refl)
 unread_by states.Ended start now hand journal ne h t e f = absurd (let x : true ≡ false = sym e ∙ f in cc)
 unread_by states.Faulted start now hand journal ne h t e f = inl (h.1, t)
 unread_by states.LimitReached start now hand journal ne h t e f = inr h
 
-ends_by : (state : InState) (start : Beginning) (now : Surroundings) (hand : Hand) (journal : List Entry) → (state ≢ states.Reading) → HasState state start now.read_faults now.left hand journal → Told start.bytes now.left (IsNamedOfTaken state journal hand) → has_ended 0 journal ≡ is_ended state → EndsSo state (input_change start now) hand.taken journal
+ends_by : (state : InState) (start : Beginning) (now : Surroundings) (hand : Hand) (journal : List Entry) → (state ≢ states.Reading) → HasState state start now.read_faults now.left hand journal → Told start.bytes now.left (IsNamedOfTaken start.most state journal hand) → has_ended 0 journal ≡ is_ended state → EndsSo start.most state (input_change start now) hand.taken journal
 ends_by states.Reading start now hand journal ne h t e = absurd (ne refl)
 ends_by states.Ended start now hand journal ne h t e = (h, e)
 ends_by states.Faulted start now hand journal ne h t e = (h.0, e, (h.1, t))
@@ -157,11 +157,11 @@ left_is false start core part journal h none = λ o l. sym (buffered_is start co
 left_is true start core part journal h some =
     (some.0, omega (arith, some.1, ap (λ (s : Setup). length s.outputs) h.setup_is), λ z. some.2 (buffered_is start core part journal h some.0 ∙ z))
 
-module _ (tries : ℕ) (sizes : List (ℕ × ℕ)) (start : ℤ) (moment : ℤ) (text : Option (List ℕ)) (read_faults : ℕ) (outs : List OutPart) (noted : Option (List ℕ)) (note_faults : ℕ) (input_moments run_moments : Option Moments) (first last : ℕ)
+module _ (most tries : ℕ) (sizes : List (ℕ × ℕ)) (start : ℤ) (moment : ℤ) (text : Option (List ℕ)) (read_faults : ℕ) (outs : List OutPart) (noted : Option (List ℕ)) (note_faults : ℕ) (input_moments run_moments : Option Moments) (first last : ℕ)
     (core : CoreState) (hand : Hand) (now : Surroundings) where
   -- what the run began with
   abbrev pub beginning : Beginning
-  beginning = record { setup = run_setup sizes start; bytes = text; read_faults = read_faults; outs = outs; noted = noted; note_faults = note_faults; moments = input_moments }
+  beginning = record { setup = run_setup sizes start; most = most; bytes = text; read_faults = read_faults; outs = outs; noted = noted; note_faults = note_faults; moments = input_moments }
 
   module _ (w : Progress beginning core hand (record now { counted_at = int_max moment start ∷ [] })) (gives_first : Gives run_moments 0 first start) (gives_last : Gives run_moments first last moment)
       (stopped : core.stopped ≡ true) (raw : core.raw ≡ []) (none_held : core.held ≡ None) (count : length outs ≡ length sizes) (rest : AreLeft tries core now.outs) (read : now.state ≢ states.Reading) where
@@ -177,10 +177,10 @@ module _ (tries : ℕ) (sizes : List (ℕ × ℕ)) (start : ℤ) (moment : ℤ) 
         record { sent = said.sent; put_faults = said.put_faults; left = left_failed o l (rest o l) } in
         subst (IsSentTo tries (run_setup sizes start) w.journal o) (sym (changes_at outs now.outs o (omega (arith, w.out_count, count)) (omega (arith, within, count)))) is
 
-    pub is_run : IsRun tries (run_setup sizes start) (input_change beginning now) (out_changes outs now.outs) run_moments input_moments w.journal
+    pub is_run : IsRun most tries (run_setup sizes start) (input_change beginning now) (out_changes outs now.outs) run_moments input_moments w.journal
     is_run = record {
       legal = subst (λ (s : Setup). IsLegal s w.journal) w.text.setup_is w.text.stands.legal;
-      gathered = told_map text now.left (λ xs ys. IsNamed now.state w.journal xs (to_come hand ys)) (λ xs ys. Gathered 1000 w.journal 0 xs) (λ xs ys. named_ends now.state w.journal xs (to_come hand ys) read) w.heard.named;
+      gathered = told_map text now.left (λ xs ys. IsNamed most now.state w.journal xs (to_come hand ys)) (λ xs ys. Gathered most w.journal 0 xs) (λ xs ys. named_ends most now.state w.journal xs (to_come hand ys) read) w.heard.named;
       sent_to = sent_to;
       worked = w.worked;
       stopped = sym w.text.stands.stopped ∙ stopped;
@@ -196,7 +196,7 @@ module _ (tries : ℕ) (sizes : List (ℕ × ℕ)) (start : ℤ) (moment : ℤ) 
     }
 
     pub ran : (ending : Ending) (put : Change) → ending.state ≡ now.state → IsLeftOver ending.left core → ending.account.items ≡ account_text core.numbers →
-        IsPutSo ending.journal_failed put (journal_text (journal_setup_of (run_setup sizes start)) (w.text.written ++ core.stored) (account_text core.numbers)) → Ran tries sizes ending (input_change beginning now) (out_changes outs now.outs) put run_moments input_moments
+        IsPutSo ending.journal_failed put (journal_text (journal_setup_of (run_setup sizes start)) (w.text.written ++ core.stored) (account_text core.numbers)) → Ran most tries sizes ending (input_change beginning now) (out_changes outs now.outs) put run_moments input_moments
     unfolding is_run
     ran ending put state left account_is noted =
         let totals_are : core.numbers ≡ totals (run_setup sizes start) w.journal = w.text.stands.numbers ∙ ap (λ (s : Setup). totals s w.journal) w.text.setup_is in
@@ -213,20 +213,20 @@ module _ (tries : ℕ) (sizes : List (ℕ × ℕ)) (start : ℤ) (moment : ℤ) 
         }
 
 -- the clock's moments by another term
-reads_at : (old new : PipeRun) (state : InState) (left new_left : Option (List ℕ)) (read_faults new_read_faults : ℕ) (moments first : Option Moments) (place new_place : ℕ) → moments ≡ first →
-    ReadsOn old new state left new_left read_faults new_read_faults moments place new_place → ReadsOn old new state left new_left read_faults new_read_faults first place new_place
-reads_at old new state left new_left read_faults new_read_faults moments first place new_place same h = subst (λ (m : Option Moments). ReadsOn old new state left new_left read_faults new_read_faults m place new_place) same h
+reads_at : (most : ℕ) (old new : PipeRun) (state : InState) (left new_left : Option (List ℕ)) (read_faults new_read_faults : ℕ) (moments first : Option Moments) (place new_place : ℕ) → moments ≡ first →
+    ReadsOn most old new state left new_left read_faults new_read_faults moments place new_place → ReadsOn most old new state left new_left read_faults new_read_faults first place new_place
+reads_at most old new state left new_left read_faults new_read_faults moments first place new_place same h = subst (λ (m : Option Moments). ReadsOn most old new state left new_left read_faults new_read_faults m place new_place) same h
 
 -- one round more: a group was gathered, the items were routed, batches were sent, and the entries spelled
-pub runs_more : (first old gathered routed sent new : PipeRun) (state : InState) (left0 left new_left : Option (List ℕ)) (read_faults0 read_faults new_read_faults : ℕ) (moments0 moments : Option Moments) (place0 place new_place : ℕ)
-    (outs0 outs fresh new_outs : List OutPart) (part0 part new_part : JournalPart) → RunsOn first old states.Reading left0 left read_faults0 read_faults moments0 place0 place outs0 outs part0 part → moments ≡ moments0 → AreSettled old.core outs →
-    ReadsOn old gathered state left new_left read_faults new_read_faults moments place new_place → fresh ≡ map anew outs → GoesOn gathered routed → SendsOn routed sent fresh new_outs → NotesRun sent new part new_part
-    → RunsOn first new state left0 new_left read_faults0 new_read_faults moments0 place0 new_place outs0 new_outs part0 new_part
-runs_more first old gathered routed sent new state left0 left new_left read_faults0 read_faults new_read_faults moments0 moments place0 place new_place outs0 outs fresh new_outs part0 part new_part runs same settled reads_on anews routes sends notes = λ start now w.
-    let s : Beginning = record start { moments = moments0 } in
+pub runs_more : (most : ℕ) (first old gathered routed sent new : PipeRun) (state : InState) (left0 left new_left : Option (List ℕ)) (read_faults0 read_faults new_read_faults : ℕ) (moments0 moments : Option Moments) (place0 place new_place : ℕ)
+    (outs0 outs fresh new_outs : List OutPart) (part0 part new_part : JournalPart) → RunsOn most first old states.Reading left0 left read_faults0 read_faults moments0 place0 place outs0 outs part0 part → moments ≡ moments0 → AreSettled old.core outs →
+    ReadsOn most old gathered state left new_left read_faults new_read_faults moments place new_place → fresh ≡ map anew outs → GoesOn gathered routed → SendsOn routed sent fresh new_outs → NotesRun sent new part new_part
+    → RunsOn most first new state left0 new_left read_faults0 new_read_faults moments0 place0 new_place outs0 new_outs part0 new_part
+runs_more most first old gathered routed sent new state left0 left new_left read_faults0 read_faults new_read_faults moments0 moments place0 place new_place outs0 outs fresh new_outs part0 part new_part runs same settled reads_on anews routes sends notes = λ start now w.
+    let s : Beginning = record start { most = most; moments = moments0 } in
     let after : Surroundings = record now { state = state; left = new_left; read_faults = new_read_faults; place = new_place } in
     let a = runs start now w in
-    let b = reads_at old gathered state left new_left read_faults new_read_faults moments moments0 place new_place same reads_on start (record now { outs = outs; journal = part }) settled a in
+    let b = reads_at most old gathered state left new_left read_faults new_read_faults moments moments0 place new_place same reads_on start (record now { outs = outs; journal = part }) settled a in
     let c = went_anew s gathered.core gathered.pieces (record after { journal = part }) outs fresh anews b in
     let d = routes s (record after { outs = fresh; journal = part }) (subst AreAnew (sym anews) (are_anew outs)) c in
     let e = sends s (record after { journal = part }) d in

@@ -42,16 +42,16 @@ use Rattle.agent_workers.proofs.ProgressLemmas.{text-push, all_said_push, clocke
 use Rattle.pipeline_core.proofs.WorkedLemmas.{worked-push}
 
 -- while the input is read on the Gathers name full groups; else the last one needn't be full
-abbrev pub IsNamedTo : InState → List Entry → List ℕ → List Cut → Type 0
-IsNamedTo states.Reading journal text rest = Gathering 1000 journal 0 text rest
-IsNamedTo states.Ended journal text rest = GatheredTo 1000 journal 0 text rest
-IsNamedTo states.Faulted journal text rest = GatheredTo 1000 journal 0 text rest
-IsNamedTo states.LimitReached journal text rest = GatheredTo 1000 journal 0 text rest
+abbrev pub IsNamedTo : ℕ → InState → List Entry → List ℕ → List Cut → Type 0
+IsNamedTo most states.Reading journal text rest = Gathering most journal 0 text rest
+IsNamedTo most states.Ended journal text rest = GatheredTo most journal 0 text rest
+IsNamedTo most states.Faulted journal text rest = GatheredTo most journal 0 text rest
+IsNamedTo most states.LimitReached journal text rest = GatheredTo most journal 0 text rest
 
 -- a group was read and offered, and the input's end isn't noted yet
 pub record HeardTo (start : Beginning) (now : Surroundings) (hand : Hand) (journal : List Entry) : Type 0 where
-  pub named : Told start.bytes now.left (λ xs ys. IsNamedTo now.state journal xs (to_come hand ys))
-  pub of_taken : Told start.bytes now.left (IsNamedOfTaken now.state journal hand)
+  pub named : Told start.bytes now.left (λ xs ys. IsNamedTo start.most now.state journal xs (to_come hand ys))
+  pub of_taken : Told start.bytes now.left (IsNamedOfTaken start.most now.state journal hand)
   pub all : now.state ≡ states.Ended → Told start.bytes now.left (λ xs ys. to_come hand ys ≡ [])
   pub counted : Told start.bytes now.left (λ xs ys. length xs ≡ hand.taken + length ys)
   pub unended : has_ended 0 journal ≡ false
@@ -96,11 +96,11 @@ has_state states.Faulted start new_read_faults left hand journal read_faults l l
 has_state states.LimitReached start new_read_faults left hand journal read_faults l limit below failed = inl (limit refl)
 
 module _ (start : Beginning) (core : CoreState) (before after : Hand) (now : Surroundings) (state : InState) (moment : ℤ) (group : Group) (new_left : Option (List ℕ)) (new_read_faults new_place : ℕ)
-    (w : Progress start core before (record now { state = states.Reading })) (g : ReadsGroup moment group state before after now.left new_left)
+    (w : Progress start core before (record now { state = states.Reading })) (one_piece : 1 ≤ start.most) (g : ReadsGroup start.most moment group state before after now.left new_left)
     (gives : Gives start.moments now.place new_place moment) (read_faults : now.read_faults ≤ new_read_faults)
     (counted : Told now.left new_left (λ xs ys. before.taken + length xs ≡ after.taken + length ys))
     (limit : state ≡ states.LimitReached → after.taken ≡ 2 ^ 40) (below : (state ≡ states.LimitReached → ⊥) → after.taken < 2 ^ 40) (faulted : state ≡ states.Faulted → Rose now.read_faults new_read_faults) (one : state ≡ states.Faulted → length (to_come after []) ≤ 1) (line : state ≡ states.Faulted → length (to_come after (10 ∷ [])) ≤ 1) where
-  here : Told start.bytes now.left (λ xs ys. Gathering 1000 w.journal 0 xs (to_come before ys))
+  here : Told start.bytes now.left (λ xs ys. Gathering start.most w.journal 0 xs (to_come before ys))
   here = w.heard.named
 
   counted_all : Told start.bytes new_left (λ xs ys. length xs ≡ after.taken + length ys)
@@ -110,26 +110,26 @@ module _ (start : Beginning) (core : CoreState) (before after : Hand) (now : Sur
 
   all_read : state ≡ states.Ended → Told start.bytes new_left (λ xs ys. to_come after ys ≡ [])
   all_read e =
-      told_then start.bytes now.left new_left (λ xs ys. Gathering 1000 w.journal 0 xs (to_come before ys)) (λ ys zs. to_come after zs ≡ []) (λ xs zs. to_come after zs ≡ [])
+      told_then start.bytes now.left new_left (λ xs ys. Gathering start.most w.journal 0 xs (to_come before ys)) (λ ys zs. to_come after zs ≡ []) (λ xs zs. to_come after zs ≡ [])
       here (g.all e) (λ xs ys zs a b. b)
 
-  named_none : length g.reads.read ≡ 0 → Told start.bytes new_left (λ xs ys. GatheredTo 1000 w.journal 0 xs (to_come after ys))
+  named_none : length g.reads.read ≡ 0 → Told start.bytes new_left (λ xs ys. GatheredTo start.most w.journal 0 xs (to_come after ys))
   named_none none =
-      told_then start.bytes now.left new_left (λ xs ys. Gathering 1000 w.journal 0 xs (to_come before ys)) (λ ys zs. to_come before ys ≡ g.reads.read ++ to_come after zs) (λ xs zs. GatheredTo 1000 w.journal 0 xs (to_come after zs))
+      told_then start.bytes now.left new_left (λ xs ys. Gathering start.most w.journal 0 xs (to_come before ys)) (λ ys zs. to_come before ys ≡ g.reads.read ++ to_come after zs) (λ xs zs. GatheredTo start.most w.journal 0 xs (to_come after zs))
       here g.reads.consecutive
-      (λ xs ys zs a b. gathered_to_here 1000 0 w.journal xs (to_come after zs) (omega arith) (subst (Gathering 1000 w.journal 0 xs) (b ∙ ap (λ (cs : List Cut). cs ++ to_come after zs) (none_of g.reads.read none)) a))
+      (λ xs ys zs a b. gathered_to_here start.most 0 w.journal xs (to_come after zs) one_piece (subst (Gathering start.most w.journal 0 xs) (b ∙ ap (λ (cs : List Cut). cs ++ to_come after zs) (none_of g.reads.read none)) a))
 
-  named_by_state : (state : InState) → (state ≡ states.Reading → ⊥) → (journal : List Entry) → Told start.bytes new_left (λ xs ys. GatheredTo 1000 journal 0 xs (to_come after ys)) → Told start.bytes new_left (λ xs ys. IsNamedTo state journal xs (to_come after ys))
+  named_by_state : (state : InState) → (state ≡ states.Reading → ⊥) → (journal : List Entry) → Told start.bytes new_left (λ xs ys. GatheredTo start.most journal 0 xs (to_come after ys)) → Told start.bytes new_left (λ xs ys. IsNamedTo start.most state journal xs (to_come after ys))
   named_by_state states.Reading ne journal h = absurd (ne refl)
   named_by_state states.Ended ne journal h = h
   named_by_state states.Faulted ne journal h = h
   named_by_state states.LimitReached ne journal h = h
 
-  taken_none : (s : InState) → s ≡ state → (s ≡ states.Reading → ⊥) → group.pieces ≡ 0 → Told start.bytes new_left (IsNamedOfTaken s w.journal after)
+  taken_none : (s : InState) → s ≡ state → (s ≡ states.Reading → ⊥) → group.pieces ≡ 0 → Told start.bytes new_left (IsNamedOfTaken start.most s w.journal after)
   taken_none states.Reading e ne none = absurd (ne refl)
-  taken_none states.Ended e ne none = told_map start.bytes new_left (λ xs ys. length xs ≡ after.taken + length ys) (IsNamedOfTaken states.Ended w.journal after) (λ xs ys h. tt) counted_all
-  taken_none states.Faulted e ne none = told_taken_same 1000 0 w.journal moment group before after start.bytes now.left new_left g.reads w.heard.of_taken here (one (sym e)) (line (sym e)) w.journal refl none
-  taken_none states.LimitReached e ne none = told_map start.bytes new_left (λ xs ys. length xs ≡ after.taken + length ys) (IsNamedOfTaken states.LimitReached w.journal after) (λ xs ys h. tt) counted_all
+  taken_none states.Ended e ne none = told_map start.bytes new_left (λ xs ys. length xs ≡ after.taken + length ys) (IsNamedOfTaken start.most states.Ended w.journal after) (λ xs ys h. tt) counted_all
+  taken_none states.Faulted e ne none = told_taken_same start.most 0 w.journal moment group before after start.bytes now.left new_left g.reads w.heard.of_taken here (one (sym e)) (line (sym e)) w.journal refl none
+  taken_none states.LimitReached e ne none = told_map start.bytes new_left (λ xs ys. length xs ≡ after.taken + length ys) (IsNamedOfTaken start.most states.LimitReached w.journal after) (λ xs ys h. tt) counted_all
 
   -- no piece was read
   pub went_none : group.pieces ≡ 0 → ProgressTo start core after (read_to now state new_left new_read_faults new_place)
@@ -139,8 +139,8 @@ module _ (start : Beginning) (core : CoreState) (before after : Hand) (now : Sur
         journal = w.journal;
         text = w.text;
         heard = record {
-          named = named_by_state state (λ e. absurd (omega (arith, g.full e, none))) w.journal (named_none none);
-          of_taken = taken_none state refl (λ e. absurd (omega (arith, g.full e, none))) empty;
+          named = named_by_state state (λ e. absurd (omega (arith, g.full e, none, one_piece))) w.journal (named_none none);
+          of_taken = taken_none state refl (λ e. absurd (omega (arith, g.full e, none, one_piece))) empty;
           all = all_read;
           counted = counted_all;
           unended = w.heard.ended;
@@ -159,25 +159,25 @@ module _ (start : Beginning) (core : CoreState) (before after : Hand) (now : Sur
   more_named number reports =
       gathers-push 0 w.journal (entry_of 0 moment group number reports) ∙ ap (λ (more : List GatherSays). gathers 0 w.journal ++ more) (gathers_own 0 moment group number reports)
 
-  named_more : (number : Option ℕ) (reports : List Report) (s : InState) → s ≡ state → 0 < length g.reads.read → Told start.bytes new_left (λ xs ys. IsNamedTo s (w.journal ++ entry_of 0 moment group number reports ∷ []) xs (to_come after ys))
+  named_more : (number : Option ℕ) (reports : List Report) (s : InState) → s ≡ state → 0 < length g.reads.read → Told start.bytes new_left (λ xs ys. IsNamedTo start.most s (w.journal ++ entry_of 0 moment group number reports ∷ []) xs (to_come after ys))
   named_more number reports states.Reading e some =
-      told_gathering 1000 0 w.journal (w.journal ++ entry_of 0 moment group number reports ∷ []) moment group number reports before after start.bytes now.left new_left g.reads (more_named number reports) here (g.full (sym e))
+      told_gathering start.most 0 w.journal (w.journal ++ entry_of 0 moment group number reports ∷ []) moment group number reports before after start.bytes now.left new_left g.reads (more_named number reports) here (g.full (sym e))
   named_more number reports states.Ended e some =
-      told_gathered_to 1000 0 w.journal (w.journal ++ entry_of 0 moment group number reports ∷ []) moment group number reports before after start.bytes now.left new_left g.reads (more_named number reports) here (omega arith) g.most
+      told_gathered_to start.most 0 w.journal (w.journal ++ entry_of 0 moment group number reports ∷ []) moment group number reports before after start.bytes now.left new_left g.reads (more_named number reports) here (omega arith) g.most
   named_more number reports states.Faulted e some =
-      told_gathered_to 1000 0 w.journal (w.journal ++ entry_of 0 moment group number reports ∷ []) moment group number reports before after start.bytes now.left new_left g.reads (more_named number reports) here (omega arith) g.most
+      told_gathered_to start.most 0 w.journal (w.journal ++ entry_of 0 moment group number reports ∷ []) moment group number reports before after start.bytes now.left new_left g.reads (more_named number reports) here (omega arith) g.most
   named_more number reports states.LimitReached e some =
-      told_gathered_to 1000 0 w.journal (w.journal ++ entry_of 0 moment group number reports ∷ []) moment group number reports before after start.bytes now.left new_left g.reads (more_named number reports) here (omega arith) g.most
+      told_gathered_to start.most 0 w.journal (w.journal ++ entry_of 0 moment group number reports ∷ []) moment group number reports before after start.bytes now.left new_left g.reads (more_named number reports) here (omega arith) g.most
 
-  taken_more : (number : Option ℕ) (reports : List Report) (s : InState) → s ≡ state → Told start.bytes new_left (IsNamedOfTaken s (w.journal ++ entry_of 0 moment group number reports ∷ []) after)
+  taken_more : (number : Option ℕ) (reports : List Report) (s : InState) → s ≡ state → Told start.bytes new_left (IsNamedOfTaken start.most s (w.journal ++ entry_of 0 moment group number reports ∷ []) after)
   taken_more number reports states.Reading e =
-      told_names_more 1000 0 w.journal moment group before after start.bytes now.left new_left g.reads w.heard.of_taken number reports (w.journal ++ entry_of 0 moment group number reports ∷ []) (more_named number reports) (g.full (sym e))
+      told_names_more start.most 0 w.journal moment group before after start.bytes now.left new_left g.reads w.heard.of_taken number reports (w.journal ++ entry_of 0 moment group number reports ∷ []) (more_named number reports) (g.full (sym e))
   taken_more number reports states.Ended e =
-      told_map start.bytes new_left (λ xs ys. length xs ≡ after.taken + length ys) (IsNamedOfTaken states.Ended (w.journal ++ entry_of 0 moment group number reports ∷ []) after) (λ xs ys h. tt) counted_all
+      told_map start.bytes new_left (λ xs ys. length xs ≡ after.taken + length ys) (IsNamedOfTaken start.most states.Ended (w.journal ++ entry_of 0 moment group number reports ∷ []) after) (λ xs ys h. tt) counted_all
   taken_more number reports states.Faulted e =
-      told_taken_more 1000 0 w.journal moment group before after start.bytes now.left new_left g.reads w.heard.of_taken here (one (sym e)) (line (sym e)) number reports (w.journal ++ entry_of 0 moment group number reports ∷ []) (more_named number reports)
+      told_taken_more start.most 0 w.journal moment group before after start.bytes now.left new_left g.reads w.heard.of_taken here (one (sym e)) (line (sym e)) number reports (w.journal ++ entry_of 0 moment group number reports ∷ []) (more_named number reports)
   taken_more number reports states.LimitReached e =
-      told_map start.bytes new_left (λ xs ys. length xs ≡ after.taken + length ys) (IsNamedOfTaken states.LimitReached (w.journal ++ entry_of 0 moment group number reports ∷ []) after) (λ xs ys h. tt) counted_all
+      told_map start.bytes new_left (λ xs ys. length xs ≡ after.taken + length ys) (IsNamedOfTaken start.most states.LimitReached (w.journal ++ entry_of 0 moment group number reports ∷ []) after) (λ xs ys h. tt) counted_all
 
   -- the group was gathered
   pub went_gathered : (next : CoreState) → 0 < group.pieces → next ≡ after_gather core (gathered_of moment group) → Continues core next (gather_entry core (gathered_of moment group)) → IsDrained start.setup w.journal
@@ -221,10 +221,10 @@ module _ (start : Beginning) (core : CoreState) (before after : Hand) (now : Sur
     text = w.text;
     heard = record {
       named =
-          told_then start.bytes now.left new_left (λ xs ys. Gathering 1000 w.journal 0 xs (to_come before ys)) (λ ys zs. to_come before ys ≡ g.reads.read ++ to_come after zs) (λ xs zs. Gathered 1000 w.journal 0 xs)
+          told_then start.bytes now.left new_left (λ xs ys. Gathering start.most w.journal 0 xs (to_come before ys)) (λ ys zs. to_come before ys ≡ g.reads.read ++ to_come after zs) (λ xs zs. Gathered start.most w.journal 0 xs)
           here g.reads.consecutive
-          (λ xs ys zs a b. gathered 1000 0 w.journal xs (to_come before ys) (gathered_to_here 1000 0 w.journal xs (to_come before ys) (omega arith) a) (λ e. absurd (let x : false ≡ true = sym w.heard.ended ∙ e in cc)));
-      of_taken = told_map start.bytes new_left (λ xs ys. length xs ≡ after.taken + length ys) (IsNamedOfTaken states.LimitReached w.journal after) (λ xs ys h. tt) counted_all;
+          (λ xs ys zs a b. gathered start.most 0 w.journal xs (to_come before ys) (gathered_to_here start.most 0 w.journal xs (to_come before ys) one_piece a) (λ e. absurd (let x : false ≡ true = sym w.heard.ended ∙ e in cc)));
+      of_taken = told_map start.bytes new_left (λ xs ys. length xs ≡ after.taken + length ys) (IsNamedOfTaken start.most states.LimitReached w.journal after) (λ xs ys h. tt) counted_all;
       counted = counted_all;
       ended = w.heard.ended;
       later = omega (arith, w.heard.later, read_faults);
@@ -233,7 +233,7 @@ module _ (start : Beginning) (core : CoreState) (before after : Hand) (now : Sur
         few = omega (arith, g.most, ap (λ (ms : List Content). length ms) g.reads.metrics, few_readings moment g.reads.read);
         many = omega (arith, many, w.text.stands.gathered);
         next =
-            told_then start.bytes now.left new_left (λ xs ys. Gathering 1000 w.journal 0 xs (to_come before ys)) (λ ys zs. to_come before ys ≡ g.reads.read ++ to_come after zs) (λ xs zs. IsNextGroup 1000 w.journal 0 xs (length group.metrics.items))
+            told_then start.bytes now.left new_left (λ xs ys. Gathering start.most w.journal 0 xs (to_come before ys)) (λ ys zs. to_come before ys ≡ g.reads.read ++ to_come after zs) (λ xs zs. IsNextGroup start.most w.journal 0 xs (length group.metrics.items))
             here g.reads.consecutive
             (λ xs ys zs a b. record { moment = moment; groups = a.groups; group = g.reads.read; rest = to_come after zs; consecutive = a.consecutive ∙ ap (λ (cs : List Cut). joined a.groups ++ cs) b; named = a.named; few = g.most; metrics = ap (λ (ms : List Content). length ms) g.reads.metrics });
       });
@@ -249,19 +249,19 @@ module _ (start : Beginning) (core : CoreState) (before after : Hand) (now : Sur
 ended_here : (journal : List Entry) → has_ended 0 (journal ++ Ended 0 ∷ []) ≡ true
 ended_here journal = has_ended-push 0 journal (Ended 0) ∙ or-true (has_ended 0 journal)
 
-named_ended : (journal : List Entry) (text left : Option (List ℕ)) (hand : Hand) → Told text left (λ xs ys. GatheredTo 1000 journal 0 xs (to_come hand ys)) → Told text left (λ xs ys. to_come hand ys ≡ []) → Told text left (λ xs ys. Gathered 1000 (journal ++ Ended 0 ∷ []) 0 xs)
-named_ended journal text left hand h all =
-    told_pair text left (λ xs ys. GatheredTo 1000 journal 0 xs (to_come hand ys)) (λ xs ys. to_come hand ys ≡ []) (λ xs ys. Gathered 1000 (journal ++ Ended 0 ∷ []) 0 xs) h all
-    (λ xs ys p q. gathered 1000 0 (journal ++ Ended 0 ∷ []) xs (to_come hand ys) (gathered_to_same 1000 0 journal (journal ++ Ended 0 ∷ []) xs (to_come hand ys) (gathers-other 0 journal (Ended 0) refl) p) (λ e. q))
+named_ended : (most : ℕ) (journal : List Entry) (text left : Option (List ℕ)) (hand : Hand) → Told text left (λ xs ys. GatheredTo most journal 0 xs (to_come hand ys)) → Told text left (λ xs ys. to_come hand ys ≡ []) → Told text left (λ xs ys. Gathered most (journal ++ Ended 0 ∷ []) 0 xs)
+named_ended most journal text left hand h all =
+    told_pair text left (λ xs ys. GatheredTo most journal 0 xs (to_come hand ys)) (λ xs ys. to_come hand ys ≡ []) (λ xs ys. Gathered most (journal ++ Ended 0 ∷ []) 0 xs) h all
+    (λ xs ys p q. gathered most 0 (journal ++ Ended 0 ∷ []) xs (to_come hand ys) (gathered_to_same most 0 journal (journal ++ Ended 0 ∷ []) xs (to_come hand ys) (gathers-other 0 journal (Ended 0) refl) p) (λ e. q))
 
-named_unended : (journal : List Entry) (text left : Option (List ℕ)) (hand : Hand) → has_ended 0 journal ≡ false → Told text left (λ xs ys. GatheredTo 1000 journal 0 xs (to_come hand ys)) → Told text left (λ xs ys. Gathered 1000 journal 0 xs)
-named_unended journal text left hand none h =
-    told_map text left (λ xs ys. GatheredTo 1000 journal 0 xs (to_come hand ys)) (λ xs ys. Gathered 1000 journal 0 xs)
-    (λ xs ys p. gathered 1000 0 journal xs (to_come hand ys) p (λ e. absurd (let x : false ≡ true = sym none ∙ e in cc))) h
+named_unended : (most : ℕ) (journal : List Entry) (text left : Option (List ℕ)) (hand : Hand) → has_ended 0 journal ≡ false → Told text left (λ xs ys. GatheredTo most journal 0 xs (to_come hand ys)) → Told text left (λ xs ys. Gathered most journal 0 xs)
+named_unended most journal text left hand none h =
+    told_map text left (λ xs ys. GatheredTo most journal 0 xs (to_come hand ys)) (λ xs ys. Gathered most journal 0 xs)
+    (λ xs ys p. gathered most 0 journal xs (to_come hand ys) p (λ e. absurd (let x : false ≡ true = sym none ∙ e in cc))) h
 
 -- the same journal
 went_unended : (start : Beginning) (core : CoreState) (hand : Hand) (now : Surroundings) (w : ProgressTo start core hand now) → is_ended now.state ≡ false →
-    Told start.bytes now.left (λ xs ys. IsNamed now.state w.journal xs (to_come hand ys)) → Progress start core hand now
+    Told start.bytes now.left (λ xs ys. IsNamed start.most now.state w.journal xs (to_come hand ys)) → Progress start core hand now
 went_unended start core hand now w none named = record {
   journal = w.journal;
   text = w.text;
@@ -280,15 +280,15 @@ went_ended states.Reading start core next hand now is w =
     subst (λ (s : CoreState). Progress start s hand (record now { state = states.Reading })) (sym is) (went_unended start core hand (record now { state = states.Reading }) w refl w.heard.named)
 went_ended states.Faulted start core next hand now is w =
     subst (λ (s : CoreState). Progress start s hand (record now { state = states.Faulted })) (sym is)
-    (went_unended start core hand (record now { state = states.Faulted }) w refl (named_unended w.journal start.bytes now.left hand w.heard.unended w.heard.named))
+    (went_unended start core hand (record now { state = states.Faulted }) w refl (named_unended start.most w.journal start.bytes now.left hand w.heard.unended w.heard.named))
 went_ended states.LimitReached start core next hand now is w =
     subst (λ (s : CoreState). Progress start s hand (record now { state = states.LimitReached })) (sym is)
-    (went_unended start core hand (record now { state = states.LimitReached }) w refl (named_unended w.journal start.bytes now.left hand w.heard.unended w.heard.named))
+    (went_unended start core hand (record now { state = states.LimitReached }) w refl (named_unended start.most w.journal start.bytes now.left hand w.heard.unended w.heard.named))
 went_ended states.Ended start core next hand now is w = record {
   journal = w.journal ++ Ended 0 ∷ [];
   text = text-push start core next now.journal w.journal (Ended 0) w.text is.1 (ap (λ (s : CoreState). s.stored) is.0) (ap (λ (s : CoreState). s.setup) is.0);
   heard = record {
-    named = named_ended w.journal start.bytes now.left hand w.heard.named (w.heard.all refl);
+    named = named_ended start.most w.journal start.bytes now.left hand w.heard.named (w.heard.all refl);
     of_taken = w.heard.of_taken;
     counted = w.heard.counted;
     ended = ended_here w.journal;
@@ -320,16 +320,16 @@ offered_some moment stored group metrics old new same is some after stands = inr
 )
 
 -- where the input is read on a whole group was gathered
-pub gathered_full : (state : InState) (moment : ℤ) (group : Group) (old offered new : CoreState) (before after : Hand) (left_before left_after : Option (List ℕ)) → state ≡ states.Reading → ReadsGroup moment group state before after left_before left_after →
-    IsOffered true moment group old offered → IsEnding state offered new → IsGathered 1000 old new
-gathered_full state moment group old offered new before after left_before left_after reading g accepted ending = go accepted
+pub gathered_full : (most : ℕ) (state : InState) (moment : ℤ) (group : Group) (old offered new : CoreState) (before after : Hand) (left_before left_after : Option (List ℕ)) → 1 ≤ most → state ≡ states.Reading → ReadsGroup most moment group state before after left_before left_after →
+    IsOffered true moment group old offered → IsEnding state offered new → IsGathered most old new
+gathered_full most state moment group old offered new before after left_before left_after one_piece reading g accepted ending = go accepted
   where
-    count : group.pieces ≡ 1000
+    count : group.pieces ≡ most
     count = g.reads.pieces ∙ g.full reading
 
     same : new ≡ offered
     same = subst (λ (s : InState). IsEnding s offered new) reading ending
 
-    go : IsOffered true moment group old offered → IsGathered 1000 old new
-    go (inl none) = absurd (omega (arith, count, none.0))
+    go : IsOffered true moment group old offered → IsGathered most old new
+    go (inl none) = absurd (omega (arith, count, none.0, one_piece))
     go (inr some) = record { moment = moment; group = group; count = count; is = same ∙ some.1 }

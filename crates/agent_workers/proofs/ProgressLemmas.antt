@@ -84,18 +84,18 @@ text-cut start core next part more journal h stands none same notes = record {
       (notes (journal_setup_of start.setup) start.noted start.note_faults h.written h.notes (stored_in_order start core part journal h));
 }
 
-named_same : (state : InState) (old new : List Entry) (text : List ℕ) (rest : List Cut) → gathers 0 new ≡ gathers 0 old → has_ended 0 new ≡ has_ended 0 old → IsNamed state old text rest → IsNamed state new text rest
-named_same states.Reading old new text rest same ended h = gathering_same 1000 0 old new text rest same h
-named_same states.Ended old new text rest same ended h = record { groups = h.groups; rest = h.rest; consecutive = h.consecutive; named = subst (AreGroups h.groups) (sym same) h.named; full = h.full; all = λ e. h.all (sym ended ∙ e) }
-named_same states.Faulted old new text rest same ended h = record { groups = h.groups; rest = h.rest; consecutive = h.consecutive; named = subst (AreGroups h.groups) (sym same) h.named; full = h.full; all = λ e. h.all (sym ended ∙ e) }
-named_same states.LimitReached old new text rest same ended h = record { groups = h.groups; rest = h.rest; consecutive = h.consecutive; named = subst (AreGroups h.groups) (sym same) h.named; full = h.full; all = λ e. h.all (sym ended ∙ e) }
+named_same : (most : ℕ) (state : InState) (old new : List Entry) (text : List ℕ) (rest : List Cut) → gathers 0 new ≡ gathers 0 old → has_ended 0 new ≡ has_ended 0 old → IsNamed most state old text rest → IsNamed most state new text rest
+named_same most states.Reading old new text rest same ended h = gathering_same most 0 old new text rest same h
+named_same most states.Ended old new text rest same ended h = record { groups = h.groups; rest = h.rest; consecutive = h.consecutive; named = subst (AreGroups h.groups) (sym same) h.named; full = h.full; all = λ e. h.all (sym ended ∙ e) }
+named_same most states.Faulted old new text rest same ended h = record { groups = h.groups; rest = h.rest; consecutive = h.consecutive; named = subst (AreGroups h.groups) (sym same) h.named; full = h.full; all = λ e. h.all (sym ended ∙ e) }
+named_same most states.LimitReached old new text rest same ended h = record { groups = h.groups; rest = h.rest; consecutive = h.consecutive; named = subst (AreGroups h.groups) (sym same) h.named; full = h.full; all = λ e. h.all (sym ended ∙ e) }
 
-full_same : (old new : List Entry) (text left : Option (List ℕ)) → gathers 0 new ≡ gathers 0 old → gathered_count new ≡ gathered_count old → IsFull 1000 old 0 text left → IsFull 1000 new 0 text left
-full_same old new text left same count h = record {
+full_same : (most : ℕ) (old new : List Entry) (text left : Option (List ℕ)) → gathers 0 new ≡ gathers 0 old → gathered_count new ≡ gathered_count old → IsFull most old 0 text left → IsFull most new 0 text left
+full_same most old new text left same count h = record {
   count = h.count;
   few = h.few;
   many = omega (arith, h.many, count);
-  next = told_map text left (λ xs ys. IsNextGroup 1000 old 0 xs h.count) (λ xs ys. IsNextGroup 1000 new 0 xs h.count)
+  next = told_map text left (λ xs ys. IsNextGroup most old 0 xs h.count) (λ xs ys. IsNextGroup most new 0 xs h.count)
       (λ xs ys n. record { moment = n.moment; groups = n.groups; group = n.group; rest = n.rest; consecutive = n.consecutive; named = subst (AreGroups n.groups) (sym same) n.named; few = n.few; metrics = n.metrics })
       h.next;
 }
@@ -105,24 +105,24 @@ state_same states.Reading start read_faults left hand old new same count h = h
 state_same states.Ended start read_faults left hand old new same count h = h
 state_same states.Faulted start read_faults left hand old new same count h = h
 state_same states.LimitReached start read_faults left hand old new same count (inl h) = inl h
-state_same states.LimitReached start read_faults left hand old new same count (inr h) = inr (full_same old new start.bytes left same count h)
+state_same states.LimitReached start read_faults left hand old new same count (inr h) = inr (full_same start.most old new start.bytes left same count h)
 
 pub clocked_same : (all : Option Moments) (place : ℕ) (old new : List ℤ) → new ≡ old → IfSome all (λ moments. IsClocked moments place old) → IfSome all (λ moments. IsClocked moments place new)
 clocked_same None place old new same h = tt
 clocked_same (Some moments) place old new same h = subst (IsClocked moments place) (sym same) h
 
-taken_same : (state : InState) (old new : List Entry) (hand : Hand) (text left : List ℕ) → gathers 0 new ≡ gathers 0 old → IsNamedOfTaken state old hand text left → IsNamedOfTaken state new hand text left
-taken_same states.Reading old new hand text left same h = names_same 1000 0 old new hand text left same h
-taken_same states.Ended old new hand text left same h = tt
-taken_same states.Faulted old new hand text left same h = record { taken = h.taken; split = h.split; groups = h.groups; named = subst (AreGroups h.groups) (sym same) h.named; all = h.all }
-taken_same states.LimitReached old new hand text left same h = tt
+taken_same : (most : ℕ) (state : InState) (old new : List Entry) (hand : Hand) (text left : List ℕ) → gathers 0 new ≡ gathers 0 old → IsNamedOfTaken most state old hand text left → IsNamedOfTaken most state new hand text left
+taken_same most states.Reading old new hand text left same h = names_same most 0 old new hand text left same h
+taken_same most states.Ended old new hand text left same h = tt
+taken_same most states.Faulted old new hand text left same h = record { taken = h.taken; split = h.split; groups = h.groups; named = subst (AreGroups h.groups) (sym same) h.named; all = h.all }
+taken_same most states.LimitReached old new hand text left same h = tt
 
 -- a journal with the same Gathers
 pub heard_same : (start : Beginning) (now : Surroundings) (hand : Hand) (old new : List Entry) → gathers 0 new ≡ gathers 0 old → has_ended 0 new ≡ has_ended 0 old → gathered_count new ≡ gathered_count old → gather_moments 0 new ≡ gather_moments 0 old
     → Heard start now hand old → Heard start now hand new
 heard_same start now hand old new same ended count moments h = record {
-  named = told_map start.bytes now.left (λ xs ys. IsNamed now.state old xs (to_come hand ys)) (λ xs ys. IsNamed now.state new xs (to_come hand ys)) (λ xs ys. named_same now.state old new xs (to_come hand ys) same ended) h.named;
-  of_taken = told_map start.bytes now.left (IsNamedOfTaken now.state old hand) (IsNamedOfTaken now.state new hand) (λ xs ys. taken_same now.state old new hand xs ys same) h.of_taken;
+  named = told_map start.bytes now.left (λ xs ys. IsNamed start.most now.state old xs (to_come hand ys)) (λ xs ys. IsNamed start.most now.state new xs (to_come hand ys)) (λ xs ys. named_same start.most now.state old new xs (to_come hand ys) same ended) h.named;
+  of_taken = told_map start.bytes now.left (IsNamedOfTaken start.most now.state old hand) (IsNamedOfTaken start.most now.state new hand) (λ xs ys. taken_same start.most now.state old new hand xs ys same) h.of_taken;
   counted = h.counted;
   ended = ended ∙ h.ended;
   later = h.later;

@@ -29,10 +29,12 @@ use Rattle.agent_workers.specs.Output.{AppendsSo, batch_text, OutPart, out_at, A
 use Rattle.agent_workers.specs.Running.{AreSettled}
 use Rattle.pipeline_core.specs.Worked.{Worked}
 
--- what a run began with: its set-up, the bytes left of the input and its count of failed reads, its outputs,
--- the bytes held by the journal's place and its count of failed puts, and the moments of the input's clock
+-- what a run began with: its set-up, how many pieces a gather has at most, the bytes left of the input and
+-- its count of failed reads, its outputs, the bytes held by the journal's place and its count of failed puts,
+-- and the moments of the input's clock
 pub record Beginning : Type 0 where
   pub setup : Setup
+  pub most : ℕ
   pub bytes : Option (List ℕ)
   pub read_faults : ℕ
   pub outs : List OutPart
@@ -62,11 +64,11 @@ pub record HasText (start : Beginning) (core : CoreState) (part : JournalPart)
 
 -- while the input is read on its Gathers name full groups up to the pieces that are to come; else they name
 -- groups of its text, all pieces where it has ended
-abbrev pub IsNamed : InState → List Entry → List ℕ → List Cut → Type 0
-IsNamed states.Reading journal text rest = Gathering 1000 journal 0 text rest
-IsNamed states.Ended journal text rest = Gathered 1000 journal 0 text
-IsNamed states.Faulted journal text rest = Gathered 1000 journal 0 text
-IsNamed states.LimitReached journal text rest = Gathered 1000 journal 0 text
+abbrev pub IsNamed : ℕ → InState → List Entry → List ℕ → List Cut → Type 0
+IsNamed most states.Reading journal text rest = Gathering most journal 0 text rest
+IsNamed most states.Ended journal text rest = Gathered most journal 0 text
+IsNamed most states.Faulted journal text rest = Gathered most journal 0 text
+IsNamed most states.LimitReached journal text rest = Gathered most journal 0 text
 
 abbrev pub is_ended : InState → Bool
 is_ended states.Ended = true
@@ -80,24 +82,25 @@ HasState states.Ended start read_faults left hand journal = hand.taken < 2 ^ 40
 HasState states.Faulted start read_faults left hand journal = (hand.taken < 2 ^ 40)
     × Rose start.read_faults read_faults
 HasState states.LimitReached start read_faults left hand journal = (hand.taken ≡ 2 ^ 40)
-    ⊎ IsFull 1000 journal 0 start.bytes left
+    ⊎ IsFull start.most journal 0 start.bytes left
 
 -- a clock came to a place of its list, and gave these moments on the way
 abbrev pub IsClocked : Moments → ℕ → List ℤ → Type 0
 IsClocked moments place all = (place ≤ moments.last) × Clocked moments 0 place all
 
--- while the input is read on its Gathers name the pieces of what was taken, whatever follows; after a failed read
--- all of these but perhaps that of the last line
-abbrev pub IsNamedOfTaken : InState → List Entry → Hand → List ℕ → List ℕ → Type 0
-IsNamedOfTaken states.Reading journal hand text left = NamesSoFar 1000 journal 0 hand text left
-IsNamedOfTaken states.Ended journal hand text left = Unit {0}
-IsNamedOfTaken states.Faulted journal hand text left = NamesTaken journal 0 text left
-IsNamedOfTaken states.LimitReached journal hand text left = Unit {0}
+-- while the input is read on its Gathers name the pieces of what was taken, whatever follows; after a failed
+-- read all of these but perhaps that of the last line
+abbrev pub IsNamedOfTaken : ℕ → InState → List Entry → Hand → List ℕ → List ℕ → Type 0
+IsNamedOfTaken most states.Reading journal hand text left = NamesSoFar most journal 0 hand text left
+IsNamedOfTaken most states.Ended journal hand text left = Unit {0}
+IsNamedOfTaken most states.Faulted journal hand text left = NamesTaken journal 0 text left
+IsNamedOfTaken most states.LimitReached journal hand text left = Unit {0}
 
 -- what the journal says of the input
 pub record Heard (start : Beginning) (now : Surroundings) (hand : Hand) (journal : List Entry) : Type 0 where
-  pub named : Told start.bytes now.left (λ xs ys. IsNamed now.state journal xs (to_come hand ys))
-  pub of_taken : Told start.bytes now.left (IsNamedOfTaken now.state journal hand)
+  pub named : Told start.bytes now.left (λ xs ys. IsNamed start.most now.state journal xs
+      (to_come hand ys))
+  pub of_taken : Told start.bytes now.left (IsNamedOfTaken start.most now.state journal hand)
   pub counted : Told start.bytes now.left (λ xs ys. length xs ≡ hand.taken + length ys)
   pub ended : has_ended 0 journal ≡ is_ended now.state
   pub later : start.read_faults ≤ now.read_faults
@@ -153,13 +156,13 @@ SendsAt old new out new_out =
 
 -- a step that reads the input, with the state that it leaves, the bytes left before and after, the counts of
 -- failed reads, and the clock's moments and places; before it the outputs are settled
-abbrev pub ReadsOn : PipeRun → PipeRun → InState → Option (List ℕ) → Option (List ℕ) → ℕ → ℕ → Option Moments
-    → ℕ → ℕ → Type 0
-ReadsOn old new state left new_left read_faults new_read_faults moments place new_place =
+abbrev pub ReadsOn : ℕ → PipeRun → PipeRun → InState → Option (List ℕ) → Option (List ℕ) → ℕ → ℕ
+    → Option Moments → ℕ → ℕ → Type 0
+ReadsOn most old new state left new_left read_faults new_read_faults moments place new_place =
     (start : Beginning) (now : Surroundings) → AreSettled old.core now.outs →
-    Went (record start { moments = moments }) old
+    Went (record start { most = most; moments = moments }) old
     (record now { state = states.Reading; left = left; read_faults = read_faults; place = place }) →
-    Went (record start { moments = moments }) new
+    Went (record start { most = most; moments = moments }) new
     (record now { state = state; left = new_left; read_faults = new_read_faults; place = new_place })
 
 -- a step that puts to the journal's place
@@ -169,12 +172,12 @@ NotesRun old new part new_part =
     → Went start new (record now { journal = new_part })
 
 -- rounds: they read the input, and put to the outputs and to the journal's place
-abbrev pub RunsOn : PipeRun → PipeRun → InState → Option (List ℕ) → Option (List ℕ) → ℕ → ℕ → Option Moments
-    → ℕ → ℕ → List OutPart → List OutPart → JournalPart → JournalPart → Type 0
-RunsOn old new state left new_left read_faults new_read_faults moments place new_place outs new_outs part
+abbrev pub RunsOn : ℕ → PipeRun → PipeRun → InState → Option (List ℕ) → Option (List ℕ) → ℕ → ℕ
+    → Option Moments → ℕ → ℕ → List OutPart → List OutPart → JournalPart → JournalPart → Type 0
+RunsOn most old new state left new_left read_faults new_read_faults moments place new_place outs new_outs part
     new_part =
     (start : Beginning) (now : Surroundings) →
-    Went (record start { moments = moments }) old
+    Went (record start { most = most; moments = moments }) old
     (record now {
       state = states.Reading;
       left = left;
@@ -183,7 +186,7 @@ RunsOn old new state left new_left read_faults new_read_faults moments place new
       outs = outs;
       journal = part;
     }) →
-    Went (record start { moments = moments }) new
+    Went (record start { most = most; moments = moments }) new
     (record now {
       state = state;
       left = new_left;

@@ -69,9 +69,9 @@ IsCutShort input journal = Rose input.faults_before input.faults_after
     × Told input.before input.after (NamesTaken journal 0)
 
 -- why the input has no Ended: a read failed, 2^40 bytes were taken, or the run is full
-abbrev pub IsUnread : Change → ℕ → List Entry → Type 0
-IsUnread input taken journal = IsCutShort input journal ⊎ (taken ≡ 2 ^ 40)
-    ⊎ IsFull 1000 journal 0 input.before input.after
+abbrev pub IsUnread : ℕ → Change → ℕ → List Entry → Type 0
+IsUnread most input taken journal = IsCutShort input journal ⊎ (taken ≡ 2 ^ 40)
+    ⊎ IsFull most journal 0 input.before input.after
 
 -- what a journal says of an output
 pub record IsSentTo (tries : ℕ) (setup : Setup) (journal : List Entry) (output : ℕ) (place : Change)
@@ -84,13 +84,14 @@ pub record IsSentTo (tries : ℕ) (setup : Setup) (journal : List Entry) (output
   pub left : buffered_at_end setup journal output ≢ 0
       → LastFailed tries (dones output (behind_stop journal))
 
--- A legal journal of a run of one input and any number of outputs, given how often in succession a repeat
--- without an accepted batch is tried at the end, and the moments of the run's clock and of the input's clock.
-pub record IsRun (tries : ℕ) (setup : Setup) (input : Change) (outputs : List Change)
+-- A legal journal of a run of one input and any number of outputs, given how many pieces a gather has at
+-- most, how often in succession a repeat without an accepted batch is tried at the end, and the moments of
+-- the run's clock and of the input's clock.
+pub record IsRun (most tries : ℕ) (setup : Setup) (input : Change) (outputs : List Change)
     (run_moments input_moments : Option Moments) (journal : List Entry) : Type 0 where
   pub legal : IsLegal setup journal
   -- the Gathers name the pieces of what was left at the input's place
-  pub gathered : Told input.before input.after (λ xs ys. Gathered 1000 journal 0 xs)
+  pub gathered : Told input.before input.after (λ xs ys. Gathered most journal 0 xs)
   -- each output was sent its batches
   pub sent_to : (output : ℕ) → output < length setup.outputs →
       IsSentTo tries setup journal output (change_at outputs output)
@@ -108,19 +109,19 @@ pub record IsRun (tries : ℕ) (setup : Setup) (input : Change) (outputs : List 
   -- so many bytes of the input were taken; it was read to its end, or there is a cause
   pub taken : ℕ
   pub bytes_taken : Told input.before input.after (λ xs ys. length xs ≡ taken + length ys)
-  pub unread : has_ended 0 journal ≡ false → IsUnread input taken journal
+  pub unread : has_ended 0 journal ≡ false → IsUnread most input taken journal
   -- before each Begin all items were routed; before each Gather too, and all was sent or the last put had
   -- failed
   pub in_order : InOrder setup journal
 
 -- whether the input was read to its end, or why not
-abbrev pub EndsSo : InState → Change → ℕ → List Entry → Type 0
-EndsSo states.Reading input taken journal = ⊥
-EndsSo states.Ended input taken journal = (taken < 2 ^ 40) × (has_ended 0 journal ≡ true)
-EndsSo states.Faulted input taken journal = (taken < 2 ^ 40) × (has_ended 0 journal ≡ false)
+abbrev pub EndsSo : ℕ → InState → Change → ℕ → List Entry → Type 0
+EndsSo most states.Reading input taken journal = ⊥
+EndsSo most states.Ended input taken journal = (taken < 2 ^ 40) × (has_ended 0 journal ≡ true)
+EndsSo most states.Faulted input taken journal = (taken < 2 ^ 40) × (has_ended 0 journal ≡ false)
     × IsCutShort input journal
-EndsSo states.LimitReached input taken journal = (has_ended 0 journal ≡ false)
-    × ((taken ≡ 2 ^ 40) ⊎ IsFull 1000 journal 0 input.before input.after)
+EndsSo most states.LimitReached input taken journal = (has_ended 0 journal ≡ false)
+    × ((taken ≡ 2 ^ 40) ⊎ IsFull most journal 0 input.before input.after)
 
 -- a text was appended; or a part of it, and the count of faults rose
 abbrev pub IsPutSo : Bool → Change → List ℕ → Type 0
@@ -136,12 +137,12 @@ IsLeft true setup journal =
     (output : ℕ) × (output < length setup.outputs) × (buffered_at_end setup journal output ≢ 0)
 
 -- what a run leaves, before its account is reported, given the sizes of its outputs
-pub record Ran (tries : ℕ) (sizes : List (ℕ × ℕ)) (ending : Ending) (input : Change) (outputs : List Change)
-    (note : Change) (run_moments input_moments : Option Moments) : Type 0 where
+pub record Ran (most tries : ℕ) (sizes : List (ℕ × ℕ)) (ending : Ending) (input : Change)
+    (outputs : List Change) (note : Change) (run_moments input_moments : Option Moments) : Type 0 where
   pub start : ℤ
   pub journal : List Entry
-  pub run : IsRun tries (run_setup sizes start) input outputs run_moments input_moments journal
-  pub ends : EndsSo ending.state input run.taken journal
+  pub run : IsRun most tries (run_setup sizes start) input outputs run_moments input_moments journal
+  pub ends : EndsSo most ending.state input run.taken journal
   pub left : IsLeft ending.left (run_setup sizes start) journal
   pub account : ending.account.items ≡ account_of (run_setup sizes start) journal
   pub noted : IsPutSo ending.journal_failed note (text_of (run_setup sizes start) journal)

@@ -1,5 +1,6 @@
 -- What a core keeps between the steps of a run.
-use Rattle.std.specs.Prelude.{◌≡◌, ◌≢◌, ◌<◌, ◌≤◌, ◌+◌, ◌-◌, ◌^◌, ◌⊎◌, ℕ, min, Bool, List, [], true, false}
+use Rattle.std.specs.Prelude.{◌≡◌, ◌≢◌, ◌<◌, ◌≤◌, ◌+◌, ◌-◌, ◌^◌, ◌⊎◌, ℕ, min, Bool, List, [], true}
+use Rattle.std.specs.Prelude.{false}
 use Rattle.std.specs.Prelude.{length, slice_get, replicate, Result, Ok, Err, ⊤}
 use Rattle.std.specs.declared.option.Option.TheVariants.{Some, None}
 use Rattle.account.specs.Numbers.{output_numbers}
@@ -96,8 +97,8 @@ abbrev pub AreSettled : CoreState → List OutPart → Type 0
 AreSettled core outs = (output : ℕ) → output < length outs →
     (buffered_at core output ≡ 0) ⊎ (1 ≤ (out_at outs output).failed)
 
--- where no batch was accepted at any output: nothing is left of an output, or metrics had waited there and one
--- put more failed
+-- where no batch was accepted at any output: nothing is left of an output, or metrics had waited there and
+-- one put more failed
 abbrev pub WasTried : ℕ → CoreState → CoreState → ℕ → ℕ → Type 0
 WasTried output old new failed new_failed =
     ((waiting_at new output ≡ 0) × (buffered_at new output ≡ 0))

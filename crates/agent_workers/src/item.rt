@@ -1,5 +1,6 @@
 //! Routing the items to the outputs.
-ghost use Rattle.std.specs.Prelude.{◌≡◌, ◌≤◌, ◌+◌, ℕ, [], Ok, OnOk, Some, None, false, true, length, replicate};
+ghost use Rattle.std.specs.Prelude.{◌≡◌, ◌≤◌, ◌+◌, ℕ, [], Ok, OnOk, Some, None, false, true, length};
+ghost use Rattle.std.specs.Prelude.{replicate};
 ghost use Rattle.std.specs.Prelude.{IfOk};
 ghost use Rattle.pipeline_core.specs.CoreState.{CoreState};
 ghost use Rattle.pipeline_core.specs.Stands.{Continues};

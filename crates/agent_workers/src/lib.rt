@@ -1,5 +1,5 @@
-//! One serial run: what an input gives is gathered, routed and sent to any number of outputs, with a journal of
-//! every event.
+//! One serial run: what an input gives is gathered, routed and sent to any number of outputs, with a journal
+//! of every event.
 #![tactic(auto)]
 
 mod input;

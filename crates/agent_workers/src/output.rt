@@ -1,6 +1,7 @@
 //! An output: the text of a batch, and sending the batches.
 ghost use Rattle.std.specs.Prelude.{◌&&◌, ◌||◌, true, false};
-ghost use Rattle.std.specs.Prelude.{◌≡◌, ◌≢◌, ◌<◌, ◌≤◌, ◌+◌, ◌-◌, ◌^◌, ℕ, [], Ok, IfOk, OnOk, length, map, min};
+ghost use Rattle.std.specs.Prelude.{◌≡◌, ◌≢◌, ◌<◌, ◌≤◌, ◌+◌, ◌-◌, ◌^◌, ℕ, [], Ok, IfOk, OnOk, length, map};
+ghost use Rattle.std.specs.Prelude.{min};
 ghost use Rattle.pipeline_core.specs.CoreState.{CoreState, lane_at};
 ghost use Rattle.agent_workers.specs.Output.{batch_text, out_of, outs_of, anew, AreOutputs};
 ghost use Rattle.agent_workers.specs.Progress.{SendsAt, SendsOn};
@@ -161,8 +162,8 @@ pub fn send_all<K: Sink + Drop>(
     Err(OutOfMemory)
 }
 
-/// Sends batches of each output in order, until nothing waits there or a put fails. A failed put of one output
-/// keeps no other from its batches.
+/// Sends batches of each output in order, until nothing waits there or a put fails. A failed put of one
+/// output keeps no other from its batches.
 pub fn send_each<K: Sink + Drop>(
     run: &mut PipeRun,
     outputs: &mut [OutJob<K>],
@@ -203,9 +204,9 @@ fn tries_after(tries: u32, sweep: Flush, final_tries: u32) -> u32
     if sweep.accepted { 0 } else { tries + 1 }
 }
 
-/// Sends what is buffered at the end of a run: batches of each output until nothing waits there or a put fails,
-/// again and again until nothing is buffered anywhere, or so many repeats in succession had no batch accepted at
-/// any output.
+/// Sends what is buffered at the end of a run: batches of each output until nothing waits there or a put
+/// fails, again and again until nothing is buffered anywhere, or so many repeats in succession had no batch
+/// accepted at any output.
 pub fn send_rest<K: Sink + Drop>(
     run: &mut PipeRun,
     outputs: &mut [OutJob<K>],

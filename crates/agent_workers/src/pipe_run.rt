@@ -68,7 +68,8 @@ pub fn journal_setup(
 /// The set-up of the core: one input, which isn't tracked, and the outputs.
 fn core_setup(alloc: Global, outputs: &[OutSetup], start: Moment) -> Result<CoreSetup, OutOfMemory>
     ensures setup { IfOk result (λ setup. setup_of setup ≡ run_setup (map sizes outputs.now) start) }
-    ensures inputs { IfOk result (λ setup. setup.inputs ≡ record { tracked = false; max_undelivered = 0 } ∷ []) }
+    ensures inputs { IfOk result
+        (λ setup. setup.inputs ≡ record { tracked = false; max_undelivered = 0 } ∷ []) }
     ensures outputs { IfOk result (λ setup. setup.outputs ≡ outputs.now) }
 {
     Ok(CoreSetup {

@@ -28,6 +28,8 @@ use std::alloc::Global;
 pub struct RunSetup {
     /// The sizes of its outputs, in order.
     pub outputs: Seq<OutSetup>,
+    /// How many pieces one gather has at most.
+    pub gather_pieces: u32,
     /// How often in succession a repeat that had no batch accepted is tried at the end.
     pub final_tries: u32,
 }
@@ -53,7 +55,9 @@ fn rounds<S: Source, K: Sink + Drop, C: Clock>(
     outputs: &mut [OutJob<K>],
     journal: &mut JournalJob<K>,
     clock: &mut C,
+    gather_pieces: u32,
 ) -> Result<InState, OutOfMemory>
+    requires some { 1 ≤ gather_pieces }
     requires ready { IsReady run.old.core }
     requires reading { IsReading run.old.core }
     requires none_raw { run.old.core.raw ≡ [] }
@@ -67,7 +71,8 @@ fn rounds<S: Source, K: Sink + Drop, C: Clock>(
         (AreOutputs (length run.old.core.setup.outputs) (outs_of K.held K.faults outputs.new)) }
     ensures read { IfOk result (λ state. state ≢ InState.Reading) }
     ensures stands { StillStands result run.new.core }
-    ensures runs { IfOk result (λ state. RunsOn run.old run.new state (S.left source.old) (S.left source.new)
+    ensures runs { IfOk result (λ state. RunsOn gather_pieces run.old run.new state
+        (S.left source.old) (S.left source.new)
         (S.faults source.old) (S.faults source.new)
         (C.moments clock.old) (C.place clock.old) (C.place clock.new)
         (outs_of K.held K.faults outputs.old) (outs_of K.held K.faults outputs.new)
@@ -76,7 +81,7 @@ fn rounds<S: Source, K: Sink + Drop, C: Clock>(
     ensures count { length outputs.new ≡ length outputs.old }
 {
     for _round in 0..u64::MAX {
-        let state = gather(run, source, clock)?;
+        let state = gather(run, source, clock, gather_pieces)?;
         begin_anew(outputs);
         route_all(run, outputs.len())?;
         send_each(run, outputs)?;
@@ -182,6 +187,7 @@ fn run_from<S: Source, K: Sink + Drop, C: Clock>(
 ) -> Result<Ending, OutOfMemory>
     requires few { length setup.now.outputs ≤ 16 }
     requires sizes { All (λ x. (1 ≤ x.batch) × (x.batch ≤ x.limit)) setup.now.outputs }
+    requires some_pieces { 1 ≤ setup.now.gather_pieces }
     requires some { 1 ≤ setup.now.final_tries }
     requires outputs { AreOutputs (length setup.now.outputs) (outs_of K.held K.faults outputs.old) }
     requires first { Gives (C.moments clock.old) 0 (C.place clock.old) start }
@@ -192,7 +198,7 @@ fn run_from<S: Source, K: Sink + Drop, C: Clock>(
     requires none_failed { journal.old.failed ≡ false }
     ensures count { length outputs.new ≡ length outputs.old }
     ensures ran { IfOk result
-        (λ ending. Ran setup.now.final_tries (map sizes setup.now.outputs) ending
+        (λ ending. Ran setup.now.gather_pieces setup.now.final_tries (map sizes setup.now.outputs) ending
         (change (S.left source.old) (S.left source.new) (S.faults source.old) (S.faults source.new))
         (out_changes (outs_of K.held K.faults outputs.old) (outs_of K.held K.faults outputs.new))
         (change (K.held journal.old.sink) (K.held journal.new.sink) (K.faults journal.old.sink)
@@ -201,16 +207,24 @@ fn run_from<S: Source, K: Sink + Drop, C: Clock>(
 {
     let mut run = new_run(alloc, setup.outputs.as_slice(), start)?;
     begin_anew(outputs);
-    let state = rounds(&mut run, source, outputs, journal, input_clock)?;
+    let state = rounds(
+        &mut run,
+        source,
+        outputs,
+        journal,
+        input_clock,
+        setup.gather_pieces,
+    )?;
     let moment = clock.now();
     finish(&mut run, outputs, moment, setup.final_tries)?;
     let ending = end_journal(&mut run, outputs.len() as u32, journal, state)?;
     Ok(ending)
 }
 
-/// Runs one line protocol input and any number of line protocol outputs from the start, and gives back the part
-/// to which the journal goes: rounds, each of which puts the entries that it made, and the end. The start is the
-/// first moment of `clock`, the stop a later one; `input_clock` gives the moments of the gathers.
+/// Runs one line protocol input and any number of line protocol outputs from the start, and gives back the
+/// part to which the journal goes: rounds, each of which puts the entries that it made, and the end. The
+/// start is the first moment of `clock`, the stop a later one; `input_clock` gives the moments of the
+/// gathers.
 ///
 /// It always returns. Nothing is promised where memory ran out.
 pub fn run<S: Source, K: Sink + Drop, C: Clock>(
@@ -224,12 +238,13 @@ pub fn run<S: Source, K: Sink + Drop, C: Clock>(
 ) -> (K, Result<Ending, OutOfMemory>)
     requires few { length setup.now.outputs ≤ 16 }
     requires sizes { All (λ x. (1 ≤ x.batch) × (x.batch ≤ x.limit)) setup.now.outputs }
+    requires some_pieces { 1 ≤ setup.now.gather_pieces }
     requires some { 1 ≤ setup.now.final_tries }
     requires outputs { AreOutputs (length setup.now.outputs) (outs_of K.held K.faults outputs.old) }
     requires first { C.place clock.old ≡ 0 }
     requires input_first { C.place input_clock.old ≡ 0 }
     ensures ran { IfOk result.1
-        (λ ending. Ran setup.now.final_tries (map sizes setup.now.outputs) ending
+        (λ ending. Ran setup.now.gather_pieces setup.now.final_tries (map sizes setup.now.outputs) ending
         (change (S.left source.old) (S.left source.new) (S.faults source.old) (S.faults source.new))
         (out_changes (outs_of K.held K.faults outputs.old) (outs_of K.held K.faults outputs.new))
         (change (K.held journal) (K.held result.0) (K.faults journal) (K.faults result.0))
@@ -273,8 +288,8 @@ fn one_job<K: Drop>(alloc: Global, sink: K) -> Result<Vec<OutJob<K>>, K>
     }
 }
 
-/// Runs one input and one output from the start, as `run` does, and gives back the output's sink and the part to
-/// which the journal goes.
+/// Runs one input and one output from the start, as `run` does, and gives back the output's sink and the part
+/// to which the journal goes.
 pub fn run_one<S: Source, K: Sink + Drop, C: Clock>(
     alloc: Global,
     setup: &RunSetup,
@@ -286,11 +301,12 @@ pub fn run_one<S: Source, K: Sink + Drop, C: Clock>(
 ) -> (K, K, Result<Ending, OutOfMemory>)
     requires one { length setup.now.outputs ≡ 1 }
     requires sizes { All (λ x. (1 ≤ x.batch) × (x.batch ≤ x.limit)) setup.now.outputs }
+    requires some_pieces { 1 ≤ setup.now.gather_pieces }
     requires some { 1 ≤ setup.now.final_tries }
     requires first { C.place clock.old ≡ 0 }
     requires input_first { C.place input_clock.old ≡ 0 }
     ensures ran { IfOk result.2
-        (λ ending. Ran setup.now.final_tries (map sizes setup.now.outputs) ending
+        (λ ending. Ran setup.now.gather_pieces setup.now.final_tries (map sizes setup.now.outputs) ending
         (change (S.left source.old) (S.left source.new) (S.faults source.old) (S.faults source.new))
         (change (K.held sink) (K.held result.0) (K.faults sink) (K.faults result.0) ∷ [])
         (change (K.held journal) (K.held result.1) (K.faults journal) (K.faults result.1))

@@ -17,7 +17,7 @@ send_each-requires-clause-outputs g c =
 
 pub returns-then-ne-clause-runs : goal.returns-then-ne-clause-runs
 returns-then-ne-clause-runs g c =
-    runs_more c.args.run.now c.loop-round.run c.gather.new.run c.route_all.new.run c.send_each.new.run c.note.new.run c.in_ok-state.state
+    runs_more c.args.gather_pieces c.args.run.now c.loop-round.run c.gather.new.run c.route_all.new.run c.send_each.new.run c.note.new.run c.in_ok-state.state
     (g.S.Source.left c.args.source.now) (g.S.Source.left c.loop-round.source) (g.S.Source.left c.gather.new.source) (g.S.Source.faults c.args.source.now) (g.S.Source.faults c.loop-round.source) (g.S.Source.faults c.gather.new.source)
     (g.C.Clock.moments c.args.clock.now) (g.C.Clock.moments c.loop-round.clock) (g.C.Clock.place c.args.clock.now) (g.C.Clock.place c.loop-round.clock) (g.C.Clock.place c.gather.new.clock)
     (outs_of g.K.Sink.held g.K.Sink.faults c.args.outputs.now) (outs_of g.K.Sink.held g.K.Sink.faults c.loop-round.outputs) (outs_of g.K.Sink.held g.K.Sink.faults c.begin_anew.new.outputs) (outs_of g.K.Sink.held g.K.Sink.faults c.send_each.new.outputs)
@@ -41,11 +41,11 @@ loop-round-preserved g c =
       count = c.send_each.ensures.count ∙ c.begin_anew.ensures.count ∙ c.loop-round.invariant.count;
       list = c.gather.ensures.list ∙ c.loop-round.invariant.list;
       runs = subst
-          (λ (state : InState). RunsOn c.args.run.now c.note.new.run state (g.S.Source.left c.args.source.now) (g.S.Source.left c.gather.new.source) (g.S.Source.faults c.args.source.now) (g.S.Source.faults c.gather.new.source)
+          (λ (state : InState). RunsOn c.args.gather_pieces c.args.run.now c.note.new.run state (g.S.Source.left c.args.source.now) (g.S.Source.left c.gather.new.source) (g.S.Source.faults c.args.source.now) (g.S.Source.faults c.gather.new.source)
           (g.C.Clock.moments c.args.clock.now) (g.C.Clock.place c.args.clock.now) (g.C.Clock.place c.gather.new.clock) (outs_of g.K.Sink.held g.K.Sink.faults c.args.outputs.now) (outs_of g.K.Sink.held g.K.Sink.faults c.send_each.new.outputs)
           (part_of g.K.Sink.held g.K.Sink.faults c.args.journal.now) (part_of g.K.Sink.held g.K.Sink.faults c.note.new.journal))
           same
-          (runs_more c.args.run.now c.loop-round.run c.gather.new.run c.route_all.new.run c.send_each.new.run c.note.new.run c.in_ok-state.state
+          (runs_more c.args.gather_pieces c.args.run.now c.loop-round.run c.gather.new.run c.route_all.new.run c.send_each.new.run c.note.new.run c.in_ok-state.state
           (g.S.Source.left c.args.source.now) (g.S.Source.left c.loop-round.source) (g.S.Source.left c.gather.new.source) (g.S.Source.faults c.args.source.now) (g.S.Source.faults c.loop-round.source) (g.S.Source.faults c.gather.new.source)
           (g.C.Clock.moments c.args.clock.now) (g.C.Clock.moments c.loop-round.clock) (g.C.Clock.place c.args.clock.now) (g.C.Clock.place c.loop-round.clock) (g.C.Clock.place c.gather.new.clock)
           (outs_of g.K.Sink.held g.K.Sink.faults c.args.outputs.now) (outs_of g.K.Sink.held g.K.Sink.faults c.loop-round.outputs) (outs_of g.K.Sink.held g.K.Sink.faults c.begin_anew.new.outputs) (outs_of g.K.Sink.held g.K.Sink.faults c.send_each.new.outputs)

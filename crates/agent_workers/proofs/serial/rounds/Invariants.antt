@@ -17,7 +17,7 @@ invariant-loop-round g l = record {
   stands : HasJournal l.run.core;
   count : length l.outputs ≡ length l.fn.outputs;
   list : g.C.Clock.moments l.clock ≡ g.C.Clock.moments l.fn.clock;
-  runs : RunsOn l.fn.run l.run states.Reading (g.S.Source.left l.fn.source) (g.S.Source.left l.source) (g.S.Source.faults l.fn.source) (g.S.Source.faults l.source)
+  runs : RunsOn l.fn.gather_pieces l.fn.run l.run states.Reading (g.S.Source.left l.fn.source) (g.S.Source.left l.source) (g.S.Source.faults l.fn.source) (g.S.Source.faults l.source)
       (g.C.Clock.moments l.fn.clock) (g.C.Clock.place l.fn.clock) (g.C.Clock.place l.clock) (outs_of g.K.Sink.held g.K.Sink.faults l.fn.outputs) (outs_of g.K.Sink.held g.K.Sink.faults l.outputs)
       (part_of g.K.Sink.held g.K.Sink.faults l.fn.journal) (part_of g.K.Sink.held g.K.Sink.faults l.journal);
 }

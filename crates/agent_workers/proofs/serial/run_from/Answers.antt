@@ -27,6 +27,7 @@ rounds-requires-clause-outputs g c =
 
 pub returns-clause-ran : goal.returns-clause-ran
 returns-clause-ran g c =
+    let most = c.args.setup.now.gather_pieces in
     let tries = c.args.setup.now.final_tries in
     let pairs : List (ℕ × ℕ) = map sizes c.args.setup.now.outputs in
     let start = c.args.start in
@@ -42,7 +43,7 @@ returns-clause-ran g c =
     let moments = g.C.Clock.moments c.args.input_clock.now in
     let run = c.in_ok-run.run' in
     let last = c.finish.new.run in
-    let begun : Beginning = record { setup = run_setup pairs start; bytes = text; read_faults = read_faults; outs = outs; noted = noted; note_faults = note_faults; moments = moments } in
+    let begun : Beginning = record { setup = run_setup pairs start; most = most; bytes = text; read_faults = read_faults; outs = outs; noted = noted; note_faults = note_faults; moments = moments } in
     let part : JournalPart = part_of g.K.Sink.held g.K.Sink.faults c.args.journal.now in
     let count : length outs ≡ length pairs = c.requires.outputs.count_is ∙ sym (length-map c.args.setup.now.outputs sizes) in
     let first = went_first begun run.core run.pieces fresh part c.in_ok-run.ensures.stands (c.in_ok-run.ensures.setup ∙ ap (λ (xs : List OutSetup). run_setup (map sizes xs) (to_z w64 (of_z w64 start))) c.as_slice.ensures ∙ ap (run_setup pairs) same_start) c.in_ok-run.ensures.stored
@@ -64,7 +65,7 @@ returns-clause-ran g c =
     let whole = journal_text (journal_setup_of (run_setup pairs start)) (finished.text.written ++ last.core.stored) (account_text last.core.numbers) in
     let put_so : IsPutSo ending.journal_failed put whole = subst (λ (failed : Bool). IsPutSo failed put whole) (sym c.in_ok-ending.ensures.failed)
     (c.in_ok-ending.ensures.ends (journal_setup_of (run_setup pairs start)) noted note_faults finished.text.written finished.text.notes (stored_in_order begun last.core (part_of g.K.Sink.held g.K.Sink.faults c.rounds.new.journal) finished.journal finished.text)) in
-    ran tries pairs start moment text read_faults outs noted note_faults moments (g.C.Clock.moments c.args.clock.now) (g.C.Clock.place c.args.clock.now) (g.C.Clock.place c.now-moment.new.self)
+    ran most tries pairs start moment text read_faults outs noted note_faults moments (g.C.Clock.moments c.args.clock.now) (g.C.Clock.place c.args.clock.now) (g.C.Clock.place c.now-moment.new.self)
     last.core last.pieces now finished c.requires.first (rw same_moment c.now-moment.ensures.gives)
     c.in_ok-finish.ensures.stopped c.in_ok-finish.ensures.none_raw c.in_ok-finish.ensures.ready.empty_handed count c.in_ok-finish.ensures.rest c.in_ok-state.ensures.read
     ending put c.in_ok-ending.ensures.state c.in_ok-ending.ensures.left c.in_ok-ending.ensures.account put_so

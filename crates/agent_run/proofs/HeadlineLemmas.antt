@@ -1,5 +1,5 @@
 -- What each status of a run says.
-use Rattle.std.proofs.Common.{◌≡◌, ◌≤◌, ◌<◌, ℕ, ℤ, ◌^◌, Bool, true, false, List, refl, sym, ap, ◌∙◌, subst, inl, inr, arith, cond, replicate}
+use Rattle.std.proofs.Common.{◌≡◌, ◌≤◌, ◌<◌, ℕ, ℤ, ◌^◌, Bool, true, false, List, [], ◌∷◌, refl, sym, ap, ◌∙◌, subst, inl, inr, arith, cond, replicate}
 use Rattle.std.specs.Prelude.{◌≢◌, not, ◌⊎◌, ◌||◌, count_by}
 use Rattle.std.specs.declared.option.Option.{Option}
 use Rattle.std.proofs.lemmas.List.Sums.{sum_by-append}
@@ -11,7 +11,7 @@ use Rattle.agent_run.specs.Command.{journal_place}
 use Rattle.account.specs.Dones.{dones, failed_count, LastFailed}
 use Rattle.pipeline_core.specs.Stopped.{behind_stop}
 use Rattle.agent_workers.specs.Run.{Change, change, IsRun, EndsSo, IsPutSo, IsLeft, Ran, buffered_at_end, account_of, text_of}
-use Rattle.agent_run.specs.Headline.{IsReportFault, Ends, status_of, place_change, report_change, NothingRose}
+use Rattle.agent_run.specs.Headline.{gather_pieces, final_tries, IsReportFault, Ends, status_of, place_change, report_change, NothingRose}
 use Rattle.agent_workers.specs.PipeSetup.{pipe_setup}
 use Rattle.agent_run.specs.Places.{IsRefused}
 use Rattle.agent_workers.specs.declared.input.InState.{InState}
@@ -23,7 +23,7 @@ use Rattle.pipeline_core.proofs.StopLemmas.{behind_fewer}
 use Rattle.agent_workers.proofs.RanLemmas.{change_is}
 
 module _ (batch limit : ℕ) (input output noted reported : Change) (run_moments input_moments : Option Moments) where
-  module _ (start : ℤ) (journal : List Entry) (run : IsRun (pipe_setup batch limit start) input output run_moments input_moments journal) where
+  module _ (start : ℤ) (journal : List Entry) (run : IsRun gather_pieces final_tries (pipe_setup batch limit start) input (output ∷ []) run_moments input_moments journal) where
     report_fault : (journal_failed failed : Bool) → (journal_failed ≡ true) ⊎ (failed ≡ true) → IsPutSo journal_failed noted (text_of (pipe_setup batch limit start) journal) → IsPutSo failed reported (account_of (pipe_setup batch limit start) journal) → run.taken < 2 ^ 40
         → IsReportFault batch limit input output noted reported run_moments input_moments
     report_fault journal_failed failed either put report few = record {
@@ -32,8 +32,12 @@ module _ (batch limit : ℕ) (input output noted reported : Change) (run_moments
       failed = either;
     }
 
+    -- a metric is left at the one output
+    left_here : IsLeft true (pipe_setup batch limit start) journal → buffered_at_end (pipe_setup batch limit start) journal 0 ≢ 0
+    left_here l = subst (λ (o : ℕ). buffered_at_end (pipe_setup batch limit start) journal o ≢ 0) (let first : l.0 ≡ 0 = omega (arith, l.1) in first) l.2
+
     -- the status that a run ends with says what it left
-    pub ends_of : (state : InState) (journal_failed failed left : Bool) → EndsSo state input run.taken journal → IsLeft left (buffered_at_end (pipe_setup batch limit start) journal) → IsPutSo journal_failed noted (text_of (pipe_setup batch limit start) journal)
+    pub ends_of : (state : InState) (journal_failed failed left : Bool) → EndsSo gather_pieces state input run.taken journal → IsLeft left (pipe_setup batch limit start) journal → IsPutSo journal_failed noted (text_of (pipe_setup batch limit start) journal)
         → IsPutSo failed reported (account_of (pipe_setup batch limit start) journal) → Ends batch limit input output noted reported run_moments input_moments (status_of state (journal_failed || failed) left)
     ends_of states.Reading journal_failed failed left e l put report = absurd e
     ends_of states.LimitReached journal_failed failed left e l put report =
@@ -43,15 +47,15 @@ module _ (batch limit : ℕ) (input output noted reported : Change) (run_moments
     ends_of states.Faulted false false left e l put report = record { headline = record { start = start; journal = journal; run = run; noted = put; reported = report }; few = e.0; unended = e.1; cut_short = e.2 }
     ends_of states.Ended true failed left e l put report = report_fault true failed (inl refl) put report e.0
     ends_of states.Ended false true left e l put report = report_fault false true (inr refl) put report e.0
-    ends_of states.Ended false false true e l put report = record { headline = record { start = start; journal = journal; run = run; noted = put; reported = report }; few = e.0; ended = e.1; some_left = l }
-    ends_of states.Ended false false false e l put report = record { headline = record { start = start; journal = journal; run = run; noted = put; reported = report }; few = e.0; ended = e.1; none_left = l }
+    ends_of states.Ended false false true e l put report = record { headline = record { start = start; journal = journal; run = run; noted = put; reported = report }; few = e.0; ended = e.1; some_left = left_here l }
+    ends_of states.Ended false false false e l put report = record { headline = record { start = start; journal = journal; run = run; noted = put; reported = report }; few = e.0; ended = e.1; none_left = l 0 (omega arith) }
 
   -- a run that was reported
-  pub ran_ends : (ending : Ending) (failed : Bool) → Ran batch limit ending input output noted run_moments input_moments → IsPutSo failed reported ending.account.items
+  pub ran_ends : (ending : Ending) (failed : Bool) → Ran gather_pieces final_tries ((batch, limit) ∷ []) ending input (output ∷ []) noted run_moments input_moments → IsPutSo failed reported ending.account.items
       → Ends batch limit input output noted reported run_moments input_moments (status_of ending.state (ending.journal_failed || failed) ending.left)
   ran_ends ending failed r report = ends_of r.start r.journal r.run ending.state ending.journal_failed failed ending.left r.ends r.left r.noted (subst (IsPutSo failed reported) r.account report)
 
-  pub reported_ends : (ending : Ending) (status : Status) → Ran batch limit ending input output noted run_moments input_moments →
+  pub reported_ends : (ending : Ending) (status : Status) → Ran gather_pieces final_tries ((batch, limit) ∷ []) ending input (output ∷ []) noted run_moments input_moments →
       (status ≡ statuses.OutOfMemory) ⊎ ((failed : Bool) × (status ≡ status_of ending.state (ending.journal_failed || failed) ending.left) × IsPutSo failed reported ending.account.items)
       → Ends batch limit input output noted reported run_moments input_moments status
   reported_ends ending status r (inl short) = rw short tt
@@ -71,9 +75,9 @@ module _ (batch limit : ℕ) (input output noted reported : Change) (run_moments
   done_or_short statuses.OutOfMemory e i o n r l = inr refl
   done_or_short statuses.Left e i o n r l =
       let journal : List Entry = e.headline.journal in
-      let behind : 3 ≤ failed_count 0 (behind_stop journal) = failed_last (dones 0 (behind_stop journal)) (e.headline.run.left e.some_left) in
+      let behind : 3 ≤ failed_count 0 (behind_stop journal) = failed_last (dones 0 (behind_stop journal)) ((e.headline.run.sent_to 0 (omega arith)).left e.some_left) in
       let many : 3 ≤ failed_count 0 journal = omega (arith, behind, behind_fewer 0 journal) in
-      absurd (o (rose_of (failed_count 0 journal) output.faults_before output.faults_after (omega (arith, many)) e.headline.run.put_faults))
+      absurd (o (rose_of (failed_count 0 journal) output.faults_before output.faults_after (omega (arith, many)) (e.headline.run.sent_to 0 (omega arith)).put_faults))
   done_or_short statuses.ReadFault e i o n r l = absurd (i e.cut_short.0)
   done_or_short statuses.ReportFault e i o n r l =
       elim e.failed [

@@ -1,6 +1,6 @@
 -- What a run says: a legal journal of what was read and sent, with its text and the account of its totals.
-use Rattle.std.specs.Prelude.{◌≡◌, ◌≢◌, ◌<◌, ◌⊎◌, ◌^◌, ℕ, ℤ, if◌then◌else◌, Bool, true, false, List}
-use Rattle.std.specs.Prelude.{String}
+use Rattle.std.specs.Prelude.{◌≡◌, ◌≢◌, ◌<◌, ◌⊎◌, ◌^◌, ℕ, ℤ, if◌then◌else◌, Bool, true, false, List, []}
+use Rattle.std.specs.Prelude.{◌∷◌, String}
 use Rattle.std.specs.declared.option.Option.{Option}
 use Rattle.std.specs.Io.KnownBytes.{Appends}
 use Rattle.account.specs.declared.entry.Entry.{Entry}
@@ -30,13 +30,21 @@ status_of states.Ended failed left = if failed then statuses.ReportFault else
 status_of states.Reading failed left = if failed then statuses.ReportFault else
     (if left then statuses.Left else statuses.Done)
 
+-- how many pieces a gather has at most
+abbrev pub gather_pieces : ℕ
+gather_pieces = 1000
+
+-- how often in succession a repeat without an accepted batch is tried at the end
+abbrev pub final_tries : ℕ
+final_tries = 3
+
 -- The headline of a run: the journal is a legal history of what the input said and the output was sent, its
 -- text stands at the journal's place, and the account that was reported is its totals.
 pub record Headline (batch limit : ℕ) (input output note report : Change)
     (run_moments input_moments : Option Moments) : Type 0 where
   pub start : ℤ
   pub journal : List Entry
-  pub run : IsRun (pipe_setup batch limit start) input output run_moments input_moments journal
+  pub run : IsRun gather_pieces final_tries (pipe_setup batch limit start) input (output ∷ []) run_moments input_moments journal
   pub noted : Appends note.before note.after (text_of (pipe_setup batch limit start) journal)
   pub reported : Appends report.before report.after (account_of (pipe_setup batch limit start) journal)
 
@@ -46,7 +54,7 @@ pub record TornHeadline (batch limit : ℕ) (input output note report : Change)
     (run_moments input_moments : Option Moments) : Type 0 where
   pub start : ℤ
   pub journal : List Entry
-  pub run : IsRun (pipe_setup batch limit start) input output run_moments input_moments journal
+  pub run : IsRun gather_pieces final_tries (pipe_setup batch limit start) input (output ∷ []) run_moments input_moments journal
   pub journal_failed : Bool
   pub report_failed : Bool
   pub noted : IsPutSo journal_failed note (text_of (pipe_setup batch limit start) journal)
@@ -59,14 +67,14 @@ module _ (batch limit : ℕ) (input output note report : Change)
     pub headline : Headline batch limit input output note report run_moments input_moments
     pub few : headline.run.taken < 2 ^ 40
     pub ended : has_ended 0 headline.journal ≡ true
-    pub none_left : buffered_at_end (pipe_setup batch limit headline.start) headline.journal ≡ 0
+    pub none_left : buffered_at_end (pipe_setup batch limit headline.start) headline.journal 0 ≡ 0
 
   -- the input was read to its end, and a metric is buffered
   pub record IsLeftOver : Type 0 where
     pub headline : Headline batch limit input output note report run_moments input_moments
     pub few : headline.run.taken < 2 ^ 40
     pub ended : has_ended 0 headline.journal ≡ true
-    pub some_left : buffered_at_end (pipe_setup batch limit headline.start) headline.journal ≢ 0
+    pub some_left : buffered_at_end (pipe_setup batch limit headline.start) headline.journal 0 ≢ 0
 
   -- a read of the input failed, and it wasn't read to its end
   pub record IsReadFault : Type 0 where
@@ -85,7 +93,7 @@ module _ (batch limit : ℕ) (input output note report : Change)
   pub record IsLimit : Type 0 where
     pub headline : TornHeadline batch limit input output note report run_moments input_moments
     pub unended : has_ended 0 headline.journal ≡ false
-    pub reached : (headline.run.taken ≡ 2 ^ 40) ⊎ IsFull 1000 headline.journal 0 input.before input.after
+    pub reached : (headline.run.taken ≡ 2 ^ 40) ⊎ IsFull gather_pieces headline.journal 0 input.before input.after
 
   -- what each status of a run says; nothing is promised where memory was short
   abbrev pub Ends : Status → Type 0

@@ -15,7 +15,8 @@ use crate::opening::{Parts, Refusal, open_parts};
 use crate::reporting::{report_line, report_open_fault};
 use crate::status::{Status, run_status};
 use agent_base::{PutFault, World};
-use agent_workers::{Ending, run};
+use agent_workers::{Ending, RunSetup, run_one};
+use fixed_num::Seq;
 use pipeline_core::OutSetup;
 use std::alloc::Global;
 
@@ -30,6 +31,12 @@ const INPUT_CLOCK: u32 = 3;
 
 /// How long a wait of the input's clock pauses: 10 milliseconds, in nanoseconds.
 const INPUT_PAUSE: i64 = 10_000_000;
+
+/// How many pieces one gather has at most.
+const GATHER_PIECES: u32 = 1_000;
+
+/// How often in succession a repeat that had no batch accepted is tried at the end of a run.
+const FINAL_TRIES: u32 = 3;
 
 /// Reports the account, and says how the run ended.
 fn report_account<W: World>(ending: &Ending, world: &mut W) -> Status
@@ -85,19 +92,24 @@ fn run_parts<W: World>(
 {
     let Parts {
         mut source,
-        mut sink,
+        sink,
         journal,
     } = parts;
-    let mut clock = world.clock(RUN_CLOCK, RUN_PAUSE);
-    let mut input_clock = world.clock(INPUT_CLOCK, INPUT_PAUSE);
-    let (journal, ran) = run(
-        alloc,
-        OutSetup {
+    let setup = RunSetup {
+        outputs: Seq::of_one(OutSetup {
             batch: pipe.batch,
             limit: pipe.limit,
-        },
+        }),
+        gather_pieces: GATHER_PIECES,
+        final_tries: FINAL_TRIES,
+    };
+    let mut clock = world.clock(RUN_CLOCK, RUN_PAUSE);
+    let mut input_clock = world.clock(INPUT_CLOCK, INPUT_PAUSE);
+    let (sink, journal, ran) = run_one(
+        alloc,
+        &setup,
         &mut source,
-        &mut sink,
+        sink,
         journal,
         &mut clock,
         &mut input_clock,

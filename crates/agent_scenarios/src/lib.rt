@@ -2,6 +2,8 @@
 #![tactic(auto)]
 
 #[cfg(test)]
+mod agent_workers_tests;
+#[cfg(test)]
 mod check_tests;
 #[cfg(test)]
 mod fault_tests;

@@ -30,7 +30,7 @@ use Rattle.account.specs.Says.{GatherSays}
 use Rattle.account.specs.Gathers.{gathers}
 use Rattle.agent_workers.specs.Groups.{ReadsGroup, gathered_of, IsOffered, IsEnding, IsGathered}
 use Rattle.pipeline_core.specs.Order.{InOrder, IsDrained}
-use Rattle.agent_workers.specs.Progress.{Beginning, Surroundings, HasText, IsNamed, is_ended, HasState, IsClocked, IsNamedOfTaken, Said, Progress}
+use Rattle.agent_workers.specs.Progress.{Beginning, Surroundings, HasText, IsNamed, is_ended, HasState, IsClocked, IsNamedOfTaken, AllSaid, Progress}
 use Rattle.pipeline_core.specs.Worked.{Worked}
 use Rattle.agent_workers.proofs.GatherLemmas.{says_of, entry_of, gathers_own, has_ended-other, gathered_to_here, gathered_to_same, gathered, told_gathering, told_gathered_to}
 use Rattle.account.proofs.GatherLemmas.{gathers-push, gathers-other}
@@ -38,20 +38,20 @@ use Rattle.agent_workers.proofs.GroupLemmas.{told_then, told_map, told_pair, few
 use Rattle.agent_workers.proofs.TakenSteps.{told_names_more, told_taken_more, told_taken_same}
 use Rattle.account.proofs.MomentLemmas.{gather_moments-push, gather_moments-same, counted_moments-same}
 use Rattle.pipeline_core.proofs.OrderLemmas.{in_order-push}
-use Rattle.agent_workers.proofs.ProgressLemmas.{text-push, said_push, clocked_same}
+use Rattle.agent_workers.proofs.ProgressLemmas.{text-push, all_said_push, clocked_same}
 use Rattle.pipeline_core.proofs.WorkedLemmas.{worked-push}
 
 -- while the input is read on the Gathers name full groups; else the last one needn't be full
-abbrev pub IsNamedTo : InState → List Entry → List ℕ → List Cut → Type 0
-IsNamedTo states.Reading journal text rest = Gathering 1000 journal 0 text rest
-IsNamedTo states.Ended journal text rest = GatheredTo 1000 journal 0 text rest
-IsNamedTo states.Faulted journal text rest = GatheredTo 1000 journal 0 text rest
-IsNamedTo states.LimitReached journal text rest = GatheredTo 1000 journal 0 text rest
+abbrev pub IsNamedTo : ℕ → InState → List Entry → List ℕ → List Cut → Type 0
+IsNamedTo most states.Reading journal text rest = Gathering most journal 0 text rest
+IsNamedTo most states.Ended journal text rest = GatheredTo most journal 0 text rest
+IsNamedTo most states.Faulted journal text rest = GatheredTo most journal 0 text rest
+IsNamedTo most states.LimitReached journal text rest = GatheredTo most journal 0 text rest
 
 -- a group was read and offered, and the input's end isn't noted yet
 pub record HeardTo (start : Beginning) (now : Surroundings) (hand : Hand) (journal : List Entry) : Type 0 where
-  pub named : Told start.bytes now.left (λ xs ys. IsNamedTo now.state journal xs (to_come hand ys))
-  pub of_taken : Told start.bytes now.left (IsNamedOfTaken now.state journal hand)
+  pub named : Told start.bytes now.left (λ xs ys. IsNamedTo start.most now.state journal xs (to_come hand ys))
+  pub of_taken : Told start.bytes now.left (IsNamedOfTaken start.most now.state journal hand)
   pub all : now.state ≡ states.Ended → Told start.bytes now.left (λ xs ys. to_come hand ys ≡ [])
   pub counted : Told start.bytes now.left (λ xs ys. length xs ≡ hand.taken + length ys)
   pub unended : has_ended 0 journal ≡ false
@@ -59,11 +59,12 @@ pub record HeardTo (start : Beginning) (now : Surroundings) (hand : Hand) (journ
   pub state : HasState now.state start now.read_faults now.left hand journal
   pub clocked : IfSome start.moments (λ moments. IsClocked moments now.place (gather_moments 0 journal))
 
-pub record ProgressTo (start : Beginning) (core : CoreState) (hand : Hand) (failed : ℕ) (now : Surroundings) : Type 0 where
+pub record ProgressTo (start : Beginning) (core : CoreState) (hand : Hand) (now : Surroundings) : Type 0 where
   pub journal : List Entry
   pub text : HasText start core now.journal journal
   pub heard : HeardTo start now hand journal
-  pub said : Said start now failed journal
+  pub out_count : length now.outs ≡ length start.setup.outputs
+  pub said : AllSaid start.outs now.outs journal
   pub worked : Worked journal
   pub in_order : InOrder start.setup journal
   pub counted_at : counted_moments journal ≡ now.counted_at
@@ -94,12 +95,12 @@ has_state states.Ended start new_read_faults left hand journal read_faults l lim
 has_state states.Faulted start new_read_faults left hand journal read_faults l limit below failed = (below (λ e. absurd (let x : states.Faulted ≡ states.LimitReached = e in cc)), rose_from start.read_faults read_faults new_read_faults l (failed refl))
 has_state states.LimitReached start new_read_faults left hand journal read_faults l limit below failed = inl (limit refl)
 
-module _ (start : Beginning) (core : CoreState) (before after : Hand) (failed : ℕ) (now : Surroundings) (state : InState) (moment : ℤ) (group : Group) (new_left : Option (List ℕ)) (new_read_faults new_place : ℕ)
-    (w : Progress start core before failed (record now { state = states.Reading })) (g : ReadsGroup moment group state before after now.left new_left)
+module _ (start : Beginning) (core : CoreState) (before after : Hand) (now : Surroundings) (state : InState) (moment : ℤ) (group : Group) (new_left : Option (List ℕ)) (new_read_faults new_place : ℕ)
+    (w : Progress start core before (record now { state = states.Reading })) (one_piece : 1 ≤ start.most) (g : ReadsGroup start.most moment group state before after now.left new_left)
     (gives : Gives start.moments now.place new_place moment) (read_faults : now.read_faults ≤ new_read_faults)
     (counted : Told now.left new_left (λ xs ys. before.taken + length xs ≡ after.taken + length ys))
     (limit : state ≡ states.LimitReached → after.taken ≡ 2 ^ 40) (below : (state ≡ states.LimitReached → ⊥) → after.taken < 2 ^ 40) (faulted : state ≡ states.Faulted → Rose now.read_faults new_read_faults) (one : state ≡ states.Faulted → length (to_come after []) ≤ 1) (line : state ≡ states.Faulted → length (to_come after (10 ∷ [])) ≤ 1) where
-  here : Told start.bytes now.left (λ xs ys. Gathering 1000 w.journal 0 xs (to_come before ys))
+  here : Told start.bytes now.left (λ xs ys. Gathering start.most w.journal 0 xs (to_come before ys))
   here = w.heard.named
 
   counted_all : Told start.bytes new_left (λ xs ys. length xs ≡ after.taken + length ys)
@@ -109,37 +110,37 @@ module _ (start : Beginning) (core : CoreState) (before after : Hand) (failed : 
 
   all_read : state ≡ states.Ended → Told start.bytes new_left (λ xs ys. to_come after ys ≡ [])
   all_read e =
-      told_then start.bytes now.left new_left (λ xs ys. Gathering 1000 w.journal 0 xs (to_come before ys)) (λ ys zs. to_come after zs ≡ []) (λ xs zs. to_come after zs ≡ [])
+      told_then start.bytes now.left new_left (λ xs ys. Gathering start.most w.journal 0 xs (to_come before ys)) (λ ys zs. to_come after zs ≡ []) (λ xs zs. to_come after zs ≡ [])
       here (g.all e) (λ xs ys zs a b. b)
 
-  named_none : length g.reads.read ≡ 0 → Told start.bytes new_left (λ xs ys. GatheredTo 1000 w.journal 0 xs (to_come after ys))
+  named_none : length g.reads.read ≡ 0 → Told start.bytes new_left (λ xs ys. GatheredTo start.most w.journal 0 xs (to_come after ys))
   named_none none =
-      told_then start.bytes now.left new_left (λ xs ys. Gathering 1000 w.journal 0 xs (to_come before ys)) (λ ys zs. to_come before ys ≡ g.reads.read ++ to_come after zs) (λ xs zs. GatheredTo 1000 w.journal 0 xs (to_come after zs))
+      told_then start.bytes now.left new_left (λ xs ys. Gathering start.most w.journal 0 xs (to_come before ys)) (λ ys zs. to_come before ys ≡ g.reads.read ++ to_come after zs) (λ xs zs. GatheredTo start.most w.journal 0 xs (to_come after zs))
       here g.reads.consecutive
-      (λ xs ys zs a b. gathered_to_here 1000 0 w.journal xs (to_come after zs) (omega arith) (subst (Gathering 1000 w.journal 0 xs) (b ∙ ap (λ (cs : List Cut). cs ++ to_come after zs) (none_of g.reads.read none)) a))
+      (λ xs ys zs a b. gathered_to_here start.most 0 w.journal xs (to_come after zs) one_piece (subst (Gathering start.most w.journal 0 xs) (b ∙ ap (λ (cs : List Cut). cs ++ to_come after zs) (none_of g.reads.read none)) a))
 
-  named_by_state : (state : InState) → (state ≡ states.Reading → ⊥) → (journal : List Entry) → Told start.bytes new_left (λ xs ys. GatheredTo 1000 journal 0 xs (to_come after ys)) → Told start.bytes new_left (λ xs ys. IsNamedTo state journal xs (to_come after ys))
+  named_by_state : (state : InState) → (state ≡ states.Reading → ⊥) → (journal : List Entry) → Told start.bytes new_left (λ xs ys. GatheredTo start.most journal 0 xs (to_come after ys)) → Told start.bytes new_left (λ xs ys. IsNamedTo start.most state journal xs (to_come after ys))
   named_by_state states.Reading ne journal h = absurd (ne refl)
   named_by_state states.Ended ne journal h = h
   named_by_state states.Faulted ne journal h = h
   named_by_state states.LimitReached ne journal h = h
 
-  taken_none : (s : InState) → s ≡ state → (s ≡ states.Reading → ⊥) → group.pieces ≡ 0 → Told start.bytes new_left (IsNamedOfTaken s w.journal after)
+  taken_none : (s : InState) → s ≡ state → (s ≡ states.Reading → ⊥) → group.pieces ≡ 0 → Told start.bytes new_left (IsNamedOfTaken start.most s w.journal after)
   taken_none states.Reading e ne none = absurd (ne refl)
-  taken_none states.Ended e ne none = told_map start.bytes new_left (λ xs ys. length xs ≡ after.taken + length ys) (IsNamedOfTaken states.Ended w.journal after) (λ xs ys h. tt) counted_all
-  taken_none states.Faulted e ne none = told_taken_same 1000 0 w.journal moment group before after start.bytes now.left new_left g.reads w.heard.of_taken here (one (sym e)) (line (sym e)) w.journal refl none
-  taken_none states.LimitReached e ne none = told_map start.bytes new_left (λ xs ys. length xs ≡ after.taken + length ys) (IsNamedOfTaken states.LimitReached w.journal after) (λ xs ys h. tt) counted_all
+  taken_none states.Ended e ne none = told_map start.bytes new_left (λ xs ys. length xs ≡ after.taken + length ys) (IsNamedOfTaken start.most states.Ended w.journal after) (λ xs ys h. tt) counted_all
+  taken_none states.Faulted e ne none = told_taken_same start.most 0 w.journal moment group before after start.bytes now.left new_left g.reads w.heard.of_taken here (one (sym e)) (line (sym e)) w.journal refl none
+  taken_none states.LimitReached e ne none = told_map start.bytes new_left (λ xs ys. length xs ≡ after.taken + length ys) (IsNamedOfTaken start.most states.LimitReached w.journal after) (λ xs ys h. tt) counted_all
 
   -- no piece was read
-  pub went_none : group.pieces ≡ 0 → ProgressTo start core after failed (read_to now state new_left new_read_faults new_place)
+  pub went_none : group.pieces ≡ 0 → ProgressTo start core after (read_to now state new_left new_read_faults new_place)
   went_none empty =
       let none : length g.reads.read ≡ 0 = sym g.reads.pieces ∙ empty in
       record {
         journal = w.journal;
         text = w.text;
         heard = record {
-          named = named_by_state state (λ e. absurd (omega (arith, g.full e, none))) w.journal (named_none none);
-          of_taken = taken_none state refl (λ e. absurd (omega (arith, g.full e, none))) empty;
+          named = named_by_state state (λ e. absurd (omega (arith, g.full e, none, one_piece))) w.journal (named_none none);
+          of_taken = taken_none state refl (λ e. absurd (omega (arith, g.full e, none, one_piece))) empty;
           all = all_read;
           counted = counted_all;
           unended = w.heard.ended;
@@ -147,7 +148,8 @@ module _ (start : Beginning) (core : CoreState) (before after : Hand) (failed : 
           state = has_state state start new_read_faults new_left after w.journal now.read_faults w.heard.later limit below faulted;
           clocked = clocked_wide start.moments now.place new_place moment (gather_moments 0 w.journal) gives w.heard.clocked;
         };
-        said = record { sent = w.said.sent; put_faults = w.said.put_faults; stuck = w.said.stuck; last = w.said.last };
+        out_count = w.out_count;
+        said = w.said;
         worked = w.worked;
         in_order = w.in_order;
         counted_at = w.counted_at;
@@ -157,29 +159,29 @@ module _ (start : Beginning) (core : CoreState) (before after : Hand) (failed : 
   more_named number reports =
       gathers-push 0 w.journal (entry_of 0 moment group number reports) ∙ ap (λ (more : List GatherSays). gathers 0 w.journal ++ more) (gathers_own 0 moment group number reports)
 
-  named_more : (number : Option ℕ) (reports : List Report) (s : InState) → s ≡ state → 0 < length g.reads.read → Told start.bytes new_left (λ xs ys. IsNamedTo s (w.journal ++ entry_of 0 moment group number reports ∷ []) xs (to_come after ys))
+  named_more : (number : Option ℕ) (reports : List Report) (s : InState) → s ≡ state → 0 < length g.reads.read → Told start.bytes new_left (λ xs ys. IsNamedTo start.most s (w.journal ++ entry_of 0 moment group number reports ∷ []) xs (to_come after ys))
   named_more number reports states.Reading e some =
-      told_gathering 1000 0 w.journal (w.journal ++ entry_of 0 moment group number reports ∷ []) moment group number reports before after start.bytes now.left new_left g.reads (more_named number reports) here (g.full (sym e))
+      told_gathering start.most 0 w.journal (w.journal ++ entry_of 0 moment group number reports ∷ []) moment group number reports before after start.bytes now.left new_left g.reads (more_named number reports) here (g.full (sym e))
   named_more number reports states.Ended e some =
-      told_gathered_to 1000 0 w.journal (w.journal ++ entry_of 0 moment group number reports ∷ []) moment group number reports before after start.bytes now.left new_left g.reads (more_named number reports) here (omega arith) g.most
+      told_gathered_to start.most 0 w.journal (w.journal ++ entry_of 0 moment group number reports ∷ []) moment group number reports before after start.bytes now.left new_left g.reads (more_named number reports) here (omega arith) g.most
   named_more number reports states.Faulted e some =
-      told_gathered_to 1000 0 w.journal (w.journal ++ entry_of 0 moment group number reports ∷ []) moment group number reports before after start.bytes now.left new_left g.reads (more_named number reports) here (omega arith) g.most
+      told_gathered_to start.most 0 w.journal (w.journal ++ entry_of 0 moment group number reports ∷ []) moment group number reports before after start.bytes now.left new_left g.reads (more_named number reports) here (omega arith) g.most
   named_more number reports states.LimitReached e some =
-      told_gathered_to 1000 0 w.journal (w.journal ++ entry_of 0 moment group number reports ∷ []) moment group number reports before after start.bytes now.left new_left g.reads (more_named number reports) here (omega arith) g.most
+      told_gathered_to start.most 0 w.journal (w.journal ++ entry_of 0 moment group number reports ∷ []) moment group number reports before after start.bytes now.left new_left g.reads (more_named number reports) here (omega arith) g.most
 
-  taken_more : (number : Option ℕ) (reports : List Report) (s : InState) → s ≡ state → Told start.bytes new_left (IsNamedOfTaken s (w.journal ++ entry_of 0 moment group number reports ∷ []) after)
+  taken_more : (number : Option ℕ) (reports : List Report) (s : InState) → s ≡ state → Told start.bytes new_left (IsNamedOfTaken start.most s (w.journal ++ entry_of 0 moment group number reports ∷ []) after)
   taken_more number reports states.Reading e =
-      told_names_more 1000 0 w.journal moment group before after start.bytes now.left new_left g.reads w.heard.of_taken number reports (w.journal ++ entry_of 0 moment group number reports ∷ []) (more_named number reports) (g.full (sym e))
+      told_names_more start.most 0 w.journal moment group before after start.bytes now.left new_left g.reads w.heard.of_taken number reports (w.journal ++ entry_of 0 moment group number reports ∷ []) (more_named number reports) (g.full (sym e))
   taken_more number reports states.Ended e =
-      told_map start.bytes new_left (λ xs ys. length xs ≡ after.taken + length ys) (IsNamedOfTaken states.Ended (w.journal ++ entry_of 0 moment group number reports ∷ []) after) (λ xs ys h. tt) counted_all
+      told_map start.bytes new_left (λ xs ys. length xs ≡ after.taken + length ys) (IsNamedOfTaken start.most states.Ended (w.journal ++ entry_of 0 moment group number reports ∷ []) after) (λ xs ys h. tt) counted_all
   taken_more number reports states.Faulted e =
-      told_taken_more 1000 0 w.journal moment group before after start.bytes now.left new_left g.reads w.heard.of_taken here (one (sym e)) (line (sym e)) number reports (w.journal ++ entry_of 0 moment group number reports ∷ []) (more_named number reports)
+      told_taken_more start.most 0 w.journal moment group before after start.bytes now.left new_left g.reads w.heard.of_taken here (one (sym e)) (line (sym e)) number reports (w.journal ++ entry_of 0 moment group number reports ∷ []) (more_named number reports)
   taken_more number reports states.LimitReached e =
-      told_map start.bytes new_left (λ xs ys. length xs ≡ after.taken + length ys) (IsNamedOfTaken states.LimitReached (w.journal ++ entry_of 0 moment group number reports ∷ []) after) (λ xs ys h. tt) counted_all
+      told_map start.bytes new_left (λ xs ys. length xs ≡ after.taken + length ys) (IsNamedOfTaken start.most states.LimitReached (w.journal ++ entry_of 0 moment group number reports ∷ []) after) (λ xs ys h. tt) counted_all
 
   -- the group was gathered
   pub went_gathered : (next : CoreState) → 0 < group.pieces → next ≡ after_gather core (gathered_of moment group) → Continues core next (gather_entry core (gathered_of moment group)) → IsDrained start.setup w.journal
-      → ProgressTo start next after failed (read_to now state new_left new_read_faults new_place)
+      → ProgressTo start next after (read_to now state new_left new_read_faults new_place)
   went_gathered next some is more drained =
       let shape : IsGatherEntry (gathered_of moment group) (gather_entry core (gathered_of moment group)) = entries-have-shape.gathers core (gathered_of moment group) in
       let number : Option ℕ = shape.0 in
@@ -200,28 +202,29 @@ module _ (start : Beginning) (core : CoreState) (before after : Hand) (failed : 
               (gather_moments-push 0 w.journal e ∙ ap (λ (more : List GatherSays). gather_moments 0 w.journal ++ map (λ (says : GatherSays). says.moment) more) (gathers_own 0 moment group number reports))
               (clocked_more start.moments now.place new_place moment (gather_moments 0 w.journal) gives w.heard.clocked);
         };
-        said = said_push start (read_to now state new_left new_read_faults new_place) failed w.journal e tt refl refl refl (record { sent = w.said.sent; put_faults = w.said.put_faults; stuck = w.said.stuck; last = w.said.last });
+        out_count = w.out_count;
+        said = all_said_push start.outs now.outs w.journal e (λ o. record { ends = tt; none = refl; quiet = refl }) refl w.said;
         worked = worked-push w.journal e tt w.worked;
         in_order = in_order-push start.setup w.journal e w.in_order drained;
         counted_at = counted_moments-same w.journal e refl ∙ w.counted_at;
       }
 
   -- the group was offered
-  pub went_offered : (next : CoreState) → IsOffered true moment group core next → IsDrained start.setup w.journal → ProgressTo start next after failed (read_to now state new_left new_read_faults new_place)
-  went_offered next (inl none) drained = subst (λ (k : CoreState). ProgressTo start k after failed (read_to now state new_left new_read_faults new_place)) (sym none.1) (went_none none.0)
+  pub went_offered : (next : CoreState) → IsOffered true moment group core next → IsDrained start.setup w.journal → ProgressTo start next after (read_to now state new_left new_read_faults new_place)
+  went_offered next (inl none) drained = subst (λ (k : CoreState). ProgressTo start k after (read_to now state new_left new_read_faults new_place)) (sym none.1) (went_none none.0)
   went_offered next (inr some) drained = went_gathered next some.0 some.1 some.2 drained
 
   -- the group was refused, since the run is full
-  pub went_full : 2 ^ 32 ≤ core.gathered + length group.metrics.items → Progress start core after failed (read_to now states.LimitReached new_left new_read_faults new_place)
+  pub went_full : 2 ^ 32 ≤ core.gathered + length group.metrics.items → Progress start core after (read_to now states.LimitReached new_left new_read_faults new_place)
   went_full many = record {
     journal = w.journal;
     text = w.text;
     heard = record {
       named =
-          told_then start.bytes now.left new_left (λ xs ys. Gathering 1000 w.journal 0 xs (to_come before ys)) (λ ys zs. to_come before ys ≡ g.reads.read ++ to_come after zs) (λ xs zs. Gathered 1000 w.journal 0 xs)
+          told_then start.bytes now.left new_left (λ xs ys. Gathering start.most w.journal 0 xs (to_come before ys)) (λ ys zs. to_come before ys ≡ g.reads.read ++ to_come after zs) (λ xs zs. Gathered start.most w.journal 0 xs)
           here g.reads.consecutive
-          (λ xs ys zs a b. gathered 1000 0 w.journal xs (to_come before ys) (gathered_to_here 1000 0 w.journal xs (to_come before ys) (omega arith) a) (λ e. absurd (let x : false ≡ true = sym w.heard.ended ∙ e in cc)));
-      of_taken = told_map start.bytes new_left (λ xs ys. length xs ≡ after.taken + length ys) (IsNamedOfTaken states.LimitReached w.journal after) (λ xs ys h. tt) counted_all;
+          (λ xs ys zs a b. gathered start.most 0 w.journal xs (to_come before ys) (gathered_to_here start.most 0 w.journal xs (to_come before ys) one_piece a) (λ e. absurd (let x : false ≡ true = sym w.heard.ended ∙ e in cc)));
+      of_taken = told_map start.bytes new_left (λ xs ys. length xs ≡ after.taken + length ys) (IsNamedOfTaken start.most states.LimitReached w.journal after) (λ xs ys h. tt) counted_all;
       counted = counted_all;
       ended = w.heard.ended;
       later = omega (arith, w.heard.later, read_faults);
@@ -230,13 +233,14 @@ module _ (start : Beginning) (core : CoreState) (before after : Hand) (failed : 
         few = omega (arith, g.most, ap (λ (ms : List Content). length ms) g.reads.metrics, few_readings moment g.reads.read);
         many = omega (arith, many, w.text.stands.gathered);
         next =
-            told_then start.bytes now.left new_left (λ xs ys. Gathering 1000 w.journal 0 xs (to_come before ys)) (λ ys zs. to_come before ys ≡ g.reads.read ++ to_come after zs) (λ xs zs. IsNextGroup 1000 w.journal 0 xs (length group.metrics.items))
+            told_then start.bytes now.left new_left (λ xs ys. Gathering start.most w.journal 0 xs (to_come before ys)) (λ ys zs. to_come before ys ≡ g.reads.read ++ to_come after zs) (λ xs zs. IsNextGroup start.most w.journal 0 xs (length group.metrics.items))
             here g.reads.consecutive
             (λ xs ys zs a b. record { moment = moment; groups = a.groups; group = g.reads.read; rest = to_come after zs; consecutive = a.consecutive ∙ ap (λ (cs : List Cut). joined a.groups ++ cs) b; named = a.named; few = g.most; metrics = ap (λ (ms : List Content). length ms) g.reads.metrics });
       });
       clocked = clocked_wide start.moments now.place new_place moment (gather_moments 0 w.journal) gives w.heard.clocked;
     };
-    said = record { sent = w.said.sent; put_faults = w.said.put_faults; stuck = w.said.stuck; last = w.said.last };
+    out_count = w.out_count;
+    said = w.said;
     worked = w.worked;
     in_order = w.in_order;
     counted_at = w.counted_at;
@@ -245,23 +249,24 @@ module _ (start : Beginning) (core : CoreState) (before after : Hand) (failed : 
 ended_here : (journal : List Entry) → has_ended 0 (journal ++ Ended 0 ∷ []) ≡ true
 ended_here journal = has_ended-push 0 journal (Ended 0) ∙ or-true (has_ended 0 journal)
 
-named_ended : (journal : List Entry) (text left : Option (List ℕ)) (hand : Hand) → Told text left (λ xs ys. GatheredTo 1000 journal 0 xs (to_come hand ys)) → Told text left (λ xs ys. to_come hand ys ≡ []) → Told text left (λ xs ys. Gathered 1000 (journal ++ Ended 0 ∷ []) 0 xs)
-named_ended journal text left hand h all =
-    told_pair text left (λ xs ys. GatheredTo 1000 journal 0 xs (to_come hand ys)) (λ xs ys. to_come hand ys ≡ []) (λ xs ys. Gathered 1000 (journal ++ Ended 0 ∷ []) 0 xs) h all
-    (λ xs ys p q. gathered 1000 0 (journal ++ Ended 0 ∷ []) xs (to_come hand ys) (gathered_to_same 1000 0 journal (journal ++ Ended 0 ∷ []) xs (to_come hand ys) (gathers-other 0 journal (Ended 0) refl) p) (λ e. q))
+named_ended : (most : ℕ) (journal : List Entry) (text left : Option (List ℕ)) (hand : Hand) → Told text left (λ xs ys. GatheredTo most journal 0 xs (to_come hand ys)) → Told text left (λ xs ys. to_come hand ys ≡ []) → Told text left (λ xs ys. Gathered most (journal ++ Ended 0 ∷ []) 0 xs)
+named_ended most journal text left hand h all =
+    told_pair text left (λ xs ys. GatheredTo most journal 0 xs (to_come hand ys)) (λ xs ys. to_come hand ys ≡ []) (λ xs ys. Gathered most (journal ++ Ended 0 ∷ []) 0 xs) h all
+    (λ xs ys p q. gathered most 0 (journal ++ Ended 0 ∷ []) xs (to_come hand ys) (gathered_to_same most 0 journal (journal ++ Ended 0 ∷ []) xs (to_come hand ys) (gathers-other 0 journal (Ended 0) refl) p) (λ e. q))
 
-named_unended : (journal : List Entry) (text left : Option (List ℕ)) (hand : Hand) → has_ended 0 journal ≡ false → Told text left (λ xs ys. GatheredTo 1000 journal 0 xs (to_come hand ys)) → Told text left (λ xs ys. Gathered 1000 journal 0 xs)
-named_unended journal text left hand none h =
-    told_map text left (λ xs ys. GatheredTo 1000 journal 0 xs (to_come hand ys)) (λ xs ys. Gathered 1000 journal 0 xs)
-    (λ xs ys p. gathered 1000 0 journal xs (to_come hand ys) p (λ e. absurd (let x : false ≡ true = sym none ∙ e in cc))) h
+named_unended : (most : ℕ) (journal : List Entry) (text left : Option (List ℕ)) (hand : Hand) → has_ended 0 journal ≡ false → Told text left (λ xs ys. GatheredTo most journal 0 xs (to_come hand ys)) → Told text left (λ xs ys. Gathered most journal 0 xs)
+named_unended most journal text left hand none h =
+    told_map text left (λ xs ys. GatheredTo most journal 0 xs (to_come hand ys)) (λ xs ys. Gathered most journal 0 xs)
+    (λ xs ys p. gathered most 0 journal xs (to_come hand ys) p (λ e. absurd (let x : false ≡ true = sym none ∙ e in cc))) h
 
 -- the same journal
-went_unended : (start : Beginning) (core : CoreState) (hand : Hand) (failed : ℕ) (now : Surroundings) (w : ProgressTo start core hand failed now) → is_ended now.state ≡ false →
-    Told start.bytes now.left (λ xs ys. IsNamed now.state w.journal xs (to_come hand ys)) → Progress start core hand failed now
-went_unended start core hand failed now w none named = record {
+went_unended : (start : Beginning) (core : CoreState) (hand : Hand) (now : Surroundings) (w : ProgressTo start core hand now) → is_ended now.state ≡ false →
+    Told start.bytes now.left (λ xs ys. IsNamed start.most now.state w.journal xs (to_come hand ys)) → Progress start core hand now
+went_unended start core hand now w none named = record {
   journal = w.journal;
   text = w.text;
   heard = record { named = named; of_taken = w.heard.of_taken; counted = w.heard.counted; ended = w.heard.unended ∙ sym none; later = w.heard.later; state = w.heard.state; clocked = w.heard.clocked };
+  out_count = w.out_count;
   said = w.said;
   worked = w.worked;
   in_order = w.in_order;
@@ -269,21 +274,21 @@ went_unended start core hand failed now w none named = record {
 }
 
 -- the end of the input was noted, where it was reached
-pub went_ended : (state : InState) (start : Beginning) (core next : CoreState) (hand : Hand) (failed : ℕ) (now : Surroundings) → IsEnding state core next → ProgressTo start core hand failed (record now { state = state })
-    → Progress start next hand failed (record now { state = state })
-went_ended states.Reading start core next hand failed now is w =
-    subst (λ (s : CoreState). Progress start s hand failed (record now { state = states.Reading })) (sym is) (went_unended start core hand failed (record now { state = states.Reading }) w refl w.heard.named)
-went_ended states.Faulted start core next hand failed now is w =
-    subst (λ (s : CoreState). Progress start s hand failed (record now { state = states.Faulted })) (sym is)
-    (went_unended start core hand failed (record now { state = states.Faulted }) w refl (named_unended w.journal start.bytes now.left hand w.heard.unended w.heard.named))
-went_ended states.LimitReached start core next hand failed now is w =
-    subst (λ (s : CoreState). Progress start s hand failed (record now { state = states.LimitReached })) (sym is)
-    (went_unended start core hand failed (record now { state = states.LimitReached }) w refl (named_unended w.journal start.bytes now.left hand w.heard.unended w.heard.named))
-went_ended states.Ended start core next hand failed now is w = record {
+pub went_ended : (state : InState) (start : Beginning) (core next : CoreState) (hand : Hand) (now : Surroundings) → IsEnding state core next → ProgressTo start core hand (record now { state = state })
+    → Progress start next hand (record now { state = state })
+went_ended states.Reading start core next hand now is w =
+    subst (λ (s : CoreState). Progress start s hand (record now { state = states.Reading })) (sym is) (went_unended start core hand (record now { state = states.Reading }) w refl w.heard.named)
+went_ended states.Faulted start core next hand now is w =
+    subst (λ (s : CoreState). Progress start s hand (record now { state = states.Faulted })) (sym is)
+    (went_unended start core hand (record now { state = states.Faulted }) w refl (named_unended start.most w.journal start.bytes now.left hand w.heard.unended w.heard.named))
+went_ended states.LimitReached start core next hand now is w =
+    subst (λ (s : CoreState). Progress start s hand (record now { state = states.LimitReached })) (sym is)
+    (went_unended start core hand (record now { state = states.LimitReached }) w refl (named_unended start.most w.journal start.bytes now.left hand w.heard.unended w.heard.named))
+went_ended states.Ended start core next hand now is w = record {
   journal = w.journal ++ Ended 0 ∷ [];
   text = text-push start core next now.journal w.journal (Ended 0) w.text is.1 (ap (λ (s : CoreState). s.stored) is.0) (ap (λ (s : CoreState). s.setup) is.0);
   heard = record {
-    named = named_ended w.journal start.bytes now.left hand w.heard.named (w.heard.all refl);
+    named = named_ended start.most w.journal start.bytes now.left hand w.heard.named (w.heard.all refl);
     of_taken = w.heard.of_taken;
     counted = w.heard.counted;
     ended = ended_here w.journal;
@@ -291,7 +296,8 @@ went_ended states.Ended start core next hand failed now is w = record {
     state = w.heard.state;
     clocked = clocked_same start.moments now.place (gather_moments 0 w.journal) (gather_moments 0 (w.journal ++ Ended 0 ∷ [])) (gather_moments-same 0 w.journal (Ended 0) refl) w.heard.clocked;
   };
-  said = said_push start (record now { state = states.Ended }) failed w.journal (Ended 0) tt refl refl refl w.said;
+  out_count = w.out_count;
+  said = all_said_push start.outs now.outs w.journal (Ended 0) (λ o. record { ends = tt; none = refl; quiet = refl }) refl w.said;
   worked = worked-push w.journal (Ended 0) tt w.worked;
   in_order = in_order-push start.setup w.journal (Ended 0) w.in_order tt;
   counted_at = counted_moments-same w.journal (Ended 0) refl ∙ w.counted_at;
@@ -314,16 +320,16 @@ offered_some moment stored group metrics old new same is some after stands = inr
 )
 
 -- where the input is read on a whole group was gathered
-pub gathered_full : (state : InState) (moment : ℤ) (group : Group) (old offered new : CoreState) (before after : Hand) (left_before left_after : Option (List ℕ)) → state ≡ states.Reading → ReadsGroup moment group state before after left_before left_after →
-    IsOffered true moment group old offered → IsEnding state offered new → IsGathered 1000 old new
-gathered_full state moment group old offered new before after left_before left_after reading g accepted ending = go accepted
+pub gathered_full : (most : ℕ) (state : InState) (moment : ℤ) (group : Group) (old offered new : CoreState) (before after : Hand) (left_before left_after : Option (List ℕ)) → 1 ≤ most → state ≡ states.Reading → ReadsGroup most moment group state before after left_before left_after →
+    IsOffered true moment group old offered → IsEnding state offered new → IsGathered most old new
+gathered_full most state moment group old offered new before after left_before left_after one_piece reading g accepted ending = go accepted
   where
-    count : group.pieces ≡ 1000
+    count : group.pieces ≡ most
     count = g.reads.pieces ∙ g.full reading
 
     same : new ≡ offered
     same = subst (λ (s : InState). IsEnding s offered new) reading ending
 
-    go : IsOffered true moment group old offered → IsGathered 1000 old new
-    go (inl none) = absurd (omega (arith, count, none.0))
+    go : IsOffered true moment group old offered → IsGathered most old new
+    go (inl none) = absurd (omega (arith, count, none.0, one_piece))
     go (inr some) = record { moment = moment; group = group; count = count; is = same ∙ some.1 }

@@ -175,13 +175,13 @@ next_same states.Faulted moment old new before after left_before left_after n ne
 next_same states.LimitReached moment old new before after left_before left_after n ne = ap (λ (g : Group). g.pieces) n.same
 
 -- a group behind which nothing is read
-pub group_ends : (state : InState) (moment : ℤ) (old new : Group) (before between after : Hand) (left_before left_between left_after : Option (List ℕ)) → Reads moment old before between left_before left_between → ReadsNext state moment old new between after left_between left_after
-    → (state ≡ states.Reading → ⊥) → old.pieces < 1000 → (state ≡ states.Ended → IsAllRead left_between left_after after) → ReadsGroup moment new state before after left_before left_after
-group_ends state moment old new before between after left_before left_between left_after r n ne few all =
+pub group_ends : (limit : ℕ) (state : InState) (moment : ℤ) (old new : Group) (before between after : Hand) (left_before left_between left_after : Option (List ℕ)) → Reads moment old before between left_before left_between → ReadsNext state moment old new between after left_between left_after
+    → (state ≡ states.Reading → ⊥) → old.pieces < limit → (state ≡ states.Ended → IsAllRead left_between left_after after) → ReadsGroup limit moment new state before after left_before left_after
+group_ends limit state moment old new before between after left_before left_between left_after r n ne few all =
     let reads : Reads moment new before after left_before left_after = reads_next state moment old new before between after left_before left_between left_after r n in
     record {
       reads = reads;
-      most = omega (arith, reads.pieces, next_same state moment old new between after left_between left_after n ne);
+      most = omega (arith, few, reads.pieces, next_same state moment old new between after left_between left_after n ne);
       full = λ e. absurd (ne e);
       all = λ e. told_then left_before left_between left_after
           (λ xs ys. to_come before xs ≡ r.read ++ to_come between ys) (λ ys zs. to_come after zs ≡ []) (λ xs zs. to_come after zs ≡ [])
@@ -189,14 +189,14 @@ group_ends state moment old new before between after left_before left_between le
     }
 
 -- a group of as many pieces as there may be
-pub group_full : (moment : ℤ) (group : Group) (before after : Hand) (left_before left_after : Option (List ℕ)) → Reads moment group before after left_before left_after → group.pieces ≡ 1000 → ReadsGroup moment group states.Reading before after left_before left_after
-group_full moment group before after left_before left_after r n = record {
+pub group_full : (limit : ℕ) (moment : ℤ) (group : Group) (before after : Hand) (left_before left_after : Option (List ℕ)) → Reads moment group before after left_before left_after → group.pieces ≡ limit → ReadsGroup limit moment group states.Reading before after left_before left_after
+group_full limit moment group before after left_before left_after r n = record {
   reads = r;
-  most = omega (arith, r.pieces);
+  most = omega (arith, r.pieces, n);
   full = λ e. sym r.pieces ∙ n;
   all = λ e. absurd (let x : states.Reading ≡ states.Ended = e in cc);
 }
 
-pub at_moment : (moment : ℤ) (group : Group) (state : InState) (before after : Hand) (left_before left_after : Option (List ℕ)) → SFits w64 moment → ReadsGroup (to_z w64 (of_z w64 moment)) group state before after left_before left_after
-    → ReadsGroup moment group state before after left_before left_after
-at_moment moment group state before after left_before left_after fits r = subst (λ (m : ℤ). ReadsGroup m group state before after left_before left_after) (to_z-of_z w64 moment fits) r
+pub at_moment : (limit : ℕ) (moment : ℤ) (group : Group) (state : InState) (before after : Hand) (left_before left_after : Option (List ℕ)) → SFits w64 moment → ReadsGroup limit (to_z w64 (of_z w64 moment)) group state before after left_before left_after
+    → ReadsGroup limit moment group state before after left_before left_after
+at_moment limit moment group state before after left_before left_after fits r = subst (λ (m : ℤ). ReadsGroup limit m group state before after left_before left_after) (to_z-of_z w64 moment fits) r

@@ -11,3 +11,5 @@ pub mod SendSteps
 pub mod SentLemmas
 pub mod StandingLemmas
 pub mod TakenSteps
+pub mod OutLemmas
+pub mod SweepLemmas

@@ -1,6 +1,6 @@
 -- How far a run has come, with one entry more.
-use Rattle.std.proofs.Common.{◌≡◌, ℕ, ℤ, Bool, true, false, List, [], ◌∷◌, ◌++◌, refl, sym, ap, ◌∙◌, subst, inl, inr, arith, append_assoc, append-nil}
-use Rattle.std.specs.Prelude.{IfSome, not, count_by, slice_get}
+use Rattle.std.proofs.Common.{◌≡◌, ◌<◌, ℕ, zero, suc, ℤ, length, replicate, Bool, true, false, List, [], ◌∷◌, ◌++◌, refl, sym, ap, ◌∙◌, subst, inl, inr, arith, append_assoc, append-nil}
+use Rattle.std.specs.Prelude.{IfSome, not, count_by, slice_get, map}
 use Rattle.std.specs.Int.{int_max}
 use Rattle.std.specs.declared.option.Option.{Option}
 use Rattle.std.specs.declared.option.Option.TheVariants.{Some, None}
@@ -36,8 +36,12 @@ use Rattle.agent_workers.specs.Noted.{JournalPart, Notes, NotesOn}
 use Rattle.pipeline_core.specs.Order.{EndsFailed, IsOrderly}
 use Rattle.agent_workers.specs.PipeSetup.{journal_setup_of}
 use Rattle.account.specs.Routes.{RouteOnInOrder}
-use Rattle.agent_workers.specs.Progress.{Beginning, Surroundings, HasText, IsNamed, HasState, IsClocked, IsNamedOfTaken, Heard, Said, Progress}
+use Rattle.agent_workers.specs.Progress.{Beginning, Surroundings, HasText, IsNamed, HasState, IsClocked, IsNamedOfTaken, Heard, Said, AllSaid, Progress}
+use Rattle.agent_workers.specs.Output.{OutPart, out_at, anew, AreAnew}
 use Rattle.agent_workers.specs.Running.{as_it_is}
+use Rattle.agent_workers.proofs.OutLemmas.{at_anew}
+use Rattle.std.specs.List.{AllByRecursion}
+use Rattle.std.proofs.lemmas.List.{length-map}
 use Rattle.pipeline_core.specs.Worked.{WorkedBy}
 use Rattle.account.proofs.DoneLemmas.{dones-same, last_none, last_same}
 use Rattle.pipeline_core.proofs.StopLemmas.{behind_stop-push, stop_before}
@@ -80,18 +84,18 @@ text-cut start core next part more journal h stands none same notes = record {
       (notes (journal_setup_of start.setup) start.noted start.note_faults h.written h.notes (stored_in_order start core part journal h));
 }
 
-named_same : (state : InState) (old new : List Entry) (text : List ℕ) (rest : List Cut) → gathers 0 new ≡ gathers 0 old → has_ended 0 new ≡ has_ended 0 old → IsNamed state old text rest → IsNamed state new text rest
-named_same states.Reading old new text rest same ended h = gathering_same 1000 0 old new text rest same h
-named_same states.Ended old new text rest same ended h = record { groups = h.groups; rest = h.rest; consecutive = h.consecutive; named = subst (AreGroups h.groups) (sym same) h.named; full = h.full; all = λ e. h.all (sym ended ∙ e) }
-named_same states.Faulted old new text rest same ended h = record { groups = h.groups; rest = h.rest; consecutive = h.consecutive; named = subst (AreGroups h.groups) (sym same) h.named; full = h.full; all = λ e. h.all (sym ended ∙ e) }
-named_same states.LimitReached old new text rest same ended h = record { groups = h.groups; rest = h.rest; consecutive = h.consecutive; named = subst (AreGroups h.groups) (sym same) h.named; full = h.full; all = λ e. h.all (sym ended ∙ e) }
+named_same : (most : ℕ) (state : InState) (old new : List Entry) (text : List ℕ) (rest : List Cut) → gathers 0 new ≡ gathers 0 old → has_ended 0 new ≡ has_ended 0 old → IsNamed most state old text rest → IsNamed most state new text rest
+named_same most states.Reading old new text rest same ended h = gathering_same most 0 old new text rest same h
+named_same most states.Ended old new text rest same ended h = record { groups = h.groups; rest = h.rest; consecutive = h.consecutive; named = subst (AreGroups h.groups) (sym same) h.named; full = h.full; all = λ e. h.all (sym ended ∙ e) }
+named_same most states.Faulted old new text rest same ended h = record { groups = h.groups; rest = h.rest; consecutive = h.consecutive; named = subst (AreGroups h.groups) (sym same) h.named; full = h.full; all = λ e. h.all (sym ended ∙ e) }
+named_same most states.LimitReached old new text rest same ended h = record { groups = h.groups; rest = h.rest; consecutive = h.consecutive; named = subst (AreGroups h.groups) (sym same) h.named; full = h.full; all = λ e. h.all (sym ended ∙ e) }
 
-full_same : (old new : List Entry) (text left : Option (List ℕ)) → gathers 0 new ≡ gathers 0 old → gathered_count new ≡ gathered_count old → IsFull 1000 old 0 text left → IsFull 1000 new 0 text left
-full_same old new text left same count h = record {
+full_same : (most : ℕ) (old new : List Entry) (text left : Option (List ℕ)) → gathers 0 new ≡ gathers 0 old → gathered_count new ≡ gathered_count old → IsFull most old 0 text left → IsFull most new 0 text left
+full_same most old new text left same count h = record {
   count = h.count;
   few = h.few;
   many = omega (arith, h.many, count);
-  next = told_map text left (λ xs ys. IsNextGroup 1000 old 0 xs h.count) (λ xs ys. IsNextGroup 1000 new 0 xs h.count)
+  next = told_map text left (λ xs ys. IsNextGroup most old 0 xs h.count) (λ xs ys. IsNextGroup most new 0 xs h.count)
       (λ xs ys n. record { moment = n.moment; groups = n.groups; group = n.group; rest = n.rest; consecutive = n.consecutive; named = subst (AreGroups n.groups) (sym same) n.named; few = n.few; metrics = n.metrics })
       h.next;
 }
@@ -101,24 +105,24 @@ state_same states.Reading start read_faults left hand old new same count h = h
 state_same states.Ended start read_faults left hand old new same count h = h
 state_same states.Faulted start read_faults left hand old new same count h = h
 state_same states.LimitReached start read_faults left hand old new same count (inl h) = inl h
-state_same states.LimitReached start read_faults left hand old new same count (inr h) = inr (full_same old new start.bytes left same count h)
+state_same states.LimitReached start read_faults left hand old new same count (inr h) = inr (full_same start.most old new start.bytes left same count h)
 
 pub clocked_same : (all : Option Moments) (place : ℕ) (old new : List ℤ) → new ≡ old → IfSome all (λ moments. IsClocked moments place old) → IfSome all (λ moments. IsClocked moments place new)
 clocked_same None place old new same h = tt
 clocked_same (Some moments) place old new same h = subst (IsClocked moments place) (sym same) h
 
-taken_same : (state : InState) (old new : List Entry) (hand : Hand) (text left : List ℕ) → gathers 0 new ≡ gathers 0 old → IsNamedOfTaken state old hand text left → IsNamedOfTaken state new hand text left
-taken_same states.Reading old new hand text left same h = names_same 1000 0 old new hand text left same h
-taken_same states.Ended old new hand text left same h = tt
-taken_same states.Faulted old new hand text left same h = record { taken = h.taken; split = h.split; groups = h.groups; named = subst (AreGroups h.groups) (sym same) h.named; all = h.all }
-taken_same states.LimitReached old new hand text left same h = tt
+taken_same : (most : ℕ) (state : InState) (old new : List Entry) (hand : Hand) (text left : List ℕ) → gathers 0 new ≡ gathers 0 old → IsNamedOfTaken most state old hand text left → IsNamedOfTaken most state new hand text left
+taken_same most states.Reading old new hand text left same h = names_same most 0 old new hand text left same h
+taken_same most states.Ended old new hand text left same h = tt
+taken_same most states.Faulted old new hand text left same h = record { taken = h.taken; split = h.split; groups = h.groups; named = subst (AreGroups h.groups) (sym same) h.named; all = h.all }
+taken_same most states.LimitReached old new hand text left same h = tt
 
 -- a journal with the same Gathers
 pub heard_same : (start : Beginning) (now : Surroundings) (hand : Hand) (old new : List Entry) → gathers 0 new ≡ gathers 0 old → has_ended 0 new ≡ has_ended 0 old → gathered_count new ≡ gathered_count old → gather_moments 0 new ≡ gather_moments 0 old
     → Heard start now hand old → Heard start now hand new
 heard_same start now hand old new same ended count moments h = record {
-  named = told_map start.bytes now.left (λ xs ys. IsNamed now.state old xs (to_come hand ys)) (λ xs ys. IsNamed now.state new xs (to_come hand ys)) (λ xs ys. named_same now.state old new xs (to_come hand ys) same ended) h.named;
-  of_taken = told_map start.bytes now.left (IsNamedOfTaken now.state old hand) (IsNamedOfTaken now.state new hand) (λ xs ys. taken_same now.state old new hand xs ys same) h.of_taken;
+  named = told_map start.bytes now.left (λ xs ys. IsNamed start.most now.state old xs (to_come hand ys)) (λ xs ys. IsNamed start.most now.state new xs (to_come hand ys)) (λ xs ys. named_same start.most now.state old new xs (to_come hand ys) same ended) h.named;
+  of_taken = told_map start.bytes now.left (IsNamedOfTaken start.most now.state old hand) (IsNamedOfTaken start.most now.state new hand) (λ xs ys. taken_same start.most now.state old new hand xs ys same) h.of_taken;
   counted = h.counted;
   ended = ended ∙ h.ended;
   later = h.later;
@@ -127,9 +131,8 @@ heard_same start now hand old new same ended count moments h = record {
 }
 
 -- what is put and what was counted is nothing of the input
-pub heard_beside : (start : Beginning) (now : Surroundings) (hand : Hand) (journal : List Entry) (held : Option (List ℕ)) (put_faults : ℕ) (part : JournalPart) (counted_at : List ℤ) → Heard start now hand journal
-    → Heard start (record now { held = held; put_faults = put_faults; journal = part; counted_at = counted_at }) hand journal
-heard_beside start now hand journal held put_faults part counted_at h =
+pub heard_beside : (start : Beginning) (now : Surroundings) (hand : Hand) (journal : List Entry) (outs : List OutPart) (part : JournalPart) (counted_at : List ℤ) → Heard start now hand journal → Heard start (record now { outs = outs; journal = part; counted_at = counted_at }) hand journal
+heard_beside start now hand journal outs part counted_at h =
     record { named = h.named; of_taken = h.of_taken; counted = h.counted; ended = h.ended; later = h.later; state = h.state; clocked = h.clocked }
 
 -- an entry that is no Gather, and not the Ended of the input
@@ -138,59 +141,96 @@ heard_push start now hand journal e none other count h =
     heard_same start now hand journal (journal ++ e ∷ []) (gathers-other 0 journal e none) (has_ended-other 0 journal e other)
     (let n : gathered_count (journal ++ e ∷ []) ≡ gathered_count journal = omega (arith, gathered_count-push journal e, count) in n) (gather_moments-same 0 journal e none) h
 
+-- an entry that says nothing of an output
+pub record IsQuietAt (output : ℕ) (e : Entry) : Type 0 where
+  pub ends : EndsNone output e
+  pub none : dones_by output e ≡ []
+  pub quiet : lane_events_by output e ≡ []
+
 -- a journal with the same batches
-pub said_push : (start : Beginning) (now : Surroundings) (failed : ℕ) (journal : List Entry) (e : Entry) → EndsNone 0 e → dones_by 0 e ≡ [] → lane_events_by 0 e ≡ [] → is_stop e ≡ false → Said start now failed journal → Said start now failed (journal ++ e ∷ [])
-said_push start now failed journal e ends none quiet going h =
-    let same : dones 0 (journal ++ e ∷ []) ≡ dones 0 journal = dones-same 0 journal e none in
+pub said_push : (start now : OutPart) (output : ℕ) (journal : List Entry) (e : Entry) → IsQuietAt output e → is_stop e ≡ false → Said start now output journal → Said start now output (journal ++ e ∷ [])
+said_push start now output journal e q going h =
+    let same : dones output (journal ++ e ∷ []) ≡ dones output journal = dones-same output journal e q.none in
     record {
-      sent = sent_same 0 journal e start.held now.held ends h.sent;
+      sent = sent_same output journal e start.held now.held q.ends h.sent;
       put_faults = subst (λ (bs : List Bool). RoseBy (count_by not bs) start.put_faults now.put_faults) (sym same) h.put_faults;
-      stuck = λ some. subst EndsFailed (sym (lane_events-push 0 journal e ∙ ap (λ (es : List LaneEvent). lane_events 0 journal ++ es) quiet ∙ append-nil (lane_events 0 journal))) (h.stuck some);
+      stuck = λ some. subst EndsFailed (sym (lane_events-push output journal e ∙ ap (λ (es : List LaneEvent). lane_events output journal ++ es) q.quiet ∙ append-nil (lane_events output journal))) (h.stuck some);
       last = λ stopped.
           let before : has_stop journal ≡ true = stop_before journal e going stopped in
-          last_same failed (dones 0 (behind_stop journal)) (dones 0 (behind_stop (journal ++ e ∷ [])))
-          (ap (dones 0) (behind_stop-push journal e before) ∙ dones-same 0 (behind_stop journal) e none) (h.last before);
+          last_same now.failed (dones output (behind_stop journal)) (dones output (behind_stop (journal ++ e ∷ [])))
+          (ap (dones output) (behind_stop-push journal e before) ∙ dones-same output (behind_stop journal) e q.none) (h.last before);
     }
 
 -- the same where no put failed in succession, whatever came to the output
-pub said_anew : (start : Beginning) (now : Surroundings) (failed : ℕ) (journal : List Entry) (e : Entry) → EndsNone 0 e → dones_by 0 e ≡ [] → Said start now failed journal → Said start now 0 (journal ++ e ∷ [])
-said_anew start now failed journal e ends none h = record {
-  sent = sent_same 0 journal e start.held now.held ends h.sent;
-  put_faults = subst (λ (bs : List Bool). RoseBy (count_by not bs) start.put_faults now.put_faults) (sym (dones-same 0 journal e none)) h.put_faults;
-  stuck = λ some. absurd (omega (arith, some));
-  last = λ stopped. last_none (dones 0 (behind_stop (journal ++ e ∷ [])));
+pub said_anew : (start now : OutPart) (output : ℕ) (journal : List Entry) (e : Entry) → now.failed ≡ 0 → EndsNone output e → dones_by output e ≡ [] → Said start now output journal → Said start now output (journal ++ e ∷ [])
+said_anew start now output journal e nil ends none h = record {
+  sent = sent_same output journal e start.held now.held ends h.sent;
+  put_faults = subst (λ (bs : List Bool). RoseBy (count_by not bs) start.put_faults now.put_faults) (sym (dones-same output journal e none)) h.put_faults;
+  stuck = λ some. absurd (omega (arith, some, nil));
+  last = λ stopped. rw nil (last_none (dones output (behind_stop (journal ++ e ∷ []))));
 }
 
--- an entry that says nothing of the input and ends no batch
-pub went_quiet : (start : Beginning) (core next : CoreState) (hand : Hand) (failed : ℕ) (now : Surroundings) (e : Entry) (w : Progress start core hand failed now) →
+-- the counts of failed batches begin anew
+said_fresh : (start now : OutPart) (output : ℕ) (journal : List Entry) → Said start now output journal → Said start (anew now) output journal
+said_fresh start now output journal h = record { sent = h.sent; put_faults = h.put_faults; stuck = λ some. absurd (omega (arith, some)); last = λ stopped. last_none (dones output (behind_stop journal)) }
+
+-- an entry that says nothing of any output
+pub all_said_push : (starts outs : List OutPart) (journal : List Entry) (e : Entry) → ((output : ℕ) → IsQuietAt output e) → is_stop e ≡ false → AllSaid starts outs journal → AllSaid starts outs (journal ++ e ∷ [])
+all_said_push starts outs journal e quiet going h = λ o l. said_push (out_at starts o) (out_at outs o) o journal e (quiet o) going (h o l)
+
+pub all_said_anew : (starts outs : List OutPart) (journal : List Entry) (e : Entry) → AreAnew outs → ((output : ℕ) → EndsNone output e) → ((output : ℕ) → dones_by output e ≡ []) → AllSaid starts outs journal → AllSaid starts outs (journal ++ e ∷ [])
+all_said_anew starts outs journal e fresh ends none h = λ o l. said_anew (out_at starts o) (out_at outs o) o journal e (fresh o l) (ends o) (none o) (h o l)
+
+-- the counts of failed batches of all outputs begin anew
+pub went_anew : (start : Beginning) (core : CoreState) (hand : Hand) (now : Surroundings) (outs new_outs : List OutPart) → new_outs ≡ map anew outs → Progress start core hand (record now { outs = outs }) → Progress start core hand (record now { outs = new_outs })
+went_anew start core hand now outs new_outs are w = record {
+  journal = w.journal;
+  text = w.text;
+  heard = heard_beside start (record now { outs = outs }) hand w.journal new_outs now.journal now.counted_at w.heard;
+  out_count = ap length are ∙ length-map outs anew ∙ w.out_count;
+  said = subst (λ (all : List OutPart). AllSaid start.outs all w.journal) (sym are)
+      (λ o l. let b : o < length outs = omega (arith, l, length-map outs anew) in
+      subst (λ (out : OutPart). Said (out_at start.outs o) out o w.journal) (sym (at_anew outs o b)) (said_fresh (out_at start.outs o) (out_at outs o) o w.journal (w.said o b)));
+  worked = w.worked;
+  in_order = w.in_order;
+  counted_at = w.counted_at;
+}
+
+-- an entry that says nothing of the input and of the outputs
+pub went_quiet : (start : Beginning) (core next : CoreState) (hand : Hand) (now : Surroundings) (e : Entry) (w : Progress start core hand now) →
     Continues core next e → next.stored ≡ core.stored ++ e ∷ [] → next.setup ≡ core.setup →
-    gathers_by 0 e ≡ [] → is_ended_of 0 e ≡ false → gathered_by e ≡ 0 → EndsNone 0 e → dones_by 0 e ≡ [] → lane_events_by 0 e ≡ [] → is_stop e ≡ false → WorkedBy (items w.journal) e → IsOrderly start.setup w.journal e → counted_by e ≡ [] →
-    Progress start next hand failed now
-went_quiet start core next hand failed now e w more stored same none other count ends no_done quiet going worked orderly still = record {
+    gathers_by 0 e ≡ [] → is_ended_of 0 e ≡ false → gathered_by e ≡ 0 → ((output : ℕ) → IsQuietAt output e) → is_stop e ≡ false → WorkedBy (items w.journal) e → IsOrderly start.setup w.journal e → counted_by e ≡ [] → Progress start next hand now
+went_quiet start core next hand now e w more stored same none other count quiet going worked orderly still = record {
   journal = w.journal ++ e ∷ [];
   text = text-push start core next now.journal w.journal e w.text more stored same;
   heard = heard_push start now hand w.journal e none other count w.heard;
-  said = said_push start now failed w.journal e ends no_done quiet going w.said;
+  out_count = w.out_count;
+  said = all_said_push start.outs now.outs w.journal e quiet going w.said;
   worked = worked-push w.journal e worked w.worked;
   in_order = in_order-push start.setup w.journal e w.in_order orderly;
   counted_at = counted_moments-same w.journal e still ∙ w.counted_at;
 }
 
 -- an item was taken
-pub went_take : (start : Beginning) (core next : CoreState) (hand : Hand) (failed : ℕ) (now : Surroundings) → next ≡ after_take core → Continues core next (Take core.taken) → Progress start core hand failed now → Progress start next hand failed now
-went_take start core next hand failed now is more w =
-    went_quiet start core next hand failed now (Take core.taken) w more (ap (λ (s : CoreState). s.stored) is) (ap (λ (s : CoreState). s.setup) is) refl refl refl tt refl refl refl tt tt refl
+pub went_take : (start : Beginning) (core next : CoreState) (hand : Hand) (now : Surroundings) → next ≡ after_take core → Continues core next (Take core.taken) → Progress start core hand now → Progress start next hand now
+went_take start core next hand now is more w =
+    went_quiet start core next hand now (Take core.taken) w more (ap (λ (s : CoreState). s.stored) is) (ap (λ (s : CoreState). s.setup) is) refl refl refl (λ o. record { ends = tt; none = refl; quiet = refl }) refl tt tt refl
+
+-- each of so many views is the same
+all_same : (n : ℕ) (metric : Content) → AllByRecursion (λ (view : Option Content). view ≡ Some metric) (replicate n (Some metric))
+all_same zero metric = tt
+all_same (suc n) metric = (refl, all_same n metric)
 
 -- the first raw item was taken and routed as it is
-pub went_route : (start : Beginning) (core mid next : CoreState) (hand : Hand) (failed : ℕ) (now : Surroundings) (metric : Content) → slice_get core.raw 0 ≡ Some metric →
-    mid ≡ after_take core → Continues core mid (Take core.taken) → next ≡ after_route mid (as_it_is core.taken metric) → Continues mid next (route_entry mid (as_it_is core.taken metric)) →
-    Progress start core hand failed now → Progress start next hand 0 now
-went_route start core mid next hand failed now metric first taken takes routed routes w =
-    let v : Progress start mid hand failed now = went_take start core mid hand failed now taken takes w in
-    let shape : IsRouteEntry (as_it_is core.taken metric) (route_entry mid (as_it_is core.taken metric)) = entries-have-shape.routes mid (as_it_is core.taken metric) in
+pub went_route : (start : Beginning) (core mid next : CoreState) (hand : Hand) (now : Surroundings) (outputs : ℕ) (metric : Content) → AreAnew now.outs → slice_get core.raw 0 ≡ Some metric →
+    mid ≡ after_take core → Continues core mid (Take core.taken) → next ≡ after_route mid (as_it_is outputs core.taken metric) → Continues mid next (route_entry mid (as_it_is outputs core.taken metric)) → Progress start core hand now → Progress start next hand now
+went_route start core mid next hand now outputs metric fresh first taken takes routed routes w =
+    let v : Progress start mid hand now = went_take start core mid hand now taken takes w in
+    let shape : IsRouteEntry (as_it_is outputs core.taken metric) (route_entry mid (as_it_is outputs core.taken metric)) = entries-have-shape.routes mid (as_it_is outputs core.taken metric) in
     let verdict : Verdict = shape.0 in
     let reports : List Report = shape.1 in
-    let e : Entry = Route core.taken (Some metric) verdict [] (Some metric ∷ []) reports in
+    let views : List (Option Content) = replicate outputs (Some metric) in
+    let e : Entry = Route core.taken (Some metric) verdict [] views reports in
     let at : slice_get (items w.journal) core.taken ≡ Some metric = first_raw core w.journal metric w.text.stands first in
     let there : slice_get (items (w.journal ++ Take core.taken ∷ [])) core.taken ≡ Some metric = item_stays w.journal (Take core.taken) core.taken metric at in
     record {
@@ -199,33 +239,36 @@ went_route start core mid next hand failed now metric first taken takes routed r
           (text-push start core mid now.journal w.journal (Take core.taken) w.text takes (ap (λ (s : CoreState). s.stored) taken) (ap (λ (s : CoreState). s.setup) taken))
           (subst (Continues mid next) shape.2 routes) (ap (λ (s : CoreState). s.stored) routed ∙ ap (λ (x : Entry). mid.stored ++ x ∷ []) shape.2) (ap (λ (s : CoreState). s.setup) routed);
       heard = heard_push start now hand (w.journal ++ Take core.taken ∷ []) e refl refl refl (heard_push start now hand w.journal (Take core.taken) refl refl refl w.heard);
-      said = said_anew start now failed (w.journal ++ Take core.taken ∷ []) e tt refl (said_push start now failed w.journal (Take core.taken) tt refl refl refl w.said);
-      worked = worked_route (w.journal ++ Take core.taken ∷ []) core.taken metric verdict [] (Some metric ∷ []) reports there (refl, tt) (worked-push w.journal (Take core.taken) tt w.worked);
+      out_count = w.out_count;
+      said = all_said_anew start.outs now.outs (w.journal ++ Take core.taken ∷ []) e fresh (λ o. tt) (λ o. refl)
+          (all_said_push start.outs now.outs w.journal (Take core.taken) (λ o. record { ends = tt; none = refl; quiet = refl }) refl w.said);
+      worked = worked_route (w.journal ++ Take core.taken ∷ []) core.taken metric verdict [] views reports there (all_same outputs metric) (worked-push w.journal (Take core.taken) tt w.worked);
       in_order = in_order-push start.setup (w.journal ++ Take core.taken ∷ []) e (in_order-push start.setup w.journal (Take core.taken) w.in_order tt) tt;
       counted_at = counted_moments-same (w.journal ++ Take core.taken ∷ []) e refl ∙ counted_moments-same w.journal (Take core.taken) refl ∙ w.counted_at;
     }
 
 -- the stored entries were noted
-pub went_cut : (start : Beginning) (core next : CoreState) (part more : JournalPart) (hand : Hand) (failed : ℕ) (now : Surroundings) → ((es : List Entry) → Stands core es → Stands next es) → next ≡ after_cut core → NotesOn core.stored part more
-    → Progress start core hand failed (record now { journal = part }) → Progress start next hand failed (record now { journal = more })
-went_cut start core next part more hand failed now stands is notes w = record {
+pub went_cut : (start : Beginning) (core next : CoreState) (part more : JournalPart) (hand : Hand) (now : Surroundings) → ((es : List Entry) → Stands core es → Stands next es) → next ≡ after_cut core → NotesOn core.stored part more
+    → Progress start core hand (record now { journal = part }) → Progress start next hand (record now { journal = more })
+went_cut start core next part more hand now stands is notes w = record {
   journal = w.journal;
   text = text-cut start core next part more w.journal w.text stands (ap (λ (s : CoreState). s.stored) is) (ap (λ (s : CoreState). s.setup) is) notes;
-  heard = heard_beside start (record now { journal = part }) hand w.journal now.held now.put_faults more now.counted_at w.heard;
-  said = record { sent = w.said.sent; put_faults = w.said.put_faults; stuck = w.said.stuck; last = w.said.last };
+  heard = heard_beside start (record now { journal = part }) hand w.journal now.outs more now.counted_at w.heard;
+  out_count = w.out_count;
+  said = w.said;
   worked = w.worked;
   in_order = w.in_order;
   counted_at = w.counted_at;
 }
 
 -- no entry was stored
-pub went_uncut : (start : Beginning) (core next : CoreState) (hand : Hand) (failed : ℕ) (now : Surroundings) → next ≡ core → Progress start core hand failed now → Progress start next hand failed now
-went_uncut start core next hand failed now is w = subst (λ (s : CoreState). Progress start s hand failed now) (sym is) w
+pub went_uncut : (start : Beginning) (core next : CoreState) (hand : Hand) (now : Surroundings) → next ≡ core → Progress start core hand now → Progress start next hand now
+went_uncut start core next hand now is w = subst (λ (s : CoreState). Progress start s hand now) (sym is) w
 
 -- the run was stopped at a moment
-pub went_stop : (start : Beginning) (core next : CoreState) (hand : Hand) (failed : ℕ) (now : Surroundings) (moment : ℤ) → next ≡ after_stop core moment → Continues core next (stop_entry core moment)
-    → (w : Progress start core hand failed (record now { counted_at = [] })) → Progress start next hand 0 (record now { counted_at = int_max moment start.setup.start ∷ [] })
-went_stop start core next hand failed now moment is more w =
+pub went_stop : (start : Beginning) (core next : CoreState) (hand : Hand) (now : Surroundings) (moment : ℤ) → AreAnew now.outs → next ≡ after_stop core moment → Continues core next (stop_entry core moment)
+    → (w : Progress start core hand (record now { counted_at = [] })) → Progress start next hand (record now { counted_at = int_max moment start.setup.start ∷ [] })
+went_stop start core next hand now moment fresh is more w =
     let shape : IsStopEntry (moment_at core moment) (stop_entry core moment) = entries-have-shape.stops core moment in
     let e : Entry = Stop (int_max moment core.counted) shape.0 in
     let counted : core.counted ≡ start.setup.start =
@@ -233,17 +276,17 @@ went_stop start core next hand failed now moment is more w =
     record {
       journal = w.journal ++ e ∷ [];
       text = text-push start core next now.journal w.journal e w.text (subst (Continues core next) shape.1 more) (ap (λ (s : CoreState). s.stored) is ∙ ap (λ (x : Entry). core.stored ++ x ∷ []) shape.1) (ap (λ (s : CoreState). s.setup) is);
-      heard = heard_push start (record now { counted_at = int_max moment start.setup.start ∷ [] }) hand w.journal e refl refl refl (heard_beside start (record now { counted_at = [] }) hand w.journal now.held now.put_faults now.journal (int_max moment start.setup.start ∷ []) w.heard);
-      said = said_anew start (record now { counted_at = int_max moment start.setup.start ∷ [] }) failed w.journal e tt refl (record { sent = w.said.sent; put_faults = w.said.put_faults; stuck = w.said.stuck; last = w.said.last });
+      heard = heard_push start (record now { counted_at = int_max moment start.setup.start ∷ [] }) hand w.journal e refl refl refl (heard_beside start (record now { counted_at = [] }) hand w.journal now.outs now.journal (int_max moment start.setup.start ∷ []) w.heard);
+      out_count = w.out_count;
+      said = all_said_anew start.outs now.outs w.journal e fresh (λ o. tt) (λ o. refl) w.said;
       worked = worked-push w.journal e tt w.worked;
       in_order = in_order-push start.setup w.journal e w.in_order tt;
       counted_at = counted_moments-push w.journal e ∙ ap (λ (ms : List ℤ). ms ++ int_max moment core.counted ∷ []) w.counted_at ∙ ap (λ (m : ℤ). int_max moment m ∷ []) counted;
     }
 
 -- the same of an item with the number of the first raw one
-pub went_item : (start : Beginning) (core mid next : CoreState) (hand : Hand) (failed : ℕ) (now : Surroundings) (number : ℕ) (metric : Content) → number ≡ core.taken → slice_get core.raw 0 ≡ Some metric →
-    mid ≡ after_take core → Continues core mid (Take core.taken) → next ≡ after_route mid (as_it_is number metric) → Continues mid next (route_entry mid (as_it_is number metric)) →
-    Progress start core hand failed now → Progress start next hand 0 now
-went_item start core mid next hand failed now number metric is first taken takes routed routes w =
-    went_route start core mid next hand failed now metric first taken takes
-    (subst (λ (n : ℕ). next ≡ after_route mid (as_it_is n metric)) is routed) (subst (λ (n : ℕ). Continues mid next (route_entry mid (as_it_is n metric))) is routes) w
+pub went_item : (start : Beginning) (core mid next : CoreState) (hand : Hand) (now : Surroundings) (outputs number : ℕ) (metric : Content) → AreAnew now.outs → number ≡ core.taken → slice_get core.raw 0 ≡ Some metric →
+    mid ≡ after_take core → Continues core mid (Take core.taken) → next ≡ after_route mid (as_it_is outputs number metric) → Continues mid next (route_entry mid (as_it_is outputs number metric)) → Progress start core hand now → Progress start next hand now
+went_item start core mid next hand now outputs number metric fresh is first taken takes routed routes w =
+    went_route start core mid next hand now outputs metric fresh first taken takes
+    (subst (λ (n : ℕ). next ≡ after_route mid (as_it_is outputs n metric)) is routed) (subst (λ (n : ℕ). Continues mid next (route_entry mid (as_it_is outputs n metric))) is routes) w

@@ -1,7 +1,6 @@
 -- How far a run has come once a batch was sent.
-use Rattle.std.proofs.Common.{◌≡◌, ◌≤◌, ◌<◌, ℕ, ◌+◌, Bool, true, false, List, [], ◌∷◌, ◌++◌, length, refl, sym, ap, ◌∙◌, subst, arith, Err}
+use Rattle.std.proofs.Common.{◌≢◌, ◌==◌, set, if◌then◌else◌, ◌≡◌, ◌≤◌, ◌<◌, ℕ, ◌+◌, Bool, true, false, List, [], ◌∷◌, ◌++◌, length, refl, sym, ap, ◌∙◌, subst, arith, Err}
 use Rattle.std.specs.Prelude.{not, count_by}
-use Rattle.std.specs.declared.option.Option.{Option}
 use Rattle.std.specs.Io.KnownBytes.{Appends}
 use Rattle.account.specs.declared.entry.Entry.{Entry}
 use Rattle.account.specs.declared.entry.Entry.TheVariants.{Begin, Done}
@@ -22,8 +21,14 @@ use Rattle.account.specs.declared.entry.Report.{Report}
 use Rattle.pipeline_core.specs.declared.batches.Batch.{Batch}
 use Rattle.account.specs.Dones.{dones}
 use Rattle.pipeline_core.specs.Stopped.{behind_stop}
-use Rattle.agent_workers.specs.Progress.{Beginning, Surroundings, Said, Progress}
-use Rattle.agent_workers.specs.Output.{batch_text}
+use Rattle.agent_workers.specs.Progress.{Beginning, Surroundings, Said, AllSaid, SendsOn, SendsAt, Progress}
+use Rattle.agent_workers.specs.Output.{batch_text, OutPart, out_at, no_out}
+use Rattle.agent_workers.specs.declared.pipe_run.PipeRun.{PipeRun}
+use Rattle.agent_workers.proofs.OutLemmas.{each_set}
+use Rattle.agent_workers.proofs.ProgressLemmas.{IsQuietAt, said_push}
+use Rattle.out_lane.specs.LaneEvents as events
+use Rattle.pipeline_core.proofs.StandsSteps.{differs, same_number}
+use Rattle.std.proofs.lemmas.List.{length-set, get_or-set_same, set-set, set-get_or}
 use Rattle.account.proofs.DoneLemmas.{dones-same, dones-more, failed-more, last_none, last_more, last_fewer, last_same}
 use Rattle.agent_workers.proofs.RoseLemmas.{rose_later, rose_more}
 use Rattle.pipeline_core.proofs.StopLemmas.{behind_stop-push, stop_before}
@@ -33,67 +38,128 @@ use Rattle.agent_workers.proofs.ProgressLemmas.{text-push, heard_push, heard_bes
 use Rattle.agent_workers.proofs.SentLemmas.{sent_accepted, sent_failed}
 use Rattle.pipeline_core.proofs.WorkedLemmas.{worked-push}
 
-dones_of : (reports : List Report) (journal : List Entry) (from to : ℕ) (ok : Bool) → dones 0 ((journal ++ Begin 0 from to ∷ []) ++ Done 0 ok reports ∷ []) ≡ dones 0 journal ++ ok ∷ []
-dones_of reports journal from to ok =
-    dones-more reports 0 (journal ++ Begin 0 from to ∷ []) ok ∙ ap (λ (bs : List Bool). bs ++ ok ∷ []) (dones-same 0 journal (Begin 0 from to) refl)
+dones_of : (reports : List Report) (output : ℕ) (journal : List Entry) (from to : ℕ) (ok : Bool) → dones output ((journal ++ Begin output from to ∷ []) ++ Done output ok reports ∷ []) ≡ dones output journal ++ ok ∷ []
+dones_of reports output journal from to ok =
+    dones-more reports output (journal ++ Begin output from to ∷ []) ok ∙ ap (λ (bs : List Bool). bs ++ ok ∷ []) (dones-same output journal (Begin output from to) refl)
 
-module _ (start : Beginning) (core mid next : CoreState) (hand : Hand) (failed : ℕ) (now : Surroundings) (batch : Batch) (text : List ℕ) (new_held : Option (List ℕ)) (new_put_faults : ℕ)
-    (one : 0 < length core.setup.outputs) (routed : core.raw ≡ []) (is : IsBatchOf (lane_at core.lanes 0) batch) (spelled : text ≡ batch_text batch.metrics) (later : now.put_faults ≤ new_put_faults)
-    (began : mid ≡ after_begin core 0 batch.from batch.to) (begins : Continues core mid (Begin 0 batch.from batch.to)) where
-  went_done : (reports : List Report) (ok : Bool) (more : ℕ) (w : Progress start core hand failed now) → next.stored ≡ mid.stored ++ Done 0 ok reports ∷ [] → next.setup ≡ mid.setup → Continues mid next (Done 0 ok reports) →
-      Said start (record now { held = new_held; put_faults = new_put_faults }) more ((w.journal ++ Begin 0 batch.from batch.to ∷ []) ++ Done 0 ok reports ∷ []) → Progress start next hand more (record now { held = new_held; put_faults = new_put_faults })
-  went_done reports ok more w stored same ends said =
-      let begin : Entry = Begin 0 batch.from batch.to in
-      let end : Entry = Done 0 ok reports in
+-- a batch of one output says nothing of another
+begin_quiet : (output other from to : ℕ) → other ≢ output → IsQuietAt other (Begin output from to)
+begin_quiet output other from to ne = record { ends = tt; none = refl; quiet = ap (λ (here : Bool). if here then events.Begin from to ∷ [] else []) (differs output other (λ e. ne (sym e))) }
+
+done_quiet : (reports : List Report) (output other : ℕ) (ok : Bool) → other ≢ output → IsQuietAt other (Done output ok reports)
+done_quiet reports output other ok ne =
+    let apart : (output == other) ≡ false = differs output other (λ e. ne (sym e)) in
+    record { ends = apart; none = ap (λ (here : Bool). if here then ok ∷ [] else []) apart; quiet = ap (λ (here : Bool). if here then events.Done ok ∷ [] else []) apart }
+
+module _ (start : Beginning) (core mid next : CoreState) (hand : Hand) (now : Surroundings) (old new : OutPart) (batch : Batch) (text : List ℕ)
+    (within : old.output < length core.setup.outputs) (routed : core.raw ≡ []) (is : IsBatchOf (lane_at core.lanes old.output) batch) (spelled : text ≡ batch_text batch.metrics) (later : old.put_faults ≤ new.put_faults)
+    (began : mid ≡ after_begin core old.output batch.from batch.to) (begins : Continues core mid (Begin old.output batch.from batch.to))
+    (b : old.output < length now.outs) (at : out_at now.outs old.output ≡ old) where
+  -- what is said of the outputs, where it is said of the one
+  said_done : (reports : List Report) (ok : Bool) (journal : List Entry) → AllSaid start.outs now.outs journal → Said (out_at start.outs old.output) new old.output ((journal ++ Begin old.output batch.from batch.to ∷ []) ++ Done old.output ok reports ∷ [])
+      → AllSaid start.outs (set now.outs old.output new) ((journal ++ Begin old.output batch.from batch.to ∷ []) ++ Done old.output ok reports ∷ [])
+  said_done reports ok journal h here =
+      let begin : Entry = Begin old.output batch.from batch.to in
+      let end : Entry = Done old.output ok reports in
+      each_set (λ (k : ℕ) (out : OutPart). Said (out_at start.outs k) out k ((journal ++ begin ∷ []) ++ end ∷ [])) now.outs old.output new no_out b here
+      (λ k l ne. said_push (out_at start.outs k) (out_at now.outs k) k (journal ++ begin ∷ []) end (done_quiet reports old.output k ok ne) refl
+      (said_push (out_at start.outs k) (out_at now.outs k) k journal begin (begin_quiet old.output k batch.from batch.to ne) refl (h k l)))
+
+  went_done : (reports : List Report) (ok : Bool) (w : Progress start core hand now) → next.stored ≡ mid.stored ++ Done old.output ok reports ∷ [] → next.setup ≡ mid.setup → Continues mid next (Done old.output ok reports) →
+      Said (out_at start.outs old.output) new old.output ((w.journal ++ Begin old.output batch.from batch.to ∷ []) ++ Done old.output ok reports ∷ []) → Progress start next hand (record now { outs = set now.outs old.output new })
+  went_done reports ok w stored same ends said =
+      let begin : Entry = Begin old.output batch.from batch.to in
+      let end : Entry = Done old.output ok reports in
       let between : List Entry = w.journal ++ begin ∷ [] in
       record {
         journal = between ++ end ∷ [];
         text = text-push start mid next now.journal between end
             (text-push start core mid now.journal w.journal begin w.text begins (ap (λ (s : CoreState). s.stored) began) (ap (λ (s : CoreState). s.setup) began))
             ends stored same;
-        heard = heard_beside start now hand (between ++ end ∷ []) new_held new_put_faults now.journal now.counted_at (heard_push start now hand between end refl refl refl (heard_push start now hand w.journal begin refl refl refl w.heard));
-        said = said;
+        heard = heard_beside start now hand (between ++ end ∷ []) (set now.outs old.output new) now.journal now.counted_at (heard_push start now hand between end refl refl refl (heard_push start now hand w.journal begin refl refl refl w.heard));
+        out_count = length-set now.outs old.output new ∙ w.out_count;
+        said = said_done reports ok w.journal w.said said;
         worked = worked-push between end tt (worked-push w.journal begin tt w.worked);
         in_order = in_order-push start.setup between end (in_order-push start.setup w.journal begin w.in_order (sym w.text.stands.raw ∙ routed)) tt;
         counted_at = counted_moments-same between end refl ∙ counted_moments-same w.journal begin refl ∙ w.counted_at;
       }
 
+  -- what was said of the output
+  said_before : (w : Progress start core hand now) → Said (out_at start.outs old.output) old old.output w.journal
+  said_before w = subst (λ (out : OutPart). Said (out_at start.outs old.output) out old.output w.journal) at (w.said old.output b)
+
   -- the batch was accepted
-  pub went_accepted : next ≡ after_done mid 0 true → Continues mid next (done_entry mid 0 true) → Appends now.held new_held text → Progress start core hand failed now → Progress start next hand 0 (record now { held = new_held; put_faults = new_put_faults })
-  went_accepted done ends put w =
-      let shape : IsDoneEntry 0 true (done_entry mid 0 true) = entries-have-shape.dones mid 0 true in
+  pub went_accepted : new.failed ≡ 0 → next ≡ after_done mid old.output true → Continues mid next (done_entry mid old.output true) → Appends old.held new.held text → Progress start core hand now → Progress start next hand (record now { outs = set now.outs old.output new })
+  went_accepted nil done ends put w =
+      let o : ℕ = old.output in
+      let shape : IsDoneEntry o true (done_entry mid o true) = entries-have-shape.dones mid o true in
       let reports : List Report = shape.0 in
-      let stored : next.stored ≡ mid.stored ++ Done 0 true reports ∷ [] = ap (λ (s : CoreState). s.stored) done ∙ ap (λ (e : Entry). mid.stored ++ e ∷ []) shape.1 in
-      let same = dones_of reports w.journal batch.from batch.to true in
-      went_done reports true 0 w stored (ap (λ (s : CoreState). s.setup) done) (subst (Continues mid next) shape.1 ends) (record {
-        sent = sent_accepted reports core w.journal 0 batch start.held now.held new_held text w.text.stands one is spelled w.said.sent put;
-        put_faults = subst (λ (bs : List Bool). RoseBy (count_by not bs) start.put_faults new_put_faults) (sym same)
-            (let n : count_by not (dones 0 w.journal ++ true ∷ []) ≡ count_by not (dones 0 w.journal) = omega (arith, failed-more (dones 0 w.journal) true) in
-            subst (λ (k : ℕ). RoseBy k start.put_faults new_put_faults) (sym n) (rose_later (count_by not (dones 0 w.journal)) start.put_faults now.put_faults new_put_faults w.said.put_faults later));
-        stuck = λ some. absurd (omega (arith, some));
-        last = λ stopped. last_none (dones 0 (behind_stop ((w.journal ++ Begin 0 batch.from batch.to ∷ []) ++ Done 0 true reports ∷ [])));
+      let stored : next.stored ≡ mid.stored ++ Done o true reports ∷ [] = ap (λ (s : CoreState). s.stored) done ∙ ap (λ (e : Entry). mid.stored ++ e ∷ []) shape.1 in
+      let same = dones_of reports o w.journal batch.from batch.to true in
+      let said = said_before w in
+      let first : OutPart = out_at start.outs o in
+      went_done reports true w stored (ap (λ (s : CoreState). s.setup) done) (subst (Continues mid next) shape.1 ends) (record {
+        sent = sent_accepted reports core w.journal o batch first.held old.held new.held text w.text.stands within is spelled said.sent put;
+        put_faults = subst (λ (bs : List Bool). RoseBy (count_by not bs) first.put_faults new.put_faults) (sym same)
+            (let n : count_by not (dones o w.journal ++ true ∷ []) ≡ count_by not (dones o w.journal) = omega (arith, failed-more (dones o w.journal) true) in
+            subst (λ (k : ℕ). RoseBy k first.put_faults new.put_faults) (sym n) (rose_later (count_by not (dones o w.journal)) first.put_faults old.put_faults new.put_faults said.put_faults later));
+        stuck = λ some. absurd (omega (arith, some, nil));
+        last = λ stopped. rw nil (last_none (dones o (behind_stop ((w.journal ++ Begin o batch.from batch.to ∷ []) ++ Done o true reports ∷ []))));
       })
 
   -- its put failed
-  pub went_failed : (more : ℕ) (fault : PutFault) → fault ≡ Failed → more ≤ failed + 1 → next ≡ after_done mid 0 false → Continues mid next (done_entry mid 0 false) → PutAppends now.held new_held text (Err fault) → Rose now.put_faults new_put_faults
-      → Progress start core hand failed now → Progress start next hand more (record now { held = new_held; put_faults = new_put_faults })
-  went_failed more fault f few done ends put rose w =
-      let shape : IsDoneEntry 0 false (done_entry mid 0 false) = entries-have-shape.dones mid 0 false in
+  pub went_failed : (fault : PutFault) → fault ≡ Failed → new.failed ≤ old.failed + 1 → next ≡ after_done mid old.output false → Continues mid next (done_entry mid old.output false) → PutAppends old.held new.held text (Err fault) → Rose old.put_faults new.put_faults
+      → Progress start core hand now → Progress start next hand (record now { outs = set now.outs old.output new })
+  went_failed fault f few done ends put rose w =
+      let o : ℕ = old.output in
+      let shape : IsDoneEntry o false (done_entry mid o false) = entries-have-shape.dones mid o false in
       let reports : List Report = shape.0 in
-      let stored : next.stored ≡ mid.stored ++ Done 0 false reports ∷ [] = ap (λ (s : CoreState). s.stored) done ∙ ap (λ (e : Entry). mid.stored ++ e ∷ []) shape.1 in
-      let same = dones_of reports w.journal batch.from batch.to false in
-      went_done reports false more w stored (ap (λ (s : CoreState). s.setup) done) (subst (Continues mid next) shape.1 ends) (record {
-        sent = sent_failed reports core w.journal 0 batch start.held now.held new_held text fault f w.text.stands one is spelled w.said.sent put;
-        put_faults = subst (λ (bs : List Bool). RoseBy (count_by not bs) start.put_faults new_put_faults) (sym same)
-            (let n : count_by not (dones 0 w.journal ++ false ∷ []) ≡ count_by not (dones 0 w.journal) + 1 = omega (arith, failed-more (dones 0 w.journal) false) in
-            subst (λ (k : ℕ). RoseBy k start.put_faults new_put_faults) (sym n) (rose_more (count_by not (dones 0 w.journal)) start.put_faults now.put_faults new_put_faults w.said.put_faults rose));
-        stuck = λ some. record { front = lane_events 0 (w.journal ++ Begin 0 batch.from batch.to ∷ []); is = lane_events-push 0 (w.journal ++ Begin 0 batch.from batch.to ∷ []) (Done 0 false reports) };
+      let stored : next.stored ≡ mid.stored ++ Done o false reports ∷ [] = ap (λ (s : CoreState). s.stored) done ∙ ap (λ (e : Entry). mid.stored ++ e ∷ []) shape.1 in
+      let same = dones_of reports o w.journal batch.from batch.to false in
+      let said = said_before w in
+      let first : OutPart = out_at start.outs o in
+      let begin : Entry = Begin o batch.from batch.to in
+      let end : Entry = Done o false reports in
+      went_done reports false w stored (ap (λ (s : CoreState). s.setup) done) (subst (Continues mid next) shape.1 ends) (record {
+        sent = sent_failed reports core w.journal o batch first.held old.held new.held text fault f w.text.stands within is spelled said.sent put;
+        put_faults = subst (λ (bs : List Bool). RoseBy (count_by not bs) first.put_faults new.put_faults) (sym same)
+            (let n : count_by not (dones o w.journal ++ false ∷ []) ≡ count_by not (dones o w.journal) + 1 = omega (arith, failed-more (dones o w.journal) false) in
+            subst (λ (k : ℕ). RoseBy k first.put_faults new.put_faults) (sym n) (rose_more (count_by not (dones o w.journal)) first.put_faults old.put_faults new.put_faults said.put_faults rose));
+        stuck = λ some. record {
+          front = lane_events o (w.journal ++ begin ∷ []);
+          is = lane_events-push o (w.journal ++ begin ∷ []) end ∙ ap (λ (here : Bool). lane_events o (w.journal ++ begin ∷ []) ++ (if here then events.Done false ∷ [] else [])) (same_number o);
+        };
         last = λ stopped.
-            let mid_stopped : has_stop (w.journal ++ Begin 0 batch.from batch.to ∷ []) ≡ true = stop_before (w.journal ++ Begin 0 batch.from batch.to ∷ []) (Done 0 false reports) refl stopped in
-            let before : has_stop w.journal ≡ true = stop_before w.journal (Begin 0 batch.from batch.to) refl mid_stopped in
-            let behind : behind_stop ((w.journal ++ Begin 0 batch.from batch.to ∷ []) ++ Done 0 false reports ∷ []) ≡ (behind_stop w.journal ++ Begin 0 batch.from batch.to ∷ []) ++ Done 0 false reports ∷ [] =
-            behind_stop-push (w.journal ++ Begin 0 batch.from batch.to ∷ []) (Done 0 false reports) mid_stopped ∙ ap (λ (es : List Entry). es ++ Done 0 false reports ∷ []) (behind_stop-push w.journal (Begin 0 batch.from batch.to) before) in
-            last_fewer more (failed + 1) (dones 0 (behind_stop ((w.journal ++ Begin 0 batch.from batch.to ∷ []) ++ Done 0 false reports ∷ []))) few
-            (last_same (failed + 1) (dones 0 (behind_stop w.journal) ++ false ∷ []) (dones 0 (behind_stop ((w.journal ++ Begin 0 batch.from batch.to ∷ []) ++ Done 0 false reports ∷ [])))
-            (ap (dones 0) behind ∙ dones_of reports (behind_stop w.journal) batch.from batch.to false) (last_more failed (dones 0 (behind_stop w.journal)) (w.said.last before)));
+            let mid_stopped : has_stop (w.journal ++ begin ∷ []) ≡ true = stop_before (w.journal ++ begin ∷ []) end refl stopped in
+            let before : has_stop w.journal ≡ true = stop_before w.journal begin refl mid_stopped in
+            let behind : behind_stop ((w.journal ++ begin ∷ []) ++ end ∷ []) ≡ (behind_stop w.journal ++ begin ∷ []) ++ end ∷ [] =
+            behind_stop-push (w.journal ++ begin ∷ []) end mid_stopped ∙ ap (λ (es : List Entry). es ++ end ∷ []) (behind_stop-push w.journal begin before) in
+            last_fewer new.failed (old.failed + 1) (dones o (behind_stop ((w.journal ++ begin ∷ []) ++ end ∷ []))) few
+            (last_same (old.failed + 1) (dones o (behind_stop w.journal) ++ false ∷ []) (dones o (behind_stop ((w.journal ++ begin ∷ []) ++ end ∷ [])))
+            (ap (dones o) behind ∙ dones_of reports o (behind_stop w.journal) batch.from batch.to false) (last_more old.failed (dones o (behind_stop w.journal)) (said.last before)));
       })
+
+-- nothing was put
+pub sends_none : (old new : PipeRun) (out : OutPart) → new.core ≡ old.core → new.pieces ≡ old.pieces → SendsAt old new out out
+sends_none old new out core pieces = λ outs b at start now w.
+    let same : set outs out.output out ≡ outs = subst (λ (x : OutPart). set outs out.output x ≡ outs) at (set-get_or outs out.output no_out) in
+    subst (λ (all : List OutPart). Progress start new.core new.pieces (record now { outs = all })) (sym same)
+    (subst (λ (s : CoreState). Progress start s new.pieces (record now { outs = outs })) (sym core) (subst (λ (h : Hand). Progress start old.core h (record now { outs = outs })) (sym pieces) w))
+
+-- one batch after another
+pub sends_more : (old mid new : PipeRun) (out mid_out new_out : OutPart) → mid_out.output ≡ out.output → SendsAt old mid out mid_out → SendsAt mid new mid_out new_out → SendsAt old new out new_out
+sends_more old mid new out mid_out new_out number first second = λ outs b at start now w.
+    let i : ℕ = out.output in
+    let l : mid_out.output < length (set outs i mid_out) = omega (arith, b, number, length-set outs i mid_out) in
+    let here : out_at (set outs i mid_out) mid_out.output ≡ mid_out = ap (out_at (set outs i mid_out)) number ∙ get_or-set_same outs i mid_out no_out b in
+    let twice : set (set outs i mid_out) mid_out.output new_out ≡ set outs i new_out = ap (λ (k : ℕ). set (set outs i mid_out) k new_out) number ∙ set-set outs i mid_out new_out in
+    subst (λ (all : List OutPart). Progress start new.core new.pieces (record now { outs = all })) twice (second (set outs i mid_out) l here start now (first outs b at start now w))
+
+-- a put to one of the outputs is one to the outputs
+pub sends_at : (old new : PipeRun) (i : ℕ) (out new_out : OutPart) (outs : List OutPart) → out.output ≡ i → i < length outs → out_at outs i ≡ out → SendsAt old new out new_out → SendsOn old new outs (set outs i new_out)
+sends_at old new i out new_out outs number b at h =
+    subst (λ (k : ℕ). SendsOn old new outs (set outs k new_out)) number
+    (h outs (omega (arith, b, number)) (ap (out_at outs) number ∙ at))
+
+pub sends_then : (old mid new : PipeRun) (outs mid_outs new_outs : List OutPart) → SendsOn old mid outs mid_outs → SendsOn mid new mid_outs new_outs → SendsOn old new outs new_outs
+sends_then old mid new outs mid_outs new_outs first second = λ start now w. second start now (first start now w)

@@ -1,10 +1,10 @@
 -- Cores that stand for a journal, and the entries that they keep.
-use Rattle.std.proofs.Common.{◌≡◌, ◌≤◌, ◌<◌, ◌+◌, ℕ, zero, suc, true, List, [], ◌∷◌, ◌++◌, length, take, refl, sym, ap, ◌∙◌, arith, subst}
-use Rattle.std.specs.Prelude.{All, ◌↔◌, map, slice_set}
-use Rattle.std.specs.List.{AllByRecursion, enumerate_from}
+use Rattle.std.proofs.Common.{◌≡◌, ◌≤◌, ◌<◌, ℕ, zero, suc, true, List, [], ◌∷◌, ◌++◌, length, take, set, refl, sym, ap, ◌∙◌, arith, subst}
+use Rattle.std.specs.Prelude.{All, ◌↔◌, slice_set}
+use Rattle.std.specs.List.{AllByRecursion}
 use Rattle.std.specs.declared.option.Option.{Option}
 use Rattle.std.specs.declared.option.Option.TheVariants.{Some, None}
-use Rattle.std.proofs.lemmas.List.{length-drop, length-take}
+use Rattle.std.proofs.lemmas.List.{length-drop, length-take, get_or-set_same}
 use Rattle.metric.specs.declared.metric.Content.{Content}
 use Rattle.account.specs.Setup.{Setup}
 use Rattle.account.specs.Views.{HasViews}
@@ -12,10 +12,10 @@ use Rattle.account.specs.declared.entry.Entry.{Entry}
 use Rattle.account.specs.declared.entry.Entry.TheVariants.{Gather, Ended, Take, Route, Tick, Stop, Begin, Done}
 use Rattle.account.specs.declared.entry.Verdict.{Verdict}
 use Rattle.account.specs.declared.entry.Verdict.TheVariants as verdicts
-use Rattle.out_lane.specs.Lane.{LaneState, after_begin}
+use Rattle.out_lane.specs.Lane.{LaneState, after_begin, empty_lane}
+use Rattle.agent_workers.proofs.OutLemmas.{lanes_done}
 use Rattle.pipeline_core.specs.CoreState.{CoreState, lane_at}
-use Rattle.pipeline_core.specs.Offers.{view_at}
-use Rattle.pipeline_core.specs.Steps.{lane_done, lane_with, lanes_with}
+use Rattle.pipeline_core.specs.Steps.{lane_done}
 use Rattle.pipeline_core.specs.Legal.{AreLegal, Meets}
 use Rattle.pipeline_core.specs.Windows.{judged}
 use Rattle.pipeline_core.specs.declared.output.Offer.{Offer}
@@ -82,43 +82,17 @@ all_at P (e ∷ es) h (suc k) d lt = all_at P es h.1 k d (omega arith)
 pub cut_whole : (core : CoreState) (es : List Entry) → es ≡ core.stored → HasJournal core → All IsWholeOrRemoved es
 cut_whole core es same h = all_at IsWholeOrRemoved es (rw same (stored_whole core h))
 
--- what offering views leaves of the first lane
-pub record IsLaneKept (old new : List (LaneState Offer)) : Type 0 where
-  pub count : length new ≡ length old
-  pub batch : (lane_at new 0).batch ≡ (lane_at old 0).batch
-  pub flight : (lane_at new 0).flight ≡ (lane_at old 0).flight
-
-mapped : {A B : Type 0} (f : A → B) (xs : List A) → length (map f xs) ≡ length xs
-mapped f [] = refl
-mapped f (x ∷ xs) = ap (λ (k : ℕ). suc k) (mapped f xs)
-
-enumerated : (n : ℕ) (lanes : List (LaneState Offer)) → length (enumerate_from n lanes) ≡ length lanes
-enumerated n [] = refl
-enumerated n (x ∷ xs) = ap (λ (k : ℕ). suc k) (enumerated (n + 1) xs)
-
-with_batch : (item : ℕ) (view : Option Content) (x : LaneState Offer) → (lane_with item view x).batch ≡ x.batch
-with_batch item None x = refl
-with_batch item (Some view) x = refl
-
-with_flight : (item : ℕ) (view : Option Content) (x : LaneState Offer) → (lane_with item view x).flight ≡ x.flight
-with_flight item None x = refl
-with_flight item (Some view) x = refl
-
-pub lanes_kept : (item : ℕ) (outs : List (Option Content)) (lanes : List (LaneState Offer)) → IsLaneKept lanes (lanes_with item outs lanes)
-lanes_kept item outs [] = record { count = refl; batch = refl; flight = refl }
-lanes_kept item outs (x ∷ xs) = record {
-  count = mapped (λ (p : ℕ × LaneState Offer). lane_with item (view_at p.0 outs) p.1) (enumerate_from 0 (x ∷ xs)) ∙ enumerated 0 (x ∷ xs);
-  batch = with_batch item (view_at 0 outs) x;
-  flight = with_flight item (view_at 0 outs) x;
-}
-
 some_wait : (xs : List Offer) → (length xs ≡ 0 → ⊥) → 0 < length xs
 some_wait [] ne = absurd (ne refl)
 some_wait (x ∷ xs) ne = omega arith
 
 -- a batch that was begun and accepted: fewer items wait
-pub fewer_wait : (lanes : List (LaneState Offer)) → length lanes ≡ 1 → 1 ≤ (lane_at lanes 0).batch → (length (lane_at lanes 0).waiting ≡ 0 → ⊥) →
-    (let begun : List (LaneState Offer) = slice_set lanes 0 (after_begin (lane_at lanes 0)) in
-    length (lane_at (slice_set begun 0 (lane_done true (lane_at begun 0))) 0).waiting < length (lane_at lanes 0).waiting)
-fewer_wait [] one some ne = absurd (omega (arith, one))
-fewer_wait (x ∷ xs) one some ne = omega (arith, length-drop x.batch x.waiting, some, some_wait x.waiting ne)
+pub fewer_wait : (lanes : List (LaneState Offer)) (o : ℕ) → o < length lanes → 1 ≤ (lane_at lanes o).batch → (length (lane_at lanes o).waiting ≡ 0 → ⊥) →
+    (let begun : List (LaneState Offer) = slice_set lanes o (after_begin (lane_at lanes o)) in
+    length (lane_at (slice_set begun o (lane_done true (lane_at begun o))) o).waiting < length (lane_at lanes o).waiting)
+fewer_wait lanes o b some ne =
+    let x : LaneState Offer = lane_at lanes o in
+    let is : lane_at (set (set lanes o (after_begin x)) o (lane_done true (lane_at (set lanes o (after_begin x)) o))) o ≡ lane_done true (after_begin x) =
+    ap (λ (xs : List (LaneState Offer)). lane_at xs o) (lanes_done lanes o true b) ∙ get_or-set_same lanes o (lane_done true (after_begin x)) (empty_lane 0 0) b in
+    let fewer : length (lane_done true (after_begin x)).waiting < length x.waiting = omega (arith, length-drop x.batch x.waiting, some, some_wait x.waiting ne) in
+    subst (λ (y : LaneState Offer). length y.waiting < length x.waiting) (sym is) fewer

@@ -72,12 +72,12 @@ pub record Reads (moment : ℤ) (group : Group) (before after : Hand)
   pub consecutive : Told left_before left_after (λ xs ys. to_come before xs ≡ read ++ to_come after ys)
   pub whatever_follows : Told left_before left_after (TakesPieces read before after)
 
--- and they are at most 1,000, exactly so many where the input is read on, and all where it has ended
-pub record ReadsGroup (moment : ℤ) (group : Group) (state : InState) (before after : Hand)
+-- and they are at most so many, exactly so many where the input is read on, and all where it has ended
+pub record ReadsGroup (limit : ℕ) (moment : ℤ) (group : Group) (state : InState) (before after : Hand)
     (left_before left_after : Option (List ℕ)) : Type 0 where
   pub reads : Reads moment group before after left_before left_after
-  pub most : length reads.read ≤ 1000
-  pub full : state ≡ states.Reading → length reads.read ≡ 1000
+  pub most : length reads.read ≤ limit
+  pub full : state ≡ states.Reading → length reads.read ≡ limit
   pub all : state ≡ states.Ended → IsAllRead left_before left_after after
 
 -- what a group says, as the core gathers it

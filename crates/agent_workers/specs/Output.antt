@@ -1,10 +1,11 @@
--- What a run puts to an output.
-use Rattle.std.specs.Prelude.{◌≡◌, ℕ, List, ◌++◌, ⊤}
+-- What a run puts to its outputs.
+use Rattle.std.specs.Prelude.{◌≡◌, ◌<◌, ℕ, List, ◌++◌, ⊤, map, length, slice_index_or}
 use Rattle.std.specs.List.{flat_map}
 use Rattle.std.specs.declared.option.Option.{Option}
 use Rattle.std.specs.declared.option.Option.TheVariants.{Some, None}
 use Rattle.metric.specs.declared.metric.Content.{Content}
 use Rattle.line_proto.specs.LineText.{line_text}
+use Rattle.agent_workers.specs.declared.output.OutJob.{OutJob}
 
 -- the lines of the views, in order
 abbrev pub batch_text : List Content → List ℕ
@@ -15,3 +16,44 @@ abbrev pub AppendsSo : Option (List ℕ) → Option (List ℕ) → (List ℕ →
 AppendsSo None new P = ⊤
 AppendsSo (Some xs) None P = ⊥
 AppendsSo (Some xs) (Some ys) P = (bytes : List ℕ) × (ys ≡ xs ++ bytes) × P bytes
+
+-- an output of a run: its number, the bytes that it holds, its count of failed puts, and how many of its last
+-- batches failed
+pub record OutPart : Type 0 where
+  pub output : ℕ
+  pub held : Option (List ℕ)
+  pub put_faults : ℕ
+  pub failed : ℕ
+
+-- the part of an output, given what its sink tells
+abbrev pub out_of : {K : Type 0} → (K → Option (List ℕ)) → (K → ℕ) → OutJob K → OutPart
+out_of held faults job = record {
+  output = job.output;
+  held = held job.sink;
+  put_faults = faults job.sink;
+  failed = job.failed;
+}
+
+-- the parts of the outputs, in order
+abbrev pub outs_of : {K : Type 0} → (K → Option (List ℕ)) → (K → ℕ) → List (OutJob K) → List OutPart
+outs_of held faults jobs = map (out_of held faults) jobs
+
+-- an output of which nothing is told
+abbrev pub no_out : OutPart
+no_out = record { output = 0; held = None; put_faults = 0; failed = 0 }
+
+-- the part at a place
+abbrev pub out_at : List OutPart → ℕ → OutPart
+out_at outs output = slice_index_or outs output no_out
+
+-- there are so many outputs, and they have the numbers of their places
+pub record AreOutputs (count : ℕ) (outs : List OutPart) : Type 0 where
+  pub count_is : length outs ≡ count
+  pub numbered : (output : ℕ) → output < count → (out_at outs output).output ≡ output
+
+-- no batch failed since the last item was routed, or the run was stopped
+abbrev pub anew : OutPart → OutPart
+anew out = record out { failed = 0 }
+
+abbrev pub AreAnew : List OutPart → Type 0
+AreAnew outs = (output : ℕ) → output < length outs → (out_at outs output).failed ≡ 0

@@ -1,13 +1,17 @@
--- What a run of one input and one output is about.
-use Rattle.std.specs.Prelude.{ℕ, ℤ, [], ◌∷◌}
+-- What a run is about.
+use Rattle.std.specs.Prelude.{ℕ, ℤ, List, [], ◌∷◌}
 use Rattle.std.specs.declared.option.Option.TheVariants.{None}
 use Rattle.account.specs.Setup.{Setup}
 use Rattle.journal_text.specs.declared.setup.JournalSetup.{JournalSetup}
 
--- one input, which isn't tracked, and one output with its batch size and its buffer limit
+-- one input, which isn't tracked, and outputs with their batch sizes and buffer limits
+abbrev pub run_setup : List (ℕ × ℕ) → ℤ → Setup
+run_setup outputs start = record
+    { start = start; inputs = None ∷ []; aggs = []; outputs = outputs }
+
+-- the same with one output
 abbrev pub pipe_setup : ℕ → ℕ → ℤ → Setup
-pipe_setup batch limit start = record
-    { start = start; inputs = None ∷ []; aggs = []; outputs = (batch, limit) ∷ [] }
+pipe_setup batch limit start = run_setup ((batch, limit) ∷ []) start
 
 -- the head of a journal: its set-up
 abbrev pub journal_setup_of : Setup → JournalSetup

@@ -1,9 +1,8 @@
 -- How far a run has come.
-use Rattle.std.specs.Prelude.{◌≡◌, ◌<◌, ◌≤◌, ◌⊎◌, ◌+◌, ◌^◌, ℕ, ℤ, Bool, true, false, List, [], ◌++◌, length}
-use Rattle.std.specs.Prelude.{IfSome}
+use Rattle.std.specs.Prelude.{◌≡◌, ◌<◌, ◌≤◌, ◌⊎◌, ◌+◌, ◌^◌, ℕ, ℤ, Bool, true, false, List, ◌++◌, length}
+use Rattle.std.specs.Prelude.{IfSome, slice_set}
 use Rattle.std.specs.declared.option.Option.{Option}
 use Rattle.account.specs.Setup.{Setup}
-use Rattle.account.specs.Numbers.{output_numbers}
 use Rattle.account.specs.declared.entry.Entry.{Entry}
 use Rattle.agent_base.specs.Counts.{Rose, RoseBy}
 use Rattle.agent_base.specs.Cut.{Cut}
@@ -26,32 +25,31 @@ use Rattle.agent_workers.specs.Noted.{JournalPart, Notes}
 use Rattle.pipeline_core.specs.Order.{EndsFailed, InOrder}
 use Rattle.agent_workers.specs.PipeSetup.{journal_setup_of}
 use Rattle.pipeline_core.specs.Sent.{Sent}
-use Rattle.agent_workers.specs.Output.{AppendsSo, batch_text}
+use Rattle.agent_workers.specs.Output.{AppendsSo, batch_text, OutPart, out_at, AreAnew}
+use Rattle.agent_workers.specs.Running.{AreSettled}
 use Rattle.pipeline_core.specs.Worked.{Worked}
 
--- what a run began with: its set-up, the bytes left of the input and its count of failed reads, the bytes
--- held by the output and by the journal's place and their counts of failed puts, and the moments of the
--- input's clock
+-- what a run began with: its set-up, how many pieces a gather has at most, the bytes left of the input and
+-- its count of failed reads, its outputs, the bytes held by the journal's place and its count of failed puts,
+-- and the moments of the input's clock
 pub record Beginning : Type 0 where
   pub setup : Setup
+  pub most : ℕ
   pub bytes : Option (List ℕ)
   pub read_faults : ℕ
-  pub held : Option (List ℕ)
-  pub put_faults : ℕ
+  pub outs : List OutPart
   pub noted : Option (List ℕ)
   pub note_faults : ℕ
   pub moments : Option Moments
 
 -- what is around a run: whether the input is read on, the bytes left of it, its count of failed reads, the
--- place of its clock, the bytes held by the output, its count of failed puts, the journal's part, and the
--- moments that were counted since the start
+-- place of its clock, the outputs, the journal's part, and the moments that were counted since the start
 pub record Surroundings : Type 0 where
   pub state : InState
   pub left : Option (List ℕ)
   pub read_faults : ℕ
   pub place : ℕ
-  pub held : Option (List ℕ)
-  pub put_faults : ℕ
+  pub outs : List OutPart
   pub journal : JournalPart
   pub counted_at : List ℤ
 
@@ -66,11 +64,11 @@ pub record HasText (start : Beginning) (core : CoreState) (part : JournalPart)
 
 -- while the input is read on its Gathers name full groups up to the pieces that are to come; else they name
 -- groups of its text, all pieces where it has ended
-abbrev pub IsNamed : InState → List Entry → List ℕ → List Cut → Type 0
-IsNamed states.Reading journal text rest = Gathering 1000 journal 0 text rest
-IsNamed states.Ended journal text rest = Gathered 1000 journal 0 text
-IsNamed states.Faulted journal text rest = Gathered 1000 journal 0 text
-IsNamed states.LimitReached journal text rest = Gathered 1000 journal 0 text
+abbrev pub IsNamed : ℕ → InState → List Entry → List ℕ → List Cut → Type 0
+IsNamed most states.Reading journal text rest = Gathering most journal 0 text rest
+IsNamed most states.Ended journal text rest = Gathered most journal 0 text
+IsNamed most states.Faulted journal text rest = Gathered most journal 0 text
+IsNamed most states.LimitReached journal text rest = Gathered most journal 0 text
 
 abbrev pub is_ended : InState → Bool
 is_ended states.Ended = true
@@ -84,75 +82,87 @@ HasState states.Ended start read_faults left hand journal = hand.taken < 2 ^ 40
 HasState states.Faulted start read_faults left hand journal = (hand.taken < 2 ^ 40)
     × Rose start.read_faults read_faults
 HasState states.LimitReached start read_faults left hand journal = (hand.taken ≡ 2 ^ 40)
-    ⊎ IsFull 1000 journal 0 start.bytes left
+    ⊎ IsFull start.most journal 0 start.bytes left
 
 -- a clock came to a place of its list, and gave these moments on the way
 abbrev pub IsClocked : Moments → ℕ → List ℤ → Type 0
 IsClocked moments place all = (place ≤ moments.last) × Clocked moments 0 place all
 
--- while the input is read on its Gathers name the pieces of what was taken, whatever follows; after a failed read
--- all of these but perhaps that of the last line
-abbrev pub IsNamedOfTaken : InState → List Entry → Hand → List ℕ → List ℕ → Type 0
-IsNamedOfTaken states.Reading journal hand text left = NamesSoFar 1000 journal 0 hand text left
-IsNamedOfTaken states.Ended journal hand text left = Unit {0}
-IsNamedOfTaken states.Faulted journal hand text left = NamesTaken journal 0 text left
-IsNamedOfTaken states.LimitReached journal hand text left = Unit {0}
+-- while the input is read on its Gathers name the pieces of what was taken, whatever follows; after a failed
+-- read all of these but perhaps that of the last line
+abbrev pub IsNamedOfTaken : ℕ → InState → List Entry → Hand → List ℕ → List ℕ → Type 0
+IsNamedOfTaken most states.Reading journal hand text left = NamesSoFar most journal 0 hand text left
+IsNamedOfTaken most states.Ended journal hand text left = Unit {0}
+IsNamedOfTaken most states.Faulted journal hand text left = NamesTaken journal 0 text left
+IsNamedOfTaken most states.LimitReached journal hand text left = Unit {0}
 
 -- what the journal says of the input
 pub record Heard (start : Beginning) (now : Surroundings) (hand : Hand) (journal : List Entry) : Type 0 where
-  pub named : Told start.bytes now.left (λ xs ys. IsNamed now.state journal xs (to_come hand ys))
-  pub of_taken : Told start.bytes now.left (IsNamedOfTaken now.state journal hand)
+  pub named : Told start.bytes now.left (λ xs ys. IsNamed start.most now.state journal xs
+      (to_come hand ys))
+  pub of_taken : Told start.bytes now.left (IsNamedOfTaken start.most now.state journal hand)
   pub counted : Told start.bytes now.left (λ xs ys. length xs ≡ hand.taken + length ys)
   pub ended : has_ended 0 journal ≡ is_ended now.state
   pub later : start.read_faults ≤ now.read_faults
   pub state : HasState now.state start now.read_faults now.left hand journal
   pub clocked : IfSome start.moments (λ moments. IsClocked moments now.place (gather_moments 0 journal))
 
--- what the journal says of the output
-pub record Said (start : Beginning) (now : Surroundings) (failed : ℕ) (journal : List Entry) : Type 0 where
-  pub sent : AppendsSo start.held now.held (Sent batch_text journal 0)
-  pub put_faults : RoseBy (failed_count 0 journal) start.put_faults now.put_faults
+-- what the journal says of an output
+pub record Said (start now : OutPart) (output : ℕ) (journal : List Entry) : Type 0 where
+  pub sent : AppendsSo start.held now.held (Sent batch_text journal output)
+  pub put_faults : RoseBy (failed_count output journal) start.put_faults now.put_faults
   -- where puts failed in succession, the last event at the output is that a batch failed
-  pub stuck : 1 ≤ failed → EndsFailed (lane_events 0 journal)
+  pub stuck : 1 ≤ now.failed → EndsFailed (lane_events output journal)
   -- and behind the Stop so many of the last batches failed
-  pub last : has_stop journal ≡ true → LastFailed failed (dones 0 (behind_stop journal))
+  pub last : has_stop journal ≡ true → LastFailed now.failed (dones output (behind_stop journal))
+
+-- what it says of each output
+abbrev pub AllSaid : List OutPart → List OutPart → List Entry → Type 0
+AllSaid starts outs journal =
+    (output : ℕ) → output < length outs → Said (out_at starts output) (out_at outs output) output journal
 
 -- there is a journal for which the core stands, which is noted, and which says what was read and what was
 -- sent
-pub record Progress (start : Beginning) (core : CoreState) (hand : Hand) (failed : ℕ)
-    (now : Surroundings) : Type 0 where
+pub record Progress (start : Beginning) (core : CoreState) (hand : Hand) (now : Surroundings) : Type 0 where
   pub journal : List Entry
   pub text : HasText start core now.journal journal
   pub heard : Heard start now hand journal
-  pub said : Said start now failed journal
+  pub out_count : length now.outs ≡ length start.setup.outputs
+  pub said : AllSaid start.outs now.outs journal
   pub worked : Worked journal
   pub in_order : InOrder start.setup journal
   pub counted_at : counted_moments journal ≡ now.counted_at
 
 -- so it is for a run
 abbrev pub Went : Beginning → PipeRun → Surroundings → Type 0
-Went start run now = Progress start run.core run.pieces run.failed now
+Went start run now = Progress start run.core run.pieces now
 
--- a step of a run that changes nothing around it
+-- a step of a run that changes nothing around it, while no batch failed
 abbrev pub GoesOn : PipeRun → PipeRun → Type 0
-GoesOn old new = (start : Beginning) (now : Surroundings) → Went start old now → Went start new now
+GoesOn old new = (start : Beginning) (now : Surroundings) → AreAnew now.outs → Went start old now
+    → Went start new now
 
--- a step that puts to the output
-abbrev pub SendsOn : PipeRun → PipeRun → Option (List ℕ) → Option (List ℕ) → ℕ → ℕ → Type 0
-SendsOn old new held new_held put_faults new_put_faults =
+-- a step that puts to the outputs
+abbrev pub SendsOn : PipeRun → PipeRun → List OutPart → List OutPart → Type 0
+SendsOn old new outs new_outs =
     (start : Beginning) (now : Surroundings)
-    → Went start old (record now { held = held; put_faults = put_faults })
-    → Went start new (record now { held = new_held; put_faults = new_put_faults })
+    → Went start old (record now { outs = outs }) → Went start new (record now { outs = new_outs })
+
+-- a step that puts to one of the outputs, whatever the others are
+abbrev pub SendsAt : PipeRun → PipeRun → OutPart → OutPart → Type 0
+SendsAt old new out new_out =
+    (outs : List OutPart) → out.output < length outs → out_at outs out.output ≡ out
+    → SendsOn old new outs (slice_set outs out.output new_out)
 
 -- a step that reads the input, with the state that it leaves, the bytes left before and after, the counts of
--- failed reads, and the clock's moments and places
-abbrev pub ReadsOn : PipeRun → PipeRun → InState → Option (List ℕ) → Option (List ℕ) → ℕ → ℕ → Option Moments
-    → ℕ → ℕ → Type 0
-ReadsOn old new state left new_left read_faults new_read_faults moments place new_place =
-    (start : Beginning) (now : Surroundings) →
-    Went (record start { moments = moments }) old
+-- failed reads, and the clock's moments and places; before it the outputs are settled
+abbrev pub ReadsOn : ℕ → PipeRun → PipeRun → InState → Option (List ℕ) → Option (List ℕ) → ℕ → ℕ
+    → Option Moments → ℕ → ℕ → Type 0
+ReadsOn most old new state left new_left read_faults new_read_faults moments place new_place =
+    (start : Beginning) (now : Surroundings) → AreSettled old.core now.outs →
+    Went (record start { most = most; moments = moments }) old
     (record now { state = states.Reading; left = left; read_faults = read_faults; place = place }) →
-    Went (record start { moments = moments }) new
+    Went (record start { most = most; moments = moments }) new
     (record now { state = state; left = new_left; read_faults = new_read_faults; place = new_place })
 
 -- a step that puts to the journal's place
@@ -161,34 +171,27 @@ NotesRun old new part new_part =
     (start : Beginning) (now : Surroundings) → Went start old (record now { journal = part })
     → Went start new (record now { journal = new_part })
 
--- rounds: they read the input, and put to the output and to the journal's place
-abbrev pub RunsOn : PipeRun → PipeRun → InState → Option (List ℕ) → Option (List ℕ) → ℕ → ℕ → Option Moments
-    → ℕ → ℕ → Option (List ℕ) → Option (List ℕ) → ℕ → ℕ → JournalPart → JournalPart → Type 0
-RunsOn old new state left new_left read_faults new_read_faults moments place new_place held new_held
-    put_faults new_put_faults part new_part =
+-- rounds: they read the input, and put to the outputs and to the journal's place
+abbrev pub RunsOn : ℕ → PipeRun → PipeRun → InState → Option (List ℕ) → Option (List ℕ) → ℕ → ℕ
+    → Option Moments → ℕ → ℕ → List OutPart → List OutPart → JournalPart → JournalPart → Type 0
+RunsOn most old new state left new_left read_faults new_read_faults moments place new_place outs new_outs part
+    new_part =
     (start : Beginning) (now : Surroundings) →
-    Went (record start { moments = moments }) old
+    Went (record start { most = most; moments = moments }) old
     (record now {
       state = states.Reading;
       left = left;
       read_faults = read_faults;
       place = place;
-      held = held;
-      put_faults = put_faults;
+      outs = outs;
       journal = part;
     }) →
-    Went (record start { moments = moments }) new
+    Went (record start { most = most; moments = moments }) new
     (record now {
       state = state;
       left = new_left;
       read_faults = new_read_faults;
       place = new_place;
-      held = new_held;
-      put_faults = new_put_faults;
+      outs = new_outs;
       journal = new_part;
     })
-
--- all items were routed, and nothing is buffered at the output or its last put failed
-pub record IsSettled (run : PipeRun) : Type 0 where
-  pub none_raw : run.core.raw ≡ []
-  pub sent : ((output_numbers run.core.numbers 0).buffered ≡ 0) ⊎ (1 ≤ run.failed)

@@ -1,6 +1,6 @@
 -- What a run leaves: a legal journal of what was read and sent, and how it ended.
 use Rattle.std.specs.Prelude.{◌≡◌, ◌≢◌, ◌<◌, ◌⊎◌, ◌+◌, ◌^◌, ℕ, ℤ, min, Bool, true, false, List}
-use Rattle.std.specs.Prelude.{[], length, take, IfSome}
+use Rattle.std.specs.Prelude.{[], ◌∷◌, length, take, IfSome, slice_index_or}
 use Rattle.std.specs.declared.option.Option.{Option}
 use Rattle.std.specs.declared.option.Option.TheVariants.{None}
 use Rattle.std.specs.Io.KnownBytes.{Appends}
@@ -21,9 +21,9 @@ use Rattle.account.specs.Dones.{dones, failed_count, LastFailed}
 use Rattle.pipeline_core.specs.Stopped.{behind_stop}
 use Rattle.account.specs.EntryMoments.{gather_moments, counted_moments}
 use Rattle.pipeline_core.specs.Order.{InOrder}
-use Rattle.agent_workers.specs.PipeSetup.{pipe_setup, journal_setup_of}
+use Rattle.agent_workers.specs.PipeSetup.{run_setup, journal_setup_of}
 use Rattle.pipeline_core.specs.Sent.{Sent}
-use Rattle.agent_workers.specs.Output.{AppendsSo, batch_text}
+use Rattle.agent_workers.specs.Output.{AppendsSo, batch_text, OutPart}
 use Rattle.pipeline_core.specs.Worked.{Worked}
 use Rattle.agent_workers.specs.declared.serial.Ending.{Ending}
 use Rattle.agent_workers.specs.declared.input.InState.{InState}
@@ -40,9 +40,20 @@ abbrev pub change : Option (List ℕ) → Option (List ℕ) → ℕ → ℕ → 
 change before after faults_before faults_after = record
     { before = before; after = after; faults_before = faults_before; faults_after = faults_after }
 
--- how many metrics are buffered at the output at the end of a journal
-abbrev pub buffered_at_end : Setup → List Entry → ℕ
-buffered_at_end setup journal = (output_numbers (totals setup journal) 0).buffered
+-- the change of the place of an output
+abbrev pub change_at : List Change → ℕ → Change
+change_at changes output = slice_index_or changes output (change None None 0 0)
+
+-- the changes of the places of the outputs
+abbrev pub out_changes : List OutPart → List OutPart → List Change
+out_changes [] news = []
+out_changes (old ∷ olds) [] = []
+out_changes (old ∷ olds) (new ∷ news) =
+    change old.held new.held old.put_faults new.put_faults ∷ out_changes olds news
+
+-- how many metrics are buffered at an output at the end of a journal
+abbrev pub buffered_at_end : Setup → List Entry → ℕ → ℕ
+buffered_at_end setup journal output = (output_numbers (totals setup journal) output).buffered
 
 -- the account of a journal's totals, and the journal's text with this account
 abbrev pub account_of : Setup → List Entry → List ℕ
@@ -58,27 +69,38 @@ IsCutShort input journal = Rose input.faults_before input.faults_after
     × Told input.before input.after (NamesTaken journal 0)
 
 -- why the input has no Ended: a read failed, 2^40 bytes were taken, or the run is full
-abbrev pub IsUnread : Change → ℕ → List Entry → Type 0
-IsUnread input taken journal = IsCutShort input journal ⊎ (taken ≡ 2 ^ 40)
-    ⊎ IsFull 1000 journal 0 input.before input.after
+abbrev pub IsUnread : ℕ → Change → ℕ → List Entry → Type 0
+IsUnread most input taken journal = IsCutShort input journal ⊎ (taken ≡ 2 ^ 40)
+    ⊎ IsFull most journal 0 input.before input.after
 
--- A legal journal of a run of one input and one output, given the moments of the run's clock and of the
--- input's clock.
-pub record IsRun (setup : Setup) (input output : Change) (run_moments input_moments : Option Moments)
-    (journal : List Entry) : Type 0 where
+-- what a journal says of an output
+pub record IsSentTo (tries : ℕ) (setup : Setup) (journal : List Entry) (output : ℕ) (place : Change)
+    : Type 0 where
+  -- the output was sent the batches
+  pub sent : AppendsSo place.before place.after (Sent batch_text journal output)
+  -- the output's count of failed puts rose by the failed batches
+  pub put_faults : RoseBy (failed_count output journal) place.faults_before place.faults_after
+  -- where a metric is left at the output, so many of its last batches behind the Stop failed
+  pub left : buffered_at_end setup journal output ≢ 0
+      → LastFailed tries (dones output (behind_stop journal))
+
+-- A legal journal of a run of one input and any number of outputs, given how many pieces a gather has at
+-- most, how often in succession a repeat without an accepted batch is tried at the end, and the moments of
+-- the run's clock and of the input's clock.
+pub record IsRun (most tries : ℕ) (setup : Setup) (input : Change) (outputs : List Change)
+    (run_moments input_moments : Option Moments) (journal : List Entry) : Type 0 where
   pub legal : IsLegal setup journal
   -- the Gathers name the pieces of what was left at the input's place
-  pub gathered : Told input.before input.after (λ xs ys. Gathered 1000 journal 0 xs)
-  -- the output was sent the batches
-  pub sent : AppendsSo output.before output.after (Sent batch_text journal 0)
+  pub gathered : Told input.before input.after (λ xs ys. Gathered most journal 0 xs)
+  -- each output was sent its batches
+  pub sent_to : (output : ℕ) → output < length setup.outputs →
+      IsSentTo tries setup journal output (change_at outputs output)
   -- each item was routed as it is
   pub worked : Worked journal
   -- gathering was stopped, and no item is raw or in hand
   pub stopped : has_stop journal ≡ true
   pub none_raw : raw_items journal ≡ []
   pub none_held : in_hand journal ≡ None
-  -- the output's count of failed puts rose by the failed batches
-  pub put_faults : RoseBy (failed_count 0 journal) output.faults_before output.faults_after
   -- the moments are those of the clocks
   pub start : IfSome run_moments (λ moments. setup.start ≡ moments.at 0)
   pub counted : IfSome run_moments
@@ -87,21 +109,19 @@ pub record IsRun (setup : Setup) (input output : Change) (run_moments input_mome
   -- so many bytes of the input were taken; it was read to its end, or there is a cause
   pub taken : ℕ
   pub bytes_taken : Told input.before input.after (λ xs ys. length xs ≡ taken + length ys)
-  pub unread : has_ended 0 journal ≡ false → IsUnread input taken journal
-  -- where a metric is left at the output, its last three batches behind the Stop failed
-  pub left : buffered_at_end setup journal ≢ 0 → LastFailed 3 (dones 0 (behind_stop journal))
+  pub unread : has_ended 0 journal ≡ false → IsUnread most input taken journal
   -- before each Begin all items were routed; before each Gather too, and all was sent or the last put had
   -- failed
   pub in_order : InOrder setup journal
 
 -- whether the input was read to its end, or why not
-abbrev pub EndsSo : InState → Change → ℕ → List Entry → Type 0
-EndsSo states.Reading input taken journal = ⊥
-EndsSo states.Ended input taken journal = (taken < 2 ^ 40) × (has_ended 0 journal ≡ true)
-EndsSo states.Faulted input taken journal = (taken < 2 ^ 40) × (has_ended 0 journal ≡ false)
+abbrev pub EndsSo : ℕ → InState → Change → ℕ → List Entry → Type 0
+EndsSo most states.Reading input taken journal = ⊥
+EndsSo most states.Ended input taken journal = (taken < 2 ^ 40) × (has_ended 0 journal ≡ true)
+EndsSo most states.Faulted input taken journal = (taken < 2 ^ 40) × (has_ended 0 journal ≡ false)
     × IsCutShort input journal
-EndsSo states.LimitReached input taken journal = (has_ended 0 journal ≡ false)
-    × ((taken ≡ 2 ^ 40) ⊎ IsFull 1000 journal 0 input.before input.after)
+EndsSo most states.LimitReached input taken journal = (has_ended 0 journal ≡ false)
+    × ((taken ≡ 2 ^ 40) ⊎ IsFull most journal 0 input.before input.after)
 
 -- a text was appended; or a part of it, and the count of faults rose
 abbrev pub IsPutSo : Bool → Change → List ℕ → Type 0
@@ -109,18 +129,20 @@ IsPutSo false place text = Appends place.before place.after text
 IsPutSo true place text = Rose place.faults_before place.faults_after
     × ((n : ℕ) × Appends place.before place.after (take n text))
 
--- whether a metric is left at the output
-abbrev pub IsLeft : Bool → ℕ → Type 0
-IsLeft false buffered = buffered ≡ 0
-IsLeft true buffered = buffered ≢ 0
+-- whether a metric is left at an output
+abbrev pub IsLeft : Bool → Setup → List Entry → Type 0
+IsLeft false setup journal =
+    (output : ℕ) → output < length setup.outputs → buffered_at_end setup journal output ≡ 0
+IsLeft true setup journal =
+    (output : ℕ) × (output < length setup.outputs) × (buffered_at_end setup journal output ≢ 0)
 
--- what a run of one input and one output leaves, before its account is reported
-pub record Ran (batch limit : ℕ) (ending : Ending) (input output note : Change)
-    (run_moments input_moments : Option Moments) : Type 0 where
+-- what a run leaves, before its account is reported, given the sizes of its outputs
+pub record Ran (most tries : ℕ) (sizes : List (ℕ × ℕ)) (ending : Ending) (input : Change)
+    (outputs : List Change) (note : Change) (run_moments input_moments : Option Moments) : Type 0 where
   pub start : ℤ
   pub journal : List Entry
-  pub run : IsRun (pipe_setup batch limit start) input output run_moments input_moments journal
-  pub ends : EndsSo ending.state input run.taken journal
-  pub left : IsLeft ending.left (buffered_at_end (pipe_setup batch limit start) journal)
-  pub account : ending.account.items ≡ account_of (pipe_setup batch limit start) journal
-  pub noted : IsPutSo ending.journal_failed note (text_of (pipe_setup batch limit start) journal)
+  pub run : IsRun most tries (run_setup sizes start) input outputs run_moments input_moments journal
+  pub ends : EndsSo most ending.state input run.taken journal
+  pub left : IsLeft ending.left (run_setup sizes start) journal
+  pub account : ending.account.items ≡ account_of (run_setup sizes start) journal
+  pub noted : IsPutSo ending.journal_failed note (text_of (run_setup sizes start) journal)

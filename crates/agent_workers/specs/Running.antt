@@ -1,36 +1,51 @@
 -- What a core keeps between the steps of a run.
-use Rattle.std.specs.Prelude.{◌≡◌, ◌≤◌, ℕ, List, [], ◌∷◌, false, length, slice_get, Result, Ok, Err, ⊤}
+use Rattle.std.specs.Prelude.{◌≡◌, ◌≢◌, ◌<◌, ◌≤◌, ◌+◌, ◌-◌, ◌^◌, ◌⊎◌, ℕ, min, Bool, List, [], true}
+use Rattle.std.specs.Prelude.{false}
+use Rattle.std.specs.Prelude.{length, slice_get, replicate, Result, Ok, Err, ⊤}
 use Rattle.std.specs.declared.option.Option.TheVariants.{Some, None}
+use Rattle.account.specs.Numbers.{output_numbers}
 use Rattle.account.specs.declared.entry.Entry.{Entry}
+use Rattle.out_lane.specs.Lane.{LaneState}
 use Rattle.pipeline_core.specs.CoreState.{CoreState, lane_at}
 use Rattle.pipeline_core.specs.Stands.{Stands}
+use Rattle.pipeline_core.specs.declared.output.Offer.{Offer}
 use Rattle.metric.specs.declared.metric.Content.{Content}
 use Rattle.pipeline_core.specs.Steps.{after_cut}
 use Rattle.pipeline_core.specs.declared.routing.Routed.{Routed}
+use Rattle.agent_workers.specs.Output.{OutPart, out_at}
+use Rattle.agent_workers.specs.declared.output.Flush.{Flush}
 use Rattle.agent_workers.specs.declared.pipe_run.PipeRun.{PipeRun}
 
--- there is one output and no aggregator, no item is in hand, and no batch is in flight
+-- an output has a batch size, and no batch of it is in flight
+pub record IsLaneReady (lane : LaneState Offer) : Type 0 where
+  pub some : 1 ≤ lane.batch
+  pub landed : lane.flight ≡ None
+
+-- there is no aggregator, no item is in hand, and at no output a batch is in flight
 pub record IsReady (core : CoreState) : Type 0 where
-  pub one : length core.setup.outputs ≡ 1
   pub no_aggs : core.setup.aggs ≡ []
-  pub lane_count : length core.lanes ≡ 1
-  pub some : 1 ≤ (lane_at core.lanes 0).batch
+  pub lane_count : length core.lanes ≡ length core.setup.outputs
+  pub each : (output : ℕ) → output < length core.lanes → IsLaneReady (lane_at core.lanes output)
   pub empty_handed : core.held ≡ None
-  pub landed : (lane_at core.lanes 0).flight ≡ None
 
 -- the input hasn't ended, and nothing is stopped
 pub record IsReading (core : CoreState) : Type 0 where
   pub reading : slice_get core.ended 0 ≡ Some false
   pub going : core.stopped ≡ false
 
--- items were routed: the set-up, what ended and stopped, and the batch in flight are as before
+-- a lane was offered an item at most: its batch size and its batch in flight are as before
+pub record IsLaneKept (old new : LaneState Offer) : Type 0 where
+  pub batch : new.batch ≡ old.batch
+  pub flight : new.flight ≡ old.flight
+
+-- items were routed: the set-up, what ended and stopped, and the batches in flight are as before
 pub record IsRoutable (old new : CoreState) : Type 0 where
   pub setup : new.setup ≡ old.setup
   pub ended : new.ended ≡ old.ended
   pub stopped : new.stopped ≡ old.stopped
   pub lane_count : length new.lanes ≡ length old.lanes
-  pub batch : (lane_at new.lanes 0).batch ≡ (lane_at old.lanes 0).batch
-  pub flight : (lane_at new.lanes 0).flight ≡ (lane_at old.lanes 0).flight
+  pub each : (output : ℕ) → output < length old.lanes
+      → IsLaneKept (lane_at old.lanes output) (lane_at new.lanes output)
 
 -- the core stands for a legal journal
 pub record HasJournal (core : CoreState) : Type 0 where
@@ -50,12 +65,73 @@ pub record IsSentOn (old new : CoreState) : Type 0 where
   pub ended : new.ended ≡ old.ended
   pub stopped : new.stopped ≡ old.stopped
 
--- what the core stored was spelled: none is stored, and all else of the core and the number of failed puts
--- are as before
+-- what waits at an output, and its numbers, are as before
+pub record IsOutputSame (output : ℕ) (old new : CoreState) : Type 0 where
+  pub lane : lane_at new.lanes output ≡ lane_at old.lanes output
+  pub numbers : output_numbers new.numbers output ≡ output_numbers old.numbers output
+
+-- batches of an output were sent: what waits at the others, and their numbers, are as before
+pub record IsSentAt (output : ℕ) (old new : CoreState) : Type 0 where
+  pub kept : IsSentOn old new
+  pub lane_count : length new.lanes ≡ length old.lanes
+  pub others : (other : ℕ) → other ≢ output → IsOutputSame other old new
+
+-- how many metrics wait at an output, and how many are buffered there
+abbrev pub waiting_at : CoreState → ℕ → ℕ
+waiting_at core output = length (lane_at core.lanes output).waiting
+
+abbrev pub buffered_at : CoreState → ℕ → ℕ
+buffered_at core output = (output_numbers core.numbers output).buffered
+
+-- what sending an output's batches left: nothing waits and nothing is buffered where it was emptied; else its
+-- last put failed, and where none was accepted there was one put, and metrics had waited before
+pub record HasFlushed (flush : Flush) (output : ℕ) (old new : CoreState) (failed new_failed : ℕ)
+    : Type 0 where
+  pub emptied : flush.emptied ≡ true → (waiting_at new output ≡ 0) × (buffered_at new output ≡ 0)
+  pub failed_last : flush.emptied ≡ false → 1 ≤ new_failed
+  pub stuck : flush.emptied ≡ false → flush.accepted ≡ false →
+      (waiting_at old output ≢ 0) × (new_failed ≡ min (failed + 1) (2 ^ 32 - 1))
+
+-- at each output nothing is buffered, or its last put failed
+abbrev pub AreSettled : CoreState → List OutPart → Type 0
+AreSettled core outs = (output : ℕ) → output < length outs →
+    (buffered_at core output ≡ 0) ⊎ (1 ≤ (out_at outs output).failed)
+
+-- where no batch was accepted at any output: nothing is left of an output, or metrics had waited there and
+-- one put more failed
+abbrev pub WasTried : ℕ → CoreState → CoreState → ℕ → ℕ → Type 0
+WasTried output old new failed new_failed =
+    ((waiting_at new output ≡ 0) × (buffered_at new output ≡ 0))
+    ⊎ ((waiting_at old output ≢ 0) × (new_failed ≡ min (failed + 1) (2 ^ 32 - 1)))
+
+-- what one repeat over all outputs left
+pub record HasSwept (sweep : Flush) (old new : CoreState) (outs new_outs : List OutPart) : Type 0 where
+  pub emptied : sweep.emptied ≡ true →
+      (output : ℕ) → output < length outs → buffered_at new output ≡ 0
+  pub settled : AreSettled new new_outs
+  pub stuck : sweep.accepted ≡ false → (output : ℕ) → output < length outs →
+      WasTried output old new (out_at outs output).failed (out_at new_outs output).failed
+
+-- at each output nothing waits, or so many puts failed in succession
+abbrev pub HaveFailed : ℕ → CoreState → List OutPart → Type 0
+HaveFailed tries core outs = (output : ℕ) → output < length outs →
+    (waiting_at core output ≡ 0) ⊎ (tries ≤ (out_at outs output).failed)
+
+-- at each output nothing is buffered, or so many puts failed in succession
+abbrev pub AreLeft : ℕ → CoreState → List OutPart → Type 0
+AreLeft tries core outs = (output : ℕ) → output < length outs →
+    (buffered_at core output ≡ 0) ⊎ (tries ≤ (out_at outs output).failed)
+
+-- whether a metric is buffered at an output
+abbrev pub IsLeftOver : Bool → CoreState → Type 0
+IsLeftOver false core = (output : ℕ) → output < length core.setup.outputs → buffered_at core output ≡ 0
+IsLeftOver true core = (output : ℕ) × (output < length core.setup.outputs) × (buffered_at core output ≢ 0)
+
+-- what the core stored was spelled: none is stored, and all else of the core is as before
 pub record IsNoted (old new : PipeRun) : Type 0 where
   pub core : new.core ≡ after_cut old.core
-  pub failed : new.failed ≡ old.failed
 
--- an item is routed with itself as its whole and as its only view
-abbrev pub as_it_is : ℕ → Content → Routed
-as_it_is item metric = record { item = item; whole = Some metric; aggs = []; outs = Some metric ∷ [] }
+-- an item is routed with itself as its whole and as its only view, at so many outputs
+abbrev pub as_it_is : ℕ → ℕ → Content → Routed
+as_it_is outputs item metric = record
+    { item = item; whole = Some metric; aggs = []; outs = replicate outputs (Some metric) }

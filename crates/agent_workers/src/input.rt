@@ -1,13 +1,13 @@
 //! An input: its next pieces, and gathering them.
 ghost use Rattle.std.specs.Prelude.{◌≡◌, ◌<◌, ◌≤◌, ◌+◌, ◌^◌, ◌∷◌, ℤ, [], length, IfOk, OnOk, ◌⊎◌, ℕ, Ok};
-ghost use Rattle.std.specs.Prelude.{Some, None, false, true, slice_get};
+ghost use Rattle.std.specs.Prelude.{Some, None, false, true, slice_get, ◌-◌};
 ghost use Rattle.agent_base.specs.Hand.{to_come};
 ghost use Rattle.agent_base.specs.Told.{Told};
 ghost use Rattle.agent_base.specs.Counts.{Rose};
 ghost use Rattle.agent_base.specs.Cut.{TooLong, Whole};
 ghost use Rattle.agent_workers.specs.Groups.{CountsPiece, IsAllRead, ReadsGroup, ReadsNext, IsOffered};
 ghost use Rattle.agent_workers.specs.Groups.{IsEnding, IsGathered};
-ghost use Rattle.agent_workers.specs.Progress.{ReadsOn, IsSettled};
+ghost use Rattle.agent_workers.specs.Progress.{ReadsOn};
 ghost use Rattle.agent_workers.specs.Running.{IsReady, IsReading, HasJournal, StillStands};
 
 use crate::pipe_run::PipeRun;
@@ -18,8 +18,8 @@ use metric::Metric;
 use pipeline_core::{Core, GatherRefused, Gathered};
 use std::alloc::Global;
 
-/// How many pieces one gather has at most.
-pub const GATHER_PIECES: u32 = 1_000;
+/// How many metrics a gather has room for from its start.
+const GATHER_ROOM: u32 = 1_000;
 
 /// Whether an input is read on.
 #[derive(Clone, Copy, Debug, PartialEq, Eq)]
@@ -48,7 +48,7 @@ pub struct Group {
 impl Group {
     /// Counts a piece that is too long, and so refused.
     fn refuse(&mut self)
-        requires few { self.old.pieces < GATHER_PIECES }
+        requires few { self.old.pieces < 2 ^ 32 - 1 }
         requires some { self.old.refused ≤ self.old.pieces }
         ensures counted { (moment : ℤ) → CountsPiece moment TooLong self.old self.new }
     {
@@ -58,7 +58,7 @@ impl Group {
 
     /// Counts a piece, and keeps what it says at the moment.
     fn read(&mut self, alloc: Global, piece: &Piece, moment: Moment) -> Result<(), OutOfMemory>
-        requires few { self.old.pieces < GATHER_PIECES }
+        requires few { self.old.pieces < 2 ^ 32 - 1 }
         requires some { self.old.refused ≤ self.old.pieces }
         ensures counted { OnOk result (CountsPiece moment (Whole piece.now) self.old self.new) }
     {
@@ -86,7 +86,7 @@ fn read_next<S: Source>(
     moment: Moment,
     group: &mut Group,
 ) -> Result<InState, OutOfMemory>
-    requires few { group.old.pieces < GATHER_PIECES }
+    requires few { group.old.pieces < 2 ^ 32 - 1 }
     requires some { group.old.refused ≤ group.old.pieces }
     ensures next { IfOk result
         (λ state. ReadsNext state moment group.old group.new pieces.old pieces.new (S.left source.old)
@@ -120,8 +120,8 @@ fn read_next<S: Source>(
     }
 }
 
-/// Reads the next pieces, at most as many as a gather has, and says whether the input is read on. A line
-/// without a time has the moment (nanoseconds since 1970) as its time.
+/// Reads the next pieces, at most so many, and says whether the input is read on. A line without a time has
+/// the moment (nanoseconds since 1970) as its time.
 ///
 /// Where the input is read on the group has as many pieces as a gather may have; where it has ended no piece
 /// is left. After a failed read the bytes that were taken are kept in hand, one piece at most. What was read
@@ -132,9 +132,11 @@ pub fn read_group<S: Source>(
     pieces: &mut Pieces,
     source: &mut S,
     moment: Moment,
+    most: u32,
 ) -> Result<(Group, InState), OutOfMemory>
+    requires some { 1 ≤ most }
     ensures reads { IfOk result
-        (λ answer. ReadsGroup moment answer.0 answer.1 pieces.old pieces.new (S.left source.old)
+        (λ answer. ReadsGroup most moment answer.0 answer.1 pieces.old pieces.new (S.left source.old)
         (S.left source.new)) }
     ensures failed { IfOk result (λ answer. answer.1 ≡ InState.Faulted
         → Rose (S.faults source.old) (S.faults source.new)) }
@@ -151,9 +153,9 @@ pub fn read_group<S: Source>(
     let mut group = Group {
         pieces: 0,
         refused: 0,
-        metrics: Vec::with_capacity(alloc, GATHER_PIECES as usize)?,
+        metrics: Vec::with_capacity(alloc, most.min(GATHER_ROOM) as usize)?,
     };
-    for _piece in 0..GATHER_PIECES {
+    for _piece in 0..most {
         let state = read_next(alloc, pieces, source, moment, &mut group)?;
         if state != InState::Reading {
             return Ok((group, state));
@@ -171,6 +173,7 @@ fn offer(core: &mut Core, moment: Moment, group: Group) -> Result<bool, OutOfMem
     requires stands { HasJournal core.old }
     ensures ready { OnOk result (IsReady core.new) }
     ensures reading { OnOk result (IsReading core.new) }
+    ensures setup { OnOk result (core.new.setup ≡ core.old.setup) }
     ensures stands { StillStands result core.new }
     ensures offered { IfOk result (λ accepted. IsOffered accepted moment group core.old core.new) }
 {
@@ -203,6 +206,7 @@ fn end_input(core: &mut Core, state: InState) -> Result<(), OutOfMemory>
     ensures ready { OnOk result (IsReady core.new) }
     ensures reading { OnOk result (state ≡ InState.Reading → IsReading core.new) }
     ensures going { OnOk result (core.new.stopped ≡ false) }
+    ensures setup { OnOk result (core.new.setup ≡ core.old.setup) }
     ensures stands { StillStands result core.new }
     ensures ending { OnOk result (IsEnding state core.old core.new) }
 {
@@ -213,29 +217,33 @@ fn end_input(core: &mut Core, state: InState) -> Result<(), OutOfMemory>
     Ok(())
 }
 
-/// Gathers the next pieces of the input, and says whether it is read on.
+/// Gathers the next pieces of the input, at most so many, and says whether it is read on.
 pub fn gather<S: Source, C: Clock>(
     run: &mut PipeRun,
     source: &mut S,
     clock: &mut C,
+    most: u32,
 ) -> Result<InState, OutOfMemory>
+    requires some { 1 ≤ most }
     requires ready { IsReady run.old.core }
     requires reading { IsReading run.old.core }
-    requires settled { IsSettled run.old }
+    requires none_raw { run.old.core.raw ≡ [] }
     requires stands { HasJournal run.old.core }
     ensures ready { OnOk result (IsReady run.new.core) }
     ensures reading { IfOk result (λ state. state ≡ InState.Reading → IsReading run.new.core) }
     ensures further { IfOk result (λ state. state ≡ InState.Reading
-        → IsGathered GATHER_PIECES run.old.core run.new.core) }
+        → IsGathered most run.old.core run.new.core) }
     ensures going { OnOk result (run.new.core.stopped ≡ false) }
+    ensures setup { OnOk result (run.new.core.setup ≡ run.old.core.setup) }
     ensures stands { StillStands result run.new.core }
-    ensures reads { IfOk result (λ state. ReadsOn run.old run.new state (S.left source.old) (S.left source.new)
+    ensures reads { IfOk result (λ state. ReadsOn most run.old run.new state
+        (S.left source.old) (S.left source.new)
         (S.faults source.old) (S.faults source.new)
         (C.moments clock.old) (C.place clock.old) (C.place clock.new)) }
     ensures list { C.moments clock.new ≡ C.moments clock.old }
 {
     let moment = clock.now();
-    let (group, state) = read_group(run.alloc, &mut run.pieces, source, moment)?;
+    let (group, state) = read_group(run.alloc, &mut run.pieces, source, moment, most)?;
     if !offer(&mut run.core, moment, group)? {
         return Ok(InState::LimitReached);
     }

@@ -1,5 +1,7 @@
-//! Routing the items to the output.
+//! Routing the items to the outputs.
 ghost use Rattle.std.specs.Prelude.{◌≡◌, ◌≤◌, ◌+◌, ℕ, [], Ok, OnOk, Some, None, false, true, length};
+ghost use Rattle.std.specs.Prelude.{replicate};
+ghost use Rattle.std.specs.Prelude.{IfOk};
 ghost use Rattle.pipeline_core.specs.CoreState.{CoreState};
 ghost use Rattle.pipeline_core.specs.Stands.{Continues};
 ghost use Rattle.pipeline_core.specs.Steps.{after_route, route_entry};
@@ -8,36 +10,56 @@ ghost use Rattle.agent_workers.specs.Running.{IsReady, IsRoutable, HasJournal, S
 
 use crate::pipe_run::PipeRun;
 use fixed_num::{OutOfMemory, Seq};
+use metric::Metric;
 use pipeline_core::{Core, Item, Routed, TakeAnswer};
 use std::alloc::Global;
 
+/// The same view for so many outputs. That of one output takes no memory but its own.
+fn views_of(
+    alloc: Global,
+    metric: &Metric,
+    outputs: usize,
+) -> Result<Seq<Option<Metric>>, OutOfMemory>
+    ensures { IfOk result (λ views. views ≡ replicate outputs (Some metric.now)) }
+{
+    if outputs == 1 {
+        return Ok(Seq::of_one(Some(metric.copy()?)));
+    }
+    let mut views = Vec::with_capacity(alloc, outputs)?;
+    for _output in 0..outputs {
+        views.push(Some(metric.copy()?))?;
+    }
+    Ok(Seq::of(views))
+}
+
 /// Routes an item as it is.
-fn route(alloc: Global, core: &mut Core, item: Item) -> Result<(), OutOfMemory>
+fn route(alloc: Global, core: &mut Core, item: Item, outputs: usize) -> Result<(), OutOfMemory>
     requires held { core.old.held ≡ Some item.number }
-    requires one { length core.old.setup.outputs ≡ 1 }
+    requires outputs { outputs ≡ length core.old.setup.outputs }
     requires no_aggs { core.old.setup.aggs ≡ [] }
     requires stands { HasJournal core.old }
     ensures ok { OnOk result (IsRoutable core.old core.new) }
     ensures held { OnOk result (core.new.held ≡ None) }
     ensures raw { OnOk result (core.new.raw ≡ core.old.raw) }
     ensures stands { StillStands result core.new }
-    ensures after { OnOk result (core.new ≡ after_route core.old (as_it_is item.number item.metric)) }
+    ensures after { OnOk result (core.new ≡ after_route core.old (as_it_is outputs item.number item.metric)) }
     ensures continues { OnOk result (Continues core.old core.new
-        (route_entry core.old (as_it_is item.number item.metric))) }
+        (route_entry core.old (as_it_is outputs item.number item.metric))) }
 {
-    let view = item.metric.copy()?;
+    let outs = views_of(alloc, &item.metric, outputs)?;
     core.route(Routed {
         item: item.number,
         whole: Some(item.metric),
         aggs: Seq::of(Vec::new(alloc)),
-        outs: Seq::of_one(Some(view)),
+        outs,
     })?;
     Ok(())
 }
 
 /// Takes the next raw item and routes it, and says whether there was one.
-fn route_next(run: &mut PipeRun) -> Result<bool, OutOfMemory>
+fn route_next(run: &mut PipeRun, outputs: usize) -> Result<bool, OutOfMemory>
     requires ready { IsReady run.old.core }
+    requires outputs { outputs ≡ length run.old.core.setup.outputs }
     requires stands { HasJournal run.old.core }
     ensures ready { OnOk result (IsReady run.new.core) }
     ensures kept { OnOk result (IsRoutable run.old.core run.new.core) }
@@ -48,8 +70,7 @@ fn route_next(run: &mut PipeRun) -> Result<bool, OutOfMemory>
 {
     match run.core.take() {
         Ok(item) => {
-            route(run.alloc, &mut run.core, item)?;
-            run.failed = 0;
+            route(run.alloc, &mut run.core, item, outputs)?;
             Ok(true)
         }
         Err(TakeAnswer::OutOfMemory) => Err(OutOfMemory),
@@ -58,9 +79,10 @@ fn route_next(run: &mut PipeRun) -> Result<bool, OutOfMemory>
     }
 }
 
-/// Routes all raw items.
-pub fn route_all(run: &mut PipeRun) -> Result<(), OutOfMemory>
+/// Routes all raw items, each to all of so many outputs.
+pub fn route_all(run: &mut PipeRun, outputs: usize) -> Result<(), OutOfMemory>
     requires ready { IsReady run.old.core }
+    requires outputs { outputs ≡ length run.old.core.setup.outputs }
     requires stands { HasJournal run.old.core }
     ensures ready { OnOk result (IsReady run.new.core) }
     ensures kept { OnOk result (IsRoutable run.old.core run.new.core) }
@@ -69,7 +91,7 @@ pub fn route_all(run: &mut PipeRun) -> Result<(), OutOfMemory>
     ensures goes { OnOk result (GoesOn run.old run.new) }
 {
     for _taken in 0..u64::MAX {
-        if !route_next(run)? {
+        if !route_next(run, outputs)? {
             return Ok(());
         }
     }

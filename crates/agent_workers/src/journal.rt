@@ -139,7 +139,8 @@ fn write_entries(
 ) -> Result<(), OutOfMemory>
     requires { All IsWholeOrRemoved entries.now }
     ensures { OnOk result
-        (SpellsOn entries.now unrouted_items.old.items unrouted_items.new.items text.old.items text.new.items) }
+        (SpellsOn entries.now unrouted_items.old.items unrouted_items.new.items
+        text.old.items text.new.items) }
 {
     for entry in entries {
         write_one(alloc, unrouted_items, entry, text)?;
@@ -156,7 +157,8 @@ fn write_one(
 ) -> Result<(), OutOfMemory>
     requires { IsWholeOrRemoved entry.now }
     ensures { OnOk result
-        (SpellsOn (entry.now ∷ []) unrouted_items.old.items unrouted_items.new.items text.old.items text.new.items) }
+        (SpellsOn (entry.now ∷ []) unrouted_items.old.items unrouted_items.new.items
+        text.old.items text.new.items) }
 {
     let item = item_of(unrouted_items, entry)?;
     write_entry(alloc, item.as_slice(), entry, text)?;
@@ -187,7 +189,8 @@ fn item_of(
 ) -> Result<Option<Metric>, OutOfMemory>
     ensures one { IfOk result (λ item. HasItem (option_to_list item) entry.now) }
     ensures rest { IfOk result
-        (λ item. unrouted_items.old.items ++ named_by entry.now ≡ option_to_list item ++ unrouted_items.new.items) }
+        (λ item. unrouted_items.old.items ++ named_by entry.now
+        ≡ option_to_list item ++ unrouted_items.new.items) }
 {
     match entry {
         Entry::Gather { metrics, .. } => {

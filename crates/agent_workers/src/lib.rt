@@ -1,5 +1,5 @@
-//! One serial run: what an input gives is gathered, routed and sent to an output, with a journal of every
-//! event.
+//! One serial run: what an input gives is gathered, routed and sent to any number of outputs, with a journal
+//! of every event.
 #![tactic(auto)]
 
 mod input;
@@ -10,4 +10,5 @@ mod pipe_run;
 mod serial;
 
 pub use input::InState;
-pub use serial::{Ending, run};
+pub use output::OutJob;
+pub use serial::{Ending, RunSetup, run, run_one};

@@ -1,11 +1,13 @@
 //! An output: the text of a batch, and sending the batches.
-ghost use Rattle.std.specs.Prelude.{◌≡◌, OnOk, ◌≢◌, ◌<◌, ◌≤◌, ◌+◌, ◌-◌, ◌^◌, ◌⊎◌, ℕ, [], Ok, IfOk, length};
+ghost use Rattle.std.specs.Prelude.{◌&&◌, ◌||◌, true, false};
+ghost use Rattle.std.specs.Prelude.{◌≡◌, ◌≢◌, ◌<◌, ◌≤◌, ◌+◌, ◌-◌, ◌^◌, ℕ, [], Ok, IfOk, OnOk, length, map};
 ghost use Rattle.std.specs.Prelude.{min};
-ghost use Rattle.agent_workers.specs.Output.{batch_text};
-ghost use Rattle.account.specs.Numbers.{output_numbers};
 ghost use Rattle.pipeline_core.specs.CoreState.{CoreState, lane_at};
-ghost use Rattle.agent_workers.specs.Progress.{SendsOn};
-ghost use Rattle.agent_workers.specs.Running.{IsReady, HasJournal, StillStands, IsSentOn};
+ghost use Rattle.agent_workers.specs.Output.{batch_text, out_of, outs_of, anew, AreOutputs};
+ghost use Rattle.agent_workers.specs.Progress.{SendsAt, SendsOn};
+ghost use Rattle.agent_workers.specs.Running.{IsReady, HasJournal, StillStands, IsSentOn, IsSentAt};
+ghost use Rattle.agent_workers.specs.Running.{HasFlushed, HasSwept, HaveFailed, AreLeft, waiting_at};
+ghost use Rattle.agent_workers.specs.Running.{buffered_at};
 
 use crate::pipe_run::PipeRun;
 use agent_base::{PutFault, Sink};
@@ -14,6 +16,18 @@ use line_proto::write_line;
 use metric::Metric;
 use pipeline_core::BeginAnswer;
 use std::alloc::Global;
+
+/// An output of a run.
+#[derive(Drop)]
+pub struct OutJob<K: Drop> {
+    /// Its number: its place among the outputs.
+    pub output: u32,
+    /// Where its batches are put.
+    pub sink: K,
+    /// How many of its batches failed in succession since the items of this round were routed, or the run was
+    /// stopped.
+    pub failed: u32,
+}
 
 /// The text of a batch, in place of what `out` held: the lines of its metrics, in order.
 pub fn write_batch(alloc: Global, metrics: &[Metric], out: &mut Vec<u8>) -> Result<(), OutOfMemory>
@@ -26,9 +40,6 @@ pub fn write_batch(alloc: Global, metrics: &[Metric], out: &mut Vec<u8>) -> Resu
     Ok(())
 }
 
-/// How often in succession a repeat that sends nothing is tried at the end.
-const FINAL_TRIES: u32 = 3;
-
 /// What came of a batch.
 #[derive(Clone, Copy, Debug, PartialEq, Eq)]
 pub enum Sending {
@@ -40,119 +51,191 @@ pub enum Sending {
     Nothing,
 }
 
-/// How far the batches were sent.
+/// How far batches were sent.
 #[derive(Clone, Copy, Debug, PartialEq, Eq)]
-pub enum Flush {
-    /// Nothing waits any more.
-    Emptied,
-    /// A put failed behind batches that were accepted.
-    Advanced,
-    /// The first put failed.
-    Stuck,
+pub struct Flush {
+    /// Whether nothing waits any more.
+    pub emptied: bool,
+    /// Whether a batch was accepted.
+    pub accepted: bool,
 }
 
-/// Sends the next batch.
-fn send_next<K: Sink>(run: &mut PipeRun, sink: &mut K) -> Result<Sending, OutOfMemory>
+impl Flush {
+    /// How far the batches of these outputs and of one more were sent.
+    fn and(self, more: Flush) -> Flush
+        ensures emptied { result.emptied ≡ (self.emptied && more.emptied) }
+        ensures accepted { result.accepted ≡ (self.accepted || more.accepted) }
+    {
+        Flush {
+            emptied: self.emptied && more.emptied,
+            accepted: self.accepted || more.accepted,
+        }
+    }
+}
+
+/// Begins to count anew how many batches of each output failed in succession.
+pub fn begin_anew<K: Sink + Drop>(outputs: &mut [OutJob<K>])
+    ensures fresh { outs_of K.held K.faults outputs.new ≡ map anew (outs_of K.held K.faults outputs.old) }
+    ensures count { length outputs.new ≡ length outputs.old }
+{
+    for job in outputs.iter_mut() {
+        job.failed = 0;
+    }
+}
+
+/// Sends the next batch of an output.
+fn send_next<K: Sink + Drop>(run: &mut PipeRun, job: &mut OutJob<K>) -> Result<Sending, OutOfMemory>
     requires ready { IsReady run.old.core }
+    requires known { job.old.output < length run.old.core.setup.outputs }
     requires routed { run.old.core.raw ≡ [] }
     requires stands { HasJournal run.old.core }
     ensures ready { OnOk result (IsReady run.new.core) }
-    ensures kept { OnOk result (IsSentOn run.old.core run.new.core) }
+    ensures kept { OnOk result (IsSentAt job.old.output run.old.core run.new.core) }
     ensures stands { StillStands result run.new.core }
-    ensures nothing { result ≡ Ok Sending.Nothing → (output_numbers run.new.core.numbers 0).buffered ≡ 0 }
+    ensures nothing { result ≡ Ok Sending.Nothing → (waiting_at run.new.core job.old.output ≡ 0)
+        × (buffered_at run.new.core job.old.output ≡ 0) }
     ensures fewer { result ≡ Ok Sending.Accepted
-        → length (lane_at run.new.core.lanes 0).waiting < length (lane_at run.old.core.lanes 0).waiting }
-    ensures failed { result ≡ Ok Sending.Failed → run.new.failed ≡ min (run.old.failed + 1) (2 ^ 32 - 1) }
-    ensures sends { OnOk result (SendsOn run.old run.new (K.held sink.old) (K.held sink.new) (K.faults sink.old)
-        (K.faults sink.new)) }
+        → waiting_at run.new.core job.old.output < waiting_at run.old.core job.old.output }
+    ensures failed { result ≡ Ok Sending.Failed → (waiting_at run.old.core job.old.output ≢ 0)
+        × (job.new.failed ≡ min (job.old.failed + 1) (2 ^ 32 - 1)) }
+    ensures number { job.new.output ≡ job.old.output }
+    ensures sends { OnOk result
+        (SendsAt run.old run.new (out_of K.held K.faults job.old) (out_of K.held K.faults job.new)) }
 {
-    let batch = match run.core.begin(0) {
+    let batch = match run.core.begin(job.output) {
         Ok(batch) => batch,
         Err(BeginAnswer::OutOfMemory) => return Err(OutOfMemory),
         Err(BeginAnswer::InFlight) => return Ok(Sending::Nothing),
         Err(BeginAnswer::NothingWaiting) => return Ok(Sending::Nothing),
     };
     write_batch(run.alloc, batch.metrics.as_slice(), &mut run.text)?;
-    match sink.put(&run.text) {
+    match job.sink.put(&run.text) {
         Ok(()) => {
-            run.core.done(0, true);
-            run.failed = 0;
+            run.core.done(job.output, true);
+            job.failed = 0;
             Ok(Sending::Accepted)
         }
         Err(PutFault::Failed) => {
-            run.core.done(0, false);
-            run.failed = run.failed.saturating_add(1);
+            run.core.done(job.output, false);
+            job.failed = job.failed.saturating_add(1);
             Ok(Sending::Failed)
         }
         Err(PutFault::OutOfMemory) => Err(OutOfMemory),
     }
 }
 
-/// Sends batches until nothing waits or a put fails.
-pub fn send_all<K: Sink>(run: &mut PipeRun, sink: &mut K) -> Result<Flush, OutOfMemory>
+/// Sends batches of an output until nothing waits or a put fails.
+pub fn send_all<K: Sink + Drop>(
+    run: &mut PipeRun,
+    job: &mut OutJob<K>,
+) -> Result<Flush, OutOfMemory>
     requires ready { IsReady run.old.core }
+    requires known { job.old.output < length run.old.core.setup.outputs }
     requires routed { run.old.core.raw ≡ [] }
     requires stands { HasJournal run.old.core }
     ensures ready { OnOk result (IsReady run.new.core) }
-    ensures kept { OnOk result (IsSentOn run.old.core run.new.core) }
+    ensures kept { OnOk result (IsSentAt job.old.output run.old.core run.new.core) }
     ensures stands { StillStands result run.new.core }
-    ensures all { result ≡ Ok Flush.Emptied → (output_numbers run.new.core.numbers 0).buffered ≡ 0 }
-    ensures settled { OnOk result (((output_numbers run.new.core.numbers 0).buffered ≡ 0)
-        ⊎ (1 ≤ run.new.failed)) }
-    ensures none { result ≡ Ok Flush.Stuck → run.new.failed ≡ min (run.old.failed + 1) (2 ^ 32 - 1) }
-    ensures sends { OnOk result (SendsOn run.old run.new (K.held sink.old) (K.held sink.new) (K.faults sink.old)
-        (K.faults sink.new)) }
+    ensures flushed { IfOk result (λ flush. HasFlushed flush job.old.output run.old.core run.new.core
+        job.old.failed job.new.failed) }
+    ensures number { job.new.output ≡ job.old.output }
+    ensures sends { OnOk result
+        (SendsAt run.old run.new (out_of K.held K.faults job.old) (out_of K.held K.faults job.new)) }
 {
     for batch in 0..u64::MAX {
-        match send_next(run, sink)? {
+        match send_next(run, job)? {
             Sending::Accepted => {}
             Sending::Failed => {
-                return Ok(if batch == 0 {
-                    Flush::Stuck
-                } else {
-                    Flush::Advanced
+                return Ok(Flush {
+                    emptied: false,
+                    accepted: batch != 0,
                 });
             }
-            Sending::Nothing => return Ok(Flush::Emptied),
+            Sending::Nothing => {
+                return Ok(Flush {
+                    emptied: true,
+                    accepted: batch != 0,
+                });
+            }
         }
     }
     Err(OutOfMemory)
 }
 
-/// How many repeats in succession sent nothing.
-fn tries_after(tries: u32, flush: Flush) -> u32
-    requires { tries < FINAL_TRIES }
-    ensures stuck { flush ≡ Flush.Stuck → result ≡ tries + 1 }
-    ensures other { flush ≢ Flush.Stuck → result ≡ 0 }
-{
-    match flush {
-        Flush::Stuck => tries + 1,
-        _ => 0,
-    }
-}
-
-/// Sends what is buffered at the end of a run: batches until nothing waits or a put fails, again and again
-/// until nothing waits, or three repeats in succession sent nothing.
-pub fn send_rest<K: Sink>(run: &mut PipeRun, sink: &mut K) -> Result<(), OutOfMemory>
+/// Sends batches of each output in order, until nothing waits there or a put fails. A failed put of one
+/// output keeps no other from its batches.
+pub fn send_each<K: Sink + Drop>(
+    run: &mut PipeRun,
+    outputs: &mut [OutJob<K>],
+) -> Result<Flush, OutOfMemory>
     requires ready { IsReady run.old.core }
+    requires outputs { AreOutputs (length run.old.core.setup.outputs) (outs_of K.held K.faults outputs.old) }
     requires routed { run.old.core.raw ≡ [] }
     requires stands { HasJournal run.old.core }
     ensures ready { OnOk result (IsReady run.new.core) }
     ensures kept { OnOk result (IsSentOn run.old.core run.new.core) }
     ensures stands { StillStands result run.new.core }
-    ensures rest { OnOk result (((output_numbers run.new.core.numbers 0).buffered ≡ 0)
-        ⊎ (FINAL_TRIES ≤ run.new.failed)) }
-    ensures sends { OnOk result (SendsOn run.old run.new (K.held sink.old) (K.held sink.new) (K.faults sink.old)
-        (K.faults sink.new)) }
+    ensures outputs { OnOk result
+        (AreOutputs (length run.old.core.setup.outputs) (outs_of K.held K.faults outputs.new)) }
+    ensures swept { IfOk result (λ sweep. HasSwept sweep run.old.core run.new.core
+        (outs_of K.held K.faults outputs.old) (outs_of K.held K.faults outputs.new)) }
+    ensures count { length outputs.new ≡ length outputs.old }
+    ensures sends { OnOk result (SendsOn run.old run.new (outs_of K.held K.faults outputs.old)
+        (outs_of K.held K.faults outputs.new)) }
+{
+    let mut sweep = Flush {
+        emptied: true,
+        accepted: false,
+    };
+    for job in outputs.iter_mut() {
+        let flush = send_all(run, job)?;
+        sweep = sweep.and(flush);
+    }
+    Ok(sweep)
+}
+
+/// How many repeats in succession had no batch accepted.
+fn tries_after(tries: u32, sweep: Flush, final_tries: u32) -> u32
+    requires { tries < final_tries }
+    ensures none { sweep.accepted ≡ false → result ≡ tries + 1 }
+    ensures some { sweep.accepted ≡ true → result ≡ 0 }
+    ensures few { result ≤ final_tries }
+{
+    if sweep.accepted { 0 } else { tries + 1 }
+}
+
+/// Sends what is buffered at the end of a run: batches of each output until nothing waits there or a put
+/// fails, again and again until nothing is buffered anywhere, or so many repeats in succession had no batch
+/// accepted at any output.
+pub fn send_rest<K: Sink + Drop>(
+    run: &mut PipeRun,
+    outputs: &mut [OutJob<K>],
+    final_tries: u32,
+) -> Result<(), OutOfMemory>
+    requires ready { IsReady run.old.core }
+    requires outputs { AreOutputs (length run.old.core.setup.outputs) (outs_of K.held K.faults outputs.old) }
+    requires routed { run.old.core.raw ≡ [] }
+    requires stands { HasJournal run.old.core }
+    requires some { 1 ≤ final_tries }
+    ensures ready { OnOk result (IsReady run.new.core) }
+    ensures kept { OnOk result (IsSentOn run.old.core run.new.core) }
+    ensures stands { StillStands result run.new.core }
+    ensures outputs { OnOk result
+        (AreOutputs (length run.old.core.setup.outputs) (outs_of K.held K.faults outputs.new)) }
+    ensures rest { OnOk result
+        (AreLeft final_tries run.new.core (outs_of K.held K.faults outputs.new)) }
+    ensures count { length outputs.new ≡ length outputs.old }
+    ensures sends { OnOk result (SendsOn run.old run.new (outs_of K.held K.faults outputs.old)
+        (outs_of K.held K.faults outputs.new)) }
 {
     let mut tries = 0;
     for _repeat in 0..u64::MAX {
-        let flush = send_all(run, sink)?;
-        if flush == Flush::Emptied {
+        let sweep = send_each(run, outputs)?;
+        if sweep.emptied {
             return Ok(());
         }
-        tries = tries_after(tries, flush);
-        if tries == FINAL_TRIES {
+        tries = tries_after(tries, sweep, final_tries);
+        if tries == final_tries {
             return Ok(());
         }
     }

@@ -1,25 +1,38 @@
 //! The rounds of a run, and its end.
-ghost use Rattle.std.specs.Prelude.{◌≡◌, ◌≢◌, ◌==◌, ◌≤◌, ◌⊎◌, ◌∷◌, ℕ, ℤ, List, [], Option, Ok, IfOk};
-ghost use Rattle.std.specs.Prelude.{OnOk, Some, None, not, false, true};
+ghost use Rattle.std.specs.Prelude.{◌≡◌, ◌≢◌, ◌<◌, ◌≤◌, ◌∷◌, ℕ, ℤ, List, [], All, length, map, Ok, Err, IfOk};
+ghost use Rattle.std.specs.Prelude.{OnOk, IfErr, false, true};
 ghost use Rattle.std.specs.Int.{int_max};
-ghost use Rattle.account.specs.Numbers.{output_numbers};
 ghost use Rattle.account.specs.AccountText.{account_text};
 ghost use Rattle.agent_base.specs.Moments.{Gives};
-ghost use Rattle.agent_workers.specs.Run.{Ran, change};
+ghost use Rattle.pipeline_core.specs.CoreState.{sizes};
+ghost use Rattle.agent_workers.specs.Run.{Ran, change, out_changes};
 ghost use Rattle.agent_workers.specs.Noted.{part_of, EndsOn};
-ghost use Rattle.agent_workers.specs.PipeSetup.{pipe_setup, journal_setup_of};
-ghost use Rattle.agent_workers.specs.Progress.{Beginning, Surroundings, Went, RunsOn, IsSettled};
-ghost use Rattle.agent_workers.specs.Running.{IsReady, IsReading, HasJournal, StillStands};
+ghost use Rattle.agent_workers.specs.Output.{outs_of, AreOutputs};
+ghost use Rattle.agent_workers.specs.PipeSetup.{run_setup, journal_setup_of};
+ghost use Rattle.agent_workers.specs.Progress.{Beginning, Surroundings, Went, RunsOn};
+ghost use Rattle.agent_workers.specs.Running.{IsReady, IsReading, HasJournal, StillStands, AreSettled};
+ghost use Rattle.agent_workers.specs.Running.{AreLeft, IsLeftOver};
 
 use crate::input::{InState, gather};
 use crate::item::route_all;
 use crate::journal::JournalJob;
-use crate::output::{send_all, send_rest};
+use crate::output::{OutJob, begin_anew, send_each, send_rest};
 use crate::pipe_run::{PipeRun, journal_setup, last_entries, new_run, note};
 use agent_base::{Clock, Sink, Source};
-use fixed_num::{Moment, OutOfMemory};
-use pipeline_core::OutSetup;
+use fixed_num::{Moment, OutOfMemory, Seq};
+use pipeline_core::{Core, OutSetup};
 use std::alloc::Global;
+
+/// What a run is about.
+#[derive(Drop)]
+pub struct RunSetup {
+    /// The sizes of its outputs, in order.
+    pub outputs: Seq<OutSetup>,
+    /// How many pieces one gather has at most.
+    pub gather_pieces: u32,
+    /// How often in succession a repeat that had no batch accepted is tried at the end.
+    pub final_tries: u32,
+}
 
 /// How a run came to its end.
 #[derive(Drop)]
@@ -28,7 +41,7 @@ pub struct Ending {
     pub account: Vec<u8>,
     /// Whether the input was read to its end, or why not.
     pub state: InState,
-    /// Whether a metric is still buffered at the output.
+    /// Whether a metric is still buffered at an output.
     pub left: bool,
     /// Whether a put of the journal failed.
     pub journal_failed: bool,
@@ -39,29 +52,39 @@ pub struct Ending {
 fn rounds<S: Source, K: Sink + Drop, C: Clock>(
     run: &mut PipeRun,
     source: &mut S,
-    sink: &mut K,
+    outputs: &mut [OutJob<K>],
     journal: &mut JournalJob<K>,
     clock: &mut C,
+    gather_pieces: u32,
 ) -> Result<InState, OutOfMemory>
+    requires some { 1 ≤ gather_pieces }
     requires ready { IsReady run.old.core }
     requires reading { IsReading run.old.core }
-    requires settled { IsSettled run.old }
+    requires none_raw { run.old.core.raw ≡ [] }
+    requires outputs { AreOutputs (length run.old.core.setup.outputs) (outs_of K.held K.faults outputs.old) }
+    requires settled { AreSettled run.old.core (outs_of K.held K.faults outputs.old) }
     requires stands { HasJournal run.old.core }
     ensures ready { OnOk result (IsReady run.new.core) }
     ensures going { OnOk result (run.new.core.stopped ≡ false) }
+    ensures setup { OnOk result (run.new.core.setup ≡ run.old.core.setup) }
+    ensures outputs { OnOk result
+        (AreOutputs (length run.old.core.setup.outputs) (outs_of K.held K.faults outputs.new)) }
     ensures read { IfOk result (λ state. state ≢ InState.Reading) }
     ensures stands { StillStands result run.new.core }
-    ensures runs { IfOk result (λ state. RunsOn run.old run.new state (S.left source.old) (S.left source.new)
+    ensures runs { IfOk result (λ state. RunsOn gather_pieces run.old run.new state
+        (S.left source.old) (S.left source.new)
         (S.faults source.old) (S.faults source.new)
-        (C.moments clock.old) (C.place clock.old) (C.place clock.new) (K.held sink.old) (K.held sink.new)
-        (K.faults sink.old) (K.faults sink.new)
+        (C.moments clock.old) (C.place clock.old) (C.place clock.new)
+        (outs_of K.held K.faults outputs.old) (outs_of K.held K.faults outputs.new)
         (part_of K.held K.faults journal.old) (part_of K.held K.faults journal.new)) }
     ensures list { C.moments clock.new ≡ C.moments clock.old }
+    ensures count { length outputs.new ≡ length outputs.old }
 {
     for _round in 0..u64::MAX {
-        let state = gather(run, source, clock)?;
-        route_all(run)?;
-        send_all(run, sink)?;
+        let state = gather(run, source, clock, gather_pieces)?;
+        begin_anew(outputs);
+        route_all(run, outputs.len())?;
+        send_each(run, outputs)?;
         note(run, journal)?;
         if state != InState::Reading {
             return Ok(state);
@@ -71,44 +94,67 @@ fn rounds<S: Source, K: Sink + Drop, C: Clock>(
 }
 
 /// Stops the gathering at a moment, and sends what is buffered.
-fn finish<K: Sink>(run: &mut PipeRun, sink: &mut K, moment: Moment) -> Result<(), OutOfMemory>
+fn finish<K: Sink + Drop>(
+    run: &mut PipeRun,
+    outputs: &mut [OutJob<K>],
+    moment: Moment,
+    final_tries: u32,
+) -> Result<(), OutOfMemory>
     requires ready { IsReady run.old.core }
+    requires outputs { AreOutputs (length run.old.core.setup.outputs) (outs_of K.held K.faults outputs.old) }
     requires going { run.old.core.stopped ≡ false }
     requires stands { HasJournal run.old.core }
+    requires some { 1 ≤ final_tries }
     ensures ready { OnOk result (IsReady run.new.core) }
+    ensures setup { OnOk result (run.new.core.setup ≡ run.old.core.setup) }
     ensures stopped { OnOk result (run.new.core.stopped ≡ true) }
     ensures none_raw { OnOk result (run.new.core.raw ≡ []) }
-    ensures rest { OnOk result (((output_numbers run.new.core.numbers 0).buffered ≡ 0)
-        ⊎ (3 ≤ run.new.failed)) }
+    ensures rest { OnOk result
+        (AreLeft final_tries run.new.core (outs_of K.held K.faults outputs.new)) }
     ensures stands { StillStands result run.new.core }
+    ensures count { length outputs.new ≡ length outputs.old }
     ensures goes { OnOk result ((start : Beginning) (now : Surroundings)
         → Went start run.old
-        (record now { held = K.held sink.old; put_faults = K.faults sink.old; counted_at = [] }) →
+        (record now { outs = outs_of K.held K.faults outputs.old; counted_at = [] }) →
         Went start run.new
         (record now {
-          held = K.held sink.new;
-          put_faults = K.faults sink.new;
+          outs = outs_of K.held K.faults outputs.new;
           counted_at = int_max moment
               start.setup.start ∷ [];
         })) }
 {
+    begin_anew(outputs);
     run.core.stop(moment)?;
-    run.failed = 0;
-    route_all(run)?;
-    send_rest(run, sink)?;
+    route_all(run, outputs.len())?;
+    send_rest(run, outputs, final_tries)?;
     Ok(())
+}
+
+/// Whether a metric is buffered at one of so many outputs.
+fn is_left(core: &Core, outputs: u32) -> bool
+    requires { outputs ≡ length core.now.setup.outputs }
+    ensures { IsLeftOver result core.now }
+{
+    for output in 0..outputs {
+        if core.buffered(output) != 0 {
+            return true;
+        }
+    }
+    false
 }
 
 /// Ends the journal: its last entries, its account and its last line are put.
 fn end_journal<K: Sink + Drop>(
     run: &mut PipeRun,
+    outputs: u32,
     journal: &mut JournalJob<K>,
     state: InState,
 ) -> Result<Ending, OutOfMemory>
     requires ready { IsReady run.old.core }
+    requires outputs { outputs ≡ length run.old.core.setup.outputs }
     requires stands { HasJournal run.old.core }
     ensures state { IfOk result (λ ending. ending.state ≡ state) }
-    ensures left { IfOk result (λ ending. ending.left ≡ not ((output_numbers run.old.core.numbers 0).buffered == 0)) }
+    ensures left { IfOk result (λ ending. IsLeftOver ending.left run.old.core) }
     ensures account { IfOk result (λ ending. ending.account.items ≡ account_text run.old.core.numbers) }
     ensures failed { IfOk result (λ ending. ending.journal_failed ≡ journal.new.failed) }
     ensures ends { OnOk result
@@ -117,7 +163,7 @@ fn end_journal<K: Sink + Drop>(
 {
     let mut account = Vec::new(run.alloc);
     run.core.account().text(&mut account)?;
-    let left = run.core.buffered(0) != 0;
+    let left = is_left(&run.core, outputs);
     let entries = last_entries(run.alloc, &mut run.core)?;
     journal.end(run.alloc, entries.as_slice(), &account, &mut run.text)?;
     Ok(Ending {
@@ -131,76 +177,154 @@ fn end_journal<K: Sink + Drop>(
 /// Runs from the start: rounds, the end, and the end of the journal.
 fn run_from<S: Source, K: Sink + Drop, C: Clock>(
     alloc: Global,
-    output: OutSetup,
+    setup: &RunSetup,
     start: Moment,
     source: &mut S,
-    sink: &mut K,
+    outputs: &mut [OutJob<K>],
     journal: &mut JournalJob<K>,
     clock: &mut C,
     input_clock: &mut C,
 ) -> Result<Ending, OutOfMemory>
-    requires some { 1 ≤ output.batch }
-    requires ordered { output.batch ≤ output.limit }
+    requires few { length setup.now.outputs ≤ 16 }
+    requires sizes { All (λ x. (1 ≤ x.batch) × (x.batch ≤ x.limit)) setup.now.outputs }
+    requires some_pieces { 1 ≤ setup.now.gather_pieces }
+    requires some { 1 ≤ setup.now.final_tries }
+    requires outputs { AreOutputs (length setup.now.outputs) (outs_of K.held K.faults outputs.old) }
     requires first { Gives (C.moments clock.old) 0 (C.place clock.old) start }
     requires input_first { C.place input_clock.old ≡ 0 }
-    requires about { journal.old.setup ≡ journal_setup_of (pipe_setup output.batch output.limit start) }
+    requires about { journal.old.setup ≡ journal_setup_of (run_setup (map sizes setup.now.outputs) start) }
     requires none_kept { journal.old.kept.items ≡ [] }
     requires none_put { journal.old.entries ≡ 0 }
     requires none_failed { journal.old.failed ≡ false }
-    ensures ran { IfOk result (λ ending. Ran output.batch output.limit ending
+    ensures count { length outputs.new ≡ length outputs.old }
+    ensures ran { IfOk result
+        (λ ending. Ran setup.now.gather_pieces setup.now.final_tries (map sizes setup.now.outputs) ending
         (change (S.left source.old) (S.left source.new) (S.faults source.old) (S.faults source.new))
-        (change (K.held sink.old) (K.held sink.new) (K.faults sink.old) (K.faults sink.new))
+        (out_changes (outs_of K.held K.faults outputs.old) (outs_of K.held K.faults outputs.new))
         (change (K.held journal.old.sink) (K.held journal.new.sink) (K.faults journal.old.sink)
         (K.faults journal.new.sink))
         (C.moments clock.old) (C.moments input_clock.old)) }
 {
-    let mut run = new_run(alloc, output, start)?;
-    let state = rounds(&mut run, source, sink, journal, input_clock)?;
+    let mut run = new_run(alloc, setup.outputs.as_slice(), start)?;
+    begin_anew(outputs);
+    let state = rounds(
+        &mut run,
+        source,
+        outputs,
+        journal,
+        input_clock,
+        setup.gather_pieces,
+    )?;
     let moment = clock.now();
-    finish(&mut run, sink, moment)?;
-    let ending = end_journal(&mut run, journal, state)?;
+    finish(&mut run, outputs, moment, setup.final_tries)?;
+    let ending = end_journal(&mut run, outputs.len() as u32, journal, state)?;
     Ok(ending)
 }
 
-/// Runs one line protocol input and one line protocol output from the start, and gives back the part to which
-/// the journal goes: rounds, each of which puts the entries that it made, and the end. The start is the first
-/// moment of `clock`, the stop a later one; `input_clock` gives the moments of the gathers.
+/// Runs one line protocol input and any number of line protocol outputs from the start, and gives back the
+/// part to which the journal goes: rounds, each of which puts the entries that it made, and the end. The
+/// start is the first moment of `clock`, the stop a later one; `input_clock` gives the moments of the
+/// gathers.
 ///
 /// It always returns. Nothing is promised where memory ran out.
 pub fn run<S: Source, K: Sink + Drop, C: Clock>(
     alloc: Global,
-    output: OutSetup,
+    setup: &RunSetup,
     source: &mut S,
-    sink: &mut K,
+    outputs: &mut [OutJob<K>],
     journal: K,
     clock: &mut C,
     input_clock: &mut C,
 ) -> (K, Result<Ending, OutOfMemory>)
-    requires some { 1 ≤ output.batch }
-    requires ordered { output.batch ≤ output.limit }
+    requires few { length setup.now.outputs ≤ 16 }
+    requires sizes { All (λ x. (1 ≤ x.batch) × (x.batch ≤ x.limit)) setup.now.outputs }
+    requires some_pieces { 1 ≤ setup.now.gather_pieces }
+    requires some { 1 ≤ setup.now.final_tries }
+    requires outputs { AreOutputs (length setup.now.outputs) (outs_of K.held K.faults outputs.old) }
     requires first { C.place clock.old ≡ 0 }
     requires input_first { C.place input_clock.old ≡ 0 }
-    ensures ran { IfOk result.1 (λ ending. Ran output.batch output.limit ending
+    ensures ran { IfOk result.1
+        (λ ending. Ran setup.now.gather_pieces setup.now.final_tries (map sizes setup.now.outputs) ending
         (change (S.left source.old) (S.left source.new) (S.faults source.old) (S.faults source.new))
-        (change (K.held sink.old) (K.held sink.new) (K.faults sink.old) (K.faults sink.new))
+        (out_changes (outs_of K.held K.faults outputs.old) (outs_of K.held K.faults outputs.new))
         (change (K.held journal) (K.held result.0) (K.faults journal) (K.faults result.0))
         (C.moments clock.old) (C.moments input_clock.old)) }
+    ensures count { length outputs.new ≡ length outputs.old }
 {
     let start = clock.now();
-    let setup = match journal_setup(alloc, output, start) {
-        Ok(setup) => setup,
+    let about = match journal_setup(alloc, setup.outputs.as_slice(), start) {
+        Ok(about) => about,
         Err(fault) => return (journal, Err(fault)),
     };
-    let mut job = JournalJob::new(alloc, setup, journal);
+    let mut job = JournalJob::new(alloc, about, journal);
     let ran = run_from(
         alloc,
-        output,
+        setup,
         start,
         source,
-        sink,
+        outputs,
         &mut job,
         clock,
         input_clock,
     );
     (job.sink, ran)
+}
+
+/// The list of the job of one output; the sink where memory was short.
+fn one_job<K: Drop>(alloc: Global, sink: K) -> Result<Vec<OutJob<K>>, K>
+    ensures ok { IfOk result (λ jobs. jobs.items ≡ record { output = 0; sink = sink; failed = 0 } ∷ []) }
+    ensures err { IfErr result (λ back. back ≡ sink) }
+{
+    match Vec::with_capacity(alloc, 1) {
+        Ok(mut jobs) => {
+            jobs.push_reserved(OutJob {
+                output: 0,
+                sink,
+                failed: 0,
+            });
+            Ok(jobs)
+        }
+        Err(_) => Err(sink),
+    }
+}
+
+/// Runs one input and one output from the start, as `run` does, and gives back the output's sink and the part
+/// to which the journal goes.
+pub fn run_one<S: Source, K: Sink + Drop, C: Clock>(
+    alloc: Global,
+    setup: &RunSetup,
+    source: &mut S,
+    sink: K,
+    journal: K,
+    clock: &mut C,
+    input_clock: &mut C,
+) -> (K, K, Result<Ending, OutOfMemory>)
+    requires one { length setup.now.outputs ≡ 1 }
+    requires sizes { All (λ x. (1 ≤ x.batch) × (x.batch ≤ x.limit)) setup.now.outputs }
+    requires some_pieces { 1 ≤ setup.now.gather_pieces }
+    requires some { 1 ≤ setup.now.final_tries }
+    requires first { C.place clock.old ≡ 0 }
+    requires input_first { C.place input_clock.old ≡ 0 }
+    ensures ran { IfOk result.2
+        (λ ending. Ran setup.now.gather_pieces setup.now.final_tries (map sizes setup.now.outputs) ending
+        (change (S.left source.old) (S.left source.new) (S.faults source.old) (S.faults source.new))
+        (change (K.held sink) (K.held result.0) (K.faults sink) (K.faults result.0) ∷ [])
+        (change (K.held journal) (K.held result.1) (K.faults journal) (K.faults result.1))
+        (C.moments clock.old) (C.moments input_clock.old)) }
+{
+    let mut outputs = match one_job(alloc, sink) {
+        Ok(outputs) => outputs,
+        Err(sink) => return (sink, journal, Err(OutOfMemory)),
+    };
+    let (journal, ran) = run(
+        alloc,
+        setup,
+        source,
+        &mut outputs,
+        journal,
+        clock,
+        input_clock,
+    );
+    let job = outputs.swap_remove(0);
+    (job.sink, journal, ran)
 }

@@ -9,7 +9,7 @@ loop-piece-init g c = record { reads = reads_nothing _ _ _ _ refl refl (search r
 pub returns-then-ne-clause-reads : goal.returns-then-ne-clause-reads
 returns-then-ne-clause-reads g c =
     let other : c.in_ok-state.state ≡ states.Reading → ⊥ = search rules in
-    at_moment _ _ _ _ _ _ _ c.ranges.moment (group_ends _ _ _ _ _ _ _ _ _ _ c.loop-piece.invariant.reads c.in_ok-state.ensures.next other (omega (arith, c.loop-piece.invariant.count)) c.in_ok-state.ensures.all)
+    at_moment _ _ _ _ _ _ _ _ c.ranges.moment (group_ends c.args.most _ _ _ _ _ _ _ _ _ _ c.loop-piece.invariant.reads c.in_ok-state.ensures.next other (omega (arith, c.loop-piece.invariant.count, c.loop-piece-test.true)) c.in_ok-state.ensures.all)
 
 pub loop-piece-preserved : goal.loop-piece-preserved
 loop-piece-preserved g c =
@@ -23,4 +23,7 @@ loop-piece-preserved g c =
     }
 
 pub returns-clause-reads : goal.returns-clause-reads
-returns-clause-reads g c = at_moment _ _ _ _ _ _ _ c.ranges.moment (group_full _ _ _ _ _ _ c.loop-piece.invariant.reads (omega (arith, c.loop-piece.invariant.count)))
+returns-clause-reads g c = at_moment _ _ _ _ _ _ _ _ c.ranges.moment (group_full c.args.most _ _ _ _ _ _ c.loop-piece.invariant.reads (omega (arith, c.loop-piece.invariant.count)))
+
+pub returns-clause-below : goal.returns-clause-below
+returns-clause-below g c = λ ne. elim c.loop-piece.invariant.below [ inl none ↦ absurd (omega (arith, none, c.loop-piece-test.false, c.requires.some)) | inr few ↦ few ]

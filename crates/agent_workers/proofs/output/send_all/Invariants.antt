@@ -1,13 +1,16 @@
 use Rattle.std.proofs.Common.{◌≡◌}
-use Rattle.agent_workers.specs.Progress.{SendsOn}
-use Rattle.agent_workers.specs.Running.{IsReady, HasJournal, IsSentOn}
+use Rattle.agent_workers.specs.Output.{out_of}
+use Rattle.agent_workers.specs.Progress.{SendsAt}
+use Rattle.agent_workers.specs.Running.{IsReady, HasJournal, IsSentAt, waiting_at}
 use Rattle.agent_workers.proofs.output.send_all.Given as goal
 
 abbrev pub invariant-loop-batch : goal.invariant-loop-batch
 invariant-loop-batch g l = record {
   ready : IsReady l.run.core;
-  kept : IsSentOn l.fn.run.core l.run.core;
+  kept : IsSentAt l.fn.job.output l.fn.run.core l.run.core;
   stands : HasJournal l.run.core;
-  first : l.batch ≡ 0 → l.run.failed ≡ l.fn.run.failed;
-  sends : SendsOn l.fn.run l.run (g.K.Sink.held l.fn.sink) (g.K.Sink.held l.sink) (g.K.Sink.faults l.fn.sink) (g.K.Sink.faults l.sink);
+  first : l.batch ≡ 0 → l.job.failed ≡ l.fn.job.failed;
+  waits : l.batch ≡ 0 → waiting_at l.run.core l.fn.job.output ≡ waiting_at l.fn.run.core l.fn.job.output;
+  number : l.job.output ≡ l.fn.job.output;
+  sends : SendsAt l.fn.run l.run (out_of g.K.Sink.held g.K.Sink.faults l.fn.job) (out_of g.K.Sink.held g.K.Sink.faults l.job);
 }

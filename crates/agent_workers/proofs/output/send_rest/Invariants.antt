@@ -1,6 +1,7 @@
-use Rattle.std.proofs.Common.{◌<◌, ◌≤◌}
+use Rattle.std.proofs.Common.{◌≡◌, ◌<◌, length}
+use Rattle.agent_workers.specs.Output.{outs_of, AreOutputs}
 use Rattle.agent_workers.specs.Progress.{SendsOn}
-use Rattle.agent_workers.specs.Running.{IsReady, HasJournal, IsSentOn}
+use Rattle.agent_workers.specs.Running.{IsReady, HasJournal, IsSentOn, HaveFailed}
 use Rattle.agent_workers.proofs.output.send_rest.Given as goal
 
 abbrev pub invariant-loop-repeat : goal.invariant-loop-repeat
@@ -8,7 +9,9 @@ invariant-loop-repeat g l = record {
   ready : IsReady l.run.core;
   kept : IsSentOn l.fn.run.core l.run.core;
   stands : HasJournal l.run.core;
-  few : l.tries < 3;
-  failed : l.tries ≤ l.run.failed;
-  sends : SendsOn l.fn.run l.run (g.K.Sink.held l.fn.sink) (g.K.Sink.held l.sink) (g.K.Sink.faults l.fn.sink) (g.K.Sink.faults l.sink);
+  outputs : AreOutputs (length l.fn.run.core.setup.outputs) (outs_of g.K.Sink.held g.K.Sink.faults l.outputs);
+  count : length l.outputs ≡ length l.fn.outputs;
+  few : l.tries < l.fn.final_tries;
+  failed : HaveFailed l.tries l.run.core (outs_of g.K.Sink.held g.K.Sink.faults l.outputs);
+  sends : SendsOn l.fn.run l.run (outs_of g.K.Sink.held g.K.Sink.faults l.fn.outputs) (outs_of g.K.Sink.held g.K.Sink.faults l.outputs);
 }

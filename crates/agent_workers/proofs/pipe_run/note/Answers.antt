@@ -10,6 +10,6 @@ take-requires-clause-whole g c = cut_whole c.args.run.now.core c.as_slice.result
 
 pub returns-in_ok-take-in-Ok-clause-notes : goal.returns-in_ok-take-in-Ok-clause-notes
 returns-in_ok-take-in-Ok-clause-notes g c = λ start now w.
-    went_cut start c.args.run.now.core c.cut.new.self (part_of g.K.Sink.held g.K.Sink.faults c.args.journal.now) (part_of g.K.Sink.held g.K.Sink.faults c.take.new.self) c.args.run.now.pieces c.args.run.now.failed now
+    went_cut start c.args.run.now.core c.cut.new.self (part_of g.K.Sink.held g.K.Sink.faults c.args.journal.now) (part_of g.K.Sink.held g.K.Sink.faults c.take.new.self) c.args.run.now.pieces now
     c.cut.ensures.stands c.in-Ok.ensures.ok.1
     (subst (λ (es : List Entry). NotesOn es (part_of g.K.Sink.held g.K.Sink.faults c.args.journal.now) (part_of g.K.Sink.held g.K.Sink.faults c.take.new.self)) (c.as_slice.ensures.value ∙ c.in-Ok.ensures.ok.0) c.in_ok-take-in-Ok.ensures) w

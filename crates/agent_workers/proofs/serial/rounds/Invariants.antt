@@ -1,7 +1,8 @@
-use Rattle.std.proofs.Common.{◌≡◌}
+use Rattle.std.proofs.Common.{◌≡◌, [], length}
 use Rattle.agent_workers.specs.Noted.{part_of}
-use Rattle.agent_workers.specs.Progress.{RunsOn, IsSettled}
-use Rattle.agent_workers.specs.Running.{IsReady, IsReading, HasJournal}
+use Rattle.agent_workers.specs.Output.{outs_of, AreOutputs}
+use Rattle.agent_workers.specs.Progress.{RunsOn}
+use Rattle.agent_workers.specs.Running.{IsReady, IsReading, HasJournal, AreSettled}
 use Rattle.agent_workers.specs.declared.input.InState.TheVariants as states
 use Rattle.agent_workers.proofs.serial.rounds.Given as goal
 
@@ -9,10 +10,14 @@ abbrev pub invariant-loop-round : goal.invariant-loop-round
 invariant-loop-round g l = record {
   ready : IsReady l.run.core;
   reading : IsReading l.run.core;
-  settled : IsSettled l.run;
+  none_raw : l.run.core.raw ≡ [];
+  setup : l.run.core.setup ≡ l.fn.run.core.setup;
+  outputs : AreOutputs (length l.fn.run.core.setup.outputs) (outs_of g.K.Sink.held g.K.Sink.faults l.outputs);
+  settled : AreSettled l.run.core (outs_of g.K.Sink.held g.K.Sink.faults l.outputs);
   stands : HasJournal l.run.core;
+  count : length l.outputs ≡ length l.fn.outputs;
   list : g.C.Clock.moments l.clock ≡ g.C.Clock.moments l.fn.clock;
-  runs : RunsOn l.fn.run l.run states.Reading (g.S.Source.left l.fn.source) (g.S.Source.left l.source) (g.S.Source.faults l.fn.source) (g.S.Source.faults l.source)
-      (g.C.Clock.moments l.fn.clock) (g.C.Clock.place l.fn.clock) (g.C.Clock.place l.clock) (g.K.Sink.held l.fn.sink) (g.K.Sink.held l.sink) (g.K.Sink.faults l.fn.sink) (g.K.Sink.faults l.sink)
+  runs : RunsOn l.fn.gather_pieces l.fn.run l.run states.Reading (g.S.Source.left l.fn.source) (g.S.Source.left l.source) (g.S.Source.faults l.fn.source) (g.S.Source.faults l.source)
+      (g.C.Clock.moments l.fn.clock) (g.C.Clock.place l.fn.clock) (g.C.Clock.place l.clock) (outs_of g.K.Sink.held g.K.Sink.faults l.fn.outputs) (outs_of g.K.Sink.held g.K.Sink.faults l.outputs)
       (part_of g.K.Sink.held g.K.Sink.faults l.fn.journal) (part_of g.K.Sink.held g.K.Sink.faults l.journal);
 }

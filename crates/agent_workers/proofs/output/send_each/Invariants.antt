@@ -1,0 +1,16 @@
+use Rattle.std.proofs.Common.{length}
+use Rattle.agent_workers.specs.Output.{outs_of, AreOutputs}
+use Rattle.agent_workers.specs.Progress.{SendsOn}
+use Rattle.agent_workers.specs.Running.{IsReady, HasJournal, IsSentOn}
+use Rattle.agent_workers.proofs.SweepLemmas.{Sweeping}
+use Rattle.agent_workers.proofs.output.send_each.Given as goal
+
+abbrev pub invariant-loop-job : goal.invariant-loop-job
+invariant-loop-job g l = record {
+  ready : IsReady l.run.core;
+  kept : IsSentOn l.fn.run.core l.run.core;
+  stands : HasJournal l.run.core;
+  outputs : AreOutputs (length l.fn.run.core.setup.outputs) (outs_of g.K.Sink.held g.K.Sink.faults l.outputs);
+  swept : Sweeping l.job-index l.sweep.emptied l.sweep.accepted l.fn.run.core l.run.core (outs_of g.K.Sink.held g.K.Sink.faults l.fn.outputs) (outs_of g.K.Sink.held g.K.Sink.faults l.outputs);
+  sends : SendsOn l.fn.run l.run (outs_of g.K.Sink.held g.K.Sink.faults l.fn.outputs) (outs_of g.K.Sink.held g.K.Sink.faults l.outputs);
+}

@@ -4,3 +4,4 @@ mod KindLemmas
 mod ReadLemmas
 mod TextLemmas
 mod TimeLemmas
+mod SoundLemmas

@@ -6,5 +6,6 @@ pub mod Pairs
 pub mod Plugins
 pub mod Reading
 pub mod Seen
+pub mod Sound
 pub mod Sums
 pub mod Values

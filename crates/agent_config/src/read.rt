@@ -4,6 +4,7 @@ ghost use Rattle.toml.specs.View.{table_view};
 ghost use Rattle.agent_config.specs.Faults.{first, text_faults, tree_of};
 ghost use Rattle.agent_config.specs.Values.{config_of};
 ghost use Rattle.agent_config.specs.Reading.{Checks, memory_fault};
+ghost use Rattle.agent_config.specs.Sound.{IsSound};
 
 use crate::config::Config;
 use crate::fault::{ConfigFault, ConfigKind};
@@ -16,13 +17,15 @@ use toml::Table;
 /// The longest text that is read: 1 MiB.
 const LONGEST_TEXT: usize = 1_048_576;
 
-/// What a configuration in TOML 1.1 says. Where the text has faults the first of them is the error: what is
-/// wrong, in which class, and at which plugin of it. An error OutOfMemory, which is of the root at number 0,
-/// says nothing of the text. `docs/configuration.md` has the keys, their defaults and ranges, and the order
-/// of faults.
+/// What a configuration in TOML 1.1 says: from 1 to 16 inputs and as many outputs, no two inputs at one
+/// place, no two of the outputs and the journal, and all numbers in their ranges. Where the text has faults
+/// the first of them is the error: what is wrong, in which class, and at which plugin of it. An error
+/// OutOfMemory, which is of the root at number 0, says nothing of the text. `docs/configuration.md` has the
+/// keys, their defaults and ranges, and the order of faults.
 pub fn read_config(alloc: Global, text: &[u8]) -> Result<Config, ConfigFault>
     ensures ok { IfOk result (λ config. (text_faults text.now ≡ [])
         × (option_map config_of (tree_of text.now) ≡ Some config)) }
+    ensures sound { IfOk result IsSound }
     ensures first { IfErr result (λ fault. fault.kind ≢ ConfigKind.OutOfMemory
         → first (text_faults text.now) ≡ Some fault) }
     ensures memory { IfErr result (λ fault. fault.kind ≡ ConfigKind.OutOfMemory → fault ≡ memory_fault) }

@@ -1,0 +1,34 @@
+-- What holds of the values of every configuration without faults.
+use Rattle.std.specs.Prelude.{◌≡◌, ◌≤◌, ℕ, List, ◌∷◌, length, map}
+use Rattle.std.specs.List.{All, IsDistinct}
+use Rattle.std.specs.Str.{bytes_eq}
+use Rattle.agent_config.specs.declared.config.Config.{Config}
+use Rattle.agent_config.specs.declared.config.InputConf.{InputConf}
+use Rattle.agent_config.specs.declared.config.OutputConf.{OutputConf}
+
+-- a number is from 1 to a greatest one
+abbrev pub IsCounted : ℕ → ℕ → Type 0
+IsCounted most n = (1 ≤ n) × (n ≤ most)
+
+-- a batch of an output has a metric, and no more than may be buffered
+pub record HasSizes (output : OutputConf) : Type 0 where
+  pub some : 1 ≤ output.batch
+  pub ordered : output.batch ≤ output.limit
+  pub most : output.limit ≤ 10000
+
+-- neither the key nor the value of a tag is empty
+abbrev pub IsFilled : List ℕ × List ℕ → Type 0
+IsFilled tag = (1 ≤ length tag.0) × (1 ≤ length tag.1)
+
+-- There are inputs and outputs, and at most 16 of each; no two inputs have one place, and no two of the journal
+-- and the outputs; all numbers are in their ranges.
+pub record IsSound (config : Config) : Type 0 where
+  pub inputs : IsCounted 16 (length config.inputs)
+  pub outputs : IsCounted 16 (length config.outputs)
+  pub inputs_apart : IsDistinct bytes_eq (map (λ (input : InputConf). input.place) config.inputs)
+  pub outputs_apart : IsDistinct bytes_eq
+      (config.agent.journal ∷ map (λ (output : OutputConf). output.place) config.outputs)
+  pub sizes : All HasSizes config.outputs
+  pub gather_pieces : IsCounted 10000 config.agent.gather_pieces
+  pub final_tries : IsCounted 100 config.agent.final_tries
+  pub globals : All IsFilled config.globals

@@ -37,7 +37,7 @@ module _ (batch limit : ℕ) (input output noted reported : Change) (run_moments
     left_here l = subst (λ (o : ℕ). buffered_at_end (pipe_setup batch limit start) journal o ≢ 0) (let first : l.0 ≡ 0 = omega (arith, l.1) in first) l.2
 
     -- the status that a run ends with says what it left
-    pub ends_of : (state : InState) (journal_failed failed left : Bool) → EndsSo gather_pieces state input run.taken journal → IsLeft left (pipe_setup batch limit start) journal → IsPutSo journal_failed noted (text_of (pipe_setup batch limit start) journal)
+    pub ends_of : (state : InState) (journal_failed failed left : Bool) → EndsSo 0 gather_pieces state input run.taken journal → IsLeft left (pipe_setup batch limit start) journal → IsPutSo journal_failed noted (text_of (pipe_setup batch limit start) journal)
         → IsPutSo failed reported (account_of (pipe_setup batch limit start) journal) → Ends batch limit input output noted reported run_moments input_moments (status_of state (journal_failed || failed) left)
     ends_of states.Reading journal_failed failed left e l put report = absurd e
     ends_of states.LimitReached journal_failed failed left e l put report =

@@ -81,7 +81,7 @@ module _ (batch limit : ℕ) (input output note report : Change)
     pub headline : Headline batch limit input output note report run_moments input_moments
     pub few : headline.run.taken < 2 ^ 40
     pub unended : has_ended 0 headline.journal ≡ false
-    pub cut_short : IsCutShort input headline.journal
+    pub cut_short : IsCutShort 0 input headline.journal
 
   -- the put of the journal or of the report failed
   pub record IsReportFault : Type 0 where

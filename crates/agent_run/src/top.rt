@@ -15,7 +15,7 @@ use crate::opening::{Parts, Refusal, open_parts};
 use crate::reporting::{report_line, report_open_fault};
 use crate::status::{Status, run_status};
 use agent_base::{PutFault, World};
-use agent_workers::{Ending, RunSetup, run_one};
+use agent_workers::{Ending, InJob, RunSetup, run_one};
 use fixed_num::Seq;
 use pipeline_core::OutSetup;
 use std::alloc::Global;
@@ -91,7 +91,7 @@ fn run_parts<W: World>(
     ensures outs { AreHome (W.out_at world.new) }
 {
     let Parts {
-        mut source,
+        source,
         sink,
         journal,
     } = parts;
@@ -100,21 +100,18 @@ fn run_parts<W: World>(
             batch: pipe.batch,
             limit: pipe.limit,
         }),
-        gather_pieces: GATHER_PIECES,
         final_tries: FINAL_TRIES,
     };
     let mut clock = world.clock(RUN_CLOCK, RUN_PAUSE);
-    let mut input_clock = world.clock(INPUT_CLOCK, INPUT_PAUSE);
-    let (sink, journal, ran) = run_one(
-        alloc,
-        &setup,
-        &mut source,
-        sink,
-        journal,
-        &mut clock,
-        &mut input_clock,
-    );
-    world.give_in(pipe.input, source);
+    let input_clock = world.clock(INPUT_CLOCK, INPUT_PAUSE);
+    let mut input = InJob {
+        input: 0,
+        source,
+        clock: input_clock,
+        gather_pieces: GATHER_PIECES,
+    };
+    let (sink, journal, ran) = run_one(alloc, &setup, &mut input, sink, journal, &mut clock);
+    world.give_in(pipe.input, input.source);
     world.give_out(pipe.output, sink);
     world.give_out(JOURNAL, journal);
     match ran {

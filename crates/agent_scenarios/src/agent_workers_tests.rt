@@ -4,7 +4,7 @@ ghost use Rattle.agent_workers.specs.Output.{AreOutputs, outs_of};
 
 use crate::tests::{sink_of, source_of};
 use agent_base::{MemClock, MemSink, Sink};
-use agent_workers::{Ending, OutJob, RunSetup, run};
+use agent_workers::{Ending, InJob, OutJob, RunSetup, run};
 use fixed_num::{OutOfMemory, Seq};
 use pipeline_core::OutSetup;
 use std::alloc::Global;
@@ -102,7 +102,6 @@ fn setup_of(alloc: Global, final_tries: u32) -> Result<RunSetup, OutOfMemory>
     ensures count { IfOk result (λ setup. length setup.outputs ≡ 2) }
     ensures sizes { IfOk result
         (λ setup. All (λ x. (1 ≤ x.batch) × (x.batch ≤ x.limit)) setup.outputs) }
-    ensures pieces { IfOk result (λ setup. 1 ≤ setup.gather_pieces) }
     ensures tries { IfOk result (λ setup. setup.final_tries ≡ final_tries) }
 {
     let sizes = OutSetup {
@@ -111,7 +110,6 @@ fn setup_of(alloc: Global, final_tries: u32) -> Result<RunSetup, OutOfMemory>
     };
     Ok(RunSetup {
         outputs: Seq::of(vec![in alloc; sizes, sizes]?),
-        gather_pieces: 1_000,
         final_tries,
     })
 }
@@ -130,7 +128,7 @@ impl Case {
         requires { 1 ≤ self.now.final_tries }
     {
         let setup = setup_of(alloc, self.final_tries)?;
-        let mut source = source_of(alloc, TWO_LINES, &[])?;
+        let source = source_of(alloc, TWO_LINES, &[])?;
         let mut outputs = jobs_of(
             alloc,
             sink_of(alloc, self.puts.0)?,
@@ -138,16 +136,14 @@ impl Case {
         )?;
         let journal = sink_of(alloc, &[])?;
         let mut clock = MemClock::new(alloc, Vec::new(alloc));
-        let mut input_clock = MemClock::new(alloc, Vec::new(alloc));
-        let (journal, ran) = run(
-            alloc,
-            &setup,
-            &mut source,
-            &mut outputs,
-            journal,
-            &mut clock,
-            &mut input_clock,
-        );
+        let input_clock = MemClock::new(alloc, Vec::new(alloc));
+        let mut input = InJob {
+            input: 0,
+            source,
+            clock: input_clock,
+            gather_pieces: 1_000,
+        };
+        let (journal, ran) = run(alloc, &setup, &mut input, &mut outputs, journal, &mut clock);
         Ok(Outcome {
             outputs,
             ending: ran?,

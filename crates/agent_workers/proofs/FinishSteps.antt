@@ -53,9 +53,9 @@ clock_starts : (all : Option Moments) → IfSome all (λ moments. IsClocked mome
 clock_starts None = tt
 clock_starts (Some moments) = (omega arith, clocked_none moments 0 0 (omega arith))
 
-none_ended : has_ended 0 [] ≡ false
+none_ended : (input : ℕ) → has_ended input [] ≡ false
 unfolding has_ended
-none_ended = refl
+none_ended input = refl
 
 -- nothing was read yet
 abbrev pub first_surroundings : Beginning → List OutPart → JournalPart → Surroundings
@@ -77,13 +77,13 @@ went_first start core hand outs part stands setup stored notes empty are count =
   journal = [];
   text = record { stands = stands; setup_is = setup; written = []; split = sym stored; notes = notes };
   heard = record {
-    named = told_self start.bytes (λ xs ys. IsNamed start.most states.Reading [] xs (to_come hand ys)) (λ xs. rw empty (gathering_starts start.most 0 xs));
-    of_taken = told_names_start start.most 0 hand start.bytes empty;
+    named = told_self start.bytes (λ xs ys. IsNamed start.input start.most states.Reading [] xs (to_come hand ys)) (λ xs. rw empty (gathering_starts start.most start.input xs));
+    of_taken = told_names_start start.most start.input hand start.bytes empty;
     counted = told_self start.bytes (λ xs ys. length xs ≡ hand.taken + length ys) (λ xs. omega (arith, ap (λ (h : Hand). h.taken) empty));
-    ended = none_ended;
+    ended = none_ended start.input;
     later = omega arith;
     state = omega (arith, ap (λ (h : Hand). h.taken) empty);
-    clocked = clocked_same start.moments 0 [] (gather_moments 0 []) (gather_moments_none 0) (clock_starts start.moments);
+    clocked = clocked_same start.moments 0 [] (gather_moments start.input []) (gather_moments_none start.input) (clock_starts start.moments);
   };
   out_count = ap length are ∙ length-map start.outs anew ∙ count;
   said = subst (λ (all : List OutPart). AllSaid start.outs all []) (sym are)
@@ -109,11 +109,11 @@ drained start core hand now w raw settled = record {
       ];
 }
 
-named_ends : (most : ℕ) (state : InState) (journal : List Entry) (text : List ℕ) (rest : List Cut) → (state ≢ states.Reading) → IsNamed most state journal text rest → Gathered most journal 0 text
-named_ends most states.Reading journal text rest ne h = absurd (ne refl)
-named_ends most states.Ended journal text rest ne h = h
-named_ends most states.Faulted journal text rest ne h = h
-named_ends most states.LimitReached journal text rest ne h = h
+named_ends : (input most : ℕ) (state : InState) (journal : List Entry) (text : List ℕ) (rest : List Cut) → (state ≢ states.Reading) → IsNamed input most state journal text rest → Gathered most journal input text
+named_ends input most states.Reading journal text rest ne h = absurd (ne refl)
+named_ends input most states.Ended journal text rest ne h = h
+named_ends input most states.Faulted journal text rest ne h = h
+named_ends input most states.LimitReached journal text rest ne h = h
 
 -- the change of the input
 abbrev pub input_change : Beginning → Surroundings → Change
@@ -127,13 +127,13 @@ changes_at (old ∷ olds) [] o same l = absurd (omega (arith, same))
 changes_at (old ∷ olds) (new ∷ news) zero same l = refl
 changes_at (old ∷ olds) (new ∷ news) (suc o) same l = changes_at olds news o (omega (arith, same)) (omega (arith, l))
 
-unread_by : (state : InState) (start : Beginning) (now : Surroundings) (hand : Hand) (journal : List Entry) → (state ≢ states.Reading) → HasState state start now.read_faults now.left hand journal → Told start.bytes now.left (IsNamedOfTaken start.most state journal hand) → has_ended 0 journal ≡ is_ended state → has_ended 0 journal ≡ false → IsUnread start.most (input_change start now) hand.taken journal
+unread_by : (state : InState) (start : Beginning) (now : Surroundings) (hand : Hand) (journal : List Entry) → (state ≢ states.Reading) → HasState state start now.read_faults now.left hand journal → Told start.bytes now.left (IsNamedOfTaken start.input start.most state journal hand) → has_ended start.input journal ≡ is_ended state → has_ended start.input journal ≡ false → IsUnread start.input start.most (input_change start now) hand.taken journal
 unread_by states.Reading start now hand journal ne h t e f = absurd (ne refl)
 unread_by states.Ended start now hand journal ne h t e f = absurd (let x : true ≡ false = sym e ∙ f in cc)
 unread_by states.Faulted start now hand journal ne h t e f = inl (h.1, t)
 unread_by states.LimitReached start now hand journal ne h t e f = inr h
 
-ends_by : (state : InState) (start : Beginning) (now : Surroundings) (hand : Hand) (journal : List Entry) → (state ≢ states.Reading) → HasState state start now.read_faults now.left hand journal → Told start.bytes now.left (IsNamedOfTaken start.most state journal hand) → has_ended 0 journal ≡ is_ended state → EndsSo start.most state (input_change start now) hand.taken journal
+ends_by : (state : InState) (start : Beginning) (now : Surroundings) (hand : Hand) (journal : List Entry) → (state ≢ states.Reading) → HasState state start now.read_faults now.left hand journal → Told start.bytes now.left (IsNamedOfTaken start.input start.most state journal hand) → has_ended start.input journal ≡ is_ended state → EndsSo start.input start.most state (input_change start now) hand.taken journal
 ends_by states.Reading start now hand journal ne h t e = absurd (ne refl)
 ends_by states.Ended start now hand journal ne h t e = (h, e)
 ends_by states.Faulted start now hand journal ne h t e = (h.0, e, (h.1, t))
@@ -161,7 +161,7 @@ module _ (most tries : ℕ) (sizes : List (ℕ × ℕ)) (start : ℤ) (moment : 
     (core : CoreState) (hand : Hand) (now : Surroundings) where
   -- what the run began with
   abbrev pub beginning : Beginning
-  beginning = record { setup = run_setup sizes start; most = most; bytes = text; read_faults = read_faults; outs = outs; noted = noted; note_faults = note_faults; moments = input_moments }
+  beginning = record { setup = run_setup sizes start; input = 0; most = most; bytes = text; read_faults = read_faults; outs = outs; noted = noted; note_faults = note_faults; moments = input_moments }
 
   module _ (w : Progress beginning core hand (record now { counted_at = int_max moment start ∷ [] })) (gives_first : Gives run_moments 0 first start) (gives_last : Gives run_moments first last moment)
       (stopped : core.stopped ≡ true) (raw : core.raw ≡ []) (none_held : core.held ≡ None) (count : length outs ≡ length sizes) (rest : AreLeft tries core now.outs) (read : now.state ≢ states.Reading) where
@@ -180,7 +180,7 @@ module _ (most tries : ℕ) (sizes : List (ℕ × ℕ)) (start : ℤ) (moment : 
     pub is_run : IsRun most tries (run_setup sizes start) (input_change beginning now) (out_changes outs now.outs) run_moments input_moments w.journal
     is_run = record {
       legal = subst (λ (s : Setup). IsLegal s w.journal) w.text.setup_is w.text.stands.legal;
-      gathered = told_map text now.left (λ xs ys. IsNamed most now.state w.journal xs (to_come hand ys)) (λ xs ys. Gathered most w.journal 0 xs) (λ xs ys. named_ends most now.state w.journal xs (to_come hand ys) read) w.heard.named;
+      gathered = told_map text now.left (λ xs ys. IsNamed 0 most now.state w.journal xs (to_come hand ys)) (λ xs ys. Gathered most w.journal 0 xs) (λ xs ys. named_ends 0 most now.state w.journal xs (to_come hand ys) read) w.heard.named;
       sent_to = sent_to;
       worked = w.worked;
       stopped = sym w.text.stands.stopped ∙ stopped;
@@ -213,29 +213,29 @@ module _ (most tries : ℕ) (sizes : List (ℕ × ℕ)) (start : ℤ) (moment : 
         }
 
 -- the clock's moments by another term
-reads_at : (most : ℕ) (old new : PipeRun) (state : InState) (left new_left : Option (List ℕ)) (read_faults new_read_faults : ℕ) (moments first : Option Moments) (place new_place : ℕ) → moments ≡ first →
-    ReadsOn most old new state left new_left read_faults new_read_faults moments place new_place → ReadsOn most old new state left new_left read_faults new_read_faults first place new_place
-reads_at most old new state left new_left read_faults new_read_faults moments first place new_place same h = subst (λ (m : Option Moments). ReadsOn most old new state left new_left read_faults new_read_faults m place new_place) same h
+reads_at : (input most : ℕ) (old new : PipeRun) (state : InState) (left new_left : Option (List ℕ)) (read_faults new_read_faults : ℕ) (moments first : Option Moments) (place new_place : ℕ) → moments ≡ first →
+    ReadsOn input most old new state left new_left read_faults new_read_faults moments place new_place → ReadsOn input most old new state left new_left read_faults new_read_faults first place new_place
+reads_at input most old new state left new_left read_faults new_read_faults moments first place new_place same h = subst (λ (m : Option Moments). ReadsOn input most old new state left new_left read_faults new_read_faults m place new_place) same h
 
 -- one round more: a group was gathered, the items were routed, batches were sent, and the entries spelled
-pub runs_more : (most : ℕ) (first old gathered routed sent new : PipeRun) (state : InState) (left0 left new_left : Option (List ℕ)) (read_faults0 read_faults new_read_faults : ℕ) (moments0 moments : Option Moments) (place0 place new_place : ℕ)
-    (outs0 outs fresh new_outs : List OutPart) (part0 part new_part : JournalPart) → RunsOn most first old states.Reading left0 left read_faults0 read_faults moments0 place0 place outs0 outs part0 part → moments ≡ moments0 → AreSettled old.core outs →
-    ReadsOn most old gathered state left new_left read_faults new_read_faults moments place new_place → fresh ≡ map anew outs → GoesOn gathered routed → SendsOn routed sent fresh new_outs → NotesRun sent new part new_part
-    → RunsOn most first new state left0 new_left read_faults0 new_read_faults moments0 place0 new_place outs0 new_outs part0 new_part
-runs_more most first old gathered routed sent new state left0 left new_left read_faults0 read_faults new_read_faults moments0 moments place0 place new_place outs0 outs fresh new_outs part0 part new_part runs same settled reads_on anews routes sends notes = λ start now w.
-    let s : Beginning = record start { most = most; moments = moments0 } in
+pub runs_more : (input most : ℕ) (first old gathered routed sent new : PipeRun) (state : InState) (left0 left new_left : Option (List ℕ)) (read_faults0 read_faults new_read_faults : ℕ) (moments0 moments : Option Moments) (place0 place new_place : ℕ)
+    (outs0 outs fresh new_outs : List OutPart) (part0 part new_part : JournalPart) → RunsOn input most first old states.Reading left0 left read_faults0 read_faults moments0 place0 place outs0 outs part0 part → moments ≡ moments0 → AreSettled old.core outs →
+    ReadsOn input most old gathered state left new_left read_faults new_read_faults moments place new_place → fresh ≡ map anew outs → GoesOn gathered routed → SendsOn routed sent fresh new_outs → NotesRun sent new part new_part
+    → RunsOn input most first new state left0 new_left read_faults0 new_read_faults moments0 place0 new_place outs0 new_outs part0 new_part
+runs_more input most first old gathered routed sent new state left0 left new_left read_faults0 read_faults new_read_faults moments0 moments place0 place new_place outs0 outs fresh new_outs part0 part new_part runs same settled reads_on anews routes sends notes = λ start now w.
+    let s : Beginning = record start { input = input; most = most; moments = moments0 } in
     let after : Surroundings = record now { state = state; left = new_left; read_faults = new_read_faults; place = new_place } in
     let a = runs start now w in
-    let b = reads_at most old gathered state left new_left read_faults new_read_faults moments moments0 place new_place same reads_on start (record now { outs = outs; journal = part }) settled a in
+    let b = reads_at input most old gathered state left new_left read_faults new_read_faults moments moments0 place new_place same reads_on start (record now { outs = outs; journal = part }) settled a in
     let c = went_anew s gathered.core gathered.pieces (record after { journal = part }) outs fresh anews b in
     let d = routes s (record after { outs = fresh; journal = part }) (subst AreAnew (sym anews) (are_anew outs)) c in
     let e = sends s (record after { journal = part }) d in
     notes s (record after { outs = new_outs }) e
 
 -- the input is still read after items were routed, batches sent and entries spelled
-pub still_reading : (gathered routed sent new : CoreState) → IsReading gathered → IsRoutable gathered routed → IsSentOn routed sent → new ≡ after_cut sent → IsReading new
-still_reading gathered routed sent new r k s is = record {
-  reading = ap (λ (c : CoreState). slice_get c.ended 0) is ∙ ap (λ (bs : List Bool). slice_get bs 0) (s.ended ∙ k.ended) ∙ r.reading;
+pub still_reading : (input : ℕ) (gathered routed sent new : CoreState) → IsReading input gathered → IsRoutable gathered routed → IsSentOn routed sent → new ≡ after_cut sent → IsReading input new
+still_reading input gathered routed sent new r k s is = record {
+  reading = ap (λ (c : CoreState). slice_get c.ended input) is ∙ ap (λ (bs : List Bool). slice_get bs input) (s.ended ∙ k.ended) ∙ r.reading;
   going = ap (λ (c : CoreState). c.stopped) is ∙ s.stopped ∙ k.stopped ∙ r.going;
 }
 

@@ -21,6 +21,8 @@ use Rattle.pipeline_core.specs.Legal.{has_ended}
 use Rattle.pipeline_core.specs.Stands.{Continues}
 use Rattle.pipeline_core.specs.Steps.{after_gather, gather_entry}
 use Rattle.pipeline_core.proofs.JournalPush.{has_ended-push}
+use Rattle.pipeline_core.proofs.StandsSteps.{same_number}
+use Rattle.std.specs.Prelude.{◌||◌}
 use Rattle.agent_workers.specs.declared.input.Group.{Group}
 use Rattle.agent_workers.specs.declared.input.InState.{InState}
 use Rattle.agent_workers.specs.declared.input.InState.TheVariants as states
@@ -42,22 +44,22 @@ use Rattle.agent_workers.proofs.ProgressLemmas.{text-push, all_said_push, clocke
 use Rattle.pipeline_core.proofs.WorkedLemmas.{worked-push}
 
 -- while the input is read on the Gathers name full groups; else the last one needn't be full
-abbrev pub IsNamedTo : ℕ → InState → List Entry → List ℕ → List Cut → Type 0
-IsNamedTo most states.Reading journal text rest = Gathering most journal 0 text rest
-IsNamedTo most states.Ended journal text rest = GatheredTo most journal 0 text rest
-IsNamedTo most states.Faulted journal text rest = GatheredTo most journal 0 text rest
-IsNamedTo most states.LimitReached journal text rest = GatheredTo most journal 0 text rest
+abbrev pub IsNamedTo : ℕ → ℕ → InState → List Entry → List ℕ → List Cut → Type 0
+IsNamedTo input most states.Reading journal text rest = Gathering most journal input text rest
+IsNamedTo input most states.Ended journal text rest = GatheredTo most journal input text rest
+IsNamedTo input most states.Faulted journal text rest = GatheredTo most journal input text rest
+IsNamedTo input most states.LimitReached journal text rest = GatheredTo most journal input text rest
 
 -- a group was read and offered, and the input's end isn't noted yet
 pub record HeardTo (start : Beginning) (now : Surroundings) (hand : Hand) (journal : List Entry) : Type 0 where
-  pub named : Told start.bytes now.left (λ xs ys. IsNamedTo start.most now.state journal xs (to_come hand ys))
-  pub of_taken : Told start.bytes now.left (IsNamedOfTaken start.most now.state journal hand)
+  pub named : Told start.bytes now.left (λ xs ys. IsNamedTo start.input start.most now.state journal xs (to_come hand ys))
+  pub of_taken : Told start.bytes now.left (IsNamedOfTaken start.input start.most now.state journal hand)
   pub all : now.state ≡ states.Ended → Told start.bytes now.left (λ xs ys. to_come hand ys ≡ [])
   pub counted : Told start.bytes now.left (λ xs ys. length xs ≡ hand.taken + length ys)
-  pub unended : has_ended 0 journal ≡ false
+  pub unended : has_ended start.input journal ≡ false
   pub later : start.read_faults ≤ now.read_faults
   pub state : HasState now.state start now.read_faults now.left hand journal
-  pub clocked : IfSome start.moments (λ moments. IsClocked moments now.place (gather_moments 0 journal))
+  pub clocked : IfSome start.moments (λ moments. IsClocked moments now.place (gather_moments start.input journal))
 
 pub record ProgressTo (start : Beginning) (core : CoreState) (hand : Hand) (now : Surroundings) : Type 0 where
   pub journal : List Entry
@@ -100,7 +102,7 @@ module _ (start : Beginning) (core : CoreState) (before after : Hand) (now : Sur
     (gives : Gives start.moments now.place new_place moment) (read_faults : now.read_faults ≤ new_read_faults)
     (counted : Told now.left new_left (λ xs ys. before.taken + length xs ≡ after.taken + length ys))
     (limit : state ≡ states.LimitReached → after.taken ≡ 2 ^ 40) (below : (state ≡ states.LimitReached → ⊥) → after.taken < 2 ^ 40) (faulted : state ≡ states.Faulted → Rose now.read_faults new_read_faults) (one : state ≡ states.Faulted → length (to_come after []) ≤ 1) (line : state ≡ states.Faulted → length (to_come after (10 ∷ [])) ≤ 1) where
-  here : Told start.bytes now.left (λ xs ys. Gathering start.most w.journal 0 xs (to_come before ys))
+  here : Told start.bytes now.left (λ xs ys. Gathering start.most w.journal start.input xs (to_come before ys))
   here = w.heard.named
 
   counted_all : Told start.bytes new_left (λ xs ys. length xs ≡ after.taken + length ys)
@@ -110,26 +112,26 @@ module _ (start : Beginning) (core : CoreState) (before after : Hand) (now : Sur
 
   all_read : state ≡ states.Ended → Told start.bytes new_left (λ xs ys. to_come after ys ≡ [])
   all_read e =
-      told_then start.bytes now.left new_left (λ xs ys. Gathering start.most w.journal 0 xs (to_come before ys)) (λ ys zs. to_come after zs ≡ []) (λ xs zs. to_come after zs ≡ [])
+      told_then start.bytes now.left new_left (λ xs ys. Gathering start.most w.journal start.input xs (to_come before ys)) (λ ys zs. to_come after zs ≡ []) (λ xs zs. to_come after zs ≡ [])
       here (g.all e) (λ xs ys zs a b. b)
 
-  named_none : length g.reads.read ≡ 0 → Told start.bytes new_left (λ xs ys. GatheredTo start.most w.journal 0 xs (to_come after ys))
+  named_none : length g.reads.read ≡ 0 → Told start.bytes new_left (λ xs ys. GatheredTo start.most w.journal start.input xs (to_come after ys))
   named_none none =
-      told_then start.bytes now.left new_left (λ xs ys. Gathering start.most w.journal 0 xs (to_come before ys)) (λ ys zs. to_come before ys ≡ g.reads.read ++ to_come after zs) (λ xs zs. GatheredTo start.most w.journal 0 xs (to_come after zs))
+      told_then start.bytes now.left new_left (λ xs ys. Gathering start.most w.journal start.input xs (to_come before ys)) (λ ys zs. to_come before ys ≡ g.reads.read ++ to_come after zs) (λ xs zs. GatheredTo start.most w.journal start.input xs (to_come after zs))
       here g.reads.consecutive
-      (λ xs ys zs a b. gathered_to_here start.most 0 w.journal xs (to_come after zs) one_piece (subst (Gathering start.most w.journal 0 xs) (b ∙ ap (λ (cs : List Cut). cs ++ to_come after zs) (none_of g.reads.read none)) a))
+      (λ xs ys zs a b. gathered_to_here start.most start.input w.journal xs (to_come after zs) one_piece (subst (Gathering start.most w.journal start.input xs) (b ∙ ap (λ (cs : List Cut). cs ++ to_come after zs) (none_of g.reads.read none)) a))
 
-  named_by_state : (state : InState) → (state ≡ states.Reading → ⊥) → (journal : List Entry) → Told start.bytes new_left (λ xs ys. GatheredTo start.most journal 0 xs (to_come after ys)) → Told start.bytes new_left (λ xs ys. IsNamedTo start.most state journal xs (to_come after ys))
+  named_by_state : (state : InState) → (state ≡ states.Reading → ⊥) → (journal : List Entry) → Told start.bytes new_left (λ xs ys. GatheredTo start.most journal start.input xs (to_come after ys)) → Told start.bytes new_left (λ xs ys. IsNamedTo start.input start.most state journal xs (to_come after ys))
   named_by_state states.Reading ne journal h = absurd (ne refl)
   named_by_state states.Ended ne journal h = h
   named_by_state states.Faulted ne journal h = h
   named_by_state states.LimitReached ne journal h = h
 
-  taken_none : (s : InState) → s ≡ state → (s ≡ states.Reading → ⊥) → group.pieces ≡ 0 → Told start.bytes new_left (IsNamedOfTaken start.most s w.journal after)
+  taken_none : (s : InState) → s ≡ state → (s ≡ states.Reading → ⊥) → group.pieces ≡ 0 → Told start.bytes new_left (IsNamedOfTaken start.input start.most s w.journal after)
   taken_none states.Reading e ne none = absurd (ne refl)
-  taken_none states.Ended e ne none = told_map start.bytes new_left (λ xs ys. length xs ≡ after.taken + length ys) (IsNamedOfTaken start.most states.Ended w.journal after) (λ xs ys h. tt) counted_all
-  taken_none states.Faulted e ne none = told_taken_same start.most 0 w.journal moment group before after start.bytes now.left new_left g.reads w.heard.of_taken here (one (sym e)) (line (sym e)) w.journal refl none
-  taken_none states.LimitReached e ne none = told_map start.bytes new_left (λ xs ys. length xs ≡ after.taken + length ys) (IsNamedOfTaken start.most states.LimitReached w.journal after) (λ xs ys h. tt) counted_all
+  taken_none states.Ended e ne none = told_map start.bytes new_left (λ xs ys. length xs ≡ after.taken + length ys) (IsNamedOfTaken start.input start.most states.Ended w.journal after) (λ xs ys h. tt) counted_all
+  taken_none states.Faulted e ne none = told_taken_same start.most start.input w.journal moment group before after start.bytes now.left new_left g.reads w.heard.of_taken here (one (sym e)) (line (sym e)) w.journal refl none
+  taken_none states.LimitReached e ne none = told_map start.bytes new_left (λ xs ys. length xs ≡ after.taken + length ys) (IsNamedOfTaken start.input start.most states.LimitReached w.journal after) (λ xs ys h. tt) counted_all
 
   -- no piece was read
   pub went_none : group.pieces ≡ 0 → ProgressTo start core after (read_to now state new_left new_read_faults new_place)
@@ -146,7 +148,7 @@ module _ (start : Beginning) (core : CoreState) (before after : Hand) (now : Sur
           unended = w.heard.ended;
           later = omega (arith, w.heard.later, read_faults);
           state = has_state state start new_read_faults new_left after w.journal now.read_faults w.heard.later limit below faulted;
-          clocked = clocked_wide start.moments now.place new_place moment (gather_moments 0 w.journal) gives w.heard.clocked;
+          clocked = clocked_wide start.moments now.place new_place moment (gather_moments start.input w.journal) gives w.heard.clocked;
         };
         out_count = w.out_count;
         said = w.said;
@@ -155,38 +157,38 @@ module _ (start : Beginning) (core : CoreState) (before after : Hand) (now : Sur
         counted_at = w.counted_at;
       }
 
-  more_named : (number : Option ℕ) (reports : List Report) → gathers 0 (w.journal ++ entry_of 0 moment group number reports ∷ []) ≡ gathers 0 w.journal ++ says_of 0 moment group number reports ∷ []
+  more_named : (number : Option ℕ) (reports : List Report) → gathers start.input (w.journal ++ entry_of start.input moment group number reports ∷ []) ≡ gathers start.input w.journal ++ says_of start.input moment group number reports ∷ []
   more_named number reports =
-      gathers-push 0 w.journal (entry_of 0 moment group number reports) ∙ ap (λ (more : List GatherSays). gathers 0 w.journal ++ more) (gathers_own 0 moment group number reports)
+      gathers-push start.input w.journal (entry_of start.input moment group number reports) ∙ ap (λ (more : List GatherSays). gathers start.input w.journal ++ more) (gathers_own start.input moment group number reports)
 
-  named_more : (number : Option ℕ) (reports : List Report) (s : InState) → s ≡ state → 0 < length g.reads.read → Told start.bytes new_left (λ xs ys. IsNamedTo start.most s (w.journal ++ entry_of 0 moment group number reports ∷ []) xs (to_come after ys))
+  named_more : (number : Option ℕ) (reports : List Report) (s : InState) → s ≡ state → 0 < length g.reads.read → Told start.bytes new_left (λ xs ys. IsNamedTo start.input start.most s (w.journal ++ entry_of start.input moment group number reports ∷ []) xs (to_come after ys))
   named_more number reports states.Reading e some =
-      told_gathering start.most 0 w.journal (w.journal ++ entry_of 0 moment group number reports ∷ []) moment group number reports before after start.bytes now.left new_left g.reads (more_named number reports) here (g.full (sym e))
+      told_gathering start.most start.input w.journal (w.journal ++ entry_of start.input moment group number reports ∷ []) moment group number reports before after start.bytes now.left new_left g.reads (more_named number reports) here (g.full (sym e))
   named_more number reports states.Ended e some =
-      told_gathered_to start.most 0 w.journal (w.journal ++ entry_of 0 moment group number reports ∷ []) moment group number reports before after start.bytes now.left new_left g.reads (more_named number reports) here (omega arith) g.most
+      told_gathered_to start.most start.input w.journal (w.journal ++ entry_of start.input moment group number reports ∷ []) moment group number reports before after start.bytes now.left new_left g.reads (more_named number reports) here (omega arith) g.most
   named_more number reports states.Faulted e some =
-      told_gathered_to start.most 0 w.journal (w.journal ++ entry_of 0 moment group number reports ∷ []) moment group number reports before after start.bytes now.left new_left g.reads (more_named number reports) here (omega arith) g.most
+      told_gathered_to start.most start.input w.journal (w.journal ++ entry_of start.input moment group number reports ∷ []) moment group number reports before after start.bytes now.left new_left g.reads (more_named number reports) here (omega arith) g.most
   named_more number reports states.LimitReached e some =
-      told_gathered_to start.most 0 w.journal (w.journal ++ entry_of 0 moment group number reports ∷ []) moment group number reports before after start.bytes now.left new_left g.reads (more_named number reports) here (omega arith) g.most
+      told_gathered_to start.most start.input w.journal (w.journal ++ entry_of start.input moment group number reports ∷ []) moment group number reports before after start.bytes now.left new_left g.reads (more_named number reports) here (omega arith) g.most
 
-  taken_more : (number : Option ℕ) (reports : List Report) (s : InState) → s ≡ state → Told start.bytes new_left (IsNamedOfTaken start.most s (w.journal ++ entry_of 0 moment group number reports ∷ []) after)
+  taken_more : (number : Option ℕ) (reports : List Report) (s : InState) → s ≡ state → Told start.bytes new_left (IsNamedOfTaken start.input start.most s (w.journal ++ entry_of start.input moment group number reports ∷ []) after)
   taken_more number reports states.Reading e =
-      told_names_more start.most 0 w.journal moment group before after start.bytes now.left new_left g.reads w.heard.of_taken number reports (w.journal ++ entry_of 0 moment group number reports ∷ []) (more_named number reports) (g.full (sym e))
+      told_names_more start.most start.input w.journal moment group before after start.bytes now.left new_left g.reads w.heard.of_taken number reports (w.journal ++ entry_of start.input moment group number reports ∷ []) (more_named number reports) (g.full (sym e))
   taken_more number reports states.Ended e =
-      told_map start.bytes new_left (λ xs ys. length xs ≡ after.taken + length ys) (IsNamedOfTaken start.most states.Ended (w.journal ++ entry_of 0 moment group number reports ∷ []) after) (λ xs ys h. tt) counted_all
+      told_map start.bytes new_left (λ xs ys. length xs ≡ after.taken + length ys) (IsNamedOfTaken start.input start.most states.Ended (w.journal ++ entry_of start.input moment group number reports ∷ []) after) (λ xs ys h. tt) counted_all
   taken_more number reports states.Faulted e =
-      told_taken_more start.most 0 w.journal moment group before after start.bytes now.left new_left g.reads w.heard.of_taken here (one (sym e)) (line (sym e)) number reports (w.journal ++ entry_of 0 moment group number reports ∷ []) (more_named number reports)
+      told_taken_more start.most start.input w.journal moment group before after start.bytes now.left new_left g.reads w.heard.of_taken here (one (sym e)) (line (sym e)) number reports (w.journal ++ entry_of start.input moment group number reports ∷ []) (more_named number reports)
   taken_more number reports states.LimitReached e =
-      told_map start.bytes new_left (λ xs ys. length xs ≡ after.taken + length ys) (IsNamedOfTaken start.most states.LimitReached (w.journal ++ entry_of 0 moment group number reports ∷ []) after) (λ xs ys h. tt) counted_all
+      told_map start.bytes new_left (λ xs ys. length xs ≡ after.taken + length ys) (IsNamedOfTaken start.input start.most states.LimitReached (w.journal ++ entry_of start.input moment group number reports ∷ []) after) (λ xs ys h. tt) counted_all
 
   -- the group was gathered
-  pub went_gathered : (next : CoreState) → 0 < group.pieces → next ≡ after_gather core (gathered_of moment group) → Continues core next (gather_entry core (gathered_of moment group)) → IsDrained start.setup w.journal
+  pub went_gathered : (next : CoreState) → 0 < group.pieces → next ≡ after_gather core (gathered_of start.input moment group) → Continues core next (gather_entry core (gathered_of start.input moment group)) → IsDrained start.setup w.journal
       → ProgressTo start next after (read_to now state new_left new_read_faults new_place)
   went_gathered next some is more drained =
-      let shape : IsGatherEntry (gathered_of moment group) (gather_entry core (gathered_of moment group)) = entries-have-shape.gathers core (gathered_of moment group) in
+      let shape : IsGatherEntry (gathered_of start.input moment group) (gather_entry core (gathered_of start.input moment group)) = entries-have-shape.gathers core (gathered_of start.input moment group) in
       let number : Option ℕ = shape.0 in
       let reports : List Report = shape.1 in
-      let e : Entry = entry_of 0 moment group number reports in
+      let e : Entry = entry_of start.input moment group number reports in
       record {
         journal = w.journal ++ e ∷ [];
         text = text-push start core next now.journal w.journal e w.text (subst (Continues core next) shape.2 more) (ap (λ (s : CoreState). s.stored) is ∙ ap (λ (x : Entry). core.stored ++ x ∷ []) shape.2) (ap (λ (s : CoreState). s.setup) is);
@@ -195,12 +197,12 @@ module _ (start : Beginning) (core : CoreState) (before after : Hand) (now : Sur
           of_taken = taken_more number reports state refl;
           all = all_read;
           counted = counted_all;
-          unended = has_ended-other 0 w.journal e refl ∙ w.heard.ended;
+          unended = has_ended-other start.input w.journal e refl ∙ w.heard.ended;
           later = omega (arith, w.heard.later, read_faults);
           state = has_state state start new_read_faults new_left after (w.journal ++ e ∷ []) now.read_faults w.heard.later limit below faulted;
-          clocked = clocked_same start.moments new_place (gather_moments 0 w.journal ++ moment ∷ []) (gather_moments 0 (w.journal ++ e ∷ []))
-              (gather_moments-push 0 w.journal e ∙ ap (λ (more : List GatherSays). gather_moments 0 w.journal ++ map (λ (says : GatherSays). says.moment) more) (gathers_own 0 moment group number reports))
-              (clocked_more start.moments now.place new_place moment (gather_moments 0 w.journal) gives w.heard.clocked);
+          clocked = clocked_same start.moments new_place (gather_moments start.input w.journal ++ moment ∷ []) (gather_moments start.input (w.journal ++ e ∷ []))
+              (gather_moments-push start.input w.journal e ∙ ap (λ (more : List GatherSays). gather_moments start.input w.journal ++ map (λ (says : GatherSays). says.moment) more) (gathers_own start.input moment group number reports))
+              (clocked_more start.moments now.place new_place moment (gather_moments start.input w.journal) gives w.heard.clocked);
         };
         out_count = w.out_count;
         said = all_said_push start.outs now.outs w.journal e (λ o. record { ends = tt; none = refl; quiet = refl }) refl w.said;
@@ -210,7 +212,7 @@ module _ (start : Beginning) (core : CoreState) (before after : Hand) (now : Sur
       }
 
   -- the group was offered
-  pub went_offered : (next : CoreState) → IsOffered true moment group core next → IsDrained start.setup w.journal → ProgressTo start next after (read_to now state new_left new_read_faults new_place)
+  pub went_offered : (next : CoreState) → IsOffered start.input true moment group core next → IsDrained start.setup w.journal → ProgressTo start next after (read_to now state new_left new_read_faults new_place)
   went_offered next (inl none) drained = subst (λ (k : CoreState). ProgressTo start k after (read_to now state new_left new_read_faults new_place)) (sym none.1) (went_none none.0)
   went_offered next (inr some) drained = went_gathered next some.0 some.1 some.2 drained
 
@@ -221,10 +223,10 @@ module _ (start : Beginning) (core : CoreState) (before after : Hand) (now : Sur
     text = w.text;
     heard = record {
       named =
-          told_then start.bytes now.left new_left (λ xs ys. Gathering start.most w.journal 0 xs (to_come before ys)) (λ ys zs. to_come before ys ≡ g.reads.read ++ to_come after zs) (λ xs zs. Gathered start.most w.journal 0 xs)
+          told_then start.bytes now.left new_left (λ xs ys. Gathering start.most w.journal start.input xs (to_come before ys)) (λ ys zs. to_come before ys ≡ g.reads.read ++ to_come after zs) (λ xs zs. Gathered start.most w.journal start.input xs)
           here g.reads.consecutive
-          (λ xs ys zs a b. gathered start.most 0 w.journal xs (to_come before ys) (gathered_to_here start.most 0 w.journal xs (to_come before ys) one_piece a) (λ e. absurd (let x : false ≡ true = sym w.heard.ended ∙ e in cc)));
-      of_taken = told_map start.bytes new_left (λ xs ys. length xs ≡ after.taken + length ys) (IsNamedOfTaken start.most states.LimitReached w.journal after) (λ xs ys h. tt) counted_all;
+          (λ xs ys zs a b. gathered start.most start.input w.journal xs (to_come before ys) (gathered_to_here start.most start.input w.journal xs (to_come before ys) one_piece a) (λ e. absurd (let x : false ≡ true = sym w.heard.ended ∙ e in cc)));
+      of_taken = told_map start.bytes new_left (λ xs ys. length xs ≡ after.taken + length ys) (IsNamedOfTaken start.input start.most states.LimitReached w.journal after) (λ xs ys h. tt) counted_all;
       counted = counted_all;
       ended = w.heard.ended;
       later = omega (arith, w.heard.later, read_faults);
@@ -233,11 +235,11 @@ module _ (start : Beginning) (core : CoreState) (before after : Hand) (now : Sur
         few = omega (arith, g.most, ap (λ (ms : List Content). length ms) g.reads.metrics, few_readings moment g.reads.read);
         many = omega (arith, many, w.text.stands.gathered);
         next =
-            told_then start.bytes now.left new_left (λ xs ys. Gathering start.most w.journal 0 xs (to_come before ys)) (λ ys zs. to_come before ys ≡ g.reads.read ++ to_come after zs) (λ xs zs. IsNextGroup start.most w.journal 0 xs (length group.metrics.items))
+            told_then start.bytes now.left new_left (λ xs ys. Gathering start.most w.journal start.input xs (to_come before ys)) (λ ys zs. to_come before ys ≡ g.reads.read ++ to_come after zs) (λ xs zs. IsNextGroup start.most w.journal start.input xs (length group.metrics.items))
             here g.reads.consecutive
             (λ xs ys zs a b. record { moment = moment; groups = a.groups; group = g.reads.read; rest = to_come after zs; consecutive = a.consecutive ∙ ap (λ (cs : List Cut). joined a.groups ++ cs) b; named = a.named; few = g.most; metrics = ap (λ (ms : List Content). length ms) g.reads.metrics });
       });
-      clocked = clocked_wide start.moments now.place new_place moment (gather_moments 0 w.journal) gives w.heard.clocked;
+      clocked = clocked_wide start.moments now.place new_place moment (gather_moments start.input w.journal) gives w.heard.clocked;
     };
     out_count = w.out_count;
     said = w.said;
@@ -246,22 +248,22 @@ module _ (start : Beginning) (core : CoreState) (before after : Hand) (now : Sur
     counted_at = w.counted_at;
   }
 
-ended_here : (journal : List Entry) → has_ended 0 (journal ++ Ended 0 ∷ []) ≡ true
-ended_here journal = has_ended-push 0 journal (Ended 0) ∙ or-true (has_ended 0 journal)
+ended_here : (input : ℕ) (journal : List Entry) → has_ended input (journal ++ Ended input ∷ []) ≡ true
+ended_here input journal = has_ended-push input journal (Ended input) ∙ ap (λ (b : Bool). has_ended input journal || b) (same_number input) ∙ or-true (has_ended input journal)
 
-named_ended : (most : ℕ) (journal : List Entry) (text left : Option (List ℕ)) (hand : Hand) → Told text left (λ xs ys. GatheredTo most journal 0 xs (to_come hand ys)) → Told text left (λ xs ys. to_come hand ys ≡ []) → Told text left (λ xs ys. Gathered most (journal ++ Ended 0 ∷ []) 0 xs)
-named_ended most journal text left hand h all =
-    told_pair text left (λ xs ys. GatheredTo most journal 0 xs (to_come hand ys)) (λ xs ys. to_come hand ys ≡ []) (λ xs ys. Gathered most (journal ++ Ended 0 ∷ []) 0 xs) h all
-    (λ xs ys p q. gathered most 0 (journal ++ Ended 0 ∷ []) xs (to_come hand ys) (gathered_to_same most 0 journal (journal ++ Ended 0 ∷ []) xs (to_come hand ys) (gathers-other 0 journal (Ended 0) refl) p) (λ e. q))
+named_ended : (input most : ℕ) (journal : List Entry) (text left : Option (List ℕ)) (hand : Hand) → Told text left (λ xs ys. GatheredTo most journal input xs (to_come hand ys)) → Told text left (λ xs ys. to_come hand ys ≡ []) → Told text left (λ xs ys. Gathered most (journal ++ Ended input ∷ []) input xs)
+named_ended input most journal text left hand h all =
+    told_pair text left (λ xs ys. GatheredTo most journal input xs (to_come hand ys)) (λ xs ys. to_come hand ys ≡ []) (λ xs ys. Gathered most (journal ++ Ended input ∷ []) input xs) h all
+    (λ xs ys p q. gathered most input (journal ++ Ended input ∷ []) xs (to_come hand ys) (gathered_to_same most input journal (journal ++ Ended input ∷ []) xs (to_come hand ys) (gathers-other input journal (Ended input) refl) p) (λ e. q))
 
-named_unended : (most : ℕ) (journal : List Entry) (text left : Option (List ℕ)) (hand : Hand) → has_ended 0 journal ≡ false → Told text left (λ xs ys. GatheredTo most journal 0 xs (to_come hand ys)) → Told text left (λ xs ys. Gathered most journal 0 xs)
-named_unended most journal text left hand none h =
-    told_map text left (λ xs ys. GatheredTo most journal 0 xs (to_come hand ys)) (λ xs ys. Gathered most journal 0 xs)
-    (λ xs ys p. gathered most 0 journal xs (to_come hand ys) p (λ e. absurd (let x : false ≡ true = sym none ∙ e in cc))) h
+named_unended : (input most : ℕ) (journal : List Entry) (text left : Option (List ℕ)) (hand : Hand) → has_ended input journal ≡ false → Told text left (λ xs ys. GatheredTo most journal input xs (to_come hand ys)) → Told text left (λ xs ys. Gathered most journal input xs)
+named_unended input most journal text left hand none h =
+    told_map text left (λ xs ys. GatheredTo most journal input xs (to_come hand ys)) (λ xs ys. Gathered most journal input xs)
+    (λ xs ys p. gathered most input journal xs (to_come hand ys) p (λ e. absurd (let x : false ≡ true = sym none ∙ e in cc))) h
 
 -- the same journal
 went_unended : (start : Beginning) (core : CoreState) (hand : Hand) (now : Surroundings) (w : ProgressTo start core hand now) → is_ended now.state ≡ false →
-    Told start.bytes now.left (λ xs ys. IsNamed start.most now.state w.journal xs (to_come hand ys)) → Progress start core hand now
+    Told start.bytes now.left (λ xs ys. IsNamed start.input start.most now.state w.journal xs (to_come hand ys)) → Progress start core hand now
 went_unended start core hand now w none named = record {
   journal = w.journal;
   text = w.text;
@@ -274,62 +276,62 @@ went_unended start core hand now w none named = record {
 }
 
 -- the end of the input was noted, where it was reached
-pub went_ended : (state : InState) (start : Beginning) (core next : CoreState) (hand : Hand) (now : Surroundings) → IsEnding state core next → ProgressTo start core hand (record now { state = state })
+pub went_ended : (state : InState) (start : Beginning) (core next : CoreState) (hand : Hand) (now : Surroundings) → IsEnding start.input state core next → ProgressTo start core hand (record now { state = state })
     → Progress start next hand (record now { state = state })
 went_ended states.Reading start core next hand now is w =
     subst (λ (s : CoreState). Progress start s hand (record now { state = states.Reading })) (sym is) (went_unended start core hand (record now { state = states.Reading }) w refl w.heard.named)
 went_ended states.Faulted start core next hand now is w =
     subst (λ (s : CoreState). Progress start s hand (record now { state = states.Faulted })) (sym is)
-    (went_unended start core hand (record now { state = states.Faulted }) w refl (named_unended start.most w.journal start.bytes now.left hand w.heard.unended w.heard.named))
+    (went_unended start core hand (record now { state = states.Faulted }) w refl (named_unended start.input start.most w.journal start.bytes now.left hand w.heard.unended w.heard.named))
 went_ended states.LimitReached start core next hand now is w =
     subst (λ (s : CoreState). Progress start s hand (record now { state = states.LimitReached })) (sym is)
-    (went_unended start core hand (record now { state = states.LimitReached }) w refl (named_unended start.most w.journal start.bytes now.left hand w.heard.unended w.heard.named))
+    (went_unended start core hand (record now { state = states.LimitReached }) w refl (named_unended start.input start.most w.journal start.bytes now.left hand w.heard.unended w.heard.named))
 went_ended states.Ended start core next hand now is w = record {
-  journal = w.journal ++ Ended 0 ∷ [];
-  text = text-push start core next now.journal w.journal (Ended 0) w.text is.1 (ap (λ (s : CoreState). s.stored) is.0) (ap (λ (s : CoreState). s.setup) is.0);
+  journal = w.journal ++ Ended start.input ∷ [];
+  text = text-push start core next now.journal w.journal (Ended start.input) w.text is.1 (ap (λ (s : CoreState). s.stored) is.0) (ap (λ (s : CoreState). s.setup) is.0);
   heard = record {
-    named = named_ended start.most w.journal start.bytes now.left hand w.heard.named (w.heard.all refl);
+    named = named_ended start.input start.most w.journal start.bytes now.left hand w.heard.named (w.heard.all refl);
     of_taken = w.heard.of_taken;
     counted = w.heard.counted;
-    ended = ended_here w.journal;
+    ended = ended_here start.input w.journal;
     later = w.heard.later;
     state = w.heard.state;
-    clocked = clocked_same start.moments now.place (gather_moments 0 w.journal) (gather_moments 0 (w.journal ++ Ended 0 ∷ [])) (gather_moments-same 0 w.journal (Ended 0) refl) w.heard.clocked;
+    clocked = clocked_same start.moments now.place (gather_moments start.input w.journal) (gather_moments start.input (w.journal ++ Ended start.input ∷ [])) (gather_moments-same start.input w.journal (Ended start.input) refl) w.heard.clocked;
   };
   out_count = w.out_count;
-  said = all_said_push start.outs now.outs w.journal (Ended 0) (λ o. record { ends = tt; none = refl; quiet = refl }) refl w.said;
-  worked = worked-push w.journal (Ended 0) tt w.worked;
-  in_order = in_order-push start.setup w.journal (Ended 0) w.in_order tt;
-  counted_at = counted_moments-same w.journal (Ended 0) refl ∙ w.counted_at;
+  said = all_said_push start.outs now.outs w.journal (Ended start.input) (λ o. record { ends = tt; none = refl; quiet = refl }) refl w.said;
+  worked = worked-push w.journal (Ended start.input) tt w.worked;
+  in_order = in_order-push start.setup w.journal (Ended start.input) w.in_order tt;
+  counted_at = counted_moments-same w.journal (Ended start.input) refl ∙ w.counted_at;
 }
 
 -- whether the group was accepted
-pub accepted_offer : (accepted : Bool) (moment : ℤ) (group : Group) (old new : CoreState) → accepted ≡ true → IsOffered accepted moment group old new → IsOffered true moment group old new
-accepted_offer accepted moment group old new e h = subst (λ (b : Bool). IsOffered b moment group old new) e h
+pub accepted_offer : (input : ℕ) (accepted : Bool) (moment : ℤ) (group : Group) (old new : CoreState) → accepted ≡ true → IsOffered input accepted moment group old new → IsOffered input true moment group old new
+accepted_offer input accepted moment group old new e h = subst (λ (b : Bool). IsOffered input b moment group old new) e h
 
-pub refused_offer : (accepted : Bool) (moment : ℤ) (group : Group) (old new : CoreState) → accepted ≡ false → IsOffered accepted moment group old new → IsOffered false moment group old new
-refused_offer accepted moment group old new e h = subst (λ (b : Bool). IsOffered b moment group old new) e h
+pub refused_offer : (input : ℕ) (accepted : Bool) (moment : ℤ) (group : Group) (old new : CoreState) → accepted ≡ false → IsOffered input accepted moment group old new → IsOffered input false moment group old new
+refused_offer input accepted moment group old new e h = subst (λ (b : Bool). IsOffered input b moment group old new) e h
 
 -- a group that was gathered, by other terms
-pub offered_some : (moment stored : ℤ) (group : Group) (metrics : List Content) (old new : CoreState) → metrics ≡ group.metrics.items → stored ≡ moment → 0 < group.pieces →
-    new ≡ after_gather old (record (gathered_of stored group) { metrics = metrics }) → Continues old new (gather_entry old (record (gathered_of stored group) { metrics = metrics })) → IsOffered true moment group old new
-offered_some moment stored group metrics old new same is some after stands = inr (
+pub offered_some : (input : ℕ) (moment stored : ℤ) (group : Group) (metrics : List Content) (old new : CoreState) → metrics ≡ group.metrics.items → stored ≡ moment → 0 < group.pieces →
+    new ≡ after_gather old (record (gathered_of input stored group) { metrics = metrics }) → Continues old new (gather_entry old (record (gathered_of input stored group) { metrics = metrics })) → IsOffered input true moment group old new
+offered_some input moment stored group metrics old new same is some after stands = inr (
   some,
-  subst (λ (m : ℤ). new ≡ after_gather old (gathered_of m group)) is (subst (λ (ms : List Content). new ≡ after_gather old (record (gathered_of stored group) { metrics = ms })) same after),
-  subst (λ (m : ℤ). Continues old new (gather_entry old (gathered_of m group))) is (subst (λ (ms : List Content). Continues old new (gather_entry old (record (gathered_of stored group) { metrics = ms }))) same stands),
+  subst (λ (m : ℤ). new ≡ after_gather old (gathered_of input m group)) is (subst (λ (ms : List Content). new ≡ after_gather old (record (gathered_of input stored group) { metrics = ms })) same after),
+  subst (λ (m : ℤ). Continues old new (gather_entry old (gathered_of input m group))) is (subst (λ (ms : List Content). Continues old new (gather_entry old (record (gathered_of input stored group) { metrics = ms }))) same stands),
 )
 
 -- where the input is read on a whole group was gathered
-pub gathered_full : (most : ℕ) (state : InState) (moment : ℤ) (group : Group) (old offered new : CoreState) (before after : Hand) (left_before left_after : Option (List ℕ)) → 1 ≤ most → state ≡ states.Reading → ReadsGroup most moment group state before after left_before left_after →
-    IsOffered true moment group old offered → IsEnding state offered new → IsGathered most old new
-gathered_full most state moment group old offered new before after left_before left_after one_piece reading g accepted ending = go accepted
+pub gathered_full : (input most : ℕ) (state : InState) (moment : ℤ) (group : Group) (old offered new : CoreState) (before after : Hand) (left_before left_after : Option (List ℕ)) → 1 ≤ most → state ≡ states.Reading → ReadsGroup most moment group state before after left_before left_after →
+    IsOffered input true moment group old offered → IsEnding input state offered new → IsGathered input most old new
+gathered_full input most state moment group old offered new before after left_before left_after one_piece reading g accepted ending = go accepted
   where
     count : group.pieces ≡ most
     count = g.reads.pieces ∙ g.full reading
 
     same : new ≡ offered
-    same = subst (λ (s : InState). IsEnding s offered new) reading ending
+    same = subst (λ (s : InState). IsEnding input s offered new) reading ending
 
-    go : IsOffered true moment group old offered → IsGathered most old new
+    go : IsOffered input true moment group old offered → IsGathered input most old new
     go (inl none) = absurd (omega (arith, count, none.0, one_piece))
     go (inr some) = record { moment = moment; group = group; count = count; is = same ∙ some.1 }

@@ -84,50 +84,50 @@ text-cut start core next part more journal h stands none same notes = record {
       (notes (journal_setup_of start.setup) start.noted start.note_faults h.written h.notes (stored_in_order start core part journal h));
 }
 
-named_same : (most : ℕ) (state : InState) (old new : List Entry) (text : List ℕ) (rest : List Cut) → gathers 0 new ≡ gathers 0 old → has_ended 0 new ≡ has_ended 0 old → IsNamed most state old text rest → IsNamed most state new text rest
-named_same most states.Reading old new text rest same ended h = gathering_same most 0 old new text rest same h
-named_same most states.Ended old new text rest same ended h = record { groups = h.groups; rest = h.rest; consecutive = h.consecutive; named = subst (AreGroups h.groups) (sym same) h.named; full = h.full; all = λ e. h.all (sym ended ∙ e) }
-named_same most states.Faulted old new text rest same ended h = record { groups = h.groups; rest = h.rest; consecutive = h.consecutive; named = subst (AreGroups h.groups) (sym same) h.named; full = h.full; all = λ e. h.all (sym ended ∙ e) }
-named_same most states.LimitReached old new text rest same ended h = record { groups = h.groups; rest = h.rest; consecutive = h.consecutive; named = subst (AreGroups h.groups) (sym same) h.named; full = h.full; all = λ e. h.all (sym ended ∙ e) }
+named_same : (input most : ℕ) (state : InState) (old new : List Entry) (text : List ℕ) (rest : List Cut) → gathers input new ≡ gathers input old → has_ended input new ≡ has_ended input old → IsNamed input most state old text rest → IsNamed input most state new text rest
+named_same input most states.Reading old new text rest same ended h = gathering_same most input old new text rest same h
+named_same input most states.Ended old new text rest same ended h = record { groups = h.groups; rest = h.rest; consecutive = h.consecutive; named = subst (AreGroups h.groups) (sym same) h.named; full = h.full; all = λ e. h.all (sym ended ∙ e) }
+named_same input most states.Faulted old new text rest same ended h = record { groups = h.groups; rest = h.rest; consecutive = h.consecutive; named = subst (AreGroups h.groups) (sym same) h.named; full = h.full; all = λ e. h.all (sym ended ∙ e) }
+named_same input most states.LimitReached old new text rest same ended h = record { groups = h.groups; rest = h.rest; consecutive = h.consecutive; named = subst (AreGroups h.groups) (sym same) h.named; full = h.full; all = λ e. h.all (sym ended ∙ e) }
 
-full_same : (most : ℕ) (old new : List Entry) (text left : Option (List ℕ)) → gathers 0 new ≡ gathers 0 old → gathered_count new ≡ gathered_count old → IsFull most old 0 text left → IsFull most new 0 text left
-full_same most old new text left same count h = record {
+full_same : (input most : ℕ) (old new : List Entry) (text left : Option (List ℕ)) → gathers input new ≡ gathers input old → gathered_count new ≡ gathered_count old → IsFull most old input text left → IsFull most new input text left
+full_same input most old new text left same count h = record {
   count = h.count;
   few = h.few;
   many = omega (arith, h.many, count);
-  next = told_map text left (λ xs ys. IsNextGroup most old 0 xs h.count) (λ xs ys. IsNextGroup most new 0 xs h.count)
+  next = told_map text left (λ xs ys. IsNextGroup most old input xs h.count) (λ xs ys. IsNextGroup most new input xs h.count)
       (λ xs ys n. record { moment = n.moment; groups = n.groups; group = n.group; rest = n.rest; consecutive = n.consecutive; named = subst (AreGroups n.groups) (sym same) n.named; few = n.few; metrics = n.metrics })
       h.next;
 }
 
-state_same : (state : InState) (start : Beginning) (read_faults : ℕ) (left : Option (List ℕ)) (hand : Hand) (old new : List Entry) → gathers 0 new ≡ gathers 0 old → gathered_count new ≡ gathered_count old → HasState state start read_faults left hand old → HasState state start read_faults left hand new
+state_same : (state : InState) (start : Beginning) (read_faults : ℕ) (left : Option (List ℕ)) (hand : Hand) (old new : List Entry) → gathers start.input new ≡ gathers start.input old → gathered_count new ≡ gathered_count old → HasState state start read_faults left hand old → HasState state start read_faults left hand new
 state_same states.Reading start read_faults left hand old new same count h = h
 state_same states.Ended start read_faults left hand old new same count h = h
 state_same states.Faulted start read_faults left hand old new same count h = h
 state_same states.LimitReached start read_faults left hand old new same count (inl h) = inl h
-state_same states.LimitReached start read_faults left hand old new same count (inr h) = inr (full_same start.most old new start.bytes left same count h)
+state_same states.LimitReached start read_faults left hand old new same count (inr h) = inr (full_same start.input start.most old new start.bytes left same count h)
 
 pub clocked_same : (all : Option Moments) (place : ℕ) (old new : List ℤ) → new ≡ old → IfSome all (λ moments. IsClocked moments place old) → IfSome all (λ moments. IsClocked moments place new)
 clocked_same None place old new same h = tt
 clocked_same (Some moments) place old new same h = subst (IsClocked moments place) (sym same) h
 
-taken_same : (most : ℕ) (state : InState) (old new : List Entry) (hand : Hand) (text left : List ℕ) → gathers 0 new ≡ gathers 0 old → IsNamedOfTaken most state old hand text left → IsNamedOfTaken most state new hand text left
-taken_same most states.Reading old new hand text left same h = names_same most 0 old new hand text left same h
-taken_same most states.Ended old new hand text left same h = tt
-taken_same most states.Faulted old new hand text left same h = record { taken = h.taken; split = h.split; groups = h.groups; named = subst (AreGroups h.groups) (sym same) h.named; all = h.all }
-taken_same most states.LimitReached old new hand text left same h = tt
+taken_same : (input most : ℕ) (state : InState) (old new : List Entry) (hand : Hand) (text left : List ℕ) → gathers input new ≡ gathers input old → IsNamedOfTaken input most state old hand text left → IsNamedOfTaken input most state new hand text left
+taken_same input most states.Reading old new hand text left same h = names_same most input old new hand text left same h
+taken_same input most states.Ended old new hand text left same h = tt
+taken_same input most states.Faulted old new hand text left same h = record { taken = h.taken; split = h.split; groups = h.groups; named = subst (AreGroups h.groups) (sym same) h.named; all = h.all }
+taken_same input most states.LimitReached old new hand text left same h = tt
 
 -- a journal with the same Gathers
-pub heard_same : (start : Beginning) (now : Surroundings) (hand : Hand) (old new : List Entry) → gathers 0 new ≡ gathers 0 old → has_ended 0 new ≡ has_ended 0 old → gathered_count new ≡ gathered_count old → gather_moments 0 new ≡ gather_moments 0 old
+pub heard_same : (start : Beginning) (now : Surroundings) (hand : Hand) (old new : List Entry) → gathers start.input new ≡ gathers start.input old → has_ended start.input new ≡ has_ended start.input old → gathered_count new ≡ gathered_count old → gather_moments start.input new ≡ gather_moments start.input old
     → Heard start now hand old → Heard start now hand new
 heard_same start now hand old new same ended count moments h = record {
-  named = told_map start.bytes now.left (λ xs ys. IsNamed start.most now.state old xs (to_come hand ys)) (λ xs ys. IsNamed start.most now.state new xs (to_come hand ys)) (λ xs ys. named_same start.most now.state old new xs (to_come hand ys) same ended) h.named;
-  of_taken = told_map start.bytes now.left (IsNamedOfTaken start.most now.state old hand) (IsNamedOfTaken start.most now.state new hand) (λ xs ys. taken_same start.most now.state old new hand xs ys same) h.of_taken;
+  named = told_map start.bytes now.left (λ xs ys. IsNamed start.input start.most now.state old xs (to_come hand ys)) (λ xs ys. IsNamed start.input start.most now.state new xs (to_come hand ys)) (λ xs ys. named_same start.input start.most now.state old new xs (to_come hand ys) same ended) h.named;
+  of_taken = told_map start.bytes now.left (IsNamedOfTaken start.input start.most now.state old hand) (IsNamedOfTaken start.input start.most now.state new hand) (λ xs ys. taken_same start.input start.most now.state old new hand xs ys same) h.of_taken;
   counted = h.counted;
   ended = ended ∙ h.ended;
   later = h.later;
   state = state_same now.state start now.read_faults now.left hand old new same count h.state;
-  clocked = clocked_same start.moments now.place (gather_moments 0 old) (gather_moments 0 new) moments h.clocked;
+  clocked = clocked_same start.moments now.place (gather_moments start.input old) (gather_moments start.input new) moments h.clocked;
 }
 
 -- what is put and what was counted is nothing of the input
@@ -136,10 +136,10 @@ heard_beside start now hand journal outs part counted_at h =
     record { named = h.named; of_taken = h.of_taken; counted = h.counted; ended = h.ended; later = h.later; state = h.state; clocked = h.clocked }
 
 -- an entry that is no Gather, and not the Ended of the input
-pub heard_push : (start : Beginning) (now : Surroundings) (hand : Hand) (journal : List Entry) (e : Entry) → gathers_by 0 e ≡ [] → is_ended_of 0 e ≡ false → gathered_by e ≡ 0 → Heard start now hand journal → Heard start now hand (journal ++ e ∷ [])
+pub heard_push : (start : Beginning) (now : Surroundings) (hand : Hand) (journal : List Entry) (e : Entry) → gathers_by start.input e ≡ [] → is_ended_of start.input e ≡ false → gathered_by e ≡ 0 → Heard start now hand journal → Heard start now hand (journal ++ e ∷ [])
 heard_push start now hand journal e none other count h =
-    heard_same start now hand journal (journal ++ e ∷ []) (gathers-other 0 journal e none) (has_ended-other 0 journal e other)
-    (let n : gathered_count (journal ++ e ∷ []) ≡ gathered_count journal = omega (arith, gathered_count-push journal e, count) in n) (gather_moments-same 0 journal e none) h
+    heard_same start now hand journal (journal ++ e ∷ []) (gathers-other start.input journal e none) (has_ended-other start.input journal e other)
+    (let n : gathered_count (journal ++ e ∷ []) ≡ gathered_count journal = omega (arith, gathered_count-push journal e, count) in n) (gather_moments-same start.input journal e none) h
 
 -- an entry that says nothing of an output
 pub record IsQuietAt (output : ℕ) (e : Entry) : Type 0 where
@@ -199,7 +199,7 @@ went_anew start core hand now outs new_outs are w = record {
 -- an entry that says nothing of the input and of the outputs
 pub went_quiet : (start : Beginning) (core next : CoreState) (hand : Hand) (now : Surroundings) (e : Entry) (w : Progress start core hand now) →
     Continues core next e → next.stored ≡ core.stored ++ e ∷ [] → next.setup ≡ core.setup →
-    gathers_by 0 e ≡ [] → is_ended_of 0 e ≡ false → gathered_by e ≡ 0 → ((output : ℕ) → IsQuietAt output e) → is_stop e ≡ false → WorkedBy (items w.journal) e → IsOrderly start.setup w.journal e → counted_by e ≡ [] → Progress start next hand now
+    gathers_by start.input e ≡ [] → is_ended_of start.input e ≡ false → gathered_by e ≡ 0 → ((output : ℕ) → IsQuietAt output e) → is_stop e ≡ false → WorkedBy (items w.journal) e → IsOrderly start.setup w.journal e → counted_by e ≡ [] → Progress start next hand now
 went_quiet start core next hand now e w more stored same none other count quiet going worked orderly still = record {
   journal = w.journal ++ e ∷ [];
   text = text-push start core next now.journal w.journal e w.text more stored same;

@@ -81,9 +81,9 @@ pub record ReadsGroup (limit : ℕ) (moment : ℤ) (group : Group) (state : InSt
   pub all : state ≡ states.Ended → IsAllRead left_before left_after after
 
 -- what a group says, as the core gathers it
-abbrev pub gathered_of : ℤ → Group → Gathered
-gathered_of moment group = record {
-  input = 0;
+abbrev pub gathered_of : ℕ → ℤ → Group → Gathered
+gathered_of input moment group = record {
+  input = input;
   moment = moment;
   pieces = group.pieces;
   refused = group.refused;
@@ -93,23 +93,24 @@ gathered_of moment group = record {
 }
 
 -- what offering a group leaves: nothing where it has no piece, else it was gathered; or the run is full
-abbrev pub IsOffered : Bool → ℤ → Group → CoreState → CoreState → Type 0
-IsOffered true moment group old new =
+abbrev pub IsOffered : ℕ → Bool → ℤ → Group → CoreState → CoreState → Type 0
+IsOffered input true moment group old new =
     ((group.pieces ≡ 0) × (new ≡ old))
-    ⊎ ((0 < group.pieces) × (new ≡ after_gather old (gathered_of moment group))
-    × Continues old new (gather_entry old (gathered_of moment group)))
-IsOffered false moment group old new = (new ≡ old) × (2 ^ 32 ≤ old.gathered + length group.metrics.items)
+    ⊎ ((0 < group.pieces) × (new ≡ after_gather old (gathered_of input moment group))
+    × Continues old new (gather_entry old (gathered_of input moment group)))
+IsOffered input false moment group old new =
+    (new ≡ old) × (2 ^ 32 ≤ old.gathered + length group.metrics.items)
 
 -- a group of so many pieces was gathered
-pub record IsGathered (pieces : ℕ) (old new : CoreState) : Type 0 where
+pub record IsGathered (input pieces : ℕ) (old new : CoreState) : Type 0 where
   pub moment : ℤ
   pub group : Group
   pub count : group.pieces ≡ pieces
-  pub is : new ≡ after_gather old (gathered_of moment group)
+  pub is : new ≡ after_gather old (gathered_of input moment group)
 
 -- what the end of the input leaves
-abbrev pub IsEnding : InState → CoreState → CoreState → Type 0
-IsEnding states.Reading old new = new ≡ old
-IsEnding states.Ended old new = (new ≡ after_ended old 0) × Continues old new (Ended 0)
-IsEnding states.Faulted old new = new ≡ old
-IsEnding states.LimitReached old new = new ≡ old
+abbrev pub IsEnding : ℕ → InState → CoreState → CoreState → Type 0
+IsEnding input states.Reading old new = new ≡ old
+IsEnding input states.Ended old new = (new ≡ after_ended old input) × Continues old new (Ended input)
+IsEnding input states.Faulted old new = new ≡ old
+IsEnding input states.LimitReached old new = new ≡ old

@@ -64,14 +64,14 @@ text_of setup journal = journal_text (journal_setup_of setup) journal (account_o
 
 -- a read of the input failed: its count rose, and the Gathers name all pieces of the bytes that were taken,
 -- but perhaps that of the last line
-abbrev pub IsCutShort : Change → List Entry → Type 0
-IsCutShort input journal = Rose input.faults_before input.faults_after
-    × Told input.before input.after (NamesTaken journal 0)
+abbrev pub IsCutShort : ℕ → Change → List Entry → Type 0
+IsCutShort number input journal = Rose input.faults_before input.faults_after
+    × Told input.before input.after (NamesTaken journal number)
 
 -- why the input has no Ended: a read failed, 2^40 bytes were taken, or the run is full
-abbrev pub IsUnread : ℕ → Change → ℕ → List Entry → Type 0
-IsUnread most input taken journal = IsCutShort input journal ⊎ (taken ≡ 2 ^ 40)
-    ⊎ IsFull most journal 0 input.before input.after
+abbrev pub IsUnread : ℕ → ℕ → Change → ℕ → List Entry → Type 0
+IsUnread number most input taken journal = IsCutShort number input journal ⊎ (taken ≡ 2 ^ 40)
+    ⊎ IsFull most journal number input.before input.after
 
 -- what a journal says of an output
 pub record IsSentTo (tries : ℕ) (setup : Setup) (journal : List Entry) (output : ℕ) (place : Change)
@@ -109,19 +109,19 @@ pub record IsRun (most tries : ℕ) (setup : Setup) (input : Change) (outputs : 
   -- so many bytes of the input were taken; it was read to its end, or there is a cause
   pub taken : ℕ
   pub bytes_taken : Told input.before input.after (λ xs ys. length xs ≡ taken + length ys)
-  pub unread : has_ended 0 journal ≡ false → IsUnread most input taken journal
+  pub unread : has_ended 0 journal ≡ false → IsUnread 0 most input taken journal
   -- before each Begin all items were routed; before each Gather too, and all was sent or the last put had
   -- failed
   pub in_order : InOrder setup journal
 
 -- whether the input was read to its end, or why not
-abbrev pub EndsSo : ℕ → InState → Change → ℕ → List Entry → Type 0
-EndsSo most states.Reading input taken journal = ⊥
-EndsSo most states.Ended input taken journal = (taken < 2 ^ 40) × (has_ended 0 journal ≡ true)
-EndsSo most states.Faulted input taken journal = (taken < 2 ^ 40) × (has_ended 0 journal ≡ false)
-    × IsCutShort input journal
-EndsSo most states.LimitReached input taken journal = (has_ended 0 journal ≡ false)
-    × ((taken ≡ 2 ^ 40) ⊎ IsFull most journal 0 input.before input.after)
+abbrev pub EndsSo : ℕ → ℕ → InState → Change → ℕ → List Entry → Type 0
+EndsSo number most states.Reading input taken journal = ⊥
+EndsSo number most states.Ended input taken journal = (taken < 2 ^ 40) × (has_ended number journal ≡ true)
+EndsSo number most states.Faulted input taken journal = (taken < 2 ^ 40) × (has_ended number journal ≡ false)
+    × IsCutShort number input journal
+EndsSo number most states.LimitReached input taken journal = (has_ended number journal ≡ false)
+    × ((taken ≡ 2 ^ 40) ⊎ IsFull most journal number input.before input.after)
 
 -- a text was appended; or a part of it, and the count of faults rose
 abbrev pub IsPutSo : Bool → Change → List ℕ → Type 0
@@ -142,7 +142,7 @@ pub record Ran (most tries : ℕ) (sizes : List (ℕ × ℕ)) (ending : Ending) 
   pub start : ℤ
   pub journal : List Entry
   pub run : IsRun most tries (run_setup sizes start) input outputs run_moments input_moments journal
-  pub ends : EndsSo most ending.state input run.taken journal
+  pub ends : EndsSo 0 most ending.state input run.taken journal
   pub left : IsLeft ending.left (run_setup sizes start) journal
   pub account : ending.account.items ≡ account_of (run_setup sizes start) journal
   pub noted : IsPutSo ending.journal_failed note (text_of (run_setup sizes start) journal)

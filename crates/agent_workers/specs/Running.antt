@@ -29,8 +29,8 @@ pub record IsReady (core : CoreState) : Type 0 where
   pub empty_handed : core.held ≡ None
 
 -- the input hasn't ended, and nothing is stopped
-pub record IsReading (core : CoreState) : Type 0 where
-  pub reading : slice_get core.ended 0 ≡ Some false
+pub record IsReading (input : ℕ) (core : CoreState) : Type 0 where
+  pub reading : slice_get core.ended input ≡ Some false
   pub going : core.stopped ≡ false
 
 -- a lane was offered an item at most: its batch size and its batch in flight are as before

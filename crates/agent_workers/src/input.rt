@@ -166,22 +166,23 @@ pub fn read_group<S: Source>(
 
 /// Offers a group to the core, unless it has no piece, and says whether there was room for it. While no item
 /// is raw, the core has none only where the run is full.
-fn offer(core: &mut Core, moment: Moment, group: Group) -> Result<bool, OutOfMemory>
+fn offer(core: &mut Core, input: u32, moment: Moment, group: Group) -> Result<bool, OutOfMemory>
     requires ready { IsReady core.old }
-    requires reading { IsReading core.old }
+    requires known { input < length core.old.setup.inputs }
+    requires reading { IsReading input core.old }
     requires none_raw { core.old.raw ≡ [] }
     requires stands { HasJournal core.old }
     ensures ready { OnOk result (IsReady core.new) }
-    ensures reading { OnOk result (IsReading core.new) }
+    ensures reading { OnOk result (IsReading input core.new) }
     ensures setup { OnOk result (core.new.setup ≡ core.old.setup) }
     ensures stands { StillStands result core.new }
-    ensures offered { IfOk result (λ accepted. IsOffered accepted moment group core.old core.new) }
+    ensures offered { IfOk result (λ accepted. IsOffered input accepted moment group core.old core.new) }
 {
     if group.pieces == 0 {
         return Ok(true);
     }
     let gathered = Gathered {
-        input: 0,
+        input,
         moment,
         pieces: group.pieces,
         refused: group.refused,
@@ -199,54 +200,76 @@ fn offer(core: &mut Core, moment: Moment, group: Group) -> Result<bool, OutOfMem
 }
 
 /// Notes the end of the input, where it was reached.
-fn end_input(core: &mut Core, state: InState) -> Result<(), OutOfMemory>
+fn end_input(core: &mut Core, input: u32, state: InState) -> Result<(), OutOfMemory>
     requires ready { IsReady core.old }
-    requires reading { IsReading core.old }
+    requires known { input < length core.old.setup.inputs }
+    requires reading { IsReading input core.old }
     requires stands { HasJournal core.old }
     ensures ready { OnOk result (IsReady core.new) }
-    ensures reading { OnOk result (state ≡ InState.Reading → IsReading core.new) }
+    ensures reading { OnOk result (state ≡ InState.Reading → IsReading input core.new) }
     ensures going { OnOk result (core.new.stopped ≡ false) }
     ensures setup { OnOk result (core.new.setup ≡ core.old.setup) }
     ensures stands { StillStands result core.new }
-    ensures ending { OnOk result (IsEnding state core.old core.new) }
+    ensures ending { OnOk result (IsEnding input state core.old core.new) }
 {
     if state != InState::Ended {
         return Ok(());
     }
-    core.ended(0)?;
+    core.ended(input)?;
     Ok(())
 }
 
-/// Gathers the next pieces of the input, at most so many, and says whether it is read on.
-pub fn gather<S: Source, C: Clock>(
+/// An input of a run.
+#[derive(Drop)]
+pub struct InJob<S: Drop, C: Drop> {
+    /// Its number: its place among the inputs.
+    pub input: u32,
+    /// What is read.
+    pub source: S,
+    /// What gives the moments of its gathers.
+    pub clock: C,
+    /// How many pieces one gather has at most.
+    pub gather_pieces: u32,
+}
+
+/// Gathers the next pieces of an input, and says whether it is read on.
+pub fn gather<S: Source + Drop, C: Clock + Drop>(
     run: &mut PipeRun,
-    source: &mut S,
-    clock: &mut C,
-    most: u32,
+    job: &mut InJob<S, C>,
 ) -> Result<InState, OutOfMemory>
-    requires some { 1 ≤ most }
+    requires some { 1 ≤ job.old.gather_pieces }
     requires ready { IsReady run.old.core }
-    requires reading { IsReading run.old.core }
+    requires known { job.old.input < length run.old.core.setup.inputs }
+    requires reading { IsReading job.old.input run.old.core }
     requires none_raw { run.old.core.raw ≡ [] }
     requires stands { HasJournal run.old.core }
     ensures ready { OnOk result (IsReady run.new.core) }
-    ensures reading { IfOk result (λ state. state ≡ InState.Reading → IsReading run.new.core) }
+    ensures reading { IfOk result
+        (λ state. state ≡ InState.Reading → IsReading job.old.input run.new.core) }
     ensures further { IfOk result (λ state. state ≡ InState.Reading
-        → IsGathered most run.old.core run.new.core) }
+        → IsGathered job.old.input job.old.gather_pieces run.old.core run.new.core) }
     ensures going { OnOk result (run.new.core.stopped ≡ false) }
     ensures setup { OnOk result (run.new.core.setup ≡ run.old.core.setup) }
     ensures stands { StillStands result run.new.core }
-    ensures reads { IfOk result (λ state. ReadsOn most run.old run.new state
-        (S.left source.old) (S.left source.new)
-        (S.faults source.old) (S.faults source.new)
-        (C.moments clock.old) (C.place clock.old) (C.place clock.new)) }
-    ensures list { C.moments clock.new ≡ C.moments clock.old }
+    ensures reads { IfOk result
+        (λ state. ReadsOn job.old.input job.old.gather_pieces run.old run.new state
+        (S.left job.old.source) (S.left job.new.source) (S.faults job.old.source) (S.faults job.new.source)
+        (C.moments job.old.clock) (C.place job.old.clock) (C.place job.new.clock)) }
+    ensures list { C.moments job.new.clock ≡ C.moments job.old.clock }
+    ensures number { job.new.input ≡ job.old.input }
+    ensures pieces { job.new.gather_pieces ≡ job.old.gather_pieces }
 {
-    let moment = clock.now();
-    let (group, state) = read_group(run.alloc, &mut run.pieces, source, moment, most)?;
-    if !offer(&mut run.core, moment, group)? {
+    let moment = job.clock.now();
+    let (group, state) = read_group(
+        run.alloc,
+        &mut run.pieces,
+        &mut job.source,
+        moment,
+        job.gather_pieces,
+    )?;
+    if !offer(&mut run.core, job.input, moment, group)? {
         return Ok(InState::LimitReached);
     }
-    end_input(&mut run.core, state)?;
+    end_input(&mut run.core, job.input, state)?;
     Ok(state)
 }

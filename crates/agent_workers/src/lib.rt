@@ -9,6 +9,6 @@ mod output;
 mod pipe_run;
 mod serial;
 
-pub use input::InState;
+pub use input::{InJob, InState};
 pub use output::OutJob;
 pub use serial::{Ending, RunSetup, run, run_one};

@@ -89,7 +89,7 @@ pub fn new_run(alloc: Global, outputs: &[OutSetup], start: Moment) -> Result<Pip
     requires few { length outputs.now ≤ 16 }
     requires sizes { All (λ x. (1 ≤ x.batch) × (x.batch ≤ x.limit)) outputs.now }
     ensures ready { IfOk result (λ run. IsReady run.core) }
-    ensures reading { IfOk result (λ run. IsReading run.core) }
+    ensures reading { IfOk result (λ run. IsReading 0 run.core) }
     ensures none_raw { IfOk result (λ run. run.core.raw ≡ []) }
     ensures none_buffered { IfOk result (λ run. (output : ℕ) → buffered_at run.core output ≡ 0) }
     ensures stands { IfOk result (λ run. Stands run.core []) }

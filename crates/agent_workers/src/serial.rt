@@ -13,7 +13,7 @@ ghost use Rattle.agent_workers.specs.Progress.{Beginning, Surroundings, Went, Ru
 ghost use Rattle.agent_workers.specs.Running.{IsReady, IsReading, HasJournal, StillStands, AreSettled};
 ghost use Rattle.agent_workers.specs.Running.{AreLeft, IsLeftOver};
 
-use crate::input::{InState, gather};
+use crate::input::{InJob, InState, gather};
 use crate::item::route_all;
 use crate::journal::JournalJob;
 use crate::output::{OutJob, begin_anew, send_each, send_rest};
@@ -28,8 +28,6 @@ use std::alloc::Global;
 pub struct RunSetup {
     /// The sizes of its outputs, in order.
     pub outputs: Seq<OutSetup>,
-    /// How many pieces one gather has at most.
-    pub gather_pieces: u32,
     /// How often in succession a repeat that had no batch accepted is tried at the end.
     pub final_tries: u32,
 }
@@ -49,17 +47,16 @@ pub struct Ending {
 
 /// Rounds, until the input is read no more; answers why. What a failed put left is tried again in the next
 /// round.
-fn rounds<S: Source, K: Sink + Drop, C: Clock>(
+fn rounds<S: Source + Drop, K: Sink + Drop, C: Clock + Drop>(
     run: &mut PipeRun,
-    source: &mut S,
+    input: &mut InJob<S, C>,
     outputs: &mut [OutJob<K>],
     journal: &mut JournalJob<K>,
-    clock: &mut C,
-    gather_pieces: u32,
 ) -> Result<InState, OutOfMemory>
-    requires some { 1 ≤ gather_pieces }
+    requires some { 1 ≤ input.old.gather_pieces }
+    requires known { input.old.input < length run.old.core.setup.inputs }
     requires ready { IsReady run.old.core }
-    requires reading { IsReading run.old.core }
+    requires reading { IsReading input.old.input run.old.core }
     requires none_raw { run.old.core.raw ≡ [] }
     requires outputs { AreOutputs (length run.old.core.setup.outputs) (outs_of K.held K.faults outputs.old) }
     requires settled { AreSettled run.old.core (outs_of K.held K.faults outputs.old) }
@@ -71,17 +68,17 @@ fn rounds<S: Source, K: Sink + Drop, C: Clock>(
         (AreOutputs (length run.old.core.setup.outputs) (outs_of K.held K.faults outputs.new)) }
     ensures read { IfOk result (λ state. state ≢ InState.Reading) }
     ensures stands { StillStands result run.new.core }
-    ensures runs { IfOk result (λ state. RunsOn gather_pieces run.old run.new state
-        (S.left source.old) (S.left source.new)
-        (S.faults source.old) (S.faults source.new)
-        (C.moments clock.old) (C.place clock.old) (C.place clock.new)
+    ensures runs { IfOk result (λ state. RunsOn input.old.input input.old.gather_pieces run.old run.new state
+        (S.left input.old.source) (S.left input.new.source)
+        (S.faults input.old.source) (S.faults input.new.source)
+        (C.moments input.old.clock) (C.place input.old.clock) (C.place input.new.clock)
         (outs_of K.held K.faults outputs.old) (outs_of K.held K.faults outputs.new)
         (part_of K.held K.faults journal.old) (part_of K.held K.faults journal.new)) }
-    ensures list { C.moments clock.new ≡ C.moments clock.old }
+    ensures list { C.moments input.new.clock ≡ C.moments input.old.clock }
     ensures count { length outputs.new ≡ length outputs.old }
 {
     for _round in 0..u64::MAX {
-        let state = gather(run, source, clock, gather_pieces)?;
+        let state = gather(run, input)?;
         begin_anew(outputs);
         route_all(run, outputs.len())?;
         send_each(run, outputs)?;
@@ -175,46 +172,40 @@ fn end_journal<K: Sink + Drop>(
 }
 
 /// Runs from the start: rounds, the end, and the end of the journal.
-fn run_from<S: Source, K: Sink + Drop, C: Clock>(
+fn run_from<S: Source + Drop, K: Sink + Drop, C: Clock + Drop>(
     alloc: Global,
     setup: &RunSetup,
     start: Moment,
-    source: &mut S,
+    input: &mut InJob<S, C>,
     outputs: &mut [OutJob<K>],
     journal: &mut JournalJob<K>,
     clock: &mut C,
-    input_clock: &mut C,
 ) -> Result<Ending, OutOfMemory>
     requires few { length setup.now.outputs ≤ 16 }
     requires sizes { All (λ x. (1 ≤ x.batch) × (x.batch ≤ x.limit)) setup.now.outputs }
-    requires some_pieces { 1 ≤ setup.now.gather_pieces }
+    requires number { input.old.input ≡ 0 }
+    requires some_pieces { 1 ≤ input.old.gather_pieces }
     requires some { 1 ≤ setup.now.final_tries }
     requires outputs { AreOutputs (length setup.now.outputs) (outs_of K.held K.faults outputs.old) }
     requires first { Gives (C.moments clock.old) 0 (C.place clock.old) start }
-    requires input_first { C.place input_clock.old ≡ 0 }
+    requires input_first { C.place input.old.clock ≡ 0 }
     requires about { journal.old.setup ≡ journal_setup_of (run_setup (map sizes setup.now.outputs) start) }
     requires none_kept { journal.old.kept.items ≡ [] }
     requires none_put { journal.old.entries ≡ 0 }
     requires none_failed { journal.old.failed ≡ false }
     ensures count { length outputs.new ≡ length outputs.old }
     ensures ran { IfOk result
-        (λ ending. Ran setup.now.gather_pieces setup.now.final_tries (map sizes setup.now.outputs) ending
-        (change (S.left source.old) (S.left source.new) (S.faults source.old) (S.faults source.new))
+        (λ ending. Ran input.old.gather_pieces setup.now.final_tries (map sizes setup.now.outputs) ending
+        (change (S.left input.old.source) (S.left input.new.source)
+        (S.faults input.old.source) (S.faults input.new.source))
         (out_changes (outs_of K.held K.faults outputs.old) (outs_of K.held K.faults outputs.new))
         (change (K.held journal.old.sink) (K.held journal.new.sink) (K.faults journal.old.sink)
         (K.faults journal.new.sink))
-        (C.moments clock.old) (C.moments input_clock.old)) }
+        (C.moments clock.old) (C.moments input.old.clock)) }
 {
     let mut run = new_run(alloc, setup.outputs.as_slice(), start)?;
     begin_anew(outputs);
-    let state = rounds(
-        &mut run,
-        source,
-        outputs,
-        journal,
-        input_clock,
-        setup.gather_pieces,
-    )?;
+    let state = rounds(&mut run, input, outputs, journal)?;
     let moment = clock.now();
     finish(&mut run, outputs, moment, setup.final_tries)?;
     let ending = end_journal(&mut run, outputs.len() as u32, journal, state)?;
@@ -227,28 +218,29 @@ fn run_from<S: Source, K: Sink + Drop, C: Clock>(
 /// gathers.
 ///
 /// It always returns. Nothing is promised where memory ran out.
-pub fn run<S: Source, K: Sink + Drop, C: Clock>(
+pub fn run<S: Source + Drop, K: Sink + Drop, C: Clock + Drop>(
     alloc: Global,
     setup: &RunSetup,
-    source: &mut S,
+    input: &mut InJob<S, C>,
     outputs: &mut [OutJob<K>],
     journal: K,
     clock: &mut C,
-    input_clock: &mut C,
 ) -> (K, Result<Ending, OutOfMemory>)
     requires few { length setup.now.outputs ≤ 16 }
     requires sizes { All (λ x. (1 ≤ x.batch) × (x.batch ≤ x.limit)) setup.now.outputs }
-    requires some_pieces { 1 ≤ setup.now.gather_pieces }
+    requires number { input.old.input ≡ 0 }
+    requires some_pieces { 1 ≤ input.old.gather_pieces }
     requires some { 1 ≤ setup.now.final_tries }
     requires outputs { AreOutputs (length setup.now.outputs) (outs_of K.held K.faults outputs.old) }
     requires first { C.place clock.old ≡ 0 }
-    requires input_first { C.place input_clock.old ≡ 0 }
+    requires input_first { C.place input.old.clock ≡ 0 }
     ensures ran { IfOk result.1
-        (λ ending. Ran setup.now.gather_pieces setup.now.final_tries (map sizes setup.now.outputs) ending
-        (change (S.left source.old) (S.left source.new) (S.faults source.old) (S.faults source.new))
+        (λ ending. Ran input.old.gather_pieces setup.now.final_tries (map sizes setup.now.outputs) ending
+        (change (S.left input.old.source) (S.left input.new.source)
+        (S.faults input.old.source) (S.faults input.new.source))
         (out_changes (outs_of K.held K.faults outputs.old) (outs_of K.held K.faults outputs.new))
         (change (K.held journal) (K.held result.0) (K.faults journal) (K.faults result.0))
-        (C.moments clock.old) (C.moments input_clock.old)) }
+        (C.moments clock.old) (C.moments input.old.clock)) }
     ensures count { length outputs.new ≡ length outputs.old }
 {
     let start = clock.now();
@@ -257,16 +249,7 @@ pub fn run<S: Source, K: Sink + Drop, C: Clock>(
         Err(fault) => return (journal, Err(fault)),
     };
     let mut job = JournalJob::new(alloc, about, journal);
-    let ran = run_from(
-        alloc,
-        setup,
-        start,
-        source,
-        outputs,
-        &mut job,
-        clock,
-        input_clock,
-    );
+    let ran = run_from(alloc, setup, start, input, outputs, &mut job, clock);
     (job.sink, ran)
 }
 
@@ -290,41 +273,34 @@ fn one_job<K: Drop>(alloc: Global, sink: K) -> Result<Vec<OutJob<K>>, K>
 
 /// Runs one input and one output from the start, as `run` does, and gives back the output's sink and the part
 /// to which the journal goes.
-pub fn run_one<S: Source, K: Sink + Drop, C: Clock>(
+pub fn run_one<S: Source + Drop, K: Sink + Drop, C: Clock + Drop>(
     alloc: Global,
     setup: &RunSetup,
-    source: &mut S,
+    input: &mut InJob<S, C>,
     sink: K,
     journal: K,
     clock: &mut C,
-    input_clock: &mut C,
 ) -> (K, K, Result<Ending, OutOfMemory>)
     requires one { length setup.now.outputs ≡ 1 }
     requires sizes { All (λ x. (1 ≤ x.batch) × (x.batch ≤ x.limit)) setup.now.outputs }
-    requires some_pieces { 1 ≤ setup.now.gather_pieces }
+    requires number { input.old.input ≡ 0 }
+    requires some_pieces { 1 ≤ input.old.gather_pieces }
     requires some { 1 ≤ setup.now.final_tries }
     requires first { C.place clock.old ≡ 0 }
-    requires input_first { C.place input_clock.old ≡ 0 }
+    requires input_first { C.place input.old.clock ≡ 0 }
     ensures ran { IfOk result.2
-        (λ ending. Ran setup.now.gather_pieces setup.now.final_tries (map sizes setup.now.outputs) ending
-        (change (S.left source.old) (S.left source.new) (S.faults source.old) (S.faults source.new))
+        (λ ending. Ran input.old.gather_pieces setup.now.final_tries (map sizes setup.now.outputs) ending
+        (change (S.left input.old.source) (S.left input.new.source)
+        (S.faults input.old.source) (S.faults input.new.source))
         (change (K.held sink) (K.held result.0) (K.faults sink) (K.faults result.0) ∷ [])
         (change (K.held journal) (K.held result.1) (K.faults journal) (K.faults result.1))
-        (C.moments clock.old) (C.moments input_clock.old)) }
+        (C.moments clock.old) (C.moments input.old.clock)) }
 {
     let mut outputs = match one_job(alloc, sink) {
         Ok(outputs) => outputs,
         Err(sink) => return (sink, journal, Err(OutOfMemory)),
     };
-    let (journal, ran) = run(
-        alloc,
-        setup,
-        source,
-        &mut outputs,
-        journal,
-        clock,
-        input_clock,
-    );
+    let (journal, ran) = run(alloc, setup, input, &mut outputs, journal, clock);
     let job = outputs.swap_remove(0);
     (job.sink, journal, ran)
 }

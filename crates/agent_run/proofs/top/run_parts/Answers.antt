@@ -41,7 +41,7 @@ returns-in-Ok-clause-ends g c =
     let old = c.args.world.now in
     let last = c.report_account.new.world in
     ends_as c.args.pipe.now.batch c.args.pipe.now.limit
-    (change (g.W.In.Source.left c.args.parts.source) (g.W.In.Source.left c.run_one-sink.new.source) (g.W.In.Source.faults c.args.parts.source) (g.W.In.Source.faults c.run_one-sink.new.source))
+    (change (g.W.In.Source.left c.args.parts.source) (g.W.In.Source.left c.run_one-sink.new.input.source) (g.W.In.Source.faults c.args.parts.source) (g.W.In.Source.faults c.run_one-sink.new.input.source))
     (change (g.W.Out.Sink.held c.args.parts.sink) (g.W.Out.Sink.held c.run_one-sink.result.0) (g.W.Out.Sink.faults c.args.parts.sink) (g.W.Out.Sink.faults c.run_one-sink.result.0))
     (change (g.W.Out.Sink.held c.args.parts.journal) (g.W.Out.Sink.held c.run_one-sink.result.1) (g.W.Out.Sink.faults c.args.parts.journal) (g.W.Out.Sink.faults c.run_one-sink.result.1))
     (report_change (g.W.World.rest c.give_out-2.new.self) (g.W.World.rest last))
@@ -50,7 +50,7 @@ returns-in-Ok-clause-ends g c =
     (change (g.W.Out.Sink.held c.args.parts.journal) (g.W.World.out_at last journal_place).bytes (g.W.Out.Sink.faults c.args.parts.journal) (g.W.World.out_at last journal_place).part_faults)
     (report_change (g.W.World.rest old) (g.W.World.rest last))
     (g.W.Clk.Clock.moments c.clock-clock.result) (g.W.Clk.Clock.moments c.clock-input_clock.result) (g.W.World.moments old 0) (g.W.World.moments old 3) c.report_account.result
-    (taken_in (g.W.In.Source.left c.args.parts.source) (g.W.In.Source.left c.run_one-sink.new.source) (g.W.In.Source.faults c.args.parts.source) (g.W.In.Source.faults c.run_one-sink.new.source)
+    (taken_in (g.W.In.Source.left c.args.parts.source) (g.W.In.Source.left c.run_one-sink.new.input.source) (g.W.In.Source.faults c.args.parts.source) (g.W.In.Source.faults c.run_one-sink.new.input.source)
     (g.W.World.in_at c.give_in.new.self input) (g.W.World.in_at last input) c.give_in.ensures.given.bytes c.give_in.ensures.given.faults
     (c.report_account.ensures.ins input ∙ c.give_out-2.ensures.ins input ∙ c.give_out.ensures.ins input))
     (taken_in (g.W.Out.Sink.held c.args.parts.sink) (g.W.Out.Sink.held c.run_one-sink.result.0) (g.W.Out.Sink.faults c.args.parts.sink) (g.W.Out.Sink.faults c.run_one-sink.result.0)

@@ -12,4 +12,4 @@ returns-in-Ok-clause-stands c = continues c.in-Ok.ensures.stands c.requires.stan
 pub returns-in-Ok-clause-offered : goal.returns-in-Ok-clause-offered
 returns-in-Ok-clause-offered c =
     let same : to_z w64 (of_z w64 c.args.moment) ≡ c.args.moment = to_z-of_z w64 c.args.moment c.ranges.moment in
-    offered_some c.args.moment (to_z w64 (of_z w64 c.args.moment)) c.args.group c.of.result c.args.core.now c.gather.new.self c.of.ensures same (omega (arith, c.if-group-eq0.false)) c.in-Ok.ensures.ok c.in-Ok.ensures.stands
+    offered_some c.args.input c.args.moment (to_z w64 (of_z w64 c.args.moment)) c.args.group c.of.result c.args.core.now c.gather.new.self c.of.ensures same (omega (arith, c.if-group-eq0.false)) c.in-Ok.ensures.ok c.in-Ok.ensures.stands

@@ -1,257 +1,321 @@
-"""StatsD lines as docs/formats.md has them, in plain Python: reading, and seeded lines. What is read is
-written as line protocol.
+"""StatsD lines as docs/formats.md has them, in plain Python: reading, and seeded lines.
 
-Nothing here was taken from the program: where the two differ, one of them or the document is wrong.
+Nothing here was taken from the program: where the two differ, one of them or the document is wrong. Metrics
+are those of format_influx, which writes them; numbers are read in another way than there.
 """
 
-from format_influx import BILLION, DECIMAL, MOST_TAGS, Refused, billionths, write
+import re
+from decimal import ROUND_HALF_EVEN, Context, Decimal
+from fractions import Fraction
+
+from format_influx import Refused, write
 
 __all__ = ["EXAMPLES", "Refused", "lines", "read", "write"]
 
 TYPES = {b"c": b"counter", b"g": b"gauge", b"ms": b"timing", b"h": b"timing", b"s": b"set"}
+MOST_TAGS = 64
+BILLION = 10**9
+# The least magnitude, in billionths, that is out of range.
 LIMIT = 2**64 * BILLION
+
+DECIMAL = re.compile(rb"([+-]?(?=\.?[0-9])[0-9]*(?:\.[0-9]*)?)(?:[eE]([+-]?[0-9]+))?")
+# No exponent beyond this magnitude says anything else, as a piece has fewer digits.
+FAR = 200_000
+# Enough digits for each number below 10**20, to billionths.
+NUMBERS = Context(prec=40, rounding=ROUND_HALF_EVEN)
 
 
 def read(piece, moment):
-    """The metrics of a piece, each as name, tags, fields and time. Raises Refused."""
+    """The metrics of a piece, each (name, tags, fields, time); none where it says nothing. Raises Refused."""
     try:
         piece.decode("utf-8")
     except UnicodeDecodeError as fault:
         raise Refused("NotUtf8", fault.start) from None
     if not piece.strip(b" "):
         return []
-    head, colon, behind = piece.partition(b":")
+    head, colon, rest = piece.partition(b":")
     if not colon:
         raise Refused("NoColon", len(piece))
-    body, marker, later = behind.partition(b"|#")
-    start = len(head) + 1
+    parts, mark, behind = rest.partition(b"|#")
+    begin = len(head) + 1
     name, tags = read_head(head)
-    if marker:
-        tags.update(read_later(later, start + len(body) + 2))
-    said = [read_part(place, part) for place, part in parts_of(body, b":", start)]
-    metrics = []
-    for kind, field, value in said:
-        own = {**tags, b"metric_type": kind}
-        kept = sorted((key, text) for key, text in own.items() if text)
-        if len(kept) > MOST_TAGS:
-            raise Refused("TooMany", 0)
-        metrics.append((name, kept, [(field, value)], moment))
+    if mark:
+        tags |= read_tags(behind, begin + len(parts) + 2)
+    metrics = [read_part(part, place) for place, part in split(parts, b":", begin)]
+    metrics = [(name, tags_left(tags, kind), [field], moment) for kind, field in metrics]
+    if any(len(left) > MOST_TAGS for _, left, _, _ in metrics):
+        raise Refused("TooMany", 0)
     return metrics
 
 
-def parts_of(text, separator, place):
-    """The parts between separators, each with the place where it begins."""
-    parts = []
+def split(text, separator, place):
+    """The parts of a text that begins at this place of the piece, each behind its own place."""
     for part in text.split(separator):
-        parts.append((place, part))
-        place += len(part) + len(separator)
-    return parts
+        yield place, part
+        place += len(part) + 1
 
 
 def read_head(head):
     """The name and the tags that stand before the first colon."""
-    (_, name), *others = parts_of(head, b",", 0)
+    (_, name), *parts = split(head, b",", 0)
     if not name:
         raise Refused("BadName", 0)
     tags = {}
-    for place, part in others:
+    for place, part in parts:
         key, equals, value = part.partition(b"=")
-        if not equals or not key:
+        if not key or not equals:
             raise Refused("BadTag", place)
         tags[key] = value
     return name, tags
 
 
-def read_later(text, start):
+def read_tags(text, begin):
     """The tags that stand behind `|#`."""
     tags = {}
-    for place, part in parts_of(text, b",", start):
-        if not part:
-            continue
+    for place, part in split(text, b",", begin):
         key, colon, value = part.partition(b":")
-        if not key or b"|" in part:
+        if part and (not key or b"|" in part):
             raise Refused("BadTag", place)
-        tags[key] = value if colon else b"true"
+        if part:
+            tags[key] = value if colon else b"true"
     return tags
 
 
-def read_part(place, part):
-    """The type of a part, and its field with its value."""
-    value, bar, behind = part.partition(b"|")
+def tags_left(tags, kind):
+    """The tags of a metric of this kind, in key order, but those with an empty value."""
+    tags = tags | {b"metric_type": kind}
+    return sorted((key, value) for key, value in tags.items() if value)
+
+
+def read_part(part, begin):
+    """What `metric_type` is for a part, and its field."""
+    value, bar, rest = part.partition(b"|")
     if not bar:
-        raise Refused("BadType", place + len(part))
-    name, bar, rate = behind.partition(b"|")
-    at = place + len(value) + 1
-    if name not in TYPES:
+        raise Refused("BadType", begin + len(part))
+    word, bar, rate = rest.partition(b"|")
+    at = begin + len(value) + 1
+    if word not in TYPES:
         raise Refused("BadType", at)
-    if name == b"s":
-        if not value:
-            raise Refused("BadValue", place)
-        if bar:
-            read_rate(rate, at + len(name), place)
-        return TYPES[name], b"member", ("text", value)
-    number = read_number(value, place)
-    if bar:
-        divisor = read_rate(rate, at + len(name), place)
-        if name == b"c":
-            number = quotient(number, divisor)
-            if abs(number) >= LIMIT:
-                raise Refused("NumberRange", place)
-    signed = name == b"g" and value[:1] in (b"+", b"-")
-    return TYPES[name], b"delta" if signed else b"value", ("decimal", number)
+    field = read_member(value, begin) if word == b"s" else read_number(value, word, begin)
+    divisor = read_rate(rate, at + len(word), begin) if bar else BILLION
+    return TYPES[word], divided(field, divisor, begin) if word == b"c" else field
 
 
-def read_number(text, place):
-    """The billionths of a value."""
-    found = DECIMAL.fullmatch(text)
-    if not found:
+def read_member(value, place):
+    """The field of a set."""
+    if not value:
         raise Refused("BadValue", place)
-    number = billionths(found)
+    return b"member", ("text", value)
+
+
+def read_number(value, word, place):
+    """The field of a type that has a number."""
+    number = billionths(value)
+    if number is None:
+        raise Refused("BadValue", place)
+    key = b"delta" if word == b"g" and value[:1] in (b"+", b"-") else b"value"
+    return key, ("decimal", in_range(number, place))
+
+
+def read_rate(text, bar, place):
+    """The rate, given what stands behind the `|` that has the place `bar`; `place` is that of the value."""
+    number = billionths(text[1:]) if text[:1] == b"@" else None
+    if number is None or number <= 0:
+        raise Refused("BadRate", bar)
+    return in_range(number, place)
+
+
+def divided(field, divisor, place):
+    """The field of a counter, divided by its rate."""
+    key, (kind, number) = field
+    return key, (kind, in_range(round(Fraction(number * BILLION, divisor)), place))
+
+
+def in_range(number, place):
+    """The number of billionths, where it isn't out of range."""
     if abs(number) >= LIMIT:
         raise Refused("NumberRange", place)
     return number
 
 
-def read_rate(text, bar, place):
-    """The billionths of the rate behind the `|` at a place, of a value at another."""
-    found = DECIMAL.fullmatch(text[1:]) if text[:1] == b"@" else None
-    if not found or found[1] == b"-" or billionths(found) == 0:
-        raise Refused("BadRate", bar)
-    if billionths(found) >= LIMIT:
-        raise Refused("NumberRange", place)
-    return billionths(found)
-
-
-def quotient(number, divisor):
-    """The billionths of a quotient, rounded half to even."""
-    whole, rest = divmod(abs(number) * BILLION, divisor)
-    whole += 2 * rest > divisor or (2 * rest == divisor and whole % 2)
-    return -whole if number < 0 else whole
+def billionths(word):
+    """The billionths of a decimal, rounded half to even, and None for what is no decimal. For one that is far
+    out of range this is some number out of range, with its sign."""
+    found = DECIMAL.fullmatch(word)
+    if not found:
+        return None
+    digits, exponent = (it.decode() for it in found.groups(b"0"))
+    number = Decimal("%se%d" % (digits, max(-FAR, min(Decimal(exponent), FAR))))
+    if not number:
+        return 0
+    if number.adjusted() >= 20:
+        return -LIMIT if number < 0 else LIMIT
+    return int(number.quantize(Decimal("1e-9"), context=NUMBERS).scaleb(9, context=NUMBERS))
 
 
 # Lines that touch each rule of the document, to be changed at random places.
 EXAMPLES = [
-    b"gorets:1|c|@0.1",
-    b"glork:320|ms|@0.1",
-    b"gaugor:+10|g:-10|g:10|g",
-    b"uniques:765|s:a b|s:#|s",
-    b"current.users,service=payroll,region=us-west:32|g",
-    b"users.online:1|c|@0.5|#country:china,env:p,flag",
-    b"web,dc=x,dc=y,env=,metric_type=q:7|ms:8|h|#env:p,,a:b:c,dc:",
-    b"a|#b:1|c|@1.5|#x:y",
-    b"x:18446744073709551615|c|@0.5",
-    b"x:1e30|g|@0:1|c|@1e30:9|c|@-1e30",
-    b"x:-0|g:0.0000000005|ms:1|c|@0.33333333333:3|c|@2e-9",
-    b"page.views:1:2:32|d|#env:dev|c:83c0a99c0a54",
-    b"app3.db.latency:12.345|ms",
-    "größe,straße=Käse:日本|s|#😀:é".encode(),
-    b"x,a=b=c,d=|:1|c|#e:f=g",
-    b" x : 1|c",
+    b"users.online:1|c|@0.5",
+    b"users.online:1|c",
+    b"load:-2.5|g",
+    b"load:+2.5|g|@0.1",
+    b"load:2.5|g|#host:a",
+    b"took:320|ms|@0.1",
+    b"took:320|h",
+    b"seen:765|s",
+    b"seen:a b=c,d#e@f|s|@1",
+    b"cpu,host=a,path=/srv=x:1|c:2|ms:-3|g:x|s|#env:dev,bare,url:http://a,empty:,,last:1",
+    b"m,a=1,a=2,b=,metric_type=x:1|c|#b:3,a:,metric_type:y",
+    b"m,a=1:1|c|#a:",
+    b"m:18446744073709551615.999999999|c",
+    b"m:1|c|@1e-9:1e19|c|@2:5e-10|c:0.000000003|c|@2:-0.000000001|c|@2",
+    b"m:1|c:2|c:3|c|@0.1|#",
     b"   ",
+    b"",
+    b"a|#b:1|c",
+    b"#a\\,b=c\\:1|c|#d\\:e\\",
+    "größe,straße=Käse:21.5|g|#text:日本 😀".encode(),
+    b"a:1:2|ms",
+    b"_e{5,4}:title|text",
+    b"page:1|c|@0.3333333333|#a:b|c:d",
+    b"page:1|c|T1656581400",
 ]
-PUT_IN = [b":", b"|", b"@", b"#", b",", b"=", b"+", b"-", b".", b"|#", b"|@", b"c", b"0", b" ", b"\r"]
-PUT_IN += [b"\xc3", b"\xff"]
+PUT_IN = [b":", b"|", b"@", b"#", b",", b"=", b"+", b"-", b".", b" ", b"\r", b"\0", b"\xc3", b"\xff"]
 
-PLAIN = [b"a", b"b", b"cpu", b"host", b"x.y", b"metric_type", b"0", b"-", b"\\", b" ", b'"', "é".encode()]
-NUMBERS = b"""0 1 -1 +1 12.345 .5 5. 1e3 -2.5E-3 1e-10 5e-10 15e-10 25e-10 -0 +0 1e19 1e20 -1e20 2e-9 0.5
-0.1 3 7 18446744073709551615 18446744073709551616 18446744073709551615.9999999995
--18446744073709551615.9999999994 0.33333333333 0.000000001 0.0000000004 0.4 1e99999999999999
-1e-99999999999999 0e99999999999999 . + e1 nan inf 1_0 0x1 1e --1 1,5""".split()
-NAMES = [b"c", b"c", b"g", b"g", b"ms", b"h", b"s", b"d", b"", b"C", b"m", b"ms "]
+PLAIN = [b"a", b"b", b"cpu", b"host.x", b"metric_type", b"k_1", b"0", b"17", b"-", b"+", b".", b"/", b"\t"]
+PLAIN += ["é".encode(), "日".encode(), "😀".encode(), b"\xc2\x80", b"\x7f"]
+ODD = [b" ", b"\\", b'"', b"#", b"@", b"\r", b"\0", b"\\ "]
+EDGES = b"""0 -0 +0 00 7 +7 -7 7. .7 +.7 -.7 7.e1 .7e1 . + - e e5 .e5 1e 1e+ 1e- 1e--1 1e1.5 1..2 --1 +-1
+0x1 1_0 inf -inf nan NaN Infinity 1i 1u 1f 1,5 true 1e5 1E5 1e+5 1E-5 1e18 1e19 -1e19 1e20 -1e20 2e19 -2e19
+1e-9 1e-10 5e-10 6e-10 4e-10 15e-10 25e-10 35e-10 -5e-10 -15e-10 0.5000000005 0.5000000015
+0.50000000050000000001 0.00000000049999999999999999999999999999999999999999999999 18446744073709551615
+18446744073709551616 -18446744073709551616 18446744073709551615.999999999 18446744073709551615.9999999994
+18446744073709551615.9999999995 -18446744073709551615.9999999995 18446744073709551615.99999999949999999999
+1844674407370955161.6e1 0.18446744073709551616e20 99999999999999999999 100000000000000000000
+1e99999999999999999999 -1e99999999999999999999 1e-99999999999999999999
+0e99999999999999999999 -0e99999999999999999999 0.000e999
+000000000000000000000000000000000000000000000000000000000001
+0.00000000000000000000000000000000000000000001e44 10000000000000000000000000000000000000000000e-43""".split()
+RATES = b"""1 0.1 0.5 .5 2 3 4 0.3 0.25 0.001 1e-9 2e-9 15e-10 5e-10 6e-10 4e-10 0 -0 0.0 +0.1 -0.1 -1e30 1e30
+1e19 18446744073709551615.999999999 18446744073709551616 -18446744073709551616 1e-99 1. 01""".split()
 
 
 def lines(rng, count):
     """So many seeded lines, without newlines."""
     for _ in range(count):
         chance = rng.random()
-        if chance < 0.3:
+        if chance < 0.25:
             yield changed(rng, rng.choice(EXAMPLES), rng.randint(1, 4))
         elif chance < 0.6:
             yield made(rng)
-        elif chance < 0.9:
+        elif chance < 0.9945:
             yield changed(rng, made(rng), rng.randint(1, 3))
-        elif chance < 0.9985:
-            yield b"".join(rng.choice(PUT_IN + PLAIN) for _ in range(rng.randint(1, 16)))
-        elif chance < 0.9999:
+        elif chance < 0.9997:
             yield crowded(rng)
         else:
-            yield b"x:" + b"1|c:" * ((65_536 - 5) // 4 + rng.randint(-1, 1)) + b"1|c"
+            yield long(rng)
 
 
 def changed(rng, line, changes):
-    """A line with changes at random places."""
+    """A line with changes at random places: a byte left out, doubled, swapped with the next, or put in."""
     for _ in range(changes):
         at = rng.randrange(len(line) + 1)
-        how = rng.randrange(4)
-        if how == 0:
-            line = line[:at] + line[at + 1 :]
-        elif how == 1:
-            line = line[:at] + line[at : at + 1] + line[at:]
-        elif how == 2:
-            line = line[:at] + line[at + 1 : at + 2] + line[at : at + 1] + line[at + 2 :]
-        else:
-            line = line[:at] + rng.choice(PUT_IN) + line[at:]
+        byte, next_one, behind = line[at : at + 1], line[at + 1 : at + 2], line[at + 2 :]
+        instead = rng.choice((next_one, byte + byte + next_one, next_one + byte, None))
+        if instead is None:
+            instead = rng.choice(PUT_IN) + byte + next_one
+        line = line[:at] + instead + behind
     return line
 
 
 def made(rng):
     """A line by the grammar, most times one that is read."""
-    head = [word(rng)] + [word(rng) + b"=" + value(rng) for _ in range(rng.choice((0, 0, 0, 1, 2, 4)))]
-    line = b",".join(head) + b":" + b":".join(part(rng) for _ in range(rng.choice((1, 1, 1, 2, 3, 5))))
-    if rng.random() < 0.4:
-        line += b"|#" + b",".join(later(rng) for _ in range(rng.choice((0, 1, 2, 3))))
+    head = [word(rng)]
+    head += [word(rng) + b"=" + empty_or_word(rng) for _ in range(rng.choice((0, 0, 0, 1, 2, 5)))]
+    parts = [made_part(rng) for _ in range(rng.choice((1, 1, 1, 2, 4)))]
+    line = b",".join(head) + b":" + b":".join(parts)
+    if rng.random() < 0.5:
+        line += b"|#" + b",".join(made_tag(rng) for _ in range(rng.randrange(5)))
     return line + (b"\r" if rng.random() < 0.02 else b"")
 
 
-def word(rng):
-    """A name or a key, often plain."""
-    if rng.random() < 0.6:
-        return rng.choice(PLAIN[:6])
-    inside = PLAIN + [b"|", b"@", b"#", b"|#"]
-    return b"".join(rng.choice(inside) for _ in range(rng.randint(1, 4)))
-
-
-def value(rng):
-    """The value of a tag, which may be empty."""
-    return b"" if rng.random() < 0.15 else word(rng) + (b"=" if rng.random() < 0.1 else b"")
-
-
-def later(rng):
-    """A tag behind `|#`."""
+def made_tag(rng):
+    """A tag that stands behind `|#`, or an empty part."""
     chance = rng.random()
     if chance < 0.1:
         return b""
-    if chance < 0.3:
-        return word(rng)
-    return word(rng) + b":" + value(rng) + (b":x" if rng.random() < 0.1 else b"")
+    return word(rng) if chance < 0.3 else word(rng) + b":" + empty_or_word(rng)
 
 
-def part(rng):
-    """A value with its type and perhaps a rate."""
-    name = rng.choice(NAMES[:7]) if rng.random() < 0.9 else rng.choice(NAMES)
-    said = number(rng) if name != b"s" or rng.random() < 0.3 else word(rng)
-    rate = b""
-    if rng.random() < 0.4:
-        rate = b"|@" + (number(rng) if rng.random() < 0.5 else rng.choice((b"0.1", b"0.5", b"1", b"0.25")))
-    return said + b"|" + name + rate
+def made_part(rng):
+    """A value, a type and perhaps a rate."""
+    kind = rng.choice((b"c", b"c", b"c", b"g", b"ms", b"h", b"s"))
+    if kind == b"c" and rng.random() < 0.15:
+        return near_the_limit(rng)
+    part = (empty_or_word(rng) if kind == b"s" else number(rng)) + b"|" + kind
+    if rng.random() < 0.5:
+        return part
+    return part + b"|@" + (rng.choice(RATES) if rng.random() < 0.7 else number(rng).lstrip(b"-"))
+
+
+def near_the_limit(rng):
+    """A counter that is nearly out of range, or just so, once it is divided by its rate."""
+    rate = max(rng.randrange(BILLION) >> rng.randrange(30), 1)
+    value = 2**64 * rate + rng.randint(-2, 2)
+    sign = rng.choice((b"", b"+", b"-"))
+    return b"%b%de-9|c|@%de-9" % (sign, value, rate)
+
+
+def empty_or_word(rng):
+    """A value of a tag, or a member, at times empty."""
+    return b"" if rng.random() < 0.1 else word(rng)
+
+
+def word(rng):
+    """A name, key or value of a tag, often plain."""
+    if rng.random() < 0.5:
+        return rng.choice(PLAIN[:6])
+    return b"".join(rng.choice(ODD if rng.random() < 0.2 else PLAIN) for _ in range(rng.randint(1, 4)))
 
 
 def number(rng):
-    """A number, with digits of any length, or one at an edge."""
-    if rng.random() < 0.3:
-        return rng.choice(NUMBERS)
+    """A decimal, or nearly one."""
+    chance = rng.random()
+    if chance < 0.15:
+        return rng.choice(EDGES)
+    sign = rng.choice((b"", b"", b"-", b"+"))
+    if chance < 0.4:
+        return b"%b%d" % (sign, rng.randrange(2**64) >> rng.randrange(64))
     digits = b"%d" % (rng.randrange(10**24) // 10 ** rng.randrange(24))
     at = rng.randrange(len(digits) + 1)
-    exponent = b"e%d" % rng.randint(-25, 25) if rng.random() < 0.2 else b""
-    return rng.choice((b"", b"", b"-", b"+")) + digits[:at] + b"." + digits[at:] + exponent
+    exponent = b"e%d" % rng.randint(-25, 25) if rng.random() < 0.3 else b""
+    return sign + digits[:at] + b"." + digits[at:] + exponent
 
 
 def crowded(rng):
-    """A line with about as many tags as there may be, some twice or empty, in the name and behind `|#`."""
-    count, twice, gone = rng.randint(61, 68), rng.randrange(3), rng.randrange(3)
-    keys = [b"k%d" % max(at - twice, 0) for at in range(count)]
+    """A line with about as many tags as there may be, some of them twice, empty or `metric_type`."""
+    keys = [b"k%d" % at for at in range(rng.randint(61, 67))]
+    keys += [rng.choice(keys) for _ in range(rng.randrange(3))] + [b"metric_type"] * rng.randrange(2)
     rng.shuffle(keys)
-    cut = rng.randrange(count + 1)
-    head = b",".join([b"m", *(key + b"=1" for key in keys[:cut])])
-    behind = [key + b":1" for key in keys[cut:]] + [key + b":" for key in keys[:gone]]
-    return head + b":1|c:2|g|#" + b",".join(behind)
+    tags = [(key, b"" if rng.random() < 0.03 else b"1") for key in keys]
+    front = rng.randrange(len(tags) + 1)
+    head = b",".join([b"m", *(b"=".join(tag) for tag in tags[:front])])
+    behind = b",".join(b":".join(tag) for tag in tags[front:])
+    return head + b":" + rng.choice((b"1|c", b"1|c:2|g", b"x|c", b"a|s:1|ms")) + b"|#" + behind
+
+
+def long(rng):
+    """A line about as long as a piece may be: of one member, of digits, of parts, or of tags."""
+    room = 65_536 + rng.randint(-2, 2)
+    front, filling, back = rng.choice((
+        (b"m:", b"x", b"|s"),
+        (b"m:1", b"0", b"e-60000|c"),
+        (b"m:0.", b"0", b"1e65530|g"),
+        (b"m:1|c|@0.5", b"0", b""),
+        (b"m:1e", b"0", b"1|c"),
+        (b"m", b":1|c", b"|#a"),
+        (b"m:1|c|#", b"a:1,", b""),
+        (b"m", b",a=1", b":1|c"),
+    ))
+    line = front + filling * ((room - len(front) - len(back)) // len(filling)) + back
+    return line + rng.choice((b"", b"\r"))

@@ -213,7 +213,7 @@ fn check_one(rt: &impl Abort, alloc: Global, case: &CheckCase) -> Result<(), Fai
         alloc,
         text,
         Vec::from_slice(alloc, case.reads)?,
-        case.read_size,
+        usize::max(case.read_size, 1),
     );
     let mut world = world_with(alloc, source, case.reports)?;
     let words = words_of(alloc, case.line)?;

@@ -1,0 +1,15 @@
+//! Graphite's plaintext lines: read with templates, and written as paths.
+#![tactic(auto)]
+
+mod applied;
+mod collected;
+mod fault;
+mod line;
+mod path;
+mod read;
+mod template;
+mod template_text;
+
+pub use fault::{GraphiteFault, GraphiteKind, TemplateFault};
+pub use read::read_line;
+pub use template::{Template, TemplatePart};

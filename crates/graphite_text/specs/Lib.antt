@@ -6,3 +6,5 @@ pub mod Reading
 pub mod Views
 pub mod TemplateViews
 pub mod Wanted
+pub mod Writing
+pub mod Pieces

@@ -9,7 +9,9 @@ mod path;
 mod read;
 mod template;
 mod template_text;
+mod write;
 
 pub use fault::{GraphiteFault, GraphiteKind, TemplateFault};
 pub use read::read_line;
 pub use template::{Template, TemplatePart};
+pub use write::write_metric;

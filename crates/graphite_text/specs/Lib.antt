@@ -8,3 +8,4 @@ pub mod TemplateViews
 pub mod Wanted
 pub mod Writing
 pub mod Pieces
+pub mod Grammar

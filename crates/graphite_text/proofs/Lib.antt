@@ -6,3 +6,5 @@ pub mod Paths
 pub mod Spelling
 pub mod Writtens
 pub mod TemplateTexts
+pub mod Bytes
+pub mod Back

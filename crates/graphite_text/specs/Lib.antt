@@ -9,3 +9,4 @@ pub mod Wanted
 pub mod Writing
 pub mod Pieces
 pub mod Grammar
+pub mod RoundTrip

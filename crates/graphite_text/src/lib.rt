@@ -13,7 +13,7 @@ mod template_text;
 mod write;
 
 pub use fault::{GraphiteFault, GraphiteKind, TemplateFault};
-pub use laws::{read_is_written, templates_are_spelled, written_is_read};
+pub use laws::{read_is_written, templates_are_spelled, written_is_read, written_is_read_back};
 pub use read::read_line;
 pub use template::{Template, TemplatePart};
 pub use write::write_metric;

@@ -1,5 +1,6 @@
 -- Lines and templates as they are written.
-use Rattle.std.specs.Prelude.{◌≡◌, ◌<◌, ◌||◌, ◌⊎◌, ℕ, ℤ, Bool, true, false, List, [], ◌∷◌, ◌++◌, length, map, flat_map, nat_lt}
+use Rattle.std.specs.Prelude.{◌≡◌, ◌<◌, ◌||◌, ◌⊎◌, ℕ, ℤ, Bool, true, false, List, [], ◌∷◌, ◌++◌, length, map}
+use Rattle.std.specs.Prelude.{flat_map, nat_lt}
 use Rattle.std.specs.Prelude.{codes, Option, Some, None, Ok}
 use Rattle.std.specs.List.{AllByRecursion, join_with_byte, list_any}
 use Rattle.std.specs.Str.{IsUtf8, bytes_eq}
@@ -54,7 +55,8 @@ pub record IsPathText (path : Path) : Type 0 where
 
 -- ---- lines
 
--- what is written in a line: the spaces before it, the path, the value, perhaps a time, and the spaces behind each
+-- what is written in a line: the spaces before it, the path, the value, perhaps a time, and the spaces behind
+-- each
 pub record Written : Type 0 where
   pub before : ℕ
   pub path : Path

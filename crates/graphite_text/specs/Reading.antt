@@ -1,5 +1,6 @@
 -- Reading a line: its words, its path, its value, its time; the first fault counts.
-use Rattle.std.specs.Prelude.{◌^◌, ◌==◌, ℕ, ℤ, pos, negsuc, Bool, false, List, [], ◌∷◌, length, nat_lt, Option, Some}
+use Rattle.std.specs.Prelude.{◌^◌, ◌==◌, ℕ, ℤ, pos, negsuc, Bool, false, List, [], ◌∷◌, length, nat_lt}
+use Rattle.std.specs.Prelude.{Option, Some}
 use Rattle.std.specs.Prelude.{None, Result, Ok, Err, if◌then◌else◌}
 use Rattle.std.specs.Str.{is_utf8}
 use Rattle.std.specs.Str.Lossy.{utf8_valid_len}
@@ -17,7 +18,8 @@ use Rattle.graphite_text.specs.declared.fault.ShapeFault.{ShapeFault}
 use Rattle.graphite_text.specs.declared.fault.ShapeFault.TheVariants.{Malformed}
 use Rattle.graphite_text.specs.declared.fault.GraphiteFault.{GraphiteFault}
 use Rattle.graphite_text.specs.declared.fault.GraphiteKind.{GraphiteKind}
-use Rattle.graphite_text.specs.declared.fault.GraphiteKind.TheVariants.{FieldCount, BadPath, BadValue, BadTime}
+use Rattle.graphite_text.specs.declared.fault.GraphiteKind.TheVariants.{FieldCount, BadPath, BadValue}
+use Rattle.graphite_text.specs.declared.fault.GraphiteKind.TheVariants.{BadTime}
 use Rattle.graphite_text.specs.declared.fault.GraphiteKind.TheVariants.{NumberRange, NotUtf8, TooMany}
 use Rattle.graphite_text.specs.Path.{Path, path_of}
 use Rattle.graphite_text.specs.Template.{Shape}

@@ -1,5 +1,6 @@
 -- Lines that are read back.
-use Rattle.std.specs.Prelude.{◌≡◌, ◌+◌, ◌<◌, ◌*◌, ◌⊎◌, ℕ, ℤ, pos, negsuc, neg_ℤ, false, List, [], ◌∷◌, codes, Some, Ok}
+use Rattle.std.specs.Prelude.{◌≡◌, ◌+◌, ◌<◌, ◌*◌, ◌⊎◌, ℕ, ℤ, pos, negsuc, neg_ℤ, false, List, [], ◌∷◌, codes}
+use Rattle.std.specs.Prelude.{Some, Ok}
 use Rattle.std.specs.Prelude.{if◌then◌else◌}
 use Rattle.std.specs.List.{AllByRecursion, slice_split}
 use Rattle.text_parts.specs.Split.{is_byte}

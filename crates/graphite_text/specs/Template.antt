@@ -1,5 +1,6 @@
 -- Templates, and the texts that are templates.
-use Rattle.std.specs.Prelude.{◌<◌, ◌-◌, ◌==◌, ℕ, Bool, true, false, List, [], ◌∷◌, length, take, codes, Option}
+use Rattle.std.specs.Prelude.{◌<◌, ◌-◌, ◌==◌, ℕ, Bool, true, false, List, [], ◌∷◌, length, take, codes}
+use Rattle.std.specs.Prelude.{Option}
 use Rattle.std.specs.Prelude.{Some, None, Result, Ok, Err, if◌then◌else◌}
 use Rattle.std.specs.List.{list_any, AllByRecursion}
 use Rattle.std.specs.Str.{bytes_eq}
@@ -22,7 +23,8 @@ pub record Shape : Type 0 where
 
 -- ---- its parts
 
--- a part that is no word of templates: the name of a tag, which has no `*`; where it is empty it skips a segment
+-- a part that is no word of templates: the name of a tag, which has no `*`; where it is empty it skips a
+-- segment
 abbrev pub tag_part : List ℕ → Result TemplatePart ShapeFault
 tag_part text =
     if length text == 0 then Ok parts.Skipped

@@ -1,5 +1,6 @@
 //! The metric that a template makes of a path, a value and a time.
-ghost use Rattle.std.specs.Prelude.{◌≡◌, ◌<◌, ◌++◌, List, [], ◌∷◌, length, map, flat_map, take, option_map, IfOk, ℕ, ℤ, None};
+ghost use Rattle.std.specs.Prelude.{◌≡◌, ◌<◌, ◌++◌, List, [], ◌∷◌, length, map, flat_map, take, option_map};
+ghost use Rattle.std.specs.Prelude.{IfOk, ℕ, ℤ, None};
 ghost use Rattle.std.specs.List.{find, AllByRecursion};
 ghost use Rattle.text_parts.specs.Chain.{Gives};
 ghost use Rattle.metric.specs.Draft.{Tag, Field, StandsFor, IsReady};

@@ -29,8 +29,8 @@ pub enum GraphiteKind {
 pub struct GraphiteFault {
     /// What is wrong.
     pub kind: GraphiteKind,
-    /// An index into the piece: the first byte of the value or of the time at fault, or the end of the longest
-    /// valid front for `NotUtf8`; else 0.
+    /// An index into the piece: the first byte of the value or of the time at fault, or the end of the
+    /// longest valid front for `NotUtf8`; else 0.
     pub place: usize,
 }
 

@@ -19,9 +19,9 @@ pub fn templates_are_spelled()
     ensures spelled { TemplateIsSpelled }
 {}
 
-/// Each line of a metric is read, without templates, as a metric of its path, its number and its seconds, where
-/// neither the measurement nor the field's key has an empty segment, and the seconds are those of a moment. The
-/// seconds -1 stand for the moment of the reading.
+/// Each line of a metric is read, without templates, as a metric of its path, its number and its seconds,
+/// where neither the measurement nor the field's key has an empty segment, and the seconds are those of a
+/// moment. The seconds -1 stand for the moment of the reading.
 pub fn written_is_read_back()
     ensures { WrittenIsReadBack }
 {}

@@ -120,13 +120,14 @@ fn read_text(
     }
 }
 
-/// Reads a piece without its newline as a line of Graphite's plaintext protocol: a path, a value and perhaps a
-/// time in seconds since 1970, with spaces between them, the path perhaps with tags as carbon 1.1 has them. The
-/// first template that serves the path says what its segments are; where none does, all of them are the
-/// measurement. What is collected for one thing is joined by the separator. The metric has one field. None where
-/// the piece has no word. Without a time, or with one that is -1, its time is the moment. `NotUtf8` comes before
-/// all else; then the first fault of the number of words, of the path, of the value, of the time and of the number
-/// of tags counts, with its place. `OutOfMemory`, at place 0, may come in place of any answer.
+/// Reads a piece without its newline as a line of Graphite's plaintext protocol: a path, a value and perhaps
+/// a time in seconds since 1970, with spaces between them, the path perhaps with tags as carbon 1.1 has them.
+/// The first template that serves the path says what its segments are; where none does, all of them are the
+/// measurement. What is collected for one thing is joined by the separator. The metric has one field. None
+/// where the piece has no word. Without a time, or with one that is -1, its time is the moment. `NotUtf8`
+/// comes before all else; then the first fault of the number of words, of the path, of the value, of the time
+/// and of the number of tags counts, with its place. `OutOfMemory`, at place 0, may come in place of any
+/// answer.
 pub fn read_line(
     alloc: Global,
     templates: &[Template],

@@ -30,8 +30,8 @@ pub enum TemplatePart {
     Skipped,
 }
 
-/// Says which segments of a path are the measurement, a field's key or a tag's value, for the paths that begin
-/// with the segments of its filter, or for all where it has none.
+/// Says which segments of a path are the measurement, a field's key or a tag's value, for the paths that
+/// begin with the segments of its filter, or for all where it has none.
 #[derive(Debug, Drop)]
 pub struct Template {
     filter: Option<Vec<Text>>,
@@ -84,11 +84,11 @@ impl Template {
     }
 
     /// Reads a template: `[filter ]template[ tags]`, cut at each single space. The last word is tags where it
-    /// holds `=`: `key=value` with `,` between them, each split at its first `=`, neither part empty. A filter
-    /// is segments with `.` between them, none empty, of which `*` stands for any one segment. The template is
-    /// parts with `.` between them: `measurement`, `field`, either of them with a `*` behind it at the end, a
-    /// tag's key without `*`, or nothing, as Telegraf and InfluxDB have them. `BadTemplate` exactly where the
-    /// text is no such template; `OutOfMemory` may come in place of any answer.
+    /// holds `=`: `key=value` with `,` between them, each split at its first `=`, neither part empty. A
+    /// filter is segments with `.` between them, none empty, of which `*` stands for any one segment. The
+    /// template is parts with `.` between them: `measurement`, `field`, either of them with a `*` behind it
+    /// at the end, a tag's key without `*`, or nothing, as Telegraf and InfluxDB have them. `BadTemplate`
+    /// exactly where the text is no such template; `OutOfMemory` may come in place of any answer.
     pub fn read(alloc: Global, text: &str) -> Result<Template, TemplateFault>
         ensures { ReadsTemplate result (template_of text.now) }
     {

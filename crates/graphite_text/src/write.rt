@@ -1,5 +1,6 @@
 //! Metrics as lines.
-ghost use Rattle.std.specs.Prelude.{◌≡◌, ◌++◌, ◌||◌, ◌==◌, [], ◌∷◌, ℤ, not, map, flat_map, codes, OnOk, OnErr};
+ghost use Rattle.std.specs.Prelude.{◌≡◌, ◌++◌, ◌||◌, ◌==◌, [], ◌∷◌, ℤ, not, map, flat_map, codes, OnOk};
+ghost use Rattle.std.specs.Prelude.{OnErr};
 ghost use Rattle.std.specs.Prelude.{if◌then◌else◌};
 ghost use Rattle.text_parts.specs.Adds.{Adds};
 ghost use Rattle.metric.specs.Draft.{Tag, Field};
@@ -251,11 +252,11 @@ fn append_metric(alloc: Global, out: &mut Vec<u8>, metric: &Metric) -> Result<()
 }
 
 /// Appends a line for each field that is no text, in order: `path value seconds` and a newline, as Graphite's
-/// plaintext protocol has it. The path is, with dots between them, the value of the tag `host` where there is one,
-/// the values of the other tags in the order of their keys, the measurement, and the field's key unless it is
-/// `value`. Each byte of them other than a letter, a digit, `_` or `-` is written as `_`, but a `.` of the measurement
-/// and of the key stays. A truth value is 1 or 0. The seconds are those since 1970, rounded down. After OutOfMemory
-/// `out` is as before.
+/// plaintext protocol has it. The path is, with dots between them, the value of the tag `host` where there is
+/// one, the values of the other tags in the order of their keys, the measurement, and the field's key unless
+/// it is `value`. Each byte of them other than a letter, a digit, `_` or `-` is written as `_`, but a `.` of
+/// the measurement and of the key stays. A truth value is 1 or 0. The seconds are those since 1970, rounded
+/// down. After OutOfMemory `out` is as before.
 pub fn write_metric(alloc: Global, metric: &Metric, out: &mut Vec<u8>) -> Result<(), OutOfMemory>
     ensures ok { OnOk result (out.new.items ≡ out.old.items ++ metric_text metric.now) }
     ensures err { OnErr result (out.new.items ≡ out.old.items) }

@@ -1,5 +1,6 @@
 -- The words of a text: what stands between its spaces.
-use Rattle.std.specs.Prelude.{◌≡◌, ℕ, zero, suc, ◌+◌, ◌<◌, ◌==◌, Bool, not, List, [], ◌∷◌, ◌++◌, length, filter}
+use Rattle.std.specs.Prelude.{◌≡◌, ℕ, zero, suc, ◌+◌, ◌<◌, ◌==◌, Bool, not, List, [], ◌∷◌, ◌++◌, length}
+use Rattle.std.specs.Prelude.{filter}
 use Rattle.text_parts.specs.Bytes.{space}
 use Rattle.text_parts.specs.Grammar.{HasNone}
 use Rattle.text_parts.specs.Split.{PartAt, is_byte, parts_of}

@@ -6,8 +6,8 @@ ghost use Rattle.text_parts.specs.Words.{words_of};
 use crate::split::{Placed, Separated};
 use std::marker::Model;
 
-/// The words of a text from left to right: what stands between its spaces and isn't empty. Words may have more
-/// than one space between them, and spaces may stand at both ends.
+/// The words of a text from left to right: what stands between its spaces and isn't empty. Words may have
+/// more than one space between them, and spaces may stand at both ends.
 #[derive(Debug, Drop)]
 pub struct Words<'a> {
     parts: Separated<'a>,

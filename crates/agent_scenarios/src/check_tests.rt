@@ -219,8 +219,8 @@ fn check_one(rt: &impl Abort, alloc: Global, case: &CheckCase) -> Result<(), Fai
     let words = words_of(alloc, case.line)?;
     let status = agent(alloc, words.as_slice(), &mut world);
     let told = str::from_utf8(case.report).unwrap_or("");
-    assert_eq!(rt; world.report.bytes(), case.report, "{told}");
     assert_eq!(rt; status.code(), case.code, "{told}");
+    assert_eq!(rt; world.report.bytes(), case.report, "{told}");
     assert!(rt; world.parts.has_in("c"), "{told}");
     Ok(())
 }

@@ -1,17 +1,19 @@
 //! Shows what texts of a format read as: `format_probe IN OUT` cuts standard input into pieces, reads each in
 //! the format IN at the moment 7, and writes what OUT asks for. `influx` writes the line of each metric,
-//! `KIND PLACE` for a piece that is refused, and `TooLong` for one that is too long; `count` writes nothing
-//! of them. The last line says how many pieces, refusals, passed samples and metrics there were. IN is
-//! `influx` or `statsd`. The status is 2 where the words are others, and 1 where standard input or output
-//! failed or memory was wanting.
+//! `graphite` its lines of Graphite, `KIND PLACE` for a piece that is refused, and `TooLong` for one that is
+//! too long; `count` writes nothing of them. The last line says how many pieces, refusals, passed samples and
+//! metrics there were. IN is `influx`, `statsd` or `graphite`; for `graphite` a separator and templates may
+//! follow OUT, without which the separator is `.` and there is no template. The status is 2 where the words
+//! are others or a template is none, and 1 where standard input or output failed or memory was wanting.
 #![tactic(auto)]
 
 use agent_base::{CutKind, Piece, PieceFault, Pieces, Sink, Source, StdSink, StdSource};
 use fixed_num::{Moment, OutOfMemory};
+use graphite_text::{GraphiteKind, Template, TemplateFault, write_metric};
 use line_proto::{LineKind, read_line, write_line};
 use metric::Metric;
 use statsd_text::{StatsdKind, read_packet_line};
-use std::alloc::Global;
+use std::alloc::{AllocError, AllocFailed, Global};
 use std::process::ExitCode;
 use std::{env, fmt};
 
@@ -26,6 +28,15 @@ const FULL: usize = 65_536;
 enum Format {
     Influx,
     Statsd,
+    Graphite,
+}
+
+/// What is written of the pieces.
+#[derive(Clone, Copy, Debug, PartialEq, Eq)]
+enum Shown {
+    Influx,
+    Graphite,
+    Nothing,
 }
 
 /// What was read and isn't put yet.
@@ -33,7 +44,9 @@ enum Format {
 struct Probe {
     alloc: Global,
     format: Format,
-    shows: bool,
+    shown: Shown,
+    separator: String,
+    templates: Vec<Template>,
     pieces: u64,
     refused: u64,
     metrics: u64,
@@ -61,16 +74,17 @@ impl Probe {
     /// A piece is a metric.
     fn read(&mut self, metric: &Metric) -> Result<(), OutOfMemory> {
         self.metrics = self.metrics.saturating_add(1);
-        if self.shows {
-            write_line(self.alloc, metric, &mut self.out)?;
+        match self.shown {
+            Shown::Influx => write_line(self.alloc, metric, &mut self.out),
+            Shown::Graphite => write_metric(self.alloc, metric, &mut self.out),
+            Shown::Nothing => Ok(()),
         }
-        Ok(())
     }
 
     /// A piece is refused.
     fn refuse<K: fmt::Debug + Drop>(&mut self, kind: K, place: usize) -> Result<(), OutOfMemory> {
         self.refused = self.refused.saturating_add(1);
-        if self.shows {
+        if self.shown != Shown::Nothing {
             let words = format!(in self.alloc; "{:?} {}", kind, place)?;
             self.line(words.as_str())?;
         }
@@ -81,7 +95,7 @@ impl Probe {
     fn pass_over(&mut self) -> Result<(), OutOfMemory> {
         self.pieces = self.pieces.saturating_add(1);
         self.refused = self.refused.saturating_add(1);
-        if self.shows {
+        if self.shown != Shown::Nothing {
             self.line("TooLong")?;
         }
         Ok(())
@@ -115,12 +129,27 @@ impl Probe {
         }
     }
 
+    /// Reads a piece as a line of Graphite.
+    fn graphite(&mut self, piece: &Piece) -> Result<(), OutOfMemory> {
+        let templates = self.templates.as_slice();
+        let separator = self.separator.as_str();
+        match graphite_text::read_line(self.alloc, templates, separator, piece.bytes(), MOMENT) {
+            Ok(Some(metric)) => self.read(&metric),
+            Ok(None) => Ok(()),
+            Err(fault) => match fault.kind {
+                GraphiteKind::OutOfMemory => Err(OutOfMemory),
+                kind => self.refuse(kind, fault.place),
+            },
+        }
+    }
+
     /// Reads a piece.
     fn piece(&mut self, piece: &Piece) -> Result<(), OutOfMemory> {
         self.pieces = self.pieces.saturating_add(1);
         match self.format {
             Format::Influx => self.influx(piece),
             Format::Statsd => self.statsd(piece),
+            Format::Graphite => self.graphite(piece),
         }
     }
 
@@ -171,25 +200,101 @@ fn format_of(word: &str) -> Option<Format> {
     match word {
         "influx" => Some(Format::Influx),
         "statsd" => Some(Format::Statsd),
+        "graphite" => Some(Format::Graphite),
         _ => None,
     }
 }
 
-/// Whether a word asks for what is written of each piece.
-fn shows(word: &str) -> Option<bool> {
+/// What a word asks for.
+fn shown_of(word: &str) -> Option<Shown> {
     match word {
-        "influx" => Some(true),
-        "count" => Some(false),
+        "influx" => Some(Shown::Influx),
+        "graphite" => Some(Shown::Graphite),
+        "count" => Some(Shown::Nothing),
         _ => None,
     }
 }
 
-/// The format of the pieces, and whether what is written of them is asked for; none where the words are no
-/// words of this program.
-fn asked(words: &[String]) -> Option<(Format, bool)> {
+/// Why there is no probe: the words are none of this program, or memory is wanting.
+#[derive(Clone, Copy, Debug, PartialEq, Eq)]
+enum Unmade {
+    Words,
+    OutOfMemory,
+}
+
+impl From<OutOfMemory> for Unmade {
+    fn from(_fault: OutOfMemory) -> Unmade {
+        Unmade::OutOfMemory
+    }
+}
+
+impl From<AllocError> for Unmade {
+    fn from(_fault: AllocError) -> Unmade {
+        Unmade::OutOfMemory
+    }
+}
+
+impl<T: Drop> From<AllocFailed<T>> for Unmade {
+    fn from(_fault: AllocFailed<T>) -> Unmade {
+        Unmade::OutOfMemory
+    }
+}
+
+impl From<TemplateFault> for Unmade {
+    fn from(fault: TemplateFault) -> Unmade {
+        match fault {
+            TemplateFault::OutOfMemory => Unmade::OutOfMemory,
+            TemplateFault::BadTemplate => Unmade::Words,
+        }
+    }
+}
+
+/// The templates of words.
+fn templates_of(alloc: Global, words: &[String]) -> Result<Vec<Template>, Unmade> {
+    let mut templates = Vec::new(alloc);
+    for word in words {
+        templates.push(Template::read(alloc, word.as_str())?)?;
+    }
+    Ok(templates)
+}
+
+/// The probe that words ask for, with a separator and templates.
+fn probe_of(
+    alloc: Global,
+    format: &str,
+    shown: &str,
+    separator: &str,
+    templates: &[String],
+) -> Result<Probe, Unmade> {
+    let (Some(format), Some(shown)) = (format_of(format), shown_of(shown)) else {
+        return Err(Unmade::Words);
+    };
+    let templates = templates_of(alloc, templates)?;
+    Ok(Probe {
+        alloc,
+        format,
+        shown,
+        separator: String::from_str(alloc, separator)?,
+        templates,
+        pieces: 0,
+        refused: 0,
+        metrics: 0,
+        out: Vec::new(alloc),
+    })
+}
+
+/// The probe that the words of the command ask for. A separator and templates are words of `graphite` alone.
+fn asked(alloc: Global, words: &[String]) -> Result<Probe, Unmade> {
     match words {
-        [format, shown] => Some((format_of(format.as_str())?, shows(shown.as_str())?)),
-        _ => None,
+        [format, shown] => probe_of(alloc, format.as_str(), shown.as_str(), ".", &[]),
+        [format, shown, separator, templates @ ..] => {
+            if format.as_str() != "graphite" {
+                return Err(Unmade::Words);
+            }
+            let separator = separator.as_str();
+            probe_of(alloc, format.as_str(), shown.as_str(), separator, templates)
+        }
+        _ => Err(Unmade::Words),
     }
 }
 
@@ -200,23 +305,16 @@ fn main(rt: HostRuntime) -> ExitCode {
         Err(_) => return ExitCode::from(2),
     };
     let asked = match &words {
-        Ok(words) => asked(words.as_slice()),
+        Ok(words) => asked(alloc, words.as_slice()),
         Err(_) => return ExitCode::from(1),
     };
-    let Some((format, shows)) = asked else {
-        return ExitCode::from(2);
+    let mut probe = match asked {
+        Ok(probe) => probe,
+        Err(Unmade::Words) => return ExitCode::from(2),
+        Err(Unmade::OutOfMemory) => return ExitCode::from(1),
     };
     let Ok(mut pieces) = Pieces::new(alloc, CutKind::Lines) else {
         return ExitCode::from(1);
-    };
-    let mut probe = Probe {
-        alloc,
-        format,
-        shows,
-        pieces: 0,
-        refused: 0,
-        metrics: 0,
-        out: Vec::new(alloc),
     };
     let mut source = StdSource::new(rt.stdin());
     let mut sink = StdSink::new(rt.stdout());

@@ -8,3 +8,4 @@ pub mod Stopping
 pub mod Escaping
 pub mod Splits
 pub mod Each
+pub mod WordTexts

@@ -3,6 +3,7 @@ pub mod Part
 pub mod Kinds
 pub mod Many
 pub mod Split
+pub mod Words
 pub mod Parts
 pub mod Grammar
 pub mod Adds

@@ -2,6 +2,7 @@
 ghost use Rattle.text_parts.specs.Escaped.{EscapedIsPart};
 ghost use Rattle.text_parts.specs.Grammar.{PartIsRead, ReadIsPart};
 ghost use Rattle.text_parts.specs.Split.{JoinedAreSplit, SplitAreJoined, FirstIsCut, CutIsFirst};
+ghost use Rattle.text_parts.specs.Words.{SpacedAreWords, WordsAreSpaced};
 
 /// A part before an end is read whole, and as what it means.
 pub fn part_is_read()
@@ -30,4 +31,11 @@ pub fn parts_are_split()
 pub fn text_is_cut()
     ensures cut { FirstIsCut }
     ensures first { CutIsFirst }
+{}
+
+/// Texts without spaces that aren't empty, with one or more spaces between them and any number around, are the
+/// words of what is written so; and each text is written so.
+pub fn words_are_spaced()
+    ensures words { SpacedAreWords }
+    ensures spaced { WordsAreSpaced }
 {}

@@ -4,6 +4,10 @@
 #[cfg(test)]
 mod fixed_num_tests;
 #[cfg(test)]
+mod graphite_text_tests;
+#[cfg(test)]
+mod graphite_text_write_tests;
+#[cfg(test)]
 mod line_proto_tests;
 #[cfg(test)]
 mod line_proto_write_tests;

@@ -2,9 +2,9 @@
 use fixed_num::OutOfMemory;
 use std::test::Fail;
 use text_parts::{
-    Marks, Part, Placed, Separated, append_bytes, append_escaped, append_escaped_byte, append_line,
-    append_numbers, append_signed, append_unsigned, append_words, first_part, part_len, part_text,
-    plain_bytes, settle,
+    Marks, Part, Placed, Separated, Words, append_bytes, append_escaped, append_escaped_byte,
+    append_line, append_numbers, append_signed, append_unsigned, append_words, first_part,
+    part_len, part_text, plain_bytes, settle,
 };
 
 const KEY: Part = Part {
@@ -66,6 +66,20 @@ fn texts_are_split(rt: HostRuntime) {
     let (key, value) = first_part(b'=', "k=v=w");
     assert_eq!(rt; key, "k");
     assert_eq!(rt; value, Some("v=w"));
+}
+
+// The words of a text that begins at the place 3, with spaces between them and around.
+#[test]
+fn words_are_given(rt: HostRuntime) {
+    let text = Placed {
+        place: 3,
+        text: "  a  größe b ",
+    };
+    let mut words = Words::of(text);
+    for want in [Some((5, "a")), Some((8, "größe")), Some((16, "b")), None] {
+        let word = words.next().map(|word| (word.place, word.text));
+        assert_eq!(rt; word, want);
+    }
 }
 
 // What is appended, in the order of the calls; and what a call that failed leaves.

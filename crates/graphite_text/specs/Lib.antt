@@ -1,0 +1,12 @@
+pub mod Bytes
+pub mod Path
+pub mod Template
+pub mod Applied
+pub mod Reading
+pub mod Views
+pub mod TemplateViews
+pub mod Wanted
+pub mod Writing
+pub mod Pieces
+pub mod Grammar
+pub mod RoundTrip

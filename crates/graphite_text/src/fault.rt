@@ -1,0 +1,57 @@
+//! What is wrong with a line, or with a template.
+ghost use Rattle.std.specs.Prelude.{◌≡◌};
+
+use text_parts::ReadError;
+
+/// The kind of a line's fault.
+#[derive(Clone, Copy, Debug, PartialEq, Eq)]
+pub enum GraphiteKind {
+    /// No memory was left.
+    OutOfMemory,
+    /// The line has neither two nor three words.
+    FieldCount,
+    /// A segment of the path is empty, or a tag in it is no `key=value` with both of them filled.
+    BadPath,
+    /// The value is no decimal.
+    BadValue,
+    /// The time is no decimal.
+    BadTime,
+    /// The value is outside the range of numbers, or the time outside that of moments.
+    NumberRange,
+    /// The piece is no UTF-8.
+    NotUtf8,
+    /// The metric would have more than 64 tags.
+    TooMany,
+}
+
+/// The first fault of a line.
+#[derive(Clone, Copy, Debug, PartialEq, Eq)]
+pub struct GraphiteFault {
+    /// What is wrong.
+    pub kind: GraphiteKind,
+    /// An index into the piece: the first byte of the value or of the time at fault, or the end of the
+    /// longest valid front for `NotUtf8`; else 0.
+    pub place: usize,
+}
+
+/// Why a text is no template.
+#[derive(Clone, Copy, Debug, PartialEq, Eq)]
+pub enum TemplateFault {
+    /// No memory was left.
+    OutOfMemory,
+    /// The text is none.
+    BadTemplate,
+}
+
+/// A text isn't of the form that is wanted.
+#[derive(Clone, Copy, Debug, PartialEq, Eq)]
+pub(crate) enum ShapeFault {
+    Malformed,
+}
+
+/// A fault at a place.
+pub(crate) fn fault(kind: GraphiteKind, place: usize) -> ReadError<GraphiteFault>
+    ensures { result ≡ ReadError.Fault (record { kind = kind; place = place }) }
+{
+    ReadError::Fault(GraphiteFault { kind, place })
+}

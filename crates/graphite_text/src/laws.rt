@@ -1,0 +1,27 @@
+//! Laws of readings.
+ghost use Rattle.graphite_text.specs.Grammar.{WrittenIsRead, ReadIsWritten};
+ghost use Rattle.graphite_text.specs.Grammar.{SpelledIsTemplate, TemplateIsSpelled};
+ghost use Rattle.graphite_text.specs.RoundTrip.{WrittenIsReadBack};
+
+/// What is written as a line is read as its metric.
+pub fn written_is_read()
+    ensures { WrittenIsRead }
+{}
+
+/// What is read as a metric is written as a line.
+pub fn read_is_written()
+    ensures { ReadIsWritten }
+{}
+
+/// The text of a template is read as the template, and each text that is read as a template is its text.
+pub fn templates_are_spelled()
+    ensures read { SpelledIsTemplate }
+    ensures spelled { TemplateIsSpelled }
+{}
+
+/// Each line of a metric is read, without templates, as a metric of its path, its number and its seconds,
+/// where neither the measurement nor the field's key has an empty segment, and the seconds are those of a
+/// moment. The seconds -1 stand for the moment of the reading.
+pub fn written_is_read_back()
+    ensures { WrittenIsReadBack }
+{}

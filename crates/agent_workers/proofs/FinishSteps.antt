@@ -10,6 +10,7 @@ use Rattle.account.specs.Numbers.{Numbers, output_numbers}
 use Rattle.account.specs.Setup.{Setup}
 use Rattle.account.specs.declared.entry.Entry.{Entry}
 use Rattle.agent_base.specs.Clocked.{Clocked, Counted}
+use Rattle.agent_base.specs.declared.piece.CutKind.TheVariants.{Lines}
 use Rattle.agent_base.specs.Cut.{Cut}
 use Rattle.agent_base.specs.Hand.{Hand, to_come, empty_hand}
 use Rattle.agent_base.specs.Moments.{Moments, Gives}
@@ -71,7 +72,7 @@ said_first start output = record {
 }
 
 -- nothing happened
-pub went_first : (start : Beginning) (core : CoreState) (hand : Hand) (outs : List OutPart) (part : JournalPart) → Stands core [] → core.setup ≡ start.setup → core.stored ≡ [] → Notes (journal_setup_of start.setup) start.noted start.note_faults [] part → hand ≡ empty_hand
+pub went_first : (start : Beginning) (core : CoreState) (hand : Hand) (outs : List OutPart) (part : JournalPart) → Stands core [] → core.setup ≡ start.setup → core.stored ≡ [] → Notes (journal_setup_of start.setup) start.noted start.note_faults [] part → hand ≡ empty_hand Lines
     → outs ≡ map anew start.outs → length start.outs ≡ length start.setup.outputs → Progress start core hand (first_surroundings start outs part)
 went_first start core hand outs part stands setup stored notes empty are count = record {
   journal = [];

@@ -95,7 +95,7 @@ pub fn new_run(alloc: Global, outputs: &[OutSetup], start: Moment) -> Result<Pip
     ensures stands { IfOk result (λ run. Stands run.core []) }
     ensures setup { IfOk result (λ run. run.core.setup ≡ run_setup (map sizes outputs.now) start) }
     ensures stored { IfOk result (λ run. run.core.stored ≡ []) }
-    ensures pieces { IfOk result (λ run. run.pieces ≡ empty_hand) }
+    ensures pieces { IfOk result (λ run. run.pieces ≡ empty_hand CutKind.Lines) }
 {
     Ok(PipeRun {
         alloc,

@@ -15,7 +15,7 @@ use crate::opening::{Parts, Refusal, open_parts};
 use crate::reporting::{report_line, report_open_fault};
 use crate::status::{Status, run_status};
 use agent_base::{PutFault, World};
-use agent_workers::{Ending, InJob, RunSetup, run_one};
+use agent_workers::{Ending, RunSetup, run_one};
 use fixed_num::Seq;
 use pipeline_core::OutSetup;
 use std::alloc::Global;
@@ -104,14 +104,17 @@ fn run_parts<W: World>(
     };
     let mut clock = world.clock(RUN_CLOCK, RUN_PAUSE);
     let input_clock = world.clock(INPUT_CLOCK, INPUT_PAUSE);
-    let mut input = InJob {
-        input: 0,
+    let (source, sink, journal, ran) = run_one(
+        alloc,
+        &setup,
         source,
-        clock: input_clock,
-        gather_pieces: GATHER_PIECES,
-    };
-    let (sink, journal, ran) = run_one(alloc, &setup, &mut input, sink, journal, &mut clock);
-    world.give_in(pipe.input, input.source);
+        input_clock,
+        GATHER_PIECES,
+        sink,
+        journal,
+        &mut clock,
+    );
+    world.give_in(pipe.input, source);
     world.give_out(pipe.output, sink);
     world.give_out(JOURNAL, journal);
     match ran {

@@ -3,8 +3,8 @@ ghost use Rattle.std.specs.Prelude.{◌≡◌, ◌≤◌, All, IfOk, length};
 ghost use Rattle.agent_workers.specs.Output.{AreOutputs, outs_of};
 
 use crate::tests::{sink_of, source_of};
-use agent_base::{MemClock, MemSink, Sink};
-use agent_workers::{Ending, InJob, OutJob, RunSetup, run};
+use agent_base::{CutKind, MemClock, MemSink, Pieces, Sink};
+use agent_workers::{Ending, InJob, InState, OutJob, RunSetup, run};
 use fixed_num::{OutOfMemory, Seq};
 use pipeline_core::OutSetup;
 use std::alloc::Global;
@@ -140,8 +140,10 @@ impl Case {
         let mut input = InJob {
             input: 0,
             source,
+            pieces: Pieces::new(alloc, CutKind::Lines)?,
             clock: input_clock,
             gather_pieces: 1_000,
+            state: InState::Reading,
         };
         let (journal, ran) = run(alloc, &setup, &mut input, &mut outputs, journal, &mut clock);
         Ok(Outcome {

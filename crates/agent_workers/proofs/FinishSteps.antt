@@ -1,5 +1,5 @@
 -- What a run leaves at its end, and what it begins with.
-use Rattle.std.proofs.Common.{◌≡◌, ◌≤◌, ◌<◌, ℕ, zero, suc, ℤ, ◌+◌, min, Bool, true, false, List, [], ◌∷◌, ◌++◌, length, refl, sym, ap, ◌∙◌, subst, inl, inr, arith}
+use Rattle.std.proofs.Common.{◌≡◌, ◌≤◌, ◌<◌, ℕ, zero, suc, ℤ, ◌+◌, ◌^◌, min, Bool, true, false, List, [], ◌∷◌, ◌++◌, length, refl, sym, ap, ◌∙◌, subst, inl, inr, arith}
 use Rattle.std.specs.Prelude.{◌≢◌, IfSome, not, ◌⊎◌, count_by, slice_get, map}
 use Rattle.std.proofs.lemmas.List.{length-map}
 use Rattle.std.specs.Int.{int_max}
@@ -25,16 +25,16 @@ use Rattle.agent_base.specs.Counts.{RoseBy}
 use Rattle.account.specs.Dones.{dones, LastFailed}
 use Rattle.pipeline_core.specs.Stopped.{behind_stop}
 use Rattle.account.specs.EntryMoments.{gather_moments, counted_moments}
-use Rattle.agent_workers.specs.Input.{Gathered}
-use Rattle.agent_workers.specs.Run.{Change, change, change_at, out_changes, IsUnread, IsSentTo, IsRun, EndsSo, IsPutSo, IsLeft, Ran, buffered_at_end, account_of}
+use Rattle.agent_workers.specs.Input.{Gathered, Gathering}
+use Rattle.agent_workers.specs.Run.{Change, change, in_change, change_at, out_changes, IsUnread, IsSentTo, IsRun, EndsSo, IsPutSo, IsLeft, Ran, buffered_at_end, account_of}
 use Rattle.agent_workers.specs.Noted.{JournalPart, Notes}
 use Rattle.pipeline_core.specs.Order.{IsDrained}
 use Rattle.agent_workers.specs.PipeSetup.{run_setup, journal_setup_of}
-use Rattle.agent_workers.specs.Progress.{Beginning, Surroundings, HasText, IsNamed, is_ended, HasState, IsClocked, IsNamedOfTaken, Said, AllSaid, Progress, GoesOn, SendsOn, ReadsOn, RunsOn, NotesRun}
+use Rattle.agent_workers.specs.Progress.{Beginning, Surroundings, HasText, IsNamed, is_ended, HasState, IsClocked, IsNamedOfTaken, Heard, Said, AllSaid, Progress, GoesOn, SendsOn, ReadsOn, RunsOn, NotesRun}
 use Rattle.agent_workers.specs.Running.{IsReading, IsRoutable, IsSentOn, AreSettled, AreLeft, IsLeftOver, buffered_at}
+use Rattle.agent_workers.specs.Inputs.{InPart, IsSameInput}
 use Rattle.agent_workers.specs.Output.{OutPart, out_at, anew, AreAnew}
 use Rattle.agent_workers.proofs.OutLemmas.{at_anew, are_anew}
-use Rattle.agent_workers.specs.declared.pipe_run.PipeRun.{PipeRun}
 use Rattle.pipeline_core.specs.Steps.{after_cut}
 use Rattle.agent_workers.specs.declared.input.InState.{InState}
 use Rattle.agent_workers.specs.declared.input.InState.TheVariants as states
@@ -58,9 +58,9 @@ none_ended : (input : ℕ) → has_ended input [] ≡ false
 unfolding has_ended
 none_ended input = refl
 
--- nothing was read yet
+-- nothing was put yet
 abbrev pub first_surroundings : Beginning → List OutPart → JournalPart → Surroundings
-first_surroundings start outs part = record { state = states.Reading; left = start.bytes; read_faults = start.read_faults; place = 0; outs = outs; journal = part; counted_at = [] }
+first_surroundings start outs part = record { input = start.input; outs = outs; journal = part; counted_at = [] }
 
 -- nothing was put
 said_first : (start : OutPart) (output : ℕ) → Said start (anew start) output []
@@ -71,21 +71,26 @@ said_first start output = record {
   last = λ stopped. last_none (dones output (behind_stop []));
 }
 
+-- nothing was read
+heard_first : (input : InPart) → input.hand ≡ empty_hand Lines → input.place ≡ 0 → input.state ≡ states.Reading → Heard input input []
+heard_first input empty place reading = record {
+  named = subst (λ (s : InState). Told input.left input.left (λ xs ys. IsNamed input.input input.most s [] xs (to_come input.hand ys))) (sym reading)
+      (told_self input.left (λ xs ys. Gathering input.most [] input.input xs (to_come input.hand ys)) (λ xs. rw empty (gathering_starts input.most input.input xs)));
+  of_taken = subst (λ (s : InState). Told input.left input.left (IsNamedOfTaken input.input input.most s [] input.hand)) (sym reading) (told_names_start input.most input.input input.hand input.left empty);
+  counted = told_self input.left (λ xs ys. length xs ≡ input.hand.taken + length ys) (λ xs. omega (arith, ap (λ (h : Hand). h.taken) empty));
+  ended = none_ended input.input ∙ sym (ap is_ended reading);
+  later = omega arith;
+  state = subst (λ (s : InState). HasState s input input []) (sym reading) (let few : input.hand.taken < 2 ^ 40 = omega (arith, ap (λ (h : Hand). h.taken) empty) in few);
+  clocked = clocked_same input.moments input.place [] (gather_moments input.input []) (gather_moments_none input.input) (subst (λ (k : ℕ). IfSome input.moments (λ moments. IsClocked moments k [])) (sym place) (clock_starts input.moments));
+}
+
 -- nothing happened
-pub went_first : (start : Beginning) (core : CoreState) (hand : Hand) (outs : List OutPart) (part : JournalPart) → Stands core [] → core.setup ≡ start.setup → core.stored ≡ [] → Notes (journal_setup_of start.setup) start.noted start.note_faults [] part → hand ≡ empty_hand Lines
-    → outs ≡ map anew start.outs → length start.outs ≡ length start.setup.outputs → Progress start core hand (first_surroundings start outs part)
-went_first start core hand outs part stands setup stored notes empty are count = record {
+pub went_first : (start : Beginning) (core : CoreState) (outs : List OutPart) (part : JournalPart) → Stands core [] → core.setup ≡ start.setup → core.stored ≡ [] → Notes (journal_setup_of start.setup) start.noted start.note_faults [] part → start.input.hand ≡ empty_hand Lines → start.input.place ≡ 0 → start.input.state ≡ states.Reading
+    → outs ≡ map anew start.outs → length start.outs ≡ length start.setup.outputs → Progress start core (first_surroundings start outs part)
+went_first start core outs part stands setup stored notes empty place reading are count = record {
   journal = [];
   text = record { stands = stands; setup_is = setup; written = []; split = sym stored; notes = notes };
-  heard = record {
-    named = told_self start.bytes (λ xs ys. IsNamed start.input start.most states.Reading [] xs (to_come hand ys)) (λ xs. rw empty (gathering_starts start.most start.input xs));
-    of_taken = told_names_start start.most start.input hand start.bytes empty;
-    counted = told_self start.bytes (λ xs ys. length xs ≡ hand.taken + length ys) (λ xs. omega (arith, ap (λ (h : Hand). h.taken) empty));
-    ended = none_ended start.input;
-    later = omega arith;
-    state = omega (arith, ap (λ (h : Hand). h.taken) empty);
-    clocked = clocked_same start.moments 0 [] (gather_moments start.input []) (gather_moments_none start.input) (clock_starts start.moments);
-  };
+  heard = heard_first start.input empty place reading;
   out_count = ap length are ∙ length-map start.outs anew ∙ count;
   said = subst (λ (all : List OutPart). AllSaid start.outs all []) (sym are)
       (λ o l. subst (λ (out : OutPart). Said (out_at start.outs o) out o []) (sym (at_anew start.outs o (omega (arith, l, length-map start.outs anew)))) (said_first (out_at start.outs o) o));
@@ -99,8 +104,8 @@ buffered_is : (start : Beginning) (core : CoreState) (part : JournalPart) (journ
 buffered_is start core part journal h o = ap (λ (n : Numbers). (output_numbers n o).buffered) h.stands.numbers ∙ ap (λ (s : Setup). (output_numbers (totals s journal) o).buffered) h.setup_is
 
 -- no item is raw, and nothing is buffered or the last batch failed
-pub drained : (start : Beginning) (core : CoreState) (hand : Hand) (now : Surroundings) (w : Progress start core hand now) → core.raw ≡ [] → AreSettled core now.outs → IsDrained start.setup w.journal
-drained start core hand now w raw settled = record {
+pub drained : (start : Beginning) (core : CoreState) (now : Surroundings) (w : Progress start core now) → core.raw ≡ [] → AreSettled core now.outs → IsDrained start.setup w.journal
+drained start core now w raw settled = record {
   none_raw = sym w.text.stands.raw ∙ raw;
   each = λ o within.
       let l : o < length now.outs = omega (arith, within, w.out_count) in
@@ -116,10 +121,6 @@ named_ends input most states.Ended journal text rest ne h = h
 named_ends input most states.Faulted journal text rest ne h = h
 named_ends input most states.LimitReached journal text rest ne h = h
 
--- the change of the input
-abbrev pub input_change : Beginning → Surroundings → Change
-input_change start now = record { before = start.bytes; after = now.left; faults_before = start.read_faults; faults_after = now.read_faults }
-
 -- the change of an output's place
 changes_at : (olds news : List OutPart) (o : ℕ) → length news ≡ length olds → o < length olds →
     change_at (out_changes olds news) o ≡ change (out_at olds o).held (out_at news o).held (out_at olds o).put_faults (out_at news o).put_faults
@@ -128,17 +129,19 @@ changes_at (old ∷ olds) [] o same l = absurd (omega (arith, same))
 changes_at (old ∷ olds) (new ∷ news) zero same l = refl
 changes_at (old ∷ olds) (new ∷ news) (suc o) same l = changes_at olds news o (omega (arith, same)) (omega (arith, l))
 
-unread_by : (state : InState) (start : Beginning) (now : Surroundings) (hand : Hand) (journal : List Entry) → (state ≢ states.Reading) → HasState state start now.read_faults now.left hand journal → Told start.bytes now.left (IsNamedOfTaken start.input start.most state journal hand) → has_ended start.input journal ≡ is_ended state → has_ended start.input journal ≡ false → IsUnread start.input start.most (input_change start now) hand.taken journal
-unread_by states.Reading start now hand journal ne h t e f = absurd (ne refl)
-unread_by states.Ended start now hand journal ne h t e f = absurd (let x : true ≡ false = sym e ∙ f in cc)
-unread_by states.Faulted start now hand journal ne h t e f = inl (h.1, t)
-unread_by states.LimitReached start now hand journal ne h t e f = inr h
+unread_by : (state : InState) (start now : InPart) (journal : List Entry) → (state ≢ states.Reading) → HasState state start now journal → Told start.left now.left (IsNamedOfTaken now.input now.most state journal now.hand) → has_ended now.input journal ≡ is_ended state → has_ended now.input journal ≡ false
+    → IsUnread now.input now.most (in_change start now) now.hand.taken journal
+unread_by states.Reading start now journal ne h t e f = absurd (ne refl)
+unread_by states.Ended start now journal ne h t e f = absurd (let x : true ≡ false = sym e ∙ f in cc)
+unread_by states.Faulted start now journal ne h t e f = inl (h.1, t)
+unread_by states.LimitReached start now journal ne h t e f = inr h
 
-ends_by : (state : InState) (start : Beginning) (now : Surroundings) (hand : Hand) (journal : List Entry) → (state ≢ states.Reading) → HasState state start now.read_faults now.left hand journal → Told start.bytes now.left (IsNamedOfTaken start.input start.most state journal hand) → has_ended start.input journal ≡ is_ended state → EndsSo start.input start.most state (input_change start now) hand.taken journal
-ends_by states.Reading start now hand journal ne h t e = absurd (ne refl)
-ends_by states.Ended start now hand journal ne h t e = (h, e)
-ends_by states.Faulted start now hand journal ne h t e = (h.0, e, (h.1, t))
-ends_by states.LimitReached start now hand journal ne h t e = (e, h)
+ends_by : (state : InState) (start now : InPart) (journal : List Entry) → (state ≢ states.Reading) → HasState state start now journal → Told start.left now.left (IsNamedOfTaken now.input now.most state journal now.hand) → has_ended now.input journal ≡ is_ended state
+    → EndsSo now.input now.most state (in_change start now) now.hand.taken journal
+ends_by states.Reading start now journal ne h t e = absurd (ne refl)
+ends_by states.Ended start now journal ne h t e = (h, e)
+ends_by states.Faulted start now journal ne h t e = (h.0, e, (h.1, t))
+ends_by states.LimitReached start now journal ne h t e = (e, h)
 
 clocked_ends : (all : Option Moments) (place : ℕ) (ms : List ℤ) → IfSome all (λ moments. IsClocked moments place ms) → IfSome all (λ moments. Clocked moments 0 moments.last ms)
 clocked_ends None place ms h = tt
@@ -158,14 +161,13 @@ left_is false start core part journal h none = λ o l. sym (buffered_is start co
 left_is true start core part journal h some =
     (some.0, omega (arith, some.1, ap (λ (s : Setup). length s.outputs) h.setup_is), λ z. some.2 (buffered_is start core part journal h some.0 ∙ z))
 
-module _ (most tries : ℕ) (sizes : List (ℕ × ℕ)) (start : ℤ) (moment : ℤ) (text : Option (List ℕ)) (read_faults : ℕ) (outs : List OutPart) (noted : Option (List ℕ)) (note_faults : ℕ) (input_moments run_moments : Option Moments) (first last : ℕ)
-    (core : CoreState) (hand : Hand) (now : Surroundings) where
+module _ (tries : ℕ) (sizes : List (ℕ × ℕ)) (start : ℤ) (moment : ℤ) (input : InPart) (outs : List OutPart) (noted : Option (List ℕ)) (note_faults : ℕ) (run_moments : Option Moments) (first last : ℕ) (core : CoreState) (now : Surroundings) where
   -- what the run began with
   abbrev pub beginning : Beginning
-  beginning = record { setup = run_setup sizes start; input = 0; most = most; bytes = text; read_faults = read_faults; outs = outs; noted = noted; note_faults = note_faults; moments = input_moments }
+  beginning = record { setup = run_setup sizes start; input = input; outs = outs; noted = noted; note_faults = note_faults }
 
-  module _ (w : Progress beginning core hand (record now { counted_at = int_max moment start ∷ [] })) (gives_first : Gives run_moments 0 first start) (gives_last : Gives run_moments first last moment)
-      (stopped : core.stopped ≡ true) (raw : core.raw ≡ []) (none_held : core.held ≡ None) (count : length outs ≡ length sizes) (rest : AreLeft tries core now.outs) (read : now.state ≢ states.Reading) where
+  module _ (w : Progress beginning core (record now { counted_at = int_max moment start ∷ [] })) (gives_first : Gives run_moments 0 first start) (gives_last : Gives run_moments first last moment)
+      (stopped : core.stopped ≡ true) (raw : core.raw ≡ []) (none_held : core.held ≡ None) (count : length outs ≡ length sizes) (rest : AreLeft tries core now.outs) (read : now.input.state ≢ states.Reading) (number : now.input.input ≡ 0) where
     left_failed : (o : ℕ) → o < length now.outs → (buffered_at core o ≡ 0) ⊎ (tries ≤ (out_at now.outs o).failed) → buffered_at_end (run_setup sizes start) w.journal o ≢ 0 → LastFailed tries (dones o (behind_stop w.journal))
     left_failed o l (inl none) some = absurd (some (sym (buffered_is beginning core now.journal w.journal w.text o) ∙ none))
     left_failed o l (inr many) some = last_fewer tries (out_at now.outs o).failed (dones o (behind_stop w.journal)) many ((w.said o l).last (sym w.text.stands.stopped ∙ stopped))
@@ -178,10 +180,11 @@ module _ (most tries : ℕ) (sizes : List (ℕ × ℕ)) (start : ℤ) (moment : 
         record { sent = said.sent; put_faults = said.put_faults; left = left_failed o l (rest o l) } in
         subst (IsSentTo tries (run_setup sizes start) w.journal o) (sym (changes_at outs now.outs o (omega (arith, w.out_count, count)) (omega (arith, within, count)))) is
 
-    pub is_run : IsRun most tries (run_setup sizes start) (input_change beginning now) (out_changes outs now.outs) run_moments input_moments w.journal
+    pub is_run : IsRun now.input.most tries (run_setup sizes start) (in_change input now.input) (out_changes outs now.outs) run_moments now.input.moments w.journal
     is_run = record {
       legal = subst (λ (s : Setup). IsLegal s w.journal) w.text.setup_is w.text.stands.legal;
-      gathered = told_map text now.left (λ xs ys. IsNamed 0 most now.state w.journal xs (to_come hand ys)) (λ xs ys. Gathered most w.journal 0 xs) (λ xs ys. named_ends 0 most now.state w.journal xs (to_come hand ys) read) w.heard.named;
+      gathered = told_map input.left now.input.left (λ xs ys. IsNamed now.input.input now.input.most now.input.state w.journal xs (to_come now.input.hand ys)) (λ xs ys. Gathered now.input.most w.journal 0 xs)
+          (λ xs ys h. subst (λ (i : ℕ). Gathered now.input.most w.journal i xs) number (named_ends now.input.input now.input.most now.input.state w.journal xs (to_come now.input.hand ys) read h)) w.heard.named;
       sent_to = sent_to;
       worked = w.worked;
       stopped = sym w.text.stands.stopped ∙ stopped;
@@ -189,15 +192,16 @@ module _ (most tries : ℕ) (sizes : List (ℕ × ℕ)) (start : ℤ) (moment : 
       none_held = sym w.text.stands.held ∙ none_held;
       start = start_at run_moments first start gives_first;
       counted = counted_ends run_moments first last start moment (counted_moments w.journal) gives_first gives_last w.counted_at;
-      clocked = clocked_ends input_moments now.place (gather_moments 0 w.journal) w.heard.clocked;
-      taken = hand.taken;
+      clocked = subst (λ (i : ℕ). IfSome now.input.moments (λ moments. Clocked moments 0 moments.last (gather_moments i w.journal))) number (clocked_ends now.input.moments now.input.place (gather_moments now.input.input w.journal) w.heard.clocked);
+      taken = now.input.hand.taken;
       bytes_taken = w.heard.counted;
-      unread = unread_by now.state beginning (record now { counted_at = int_max moment start ∷ [] }) hand w.journal read w.heard.state w.heard.of_taken w.heard.ended;
+      unread = subst (λ (i : ℕ). has_ended i w.journal ≡ false → IsUnread i now.input.most (in_change input now.input) now.input.hand.taken w.journal) number
+          (unread_by now.input.state input now.input w.journal read w.heard.state w.heard.of_taken w.heard.ended);
       in_order = w.in_order;
     }
 
-    pub ran : (ending : Ending) (put : Change) → ending.state ≡ now.state → IsLeftOver ending.left core → ending.account.items ≡ account_text core.numbers →
-        IsPutSo ending.journal_failed put (journal_text (journal_setup_of (run_setup sizes start)) (w.text.written ++ core.stored) (account_text core.numbers)) → Ran most tries sizes ending (input_change beginning now) (out_changes outs now.outs) put run_moments input_moments
+    pub ran : (ending : Ending) (put : Change) → ending.state ≡ now.input.state → IsLeftOver ending.left core → ending.account.items ≡ account_text core.numbers →
+        IsPutSo ending.journal_failed put (journal_text (journal_setup_of (run_setup sizes start)) (w.text.written ++ core.stored) (account_text core.numbers)) → Ran now.input.most tries sizes ending (in_change input now.input) (out_changes outs now.outs) put run_moments now.input.moments
     unfolding is_run
     ran ending put state left account_is noted =
         let totals_are : core.numbers ≡ totals (run_setup sizes start) w.journal = w.text.stands.numbers ∙ ap (λ (s : Setup). totals s w.journal) w.text.setup_is in
@@ -206,32 +210,28 @@ module _ (most tries : ℕ) (sizes : List (ℕ × ℕ)) (start : ℤ) (moment : 
           start = start;
           journal = w.journal;
           run = is_run;
-          ends = rw state (ends_by now.state beginning (record now { counted_at = int_max moment start ∷ [] }) hand w.journal read w.heard.state w.heard.of_taken w.heard.ended);
+          ends = rw state (subst (λ (i : ℕ). EndsSo i now.input.most now.input.state (in_change input now.input) now.input.hand.taken w.journal) number (ends_by now.input.state input now.input w.journal read w.heard.state w.heard.of_taken w.heard.ended));
           left = left_is ending.left beginning core now.journal w.journal w.text left;
           account = account_is ∙ same;
           noted = subst (λ (account : List ℕ). IsPutSo ending.journal_failed put (journal_text (journal_setup_of (run_setup sizes start)) w.journal account)) same
               (subst (λ (es : List Entry). IsPutSo ending.journal_failed put (journal_text (journal_setup_of (run_setup sizes start)) es (account_text core.numbers))) (sym w.text.split) noted);
         }
 
--- the clock's moments by another term
-reads_at : (input most : ℕ) (old new : PipeRun) (state : InState) (left new_left : Option (List ℕ)) (read_faults new_read_faults : ℕ) (moments first : Option Moments) (place new_place : ℕ) → moments ≡ first →
-    ReadsOn input most old new state left new_left read_faults new_read_faults moments place new_place → ReadsOn input most old new state left new_left read_faults new_read_faults first place new_place
-reads_at input most old new state left new_left read_faults new_read_faults moments first place new_place same h = subst (λ (m : Option Moments). ReadsOn input most old new state left new_left read_faults new_read_faults m place new_place) same h
-
 -- one round more: a group was gathered, the items were routed, batches were sent, and the entries spelled
-pub runs_more : (input most : ℕ) (first old gathered routed sent new : PipeRun) (state : InState) (left0 left new_left : Option (List ℕ)) (read_faults0 read_faults new_read_faults : ℕ) (moments0 moments : Option Moments) (place0 place new_place : ℕ)
-    (outs0 outs fresh new_outs : List OutPart) (part0 part new_part : JournalPart) → RunsOn input most first old states.Reading left0 left read_faults0 read_faults moments0 place0 place outs0 outs part0 part → moments ≡ moments0 → AreSettled old.core outs →
-    ReadsOn input most old gathered state left new_left read_faults new_read_faults moments place new_place → fresh ≡ map anew outs → GoesOn gathered routed → SendsOn routed sent fresh new_outs → NotesRun sent new part new_part
-    → RunsOn input most first new state left0 new_left read_faults0 new_read_faults moments0 place0 new_place outs0 new_outs part0 new_part
-runs_more input most first old gathered routed sent new state left0 left new_left read_faults0 read_faults new_read_faults moments0 moments place0 place new_place outs0 outs fresh new_outs part0 part new_part runs same settled reads_on anews routes sends notes = λ start now w.
-    let s : Beginning = record start { input = input; most = most; moments = moments0 } in
-    let after : Surroundings = record now { state = state; left = new_left; read_faults = new_read_faults; place = new_place } in
+pub runs_more : (first old gathered routed sent new : CoreState) (input0 input new_input : InPart) (outs0 outs fresh new_outs : List OutPart) (part0 part new_part : JournalPart) → RunsOn first old input0 input outs0 outs part0 part → AreSettled old outs →
+    ReadsOn old gathered input new_input → fresh ≡ map anew outs → GoesOn gathered routed → SendsOn routed sent fresh new_outs → NotesRun sent new part new_part → RunsOn first new input0 new_input outs0 new_outs part0 new_part
+runs_more first old gathered routed sent new input0 input new_input outs0 outs fresh new_outs part0 part new_part runs settled reads_on anews routes sends notes = λ start now w.
+    let after : Surroundings = record now { input = new_input } in
     let a = runs start now w in
-    let b = reads_at input most old gathered state left new_left read_faults new_read_faults moments moments0 place new_place same reads_on start (record now { outs = outs; journal = part }) settled a in
-    let c = went_anew s gathered.core gathered.pieces (record after { journal = part }) outs fresh anews b in
-    let d = routes s (record after { outs = fresh; journal = part }) (subst AreAnew (sym anews) (are_anew outs)) c in
-    let e = sends s (record after { journal = part }) d in
-    notes s (record after { outs = new_outs }) e
+    let b = reads_on start (record now { outs = outs; journal = part }) settled a in
+    let c = went_anew start gathered (record after { journal = part }) outs fresh anews b in
+    let d = routes start (record after { outs = fresh; journal = part }) (subst AreAnew (sym anews) (are_anew outs)) c in
+    let e = sends start (record after { journal = part }) d in
+    notes start (record after { outs = new_outs }) e
+
+-- an input is the same after another step
+pub same_input : (first old new : InPart) → IsSameInput first old → IsSameInput old new → IsSameInput first new
+same_input first old new h k = record { input = k.input ∙ h.input; most = k.most ∙ h.most; moments = k.moments ∙ h.moments }
 
 -- the input is still read after items were routed, batches sent and entries spelled
 pub still_reading : (input : ℕ) (gathered routed sent new : CoreState) → IsReading input gathered → IsRoutable gathered routed → IsSentOn routed sent → new ≡ after_cut sent → IsReading input new

@@ -37,6 +37,7 @@ use Rattle.pipeline_core.specs.Order.{EndsFailed, IsOrderly}
 use Rattle.agent_workers.specs.PipeSetup.{journal_setup_of}
 use Rattle.account.specs.Routes.{RouteOnInOrder}
 use Rattle.agent_workers.specs.Progress.{Beginning, Surroundings, HasText, IsNamed, HasState, IsClocked, IsNamedOfTaken, Heard, Said, AllSaid, Progress}
+use Rattle.agent_workers.specs.Inputs.{InPart}
 use Rattle.agent_workers.specs.Output.{OutPart, out_at, anew, AreAnew}
 use Rattle.agent_workers.specs.Running.{as_it_is}
 use Rattle.agent_workers.proofs.OutLemmas.{at_anew}
@@ -100,12 +101,12 @@ full_same input most old new text left same count h = record {
       h.next;
 }
 
-state_same : (state : InState) (start : Beginning) (read_faults : ℕ) (left : Option (List ℕ)) (hand : Hand) (old new : List Entry) → gathers start.input new ≡ gathers start.input old → gathered_count new ≡ gathered_count old → HasState state start read_faults left hand old → HasState state start read_faults left hand new
-state_same states.Reading start read_faults left hand old new same count h = h
-state_same states.Ended start read_faults left hand old new same count h = h
-state_same states.Faulted start read_faults left hand old new same count h = h
-state_same states.LimitReached start read_faults left hand old new same count (inl h) = inl h
-state_same states.LimitReached start read_faults left hand old new same count (inr h) = inr (full_same start.input start.most old new start.bytes left same count h)
+state_same : (state : InState) (start now : InPart) (old new : List Entry) → gathers now.input new ≡ gathers now.input old → gathered_count new ≡ gathered_count old → HasState state start now old → HasState state start now new
+state_same states.Reading start now old new same count h = h
+state_same states.Ended start now old new same count h = h
+state_same states.Faulted start now old new same count h = h
+state_same states.LimitReached start now old new same count (inl h) = inl h
+state_same states.LimitReached start now old new same count (inr h) = inr (full_same now.input now.most old new start.left now.left same count h)
 
 pub clocked_same : (all : Option Moments) (place : ℕ) (old new : List ℤ) → new ≡ old → IfSome all (λ moments. IsClocked moments place old) → IfSome all (λ moments. IsClocked moments place new)
 clocked_same None place old new same h = tt
@@ -118,28 +119,23 @@ taken_same input most states.Faulted old new hand text left same h = record { ta
 taken_same input most states.LimitReached old new hand text left same h = tt
 
 -- a journal with the same Gathers
-pub heard_same : (start : Beginning) (now : Surroundings) (hand : Hand) (old new : List Entry) → gathers start.input new ≡ gathers start.input old → has_ended start.input new ≡ has_ended start.input old → gathered_count new ≡ gathered_count old → gather_moments start.input new ≡ gather_moments start.input old
-    → Heard start now hand old → Heard start now hand new
-heard_same start now hand old new same ended count moments h = record {
-  named = told_map start.bytes now.left (λ xs ys. IsNamed start.input start.most now.state old xs (to_come hand ys)) (λ xs ys. IsNamed start.input start.most now.state new xs (to_come hand ys)) (λ xs ys. named_same start.input start.most now.state old new xs (to_come hand ys) same ended) h.named;
-  of_taken = told_map start.bytes now.left (IsNamedOfTaken start.input start.most now.state old hand) (IsNamedOfTaken start.input start.most now.state new hand) (λ xs ys. taken_same start.input start.most now.state old new hand xs ys same) h.of_taken;
+pub heard_same : (start now : InPart) (old new : List Entry) → gathers now.input new ≡ gathers now.input old → has_ended now.input new ≡ has_ended now.input old → gathered_count new ≡ gathered_count old → gather_moments now.input new ≡ gather_moments now.input old
+    → Heard start now old → Heard start now new
+heard_same start now old new same ended count moments h = record {
+  named = told_map start.left now.left (λ xs ys. IsNamed now.input now.most now.state old xs (to_come now.hand ys)) (λ xs ys. IsNamed now.input now.most now.state new xs (to_come now.hand ys)) (λ xs ys. named_same now.input now.most now.state old new xs (to_come now.hand ys) same ended) h.named;
+  of_taken = told_map start.left now.left (IsNamedOfTaken now.input now.most now.state old now.hand) (IsNamedOfTaken now.input now.most now.state new now.hand) (λ xs ys. taken_same now.input now.most now.state old new now.hand xs ys same) h.of_taken;
   counted = h.counted;
   ended = ended ∙ h.ended;
   later = h.later;
-  state = state_same now.state start now.read_faults now.left hand old new same count h.state;
-  clocked = clocked_same start.moments now.place (gather_moments start.input old) (gather_moments start.input new) moments h.clocked;
+  state = state_same now.state start now old new same count h.state;
+  clocked = clocked_same now.moments now.place (gather_moments now.input old) (gather_moments now.input new) moments h.clocked;
 }
 
--- what is put and what was counted is nothing of the input
-pub heard_beside : (start : Beginning) (now : Surroundings) (hand : Hand) (journal : List Entry) (outs : List OutPart) (part : JournalPart) (counted_at : List ℤ) → Heard start now hand journal → Heard start (record now { outs = outs; journal = part; counted_at = counted_at }) hand journal
-heard_beside start now hand journal outs part counted_at h =
-    record { named = h.named; of_taken = h.of_taken; counted = h.counted; ended = h.ended; later = h.later; state = h.state; clocked = h.clocked }
-
 -- an entry that is no Gather, and not the Ended of the input
-pub heard_push : (start : Beginning) (now : Surroundings) (hand : Hand) (journal : List Entry) (e : Entry) → gathers_by start.input e ≡ [] → is_ended_of start.input e ≡ false → gathered_by e ≡ 0 → Heard start now hand journal → Heard start now hand (journal ++ e ∷ [])
-heard_push start now hand journal e none other count h =
-    heard_same start now hand journal (journal ++ e ∷ []) (gathers-other start.input journal e none) (has_ended-other start.input journal e other)
-    (let n : gathered_count (journal ++ e ∷ []) ≡ gathered_count journal = omega (arith, gathered_count-push journal e, count) in n) (gather_moments-same start.input journal e none) h
+pub heard_push : (start now : InPart) (journal : List Entry) (e : Entry) → gathers_by now.input e ≡ [] → is_ended_of now.input e ≡ false → gathered_by e ≡ 0 → Heard start now journal → Heard start now (journal ++ e ∷ [])
+heard_push start now journal e none other count h =
+    heard_same start now journal (journal ++ e ∷ []) (gathers-other now.input journal e none) (has_ended-other now.input journal e other)
+    (let n : gathered_count (journal ++ e ∷ []) ≡ gathered_count journal = omega (arith, gathered_count-push journal e, count) in n) (gather_moments-same now.input journal e none) h
 
 -- an entry that says nothing of an output
 pub record IsQuietAt (output : ℕ) (e : Entry) : Type 0 where
@@ -182,11 +178,11 @@ pub all_said_anew : (starts outs : List OutPart) (journal : List Entry) (e : Ent
 all_said_anew starts outs journal e fresh ends none h = λ o l. said_anew (out_at starts o) (out_at outs o) o journal e (fresh o l) (ends o) (none o) (h o l)
 
 -- the counts of failed batches of all outputs begin anew
-pub went_anew : (start : Beginning) (core : CoreState) (hand : Hand) (now : Surroundings) (outs new_outs : List OutPart) → new_outs ≡ map anew outs → Progress start core hand (record now { outs = outs }) → Progress start core hand (record now { outs = new_outs })
-went_anew start core hand now outs new_outs are w = record {
+pub went_anew : (start : Beginning) (core : CoreState) (now : Surroundings) (outs new_outs : List OutPart) → new_outs ≡ map anew outs → Progress start core (record now { outs = outs }) → Progress start core (record now { outs = new_outs })
+went_anew start core now outs new_outs are w = record {
   journal = w.journal;
   text = w.text;
-  heard = heard_beside start (record now { outs = outs }) hand w.journal new_outs now.journal now.counted_at w.heard;
+  heard = w.heard;
   out_count = ap length are ∙ length-map outs anew ∙ w.out_count;
   said = subst (λ (all : List OutPart). AllSaid start.outs all w.journal) (sym are)
       (λ o l. let b : o < length outs = omega (arith, l, length-map outs anew) in
@@ -197,13 +193,13 @@ went_anew start core hand now outs new_outs are w = record {
 }
 
 -- an entry that says nothing of the input and of the outputs
-pub went_quiet : (start : Beginning) (core next : CoreState) (hand : Hand) (now : Surroundings) (e : Entry) (w : Progress start core hand now) →
+pub went_quiet : (start : Beginning) (core next : CoreState) (now : Surroundings) (e : Entry) (w : Progress start core now) →
     Continues core next e → next.stored ≡ core.stored ++ e ∷ [] → next.setup ≡ core.setup →
-    gathers_by start.input e ≡ [] → is_ended_of start.input e ≡ false → gathered_by e ≡ 0 → ((output : ℕ) → IsQuietAt output e) → is_stop e ≡ false → WorkedBy (items w.journal) e → IsOrderly start.setup w.journal e → counted_by e ≡ [] → Progress start next hand now
-went_quiet start core next hand now e w more stored same none other count quiet going worked orderly still = record {
+    gathers_by now.input.input e ≡ [] → is_ended_of now.input.input e ≡ false → gathered_by e ≡ 0 → ((output : ℕ) → IsQuietAt output e) → is_stop e ≡ false → WorkedBy (items w.journal) e → IsOrderly start.setup w.journal e → counted_by e ≡ [] → Progress start next now
+went_quiet start core next now e w more stored same none other count quiet going worked orderly still = record {
   journal = w.journal ++ e ∷ [];
   text = text-push start core next now.journal w.journal e w.text more stored same;
-  heard = heard_push start now hand w.journal e none other count w.heard;
+  heard = heard_push start.input now.input w.journal e none other count w.heard;
   out_count = w.out_count;
   said = all_said_push start.outs now.outs w.journal e quiet going w.said;
   worked = worked-push w.journal e worked w.worked;
@@ -212,9 +208,9 @@ went_quiet start core next hand now e w more stored same none other count quiet 
 }
 
 -- an item was taken
-pub went_take : (start : Beginning) (core next : CoreState) (hand : Hand) (now : Surroundings) → next ≡ after_take core → Continues core next (Take core.taken) → Progress start core hand now → Progress start next hand now
-went_take start core next hand now is more w =
-    went_quiet start core next hand now (Take core.taken) w more (ap (λ (s : CoreState). s.stored) is) (ap (λ (s : CoreState). s.setup) is) refl refl refl (λ o. record { ends = tt; none = refl; quiet = refl }) refl tt tt refl
+pub went_take : (start : Beginning) (core next : CoreState) (now : Surroundings) → next ≡ after_take core → Continues core next (Take core.taken) → Progress start core now → Progress start next now
+went_take start core next now is more w =
+    went_quiet start core next now (Take core.taken) w more (ap (λ (s : CoreState). s.stored) is) (ap (λ (s : CoreState). s.setup) is) refl refl refl (λ o. record { ends = tt; none = refl; quiet = refl }) refl tt tt refl
 
 -- each of so many views is the same
 all_same : (n : ℕ) (metric : Content) → AllByRecursion (λ (view : Option Content). view ≡ Some metric) (replicate n (Some metric))
@@ -222,10 +218,10 @@ all_same zero metric = tt
 all_same (suc n) metric = (refl, all_same n metric)
 
 -- the first raw item was taken and routed as it is
-pub went_route : (start : Beginning) (core mid next : CoreState) (hand : Hand) (now : Surroundings) (outputs : ℕ) (metric : Content) → AreAnew now.outs → slice_get core.raw 0 ≡ Some metric →
-    mid ≡ after_take core → Continues core mid (Take core.taken) → next ≡ after_route mid (as_it_is outputs core.taken metric) → Continues mid next (route_entry mid (as_it_is outputs core.taken metric)) → Progress start core hand now → Progress start next hand now
-went_route start core mid next hand now outputs metric fresh first taken takes routed routes w =
-    let v : Progress start mid hand now = went_take start core mid hand now taken takes w in
+pub went_route : (start : Beginning) (core mid next : CoreState) (now : Surroundings) (outputs : ℕ) (metric : Content) → AreAnew now.outs → slice_get core.raw 0 ≡ Some metric →
+    mid ≡ after_take core → Continues core mid (Take core.taken) → next ≡ after_route mid (as_it_is outputs core.taken metric) → Continues mid next (route_entry mid (as_it_is outputs core.taken metric)) → Progress start core now → Progress start next now
+went_route start core mid next now outputs metric fresh first taken takes routed routes w =
+    let v : Progress start mid now = went_take start core mid now taken takes w in
     let shape : IsRouteEntry (as_it_is outputs core.taken metric) (route_entry mid (as_it_is outputs core.taken metric)) = entries-have-shape.routes mid (as_it_is outputs core.taken metric) in
     let verdict : Verdict = shape.0 in
     let reports : List Report = shape.1 in
@@ -238,7 +234,7 @@ went_route start core mid next hand now outputs metric fresh first taken takes r
       text = text-push start mid next now.journal (w.journal ++ Take core.taken ∷ []) e
           (text-push start core mid now.journal w.journal (Take core.taken) w.text takes (ap (λ (s : CoreState). s.stored) taken) (ap (λ (s : CoreState). s.setup) taken))
           (subst (Continues mid next) shape.2 routes) (ap (λ (s : CoreState). s.stored) routed ∙ ap (λ (x : Entry). mid.stored ++ x ∷ []) shape.2) (ap (λ (s : CoreState). s.setup) routed);
-      heard = heard_push start now hand (w.journal ++ Take core.taken ∷ []) e refl refl refl (heard_push start now hand w.journal (Take core.taken) refl refl refl w.heard);
+      heard = heard_push start.input now.input (w.journal ++ Take core.taken ∷ []) e refl refl refl (heard_push start.input now.input w.journal (Take core.taken) refl refl refl w.heard);
       out_count = w.out_count;
       said = all_said_anew start.outs now.outs (w.journal ++ Take core.taken ∷ []) e fresh (λ o. tt) (λ o. refl)
           (all_said_push start.outs now.outs w.journal (Take core.taken) (λ o. record { ends = tt; none = refl; quiet = refl }) refl w.said);
@@ -248,12 +244,12 @@ went_route start core mid next hand now outputs metric fresh first taken takes r
     }
 
 -- the stored entries were noted
-pub went_cut : (start : Beginning) (core next : CoreState) (part more : JournalPart) (hand : Hand) (now : Surroundings) → ((es : List Entry) → Stands core es → Stands next es) → next ≡ after_cut core → NotesOn core.stored part more
-    → Progress start core hand (record now { journal = part }) → Progress start next hand (record now { journal = more })
-went_cut start core next part more hand now stands is notes w = record {
+pub went_cut : (start : Beginning) (core next : CoreState) (part more : JournalPart) (now : Surroundings) → ((es : List Entry) → Stands core es → Stands next es) → next ≡ after_cut core → NotesOn core.stored part more
+    → Progress start core (record now { journal = part }) → Progress start next (record now { journal = more })
+went_cut start core next part more now stands is notes w = record {
   journal = w.journal;
   text = text-cut start core next part more w.journal w.text stands (ap (λ (s : CoreState). s.stored) is) (ap (λ (s : CoreState). s.setup) is) notes;
-  heard = heard_beside start (record now { journal = part }) hand w.journal now.outs more now.counted_at w.heard;
+  heard = w.heard;
   out_count = w.out_count;
   said = w.said;
   worked = w.worked;
@@ -262,13 +258,13 @@ went_cut start core next part more hand now stands is notes w = record {
 }
 
 -- no entry was stored
-pub went_uncut : (start : Beginning) (core next : CoreState) (hand : Hand) (now : Surroundings) → next ≡ core → Progress start core hand now → Progress start next hand now
-went_uncut start core next hand now is w = subst (λ (s : CoreState). Progress start s hand now) (sym is) w
+pub went_uncut : (start : Beginning) (core next : CoreState) (now : Surroundings) → next ≡ core → Progress start core now → Progress start next now
+went_uncut start core next now is w = subst (λ (s : CoreState). Progress start s now) (sym is) w
 
 -- the run was stopped at a moment
-pub went_stop : (start : Beginning) (core next : CoreState) (hand : Hand) (now : Surroundings) (moment : ℤ) → AreAnew now.outs → next ≡ after_stop core moment → Continues core next (stop_entry core moment)
-    → (w : Progress start core hand (record now { counted_at = [] })) → Progress start next hand (record now { counted_at = int_max moment start.setup.start ∷ [] })
-went_stop start core next hand now moment fresh is more w =
+pub went_stop : (start : Beginning) (core next : CoreState) (now : Surroundings) (moment : ℤ) → AreAnew now.outs → next ≡ after_stop core moment → Continues core next (stop_entry core moment)
+    → (w : Progress start core (record now { counted_at = [] })) → Progress start next (record now { counted_at = int_max moment start.setup.start ∷ [] })
+went_stop start core next now moment fresh is more w =
     let shape : IsStopEntry (moment_at core moment) (stop_entry core moment) = entries-have-shape.stops core moment in
     let e : Entry = Stop (int_max moment core.counted) shape.0 in
     let counted : core.counted ≡ start.setup.start =
@@ -276,7 +272,7 @@ went_stop start core next hand now moment fresh is more w =
     record {
       journal = w.journal ++ e ∷ [];
       text = text-push start core next now.journal w.journal e w.text (subst (Continues core next) shape.1 more) (ap (λ (s : CoreState). s.stored) is ∙ ap (λ (x : Entry). core.stored ++ x ∷ []) shape.1) (ap (λ (s : CoreState). s.setup) is);
-      heard = heard_push start (record now { counted_at = int_max moment start.setup.start ∷ [] }) hand w.journal e refl refl refl (heard_beside start (record now { counted_at = [] }) hand w.journal now.outs now.journal (int_max moment start.setup.start ∷ []) w.heard);
+      heard = heard_push start.input now.input w.journal e refl refl refl w.heard;
       out_count = w.out_count;
       said = all_said_anew start.outs now.outs w.journal e fresh (λ o. tt) (λ o. refl) w.said;
       worked = worked-push w.journal e tt w.worked;
@@ -285,8 +281,8 @@ went_stop start core next hand now moment fresh is more w =
     }
 
 -- the same of an item with the number of the first raw one
-pub went_item : (start : Beginning) (core mid next : CoreState) (hand : Hand) (now : Surroundings) (outputs number : ℕ) (metric : Content) → AreAnew now.outs → number ≡ core.taken → slice_get core.raw 0 ≡ Some metric →
-    mid ≡ after_take core → Continues core mid (Take core.taken) → next ≡ after_route mid (as_it_is outputs number metric) → Continues mid next (route_entry mid (as_it_is outputs number metric)) → Progress start core hand now → Progress start next hand now
-went_item start core mid next hand now outputs number metric fresh is first taken takes routed routes w =
-    went_route start core mid next hand now outputs metric fresh first taken takes
+pub went_item : (start : Beginning) (core mid next : CoreState) (now : Surroundings) (outputs number : ℕ) (metric : Content) → AreAnew now.outs → number ≡ core.taken → slice_get core.raw 0 ≡ Some metric →
+    mid ≡ after_take core → Continues core mid (Take core.taken) → next ≡ after_route mid (as_it_is outputs number metric) → Continues mid next (route_entry mid (as_it_is outputs number metric)) → Progress start core now → Progress start next now
+went_item start core mid next now outputs number metric fresh is first taken takes routed routes w =
+    went_route start core mid next now outputs metric fresh first taken takes
     (subst (λ (n : ℕ). next ≡ after_route mid (as_it_is outputs n metric)) is routed) (subst (λ (n : ℕ). Continues mid next (route_entry mid (as_it_is outputs n metric))) is routes) w

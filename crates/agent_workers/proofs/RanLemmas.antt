@@ -27,3 +27,9 @@ ran_of most tries sizes r ending input outputs noted run_moments input_moments i
 pub ran_sized : (most tries : ℕ) (sizes other : List (ℕ × ℕ)) (r : Result Ending OutOfMemory) (input : Change) (outputs : List Change) (noted : Change) (run_moments input_moments : Option Moments) → sizes ≡ other →
     IfOk r (λ e. Ran most tries sizes e input outputs noted run_moments input_moments) → IfOk r (λ e. Ran most tries other e input outputs noted run_moments input_moments)
 ran_sized most tries sizes other r input outputs noted run_moments input_moments same h = subst (λ (s : List (ℕ × ℕ)). IfOk r (λ e. Ran most tries s e input outputs noted run_moments input_moments)) same h
+
+-- the most pieces and the moments of the input's clock by other terms
+pub ran_like : (tries : ℕ) (sizes : List (ℕ × ℕ)) (ending : Ending) (input : Change) (outputs : List Change) (noted : Change) (run_moments : Option Moments) (most other : ℕ) (input_moments other_moments : Option Moments) → most ≡ other → input_moments ≡ other_moments →
+    Ran most tries sizes ending input outputs noted run_moments input_moments → Ran other tries sizes ending input outputs noted run_moments other_moments
+ran_like tries sizes ending input outputs noted run_moments most other input_moments other_moments m k h =
+    subst (λ (n : ℕ). Ran n tries sizes ending input outputs noted run_moments other_moments) m (subst (λ (x : Option Moments). Ran most tries sizes ending input outputs noted run_moments x) k h)

@@ -5,7 +5,6 @@ use Rattle.std.specs.Io.KnownBytes.{Appends}
 use Rattle.account.specs.declared.entry.Entry.{Entry}
 use Rattle.account.specs.declared.entry.Entry.TheVariants.{Begin, Done}
 use Rattle.agent_base.specs.Counts.{Rose, RoseBy}
-use Rattle.agent_base.specs.Hand.{Hand}
 use Rattle.agent_base.specs.Puts.{PutAppends}
 use Rattle.agent_base.specs.declared.outside.PutFault.{PutFault}
 use Rattle.agent_base.specs.declared.outside.PutFault.TheVariants.{Failed}
@@ -23,7 +22,6 @@ use Rattle.account.specs.Dones.{dones}
 use Rattle.pipeline_core.specs.Stopped.{behind_stop}
 use Rattle.agent_workers.specs.Progress.{Beginning, Surroundings, Said, AllSaid, SendsOn, SendsAt, Progress}
 use Rattle.agent_workers.specs.Output.{batch_text, OutPart, out_at, no_out}
-use Rattle.agent_workers.specs.declared.pipe_run.PipeRun.{PipeRun}
 use Rattle.agent_workers.proofs.OutLemmas.{each_set}
 use Rattle.agent_workers.proofs.ProgressLemmas.{IsQuietAt, said_push}
 use Rattle.out_lane.specs.LaneEvents as events
@@ -34,7 +32,7 @@ use Rattle.agent_workers.proofs.RoseLemmas.{rose_later, rose_more}
 use Rattle.pipeline_core.proofs.StopLemmas.{behind_stop-push, stop_before}
 use Rattle.account.proofs.MomentLemmas.{counted_moments-same}
 use Rattle.pipeline_core.proofs.OrderLemmas.{in_order-push}
-use Rattle.agent_workers.proofs.ProgressLemmas.{text-push, heard_push, heard_beside}
+use Rattle.agent_workers.proofs.ProgressLemmas.{text-push, heard_push}
 use Rattle.agent_workers.proofs.SentLemmas.{sent_accepted, sent_failed}
 use Rattle.pipeline_core.proofs.WorkedLemmas.{worked-push}
 
@@ -51,7 +49,7 @@ done_quiet reports output other ok ne =
     let apart : (output == other) ≡ false = differs output other (λ e. ne (sym e)) in
     record { ends = apart; none = ap (λ (here : Bool). if here then ok ∷ [] else []) apart; quiet = ap (λ (here : Bool). if here then events.Done ok ∷ [] else []) apart }
 
-module _ (start : Beginning) (core mid next : CoreState) (hand : Hand) (now : Surroundings) (old new : OutPart) (batch : Batch) (text : List ℕ)
+module _ (start : Beginning) (core mid next : CoreState) (now : Surroundings) (old new : OutPart) (batch : Batch) (text : List ℕ)
     (within : old.output < length core.setup.outputs) (routed : core.raw ≡ []) (is : IsBatchOf (lane_at core.lanes old.output) batch) (spelled : text ≡ batch_text batch.metrics) (later : old.put_faults ≤ new.put_faults)
     (began : mid ≡ after_begin core old.output batch.from batch.to) (begins : Continues core mid (Begin old.output batch.from batch.to))
     (b : old.output < length now.outs) (at : out_at now.outs old.output ≡ old) where
@@ -65,8 +63,8 @@ module _ (start : Beginning) (core mid next : CoreState) (hand : Hand) (now : Su
       (λ k l ne. said_push (out_at start.outs k) (out_at now.outs k) k (journal ++ begin ∷ []) end (done_quiet reports old.output k ok ne) refl
       (said_push (out_at start.outs k) (out_at now.outs k) k journal begin (begin_quiet old.output k batch.from batch.to ne) refl (h k l)))
 
-  went_done : (reports : List Report) (ok : Bool) (w : Progress start core hand now) → next.stored ≡ mid.stored ++ Done old.output ok reports ∷ [] → next.setup ≡ mid.setup → Continues mid next (Done old.output ok reports) →
-      Said (out_at start.outs old.output) new old.output ((w.journal ++ Begin old.output batch.from batch.to ∷ []) ++ Done old.output ok reports ∷ []) → Progress start next hand (record now { outs = set now.outs old.output new })
+  went_done : (reports : List Report) (ok : Bool) (w : Progress start core now) → next.stored ≡ mid.stored ++ Done old.output ok reports ∷ [] → next.setup ≡ mid.setup → Continues mid next (Done old.output ok reports) →
+      Said (out_at start.outs old.output) new old.output ((w.journal ++ Begin old.output batch.from batch.to ∷ []) ++ Done old.output ok reports ∷ []) → Progress start next (record now { outs = set now.outs old.output new })
   went_done reports ok w stored same ends said =
       let begin : Entry = Begin old.output batch.from batch.to in
       let end : Entry = Done old.output ok reports in
@@ -76,7 +74,7 @@ module _ (start : Beginning) (core mid next : CoreState) (hand : Hand) (now : Su
         text = text-push start mid next now.journal between end
             (text-push start core mid now.journal w.journal begin w.text begins (ap (λ (s : CoreState). s.stored) began) (ap (λ (s : CoreState). s.setup) began))
             ends stored same;
-        heard = heard_beside start now hand (between ++ end ∷ []) (set now.outs old.output new) now.journal now.counted_at (heard_push start now hand between end refl refl refl (heard_push start now hand w.journal begin refl refl refl w.heard));
+        heard = heard_push start.input now.input between end refl refl refl (heard_push start.input now.input w.journal begin refl refl refl w.heard);
         out_count = length-set now.outs old.output new ∙ w.out_count;
         said = said_done reports ok w.journal w.said said;
         worked = worked-push between end tt (worked-push w.journal begin tt w.worked);
@@ -85,11 +83,11 @@ module _ (start : Beginning) (core mid next : CoreState) (hand : Hand) (now : Su
       }
 
   -- what was said of the output
-  said_before : (w : Progress start core hand now) → Said (out_at start.outs old.output) old old.output w.journal
+  said_before : (w : Progress start core now) → Said (out_at start.outs old.output) old old.output w.journal
   said_before w = subst (λ (out : OutPart). Said (out_at start.outs old.output) out old.output w.journal) at (w.said old.output b)
 
   -- the batch was accepted
-  pub went_accepted : new.failed ≡ 0 → next ≡ after_done mid old.output true → Continues mid next (done_entry mid old.output true) → Appends old.held new.held text → Progress start core hand now → Progress start next hand (record now { outs = set now.outs old.output new })
+  pub went_accepted : new.failed ≡ 0 → next ≡ after_done mid old.output true → Continues mid next (done_entry mid old.output true) → Appends old.held new.held text → Progress start core now → Progress start next (record now { outs = set now.outs old.output new })
   went_accepted nil done ends put w =
       let o : ℕ = old.output in
       let shape : IsDoneEntry o true (done_entry mid o true) = entries-have-shape.dones mid o true in
@@ -109,7 +107,7 @@ module _ (start : Beginning) (core mid next : CoreState) (hand : Hand) (now : Su
 
   -- its put failed
   pub went_failed : (fault : PutFault) → fault ≡ Failed → new.failed ≤ old.failed + 1 → next ≡ after_done mid old.output false → Continues mid next (done_entry mid old.output false) → PutAppends old.held new.held text (Err fault) → Rose old.put_faults new.put_faults
-      → Progress start core hand now → Progress start next hand (record now { outs = set now.outs old.output new })
+      → Progress start core now → Progress start next (record now { outs = set now.outs old.output new })
   went_failed fault f few done ends put rose w =
       let o : ℕ = old.output in
       let shape : IsDoneEntry o false (done_entry mid o false) = entries-have-shape.dones mid o false in
@@ -140,26 +138,26 @@ module _ (start : Beginning) (core mid next : CoreState) (hand : Hand) (now : Su
       })
 
 -- nothing was put
-pub sends_none : (old new : PipeRun) (out : OutPart) → new.core ≡ old.core → new.pieces ≡ old.pieces → SendsAt old new out out
-sends_none old new out core pieces = λ outs b at start now w.
+pub sends_none : (old new : CoreState) (out : OutPart) → new ≡ old → SendsAt old new out out
+sends_none old new out core = λ outs b at start now w.
     let same : set outs out.output out ≡ outs = subst (λ (x : OutPart). set outs out.output x ≡ outs) at (set-get_or outs out.output no_out) in
-    subst (λ (all : List OutPart). Progress start new.core new.pieces (record now { outs = all })) (sym same)
-    (subst (λ (s : CoreState). Progress start s new.pieces (record now { outs = outs })) (sym core) (subst (λ (h : Hand). Progress start old.core h (record now { outs = outs })) (sym pieces) w))
+    subst (λ (all : List OutPart). Progress start new (record now { outs = all })) (sym same)
+    (subst (λ (s : CoreState). Progress start s (record now { outs = outs })) (sym core) w)
 
 -- one batch after another
-pub sends_more : (old mid new : PipeRun) (out mid_out new_out : OutPart) → mid_out.output ≡ out.output → SendsAt old mid out mid_out → SendsAt mid new mid_out new_out → SendsAt old new out new_out
+pub sends_more : (old mid new : CoreState) (out mid_out new_out : OutPart) → mid_out.output ≡ out.output → SendsAt old mid out mid_out → SendsAt mid new mid_out new_out → SendsAt old new out new_out
 sends_more old mid new out mid_out new_out number first second = λ outs b at start now w.
     let i : ℕ = out.output in
     let l : mid_out.output < length (set outs i mid_out) = omega (arith, b, number, length-set outs i mid_out) in
     let here : out_at (set outs i mid_out) mid_out.output ≡ mid_out = ap (out_at (set outs i mid_out)) number ∙ get_or-set_same outs i mid_out no_out b in
     let twice : set (set outs i mid_out) mid_out.output new_out ≡ set outs i new_out = ap (λ (k : ℕ). set (set outs i mid_out) k new_out) number ∙ set-set outs i mid_out new_out in
-    subst (λ (all : List OutPart). Progress start new.core new.pieces (record now { outs = all })) twice (second (set outs i mid_out) l here start now (first outs b at start now w))
+    subst (λ (all : List OutPart). Progress start new (record now { outs = all })) twice (second (set outs i mid_out) l here start now (first outs b at start now w))
 
 -- a put to one of the outputs is one to the outputs
-pub sends_at : (old new : PipeRun) (i : ℕ) (out new_out : OutPart) (outs : List OutPart) → out.output ≡ i → i < length outs → out_at outs i ≡ out → SendsAt old new out new_out → SendsOn old new outs (set outs i new_out)
+pub sends_at : (old new : CoreState) (i : ℕ) (out new_out : OutPart) (outs : List OutPart) → out.output ≡ i → i < length outs → out_at outs i ≡ out → SendsAt old new out new_out → SendsOn old new outs (set outs i new_out)
 sends_at old new i out new_out outs number b at h =
     subst (λ (k : ℕ). SendsOn old new outs (set outs k new_out)) number
     (h outs (omega (arith, b, number)) (ap (out_at outs) number ∙ at))
 
-pub sends_then : (old mid new : PipeRun) (outs mid_outs new_outs : List OutPart) → SendsOn old mid outs mid_outs → SendsOn mid new mid_outs new_outs → SendsOn old new outs new_outs
+pub sends_then : (old mid new : CoreState) (outs mid_outs new_outs : List OutPart) → SendsOn old mid outs mid_outs → SendsOn mid new mid_outs new_outs → SendsOn old new outs new_outs
 sends_then old mid new outs mid_outs new_outs first second = λ start now w. second start now (first start now w)

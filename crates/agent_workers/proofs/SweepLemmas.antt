@@ -1,7 +1,8 @@
 -- One repeat over all outputs, output by output, and repeats in succession.
-use Rattle.std.proofs.Common.{◌≡◌, ◌≢◌, ◌≤◌, ◌<◌, ◌+◌, ◌-◌, ◌^◌, ◌||◌, ◌&&◌, ℕ, min, Bool, true, false, List, length, set, refl, sym, ap, ◌∙◌, subst, inl, inr, arith, below_more}
+use Rattle.std.proofs.Common.{◌≡◌, ◌≢◌, ◌≤◌, ◌<◌, ◌+◌, ◌-◌, ◌^◌, ◌||◌, ◌&&◌, ◌==◌, not, ℕ, min, Bool, true, false, List, length, set, refl, sym, ap, ◌∙◌, subst, inl, inr, arith, below_more}
 use Rattle.std.specs.Prelude.{◌⊎◌}
-use Rattle.std.proofs.lemmas.Bool.{cases_Bool}
+use Rattle.std.proofs.lemmas.Bool.{cases_Bool, cases_eq}
+use Rattle.pipeline_core.proofs.StandsSteps.{differs}
 use Rattle.std.proofs.lemmas.List.{get_or-set_same, get_or-set_other}
 use Rattle.account.specs.declared.numbers.OutputNumbers.{OutputNumbers}
 use Rattle.out_lane.specs.Lane.{LaneState}
@@ -44,6 +45,22 @@ settled_by false flush o old new failed new_failed e h = inr (h.failed_last e)
 tried_by : (emptied : Bool) (flush : Flush) (o : ℕ) (old new : CoreState) (failed new_failed : ℕ) → flush.emptied ≡ emptied → flush.accepted ≡ false → HasFlushed flush o old new failed new_failed → WasTried o old new failed new_failed
 tried_by true flush o old new failed new_failed e a h = inl (h.emptied e)
 tried_by false flush o old new failed new_failed e a h = inr (h.stuck e a)
+
+zero_of : (n : ℕ) → not (n == 0) ≡ false → n ≡ 0
+zero_of n e =
+    elim (cases_eq n 0) [
+      | inl z ↦ z
+      | inr ne ↦ absurd (never (sym (sym (ap not (differs n 0 ne)) ∙ e)))
+    ]
+
+-- the last put of so many batches failed
+pub flushed_failed : (batch o : ℕ) (old mid new : CoreState) (failed mid_failed new_failed : ℕ) → waiting_at mid o ≢ 0 → new_failed ≡ min (mid_failed + 1) (2 ^ 32 - 1) → (batch ≡ 0 → mid_failed ≡ failed) → (batch ≡ 0 → waiting_at mid o ≡ waiting_at old o) →
+    HasFlushed (record { emptied = false; accepted = not (batch == 0) }) o old new failed new_failed
+flushed_failed batch o old mid new failed mid_failed new_failed some rose first waits = record {
+  emptied = λ e. absurd (never e);
+  failed_last = λ e. omega (arith, rose);
+  stuck = λ e none. (λ z. some (waits (zero_of batch none) ∙ z), rose ∙ ap (λ (n : ℕ). min (n + 1) (2 ^ 32 - 1)) (first (zero_of batch none)));
+}
 
 -- what was tried, by other terms
 tried_as : (o : ℕ) (old mid new : CoreState) (failed first new_failed last : ℕ) → lane_at mid.lanes o ≡ lane_at old.lanes o → failed ≡ first → new_failed ≡ last → WasTried o mid new failed new_failed → WasTried o old new first last

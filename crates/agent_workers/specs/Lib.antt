@@ -1,4 +1,5 @@
 pub mod Input
+pub mod Inputs
 pub mod Groups
 pub mod Run
 pub mod Noted

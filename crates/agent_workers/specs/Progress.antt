@@ -14,9 +14,9 @@ use Rattle.pipeline_core.specs.CoreState.{CoreState}
 use Rattle.pipeline_core.specs.Legal.{has_ended, has_stop}
 use Rattle.pipeline_core.specs.Offers.{lane_events}
 use Rattle.pipeline_core.specs.Stands.{Stands}
-use Rattle.agent_workers.specs.declared.pipe_run.PipeRun.{PipeRun}
 use Rattle.agent_workers.specs.declared.input.InState.{InState}
 use Rattle.agent_workers.specs.declared.input.InState.TheVariants as states
+use Rattle.agent_workers.specs.Inputs.{InPart}
 use Rattle.agent_workers.specs.Input.{IsFull, Gathered, Gathering, NamesSoFar, NamesTaken}
 use Rattle.account.specs.Dones.{dones, failed_count, LastFailed}
 use Rattle.pipeline_core.specs.Stopped.{behind_stop}
@@ -29,27 +29,19 @@ use Rattle.agent_workers.specs.Output.{AppendsSo, batch_text, OutPart, out_at, A
 use Rattle.agent_workers.specs.Running.{AreSettled}
 use Rattle.pipeline_core.specs.Worked.{Worked}
 
--- what a run began with: its set-up, the number of its input, how many pieces a gather has at most, the bytes
--- left of the input and its count of failed reads, its outputs, the bytes held by the journal's place and its
--- count of failed puts, and the moments of the input's clock
+-- what a run began with: its set-up, its input, its outputs, and the bytes held by the journal's place and its
+-- count of failed puts
 pub record Beginning : Type 0 where
   pub setup : Setup
-  pub input : ℕ
-  pub most : ℕ
-  pub bytes : Option (List ℕ)
-  pub read_faults : ℕ
+  pub input : InPart
   pub outs : List OutPart
   pub noted : Option (List ℕ)
   pub note_faults : ℕ
-  pub moments : Option Moments
 
--- what is around a run: whether the input is read on, the bytes left of it, its count of failed reads, the
--- place of its clock, the outputs, the journal's part, and the moments that were counted since the start
+-- what is around a run: the input, the outputs, the journal's part, and the moments that were counted since the
+-- start
 pub record Surroundings : Type 0 where
-  pub state : InState
-  pub left : Option (List ℕ)
-  pub read_faults : ℕ
-  pub place : ℕ
+  pub input : InPart
   pub outs : List OutPart
   pub journal : JournalPart
   pub counted_at : List ℤ
@@ -77,13 +69,12 @@ is_ended _ = false
 
 -- fewer than 2^40 bytes were taken; where a read failed its count rose; or so many bytes were taken, or the
 -- run is full
-abbrev pub HasState : InState → Beginning → ℕ → Option (List ℕ) → Hand → List Entry → Type 0
-HasState states.Reading start read_faults left hand journal = hand.taken < 2 ^ 40
-HasState states.Ended start read_faults left hand journal = hand.taken < 2 ^ 40
-HasState states.Faulted start read_faults left hand journal = (hand.taken < 2 ^ 40)
-    × Rose start.read_faults read_faults
-HasState states.LimitReached start read_faults left hand journal = (hand.taken ≡ 2 ^ 40)
-    ⊎ IsFull start.most journal start.input start.bytes left
+abbrev pub HasState : InState → InPart → InPart → List Entry → Type 0
+HasState states.Reading start now journal = now.hand.taken < 2 ^ 40
+HasState states.Ended start now journal = now.hand.taken < 2 ^ 40
+HasState states.Faulted start now journal = (now.hand.taken < 2 ^ 40) × Rose start.read_faults now.read_faults
+HasState states.LimitReached start now journal = (now.hand.taken ≡ 2 ^ 40)
+    ⊎ IsFull now.most journal now.input start.left now.left
 
 -- a clock came to a place of its list, and gave these moments on the way
 abbrev pub IsClocked : Moments → ℕ → List ℤ → Type 0
@@ -97,17 +88,17 @@ IsNamedOfTaken input most states.Ended journal hand text left = Unit {0}
 IsNamedOfTaken input most states.Faulted journal hand text left = NamesTaken journal input text left
 IsNamedOfTaken input most states.LimitReached journal hand text left = Unit {0}
 
--- what the journal says of the input
-pub record Heard (start : Beginning) (now : Surroundings) (hand : Hand) (journal : List Entry) : Type 0 where
-  pub named : Told start.bytes now.left (λ xs ys. IsNamed start.input start.most now.state journal xs
-      (to_come hand ys))
-  pub of_taken : Told start.bytes now.left (IsNamedOfTaken start.input start.most now.state journal hand)
-  pub counted : Told start.bytes now.left (λ xs ys. length xs ≡ hand.taken + length ys)
-  pub ended : has_ended start.input journal ≡ is_ended now.state
+-- what the journal says of an input
+pub record Heard (start now : InPart) (journal : List Entry) : Type 0 where
+  pub named : Told start.left now.left (λ xs ys. IsNamed now.input now.most now.state journal xs
+      (to_come now.hand ys))
+  pub of_taken : Told start.left now.left (IsNamedOfTaken now.input now.most now.state journal now.hand)
+  pub counted : Told start.left now.left (λ xs ys. length xs ≡ now.hand.taken + length ys)
+  pub ended : has_ended now.input journal ≡ is_ended now.state
   pub later : start.read_faults ≤ now.read_faults
-  pub state : HasState now.state start now.read_faults now.left hand journal
-  pub clocked : IfSome start.moments
-      (λ moments. IsClocked moments now.place (gather_moments start.input journal))
+  pub state : HasState now.state start now journal
+  pub clocked : IfSome now.moments
+      (λ moments. IsClocked moments now.place (gather_moments now.input journal))
 
 -- what the journal says of an output
 pub record Said (start now : OutPart) (output : ℕ) (journal : List Entry) : Type 0 where
@@ -125,75 +116,49 @@ AllSaid starts outs journal =
 
 -- there is a journal for which the core stands, which is noted, and which says what was read and what was
 -- sent
-pub record Progress (start : Beginning) (core : CoreState) (hand : Hand) (now : Surroundings) : Type 0 where
+pub record Progress (start : Beginning) (core : CoreState) (now : Surroundings) : Type 0 where
   pub journal : List Entry
   pub text : HasText start core now.journal journal
-  pub heard : Heard start now hand journal
+  pub heard : Heard start.input now.input journal
   pub out_count : length now.outs ≡ length start.setup.outputs
   pub said : AllSaid start.outs now.outs journal
   pub worked : Worked journal
   pub in_order : InOrder start.setup journal
   pub counted_at : counted_moments journal ≡ now.counted_at
 
--- so it is for a run
-abbrev pub Went : Beginning → PipeRun → Surroundings → Type 0
-Went start run now = Progress start run.core run.pieces now
-
--- a step of a run that changes nothing around it, while no batch failed
-abbrev pub GoesOn : PipeRun → PipeRun → Type 0
-GoesOn old new = (start : Beginning) (now : Surroundings) → AreAnew now.outs → Went start old now
-    → Went start new now
+-- a step that changes nothing around the run, while no batch failed
+abbrev pub GoesOn : CoreState → CoreState → Type 0
+GoesOn old new = (start : Beginning) (now : Surroundings) → AreAnew now.outs → Progress start old now
+    → Progress start new now
 
 -- a step that puts to the outputs
-abbrev pub SendsOn : PipeRun → PipeRun → List OutPart → List OutPart → Type 0
+abbrev pub SendsOn : CoreState → CoreState → List OutPart → List OutPart → Type 0
 SendsOn old new outs new_outs =
     (start : Beginning) (now : Surroundings)
-    → Went start old (record now { outs = outs }) → Went start new (record now { outs = new_outs })
+    → Progress start old (record now { outs = outs }) → Progress start new (record now { outs = new_outs })
 
 -- a step that puts to one of the outputs, whatever the others are
-abbrev pub SendsAt : PipeRun → PipeRun → OutPart → OutPart → Type 0
+abbrev pub SendsAt : CoreState → CoreState → OutPart → OutPart → Type 0
 SendsAt old new out new_out =
     (outs : List OutPart) → out.output < length outs → out_at outs out.output ≡ out
     → SendsOn old new outs (slice_set outs out.output new_out)
 
--- a step that reads the input, with the state that it leaves, the bytes left before and after, the counts of
--- failed reads, and the clock's moments and places; before it the outputs are settled
-abbrev pub ReadsOn : ℕ → ℕ → PipeRun → PipeRun → InState → Option (List ℕ) → Option (List ℕ) → ℕ → ℕ
-    → Option Moments → ℕ → ℕ → Type 0
-ReadsOn input most old new state left new_left read_faults new_read_faults moments place new_place =
-    (start : Beginning) (now : Surroundings) → AreSettled old.core now.outs →
-    Went (record start { input = input; most = most; moments = moments }) old
-    (record now { state = states.Reading; left = left; read_faults = read_faults; place = place }) →
-    Went (record start { input = input; most = most; moments = moments }) new
-    (record now { state = state; left = new_left; read_faults = new_read_faults; place = new_place })
+-- a step that reads the input; before it the outputs are settled
+abbrev pub ReadsOn : CoreState → CoreState → InPart → InPart → Type 0
+ReadsOn old new input new_input =
+    (start : Beginning) (now : Surroundings) → AreSettled old now.outs
+    → Progress start old (record now { input = input }) → Progress start new (record now { input = new_input })
 
 -- a step that puts to the journal's place
-abbrev pub NotesRun : PipeRun → PipeRun → JournalPart → JournalPart → Type 0
+abbrev pub NotesRun : CoreState → CoreState → JournalPart → JournalPart → Type 0
 NotesRun old new part new_part =
-    (start : Beginning) (now : Surroundings) → Went start old (record now { journal = part })
-    → Went start new (record now { journal = new_part })
+    (start : Beginning) (now : Surroundings) → Progress start old (record now { journal = part })
+    → Progress start new (record now { journal = new_part })
 
 -- rounds: they read the input, and put to the outputs and to the journal's place
-abbrev pub RunsOn : ℕ → ℕ → PipeRun → PipeRun → InState → Option (List ℕ) → Option (List ℕ) → ℕ → ℕ
-    → Option Moments → ℕ → ℕ → List OutPart → List OutPart → JournalPart → JournalPart → Type 0
-RunsOn input most old new state left new_left read_faults new_read_faults moments place new_place outs
-    new_outs part new_part =
-    (start : Beginning) (now : Surroundings) →
-    Went (record start { input = input; most = most; moments = moments }) old
-    (record now {
-      state = states.Reading;
-      left = left;
-      read_faults = read_faults;
-      place = place;
-      outs = outs;
-      journal = part;
-    }) →
-    Went (record start { input = input; most = most; moments = moments }) new
-    (record now {
-      state = state;
-      left = new_left;
-      read_faults = new_read_faults;
-      place = new_place;
-      outs = new_outs;
-      journal = new_part;
-    })
+abbrev pub RunsOn : CoreState → CoreState → InPart → InPart → List OutPart → List OutPart → JournalPart
+    → JournalPart → Type 0
+RunsOn old new input new_input outs new_outs part new_part =
+    (start : Beginning) (now : Surroundings)
+    → Progress start old (record now { input = input; outs = outs; journal = part })
+    → Progress start new (record now { input = new_input; outs = new_outs; journal = new_part })

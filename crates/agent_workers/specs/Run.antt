@@ -24,6 +24,7 @@ use Rattle.pipeline_core.specs.Order.{InOrder}
 use Rattle.agent_workers.specs.PipeSetup.{run_setup, journal_setup_of}
 use Rattle.pipeline_core.specs.Sent.{Sent}
 use Rattle.agent_workers.specs.Output.{AppendsSo, batch_text, OutPart}
+use Rattle.agent_workers.specs.Inputs.{InPart}
 use Rattle.pipeline_core.specs.Worked.{Worked}
 use Rattle.agent_workers.specs.declared.serial.Ending.{Ending}
 use Rattle.agent_workers.specs.declared.input.InState.{InState}
@@ -39,6 +40,10 @@ pub record Change : Type 0 where
 abbrev pub change : Option (List ℕ) → Option (List ℕ) → ℕ → ℕ → Change
 change before after faults_before faults_after = record
     { before = before; after = after; faults_before = faults_before; faults_after = faults_after }
+
+-- the change of the place of an input
+abbrev pub in_change : InPart → InPart → Change
+in_change old new = change old.left new.left old.read_faults new.read_faults
 
 -- the change of the place of an output
 abbrev pub change_at : List Change → ℕ → Change

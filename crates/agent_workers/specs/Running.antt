@@ -10,11 +10,9 @@ use Rattle.pipeline_core.specs.CoreState.{CoreState, lane_at}
 use Rattle.pipeline_core.specs.Stands.{Stands}
 use Rattle.pipeline_core.specs.declared.output.Offer.{Offer}
 use Rattle.metric.specs.declared.metric.Content.{Content}
-use Rattle.pipeline_core.specs.Steps.{after_cut}
 use Rattle.pipeline_core.specs.declared.routing.Routed.{Routed}
 use Rattle.agent_workers.specs.Output.{OutPart, out_at}
 use Rattle.agent_workers.specs.declared.output.Flush.{Flush}
-use Rattle.agent_workers.specs.declared.pipe_run.PipeRun.{PipeRun}
 
 -- an output has a batch size, and no batch of it is in flight
 pub record IsLaneReady (lane : LaneState Offer) : Type 0 where
@@ -126,10 +124,6 @@ AreLeft tries core outs = (output : ℕ) → output < length outs →
 abbrev pub IsLeftOver : Bool → CoreState → Type 0
 IsLeftOver false core = (output : ℕ) → output < length core.setup.outputs → buffered_at core output ≡ 0
 IsLeftOver true core = (output : ℕ) × (output < length core.setup.outputs) × (buffered_at core output ≢ 0)
-
--- what the core stored was spelled: none is stored, and all else of the core is as before
-pub record IsNoted (old new : PipeRun) : Type 0 where
-  pub core : new.core ≡ after_cut old.core
 
 -- an item is routed with itself as its whole and as its only view, at so many outputs
 abbrev pub as_it_is : ℕ → ℕ → Content → Routed

@@ -7,10 +7,10 @@ ghost use Rattle.agent_base.specs.Counts.{Rose};
 ghost use Rattle.agent_base.specs.Cut.{TooLong, Whole};
 ghost use Rattle.agent_workers.specs.Groups.{CountsPiece, IsAllRead, ReadsGroup, ReadsNext, IsOffered};
 ghost use Rattle.agent_workers.specs.Groups.{IsEnding, IsGathered};
+ghost use Rattle.agent_workers.specs.Inputs.{in_of, IsSameInput};
 ghost use Rattle.agent_workers.specs.Progress.{ReadsOn};
 ghost use Rattle.agent_workers.specs.Running.{IsReady, IsReading, HasJournal, StillStands};
 
-use crate::pipe_run::PipeRun;
 use agent_base::{Clock, Piece, PieceFault, Pieces, Source};
 use fixed_num::{Moment, OutOfMemory, Seq};
 use line_proto::{LineKind, read_line};
@@ -226,50 +226,55 @@ pub struct InJob<S: Drop, C: Drop> {
     pub input: u32,
     /// What is read.
     pub source: S,
+    /// What was taken of it and isn't given yet.
+    pub pieces: Pieces,
     /// What gives the moments of its gathers.
     pub clock: C,
     /// How many pieces one gather has at most.
     pub gather_pieces: u32,
+    /// Whether it is read on.
+    pub state: InState,
 }
 
-/// Gathers the next pieces of an input, and says whether it is read on.
+/// Gathers the next pieces of an input that is read on.
 pub fn gather<S: Source + Drop, C: Clock + Drop>(
-    run: &mut PipeRun,
+    alloc: Global,
+    core: &mut Core,
     job: &mut InJob<S, C>,
-) -> Result<InState, OutOfMemory>
+) -> Result<(), OutOfMemory>
     requires some { 1 ≤ job.old.gather_pieces }
-    requires ready { IsReady run.old.core }
-    requires known { job.old.input < length run.old.core.setup.inputs }
-    requires reading { IsReading job.old.input run.old.core }
-    requires none_raw { run.old.core.raw ≡ [] }
-    requires stands { HasJournal run.old.core }
-    ensures ready { OnOk result (IsReady run.new.core) }
-    ensures reading { IfOk result
-        (λ state. state ≡ InState.Reading → IsReading job.old.input run.new.core) }
-    ensures further { IfOk result (λ state. state ≡ InState.Reading
-        → IsGathered job.old.input job.old.gather_pieces run.old.core run.new.core) }
-    ensures going { OnOk result (run.new.core.stopped ≡ false) }
-    ensures setup { OnOk result (run.new.core.setup ≡ run.old.core.setup) }
-    ensures stands { StillStands result run.new.core }
-    ensures reads { IfOk result
-        (λ state. ReadsOn job.old.input job.old.gather_pieces run.old run.new state
-        (S.left job.old.source) (S.left job.new.source) (S.faults job.old.source) (S.faults job.new.source)
-        (C.moments job.old.clock) (C.place job.old.clock) (C.place job.new.clock)) }
-    ensures list { C.moments job.new.clock ≡ C.moments job.old.clock }
-    ensures number { job.new.input ≡ job.old.input }
-    ensures pieces { job.new.gather_pieces ≡ job.old.gather_pieces }
+    requires read { job.old.state ≡ InState.Reading }
+    requires ready { IsReady core.old }
+    requires known { job.old.input < length core.old.setup.inputs }
+    requires reading { IsReading job.old.input core.old }
+    requires none_raw { core.old.raw ≡ [] }
+    requires stands { HasJournal core.old }
+    ensures ready { OnOk result (IsReady core.new) }
+    ensures reading { OnOk result (job.new.state ≡ InState.Reading → IsReading job.old.input core.new) }
+    ensures further { OnOk result (job.new.state ≡ InState.Reading
+        → IsGathered job.old.input job.old.gather_pieces core.old core.new) }
+    ensures going { OnOk result (core.new.stopped ≡ false) }
+    ensures setup { OnOk result (core.new.setup ≡ core.old.setup) }
+    ensures stands { StillStands result core.new }
+    ensures reads { OnOk result (ReadsOn core.old core.new
+        (in_of S.left S.faults C.moments C.place job.old)
+        (in_of S.left S.faults C.moments C.place job.new)) }
+    ensures same { IsSameInput (in_of S.left S.faults C.moments C.place job.old)
+        (in_of S.left S.faults C.moments C.place job.new) }
 {
     let moment = job.clock.now();
     let (group, state) = read_group(
-        run.alloc,
-        &mut run.pieces,
+        alloc,
+        &mut job.pieces,
         &mut job.source,
         moment,
         job.gather_pieces,
     )?;
-    if !offer(&mut run.core, job.input, moment, group)? {
-        return Ok(InState::LimitReached);
+    if !offer(core, job.input, moment, group)? {
+        job.state = InState::LimitReached;
+        return Ok(());
     }
-    end_input(&mut run.core, job.input, state)?;
-    Ok(state)
+    end_input(core, job.input, state)?;
+    job.state = state;
+    Ok(())
 }

@@ -8,7 +8,6 @@ ghost use Rattle.pipeline_core.specs.Steps.{after_route, route_entry};
 ghost use Rattle.agent_workers.specs.Progress.{GoesOn};
 ghost use Rattle.agent_workers.specs.Running.{IsReady, IsRoutable, HasJournal, StillStands, as_it_is};
 
-use crate::pipe_run::PipeRun;
 use fixed_num::{OutOfMemory, Seq};
 use metric::Metric;
 use pipeline_core::{Core, Item, Routed, TakeAnswer};
@@ -57,20 +56,20 @@ fn route(alloc: Global, core: &mut Core, item: Item, outputs: usize) -> Result<(
 }
 
 /// Takes the next raw item and routes it, and says whether there was one.
-fn route_next(run: &mut PipeRun, outputs: usize) -> Result<bool, OutOfMemory>
-    requires ready { IsReady run.old.core }
-    requires outputs { outputs ≡ length run.old.core.setup.outputs }
-    requires stands { HasJournal run.old.core }
-    ensures ready { OnOk result (IsReady run.new.core) }
-    ensures kept { OnOk result (IsRoutable run.old.core run.new.core) }
-    ensures none { result ≡ Ok false → run.new.core.raw ≡ [] }
-    ensures fewer { result ≡ Ok true → length run.new.core.raw + 1 ≡ length run.old.core.raw }
-    ensures stands { StillStands result run.new.core }
-    ensures goes { OnOk result (GoesOn run.old run.new) }
+fn route_next(alloc: Global, core: &mut Core, outputs: usize) -> Result<bool, OutOfMemory>
+    requires ready { IsReady core.old }
+    requires outputs { outputs ≡ length core.old.setup.outputs }
+    requires stands { HasJournal core.old }
+    ensures ready { OnOk result (IsReady core.new) }
+    ensures kept { OnOk result (IsRoutable core.old core.new) }
+    ensures none { result ≡ Ok false → core.new.raw ≡ [] }
+    ensures fewer { result ≡ Ok true → length core.new.raw + 1 ≡ length core.old.raw }
+    ensures stands { StillStands result core.new }
+    ensures goes { OnOk result (GoesOn core.old core.new) }
 {
-    match run.core.take() {
+    match core.take() {
         Ok(item) => {
-            route(run.alloc, &mut run.core, item, outputs)?;
+            route(alloc, core, item, outputs)?;
             Ok(true)
         }
         Err(TakeAnswer::OutOfMemory) => Err(OutOfMemory),
@@ -80,18 +79,18 @@ fn route_next(run: &mut PipeRun, outputs: usize) -> Result<bool, OutOfMemory>
 }
 
 /// Routes all raw items, each to all of so many outputs.
-pub fn route_all(run: &mut PipeRun, outputs: usize) -> Result<(), OutOfMemory>
-    requires ready { IsReady run.old.core }
-    requires outputs { outputs ≡ length run.old.core.setup.outputs }
-    requires stands { HasJournal run.old.core }
-    ensures ready { OnOk result (IsReady run.new.core) }
-    ensures kept { OnOk result (IsRoutable run.old.core run.new.core) }
-    ensures none { OnOk result (run.new.core.raw ≡ []) }
-    ensures stands { StillStands result run.new.core }
-    ensures goes { OnOk result (GoesOn run.old run.new) }
+pub fn route_all(alloc: Global, core: &mut Core, outputs: usize) -> Result<(), OutOfMemory>
+    requires ready { IsReady core.old }
+    requires outputs { outputs ≡ length core.old.setup.outputs }
+    requires stands { HasJournal core.old }
+    ensures ready { OnOk result (IsReady core.new) }
+    ensures kept { OnOk result (IsRoutable core.old core.new) }
+    ensures none { OnOk result (core.new.raw ≡ []) }
+    ensures stands { StillStands result core.new }
+    ensures goes { OnOk result (GoesOn core.old core.new) }
 {
     for _taken in 0..u64::MAX {
-        if !route_next(run, outputs)? {
+        if !route_next(alloc, core, outputs)? {
             return Ok(());
         }
     }

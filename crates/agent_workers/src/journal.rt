@@ -3,7 +3,11 @@ ghost use Rattle.std.specs.Prelude.{◌≡◌, ◌≢◌, ◌+◌, ◌++◌, ◌
 ghost use Rattle.std.specs.Option.{option_to_list};
 ghost use Rattle.account.specs.Items.{named_by};
 ghost use Rattle.journal_text.specs.JournalText.{HasItem, IsWholeOrRemoved};
+ghost use Rattle.pipeline_core.specs.CoreState.{CoreState};
+ghost use Rattle.pipeline_core.specs.Steps.{after_cut};
 ghost use Rattle.agent_workers.specs.Noted.{part_of, IsPartPut, NotesOn, EndsOn};
+ghost use Rattle.agent_workers.specs.Progress.{NotesRun};
+ghost use Rattle.agent_workers.specs.Running.{IsReady, HasJournal, StillStands};
 ghost use Rattle.journal_text.specs.SoFar.{front_text, SpellsOn};
 
 use account::Entry;
@@ -11,6 +15,7 @@ use agent_base::{PutFault, Sink};
 use fixed_num::OutOfMemory;
 use journal_text::{JournalSetup, write_end, write_entry, write_setup};
 use metric::Metric;
+use pipeline_core::{Core, CutAnswer};
 use std::alloc::Global;
 use std::collections::VecDeque;
 
@@ -224,4 +229,41 @@ fn keep(unrouted_items: &mut VecDeque<Metric>, metrics: &[Metric]) -> Result<(),
         unrouted_items.push_back(metric.copy()?)?;
     }
     Ok(())
+}
+
+/// Puts the text of the entries since the last cut, where there are any.
+pub fn note<K: Sink + Drop>(
+    alloc: Global,
+    core: &mut Core,
+    text: &mut Vec<u8>,
+    journal: &mut JournalJob<K>,
+) -> Result<(), OutOfMemory>
+    requires ready { IsReady core.old }
+    requires stands { HasJournal core.old }
+    ensures ready { OnOk result (IsReady core.new) }
+    ensures noted { OnOk result (core.new ≡ after_cut core.old) }
+    ensures stands { StillStands result core.new }
+    ensures notes { OnOk result
+        (NotesRun core.old core.new (part_of K.held K.faults journal.old)
+        (part_of K.held K.faults journal.new)) }
+{
+    match core.cut() {
+        Ok(entries) => {
+            journal.take(alloc, entries.as_slice(), text)?;
+            Ok(())
+        }
+        Err(CutAnswer::NothingNew) => Ok(()),
+        Err(CutAnswer::OutOfMemory) => Err(OutOfMemory),
+    }
+}
+
+/// The entries since the last cut.
+pub fn last_entries(alloc: Global, core: &mut Core) -> Result<Vec<Entry>, OutOfMemory>
+    ensures { IfOk result (λ entries. entries.items ≡ core.old.stored) }
+{
+    match core.cut() {
+        Ok(entries) => Ok(entries),
+        Err(CutAnswer::NothingNew) => Ok(Vec::new(alloc)),
+        Err(CutAnswer::OutOfMemory) => Err(OutOfMemory),
+    }
 }

@@ -6,8 +6,8 @@ mod input;
 mod item;
 mod journal;
 mod output;
-mod pipe_run;
 mod serial;
+mod setup;
 
 pub use input::{InJob, InState};
 pub use output::OutJob;

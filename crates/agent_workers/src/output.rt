@@ -9,12 +9,11 @@ ghost use Rattle.agent_workers.specs.Running.{IsReady, HasJournal, StillStands, 
 ghost use Rattle.agent_workers.specs.Running.{HasFlushed, HasSwept, HaveFailed, AreLeft, waiting_at};
 ghost use Rattle.agent_workers.specs.Running.{buffered_at};
 
-use crate::pipe_run::PipeRun;
 use agent_base::{PutFault, Sink};
 use fixed_num::OutOfMemory;
 use line_proto::write_line;
 use metric::Metric;
-use pipeline_core::BeginAnswer;
+use pipeline_core::{BeginAnswer, Core};
 use std::alloc::Global;
 
 /// An output of a run.
@@ -84,39 +83,44 @@ pub fn begin_anew<K: Sink + Drop>(outputs: &mut [OutJob<K>])
 }
 
 /// Sends the next batch of an output.
-fn send_next<K: Sink + Drop>(run: &mut PipeRun, job: &mut OutJob<K>) -> Result<Sending, OutOfMemory>
-    requires ready { IsReady run.old.core }
-    requires known { job.old.output < length run.old.core.setup.outputs }
-    requires routed { run.old.core.raw ≡ [] }
-    requires stands { HasJournal run.old.core }
-    ensures ready { OnOk result (IsReady run.new.core) }
-    ensures kept { OnOk result (IsSentAt job.old.output run.old.core run.new.core) }
-    ensures stands { StillStands result run.new.core }
-    ensures nothing { result ≡ Ok Sending.Nothing → (waiting_at run.new.core job.old.output ≡ 0)
-        × (buffered_at run.new.core job.old.output ≡ 0) }
+fn send_next<K: Sink + Drop>(
+    alloc: Global,
+    core: &mut Core,
+    text: &mut Vec<u8>,
+    job: &mut OutJob<K>,
+) -> Result<Sending, OutOfMemory>
+    requires ready { IsReady core.old }
+    requires known { job.old.output < length core.old.setup.outputs }
+    requires routed { core.old.raw ≡ [] }
+    requires stands { HasJournal core.old }
+    ensures ready { OnOk result (IsReady core.new) }
+    ensures kept { OnOk result (IsSentAt job.old.output core.old core.new) }
+    ensures stands { StillStands result core.new }
+    ensures nothing { result ≡ Ok Sending.Nothing → (waiting_at core.new job.old.output ≡ 0)
+        × (buffered_at core.new job.old.output ≡ 0) }
     ensures fewer { result ≡ Ok Sending.Accepted
-        → waiting_at run.new.core job.old.output < waiting_at run.old.core job.old.output }
-    ensures failed { result ≡ Ok Sending.Failed → (waiting_at run.old.core job.old.output ≢ 0)
+        → waiting_at core.new job.old.output < waiting_at core.old job.old.output }
+    ensures failed { result ≡ Ok Sending.Failed → (waiting_at core.old job.old.output ≢ 0)
         × (job.new.failed ≡ min (job.old.failed + 1) (2 ^ 32 - 1)) }
     ensures number { job.new.output ≡ job.old.output }
     ensures sends { OnOk result
-        (SendsAt run.old run.new (out_of K.held K.faults job.old) (out_of K.held K.faults job.new)) }
+        (SendsAt core.old core.new (out_of K.held K.faults job.old) (out_of K.held K.faults job.new)) }
 {
-    let batch = match run.core.begin(job.output) {
+    let batch = match core.begin(job.output) {
         Ok(batch) => batch,
         Err(BeginAnswer::OutOfMemory) => return Err(OutOfMemory),
         Err(BeginAnswer::InFlight) => return Ok(Sending::Nothing),
         Err(BeginAnswer::NothingWaiting) => return Ok(Sending::Nothing),
     };
-    write_batch(run.alloc, batch.metrics.as_slice(), &mut run.text)?;
-    match job.sink.put(&run.text) {
+    write_batch(alloc, batch.metrics.as_slice(), text)?;
+    match job.sink.put(text) {
         Ok(()) => {
-            run.core.done(job.output, true);
+            core.done(job.output, true);
             job.failed = 0;
             Ok(Sending::Accepted)
         }
         Err(PutFault::Failed) => {
-            run.core.done(job.output, false);
+            core.done(job.output, false);
             job.failed = job.failed.saturating_add(1);
             Ok(Sending::Failed)
         }
@@ -126,24 +130,26 @@ fn send_next<K: Sink + Drop>(run: &mut PipeRun, job: &mut OutJob<K>) -> Result<S
 
 /// Sends batches of an output until nothing waits or a put fails.
 pub fn send_all<K: Sink + Drop>(
-    run: &mut PipeRun,
+    alloc: Global,
+    core: &mut Core,
+    text: &mut Vec<u8>,
     job: &mut OutJob<K>,
 ) -> Result<Flush, OutOfMemory>
-    requires ready { IsReady run.old.core }
-    requires known { job.old.output < length run.old.core.setup.outputs }
-    requires routed { run.old.core.raw ≡ [] }
-    requires stands { HasJournal run.old.core }
-    ensures ready { OnOk result (IsReady run.new.core) }
-    ensures kept { OnOk result (IsSentAt job.old.output run.old.core run.new.core) }
-    ensures stands { StillStands result run.new.core }
-    ensures flushed { IfOk result (λ flush. HasFlushed flush job.old.output run.old.core run.new.core
+    requires ready { IsReady core.old }
+    requires known { job.old.output < length core.old.setup.outputs }
+    requires routed { core.old.raw ≡ [] }
+    requires stands { HasJournal core.old }
+    ensures ready { OnOk result (IsReady core.new) }
+    ensures kept { OnOk result (IsSentAt job.old.output core.old core.new) }
+    ensures stands { StillStands result core.new }
+    ensures flushed { IfOk result (λ flush. HasFlushed flush job.old.output core.old core.new
         job.old.failed job.new.failed) }
     ensures number { job.new.output ≡ job.old.output }
     ensures sends { OnOk result
-        (SendsAt run.old run.new (out_of K.held K.faults job.old) (out_of K.held K.faults job.new)) }
+        (SendsAt core.old core.new (out_of K.held K.faults job.old) (out_of K.held K.faults job.new)) }
 {
     for batch in 0..u64::MAX {
-        match send_next(run, job)? {
+        match send_next(alloc, core, text, job)? {
             Sending::Accepted => {}
             Sending::Failed => {
                 return Ok(Flush {
@@ -165,22 +171,24 @@ pub fn send_all<K: Sink + Drop>(
 /// Sends batches of each output in order, until nothing waits there or a put fails. A failed put of one
 /// output keeps no other from its batches.
 pub fn send_each<K: Sink + Drop>(
-    run: &mut PipeRun,
+    alloc: Global,
+    core: &mut Core,
+    text: &mut Vec<u8>,
     outputs: &mut [OutJob<K>],
 ) -> Result<Flush, OutOfMemory>
-    requires ready { IsReady run.old.core }
-    requires outputs { AreOutputs (length run.old.core.setup.outputs) (outs_of K.held K.faults outputs.old) }
-    requires routed { run.old.core.raw ≡ [] }
-    requires stands { HasJournal run.old.core }
-    ensures ready { OnOk result (IsReady run.new.core) }
-    ensures kept { OnOk result (IsSentOn run.old.core run.new.core) }
-    ensures stands { StillStands result run.new.core }
+    requires ready { IsReady core.old }
+    requires outputs { AreOutputs (length core.old.setup.outputs) (outs_of K.held K.faults outputs.old) }
+    requires routed { core.old.raw ≡ [] }
+    requires stands { HasJournal core.old }
+    ensures ready { OnOk result (IsReady core.new) }
+    ensures kept { OnOk result (IsSentOn core.old core.new) }
+    ensures stands { StillStands result core.new }
     ensures outputs { OnOk result
-        (AreOutputs (length run.old.core.setup.outputs) (outs_of K.held K.faults outputs.new)) }
-    ensures swept { IfOk result (λ sweep. HasSwept sweep run.old.core run.new.core
+        (AreOutputs (length core.old.setup.outputs) (outs_of K.held K.faults outputs.new)) }
+    ensures swept { IfOk result (λ sweep. HasSwept sweep core.old core.new
         (outs_of K.held K.faults outputs.old) (outs_of K.held K.faults outputs.new)) }
     ensures count { length outputs.new ≡ length outputs.old }
-    ensures sends { OnOk result (SendsOn run.old run.new (outs_of K.held K.faults outputs.old)
+    ensures sends { OnOk result (SendsOn core.old core.new (outs_of K.held K.faults outputs.old)
         (outs_of K.held K.faults outputs.new)) }
 {
     let mut sweep = Flush {
@@ -188,7 +196,7 @@ pub fn send_each<K: Sink + Drop>(
         accepted: false,
     };
     for job in outputs.iter_mut() {
-        let flush = send_all(run, job)?;
+        let flush = send_all(alloc, core, text, job)?;
         sweep = sweep.and(flush);
     }
     Ok(sweep)
@@ -208,29 +216,31 @@ fn tries_after(tries: u32, sweep: Flush, final_tries: u32) -> u32
 /// fails, again and again until nothing is buffered anywhere, or so many repeats in succession had no batch
 /// accepted at any output.
 pub fn send_rest<K: Sink + Drop>(
-    run: &mut PipeRun,
+    alloc: Global,
+    core: &mut Core,
+    text: &mut Vec<u8>,
     outputs: &mut [OutJob<K>],
     final_tries: u32,
 ) -> Result<(), OutOfMemory>
-    requires ready { IsReady run.old.core }
-    requires outputs { AreOutputs (length run.old.core.setup.outputs) (outs_of K.held K.faults outputs.old) }
-    requires routed { run.old.core.raw ≡ [] }
-    requires stands { HasJournal run.old.core }
+    requires ready { IsReady core.old }
+    requires outputs { AreOutputs (length core.old.setup.outputs) (outs_of K.held K.faults outputs.old) }
+    requires routed { core.old.raw ≡ [] }
+    requires stands { HasJournal core.old }
     requires some { 1 ≤ final_tries }
-    ensures ready { OnOk result (IsReady run.new.core) }
-    ensures kept { OnOk result (IsSentOn run.old.core run.new.core) }
-    ensures stands { StillStands result run.new.core }
+    ensures ready { OnOk result (IsReady core.new) }
+    ensures kept { OnOk result (IsSentOn core.old core.new) }
+    ensures stands { StillStands result core.new }
     ensures outputs { OnOk result
-        (AreOutputs (length run.old.core.setup.outputs) (outs_of K.held K.faults outputs.new)) }
+        (AreOutputs (length core.old.setup.outputs) (outs_of K.held K.faults outputs.new)) }
     ensures rest { OnOk result
-        (AreLeft final_tries run.new.core (outs_of K.held K.faults outputs.new)) }
+        (AreLeft final_tries core.new (outs_of K.held K.faults outputs.new)) }
     ensures count { length outputs.new ≡ length outputs.old }
-    ensures sends { OnOk result (SendsOn run.old run.new (outs_of K.held K.faults outputs.old)
+    ensures sends { OnOk result (SendsOn core.old core.new (outs_of K.held K.faults outputs.old)
         (outs_of K.held K.faults outputs.new)) }
 {
     let mut tries = 0;
     for _repeat in 0..u64::MAX {
-        let sweep = send_each(run, outputs)?;
+        let sweep = send_each(alloc, core, text, outputs)?;
         if sweep.emptied {
             return Ok(());
         }

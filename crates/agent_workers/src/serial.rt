@@ -3,22 +3,24 @@ ghost use Rattle.std.specs.Prelude.{◌≡◌, ◌≢◌, ◌<◌, ◌≤◌, �
 ghost use Rattle.std.specs.Prelude.{OnOk, IfErr, false, true};
 ghost use Rattle.std.specs.Int.{int_max};
 ghost use Rattle.account.specs.AccountText.{account_text};
+ghost use Rattle.agent_base.specs.Hand.{empty_hand};
 ghost use Rattle.agent_base.specs.Moments.{Gives};
 ghost use Rattle.pipeline_core.specs.CoreState.{sizes};
-ghost use Rattle.agent_workers.specs.Run.{Ran, change, out_changes};
+ghost use Rattle.agent_workers.specs.Inputs.{in_of, IsSameInput};
+ghost use Rattle.agent_workers.specs.Run.{Ran, change, in_change, out_changes};
 ghost use Rattle.agent_workers.specs.Noted.{part_of, EndsOn};
 ghost use Rattle.agent_workers.specs.Output.{outs_of, AreOutputs};
 ghost use Rattle.agent_workers.specs.PipeSetup.{run_setup, journal_setup_of};
-ghost use Rattle.agent_workers.specs.Progress.{Beginning, Surroundings, Went, RunsOn};
+ghost use Rattle.agent_workers.specs.Progress.{Beginning, Surroundings, Progress, RunsOn};
 ghost use Rattle.agent_workers.specs.Running.{IsReady, IsReading, HasJournal, StillStands, AreSettled};
 ghost use Rattle.agent_workers.specs.Running.{AreLeft, IsLeftOver};
 
 use crate::input::{InJob, InState, gather};
 use crate::item::route_all;
-use crate::journal::JournalJob;
+use crate::journal::{JournalJob, last_entries, note};
 use crate::output::{OutJob, begin_anew, send_each, send_rest};
-use crate::pipe_run::{PipeRun, journal_setup, last_entries, new_run, note};
-use agent_base::{Clock, Sink, Source};
+use crate::setup::{journal_setup, new_core};
+use agent_base::{Clock, CutKind, Pieces, Sink, Source};
 use fixed_num::{Moment, OutOfMemory, Seq};
 use pipeline_core::{Core, OutSetup};
 use std::alloc::Global;
@@ -45,46 +47,48 @@ pub struct Ending {
     pub journal_failed: bool,
 }
 
-/// Rounds, until the input is read no more; answers why. What a failed put left is tried again in the next
-/// round.
+/// Rounds, until the input is read no more. What a failed put left is tried again in the next round.
 fn rounds<S: Source + Drop, K: Sink + Drop, C: Clock + Drop>(
-    run: &mut PipeRun,
+    alloc: Global,
+    core: &mut Core,
+    text: &mut Vec<u8>,
     input: &mut InJob<S, C>,
     outputs: &mut [OutJob<K>],
     journal: &mut JournalJob<K>,
-) -> Result<InState, OutOfMemory>
+) -> Result<(), OutOfMemory>
     requires some { 1 ≤ input.old.gather_pieces }
-    requires known { input.old.input < length run.old.core.setup.inputs }
-    requires ready { IsReady run.old.core }
-    requires reading { IsReading input.old.input run.old.core }
-    requires none_raw { run.old.core.raw ≡ [] }
-    requires outputs { AreOutputs (length run.old.core.setup.outputs) (outs_of K.held K.faults outputs.old) }
-    requires settled { AreSettled run.old.core (outs_of K.held K.faults outputs.old) }
-    requires stands { HasJournal run.old.core }
-    ensures ready { OnOk result (IsReady run.new.core) }
-    ensures going { OnOk result (run.new.core.stopped ≡ false) }
-    ensures setup { OnOk result (run.new.core.setup ≡ run.old.core.setup) }
+    requires read { input.old.state ≡ InState.Reading }
+    requires known { input.old.input < length core.old.setup.inputs }
+    requires ready { IsReady core.old }
+    requires reading { IsReading input.old.input core.old }
+    requires none_raw { core.old.raw ≡ [] }
+    requires outputs { AreOutputs (length core.old.setup.outputs) (outs_of K.held K.faults outputs.old) }
+    requires settled { AreSettled core.old (outs_of K.held K.faults outputs.old) }
+    requires stands { HasJournal core.old }
+    ensures ready { OnOk result (IsReady core.new) }
+    ensures going { OnOk result (core.new.stopped ≡ false) }
+    ensures setup { OnOk result (core.new.setup ≡ core.old.setup) }
     ensures outputs { OnOk result
-        (AreOutputs (length run.old.core.setup.outputs) (outs_of K.held K.faults outputs.new)) }
-    ensures read { IfOk result (λ state. state ≢ InState.Reading) }
-    ensures stands { StillStands result run.new.core }
-    ensures runs { IfOk result (λ state. RunsOn input.old.input input.old.gather_pieces run.old run.new state
-        (S.left input.old.source) (S.left input.new.source)
-        (S.faults input.old.source) (S.faults input.new.source)
-        (C.moments input.old.clock) (C.place input.old.clock) (C.place input.new.clock)
+        (AreOutputs (length core.old.setup.outputs) (outs_of K.held K.faults outputs.new)) }
+    ensures read { OnOk result (input.new.state ≢ InState.Reading) }
+    ensures stands { StillStands result core.new }
+    ensures runs { OnOk result (RunsOn core.old core.new
+        (in_of S.left S.faults C.moments C.place input.old)
+        (in_of S.left S.faults C.moments C.place input.new)
         (outs_of K.held K.faults outputs.old) (outs_of K.held K.faults outputs.new)
         (part_of K.held K.faults journal.old) (part_of K.held K.faults journal.new)) }
-    ensures list { C.moments input.new.clock ≡ C.moments input.old.clock }
+    ensures same { IsSameInput (in_of S.left S.faults C.moments C.place input.old)
+        (in_of S.left S.faults C.moments C.place input.new) }
     ensures count { length outputs.new ≡ length outputs.old }
 {
     for _round in 0..u64::MAX {
-        let state = gather(run, input)?;
+        gather(alloc, core, input)?;
         begin_anew(outputs);
-        route_all(run, outputs.len())?;
-        send_each(run, outputs)?;
-        note(run, journal)?;
-        if state != InState::Reading {
-            return Ok(state);
+        route_all(alloc, core, outputs.len())?;
+        send_each(alloc, core, text, outputs)?;
+        note(alloc, core, text, journal)?;
+        if input.state != InState::Reading {
+            return Ok(());
         }
     }
     Err(OutOfMemory)
@@ -92,28 +96,30 @@ fn rounds<S: Source + Drop, K: Sink + Drop, C: Clock + Drop>(
 
 /// Stops the gathering at a moment, and sends what is buffered.
 fn finish<K: Sink + Drop>(
-    run: &mut PipeRun,
+    alloc: Global,
+    core: &mut Core,
+    text: &mut Vec<u8>,
     outputs: &mut [OutJob<K>],
     moment: Moment,
     final_tries: u32,
 ) -> Result<(), OutOfMemory>
-    requires ready { IsReady run.old.core }
-    requires outputs { AreOutputs (length run.old.core.setup.outputs) (outs_of K.held K.faults outputs.old) }
-    requires going { run.old.core.stopped ≡ false }
-    requires stands { HasJournal run.old.core }
+    requires ready { IsReady core.old }
+    requires outputs { AreOutputs (length core.old.setup.outputs) (outs_of K.held K.faults outputs.old) }
+    requires going { core.old.stopped ≡ false }
+    requires stands { HasJournal core.old }
     requires some { 1 ≤ final_tries }
-    ensures ready { OnOk result (IsReady run.new.core) }
-    ensures setup { OnOk result (run.new.core.setup ≡ run.old.core.setup) }
-    ensures stopped { OnOk result (run.new.core.stopped ≡ true) }
-    ensures none_raw { OnOk result (run.new.core.raw ≡ []) }
+    ensures ready { OnOk result (IsReady core.new) }
+    ensures setup { OnOk result (core.new.setup ≡ core.old.setup) }
+    ensures stopped { OnOk result (core.new.stopped ≡ true) }
+    ensures none_raw { OnOk result (core.new.raw ≡ []) }
     ensures rest { OnOk result
-        (AreLeft final_tries run.new.core (outs_of K.held K.faults outputs.new)) }
-    ensures stands { StillStands result run.new.core }
+        (AreLeft final_tries core.new (outs_of K.held K.faults outputs.new)) }
+    ensures stands { StillStands result core.new }
     ensures count { length outputs.new ≡ length outputs.old }
     ensures goes { OnOk result ((start : Beginning) (now : Surroundings)
-        → Went start run.old
+        → Progress start core.old
         (record now { outs = outs_of K.held K.faults outputs.old; counted_at = [] }) →
-        Went start run.new
+        Progress start core.new
         (record now {
           outs = outs_of K.held K.faults outputs.new;
           counted_at = int_max moment
@@ -121,9 +127,9 @@ fn finish<K: Sink + Drop>(
         })) }
 {
     begin_anew(outputs);
-    run.core.stop(moment)?;
-    route_all(run, outputs.len())?;
-    send_rest(run, outputs, final_tries)?;
+    core.stop(moment)?;
+    route_all(alloc, core, outputs.len())?;
+    send_rest(alloc, core, text, outputs, final_tries)?;
     Ok(())
 }
 
@@ -142,27 +148,29 @@ fn is_left(core: &Core, outputs: u32) -> bool
 
 /// Ends the journal: its last entries, its account and its last line are put.
 fn end_journal<K: Sink + Drop>(
-    run: &mut PipeRun,
+    alloc: Global,
+    core: &mut Core,
+    text: &mut Vec<u8>,
     outputs: u32,
     journal: &mut JournalJob<K>,
     state: InState,
 ) -> Result<Ending, OutOfMemory>
-    requires ready { IsReady run.old.core }
-    requires outputs { outputs ≡ length run.old.core.setup.outputs }
-    requires stands { HasJournal run.old.core }
+    requires ready { IsReady core.old }
+    requires outputs { outputs ≡ length core.old.setup.outputs }
+    requires stands { HasJournal core.old }
     ensures state { IfOk result (λ ending. ending.state ≡ state) }
-    ensures left { IfOk result (λ ending. IsLeftOver ending.left run.old.core) }
-    ensures account { IfOk result (λ ending. ending.account.items ≡ account_text run.old.core.numbers) }
+    ensures left { IfOk result (λ ending. IsLeftOver ending.left core.old) }
+    ensures account { IfOk result (λ ending. ending.account.items ≡ account_text core.old.numbers) }
     ensures failed { IfOk result (λ ending. ending.journal_failed ≡ journal.new.failed) }
     ensures ends { OnOk result
-        (EndsOn run.old.core.stored (account_text run.old.core.numbers) (part_of K.held K.faults journal.old)
+        (EndsOn core.old.stored (account_text core.old.numbers) (part_of K.held K.faults journal.old)
         (part_of K.held K.faults journal.new)) }
 {
-    let mut account = Vec::new(run.alloc);
-    run.core.account().text(&mut account)?;
-    let left = is_left(&run.core, outputs);
-    let entries = last_entries(run.alloc, &mut run.core)?;
-    journal.end(run.alloc, entries.as_slice(), &account, &mut run.text)?;
+    let mut account = Vec::new(alloc);
+    core.account().text(&mut account)?;
+    let left = is_left(core, outputs);
+    let entries = last_entries(alloc, core)?;
+    journal.end(alloc, entries.as_slice(), &account, text)?;
     Ok(Ending {
         account,
         state,
@@ -185,6 +193,8 @@ fn run_from<S: Source + Drop, K: Sink + Drop, C: Clock + Drop>(
     requires sizes { All (λ x. (1 ≤ x.batch) × (x.batch ≤ x.limit)) setup.now.outputs }
     requires number { input.old.input ≡ 0 }
     requires some_pieces { 1 ≤ input.old.gather_pieces }
+    requires read { input.old.state ≡ InState.Reading }
+    requires none_taken { input.old.pieces ≡ empty_hand CutKind.Lines }
     requires some { 1 ≤ setup.now.final_tries }
     requires outputs { AreOutputs (length setup.now.outputs) (outs_of K.held K.faults outputs.old) }
     requires first { Gives (C.moments clock.old) 0 (C.place clock.old) start }
@@ -196,19 +206,34 @@ fn run_from<S: Source + Drop, K: Sink + Drop, C: Clock + Drop>(
     ensures count { length outputs.new ≡ length outputs.old }
     ensures ran { IfOk result
         (λ ending. Ran input.old.gather_pieces setup.now.final_tries (map sizes setup.now.outputs) ending
-        (change (S.left input.old.source) (S.left input.new.source)
-        (S.faults input.old.source) (S.faults input.new.source))
+        (in_change (in_of S.left S.faults C.moments C.place input.old)
+        (in_of S.left S.faults C.moments C.place input.new))
         (out_changes (outs_of K.held K.faults outputs.old) (outs_of K.held K.faults outputs.new))
         (change (K.held journal.old.sink) (K.held journal.new.sink) (K.faults journal.old.sink)
         (K.faults journal.new.sink))
         (C.moments clock.old) (C.moments input.old.clock)) }
 {
-    let mut run = new_run(alloc, setup.outputs.as_slice(), start)?;
+    let mut core = new_core(alloc, setup.outputs.as_slice(), start)?;
+    let mut text = Vec::new(alloc);
     begin_anew(outputs);
-    let state = rounds(&mut run, input, outputs, journal)?;
+    rounds(alloc, &mut core, &mut text, input, outputs, journal)?;
     let moment = clock.now();
-    finish(&mut run, outputs, moment, setup.final_tries)?;
-    let ending = end_journal(&mut run, outputs.len() as u32, journal, state)?;
+    finish(
+        alloc,
+        &mut core,
+        &mut text,
+        outputs,
+        moment,
+        setup.final_tries,
+    )?;
+    let ending = end_journal(
+        alloc,
+        &mut core,
+        &mut text,
+        outputs.len() as u32,
+        journal,
+        input.state,
+    )?;
     Ok(ending)
 }
 
@@ -230,14 +255,16 @@ pub fn run<S: Source + Drop, K: Sink + Drop, C: Clock + Drop>(
     requires sizes { All (λ x. (1 ≤ x.batch) × (x.batch ≤ x.limit)) setup.now.outputs }
     requires number { input.old.input ≡ 0 }
     requires some_pieces { 1 ≤ input.old.gather_pieces }
+    requires read { input.old.state ≡ InState.Reading }
+    requires none_taken { input.old.pieces ≡ empty_hand CutKind.Lines }
     requires some { 1 ≤ setup.now.final_tries }
     requires outputs { AreOutputs (length setup.now.outputs) (outs_of K.held K.faults outputs.old) }
     requires first { C.place clock.old ≡ 0 }
     requires input_first { C.place input.old.clock ≡ 0 }
     ensures ran { IfOk result.1
         (λ ending. Ran input.old.gather_pieces setup.now.final_tries (map sizes setup.now.outputs) ending
-        (change (S.left input.old.source) (S.left input.new.source)
-        (S.faults input.old.source) (S.faults input.new.source))
+        (in_change (in_of S.left S.faults C.moments C.place input.old)
+        (in_of S.left S.faults C.moments C.place input.new))
         (out_changes (outs_of K.held K.faults outputs.old) (outs_of K.held K.faults outputs.new))
         (change (K.held journal) (K.held result.0) (K.faults journal) (K.faults result.0))
         (C.moments clock.old) (C.moments input.old.clock)) }
@@ -271,36 +298,64 @@ fn one_job<K: Drop>(alloc: Global, sink: K) -> Result<Vec<OutJob<K>>, K>
     }
 }
 
-/// Runs one input and one output from the start, as `run` does, and gives back the output's sink and the part
-/// to which the journal goes.
+/// The job of one input, of which nothing was read; the source where memory was short.
+fn one_input<S: Drop, C: Drop>(
+    alloc: Global,
+    source: S,
+    clock: C,
+    gather_pieces: u32,
+) -> Result<InJob<S, C>, S>
+    ensures ok { IfOk result (λ job. (job.input ≡ 0) × (job.source ≡ source) × (job.pieces ≡ empty_hand CutKind.Lines)
+        × (job.clock ≡ clock) × (job.gather_pieces ≡ gather_pieces) × (job.state ≡ InState.Reading)) }
+    ensures err { IfErr result (λ back. back ≡ source) }
+{
+    match Pieces::new(alloc, CutKind::Lines) {
+        Ok(pieces) => Ok(InJob {
+            input: 0,
+            source,
+            pieces,
+            clock,
+            gather_pieces,
+            state: InState::Reading,
+        }),
+        Err(_) => Err(source),
+    }
+}
+
+/// Runs one input and one output from the start, as `run` does, and gives back the source, the output's sink
+/// and the part to which the journal goes. A gather has at most `gather_pieces` pieces.
 pub fn run_one<S: Source + Drop, K: Sink + Drop, C: Clock + Drop>(
     alloc: Global,
     setup: &RunSetup,
-    input: &mut InJob<S, C>,
+    source: S,
+    input_clock: C,
+    gather_pieces: u32,
     sink: K,
     journal: K,
     clock: &mut C,
-) -> (K, K, Result<Ending, OutOfMemory>)
+) -> (S, K, K, Result<Ending, OutOfMemory>)
     requires one { length setup.now.outputs ≡ 1 }
     requires sizes { All (λ x. (1 ≤ x.batch) × (x.batch ≤ x.limit)) setup.now.outputs }
-    requires number { input.old.input ≡ 0 }
-    requires some_pieces { 1 ≤ input.old.gather_pieces }
+    requires some_pieces { 1 ≤ gather_pieces }
     requires some { 1 ≤ setup.now.final_tries }
     requires first { C.place clock.old ≡ 0 }
-    requires input_first { C.place input.old.clock ≡ 0 }
-    ensures ran { IfOk result.2
-        (λ ending. Ran input.old.gather_pieces setup.now.final_tries (map sizes setup.now.outputs) ending
-        (change (S.left input.old.source) (S.left input.new.source)
-        (S.faults input.old.source) (S.faults input.new.source))
-        (change (K.held sink) (K.held result.0) (K.faults sink) (K.faults result.0) ∷ [])
-        (change (K.held journal) (K.held result.1) (K.faults journal) (K.faults result.1))
-        (C.moments clock.old) (C.moments input.old.clock)) }
+    requires input_first { C.place input_clock ≡ 0 }
+    ensures ran { IfOk result.3
+        (λ ending. Ran gather_pieces setup.now.final_tries (map sizes setup.now.outputs) ending
+        (change (S.left source) (S.left result.0) (S.faults source) (S.faults result.0))
+        (change (K.held sink) (K.held result.1) (K.faults sink) (K.faults result.1) ∷ [])
+        (change (K.held journal) (K.held result.2) (K.faults journal) (K.faults result.2))
+        (C.moments clock.old) (C.moments input_clock)) }
 {
+    let mut input = match one_input(alloc, source, input_clock, gather_pieces) {
+        Ok(input) => input,
+        Err(source) => return (source, sink, journal, Err(OutOfMemory)),
+    };
     let mut outputs = match one_job(alloc, sink) {
         Ok(outputs) => outputs,
-        Err(sink) => return (sink, journal, Err(OutOfMemory)),
+        Err(sink) => return (input.source, sink, journal, Err(OutOfMemory)),
     };
-    let (journal, ran) = run(alloc, setup, input, &mut outputs, journal, clock);
+    let (journal, ran) = run(alloc, setup, &mut input, &mut outputs, journal, clock);
     let job = outputs.swap_remove(0);
-    (job.sink, journal, ran)
+    (input.source, job.sink, journal, ran)
 }

@@ -41,28 +41,28 @@ returns-in-Ok-clause-ends g c =
     let old = c.args.world.now in
     let last = c.report_account.new.world in
     ends_as c.args.pipe.now.batch c.args.pipe.now.limit
-    (change (g.W.In.Source.left c.args.parts.source) (g.W.In.Source.left c.run_one-sink.new.input.source) (g.W.In.Source.faults c.args.parts.source) (g.W.In.Source.faults c.run_one-sink.new.input.source))
-    (change (g.W.Out.Sink.held c.args.parts.sink) (g.W.Out.Sink.held c.run_one-sink.result.0) (g.W.Out.Sink.faults c.args.parts.sink) (g.W.Out.Sink.faults c.run_one-sink.result.0))
-    (change (g.W.Out.Sink.held c.args.parts.journal) (g.W.Out.Sink.held c.run_one-sink.result.1) (g.W.Out.Sink.faults c.args.parts.journal) (g.W.Out.Sink.faults c.run_one-sink.result.1))
+    (change (g.W.In.Source.left c.args.parts.source) (g.W.In.Source.left c.run_one-source.result.0) (g.W.In.Source.faults c.args.parts.source) (g.W.In.Source.faults c.run_one-source.result.0))
+    (change (g.W.Out.Sink.held c.args.parts.sink) (g.W.Out.Sink.held c.run_one-source.result.1) (g.W.Out.Sink.faults c.args.parts.sink) (g.W.Out.Sink.faults c.run_one-source.result.1))
+    (change (g.W.Out.Sink.held c.args.parts.journal) (g.W.Out.Sink.held c.run_one-source.result.2) (g.W.Out.Sink.faults c.args.parts.journal) (g.W.Out.Sink.faults c.run_one-source.result.2))
     (report_change (g.W.World.rest c.give_out-2.new.self) (g.W.World.rest last))
     (change (g.W.In.Source.left c.args.parts.source) (g.W.World.in_at last input).bytes (g.W.In.Source.faults c.args.parts.source) (g.W.World.in_at last input).part_faults)
     (change (g.W.Out.Sink.held c.args.parts.sink) (g.W.World.out_at last output).bytes (g.W.Out.Sink.faults c.args.parts.sink) (g.W.World.out_at last output).part_faults)
     (change (g.W.Out.Sink.held c.args.parts.journal) (g.W.World.out_at last journal_place).bytes (g.W.Out.Sink.faults c.args.parts.journal) (g.W.World.out_at last journal_place).part_faults)
     (report_change (g.W.World.rest old) (g.W.World.rest last))
     (g.W.Clk.Clock.moments c.clock-clock.result) (g.W.Clk.Clock.moments c.clock-input_clock.result) (g.W.World.moments old 0) (g.W.World.moments old 3) c.report_account.result
-    (taken_in (g.W.In.Source.left c.args.parts.source) (g.W.In.Source.left c.run_one-sink.new.input.source) (g.W.In.Source.faults c.args.parts.source) (g.W.In.Source.faults c.run_one-sink.new.input.source)
+    (taken_in (g.W.In.Source.left c.args.parts.source) (g.W.In.Source.left c.run_one-source.result.0) (g.W.In.Source.faults c.args.parts.source) (g.W.In.Source.faults c.run_one-source.result.0)
     (g.W.World.in_at c.give_in.new.self input) (g.W.World.in_at last input) c.give_in.ensures.given.bytes c.give_in.ensures.given.faults
     (c.report_account.ensures.ins input ∙ c.give_out-2.ensures.ins input ∙ c.give_out.ensures.ins input))
-    (taken_in (g.W.Out.Sink.held c.args.parts.sink) (g.W.Out.Sink.held c.run_one-sink.result.0) (g.W.Out.Sink.faults c.args.parts.sink) (g.W.Out.Sink.faults c.run_one-sink.result.0)
+    (taken_in (g.W.Out.Sink.held c.args.parts.sink) (g.W.Out.Sink.held c.run_one-source.result.1) (g.W.Out.Sink.faults c.args.parts.sink) (g.W.Out.Sink.faults c.run_one-source.result.1)
     (g.W.World.out_at c.give_out.new.self output) (g.W.World.out_at last output) c.give_out.ensures.given.bytes c.give_out.ensures.given.faults
     (c.report_account.ensures.outs output ∙ c.give_out-2.ensures.others output c.requires.apart))
-    (taken_in (g.W.Out.Sink.held c.args.parts.journal) (g.W.Out.Sink.held c.run_one-sink.result.1) (g.W.Out.Sink.faults c.args.parts.journal) (g.W.Out.Sink.faults c.run_one-sink.result.1)
+    (taken_in (g.W.Out.Sink.held c.args.parts.journal) (g.W.Out.Sink.held c.run_one-source.result.2) (g.W.Out.Sink.faults c.args.parts.journal) (g.W.Out.Sink.faults c.run_one-source.result.2)
     (g.W.World.out_at c.give_out-2.new.self journal_place) (g.W.World.out_at last journal_place) c.give_out-2.ensures.given.bytes c.give_out-2.ensures.given.faults
     (c.report_account.ensures.outs journal_place))
     (report_is (g.W.World.rest c.give_out-2.new.self) (g.W.World.rest old) (g.W.World.rest last) (g.W.World.rest last)
     (c.give_out-2.ensures.rest ∙ c.give_out.ensures.rest ∙ c.give_in.ensures.rest ∙ c.clock-input_clock.ensures.rest ∙ c.clock-clock.ensures.rest) refl)
     c.clock-clock.ensures.told (c.clock-input_clock.ensures.told ∙ c.clock-clock.ensures.others 3 (λ e. absurd (omega (arith, e))))
-    (reported_ends c.args.pipe.now.batch c.args.pipe.now.limit _ _ _ _ _ _ c.in-Ok.ending c.report_account.result (ran_of 1000 3 ((c.args.pipe.now.batch, c.args.pipe.now.limit) ∷ []) _ c.in-Ok.ending _ _ _ _ _ c.in-Ok.is (ran_sized 1000 3 _ _ _ _ _ _ _ _ (ap (λ (xs : List OutSetup). map sizes xs) c.of_one.ensures) c.run_one-sink.ensures.ran)) c.report_account.ensures.answer)
+    (reported_ends c.args.pipe.now.batch c.args.pipe.now.limit _ _ _ _ _ _ c.in-Ok.ending c.report_account.result (ran_of 1000 3 ((c.args.pipe.now.batch, c.args.pipe.now.limit) ∷ []) _ c.in-Ok.ending _ _ _ _ _ c.in-Ok.is (ran_sized 1000 3 _ _ _ _ _ _ _ _ (ap (λ (xs : List OutSetup). map sizes xs) c.of_one.ensures) c.run_one-source.ensures.ran)) c.report_account.ensures.answer)
 
 pub returns-in-Ok-clause-ins_opened : goal.returns-in-Ok-clause-ins_opened
 returns-in-Ok-clause-ins_opened g c =

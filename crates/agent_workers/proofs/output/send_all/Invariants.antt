@@ -6,11 +6,11 @@ use Rattle.agent_workers.proofs.output.send_all.Given as goal
 
 abbrev pub invariant-loop-batch : goal.invariant-loop-batch
 invariant-loop-batch g l = record {
-  ready : IsReady l.run.core;
-  kept : IsSentAt l.fn.job.output l.fn.run.core l.run.core;
-  stands : HasJournal l.run.core;
+  ready : IsReady l.core;
+  kept : IsSentAt l.fn.job.output l.fn.core l.core;
+  stands : HasJournal l.core;
   first : l.batch ≡ 0 → l.job.failed ≡ l.fn.job.failed;
-  waits : l.batch ≡ 0 → waiting_at l.run.core l.fn.job.output ≡ waiting_at l.fn.run.core l.fn.job.output;
+  waits : l.batch ≡ 0 → waiting_at l.core l.fn.job.output ≡ waiting_at l.fn.core l.fn.job.output;
   number : l.job.output ≡ l.fn.job.output;
-  sends : SendsAt l.fn.run l.run (out_of g.K.Sink.held g.K.Sink.faults l.fn.job) (out_of g.K.Sink.held g.K.Sink.faults l.job);
+  sends : SendsAt l.fn.core l.core (out_of g.K.Sink.held g.K.Sink.faults l.fn.job) (out_of g.K.Sink.held g.K.Sink.faults l.job);
 }

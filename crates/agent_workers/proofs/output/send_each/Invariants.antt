@@ -7,10 +7,10 @@ use Rattle.agent_workers.proofs.output.send_each.Given as goal
 
 abbrev pub invariant-loop-job : goal.invariant-loop-job
 invariant-loop-job g l = record {
-  ready : IsReady l.run.core;
-  kept : IsSentOn l.fn.run.core l.run.core;
-  stands : HasJournal l.run.core;
-  outputs : AreOutputs (length l.fn.run.core.setup.outputs) (outs_of g.K.Sink.held g.K.Sink.faults l.outputs);
-  swept : Sweeping l.job-index l.sweep.emptied l.sweep.accepted l.fn.run.core l.run.core (outs_of g.K.Sink.held g.K.Sink.faults l.fn.outputs) (outs_of g.K.Sink.held g.K.Sink.faults l.outputs);
-  sends : SendsOn l.fn.run l.run (outs_of g.K.Sink.held g.K.Sink.faults l.fn.outputs) (outs_of g.K.Sink.held g.K.Sink.faults l.outputs);
+  ready : IsReady l.core;
+  kept : IsSentOn l.fn.core l.core;
+  stands : HasJournal l.core;
+  outputs : AreOutputs (length l.fn.core.setup.outputs) (outs_of g.K.Sink.held g.K.Sink.faults l.outputs);
+  swept : Sweeping l.job-index l.sweep.emptied l.sweep.accepted l.fn.core l.core (outs_of g.K.Sink.held g.K.Sink.faults l.fn.outputs) (outs_of g.K.Sink.held g.K.Sink.faults l.outputs);
+  sends : SendsOn l.fn.core l.core (outs_of g.K.Sink.held g.K.Sink.faults l.fn.outputs) (outs_of g.K.Sink.held g.K.Sink.faults l.outputs);
 }

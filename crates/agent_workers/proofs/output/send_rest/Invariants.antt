@@ -6,12 +6,12 @@ use Rattle.agent_workers.proofs.output.send_rest.Given as goal
 
 abbrev pub invariant-loop-repeat : goal.invariant-loop-repeat
 invariant-loop-repeat g l = record {
-  ready : IsReady l.run.core;
-  kept : IsSentOn l.fn.run.core l.run.core;
-  stands : HasJournal l.run.core;
-  outputs : AreOutputs (length l.fn.run.core.setup.outputs) (outs_of g.K.Sink.held g.K.Sink.faults l.outputs);
+  ready : IsReady l.core;
+  kept : IsSentOn l.fn.core l.core;
+  stands : HasJournal l.core;
+  outputs : AreOutputs (length l.fn.core.setup.outputs) (outs_of g.K.Sink.held g.K.Sink.faults l.outputs);
   count : length l.outputs ≡ length l.fn.outputs;
   few : l.tries < l.fn.final_tries;
-  failed : HaveFailed l.tries l.run.core (outs_of g.K.Sink.held g.K.Sink.faults l.outputs);
-  sends : SendsOn l.fn.run l.run (outs_of g.K.Sink.held g.K.Sink.faults l.fn.outputs) (outs_of g.K.Sink.held g.K.Sink.faults l.outputs);
+  failed : HaveFailed l.tries l.core (outs_of g.K.Sink.held g.K.Sink.faults l.outputs);
+  sends : SendsOn l.fn.core l.core (outs_of g.K.Sink.held g.K.Sink.faults l.fn.outputs) (outs_of g.K.Sink.held g.K.Sink.faults l.outputs);
 }

@@ -19,7 +19,7 @@ route_all-requires-clause-stands g c = continues c.in_ok-stop.ensures.stands c.r
 
 pub send_rest-requires-clause-outputs : goal.send_rest-requires-clause-outputs
 send_rest-requires-clause-outputs g c =
-    outputs_still (length c.args.run.now.core.setup.outputs) (length c.route_all.new.run.core.setup.outputs) (outs_of g.K.Sink.held g.K.Sink.faults c.args.outputs.now) (outs_of g.K.Sink.held g.K.Sink.faults c.begin_anew.new.outputs) c.begin_anew.ensures.fresh
+    outputs_still (length c.args.core.now.setup.outputs) (length c.route_all.new.core.setup.outputs) (outs_of g.K.Sink.held g.K.Sink.faults c.args.outputs.now) (outs_of g.K.Sink.held g.K.Sink.faults c.begin_anew.new.outputs) c.begin_anew.ensures.fresh
     (ap (λ (s : Setup). length s.outputs) (c.in_ok-route_all.ensures.kept.setup ∙ ap (λ (s : CoreState). s.setup) c.in_ok-stop.ensures.ok)) c.requires.outputs
 
 pub returns-clause-goes : goal.returns-clause-goes
@@ -30,9 +30,9 @@ returns-clause-goes g c = λ start now w.
     let here : Surroundings = record now { outs = fresh } in
     let stopped : Surroundings = record now { counted_at = int_max c.args.moment start.setup.start ∷ [] } in
     let same : to_z w64 (of_z w64 c.args.moment) ≡ c.args.moment = to_z-of_z w64 c.args.moment c.ranges.moment in
-    let after_stopped = subst (λ (m : ℤ). c.stop.new.self ≡ after_stop c.args.run.now.core m) same c.in_ok-stop.ensures.ok in
-    let stands = subst (λ (m : ℤ). Continues c.args.run.now.core c.stop.new.self (stop_entry c.args.run.now.core m)) same c.in_ok-stop.ensures.stands in
-    let begun = went_anew start c.args.run.now.core c.args.run.now.pieces (record now { counted_at = [] }) outs fresh c.begin_anew.ensures.fresh w in
-    let a = went_stop start c.args.run.now.core c.stop.new.self c.args.run.now.pieces here c.args.moment zero after_stopped stands begun in
+    let after_stopped = subst (λ (m : ℤ). c.stop.new.self ≡ after_stop c.args.core.now m) same c.in_ok-stop.ensures.ok in
+    let stands = subst (λ (m : ℤ). Continues c.args.core.now c.stop.new.self (stop_entry c.args.core.now m)) same c.in_ok-stop.ensures.stands in
+    let begun = went_anew start c.args.core.now (record now { counted_at = [] }) outs fresh c.begin_anew.ensures.fresh w in
+    let a = went_stop start c.args.core.now c.stop.new.self here c.args.moment zero after_stopped stands begun in
     let b = c.in_ok-route_all.ensures.goes start (record here { counted_at = int_max c.args.moment start.setup.start ∷ [] }) zero a in
     c.in_ok-send_rest.ensures.sends start stopped b

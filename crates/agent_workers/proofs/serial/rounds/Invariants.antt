@@ -1,5 +1,6 @@
 use Rattle.std.proofs.Common.{◌≡◌, [], length}
 use Rattle.agent_workers.specs.Noted.{part_of}
+use Rattle.agent_workers.specs.Inputs.{in_of, IsSameInput}
 use Rattle.agent_workers.specs.Output.{outs_of, AreOutputs}
 use Rattle.agent_workers.specs.Progress.{RunsOn}
 use Rattle.agent_workers.specs.Running.{IsReady, IsReading, HasJournal, AreSettled}
@@ -8,18 +9,16 @@ use Rattle.agent_workers.proofs.serial.rounds.Given as goal
 
 abbrev pub invariant-loop-round : goal.invariant-loop-round
 invariant-loop-round g l = record {
-  ready : IsReady l.run.core;
-  reading : IsReading l.fn.input.input l.run.core;
-  number : l.input.input ≡ l.fn.input.input;
-  pieces : l.input.gather_pieces ≡ l.fn.input.gather_pieces;
-  none_raw : l.run.core.raw ≡ [];
-  setup : l.run.core.setup ≡ l.fn.run.core.setup;
-  outputs : AreOutputs (length l.fn.run.core.setup.outputs) (outs_of g.K.Sink.held g.K.Sink.faults l.outputs);
-  settled : AreSettled l.run.core (outs_of g.K.Sink.held g.K.Sink.faults l.outputs);
-  stands : HasJournal l.run.core;
+  ready : IsReady l.core;
+  read : l.input.state ≡ states.Reading;
+  reading : IsReading l.fn.input.input l.core;
+  none_raw : l.core.raw ≡ [];
+  setup : l.core.setup ≡ l.fn.core.setup;
+  outputs : AreOutputs (length l.fn.core.setup.outputs) (outs_of g.K.Sink.held g.K.Sink.faults l.outputs);
+  settled : AreSettled l.core (outs_of g.K.Sink.held g.K.Sink.faults l.outputs);
+  stands : HasJournal l.core;
   count : length l.outputs ≡ length l.fn.outputs;
-  list : g.C.Clock.moments l.input.clock ≡ g.C.Clock.moments l.fn.input.clock;
-  runs : RunsOn l.fn.input.input l.fn.input.gather_pieces l.fn.run l.run states.Reading (g.S.Source.left l.fn.input.source) (g.S.Source.left l.input.source) (g.S.Source.faults l.fn.input.source) (g.S.Source.faults l.input.source)
-      (g.C.Clock.moments l.fn.input.clock) (g.C.Clock.place l.fn.input.clock) (g.C.Clock.place l.input.clock) (outs_of g.K.Sink.held g.K.Sink.faults l.fn.outputs) (outs_of g.K.Sink.held g.K.Sink.faults l.outputs)
+  same : IsSameInput (in_of g.S.Source.left g.S.Source.faults g.C.Clock.moments g.C.Clock.place l.fn.input) (in_of g.S.Source.left g.S.Source.faults g.C.Clock.moments g.C.Clock.place l.input);
+  runs : RunsOn l.fn.core l.core (in_of g.S.Source.left g.S.Source.faults g.C.Clock.moments g.C.Clock.place l.fn.input) (in_of g.S.Source.left g.S.Source.faults g.C.Clock.moments g.C.Clock.place l.input) (outs_of g.K.Sink.held g.K.Sink.faults l.fn.outputs) (outs_of g.K.Sink.held g.K.Sink.faults l.outputs)
       (part_of g.K.Sink.held g.K.Sink.faults l.fn.journal) (part_of g.K.Sink.held g.K.Sink.faults l.journal);
 }

@@ -1,0 +1,85 @@
+//! What a run and its journal are about.
+ghost use Rattle.std.specs.Prelude.{◌≡◌, ◌≤◌, ◌∷◌, ℕ, [], false, All, length, map, IfOk};
+ghost use Rattle.pipeline_core.specs.CoreState.{CoreState, setup_of, sizes};
+ghost use Rattle.pipeline_core.specs.Stands.{Stands};
+ghost use Rattle.agent_workers.specs.PipeSetup.{run_setup, journal_setup_of};
+ghost use Rattle.agent_workers.specs.Running.{IsReady, IsReading, buffered_at};
+
+use fixed_num::{Moment, OutOfMemory, Seq};
+use journal_text::JournalSetup;
+use pipeline_core::{Core, CoreSetup, InSetup, OutSetup};
+use std::alloc::Global;
+
+/// The sizes of each output: its batch size and its buffer limit.
+fn sizes_of(alloc: Global, outputs: &[OutSetup]) -> Result<Vec<(u32, u32)>, OutOfMemory>
+    ensures { IfOk result (λ pairs. pairs.items ≡ map sizes outputs.now) }
+{
+    let mut pairs = Vec::with_capacity(alloc, outputs.len())?;
+    for output in outputs {
+        pairs.push((output.batch, output.limit))?;
+    }
+    Ok(pairs)
+}
+
+/// The same outputs.
+fn copies_of(alloc: Global, outputs: &[OutSetup]) -> Result<Vec<OutSetup>, OutOfMemory>
+    ensures { IfOk result (λ copies. copies.items ≡ outputs.now) }
+{
+    let mut copies = Vec::with_capacity(alloc, outputs.len())?;
+    for output in outputs {
+        copies.push(*output)?;
+    }
+    Ok(copies)
+}
+
+/// What the journal is about.
+pub fn journal_setup(
+    alloc: Global,
+    outputs: &[OutSetup],
+    start: Moment,
+) -> Result<JournalSetup, OutOfMemory>
+    ensures { IfOk result (λ setup. setup ≡ journal_setup_of (run_setup (map sizes outputs.now) start)) }
+{
+    Ok(JournalSetup {
+        start,
+        inputs: Seq::of(vec![in alloc; None]?),
+        aggs: Seq::of(Vec::new(alloc)),
+        outputs: Seq::of(sizes_of(alloc, outputs)?),
+    })
+}
+
+/// The set-up of the core: one input, which isn't tracked, and the outputs.
+fn core_setup(alloc: Global, outputs: &[OutSetup], start: Moment) -> Result<CoreSetup, OutOfMemory>
+    ensures setup { IfOk result (λ setup. setup_of setup ≡ run_setup (map sizes outputs.now) start) }
+    ensures inputs { IfOk result
+        (λ setup. setup.inputs ≡ record { tracked = false; max_undelivered = 0 } ∷ []) }
+    ensures outputs { IfOk result (λ setup. setup.outputs ≡ outputs.now) }
+{
+    Ok(CoreSetup {
+        inputs: Seq::of(vec![in alloc;
+            InSetup {
+                tracked: false,
+                max_undelivered: 0,
+            },
+        ]?),
+        outputs: Seq::of(copies_of(alloc, outputs)?),
+        start,
+    })
+}
+
+/// A core in which nothing happened.
+pub fn new_core(alloc: Global, outputs: &[OutSetup], start: Moment) -> Result<Core, OutOfMemory>
+    requires few { length outputs.now ≤ 16 }
+    requires sizes { All (λ x. (1 ≤ x.batch) × (x.batch ≤ x.limit)) outputs.now }
+    ensures ready { IfOk result (λ core. IsReady core) }
+    ensures reading { IfOk result (λ core. IsReading 0 core) }
+    ensures none_raw { IfOk result (λ core. core.raw ≡ []) }
+    ensures none_buffered { IfOk result (λ core. (output : ℕ) → buffered_at core output ≡ 0) }
+    ensures stands { IfOk result (λ core. Stands core []) }
+    ensures setup { IfOk result (λ core. core.setup ≡ run_setup (map sizes outputs.now) start) }
+    ensures stored { IfOk result (λ core. core.stored ≡ []) }
+{
+    let setup = core_setup(alloc, outputs, start)?;
+    let core = Core::new(alloc, setup)?;
+    Ok(core)
+}

@@ -4,7 +4,7 @@ ghost use Rattle.std.specs.Prelude.{OnErr};
 ghost use Rattle.std.specs.Prelude.{if◌then◌else◌};
 ghost use Rattle.text_parts.specs.Adds.{Adds};
 ghost use Rattle.metric.specs.Draft.{Tag, Field};
-ghost use Rattle.graphite_text.specs.Writing.{is_kept, value_byte, name_byte, value_part, name_part};
+ghost use Rattle.graphite_text.specs.Writing.{value_byte, name_byte, value_part, name_part};
 ghost use Rattle.graphite_text.specs.Writing.{is_host, is_no_host, path_text, number_text, seconds_of};
 ghost use Rattle.graphite_text.specs.Writing.{line_text, is_text, field_text, metric_text};
 ghost use Rattle.graphite_text.specs.Pieces.{key_text, host_text, other_text};
@@ -14,31 +14,42 @@ use metric::{Metric, Text, Value};
 use std::alloc::Global;
 use text_parts::{append_int, append_signed, append_uint, append_words, settle};
 
-/// Whether a byte is a letter, a digit, `_` or `-`.
-fn is_kept(byte: u8) -> bool
-    ensures { result ≡ is_kept byte }
-{
-    byte.is_ascii_alphanumeric() || byte == b'_' || byte == b'-'
-}
+/// Each byte as it stands in the value of a tag: a letter, a digit, `_` or `-`, or `_` for another.
+static VALUE_BYTES: [u8; 256] = *b"\
+    ________________________________\
+    _____________-__0123456789______\
+    _ABCDEFGHIJKLMNOPQRSTUVWXYZ_____\
+    _abcdefghijklmnopqrstuvwxyz_____\
+    ________________________________\
+    ________________________________\
+    ________________________________\
+    ________________________________";
+
+/// Each byte as it stands in a name or a key: the same, and the dot.
+static NAME_BYTES: [u8; 256] = *b"\
+    ________________________________\
+    _____________-._0123456789______\
+    _ABCDEFGHIJKLMNOPQRSTUVWXYZ_____\
+    _abcdefghijklmnopqrstuvwxyz_____\
+    ________________________________\
+    ________________________________\
+    ________________________________\
+    ________________________________";
 
 /// A byte as it stands in the value of a tag.
-#[tactic(auto, unfolding(crate::specs::Writing::value_byte))]
+#[inline(always)]
 fn value_byte(byte: u8) -> u8
     ensures { result ≡ value_byte byte }
 {
-    if is_kept(byte) { byte } else { b'_' }
+    VALUE_BYTES[byte as usize]
 }
 
 /// A byte as it stands in a name or a key.
-#[tactic(auto, unfolding(crate::specs::Writing::name_byte))]
+#[inline(always)]
 fn name_byte(byte: u8) -> u8
     ensures { result ≡ name_byte byte }
 {
-    if is_kept(byte) || byte == b'.' {
-        byte
-    } else {
-        b'_'
-    }
+    NAME_BYTES[byte as usize]
 }
 
 /// Puts each byte as it stands in the value of a tag.

@@ -1,6 +1,6 @@
-"""Writes an input of line protocol, or of StatsD lines: inputs.py KIND LINES FILE.
+"""Writes an input of line protocol, or of lines of StatsD or Graphite: inputs.py KIND LINES FILE.
 
-KIND is telegraf, small, escaped or statsd. The same words give the same bytes, and a shorter input begins a
+KIND is telegraf, small, escaped, statsd or graphite. The same words give the same bytes, and a shorter input begins a
 longer one. Each line of line protocol is as Hogzent writes it (tags sorted by key, canonical numbers with at
 most nine decimals, a time), so that an output must equal its input. Only escaped has backslashes and double
 quotes.
@@ -134,7 +134,21 @@ def statsd_line(rng, number):
     return "%s:%d|c|#env:prod,region:%s\n" % (name, rng.randrange(1, 50), rng.choice(REGIONS))
 
 
-KINDS = {"telegraf": telegraf_line, "small": small_line, "escaped": escaped_line, "statsd": statsd_line}
+def graphite_line(rng, number):
+    """A line of Graphite as collectors send it: mostly of servers, which a filter takes, some of services."""
+    time = START + number // 100 * 10
+    if rng.random() < 0.7:
+        name, plugin = rng.choice(PLUGINS)
+        key, value = rng.choice(plugin(rng, {}))
+        return "servers.node-%04d.%s.%s %s %d\n" % (rng.randrange(400), name, key, value.rstrip("i"), time)
+    path = "%s.%s.%s" % (rng.choice(["prod", "staging"]), rng.choice(SERVICES), rng.choice(["latency.p99", "hits"]))
+    return "%s %s %d\n" % (path, decimal(rng, 500, 3), time)
+
+
+KINDS = {
+    "telegraf": telegraf_line, "small": small_line, "escaped": escaped_line, "statsd": statsd_line,
+    "graphite": graphite_line,
+}
 
 
 def main(kind, lines, path):

@@ -6,7 +6,9 @@ PROBE is format_probe: each piece that it reads must give the line, or the fault
 module format_FORMAT gives, which follows docs/formats.md alone. Where the format is line protocol PROGRAM is the
 agent: `pipe` must write these lines too, and what it wrote must be read by `pipe` without a refusal and written
 again, as the same line; where the document itself has another line, that one must come, and the number of these
-lines is printed. Of the differences the first ten are printed, with their bytes.
+lines is printed. Graphite is read with seeded separators and templates, written too, also from line protocol, and
+of lists of texts each must be templates, or no templates, in both. Of the differences the first ten are printed,
+with their bytes.
 """
 
 import importlib
@@ -16,6 +18,11 @@ import re
 import subprocess
 import sys
 import tempfile
+from collections import namedtuple
+from functools import partial
+
+import format_influx
+from format_influx import Refused
 
 MOMENT = 7
 LONGEST = 65_536
@@ -23,6 +30,14 @@ LONGEST = 65_536
 CHUNK = 5_000
 MOST = 500
 SHOWN = 10
+# How many lines are read with each list of templates, and how many lines there are for each list of texts that
+# may be none.
+LINES_EACH = 200
+LINES_PER_LIST = 20
+
+# How texts are read and written: the words of the probe, the plain reading of a piece, which gives a metric, none or a
+# list of them, and the plain writing, which gives the lines of a metric.
+Way = namedtuple("Way", "words read write")
 
 
 def pieces_of(text):
@@ -32,7 +47,7 @@ def pieces_of(text):
     return pieces + ([None if len(rest) > LONGEST else rest] if rest else [])
 
 
-def expected_of(reader, text):
+def expected_of(way, text):
     """What the probe is to write of a line: the lines for its pieces, and how many were refused and read."""
     told, refused, metrics = [], 0, 0
     pieces = pieces_of(text)
@@ -40,18 +55,18 @@ def expected_of(reader, text):
         try:
             if piece is None:
                 raise TooLong
-            for metric in read_all(reader, piece):
-                told.append(reader.write(metric))
+            for metric in read_all(way, piece):
+                told += way.write(metric)
                 metrics += 1
-        except (reader.Refused, TooLong) as fault:
+        except (Refused, TooLong) as fault:
             told.append(str(fault).encode())
             refused += 1
     return told, (len(pieces), refused, metrics)
 
 
-def read_all(reader, piece):
-    """The metrics of a piece: a list of them, or one, or none."""
-    read = reader.read(piece, MOMENT)
+def read_all(way, piece):
+    """The metrics of a piece, as a list."""
+    read = way.read(piece, MOMENT)
     return read if isinstance(read, list) else [] if read is None else [read]
 
 
@@ -62,9 +77,9 @@ class TooLong(Exception):
         return "TooLong"
 
 
-def probed(probe, form, lines):
+def probed(probe, words, lines):
     """What the probe writes of these lines."""
-    ran = subprocess.run([probe, form, "influx"], input=b"".join(lines), stdout=subprocess.PIPE, check=False)
+    ran = subprocess.run([probe, *words], input=b"".join(lines), stdout=subprocess.PIPE, check=False)
     return ran.stdout if ran.returncode == 0 else b"status %d\n" % ran.returncode
 
 
@@ -76,15 +91,15 @@ def wanted(expected):
     return b"".join(it + b"\n" for it in told)
 
 
-def differing(probe, form, lines, expected, most):
+def differing(probe, words, lines, expected, most):
     """The places of up to so many lines of which the probe writes something else than is expected."""
-    if most <= 0 or not lines or probed(probe, form, lines) == wanted(expected):
+    if most <= 0 or not lines or probed(probe, words, lines) == wanted(expected):
         return []
     if len(lines) == 1:
         return [0]
     half = len(lines) // 2
-    first = differing(probe, form, lines[:half], expected[:half], most)
-    second = differing(probe, form, lines[half:], expected[half:], most - len(first))
+    first = differing(probe, words, lines[:half], expected[:half], most)
+    second = differing(probe, words, lines[half:], expected[half:], most - len(first))
     return first + [half + at for at in second]
 
 
@@ -95,25 +110,87 @@ def endings_of(line):
     return texts + [line.ljust(LONGEST + more) + end for more in (-1, 0, 1) for end in ends]
 
 
-def compare_reading(reader, form, lines, probe):
-    """Compares the probe's reading with the plain one; a text for each line where they differ."""
-    found, kinds = [], {}
-    for text in endings_of(reader.EXAMPLES[0]):
-        said, right = probed(probe, form, [text]), wanted([expected_of(reader, text)])
+def compare_endings(way, example, probe):
+    """Compares what the probe writes of texts that end in each way; a text for each difference."""
+    found = []
+    for text in endings_of(example):
+        said, right = probed(probe, way.words, [text]), wanted([expected_of(way, text)])
         if said != right:
             texts = (text[-20:], len(text), said, right)
             found.append("%r, %d bytes\n    probe:    %r\n    document: %r" % texts)
-    for begin in range(0, len(lines), CHUNK):
-        some = lines[begin : begin + CHUNK]
-        expected = [expected_of(reader, line) for line in some]
-        for told, (_, refused, _) in expected:
-            kind = "metrics" if told and not refused else told[0].split()[0].decode() if told else "nothing"
+    return found
+
+
+def compare_lines(parts, probe):
+    """Compares what the probe writes of parts, each a way and its lines; a text for each line where they differ."""
+    found, kinds = [], {}
+    for way, lines in parts:
+        # What follows the last newline is a piece too.
+        lines = [line + b"\n" for line in lines[:-1]] + lines[-1:]
+        expected = [expected_of(way, line) for line in lines]
+        for told, (_, refused, metrics) in expected:
+            kind = told[0].split()[0].decode() if refused else "metrics" if metrics else "nothing"
             kinds[kind] = kinds.get(kind, 0) + 1
-        for at in differing(probe, form, some, expected, MOST - len(found)):
-            texts = (some[at], probed(probe, form, [some[at]]), wanted(expected[at : at + 1]))
-            found.append("%r\n    probe:    %r\n    document: %r" % texts)
+        for at in differing(probe, way.words, lines, expected, MOST - len(found)):
+            texts = (way.words, lines[at], probed(probe, way.words, [lines[at]]), wanted(expected[at : at + 1]))
+            found.append("%r\n    line:     %r\n    probe:    %r\n    document: %r" % texts)
     print("fuzz-formats: " + ", ".join("%s %d" % it for it in sorted(kinds.items(), key=lambda it: -it[1])))
     return found
+
+
+def compare_reading(way, example, parts, probe):
+    """Compares the probe's reading with the plain one, in one way first where texts end; the differences."""
+    return compare_endings(way, example, probe) + compare_lines(parts, probe)
+
+
+def chunks(way, lines):
+    """These lines, in parts that the probe gets at once."""
+    for begin in range(0, len(lines), CHUNK):
+        yield way, lines[begin : begin + CHUNK]
+
+
+def way_of(reader, form):
+    """How a format is read and written as line protocol, without further words."""
+    return Way([form, "influx"], reader.read, lambda metric: [format_influx.write(metric)])
+
+
+def graphite_ways(reader, separator, texts):
+    """How Graphite is read with a separator and templates, and written as line protocol and as Graphite."""
+    templates = [reader.read_template(text) for text in texts]
+    read = partial(reader.read, templates=templates, separator=separator)
+    words = [separator, *texts]
+    yield Way(["graphite", "influx", *words], read, lambda metric: [format_influx.write(metric)])
+    yield Way(["graphite", "graphite", *words], read, reader.write)
+
+
+def compare_templates(reader, lists, probe):
+    """Compares which lists of texts are templates; a text for each difference."""
+    found, good = [], 0
+    for texts in lists:
+        ran = subprocess.run([probe, "graphite", "count", ".", *texts], input=b"", stdout=subprocess.PIPE, check=False)
+        taken = all(reader.is_template(text) for text in texts)
+        good += taken
+        if (ran.returncode, ran.stdout) != ((0, wanted([])) if taken else (2, b"")):
+            found.append("%r\n    probe:    status %d\n    document: %r" % (texts, ran.returncode, taken))
+    print("fuzz-formats: %d lists of %d are templates" % (good, len(lists)))
+    return found
+
+
+def compare_graphite(reader, rng, count, probe):
+    """Compares the reading of Graphite and of templates, and the writing; the differences."""
+    setups = [(list(graphite_ways(reader, *words)), lines) for *words, lines in reader.setups(rng, count, LINES_EACH)]
+    shown = [[(ways[at], lines) for ways, lines in setups] for at in range(2)]
+    found = compare_reading(way_of(reader, "graphite"), reader.EXAMPLES[0], shown[0], probe)
+    report("graphite, %d lines, beside a reading by docs/formats.md" % count, found)
+    written = compare_lines(shown[1], probe)
+    report("graphite, %d lines, written as Graphite" % count, written)
+    lines = list(reader.written_lines(rng, count // 2)) + list(format_influx.lines(rng, count - count // 2))
+    others = compare_lines(chunks(Way(["influx", "graphite"], format_influx.read, reader.write), lines), probe)
+    report("influx, %d lines, written as Graphite" % count, others)
+    lists = list(reader.template_lists(rng, count // LINES_PER_LIST))
+    refused = compare_templates(reader, lists, probe)
+    report("graphite, %d lists of templates" % len(lists), refused)
+    return found + written + others + refused
 
 
 def piped(program, source, target):
@@ -132,7 +209,7 @@ def piped(program, source, target):
 def compare_written(reader, lines, account, written):
     """Compares what the agent counted and wrote of lines with the document; a text for each difference."""
     found, metrics, refused = [], [], 0
-    pieces = pieces_of(b"".join(lines))
+    pieces = pieces_of(b"\n".join(lines))
     for piece in pieces:
         try:
             metrics.append(reader.read(piece, None) if piece is not None else None)
@@ -153,14 +230,14 @@ def compare_written(reader, lines, account, written):
     return found
 
 
-def compare_again(reader, written, account, again):
+def compare_again(way, written, account, again):
     """Compares what the agent wrote of its own lines with these; gives the differences, and the lines
     that the document itself changes."""
     found, changed = [], []
     if account != (len(written), 0, len(written)) or len(again) != len(written):
         found.append("pieces, refused, gathered are %r, of %d lines" % (account, len(written)))
     for line, said in zip(written, again):
-        told, _ = expected_of(reader, line + b"\n")
+        told, _ = expected_of(way, line + b"\n")
         if [said] != told:
             found.append("%r\n    written again: %r\n    document:      %r" % (line, said, told))
         elif said != line:
@@ -173,12 +250,12 @@ def compare_pipe(reader, form, lines, program):
     with tempfile.TemporaryDirectory() as folder:
         path, first, second = (os.path.join(folder, name) for name in ("in", "first", "second"))
         with open(path, "wb") as file:
-            file.writelines(lines)
+            file.write(b"\n".join(lines))
         account, written = piped(program, path, first)
         account_again, again = piped(program, first, second)
     found = compare_written(reader, lines, account, written)
     report("%s, what pipe wrote, beside the document" % form, found)
-    found_again, changed = compare_again(reader, written, account_again, again)
+    found_again, changed = compare_again(way_of(reader, form), written, account_again, again)
     report("%s, what pipe wrote, through pipe again" % form, found_again)
     if changed:
         print("fuzz-formats: %d of these lines are another line by the document itself, as" % len(changed))
@@ -199,12 +276,12 @@ def report(name, found):
 def main(form, count, seed, probe, program):
     """Makes the lines and compares; the status."""
     reader = importlib.import_module("format_" + form)
-    rng = random.Random("%s %s" % (form, seed))
-    lines = [line + b"\n" for line in reader.lines(rng, int(count))]
-    # What follows the last newline is a piece too.
-    lines[-1] = lines[-1][:-1]
-    reading = compare_reading(reader, form, lines, probe)
-    report("%s, %d lines, beside a reading by docs/formats.md" % (form, len(lines)), reading)
+    rng, count = random.Random("%s %s" % (form, seed)), int(count)
+    if form == "graphite":
+        return 1 if compare_graphite(reader, rng, count, probe) else 0
+    lines, way = list(reader.lines(rng, count)), way_of(reader, form)
+    reading = compare_reading(way, reader.EXAMPLES[0], chunks(way, lines), probe)
+    report("%s, %d lines, beside a reading by docs/formats.md" % (form, count), reading)
     # The agent reads line protocol alone.
     return 1 if reading + (compare_pipe(reader, form, lines, program) if form == "influx" else []) else 0
 

@@ -5,28 +5,28 @@ use Rattle.std.specs.Io.KnownBytes.{Consumes, Keeps}
 use Rattle.agent_base.specs.declared.piece.Piece.{Piece}
 use Rattle.agent_base.specs.declared.piece.PieceFault.{PieceFault}
 use Rattle.agent_base.specs.declared.piece.PieceFault.TheVariants as faults
-use Rattle.agent_base.specs.Cut.{TooLong, Whole, cut, passed, unended, NoNewline}
+use Rattle.agent_base.specs.declared.piece.CutKind.{CutKind}
+use Rattle.agent_base.specs.Cut.{TooLong, Whole, cut, cut_from, passed, passed_from, ended, unended, ends_piece, most_bytes, last_line, NoEnd}
 use Rattle.agent_base.specs.Hand.{Hand, to_come, IsSameToCome}
 use Rattle.agent_base.specs.PieceAnswers.{IsGiven}
 use Rattle.agent_base.specs.Told.{Told}
 use Rattle.agent_base.specs.Taken.{Takes, AnswersWhatever, TakesFor}
-use Rattle.agent_base.proofs.Cuts.{cut_line, passed_line, last_passed, cut_nothing}
-use Rattle.agent_base.proofs.LineLaws.{cuts_lines}
+use Rattle.agent_base.proofs.Cuts.{cut_more, passed_more, last_passed, last_hand}
 use Rattle.agent_base.proofs.BufferLemmas.{read_hand}
 
 -- ---- a read
 
-pub read_takes : (before after : Option (List ℕ)) (old new : List ℕ) (start end most n taken : ℕ) (p : Bool) → start ≤ end → n ≤ most → take end new ≡ take end old
+pub read_takes : (before after : Option (List ℕ)) (old new : List ℕ) (start end most n taken : ℕ) (kind : CutKind) (p : Bool) → start ≤ end → n ≤ most → take end new ≡ take end old
     → Consumes before after (take n (between end (end + most) new))
-    → Takes before after (record { bytes = between start end old; is_passing = p; taken = taken }) (record { bytes = between start (end + n) new; is_passing = p; taken = taken + n })
-read_takes None after old new start end most n taken p le fits same h = tt
-read_takes (Some xs) None old new start end most n taken p le fits same h = absurd h
-read_takes (Some xs) (Some ys) old new start end most n taken p le fits same h =
+    → Takes before after (record { kind = kind; bytes = between start end old; is_passing = p; taken = taken }) (record { kind = kind; bytes = between start (end + n) new; is_passing = p; taken = taken + n })
+read_takes None after old new start end most n taken kind p le fits same h = tt
+read_takes (Some xs) None old new start end most n taken kind p le fits same h = absurd h
+read_takes (Some xs) (Some ys) old new start end most n taken kind p le fits same h =
     let front : List ℕ = take n (between end (end + most) new) in
     record {
       taken = front;
       split = h;
-      pieces = λ more. ap (λ (l : List ℕ). to_come (record { bytes = []; is_passing = p; taken = 0 }) l) (read_hand (front ++ more) more old new start end most n le fits same refl);
+      pieces = λ more. ap (λ (l : List ℕ). to_come (record { kind = kind; bytes = []; is_passing = p; taken = 0 }) l) (read_hand (front ++ more) more old new start end most n le fits same refl);
     }
 
 -- nothing was read
@@ -56,35 +56,45 @@ takes_byte_limit None after old new h = tt
 takes_byte_limit (Some xs) None old new h = absurd h
 takes_byte_limit (Some xs) (Some ys) old new h = record { taken = h.taken; split = h.split; given = h.pieces }
 
--- a line that is in hand after some reads
-pub takes_line : (before after : Option (List ℕ)) (old mid new : Hand) (r : Result (Option Piece) PieceFault) → Takes before after old mid → AnswersWhatever r mid new [] → IsGiven r → Told before after (TakesFor r old new)
-takes_line None after old mid new r h pieces given = tt
-takes_line (Some xs) None old mid new r h pieces given = absurd h
-takes_line (Some xs) (Some ys) old mid new (Ok (Some p)) h pieces given = record { taken = h.taken; split = h.split; given = inr (λ more. h.pieces more ∙ pieces more) }
-takes_line (Some xs) (Some ys) old mid new (Ok None) h pieces given = absurd given
-takes_line (Some xs) (Some ys) old mid new (Err faults.TooLong) h pieces given = record { taken = h.taken; split = h.split; given = inr (λ more. h.pieces more ∙ pieces more) }
-takes_line (Some xs) (Some ys) old mid new (Err faults.OutOfMemory) h pieces given = absurd given
-takes_line (Some xs) (Some ys) old mid new (Err faults.ReadFault) h pieces given = absurd given
-takes_line (Some xs) (Some ys) old mid new (Err faults.ByteLimit) h pieces given = absurd given
+-- a piece whose end is in hand after some reads
+pub takes_piece : (before after : Option (List ℕ)) (old mid new : Hand) (r : Result (Option Piece) PieceFault) → Takes before after old mid → AnswersWhatever r mid new [] → IsGiven r → Told before after (TakesFor r old new)
+takes_piece None after old mid new r h pieces given = tt
+takes_piece (Some xs) None old mid new r h pieces given = absurd h
+takes_piece (Some xs) (Some ys) old mid new (Ok (Some p)) h pieces given = record { taken = h.taken; split = h.split; given = inr (λ more. h.pieces more ∙ pieces more) }
+takes_piece (Some xs) (Some ys) old mid new (Ok None) h pieces given = absurd given
+takes_piece (Some xs) (Some ys) old mid new (Err faults.TooLong) h pieces given = record { taken = h.taken; split = h.split; given = inr (λ more. h.pieces more ∙ pieces more) }
+takes_piece (Some xs) (Some ys) old mid new (Err faults.OutOfMemory) h pieces given = absurd given
+takes_piece (Some xs) (Some ys) old mid new (Err faults.ReadFault) h pieces given = absurd given
+takes_piece (Some xs) (Some ys) old mid new (Err faults.ByteLimit) h pieces given = absurd given
 
--- ---- what is still to come of a hand without a newline
+-- ---- what is still to come of a hand in which no piece ends
 
--- the bytes behind the last newline are one piece at most
-unended_one : (rest : List ℕ) → length (unended rest) ≤ 1
-unended_one rest = elim (eqb (length rest) 0) as (λ (b : Bool). length (cond b [] (cond (ltb 65536 (length rest)) TooLong (Whole rest) ∷ [])) ≤ 1) [ true ↦ omega arith | false ↦ omega arith ]
+-- the bytes behind the last end of a piece are one piece at most
+unended_one : (kind : CutKind) (rest : List ℕ) → length (unended kind rest) ≤ 1
+unended_one kind rest = elim (eqb (length rest) 0) as (λ (b : Bool). length (cond b [] (cond (ltb (most_bytes kind) (length rest)) TooLong (Whole rest) ∷ [])) ≤ 1) [ true ↦ omega arith | false ↦ omega arith ]
 
 -- where nothing is left, one piece at most is to come
-pub one_to_come : (hand : Hand) → NoNewline hand.bytes → length (to_come hand []) ≤ 1
+pub one_to_come : (hand : Hand) → NoEnd hand.kind hand.bytes → length (to_come hand []) ≤ 1
 one_to_come hand clean = go hand.is_passing
   where
-    go : (b : Bool) → length (cond b (TooLong ∷ passed (hand.bytes ++ [])) (cut (hand.bytes ++ []))) ≤ 1
-    go true = rw (append-nil, last_passed hand.bytes clean, cut_nothing) (omega arith)
-    go false = rw (append-nil, cuts_lines [] hand.bytes tt clean) (unended_one hand.bytes)
+    go : (b : Bool) → length (cond b (TooLong ∷ passed hand.kind (hand.bytes ++ [])) (cut hand.kind (hand.bytes ++ []))) ≤ 1
+    go true = rw (append-nil, last_passed hand.kind hand.bytes clean) (omega arith)
+    go false = rw (append-nil, last_hand hand.kind hand.bytes clean) (unended_one hand.kind hand.bytes)
+
+-- a newline alone
+newline_passed : (kind : CutKind) (line : List ℕ) → passed_from kind line (10 ∷ []) ≡ []
+unfolding passed_from cut_from
+newline_passed kind line = elim (ends_piece kind line) as (λ (b : Bool). cond b (cut kind []) (passed_from kind [] []) ≡ []) [ true ↦ refl | false ↦ refl ]
+
+newline_cut : (kind : CutKind) (piece line : List ℕ) → length (cut_from kind piece line (10 ∷ [])) ≤ 1
+unfolding cut_from
+newline_cut kind piece line =
+    elim (ends_piece kind line) as (λ (b : Bool). length (cond b (ended kind piece ∷ cut kind []) (cut_from kind (piece ++ 10 ∷ []) [] [])) ≤ 1) [ true ↦ omega arith | false ↦ unended_one kind (piece ++ 10 ∷ []) ]
 
 -- where a newline alone is left, one piece at most is to come
-pub line_to_come : (hand : Hand) → NoNewline hand.bytes → length (to_come hand (10 ∷ [])) ≤ 1
+pub line_to_come : (hand : Hand) → NoEnd hand.kind hand.bytes → length (to_come hand (10 ∷ [])) ≤ 1
 line_to_come hand clean = go hand.is_passing
   where
-    go : (b : Bool) → length (cond b (TooLong ∷ passed (hand.bytes ++ 10 ∷ [])) (cut (hand.bytes ++ 10 ∷ []))) ≤ 1
-    go true = rw (passed_line hand.bytes [] clean, cut_nothing) (omega arith)
-    go false = rw (cut_line [] hand.bytes [] clean, cut_nothing) (omega arith)
+    go : (b : Bool) → length (cond b (TooLong ∷ passed hand.kind (hand.bytes ++ 10 ∷ [])) (cut hand.kind (hand.bytes ++ 10 ∷ []))) ≤ 1
+    go true = rw (passed_more hand.kind [] hand.bytes (10 ∷ []) clean, newline_passed hand.kind (last_line [] hand.bytes)) (omega arith)
+    go false = rw (cut_more hand.kind [] [] hand.bytes (10 ∷ []) clean) (newline_cut hand.kind hand.bytes (last_line [] hand.bytes))

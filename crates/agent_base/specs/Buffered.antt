@@ -8,6 +8,6 @@ use Rattle.agent_base.specs.Hand.{Hand}
 abbrev pub bytes_of : Buffer → List ℕ
 bytes_of b = between b.start b.end b.buf.items
 
--- those bytes, the mark and the count
+-- the kind, those bytes, the mark and the count
 abbrev pub hand_of : Buffer → Hand
-hand_of b = record { bytes = bytes_of b; is_passing = b.passing; taken = b.taken }
+hand_of b = record { kind = b.kind; bytes = bytes_of b; is_passing = b.passing; taken = b.taken }

@@ -7,6 +7,7 @@ pub mod Memory
 pub mod Slots
 pub mod Clocks
 pub mod Cut
+pub mod Room
 pub mod Lines
 pub mod Told
 pub mod Hand

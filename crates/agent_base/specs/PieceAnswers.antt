@@ -5,7 +5,7 @@ use Rattle.agent_base.specs.declared.piece.Piece.{Piece}
 use Rattle.agent_base.specs.declared.piece.PieceFault.{PieceFault}
 use Rattle.agent_base.specs.declared.piece.PieceFault.TheVariants as faults
 use Rattle.agent_base.specs.Counts.{Rose}
-use Rattle.agent_base.specs.Cut.{Cut, TooLong, Whole, NoNewline}
+use Rattle.agent_base.specs.Cut.{Cut, TooLong, Whole, NoEnd}
 use Rattle.agent_base.specs.Hand.{Hand}
 
 -- a piece or a too long one is the first to come, and the others are to come then; at the end none is; else
@@ -26,12 +26,12 @@ IsLimited (Err faults.OutOfMemory) taken = taken < 2 ^ 40
 IsLimited (Err faults.ReadFault) taken = taken < 2 ^ 40
 IsLimited (Ok piece) taken = taken < 2 ^ 40
 
--- None: no byte is in hand, and none is left; a read fault: a read failed, and no newline is in hand; out of
--- memory: all is as before
+-- None: no byte is in hand, and none is left; a read fault: a read failed, and no end of a piece is in
+-- hand; out of memory: all is as before
 abbrev pub HasReason : Result (Option Piece) PieceFault → Hand → Hand → Option (List ℕ) → ℕ → ℕ → Type 0
 HasReason (Ok None) old new left before now = (new.bytes ≡ []) × IsAtEnd left
 HasReason (Ok (Some p)) old new left before now = ⊤
-HasReason (Err faults.ReadFault) old new left before now = Rose before now × NoNewline new.bytes
+HasReason (Err faults.ReadFault) old new left before now = Rose before now × NoEnd new.kind new.bytes
 HasReason (Err faults.OutOfMemory) old new left before now = new ≡ old
 HasReason (Err faults.TooLong) old new left before now = ⊤
 HasReason (Err faults.ByteLimit) old new left before now = ⊤

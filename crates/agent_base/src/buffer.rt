@@ -1,29 +1,27 @@
 //! Bytes that were taken of a source and not given yet.
-ghost use Rattle.std.specs.Prelude.{◌≡◌, ℕ, ◌+◌, ◌-◌, ◌<◌, ◌≤◌, false, List, [], length, take, MatchOption};
+ghost use Rattle.std.specs.Prelude.{◌≡◌, ℕ, ◌+◌, ◌-◌, ◌<◌, ◌≤◌, List, [], length, take, MatchOption, None};
+ghost use Rattle.std.specs.Prelude.{true, ◌⊎◌};
 ghost use Rattle.std.specs.Prelude.{IfOk, OnErr, IsErrOf, vec_len, vec_capacity, min};
 ghost use Rattle.std.specs.Io.{ReadsAtMost};
 ghost use Rattle.std.specs.Io.KnownBytes.{ReadConsumes, IsAtEnd};
 ghost use Rattle.std.specs.List.{between};
 ghost use Rattle.agent_base.specs.Counts.{HasCause};
-ghost use Rattle.agent_base.specs.Cut.{HasNewline, NoNewline, FirstNewline, has_newline, without_return};
+ghost use Rattle.agent_base.specs.Cut.{HasEnd, NoEnd, FirstEnd, NoNewline, FirstNewline, without_return};
+ghost use Rattle.agent_base.specs.Cut.{content, ends_piece, last_line, most_before, most_bytes};
 ghost use Rattle.agent_base.specs.Hand.{empty_hand, to_come, IsSameToCome, Steps};
+ghost use Rattle.agent_base.specs.Room.{room_of};
 ghost use Rattle.agent_base.specs.Taken.{Takes, TakesFor};
 ghost use Rattle.agent_base.specs.Told.{Told};
-ghost use Rattle.agent_base.specs.declared.buffer.TheConstants.{ROOM, MAX_TAKEN_BYTES};
+ghost use Rattle.agent_base.specs.declared.buffer.TheConstants.{MAX_TAKEN_BYTES};
+ghost use Rattle.agent_base.specs.Cut.{Scanned};
 
-use crate::{Failed, Piece, PieceFault, Source};
+use crate::{CutKind, Failed, Piece, PieceFault, Source};
 use fixed_num::OutOfMemory;
 use memchr::memchr;
 use std::alloc::Global;
 
-/// The greatest number of bytes of a line before its newline.
-const MAX_LINE_BYTES: usize = 65_536;
-
 /// How many places are free for a read, at least.
 const READ: usize = 65_536;
-
-/// The places for bytes in hand: a line that isn't too long, a read, and some more.
-const ROOM: usize = 135_168;
 
 /// The greatest number of bytes that are taken.
 const MAX_TAKEN_BYTES: u64 = 1 << 40;
@@ -46,6 +44,14 @@ fn content_of(line: &[u8]) -> &[u8]
         [front @ .., b'\r'] => front,
         _ => line,
     }
+}
+
+// Whether a line is `# EOF`.
+#[tactic(auto, unfolding(crate::specs::Cut::ends_piece))]
+fn is_last_line(line: &[u8]) -> bool
+    ensures { result ≡ ends_piece CutKind.Expositions line.now }
+{
+    line == b"# EOF".as_slice()
 }
 
 // The content, in room that was taken before.
@@ -92,21 +98,26 @@ fn read_behind<S: Source>(
     read_into(buf, at, most, src)
 }
 
-/// The bytes in hand stand from `start` to `end`, and no newline is among them before `searched`.
+/// The bytes in hand stand from `start` to `end`, and no piece ends among them before `searched`, where the line
+/// that begins at `line` has come to.
 #[derive(Debug, Drop)]
 pub(crate) struct Buffer {
+    kind: CutKind,
     buf: Vec<u8>,
     start: usize,
+    line: usize,
     searched: usize,
     end: usize,
     passing: bool,
     taken: u64,
-    ghost room: { vec_len buf ≡ ROOM },
-    ghost begun: { start ≤ searched },
+    ghost room: { vec_len buf ≡ room_of kind },
+    ghost begun: { start ≤ line },
+    ghost in_line: { line ≤ searched },
     ghost ordered: { searched ≤ end },
-    ghost within: { end ≤ ROOM },
+    ghost within: { end ≤ vec_len buf },
     ghost most: { taken ≤ MAX_TAKEN_BYTES },
-    ghost clean: { has_newline (between start searched buf.items) ≡ false },
+    ghost clean: { NoEnd kind (between start searched buf.items) },
+    ghost last: { last_line [] (between start searched buf.items) ≡ between line searched buf.items },
 }
 
 impl Buffer {
@@ -115,13 +126,15 @@ impl Buffer {
     ghost use Rattle.agent_base.specs.PieceAnswers.{IsGivenOrUnchanged, IsLast};
 
     /// Nothing is in hand.
-    pub(crate) fn new(alloc: Global) -> Result<Buffer, OutOfMemory>
-        ensures { IfOk result (λ b. hand_of b ≡ empty_hand) }
+    pub(crate) fn new(alloc: Global, kind: CutKind) -> Result<Buffer, OutOfMemory>
+        ensures { IfOk result (λ b. hand_of b ≡ empty_hand kind) }
     {
-        let buf = vec![in alloc; 0u8; ROOM]?;
+        let buf = vec![in alloc; 0u8; kind.room()]?;
         Ok(Buffer {
+            kind,
             buf,
             start: 0,
+            line: 0,
             searched: 0,
             end: 0,
             passing: false,
@@ -129,11 +142,26 @@ impl Buffer {
         })
     }
 
-    // How many bytes in hand stand before the first newline.
-    fn find_newline(&mut self) -> Option<usize>
-        ensures found { MatchOption result (NoNewline (bytes_of self.old))
-            (FirstNewline (bytes_of self.old)) }
+    // How many bytes in hand stand before the newline of the first line that ends a piece.
+    fn find_end(&mut self) -> Option<usize>
+        ensures found { MatchOption result (NoEnd self.old.kind (bytes_of self.old))
+            (FirstEnd self.old.kind (bytes_of self.old)) }
         ensures same { hand_of self.new ≡ hand_of self.old }
+        ensures all { result ≡ None → self.new.searched ≡ self.new.end }
+    {
+        match self.kind {
+            CutKind::Lines => self.find_newline(),
+            CutKind::Expositions => self.find_last_line(),
+        }
+    }
+
+    // The same of lines.
+    fn find_newline(&mut self) -> Option<usize>
+        requires kind { self.old.kind ≡ CutKind.Lines }
+        ensures found { MatchOption result (NoEnd self.old.kind (bytes_of self.old))
+            (FirstEnd self.old.kind (bytes_of self.old)) }
+        ensures same { hand_of self.new ≡ hand_of self.old }
+        ensures all { result ≡ None → self.new.searched ≡ self.new.end }
     {
         match newline_in(&self.buf[self.searched..self.end]) {
             Some(i) => Some(self.searched + i - self.start),
@@ -144,28 +172,82 @@ impl Buffer {
         }
     }
 
-    // Gives the line of so many bytes and its newline, in room that was taken before.
+    // The same of expositions.
+    fn find_last_line(&mut self) -> Option<usize>
+        requires kind { self.old.kind ≡ CutKind.Expositions }
+        ensures found { MatchOption result (NoEnd self.old.kind (bytes_of self.old))
+            (FirstEnd self.old.kind (bytes_of self.old)) }
+        ensures same { hand_of self.new ≡ hand_of self.old }
+        ensures all { result ≡ None → self.new.searched ≡ self.new.end }
+    {
+        'lines: loop {
+            match newline_in(&self.buf[self.searched..self.end]) {
+                None => {
+                    self.searched = self.end;
+                    return None;
+                }
+                Some(i) => {
+                    let newline = self.searched + i;
+                    if is_last_line(&self.buf[self.line..newline]) {
+                        return Some(newline - self.start);
+                    }
+                    self.begin_line(newline + 1);
+                }
+            }
+        }
+    }
+
+    // Begins a line behind a newline.
+    fn begin_line(&mut self, at: usize)
+        requires in_line { self.old.searched < at }
+        requires ordered { at ≤ self.old.end }
+        requires scanned { Scanned self.old.kind (between self.old.start at self.old.buf.items) [] }
+        ensures same { hand_of self.new ≡ hand_of self.old }
+        ensures start { self.new.start ≡ self.old.start }
+        ensures searched { self.new.searched ≡ at }
+        ensures line { self.new.line ≡ at }
+        ensures end { self.new.end ≡ self.old.end }
+    {
+        self.line = at;
+        self.searched = at;
+    }
+
+    // The content of the piece that ends with the newline behind so many bytes.
+    fn content(&self, i: usize) -> &[u8]
+        requires end { FirstEnd self.now.kind (bytes_of self.now) i }
+        requires short { i ≤ most_before self.now.kind }
+        ensures content { result.now ≡ content self.now.kind (take i (bytes_of self.now)) }
+        ensures short { length result.now ≤ min (i + 1) (most_bytes self.now.kind) }
+    {
+        match self.kind {
+            CutKind::Lines => content_of(&self.buf[self.start..self.start + i]),
+            CutKind::Expositions => &self.buf[self.start..self.start + i + 1],
+        }
+    }
+
+    // Gives the piece of so many bytes and its newline, in room that was taken before.
     fn give(&mut self, room: Vec<u8>, i: usize) -> Result<Option<Piece>, PieceFault>
-        requires line { FirstNewline (bytes_of self.old) i }
+        requires end { FirstEnd self.old.kind (bytes_of self.old) i }
         requires empty { room.items ≡ [] }
-        requires fits { min i MAX_LINE_BYTES ≤ vec_capacity room }
+        requires fits { min (i + 1) (most_bytes self.old.kind) ≤ vec_capacity room }
         ensures pieces { (left : List ℕ)
             → Answers result (to_come (hand_of self.old) left) (to_come (hand_of self.new) left) }
         ensures given { IsGiven result }
+        ensures kind { self.new.kind ≡ self.old.kind }
         ensures counted { self.new.taken ≡ self.old.taken }
     {
-        let line_end = self.start + i;
+        let piece_end = self.start + i + 1;
         if self.passing {
-            self.skip_to(line_end + 1);
+            self.skip_to(piece_end);
             self.passing = false;
             return Err(PieceFault::TooLong);
         }
-        if MAX_LINE_BYTES < i {
-            self.skip_to(line_end + 1);
+        if self.kind.most_before() < i {
+            self.skip_to(piece_end);
             return Err(PieceFault::TooLong);
         }
-        let bytes = filled(room, content_of(&self.buf[self.start..line_end]));
-        self.skip_to(line_end + 1);
+        let bytes = filled(room, self.content(i));
+        self.skip_to(piece_end);
         Ok(Some(Piece::of(bytes)))
     }
 
@@ -173,82 +255,104 @@ impl Buffer {
     fn skip_to(&mut self, at: usize)
         requires { at ≤ self.old.end }
         ensures bytes { bytes_of self.new ≡ between at self.old.end self.old.buf.items }
+        ensures kind { self.new.kind ≡ self.old.kind }
         ensures passing { self.new.passing ≡ self.old.passing }
         ensures taken { self.new.taken ≡ self.old.taken }
     {
         self.start = at;
+        self.line = at;
         self.searched = at;
     }
 
-    // Makes room for a read: lets a line go that is too long, or moves the bytes to the front.
+    // Makes room for a read: lets a piece go that is too long, or moves the bytes to the front.
     fn make_room(&mut self)
-        requires { NoNewline (bytes_of self.old) }
+        requires { self.old.searched ≡ self.old.end }
         ensures same { IsSameToCome (hand_of self.old) (hand_of self.new) }
-        ensures none { NoNewline (bytes_of self.new) }
-        ensures short { length (bytes_of self.new) ≤ MAX_LINE_BYTES }
-        ensures room { self.new.end + READ ≤ ROOM }
+        ensures kind { self.new.kind ≡ self.old.kind }
+        ensures none { NoEnd self.new.kind (bytes_of self.new) }
+        ensures short { length (bytes_of self.new) ≤ most_bytes self.new.kind }
+        ensures room { self.new.end + READ ≤ room_of self.new.kind }
     {
-        if self.passing {
-            self.skip_all();
+        if self.passing || self.kind.most_bytes() < self.end - self.start {
+            self.pass_over();
             return;
         }
-        if MAX_LINE_BYTES < self.end - self.start {
-            self.passing = true;
-            self.skip_all();
-            return;
-        }
-        if self.end <= ROOM - READ {
+        if self.end <= self.buf.len() - READ {
             return;
         }
         self.move_to_front();
     }
 
+    // Lets the bytes of a piece go that is passed over, but for what has begun of a line.
+    fn pass_over(&mut self)
+        requires all { self.old.searched ≡ self.old.end }
+        requires long { (self.old.passing ≡ true)
+            ⊎ (most_bytes self.old.kind < length (bytes_of self.old)) }
+        ensures same { IsSameToCome (hand_of self.old) (hand_of self.new) }
+        ensures kind { self.new.kind ≡ self.old.kind }
+        ensures none { NoEnd self.new.kind (bytes_of self.new) }
+        ensures short { self.new.end ≤ 6 }
+    {
+        let kept = usize::min(self.end - self.line, self.kind.most_kept());
+        self.buf.copy_within(self.line..self.line + kept, 0);
+        self.start = 0;
+        self.line = 0;
+        self.searched = kept;
+        self.end = kept;
+        self.passing = true;
+    }
+
     // Lets all bytes go.
     fn skip_all(&mut self)
         ensures bytes { bytes_of self.new ≡ [] }
+        ensures kind { self.new.kind ≡ self.old.kind }
         ensures passing { self.new.passing ≡ self.old.passing }
         ensures taken { self.new.taken ≡ self.old.taken }
-        ensures end { self.new.end ≡ 0 }
     {
         self.start = 0;
+        self.line = 0;
         self.searched = 0;
         self.end = 0;
     }
 
     // Moves the bytes to the front.
     fn move_to_front(&mut self)
-        requires { length (bytes_of self.old) ≤ MAX_LINE_BYTES }
+        requires { length (bytes_of self.old) ≤ most_bytes self.old.kind }
         ensures same { hand_of self.new ≡ hand_of self.old }
-        ensures front { self.new.start ≡ 0 }
-        ensures short { self.new.end ≤ MAX_LINE_BYTES }
+        ensures short { self.new.end ≤ most_bytes self.new.kind }
     {
         self.buf.copy_within(self.start..self.end, 0);
         self.end -= self.start;
         self.searched -= self.start;
+        self.line -= self.start;
         self.start = 0;
     }
 
     // How many places the next read is lent: all that are free, and no more than the bytes that may still be
     // taken.
     fn lent(&self) -> usize
-        requires room { self.now.end + READ ≤ ROOM }
+        requires room { self.now.end + READ ≤ room_of self.now.kind }
         requires most { self.now.taken < MAX_TAKEN_BYTES }
         ensures least { min LEAST (MAX_TAKEN_BYTES - self.now.taken) ≤ result }
         ensures some { 0 < result }
-        ensures free { self.now.end + result ≤ ROOM }
+        ensures free { self.now.end + result ≤ room_of self.now.kind }
         ensures most { self.now.taken + result ≤ MAX_TAKEN_BYTES }
     {
-        usize::min(ROOM - self.end, (MAX_TAKEN_BYTES - self.taken) as usize)
+        usize::min(
+            self.buf.len() - self.end,
+            (MAX_TAKEN_BYTES - self.taken) as usize,
+        )
     }
 
     // Reads more bytes behind those in hand.
     fn read_more<S: Source>(&mut self, src: &mut S) -> Result<usize, Failed>
-        requires room { self.old.end + READ ≤ ROOM }
+        requires room { self.old.end + READ ≤ room_of self.old.kind }
         requires most { self.old.taken < MAX_TAKEN_BYTES }
         ensures steps { Steps (S.left src.old) (S.left src.new) (hand_of self.old) (hand_of self.new) }
         ensures takes { Takes (S.left src.old) (S.left src.new) (hand_of self.old) (hand_of self.new) }
         ensures end { result ≡ Ok 0 → (hand_of self.new ≡ hand_of self.old) × IsAtEnd (S.left src.new) }
         ensures failed { OnErr result (hand_of self.new ≡ hand_of self.old) }
+        ensures kind { self.new.kind ≡ self.old.kind }
         ensures counted { IfOk result (λ n. self.new.taken ≡ self.old.taken + n) }
         ensures cause { HasCause (S.faults src.old) (S.faults src.new) result }
     {
@@ -261,14 +365,15 @@ impl Buffer {
 
     // Gives what is in hand at the end of the source, in room that was taken before.
     fn finish(&mut self, room: Vec<u8>) -> Result<Option<Piece>, PieceFault>
-        requires none { NoNewline (bytes_of self.old) }
-        requires short { length (bytes_of self.old) ≤ MAX_LINE_BYTES }
+        requires none { NoEnd self.old.kind (bytes_of self.old) }
+        requires short { length (bytes_of self.old) ≤ most_bytes self.old.kind }
         requires empty { room.items ≡ [] }
-        requires fits { MAX_LINE_BYTES ≤ vec_capacity room }
+        requires fits { most_bytes self.old.kind ≤ vec_capacity room }
         ensures pieces { Answers result (to_come (hand_of self.old) []) (to_come (hand_of self.new) []) }
         ensures last { IsLast result }
         ensures empty { bytes_of self.new ≡ [] }
         ensures spent { to_come (hand_of self.new) [] ≡ [] }
+        ensures kind { self.new.kind ≡ self.old.kind }
         ensures counted { self.new.taken ≡ self.old.taken }
     {
         if self.passing {
@@ -284,15 +389,19 @@ impl Buffer {
         Ok(Some(Piece::of(bytes)))
     }
 
-    // Gives the line of so many bytes that is in hand.
+    // Gives the piece of so many bytes and its newline that is in hand.
     fn give_in_hand(&mut self, i: usize) -> Result<Option<Piece>, PieceFault>
-        requires { FirstNewline (bytes_of self.old) i }
+        requires { FirstEnd self.old.kind (bytes_of self.old) i }
         ensures pieces { (left : List ℕ)
             → Answers result (to_come (hand_of self.old) left) (to_come (hand_of self.new) left) }
         ensures given { IsGivenOrUnchanged result (hand_of self.old) (hand_of self.new) }
+        ensures kind { self.new.kind ≡ self.old.kind }
         ensures counted { self.new.taken ≡ self.old.taken }
     {
-        match Vec::with_capacity(*self.buf.allocator(), usize::min(i, MAX_LINE_BYTES)) {
+        match Vec::with_capacity(
+            *self.buf.allocator(),
+            usize::min(i + 1, self.kind.most_bytes()),
+        ) {
             Ok(room) => self.give(room, i),
             Err(_) => Err(PieceFault::OutOfMemory),
         }
@@ -300,7 +409,7 @@ impl Buffer {
 
     // Reads until a piece is in hand, and gives it. All room is taken before the first read.
     fn read_piece<S: Source>(&mut self, src: &mut S) -> Result<Option<Piece>, PieceFault>
-        requires none { NoNewline (bytes_of self.old) }
+        requires all { self.old.searched ≡ self.old.end }
         requires most { self.old.taken < MAX_TAKEN_BYTES }
         ensures pieces { Told (S.left src.old) (S.left src.new)
             (λ xs ys. Answers result (to_come (hand_of self.old) xs) (to_come (hand_of self.new) ys)) }
@@ -309,13 +418,14 @@ impl Buffer {
         ensures counted { Told (S.left src.old) (S.left src.new)
             (λ xs ys. self.old.taken + length xs ≡ self.new.taken + length ys) }
         ensures grows { self.old.taken ≤ self.new.taken }
+        ensures kind { self.new.kind ≡ self.old.kind }
         ensures limited { IsLimited result self.new.taken }
         ensures reason { HasReason result (hand_of self.old) (hand_of self.new) (S.left src.new)
             (S.faults src.old) (S.faults src.new) }
         ensures memory { IsErrOf result PieceFault.OutOfMemory → src.new ≡ src.old }
         ensures faults { S.faults src.old ≤ S.faults src.new }
     {
-        let Ok(room) = Vec::with_capacity(*self.buf.allocator(), MAX_LINE_BYTES) else {
+        let Ok(room) = Vec::with_capacity(*self.buf.allocator(), self.kind.most_bytes()) else {
             return Err(PieceFault::OutOfMemory);
         };
         'reads: loop {
@@ -328,7 +438,7 @@ impl Buffer {
             if self.taken == MAX_TAKEN_BYTES {
                 return Err(PieceFault::ByteLimit);
             }
-            if let Some(i) = self.find_newline() {
+            if let Some(i) = self.find_end() {
                 return self.give(room, i);
             }
         }
@@ -343,19 +453,20 @@ impl Buffer {
         ensures counted { Told (S.left src.old) (S.left src.new)
             (λ xs ys. self.old.taken + length xs ≡ self.new.taken + length ys) }
         ensures grows { self.old.taken ≤ self.new.taken }
+        ensures kind { self.new.kind ≡ self.old.kind }
         ensures limited { IsLimited result self.new.taken }
         ensures reason { HasReason result (hand_of self.old) (hand_of self.new) (S.left src.new)
             (S.faults src.old) (S.faults src.new) }
         ensures memory { IsErrOf result PieceFault.OutOfMemory → src.new ≡ src.old }
         ensures faults { S.faults src.old ≤ S.faults src.new }
-        ensures in_hand { HasNewline (bytes_of self.old) → src.new ≡ src.old }
-        ensures whole { HasNewline (bytes_of self.old) → (left : List ℕ)
+        ensures in_hand { HasEnd self.old.kind (bytes_of self.old) → src.new ≡ src.old }
+        ensures whole { HasEnd self.old.kind (bytes_of self.old) → (left : List ℕ)
             → Answers result (to_come (hand_of self.old) left) (to_come (hand_of self.new) left) }
     {
         if self.taken == MAX_TAKEN_BYTES {
             return Err(PieceFault::ByteLimit);
         }
-        match self.find_newline() {
+        match self.find_end() {
             Some(i) => self.give_in_hand(i),
             None => self.read_piece(src),
         }

@@ -17,6 +17,6 @@ pub use mem_world::MemWorld;
 pub use memory::{MemClock, MemSink, MemSource};
 pub use outside::{Clock, Failed, PutFault, Sink, Source};
 pub use piece::{CutKind, Piece, PieceFault};
-pub use pieces::{Pieces, cuts_lines};
+pub use pieces::{Pieces, cuts_expositions, cuts_lines, has_expositions};
 pub use standard::{StdSink, StdSource};
 pub use world::{OpenFault, World};

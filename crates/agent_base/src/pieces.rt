@@ -1,8 +1,8 @@
 //! A source's bytes, cut into pieces.
 ghost use Rattle.std.specs.Prelude.{◌≡◌, ◌+◌, ◌≤◌, ℕ, List, length, IfOk, IsErrOf};
-ghost use Rattle.agent_base.specs.Cut.{HasNewline};
+ghost use Rattle.agent_base.specs.Cut.{HasEnd};
 ghost use Rattle.agent_base.specs.Hand.{empty_hand, to_come};
-ghost use Rattle.agent_base.specs.Lines.{CutsLines};
+ghost use Rattle.agent_base.specs.Lines.{CutsLines, CutsExpositions, EachHasExpositions};
 ghost use Rattle.agent_base.specs.PieceAnswers.{Answers, IsLimited, HasReason};
 ghost use Rattle.agent_base.specs.Taken.{TakesFor};
 ghost use Rattle.agent_base.specs.Told.{Told};
@@ -13,8 +13,8 @@ use fixed_num::OutOfMemory;
 use std::alloc::Global;
 use std::marker::Model;
 
-/// The bytes that were taken of a source and not given yet, whether they belong to a long line that is passed
-/// over, and how many bytes were taken in all.
+/// How the bytes are cut, those that were taken of a source and not given yet, whether they belong to a long
+/// piece that is passed over, and how many bytes were taken in all.
 #[derive(Debug, Drop)]
 pub struct Pieces {
     buffer: Buffer,
@@ -31,11 +31,12 @@ impl Model for Pieces {
 }
 
 impl Pieces {
-    /// Nothing is in hand.
-    pub fn new(alloc: Global, _kind: CutKind) -> Result<Pieces, OutOfMemory>
-        ensures { IfOk result (λ p. p ≡ empty_hand) }
+    /// Nothing is in hand. All room for the bytes in hand is taken: 132 KiB for lines, 4 MiB and 64 KiB for
+    /// expositions.
+    pub fn new(alloc: Global, kind: CutKind) -> Result<Pieces, OutOfMemory>
+        ensures { IfOk result (λ p. p ≡ empty_hand kind) }
     {
-        match Buffer::new(alloc) {
+        match Buffer::new(alloc, kind) {
             Ok(buffer) => Ok(Pieces { buffer }),
             Err(OutOfMemory) => Err(OutOfMemory),
         }
@@ -56,12 +57,13 @@ impl Pieces {
         ensures counted { Told (S.left src.old) (S.left src.new)
             (λ xs ys. self.old.taken + length xs ≡ self.new.taken + length ys) }
         ensures grows { self.old.taken ≤ self.new.taken }
+        ensures kind { self.new.kind ≡ self.old.kind }
         ensures faults { S.faults src.old ≤ S.faults src.new }
 
-        // A line that is in hand is given without a read, and all room is taken before the first read.
-        ensures whole { HasNewline self.old.bytes → (left : List ℕ)
+        // A piece that is in hand is given without a read, and all room is taken before the first read.
+        ensures whole { HasEnd self.old.kind self.old.bytes → (left : List ℕ)
             → Answers result (to_come self.old left) (to_come self.new left) }
-        ensures in_hand { HasNewline self.old.bytes → src.new ≡ src.old }
+        ensures in_hand { HasEnd self.old.kind self.old.bytes → src.new ≡ src.old }
         ensures memory { IsErrOf result PieceFault.OutOfMemory → src.new ≡ src.old }
 
         // What is given of the bytes that were taken stands whatever follows them, but at the end of the
@@ -77,4 +79,15 @@ impl Pieces {
 /// of the rest.
 pub fn cuts_lines()
     ensures { CutsLines }
+{}
+
+/// Each text is expositions, each with its last newline, and a rest in which none ends.
+pub fn has_expositions()
+    ensures { EachHasExpositions }
+{}
+
+/// The pieces of expositions, each with its last newline, and of a rest in which none ends are those of the
+/// expositions and of the rest.
+pub fn cuts_expositions()
+    ensures { CutsExpositions }
 {}

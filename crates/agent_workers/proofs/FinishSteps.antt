@@ -10,6 +10,7 @@ use Rattle.account.specs.Numbers.{Numbers, output_numbers}
 use Rattle.account.specs.Setup.{Setup}
 use Rattle.account.specs.declared.entry.Entry.{Entry}
 use Rattle.agent_base.specs.Clocked.{Clocked, Counted}
+use Rattle.agent_base.specs.declared.piece.CutKind.TheVariants.{Lines}
 use Rattle.agent_base.specs.Cut.{Cut}
 use Rattle.agent_base.specs.Hand.{Hand, to_come, empty_hand}
 use Rattle.agent_base.specs.Moments.{Moments, Gives}
@@ -71,7 +72,7 @@ said_first start output = record {
 }
 
 -- nothing was read
-heard_first : (input : InPart) → input.hand ≡ empty_hand → input.place ≡ 0 → input.state ≡ states.Reading → Heard input input []
+heard_first : (input : InPart) → input.hand ≡ empty_hand Lines → input.place ≡ 0 → input.state ≡ states.Reading → Heard input input []
 heard_first input empty place reading = record {
   named = subst (λ (s : InState). Told input.left input.left (λ xs ys. IsNamed input.input input.most s [] xs (to_come input.hand ys))) (sym reading)
       (told_self input.left (λ xs ys. Gathering input.most [] input.input xs (to_come input.hand ys)) (λ xs. rw empty (gathering_starts input.most input.input xs)));
@@ -84,7 +85,7 @@ heard_first input empty place reading = record {
 }
 
 -- nothing happened
-pub went_first : (start : Beginning) (core : CoreState) (outs : List OutPart) (part : JournalPart) → Stands core [] → core.setup ≡ start.setup → core.stored ≡ [] → Notes (journal_setup_of start.setup) start.noted start.note_faults [] part → start.input.hand ≡ empty_hand → start.input.place ≡ 0 → start.input.state ≡ states.Reading
+pub went_first : (start : Beginning) (core : CoreState) (outs : List OutPart) (part : JournalPart) → Stands core [] → core.setup ≡ start.setup → core.stored ≡ [] → Notes (journal_setup_of start.setup) start.noted start.note_faults [] part → start.input.hand ≡ empty_hand Lines → start.input.place ≡ 0 → start.input.state ≡ states.Reading
     → outs ≡ map anew start.outs → length start.outs ≡ length start.setup.outputs → Progress start core (first_surroundings start outs part)
 went_first start core outs part stands setup stored notes empty place reading are count = record {
   journal = [];

@@ -6,6 +6,7 @@ use Rattle.std.specs.declared.option.Option.{Option}
 use Rattle.account.specs.declared.entry.Entry.{Entry}
 use Rattle.account.specs.declared.entry.Entry.TheVariants.{Gather}
 use Rattle.account.specs.declared.entry.Report.{Report}
+use Rattle.agent_base.specs.declared.piece.CutKind.TheVariants.{Lines}
 use Rattle.agent_base.specs.Cut.{Cut, cut}
 use Rattle.agent_base.specs.Hand.{Hand, to_come, empty_hand}
 use Rattle.agent_base.specs.Told.{Told}
@@ -80,7 +81,7 @@ pub is_group : (input : ℕ) (moment : ℤ) (group : Group) (number : Option ℕ
 is_group input moment group number reports before after left_before left_after r = record { pieces = r.pieces; refused = r.refused; passed = refl; filtered = refl; metrics = r.metrics }
 
 -- nothing was gathered
-pub gathering_starts : (most input : ℕ) (text : List ℕ) → Gathering most [] input text (to_come empty_hand text)
+pub gathering_starts : (most input : ℕ) (text : List ℕ) → Gathering most [] input text (to_come (empty_hand Lines) text)
 unfolding gathers AreGroups AllFull joined
 gathering_starts most input text = record { groups = []; consecutive = refl; named = tt; full = tt }
 
@@ -92,7 +93,7 @@ pub gathered_to_same : (most input : ℕ) (old new : List Entry) (text : List �
 gathered_to_same most input old new text rest same g = record { groups = g.groups; consecutive = g.consecutive; named = subst (AreGroups g.groups) (sym same) g.named; full = g.full }
 
 module _ (most input : ℕ) (old new : List Entry) (text : List ℕ) (group rest : List Cut) (says : GatherSays) (more : gathers input new ≡ gathers input old ++ says ∷ []) (is : IsGroup group says) (g : Gathering most old input text (group ++ rest)) where
-  behind : cut text ≡ joined (g.groups ++ group ∷ []) ++ rest
+  behind : cut Lines text ≡ joined (g.groups ++ group ∷ []) ++ rest
   behind = g.consecutive ∙ sym (append_assoc (joined g.groups) group rest) ∙ ap (λ (front : List Cut). front ++ rest) (sym (joined-push g.groups group))
 
   named_more : AreGroups (g.groups ++ group ∷ []) (gathers input new)

@@ -3,6 +3,7 @@ use Rattle.std.proofs.Common.{◌≡◌, ◌≤◌, ◌+◌, ◌⊎◌, ℕ, ℤ
 use Rattle.std.specs.declared.option.Option.{Option}
 use Rattle.account.specs.declared.entry.Entry.{Entry}
 use Rattle.account.specs.declared.entry.Report.{Report}
+use Rattle.agent_base.specs.declared.piece.CutKind.TheVariants.{Lines}
 use Rattle.agent_base.specs.Cut.{Cut, cut}
 use Rattle.agent_base.specs.Hand.{Hand, to_come, empty_hand}
 use Rattle.agent_base.specs.Lines.{AreAllButRest}
@@ -20,10 +21,10 @@ use Rattle.agent_workers.proofs.GatherLemmas.{AreGroups-push, joined-push, says_
 -- ---- the start
 
 -- nothing was read or gathered
-pub names_start : (most input : ℕ) (text : List ℕ) → NamesSoFar most [] input empty_hand text text
+pub names_start : (most input : ℕ) (text : List ℕ) → NamesSoFar most [] input (empty_hand Lines) text text
 names_start most input text = record { taken = []; split = refl; named = inr (λ more. gathering_starts most input more) }
 
-pub told_names_start : (most input : ℕ) (hand : Hand) (text : Option (List ℕ)) → hand ≡ empty_hand → Told text text (NamesSoFar most [] input hand)
+pub told_names_start : (most input : ℕ) (hand : Hand) (text : Option (List ℕ)) → hand ≡ empty_hand Lines → Told text text (NamesSoFar most [] input hand)
 told_names_start most input hand text empty = told_self text (NamesSoFar most [] input hand) (λ xs. rw empty (names_start most input xs))
 
 -- ---- a journal that has the same Gathers
@@ -115,11 +116,11 @@ names_all most input journal read hand text left h whole = go h.named
 
 -- the named groups and the pieces that were read are all pieces of the bytes taken but that of their last line
 all_but : (most input : ℕ) (journal : List Entry) (read : List Cut) (hand : Hand) (text left : List ℕ) (h : NamesAll most journal input read hand text left) → length (to_come hand []) ≤ 1 → length (to_come hand (10 ∷ [])) ≤ 1
-    → AreAllButRest h.taken (joined h.named.groups ++ read)
+    → AreAllButRest Lines h.taken (joined h.named.groups ++ read)
 all_but most input journal read hand text left h one line =
     all_but_rest h.taken (joined h.named.groups ++ read) (to_come hand []) (h.named.consecutive ∙ sym (append_assoc (joined h.named.groups) read (to_come hand []))) one (go h.followed)
   where
-    go : (to_come hand [] ≡ []) ⊎ ((more : List ℕ) → Gathering most journal input (h.taken ++ more) (read ++ to_come hand more)) → (to_come hand [] ≡ []) ⊎ (length (cut (h.taken ++ 10 ∷ [])) ≤ length (joined h.named.groups ++ read) + 1)
+    go : (to_come hand [] ≡ []) ⊎ ((more : List ℕ) → Gathering most journal input (h.taken ++ more) (read ++ to_come hand more)) → (to_come hand [] ≡ []) ⊎ (length (cut Lines (h.taken ++ 10 ∷ [])) ≤ length (joined h.named.groups ++ read) + 1)
     go (inl none) = inl none
     go (inr more) =
         let g = more (10 ∷ []) in
@@ -140,7 +141,7 @@ taken_of most input old new hand text left same one line h = record {
   split = h.split;
   groups = h.named.groups;
   named = subst (AreGroups h.named.groups) (sym same) h.named.named;
-  all = subst (AreAllButRest h.taken) (append-nil (joined h.named.groups)) (all_but most input old [] hand text left h one line);
+  all = subst (AreAllButRest Lines h.taken) (append-nil (joined h.named.groups)) (all_but most input old [] hand text left h one line);
 }
 
 -- one Gather more, of any length
@@ -151,7 +152,7 @@ taken_more most input old new group hand text left says more is one line h = rec
   split = h.split;
   groups = h.named.groups ++ group ∷ [];
   named = subst (AreGroups (h.named.groups ++ group ∷ [])) (sym more) (AreGroups-push h.named.groups (gathers input old) group says h.named.named is);
-  all = subst (AreAllButRest h.taken) (sym (joined-push h.named.groups group)) (all_but most input old group hand text left h one line);
+  all = subst (AreAllButRest Lines h.taken) (sym (joined-push h.named.groups group)) (all_but most input old group hand text left h one line);
 }
 
 -- ---- a group that was read, where the text of the source is told

@@ -4,6 +4,7 @@ use Rattle.std.specs.Prelude.{is_err, Result, Ok, Err, ◌+◌, ◌^◌}
 use Rattle.std.specs.List.{flat_map}
 use Rattle.std.specs.declared.option.Option.{Option}
 use Rattle.std.specs.declared.option.Option.TheVariants.{Some, None}
+use Rattle.agent_base.specs.declared.piece.CutKind.TheVariants.{Lines}
 use Rattle.agent_base.specs.Cut.{Cut, TooLong, Whole, cut}
 use Rattle.agent_base.specs.Hand.{Hand, to_come}
 use Rattle.agent_base.specs.Lines.{AreAllButRest}
@@ -65,7 +66,7 @@ joined (group ∷ groups) = group ++ joined groups
 pub record Gathered (most : ℕ) (journal : List Entry) (input : ℕ) (text : List ℕ) : Type 0 where
   pub groups : List (List Cut)
   pub rest : List Cut
-  pub consecutive : cut text ≡ joined groups ++ rest
+  pub consecutive : cut Lines text ≡ joined groups ++ rest
   pub named : AreGroups groups (gathers input journal)
   pub full : AreFull most groups
   pub all : has_ended input journal ≡ true → rest ≡ []
@@ -80,7 +81,7 @@ AllFull most (group ∷ groups) = (length group ≡ most) × AllFull most groups
 pub record Gathering (most : ℕ) (journal : List Entry) (input : ℕ) (text : List ℕ)
     (rest : List Cut) : Type 0 where
   pub groups : List (List Cut)
-  pub consecutive : cut text ≡ joined groups ++ rest
+  pub consecutive : cut Lines text ≡ joined groups ++ rest
   pub named : AreGroups groups (gathers input journal)
   pub full : AllFull most groups
 
@@ -88,7 +89,7 @@ pub record Gathering (most : ℕ) (journal : List Entry) (input : ℕ) (text : L
 pub record GatheredTo (most : ℕ) (journal : List Entry) (input : ℕ) (text : List ℕ)
     (rest : List Cut) : Type 0 where
   pub groups : List (List Cut)
-  pub consecutive : cut text ≡ joined groups ++ rest
+  pub consecutive : cut Lines text ≡ joined groups ++ rest
   pub named : AreGroups groups (gathers input journal)
   pub full : AreFull most groups
 
@@ -99,7 +100,7 @@ pub record NamesTaken (journal : List Entry) (input : ℕ) (text left : List ℕ
   pub split : text ≡ taken ++ left
   pub groups : List (List Cut)
   pub named : AreGroups groups (gathers input journal)
-  pub all : AreAllButRest taken (joined groups)
+  pub all : AreAllButRest Lines taken (joined groups)
 
 -- so far the Gathers of an input name full groups of the bytes that were taken of its text, whatever follows
 -- them; or nothing is left and no piece is to come
@@ -118,7 +119,7 @@ pub record IsNextGroup (most : ℕ) (journal : List Entry) (input : ℕ) (text :
   pub groups : List (List Cut)
   pub group : List Cut
   pub rest : List Cut
-  pub consecutive : cut text ≡ joined groups ++ (group ++ rest)
+  pub consecutive : cut Lines text ≡ joined groups ++ (group ++ rest)
   pub named : AreGroups groups (gathers input journal)
   pub few : length group ≤ most
   pub metrics : count ≡ length (flat_map (readings moment) group)

@@ -194,7 +194,7 @@ fn run_from<S: Source + Drop, K: Sink + Drop, C: Clock + Drop>(
     requires number { input.old.input ≡ 0 }
     requires some_pieces { 1 ≤ input.old.gather_pieces }
     requires read { input.old.state ≡ InState.Reading }
-    requires none_taken { input.old.pieces ≡ empty_hand }
+    requires none_taken { input.old.pieces ≡ empty_hand CutKind.Lines }
     requires some { 1 ≤ setup.now.final_tries }
     requires outputs { AreOutputs (length setup.now.outputs) (outs_of K.held K.faults outputs.old) }
     requires first { Gives (C.moments clock.old) 0 (C.place clock.old) start }
@@ -256,7 +256,7 @@ pub fn run<S: Source + Drop, K: Sink + Drop, C: Clock + Drop>(
     requires number { input.old.input ≡ 0 }
     requires some_pieces { 1 ≤ input.old.gather_pieces }
     requires read { input.old.state ≡ InState.Reading }
-    requires none_taken { input.old.pieces ≡ empty_hand }
+    requires none_taken { input.old.pieces ≡ empty_hand CutKind.Lines }
     requires some { 1 ≤ setup.now.final_tries }
     requires outputs { AreOutputs (length setup.now.outputs) (outs_of K.held K.faults outputs.old) }
     requires first { C.place clock.old ≡ 0 }
@@ -305,7 +305,7 @@ fn one_input<S: Drop, C: Drop>(
     clock: C,
     gather_pieces: u32,
 ) -> Result<InJob<S, C>, S>
-    ensures ok { IfOk result (λ job. (job.input ≡ 0) × (job.source ≡ source) × (job.pieces ≡ empty_hand)
+    ensures ok { IfOk result (λ job. (job.input ≡ 0) × (job.source ≡ source) × (job.pieces ≡ empty_hand CutKind.Lines)
         × (job.clock ≡ clock) × (job.gather_pieces ≡ gather_pieces) × (job.state ≡ InState.Reading)) }
     ensures err { IfErr result (λ back. back ≡ source) }
 {

@@ -20,6 +20,7 @@ fn long(alloc: Global, count: usize, end: &[u8]) -> Result<Vec<u8>, AllocError> 
 // `!` for a read fault.
 fn answers(
     alloc: Global,
+    kind: CutKind,
     bytes: Vec<u8>,
     fails: &[u64],
     most: usize,
@@ -28,7 +29,7 @@ fn answers(
 {
     let fails = Vec::from_slice(alloc, fails)?;
     let mut source = MemSource::new(alloc, bytes, fails, most);
-    let mut pieces = Pieces::new(alloc, CutKind::Lines)?;
+    let mut pieces = Pieces::new(alloc, kind)?;
     let mut text = Vec::new(alloc);
     for _ in 0..9 {
         match pieces.next(&mut source) {
@@ -66,7 +67,10 @@ fn pieces(rt: HostRuntime) -> Result<(), Fail> {
             (b"a\r\r\n\nlast", b"a\r||last|."),
         ] {
             let bytes = Vec::from_slice(alloc, input)?;
-            assert_eq!(rt; answers(alloc, bytes, &[], most)?.as_slice(), expected);
+            assert_eq!(rt;
+                answers(alloc, CutKind::Lines, bytes, &[], most)?.as_slice(),
+                expected
+            );
         }
     }
     for most in [1, 7, 100_000] {
@@ -79,14 +83,88 @@ fn pieces(rt: HostRuntime) -> Result<(), Fail> {
             (65_536, b"\r\n", b"?."),
         ] {
             let bytes = long(alloc, count, end)?;
-            assert_eq!(rt; answers(alloc, bytes, &[], most)?.as_slice(), expected);
+            assert_eq!(rt;
+                answers(alloc, CutKind::Lines, bytes, &[], most)?.as_slice(),
+                expected
+            );
         }
     }
     let bytes = Vec::from_slice(alloc, b"ab\ncd")?;
     assert_eq!(rt;
-        answers(alloc, bytes, &[1, 4], 2)?.as_slice(),
+        answers(alloc, CutKind::Lines, bytes, &[1, 4], 2)?.as_slice(),
         b"!ab|!cd|.".as_slice()
     );
+    Ok(())
+}
+
+#[test]
+fn expositions(rt: HostRuntime) -> Result<(), Fail> {
+    let alloc = rt.alloc();
+    for most in [1, 7, 100_000] {
+        for (input, expected) in [
+            (b"a 1\n# EOF\nb 2\n# EOF".as_slice(), b"10|9|.".as_slice()),
+            (b"a # EOF\n# EOF \n# EOF\r\n", b"22|."),
+            (b"# EOF\n\n", b"# EOF\n|\n|."),
+            (b"# EOF\n# EOF", b"# EOF\n|# EOF|."),
+            (b"", b"."),
+        ] {
+            let bytes = Vec::from_slice(alloc, input)?;
+            let text = answers(alloc, CutKind::Expositions, bytes, &[], most)?;
+            assert_eq!(rt; text.as_slice(), expected);
+        }
+    }
+    let bytes = Vec::from_slice(alloc, b"a\n# EOF\n# E")?;
+    assert_eq!(rt;
+        answers(alloc, CutKind::Expositions, bytes, &[1, 6], 2)?.as_slice(),
+        b"!a\n# EOF\n|!# E|.".as_slice()
+    );
+    Ok(())
+}
+
+// The answers for so many bytes and some behind them, cut into expositions.
+fn long_answers(
+    alloc: Global,
+    count: usize,
+    end: &[u8],
+    most: usize,
+) -> Result<Vec<u8>, OutOfMemory>
+    requires { 1 ≤ most }
+{
+    let bytes = long(alloc, count, end)?;
+    answers(alloc, CutKind::Expositions, bytes, &[], most)
+}
+
+#[test]
+fn long_expositions(rt: HostRuntime) -> Result<(), Fail> {
+    let alloc = rt.alloc();
+    for most in [7, 100_000] {
+        for (count, end, expected) in [
+            (4_194_297, b"\n# EOF\n".as_slice(), b"4194304|.".as_slice()),
+            (4_194_298, b"\n# EOF\nb\n", b"?b\n|."),
+            (4_194_298, b"\n# EOF", b"4194304|."),
+            (4_194_299, b"\n# EOF", b"?."),
+            (4_300_000, b"# EOF\n# EOFb\n# EOF\n# EOF\n", b"?# EOF\n|."),
+        ] {
+            let text = long_answers(alloc, count, end, most)?;
+            assert_eq!(rt; text.as_slice(), expected);
+        }
+    }
+    Ok(())
+}
+
+#[test]
+fn longest_exposition(rt: HostRuntime) -> Result<(), Fail> {
+    let alloc = rt.alloc();
+    let text = long_answers(alloc, 4_194_297, b"\n# EOF\n", 1)?;
+    assert_eq!(rt; text.as_slice(), b"4194304|.".as_slice());
+    Ok(())
+}
+
+#[test]
+fn longer_exposition(rt: HostRuntime) -> Result<(), Fail> {
+    let alloc = rt.alloc();
+    let text = long_answers(alloc, 4_194_298, b"\n# EOF\nb\n", 1)?;
+    assert_eq!(rt; text.as_slice(), b"?b\n|.".as_slice());
     Ok(())
 }
 

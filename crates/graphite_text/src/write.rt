@@ -41,13 +41,31 @@ fn name_byte(byte: u8) -> u8
     }
 }
 
+/// Puts each byte as it stands in the value of a tag.
+fn clean_value(bytes: &mut [u8])
+    ensures { bytes.new ≡ value_part bytes.old }
+{
+    for byte in bytes.iter_mut() {
+        *byte = value_byte(*byte);
+    }
+}
+
+/// Puts each byte as it stands in a name or a key.
+fn clean_name(bytes: &mut [u8])
+    ensures { bytes.new ≡ name_part bytes.old }
+{
+    for byte in bytes.iter_mut() {
+        *byte = name_byte(*byte);
+    }
+}
+
 /// Appends the value of a tag.
 fn append_value(out: &mut Vec<u8>, text: &str) -> Result<(), OutOfMemory>
     ensures { Adds result out.old.items out.new.items (value_part text.now) }
 {
-    for byte in text.as_bytes() {
-        out.push(value_byte(*byte))?;
-    }
+    let start = out.len();
+    out.extend_from_slice(text.as_bytes())?;
+    clean_value(&mut out[start..]);
     Ok(())
 }
 
@@ -55,9 +73,9 @@ fn append_value(out: &mut Vec<u8>, text: &str) -> Result<(), OutOfMemory>
 fn append_name(out: &mut Vec<u8>, text: &str) -> Result<(), OutOfMemory>
     ensures { Adds result out.old.items out.new.items (name_part text.now) }
 {
-    for byte in text.as_bytes() {
-        out.push(name_byte(*byte))?;
-    }
+    let start = out.len();
+    out.extend_from_slice(text.as_bytes())?;
+    clean_name(&mut out[start..]);
     Ok(())
 }
 

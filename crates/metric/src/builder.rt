@@ -185,7 +185,7 @@ fn in_range(value: &Value)
 }
 
 /// One more tag among tags sorted by key.
-fn put_tag(
+pub(crate) fn put_tag(
     alloc: Global,
     tags: &mut Vec<(Text, Text)>,
     key: &str,

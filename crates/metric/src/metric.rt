@@ -1,11 +1,12 @@
 //! Metrics.
-ghost use Rattle.std.specs.Prelude.{◌≡◌, ◌↔◌, IfOk, IsTrue};
+ghost use Rattle.std.specs.Prelude.{◌≡◌, ◌↔◌, All, IfOk, IsTrue};
 ghost use Rattle.std.proofs.Common.{rules};
 ghost use Rattle.std.specs.Cmp.Rules.{comparing};
 ghost use Rattle.std.specs.Option.{option_copied};
-ghost use Rattle.metric.specs.Metric.{IsFilled, IsMetric};
-ghost use Rattle.metric.specs.Pairs.{value_at};
+ghost use Rattle.metric.specs.Metric.{IsFilled, IsFilledTag, IsMetric};
+ghost use Rattle.metric.specs.Pairs.{value_at, with_all_missing};
 
+use crate::missing::{add_missing, behind_known, field_copies, tag_copies};
 use crate::{Text, Value};
 use fixed_num::{Moment, OutOfMemory, Seq};
 use std::alloc::Global;
@@ -88,6 +89,29 @@ impl Metric {
             .iter()
             .find(|tag| tag.0.as_str() == key)
             .map(|tag| &tag.1)
+    }
+
+    /// The metric with the tags of a list that it lacks: each in order, at its place by key, where no tag has its
+    /// key then. The list may be in any order. Where the metric lacks none it is given back as it is.
+    pub fn with_tags(self, alloc: Global, given: &[(Text, Text)]) -> Result<Metric, OutOfMemory>
+        requires { All IsFilledTag given.now }
+        ensures { IfOk result
+            (λ m. m ≡ record self { tags = with_all_missing self.tags given.now }) }
+    {
+        let from = behind_known(self.tags(), given);
+        if from == given.len() {
+            return Ok(self);
+        }
+        self.is_metric();
+        let mut tags = tag_copies(alloc, self.tags(), given.len() - from)?;
+        add_missing(alloc, &mut tags, given, from)?;
+        let content = Content {
+            name: Text::of(alloc, self.name().as_str())?,
+            tags: Seq::of(tags),
+            fields: Seq::of(field_copies(alloc, self.fields())?),
+            time: self.time(),
+        };
+        Metric::of(alloc, content)
     }
 
     /// The fields, in order.

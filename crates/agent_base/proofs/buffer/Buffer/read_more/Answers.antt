@@ -1,9 +1,9 @@
-use Rattle.std.proofs.Common.{◌≡◌, ◌≤◌, ◌+◌, ◌-◌, length, drop, ap, ◌∙◌, arith}
+use Rattle.std.proofs.Common.{[], ◌≡◌, ◌≤◌, ◌+◌, ◌-◌, length, drop, ap, ◌∙◌, arith}
 use Rattle.std.specs.List.{between}
 use Rattle.std.proofs.lemmas.List.{length-take, length-drop}
 use Rattle.agent_base.specs.Buffered.{hand_of}
-use Rattle.agent_base.specs.Cut.{has_newline}
-use Rattle.agent_base.proofs.BufferLemmas.{between_front, read_steps, keeps_steps, hand_is}
+use Rattle.agent_base.specs.Cut.{has_end}
+use Rattle.agent_base.proofs.BufferLemmas.{between_front, scanned_front, read_steps, keeps_steps, hand_is}
 use Rattle.agent_base.proofs.HandLemmas.{on_err, hand_zero}
 use Rattle.agent_base.proofs.TakenLemmas.{read_takes, keeps_takes}
 use Rattle.agent_base.proofs.buffer.Buffer.read_more.Goals as goal
@@ -13,41 +13,48 @@ invariant_of-self g c =
     let s = c.args.self.now in record {
       room = omega (arith, c.in_err-n.ensures.len);
       begun = s.begun;
+      in_line = s.in_line;
       ordered = s.ordered;
-      within = s.within;
+      within = omega (arith, c.in_err-n.ensures.len);
       most = s.most;
-      clean = ap has_newline (between_front s.buf.items c.read_behind.new.buf.items s.start s.searched s.end s.ordered c.in_err-n.ensures.before) ∙ s.clean;
+      clean = ap (has_end s.kind []) (between_front s.buf.items c.read_behind.new.buf.items s.start s.searched s.end s.ordered c.in_err-n.ensures.before) ∙ s.clean;
+      last = scanned_front s.buf.items c.read_behind.new.buf.items s.start s.line s.searched s.end s.ordered c.in_err-n.ensures.before s.last;
     }
 
 pub invariant_of-self-2-clause-clean : goal.invariant_of-self-2-clause-clean
 invariant_of-self-2-clause-clean g c =
     let s = c.args.self.now in
-    ap has_newline (between_front s.buf.items c.read_behind.new.buf.items s.start s.searched s.end s.ordered c.in_ok-n.ensures.before) ∙ s.clean
+    ap (has_end s.kind []) (between_front s.buf.items c.read_behind.new.buf.items s.start s.searched s.end s.ordered c.in_ok-n.ensures.before) ∙ s.clean
+
+pub invariant_of-self-2-clause-last : goal.invariant_of-self-2-clause-last
+invariant_of-self-2-clause-last g c =
+    let s = c.args.self.now in
+    scanned_front s.buf.items c.read_behind.new.buf.items s.start s.line s.searched s.end s.ordered c.in_ok-n.ensures.before s.last
 
 pub returns-in_err-n-clause-steps : goal.returns-in_err-n-clause-steps
 returns-in_err-n-clause-steps g c =
     let s = c.args.self.now in
     let same = between_front s.buf.items c.read_behind.new.buf.items s.start s.end s.end (omega arith) c.in_err-n.ensures.before in
-    keeps_steps (g.S.Source.left c.args.src.now) (g.S.Source.left c.read_behind.new.src) (hand_of s) _ c.in_err-n.ensures.bytes (hand_is (between s.start s.end c.read_behind.new.buf.items) (between s.start s.end s.buf.items) s.passing s.taken same)
+    keeps_steps (g.S.Source.left c.args.src.now) (g.S.Source.left c.read_behind.new.src) (hand_of s) _ c.in_err-n.ensures.bytes (hand_is s.kind (between s.start s.end c.read_behind.new.buf.items) (between s.start s.end s.buf.items) s.passing s.taken same)
 
 pub returns-in_err-n-clause-failed : goal.returns-in_err-n-clause-failed
 returns-in_err-n-clause-failed g c =
     let s = c.args.self.now in
     let same = between_front s.buf.items c.read_behind.new.buf.items s.start s.end s.end (omega arith) c.in_err-n.ensures.before in
-    on_err c.from_residual.result _ (hand_is (between s.start s.end c.read_behind.new.buf.items) (between s.start s.end s.buf.items) s.passing s.taken same)
+    on_err c.from_residual.result _ (hand_is s.kind (between s.start s.end c.read_behind.new.buf.items) (between s.start s.end s.buf.items) s.passing s.taken same)
 
 pub returns-clause-steps : goal.returns-clause-steps
 returns-clause-steps g c =
     let s = c.args.self.now in
     let room : s.end + c.lent-most.result ≤ length c.read_behind.new.buf.items = omega (arith, c.lent-most.ensures.free) in
-    read_steps (g.S.Source.left c.args.src.now) (g.S.Source.left c.read_behind.new.src) s.buf.items c.read_behind.new.buf.items s.start s.end c.lent-most.result c.in_ok-n.n s.taken s.passing (omega arith) c.in_ok-n.ensures.bound room c.in_ok-n.ensures.before c.in_ok-n.ensures.bytes.0
+    read_steps (g.S.Source.left c.args.src.now) (g.S.Source.left c.read_behind.new.src) s.buf.items c.read_behind.new.buf.items s.start s.end c.lent-most.result c.in_ok-n.n s.taken s.kind s.passing (omega arith) c.in_ok-n.ensures.bound room c.in_ok-n.ensures.before c.in_ok-n.ensures.bytes.0
 
 pub returns-clause-end : goal.returns-clause-end
 returns-clause-end g c = λ e.
     let s = c.args.self.now in
     let zero_is : c.in_ok-n.n ≡ 0 = cc in
     let room : s.end + c.lent-most.result ≤ length c.read_behind.new.buf.items = omega (arith, c.lent-most.ensures.free) in (
-      hand_zero s.buf.items c.read_behind.new.buf.items s.start s.end c.in_ok-n.n s.taken s.passing zero_is c.in_ok-n.ensures.before,
+      hand_zero s.kind s.buf.items c.read_behind.new.buf.items s.start s.end c.in_ok-n.n s.taken s.passing zero_is c.in_ok-n.ensures.before,
       c.in_ok-n.ensures.bytes.1 zero_is (omega (arith, c.lent-most.ensures.some, length-take (s.end + c.lent-most.result - s.end) (drop s.end c.read_behind.new.buf.items), length-drop s.end c.read_behind.new.buf.items)),
     )
 
@@ -55,9 +62,9 @@ pub returns-in_err-n-clause-takes : goal.returns-in_err-n-clause-takes
 returns-in_err-n-clause-takes g c =
     let s = c.args.self.now in
     let same = between_front s.buf.items c.read_behind.new.buf.items s.start s.end s.end (omega arith) c.in_err-n.ensures.before in
-    keeps_takes (g.S.Source.left c.args.src.now) (g.S.Source.left c.read_behind.new.src) (hand_of s) _ c.in_err-n.ensures.bytes (hand_is (between s.start s.end c.read_behind.new.buf.items) (between s.start s.end s.buf.items) s.passing s.taken same)
+    keeps_takes (g.S.Source.left c.args.src.now) (g.S.Source.left c.read_behind.new.src) (hand_of s) _ c.in_err-n.ensures.bytes (hand_is s.kind (between s.start s.end c.read_behind.new.buf.items) (between s.start s.end s.buf.items) s.passing s.taken same)
 
 pub returns-clause-takes : goal.returns-clause-takes
 returns-clause-takes g c =
     let s = c.args.self.now in
-    read_takes (g.S.Source.left c.args.src.now) (g.S.Source.left c.read_behind.new.src) s.buf.items c.read_behind.new.buf.items s.start s.end c.lent-most.result c.in_ok-n.n s.taken s.passing (omega arith) c.in_ok-n.ensures.bound c.in_ok-n.ensures.before c.in_ok-n.ensures.bytes.0
+    read_takes (g.S.Source.left c.args.src.now) (g.S.Source.left c.read_behind.new.src) s.buf.items c.read_behind.new.buf.items s.start s.end c.lent-most.result c.in_ok-n.n s.taken s.kind s.passing (omega arith) c.in_ok-n.ensures.bound c.in_ok-n.ensures.before c.in_ok-n.ensures.bytes.0

@@ -1,6 +1,5 @@
-use Rattle.std.proofs.Common.{◌<◌, ◌≤◌, ◌-◌}
-use Rattle.agent_base.specs.Buffered.{hand_of, bytes_of}
-use Rattle.agent_base.specs.Cut.{NoNewline}
+use Rattle.std.proofs.Common.{◌≡◌, ◌<◌, ◌≤◌, ◌-◌}
+use Rattle.agent_base.specs.Buffered.{hand_of}
 use Rattle.agent_base.specs.Hand.{Steps}
 use Rattle.agent_base.specs.Taken.{Takes}
 use Rattle.agent_base.specs.declared.buffer.TheConstants.{MAX_TAKEN_BYTES}
@@ -13,7 +12,8 @@ invariant-reads g l = record {
   faults : g.S.Source.faults l.fn.src ≤ g.S.Source.faults l.src;
   grows : l.fn.self.taken ≤ l.self.taken;
   most : l.self.taken < MAX_TAKEN_BYTES;
-  none : NoNewline (bytes_of l.self);
+  kind : l.self.kind ≡ l.fn.self.kind;
+  all : l.self.searched ≡ l.self.end;
 }
 
 abbrev pub decreases-reads : goal.decreases-reads

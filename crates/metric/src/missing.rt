@@ -1,0 +1,114 @@
+//! Tags that a metric lacks.
+ghost use Rattle.std.specs.Prelude.{◌≡◌, ◌≤◌, All, IfOk, IsTrue, OnOk, drop, length};
+ghost use Rattle.std.specs.List.{AllByRecursion, list_all};
+ghost use Rattle.metric.specs.Metric.{is_filled, IsFilled, IsFilledTag, IsTag};
+ghost use Rattle.metric.specs.Pairs.{has_key, with_missing, with_all_missing, IsInKeyOrder};
+
+use crate::builder::put_tag;
+use crate::{Text, Value};
+use fixed_num::OutOfMemory;
+use std::alloc::Global;
+
+/// Has a tag this key?
+fn has_key(tags: &[(Text, Text)], key: &str) -> bool
+    ensures { result ≡ has_key tags.now key.now }
+{
+    tags.iter().any(|tag| tag.0.as_str() == key)
+}
+
+/// Is no key and no value of the tags empty?
+pub fn are_filled(tags: &[(Text, Text)]) -> bool
+    ensures each { result ≡ list_all is_filled tags.now }
+    ensures all { IsTrue result → All IsFilledTag tags.now }
+{
+    tags.iter().all(|tag| !tag.0.as_str().is_empty() && !tag.1.as_str().is_empty())
+}
+
+/// How many tags of the list, from its front on, have keys that are among the tags.
+pub(crate) fn behind_known(tags: &[(Text, Text)], given: &[(Text, Text)]) -> usize
+    ensures within { result ≤ length given.now }
+    ensures same { with_all_missing tags.now (drop result given.now) ≡ with_all_missing tags.now given.now }
+{
+    let mut at = 0;
+    while at < given.len() && has_key(tags, given[at].0.as_str()) {
+        at += 1;
+    }
+    at
+}
+
+/// Adds a tag at its place by key where no tag has its key.
+fn add_one(
+    alloc: Global,
+    tags: &mut Vec<(Text, Text)>,
+    key: &str,
+    value: &str,
+) -> Result<(), OutOfMemory>
+    requires sorted { IsInKeyOrder tags.old.items }
+    requires each { AllByRecursion IsTag tags.old.items }
+    requires key { IsFilled key.now }
+    requires value { IsFilled value.now }
+    ensures added { OnOk result
+        (tags.new.items ≡ with_missing tags.old.items (record { 0 = key.now; 1 = value.now })) }
+    ensures sorted { OnOk result (IsInKeyOrder tags.new.items) }
+    ensures each { OnOk result (AllByRecursion IsTag tags.new.items) }
+{
+    if has_key(tags.as_slice(), key) {
+        return Ok(());
+    }
+    put_tag(alloc, tags, key, value)?;
+    Ok(())
+}
+
+/// Adds the tags of the list from a place on, each where no tag has its key then.
+pub(crate) fn add_missing(
+    alloc: Global,
+    tags: &mut Vec<(Text, Text)>,
+    given: &[(Text, Text)],
+    from: usize,
+) -> Result<(), OutOfMemory>
+    requires sorted { IsInKeyOrder tags.old.items }
+    requires each { AllByRecursion IsTag tags.old.items }
+    requires filled { All IsFilledTag given.now }
+    requires within { from ≤ length given.now }
+    ensures added { OnOk result
+        (tags.new.items ≡ with_all_missing tags.old.items (drop from given.now)) }
+    ensures sorted { OnOk result (IsInKeyOrder tags.new.items) }
+    ensures each { OnOk result (AllByRecursion IsTag tags.new.items) }
+{
+    for i in from..given.len() {
+        add_one(alloc, tags, given[i].0.as_str(), given[i].1.as_str())?;
+    }
+    Ok(())
+}
+
+/// The same tags, with room for so many more.
+pub(crate) fn tag_copies(
+    alloc: Global,
+    tags: &[(Text, Text)],
+    more: usize,
+) -> Result<Vec<(Text, Text)>, OutOfMemory>
+    ensures { IfOk result (λ copies. copies.items ≡ tags.now) }
+{
+    let mut copies = Vec::with_capacity(alloc, tags.len().saturating_add(more))?;
+    for tag in tags {
+        copies.push((
+            Text::of(alloc, tag.0.as_str())?,
+            Text::of(alloc, tag.1.as_str())?,
+        ))?;
+    }
+    Ok(copies)
+}
+
+/// The same fields.
+pub(crate) fn field_copies(
+    alloc: Global,
+    fields: &[(Text, Value)],
+) -> Result<Vec<(Text, Value)>, OutOfMemory>
+    ensures { IfOk result (λ copies. copies.items ≡ fields.now) }
+{
+    let mut copies = Vec::with_capacity(alloc, fields.len())?;
+    for field in fields {
+        copies.push((Text::of(alloc, field.0.as_str())?, field.1.copy(alloc)?))?;
+    }
+    Ok(copies)
+}

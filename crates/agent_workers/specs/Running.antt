@@ -26,10 +26,24 @@ pub record IsReady (core : CoreState) : Type 0 where
   pub each : (output : ℕ) → output < length core.lanes → IsLaneReady (lane_at core.lanes output)
   pub empty_handed : core.held ≡ None
 
--- the input hasn't ended, and nothing is stopped
-pub record IsReading (input : ℕ) (core : CoreState) : Type 0 where
-  pub reading : slice_get core.ended input ≡ Some false
-  pub going : core.stopped ≡ false
+-- inputs were gathered or ended: the set-up, what is in hand and stopped, what waits at the outputs and their
+-- numbers are as before, and no entry that was stored is lost
+pub record IsGathered (old new : CoreState) : Type 0 where
+  pub setup : new.setup ≡ old.setup
+  pub held : new.held ≡ old.held
+  pub stopped : new.stopped ≡ old.stopped
+  pub lanes : new.lanes ≡ old.lanes
+  pub numbers : new.numbers.outputs ≡ old.numbers.outputs
+  pub stored : length old.stored ≤ length new.stored
+
+-- one input was gathered or ended: the others have ended where they had
+pub record IsGatheredAt (input : ℕ) (old new : CoreState) : Type 0 where
+  pub kept : IsGathered old new
+  pub others : (other : ℕ) → other ≢ input → slice_get new.ended other ≡ slice_get old.ended other
+
+-- a gather was accepted, or items were raw
+abbrev pub HasMoved : CoreState → CoreState → Type 0
+HasMoved old new = (old.raw ≢ []) ⊎ (length old.stored < length new.stored)
 
 -- a lane was offered an item at most: its batch size and its batch in flight are as before
 pub record IsLaneKept (old new : LaneState Offer) : Type 0 where
@@ -40,6 +54,7 @@ pub record IsLaneKept (old new : LaneState Offer) : Type 0 where
 pub record IsRoutable (old new : CoreState) : Type 0 where
   pub setup : new.setup ≡ old.setup
   pub ended : new.ended ≡ old.ended
+  pub gathered : new.gathered ≡ old.gathered
   pub stopped : new.stopped ≡ old.stopped
   pub lane_count : length new.lanes ≡ length old.lanes
   pub each : (output : ℕ) → output < length old.lanes
@@ -61,6 +76,7 @@ pub record IsSentOn (old new : CoreState) : Type 0 where
   pub raw : new.raw ≡ old.raw
   pub held : new.held ≡ old.held
   pub ended : new.ended ≡ old.ended
+  pub gathered : new.gathered ≡ old.gathered
   pub stopped : new.stopped ≡ old.stopped
 
 -- what waits at an output, and its numbers, are as before

@@ -1,6 +1,8 @@
 -- Inputs by their places: one changes, and the others stay.
-use Rattle.std.proofs.Common.{◌≡◌, ◌≢◌, ◌≤◌, ◌<◌, ◌+◌, ℕ, zero, suc, Bool, true, false, List, [], ◌∷◌, ◌++◌, length, length-append, get_or, set, replicate, refl, sym, ap, ◌∙◌, subst, inl, inr, arith}
-use Rattle.std.specs.Prelude.{map, slice_get, ◌⊎◌, IfSome, All}
+use Rattle.std.proofs.Common.{◌≡◌, ◌≢◌, ◌≤◌, ◌<◌, ◌+◌, ℕ, zero, suc, Bool, true, false, List, [], ◌∷◌, ◌++◌, length, length-append, get_or, set, take, drop, replicate, refl, sym, ap, ◌∙◌, subst, inl, inr, arith}
+use Rattle.std.specs.Prelude.{map, slice_get, is_some, ◌⊎◌, IfSome, IfOk, OnOk, All, Result, Ok, Err}
+use Rattle.fixed_num.specs.declared.memory.OutOfMemory.{OutOfMemory}
+use Rattle.agent_workers.specs.declared.serial.Ending.{Ending}
 use Rattle.std.proofs.lemmas.Bool.{cases_eq}
 use Rattle.std.proofs.lemmas.List.{length-map, length-set, get_or-map, get_or-set_same, get_or-set_other, map-set}
 use Rattle.std.specs.declared.option.Option.{Option}
@@ -17,7 +19,7 @@ use Rattle.agent_workers.specs.declared.input.InState.TheVariants as states
 use Rattle.agent_workers.specs.declared.input.InJob.{InJob}
 use Rattle.agent_workers.specs.Inputs.{InPart, in_of, ins_of, in_at, no_in, is_ended, IsSameInput, AreSameInputs, FitsInput, AreInputs, HoldsNoEnd, HoldsOwn, IsReadable, IsMoved, IsOut, IsFullOf, OneIsFull, AreFresh, IsFresh, IsPlain, IsOneInput}
 use Rattle.agent_workers.specs.Reader.{InRule, plain_rule}
-use Rattle.agent_workers.specs.Run.{Change, change, InRun, in_run, in_runs}
+use Rattle.agent_workers.specs.Run.{Change, change, InRun, in_run, in_runs, out_changes, Ran}
 use Rattle.agent_workers.proofs.RanLemmas.{change_is}
 use Rattle.metric.specs.Metric.{IsFilledTag}
 use Rattle.agent_workers.specs.Output.{OutPart, AreOutputs, out_at, out_of, outs_of}
@@ -289,3 +291,51 @@ input_as old new most left new_left faults new_faults moments r l n f g m =
 pub one_output : {K : Type 0} (held : K → Option (List ℕ)) (faults : K → ℕ) (jobs : List (OutJob K)) (job : OutJob K) → jobs ≡ job ∷ [] → job.output ≡ 0 → AreOutputs 1 (outs_of held faults jobs)
 one_output {K} held faults jobs job e first =
     subst (λ (all : List (OutJob K)). AreOutputs 1 (outs_of held faults all)) (sym e) (record { count_is = refl; numbered = only_first (λ (k : ℕ). (out_at (out_of held faults job ∷ []) k).output ≡ k) first })
+
+one_of : {X : Type 0} (xs : List X) → length xs ≡ 1 → (x : X) × (xs ≡ x ∷ [])
+one_of [] e = absurd (omega (arith, e))
+one_of (x ∷ []) e = (x, refl)
+one_of (x ∷ y ∷ xs) e = absurd (omega (arith, e))
+
+-- the one input, at the beginning and at the end
+pub run_of_one : {S C : Type 0} (left : S → Option (List ℕ)) (faults : S → ℕ) (moments : C → Option Moments) (place : C → ℕ) (most : ℕ) (from last : S) (by : C) (olds news : List (InJob S C)) → IsOneInput most from by olds → length news ≡ 1 → ((job : InJob S C) → news ≡ job ∷ [] → last ≡ job.source) →
+    AreSameInputs (ins_of left faults moments place olds) (ins_of left faults moments place news)
+    → in_runs (ins_of left faults moments place olds) (ins_of left faults moments place news) ≡ record { rule = plain_rule most; place = change (left from) (left last) (faults from) (faults last); moments = moments by } ∷ []
+run_of_one {S} {C} left faults moments place most from last by olds news h long last_is k =
+    let job : InJob S C = h.0 in
+    let plain : IsPlain most from by job = h.2 in
+    let n = one_of news long in
+    let old : InPart = in_of left faults moments place job in
+    let new : InPart = in_of left faults moments place n.0 in
+    let is : last ≡ n.0.source = last_is n.0 n.1 in
+    let both : AreSameInputs (old ∷ []) (new ∷ []) =
+    subst (λ (all : List (InJob S C)). AreSameInputs (ins_of left faults moments place all) (new ∷ [])) h.1 (subst (λ (all : List (InJob S C)). AreSameInputs (ins_of left faults moments place olds) (ins_of left faults moments place all)) n.1 k) in
+    let same : IsSameInput old new = both.each 0 (omega arith) in
+    in_runs_one (ins_of left faults moments place olds) (ins_of left faults moments place news) old new (ap (λ (all : List (InJob S C)). ins_of left faults moments place all) h.1) (ap (λ (all : List (InJob S C)). ins_of left faults moments place all) n.1)
+    ∙ ap (λ (x : InRun). x ∷ []) (input_as old new most (left from) (left last) (faults from) (faults last) (moments by) (same.rule ∙ plain.rule) (ap left plain.source) (ap left (sym is)) (ap faults plain.source) (ap faults (sym is)) (same.moments ∙ ap moments plain.clock))
+
+-- the one output, at the beginning and at the end
+pub outs_of_one : {K : Type 0} (held : K → Option (List ℕ)) (faults : K → ℕ) (olds news : List (OutJob K)) (old last : OutJob K) → olds ≡ old ∷ [] → length news ≡ 1 → last ≡ get_or news 0 last → out_changes (outs_of held faults olds) (outs_of held faults news) ≡ change (held old.sink) (held last.sink) (faults old.sink) (faults last.sink) ∷ []
+outs_of_one held faults olds [] old last e long v = absurd (omega (arith, long))
+outs_of_one {K} held faults olds (x ∷ []) old last e long v =
+    ap (λ (all : List (OutJob K)). out_changes (outs_of held faults all) (outs_of held faults (x ∷ []))) e ∙ ap (λ (y : OutJob K). change (held old.sink) (held y.sink) (faults old.sink) (faults y.sink) ∷ []) (sym v)
+outs_of_one held faults olds (x ∷ y ∷ news) old last e long v = absurd (omega (arith, long))
+
+-- what was left, of one input and one output
+pub ran_one : (tries count : ℕ) (sizes : List (ℕ × ℕ)) (r : Result Ending OutOfMemory) (firsts lasts : List InPart) (ins : List InRun) (outs others : List Change) (noted : Change) (run_moments : Option Moments) → count ≡ 1 → outs ≡ others → (AreSameInputs firsts lasts → in_runs firsts lasts ≡ ins) → OnOk r (AreSameInputs firsts lasts)
+    → IfOk r (λ ending. Ran tries count sizes ending (in_runs firsts lasts) outs noted run_moments) → IfOk r (λ ending. Ran tries 1 sizes ending ins others noted run_moments)
+ran_one tries count sizes (Ok ending) firsts lasts ins outs others noted run_moments one same is k h =
+    subst (λ (n : ℕ). Ran tries n sizes ending ins others noted run_moments) one
+    (subst (λ (x : List Change). Ran tries count sizes ending ins x noted run_moments) same
+    (subst (λ (x : List InRun). Ran tries count sizes ending x outs noted run_moments) (is k) h))
+ran_one tries count sizes (Err fault) firsts lasts ins outs others noted run_moments one same is k h = tt
+
+pub none_held : (held : Option Gathered) → is_some held ≡ false → held ≡ None
+none_held None e = refl
+none_held (Some g) e = absurd (let x : true ≡ false = e in cc)
+
+-- a list of one that was written over another one
+pub wrote_one : {X : Type 0} (n : ℕ) (news olds : List X) → n ≡ 1 → length news ≡ 1 → take n (news ++ drop (length news) olds) ≡ news
+wrote_one n [] olds e l = absurd (omega (arith, l))
+wrote_one {X} n (x ∷ []) olds e l = ap (λ (k : ℕ). take k (x ∷ drop 1 olds)) e
+wrote_one n (x ∷ y ∷ news) olds e l = absurd (omega (arith, l))

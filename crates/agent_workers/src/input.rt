@@ -389,12 +389,24 @@ pub fn are_out<S: Source + Drop, C: Clock + Drop>(inputs: &[InJob<S, C>]) -> boo
     true
 }
 
-/// Whether an input is in a state.
-pub fn is_one_in<S: Source + Drop, C: Clock + Drop>(inputs: &[InJob<S, C>], state: InState) -> bool
-    ensures { IsOneIn state (ins_of S.left S.faults C.moments C.place inputs.now) result }
+/// Whether a limit was reached at an input.
+pub fn has_limit<S: Source + Drop, C: Clock + Drop>(inputs: &[InJob<S, C>]) -> bool
+    ensures { IsOneIn InState.LimitReached (ins_of S.left S.faults C.moments C.place inputs.now) result }
 {
     for job in inputs {
-        if job.state == state {
+        if job.state == InState::LimitReached {
+            return true;
+        }
+    }
+    false
+}
+
+/// Whether a read of an input failed.
+pub fn has_fault<S: Source + Drop, C: Clock + Drop>(inputs: &[InJob<S, C>]) -> bool
+    ensures { IsOneIn InState.Faulted (ins_of S.left S.faults C.moments C.place inputs.now) result }
+{
+    for job in inputs {
+        if job.state == InState::Faulted {
             return true;
         }
     }

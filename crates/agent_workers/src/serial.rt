@@ -16,7 +16,7 @@ ghost use Rattle.agent_workers.specs.Progress.{Beginning, Surroundings, Progress
 ghost use Rattle.agent_workers.specs.Reader.{plain_rule};
 ghost use Rattle.agent_workers.specs.Running.{IsReady, HasJournal, StillStands, AreLeft, IsLeftOver};
 
-use crate::input::{InJob, InState, are_out, gather_each, is_one_in};
+use crate::input::{InJob, InState, are_out, gather_each, has_fault, has_limit};
 use crate::item::route_all;
 use crate::journal::{JournalJob, last_entries, note};
 use crate::output::{OutJob, begin_anew, send_each, send_rest};
@@ -228,9 +228,9 @@ fn run_from<S: Source + Drop, K: Sink + Drop, C: Clock + Drop>(
     let (account, left) = end_journal(alloc, &mut core, &mut text, outputs.len() as u32, journal)?;
     Ok(Ending {
         account,
-        limit: is_one_in(inputs, InState::LimitReached),
+        limit: has_limit(inputs),
         journal_fault: journal.failed,
-        read_fault: is_one_in(inputs, InState::Faulted),
+        read_fault: has_fault(inputs),
         left,
     })
 }

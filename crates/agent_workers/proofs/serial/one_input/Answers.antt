@@ -1,4 +1,4 @@
-use Rattle.std.proofs.Common.{◌≡◌, refl, rules}
+use Rattle.std.proofs.Common.{◌≡◌, ◌∙◌, ◌++◌, ◌∷◌, [], List, ap, refl, rules}
 use Rattle.std.specs.declared.option.Option.TheVariants.{None}
 use Rattle.agent_config.specs.declared.config.InFormat.TheVariants.{Influx}
 use Rattle.agent_workers.specs.Reader.{rule_of, plain_rule}
@@ -23,6 +23,6 @@ returns-in-Ok-with_capacity-clause-ok g c =
     } in
     let rule : rule_of job ≡ plain_rule c.args.gather_pieces = search rules in (
       job,
-      search rules,
+      c.push_reserved.ensures.items ∙ ap (λ (xs : List (InJob g.row.S.Denot g.row.C.Denot)). xs ++ job ∷ []) c.in-Ok-with_capacity.ensures.items,
       record { number = refl; source = refl; clock = refl; rule = rule; hand = c.in-Ok.ensures; none_held = refl; reading = refl },
     )

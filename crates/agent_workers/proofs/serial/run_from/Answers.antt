@@ -81,4 +81,4 @@ returns-clause-ran g c =
     last now finished c.requires.first (rw same_moment c.now-moment.ensures.gives)
     c.in_ok-stop_run.ensures.stopped c.in_ok-stop_run.ensures.none_raw c.in_ok-stop_run.ensures.ready.empty_handed in_count out_count c.in_ok-stop_run.ensures.rest
     c.rounds.new.core.ended (subst (λ (k : ℕ). AreInputs k c.rounds.new.core.ended last_ins) number fit) over
-    _ put c.is_one_in.ensures c.is_one_in-2.ensures c.in_ok-account.ensures.left c.in_ok-account.ensures.account put_so
+    _ put c.has_limit.ensures c.has_fault.ensures c.in_ok-account.ensures.left c.in_ok-account.ensures.account put_so

@@ -11,7 +11,7 @@ use Rattle.agent_run.specs.Command.{journal_place}
 use Rattle.account.specs.Dones.{dones, failed_count, LastFailed}
 use Rattle.pipeline_core.specs.Stopped.{behind_stop}
 use Rattle.agent_workers.specs.Run.{Change, change, IsRun, EndsSo, IsPutSo, IsLeft, Ran, buffered_at_end, account_of, text_of}
-use Rattle.agent_run.specs.Headline.{gather_pieces, final_tries, IsReportFault, Ends, status_of, place_change, report_change, NothingRose}
+use Rattle.agent_run.specs.Headline.{pipe_rule, final_tries, IsReportFault, Ends, status_of, place_change, report_change, NothingRose}
 use Rattle.agent_workers.specs.PipeSetup.{pipe_setup}
 use Rattle.agent_run.specs.Places.{IsRefused}
 use Rattle.agent_workers.specs.declared.input.InState.{InState}
@@ -23,7 +23,7 @@ use Rattle.pipeline_core.proofs.StopLemmas.{behind_fewer}
 use Rattle.agent_workers.proofs.RanLemmas.{change_is}
 
 module _ (batch limit : ℕ) (input output noted reported : Change) (run_moments input_moments : Option Moments) where
-  module _ (start : ℤ) (journal : List Entry) (run : IsRun gather_pieces final_tries (pipe_setup batch limit start) input (output ∷ []) run_moments input_moments journal) where
+  module _ (start : ℤ) (journal : List Entry) (run : IsRun pipe_rule final_tries (pipe_setup batch limit start) input (output ∷ []) run_moments input_moments journal) where
     report_fault : (journal_failed failed : Bool) → (journal_failed ≡ true) ⊎ (failed ≡ true) → IsPutSo journal_failed noted (text_of (pipe_setup batch limit start) journal) → IsPutSo failed reported (account_of (pipe_setup batch limit start) journal) → run.taken < 2 ^ 40
         → IsReportFault batch limit input output noted reported run_moments input_moments
     report_fault journal_failed failed either put report few = record {
@@ -37,7 +37,7 @@ module _ (batch limit : ℕ) (input output noted reported : Change) (run_moments
     left_here l = subst (λ (o : ℕ). buffered_at_end (pipe_setup batch limit start) journal o ≢ 0) (let first : l.0 ≡ 0 = omega (arith, l.1) in first) l.2
 
     -- the status that a run ends with says what it left
-    pub ends_of : (state : InState) (journal_failed failed left : Bool) → EndsSo 0 gather_pieces state input run.taken journal → IsLeft left (pipe_setup batch limit start) journal → IsPutSo journal_failed noted (text_of (pipe_setup batch limit start) journal)
+    pub ends_of : (state : InState) (journal_failed failed left : Bool) → EndsSo 0 pipe_rule state input run.taken journal → IsLeft left (pipe_setup batch limit start) journal → IsPutSo journal_failed noted (text_of (pipe_setup batch limit start) journal)
         → IsPutSo failed reported (account_of (pipe_setup batch limit start) journal) → Ends batch limit input output noted reported run_moments input_moments (status_of state (journal_failed || failed) left)
     ends_of states.Reading journal_failed failed left e l put report = absurd e
     ends_of states.LimitReached journal_failed failed left e l put report =
@@ -51,11 +51,11 @@ module _ (batch limit : ℕ) (input output noted reported : Change) (run_moments
     ends_of states.Ended false false false e l put report = record { headline = record { start = start; journal = journal; run = run; noted = put; reported = report }; few = e.0; ended = e.1; none_left = l 0 (omega arith) }
 
   -- a run that was reported
-  pub ran_ends : (ending : Ending) (failed : Bool) → Ran gather_pieces final_tries ((batch, limit) ∷ []) ending input (output ∷ []) noted run_moments input_moments → IsPutSo failed reported ending.account.items
+  pub ran_ends : (ending : Ending) (failed : Bool) → Ran pipe_rule final_tries ((batch, limit) ∷ []) ending input (output ∷ []) noted run_moments input_moments → IsPutSo failed reported ending.account.items
       → Ends batch limit input output noted reported run_moments input_moments (status_of ending.state (ending.journal_failed || failed) ending.left)
   ran_ends ending failed r report = ends_of r.start r.journal r.run ending.state ending.journal_failed failed ending.left r.ends r.left r.noted (subst (IsPutSo failed reported) r.account report)
 
-  pub reported_ends : (ending : Ending) (status : Status) → Ran gather_pieces final_tries ((batch, limit) ∷ []) ending input (output ∷ []) noted run_moments input_moments →
+  pub reported_ends : (ending : Ending) (status : Status) → Ran pipe_rule final_tries ((batch, limit) ∷ []) ending input (output ∷ []) noted run_moments input_moments →
       (status ≡ statuses.OutOfMemory) ⊎ ((failed : Bool) × (status ≡ status_of ending.state (ending.journal_failed || failed) ending.left) × IsPutSo failed reported ending.account.items)
       → Ends batch limit input output noted reported run_moments input_moments status
   reported_ends ending status r (inl short) = rw short tt

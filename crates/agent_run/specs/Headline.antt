@@ -15,6 +15,7 @@ use Rattle.agent_run.specs.Places.{AreOpensSame, RoseToOpen, RoseToUse}
 use Rattle.agent_run.specs.declared.status.Status.{Status}
 use Rattle.agent_run.specs.declared.status.Status.TheVariants as statuses
 use Rattle.agent_workers.specs.PipeSetup.{pipe_setup}
+use Rattle.agent_workers.specs.Reader.{InRule, plain_rule}
 use Rattle.agent_workers.specs.declared.input.InState.{InState}
 use Rattle.agent_workers.specs.declared.input.InState.TheVariants as states
 use Rattle.agent_workers.specs.Run.{Change, change, buffered_at_end, account_of, text_of, IsCutShort, IsRun}
@@ -34,6 +35,10 @@ status_of states.Reading failed left = if failed then statuses.ReportFault else
 abbrev pub gather_pieces : ℕ
 gather_pieces = 1000
 
+-- by what rule the input is read: in line protocol, and each metric is kept as it is
+abbrev pub pipe_rule : InRule
+pipe_rule = plain_rule gather_pieces
+
 -- how often in succession a repeat without an accepted batch is tried at the end
 abbrev pub final_tries : ℕ
 final_tries = 3
@@ -44,7 +49,7 @@ pub record Headline (batch limit : ℕ) (input output note report : Change)
     (run_moments input_moments : Option Moments) : Type 0 where
   pub start : ℤ
   pub journal : List Entry
-  pub run : IsRun gather_pieces final_tries (pipe_setup batch limit start) input (output ∷ []) run_moments input_moments journal
+  pub run : IsRun pipe_rule final_tries (pipe_setup batch limit start) input (output ∷ []) run_moments input_moments journal
   pub noted : Appends note.before note.after (text_of (pipe_setup batch limit start) journal)
   pub reported : Appends report.before report.after (account_of (pipe_setup batch limit start) journal)
 
@@ -54,7 +59,7 @@ pub record TornHeadline (batch limit : ℕ) (input output note report : Change)
     (run_moments input_moments : Option Moments) : Type 0 where
   pub start : ℤ
   pub journal : List Entry
-  pub run : IsRun gather_pieces final_tries (pipe_setup batch limit start) input (output ∷ []) run_moments input_moments journal
+  pub run : IsRun pipe_rule final_tries (pipe_setup batch limit start) input (output ∷ []) run_moments input_moments journal
   pub journal_failed : Bool
   pub report_failed : Bool
   pub noted : IsPutSo journal_failed note (text_of (pipe_setup batch limit start) journal)
@@ -81,7 +86,7 @@ module _ (batch limit : ℕ) (input output note report : Change)
     pub headline : Headline batch limit input output note report run_moments input_moments
     pub few : headline.run.taken < 2 ^ 40
     pub unended : has_ended 0 headline.journal ≡ false
-    pub cut_short : IsCutShort 0 input headline.journal
+    pub cut_short : IsCutShort pipe_rule 0 input headline.journal
 
   -- the put of the journal or of the report failed
   pub record IsReportFault : Type 0 where
@@ -93,7 +98,7 @@ module _ (batch limit : ℕ) (input output note report : Change)
   pub record IsLimit : Type 0 where
     pub headline : TornHeadline batch limit input output note report run_moments input_moments
     pub unended : has_ended 0 headline.journal ≡ false
-    pub reached : (headline.run.taken ≡ 2 ^ 40) ⊎ IsFull gather_pieces headline.journal 0 input.before input.after
+    pub reached : (headline.run.taken ≡ 2 ^ 40) ⊎ IsFull pipe_rule headline.journal 0 input.before input.after
 
   -- what each status of a run says; nothing is promised where memory was short
   abbrev pub Ends : Status → Type 0

@@ -1,11 +1,12 @@
 //! The top call.
-ghost use Rattle.std.specs.Prelude.{◌≡◌, ◌≢◌, ◌≤◌, ◌⊎◌, ◌||◌, ℕ, List, Bool, true, false, MatchOption};
+ghost use Rattle.std.specs.Prelude.{◌≡◌, ◌≢◌, ◌≤◌, ◌⊎◌, ◌||◌, ℕ, List, Bool, true, false, [], MatchOption};
 ghost use Rattle.agent_base.specs.Places.{AreHome, SameAtAll, SameBut};
 ghost use Rattle.agent_run.specs.Checking.{HasChecked};
 ghost use Rattle.agent_run.specs.Command.{IsCheck, IsNoCommand, IsPipe, journal_place};
 ghost use Rattle.agent_run.specs.Places.{AreOpensSame, IsRefused, IsUnused, SameButTwo};
 ghost use Rattle.agent_run.specs.Headline.{Ends, PipeEnds, NothingRose, place_change, report_change};
-ghost use Rattle.agent_run.specs.Headline.{status_of};
+ghost use Rattle.agent_run.specs.Headline.{pipe_rule, status_of};
+ghost use Rattle.agent_workers.specs.Reader.{rule_of};
 ghost use Rattle.agent_workers.specs.Run.{IsPutSo, change};
 ghost use Rattle.agent_run.specs.Opening.{IsRefusalAnswer, place_of};
 
@@ -14,9 +15,11 @@ use crate::command::{Command, JOURNAL, Pipe, read_command};
 use crate::opening::{Parts, Refusal, open_parts};
 use crate::reporting::{report_line, report_open_fault};
 use crate::status::{Status, run_status};
-use agent_base::{PutFault, World};
+use agent_base::{Clock, PutFault, Source, World};
+use agent_config::InFormat;
 use agent_workers::{Ending, InJob, RunSetup, run_one};
 use fixed_num::Seq;
+use metric_filter::Filter;
 use pipeline_core::OutSetup;
 use std::alloc::Global;
 
@@ -37,6 +40,26 @@ const GATHER_PIECES: u32 = 1_000;
 
 /// How often in succession a repeat that had no batch accepted is tried at the end of a run.
 const FINAL_TRIES: u32 = 3;
+
+/// The one input of a pipe: line protocol, of which each metric is kept as it is.
+fn plain_input<S: Source + Drop, C: Clock + Drop>(alloc: Global, source: S, clock: C) -> InJob<S, C>
+    ensures number { result.input ≡ 0 }
+    ensures rule { rule_of result ≡ pipe_rule }
+    ensures pieces { result.gather_pieces ≡ 1000 }
+    ensures globals { result.globals ≡ [] }
+    ensures source { result.source ≡ source }
+    ensures clock { result.clock ≡ clock }
+{
+    InJob {
+        input: 0,
+        source,
+        format: InFormat::Influx,
+        globals: Seq::of(Vec::new(alloc)),
+        gather_pieces: GATHER_PIECES,
+        filter: Filter::without_rules(alloc),
+        clock,
+    }
+}
 
 /// Reports the account, and says how the run ended.
 fn report_account<W: World>(ending: &Ending, world: &mut W) -> Status
@@ -104,12 +127,7 @@ fn run_parts<W: World>(
     };
     let mut clock = world.clock(RUN_CLOCK, RUN_PAUSE);
     let input_clock = world.clock(INPUT_CLOCK, INPUT_PAUSE);
-    let mut input = InJob {
-        input: 0,
-        source,
-        clock: input_clock,
-        gather_pieces: GATHER_PIECES,
-    };
+    let mut input = plain_input(alloc, source, input_clock);
     let (sink, journal, ran) = run_one(alloc, &setup, &mut input, sink, journal, &mut clock);
     world.give_in(pipe.input, input.source);
     world.give_out(pipe.output, sink);

@@ -140,8 +140,11 @@ impl Case {
         let mut input = InJob {
             input: 0,
             source,
-            clock: input_clock,
+            format: InFormat::Influx,
+            globals: Seq::of(Vec::new(alloc)),
             gather_pieces: 1_000,
+            filter: Filter::without_rules(alloc),
+            clock: input_clock,
         };
         let (journal, ran) = run(alloc, &setup, &mut input, &mut outputs, journal, &mut clock);
         Ok(Outcome {

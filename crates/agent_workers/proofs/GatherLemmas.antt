@@ -11,20 +11,21 @@ use Rattle.agent_base.specs.Hand.{Hand, to_come, empty_hand}
 use Rattle.agent_base.specs.Told.{Told}
 use Rattle.pipeline_core.specs.Legal.{has_ended, is_ended_of}
 use Rattle.pipeline_core.proofs.JournalPush.{has_ended-push}
-use Rattle.agent_workers.specs.declared.input.Group.{Group}
+use Rattle.agent_workers.specs.declared.reading.Group.{Group}
 use Rattle.account.specs.Says.{GatherSays}
 use Rattle.account.specs.Gathers.{gathers_by, gathers}
 use Rattle.agent_workers.specs.Input.{IsGroup, AreGroups, AreFull, AllFull, joined, Gathered, Gathering, GatheredTo}
 use Rattle.agent_workers.specs.Groups.{Reads}
+use Rattle.agent_workers.specs.Reader.{InRule}
 use Rattle.agent_workers.proofs.GroupLemmas.{told_then}
 use Rattle.account.proofs.GatherLemmas.{gathers-push}
 
-pub AreGroups-push : (groups : List (List Cut)) (all : List GatherSays) (group : List Cut) (says : GatherSays) → AreGroups groups all → IsGroup group says → AreGroups (groups ++ group ∷ []) (all ++ says ∷ [])
+pub AreGroups-push : (rule : InRule) (groups : List (List Cut)) (all : List GatherSays) (group : List Cut) (says : GatherSays) → AreGroups rule groups all → IsGroup rule group says → AreGroups rule (groups ++ group ∷ []) (all ++ says ∷ [])
 unfolding AreGroups
-AreGroups-push [] [] group says h g = (g, tt)
-AreGroups-push [] (x ∷ all) group says h g = absurd h
-AreGroups-push (x ∷ groups) [] group says h g = absurd h
-AreGroups-push (x ∷ groups) (y ∷ all) group says h g = (h.0, AreGroups-push groups all group says h.1 g)
+AreGroups-push rule [] [] group says h g = (g, tt)
+AreGroups-push rule [] (x ∷ all) group says h g = absurd h
+AreGroups-push rule (x ∷ groups) [] group says h g = absurd h
+AreGroups-push rule (x ∷ groups) (y ∷ all) group says h g = (h.0, AreGroups-push rule groups all group says h.1 g)
 
 pub joined-push : (groups : List (List Cut)) (group : List Cut) → joined (groups ++ group ∷ []) ≡ joined groups ++ group
 unfolding joined
@@ -60,8 +61,8 @@ says_of input moment group number reports = record {
   moment = moment;
   pieces = group.pieces;
   refused = group.refused;
-  passed = 0;
-  filtered = 0;
+  passed = group.passed;
+  filtered = group.filtered;
   metrics = group.metrics.items;
   group = number;
   reports = reports;
@@ -69,71 +70,71 @@ says_of input moment group number reports = record {
 
 -- the Gather of a group
 abbrev pub entry_of : ℕ → ℤ → Group → Option ℕ → List Report → Entry
-entry_of input moment group number reports = Gather input moment group.pieces group.refused 0 0 group.metrics.items number reports
+entry_of input moment group number reports = Gather input moment group.pieces group.refused group.passed group.filtered group.metrics.items number reports
 
 pub gathers_own : (input : ℕ) (moment : ℤ) (group : Group) (number : Option ℕ) (reports : List Report) → gathers_by input (entry_of input moment group number reports) ≡ says_of input moment group number reports ∷ []
 gathers_own input moment group number reports =
     let same : (input == input) ≡ true = eq-eqb input input refl in
     ap (λ (b : Bool). if b then (says_of input moment group number reports ∷ []) else []) same
 
-pub is_group : (input : ℕ) (moment : ℤ) (group : Group) (number : Option ℕ) (reports : List Report) (before after : Hand) (left_before left_after : Option (List ℕ)) (r : Reads moment group before after left_before left_after) → IsGroup r.read (says_of input moment group number reports)
-is_group input moment group number reports before after left_before left_after r = record { pieces = r.pieces; refused = r.refused; passed = refl; filtered = refl; metrics = r.metrics }
+pub is_group : (rule : InRule) (input : ℕ) (moment : ℤ) (group : Group) (number : Option ℕ) (reports : List Report) (before after : Hand) (left_before left_after : Option (List ℕ)) (r : Reads rule moment group before after left_before left_after) → IsGroup rule r.read (says_of input moment group number reports)
+is_group rule input moment group number reports before after left_before left_after r = record { pieces = r.pieces; refused = r.refused; passed = r.passed; filtered = r.filtered; metrics = r.metrics }
 
 -- nothing was gathered
-pub gathering_starts : (most input : ℕ) (text : List ℕ) → Gathering most [] input text (to_come empty_hand text)
+pub gathering_starts : (rule : InRule) (input : ℕ) (text : List ℕ) → Gathering rule [] input text (to_come empty_hand text)
 unfolding gathers AreGroups AllFull joined
-gathering_starts most input text = record { groups = []; consecutive = refl; named = tt; full = tt }
+gathering_starts rule input text = record { groups = []; consecutive = refl; named = tt; full = tt }
 
 -- a journal that has the same Gathers
-pub gathering_same : (most input : ℕ) (old new : List Entry) (text : List ℕ) (rest : List Cut) → gathers input new ≡ gathers input old → Gathering most old input text rest → Gathering most new input text rest
-gathering_same most input old new text rest same g = record { groups = g.groups; consecutive = g.consecutive; named = subst (AreGroups g.groups) (sym same) g.named; full = g.full }
+pub gathering_same : (rule : InRule) (input : ℕ) (old new : List Entry) (text : List ℕ) (rest : List Cut) → gathers input new ≡ gathers input old → Gathering rule old input text rest → Gathering rule new input text rest
+gathering_same rule input old new text rest same g = record { groups = g.groups; consecutive = g.consecutive; named = subst (AreGroups rule g.groups) (sym same) g.named; full = g.full }
 
-pub gathered_to_same : (most input : ℕ) (old new : List Entry) (text : List ℕ) (rest : List Cut) → gathers input new ≡ gathers input old → GatheredTo most old input text rest → GatheredTo most new input text rest
-gathered_to_same most input old new text rest same g = record { groups = g.groups; consecutive = g.consecutive; named = subst (AreGroups g.groups) (sym same) g.named; full = g.full }
+pub gathered_to_same : (rule : InRule) (input : ℕ) (old new : List Entry) (text : List ℕ) (rest : List Cut) → gathers input new ≡ gathers input old → GatheredTo rule old input text rest → GatheredTo rule new input text rest
+gathered_to_same rule input old new text rest same g = record { groups = g.groups; consecutive = g.consecutive; named = subst (AreGroups rule g.groups) (sym same) g.named; full = g.full }
 
-module _ (most input : ℕ) (old new : List Entry) (text : List ℕ) (group rest : List Cut) (says : GatherSays) (more : gathers input new ≡ gathers input old ++ says ∷ []) (is : IsGroup group says) (g : Gathering most old input text (group ++ rest)) where
+module _ (rule : InRule) (input : ℕ) (old new : List Entry) (text : List ℕ) (group rest : List Cut) (says : GatherSays) (more : gathers input new ≡ gathers input old ++ says ∷ []) (is : IsGroup rule group says) (g : Gathering rule old input text (group ++ rest)) where
   behind : cut text ≡ joined (g.groups ++ group ∷ []) ++ rest
   behind = g.consecutive ∙ sym (append_assoc (joined g.groups) group rest) ∙ ap (λ (front : List Cut). front ++ rest) (sym (joined-push g.groups group))
 
-  named_more : AreGroups (g.groups ++ group ∷ []) (gathers input new)
-  named_more = subst (AreGroups (g.groups ++ group ∷ [])) (sym more) (AreGroups-push g.groups (gathers input old) group says g.named is)
+  named_more : AreGroups rule (g.groups ++ group ∷ []) (gathers input new)
+  named_more = subst (AreGroups rule (g.groups ++ group ∷ [])) (sym more) (AreGroups-push rule g.groups (gathers input old) group says g.named is)
 
   -- a full group more
-  pub gathering_more : length group ≡ most → Gathering most new input text rest
-  gathering_more full = record { groups = g.groups ++ group ∷ []; consecutive = behind; named = named_more; full = AllFull-push most g.groups group g.full full }
+  pub gathering_more : length group ≡ rule.most → Gathering rule new input text rest
+  gathering_more full = record { groups = g.groups ++ group ∷ []; consecutive = behind; named = named_more; full = AllFull-push rule.most g.groups group g.full full }
 
   -- a last group
-  pub gathered_to_more : 1 ≤ length group → length group ≤ most → GatheredTo most new input text rest
-  gathered_to_more some few = record { groups = g.groups ++ group ∷ []; consecutive = behind; named = named_more; full = AreFull-push most g.groups group g.full some few }
+  pub gathered_to_more : 1 ≤ length group → length group ≤ rule.most → GatheredTo rule new input text rest
+  gathered_to_more some few = record { groups = g.groups ++ group ∷ []; consecutive = behind; named = named_more; full = AreFull-push rule.most g.groups group g.full some few }
 
 -- no group more
-pub gathered_to_here : (most input : ℕ) (journal : List Entry) (text : List ℕ) (rest : List Cut) → 1 ≤ most → Gathering most journal input text rest → GatheredTo most journal input text rest
-gathered_to_here most input journal text rest some g = record { groups = g.groups; consecutive = g.consecutive; named = g.named; full = AreFull-all most g.groups some g.full }
+pub gathered_to_here : (rule : InRule) (input : ℕ) (journal : List Entry) (text : List ℕ) (rest : List Cut) → 1 ≤ rule.most → Gathering rule journal input text rest → GatheredTo rule journal input text rest
+gathered_to_here rule input journal text rest some g = record { groups = g.groups; consecutive = g.consecutive; named = g.named; full = AreFull-all rule.most g.groups some g.full }
 
-pub gathered : (most input : ℕ) (journal : List Entry) (text : List ℕ) (rest : List Cut) → GatheredTo most journal input text rest → (has_ended input journal ≡ true → rest ≡ []) → Gathered most journal input text
-gathered most input journal text rest g all = record { groups = g.groups; rest = rest; consecutive = g.consecutive; named = g.named; full = g.full; all = all }
+pub gathered : (rule : InRule) (input : ℕ) (journal : List Entry) (text : List ℕ) (rest : List Cut) → GatheredTo rule journal input text rest → (has_ended input journal ≡ true → rest ≡ []) → Gathered rule journal input text
+gathered rule input journal text rest g all = record { groups = g.groups; rest = rest; consecutive = g.consecutive; named = g.named; full = g.full; all = all }
 
 -- one Gather more: the next full group, or the last one
-pub gathered_more : (most input : ℕ) (journal : List Entry) (e : Entry) (text : List ℕ) (group rest : List Cut) (says : GatherSays) → gathers_by input e ≡ says ∷ [] → IsGroup group says → Gathering most journal input text (group ++ rest)
-    → (length group ≡ most → Gathering most (journal ++ e ∷ []) input text rest)
-    × (1 ≤ length group → length group ≤ most → (has_ended input (journal ++ e ∷ []) ≡ true → rest ≡ []) → Gathered most (journal ++ e ∷ []) input text)
-gathered_more most input journal e text group rest says by is g =
+pub gathered_more : (rule : InRule) (input : ℕ) (journal : List Entry) (e : Entry) (text : List ℕ) (group rest : List Cut) (says : GatherSays) → gathers_by input e ≡ says ∷ [] → IsGroup rule group says → Gathering rule journal input text (group ++ rest)
+    → (length group ≡ rule.most → Gathering rule (journal ++ e ∷ []) input text rest)
+    × (1 ≤ length group → length group ≤ rule.most → (has_ended input (journal ++ e ∷ []) ≡ true → rest ≡ []) → Gathered rule (journal ++ e ∷ []) input text)
+gathered_more rule input journal e text group rest says by is g =
     let more : gathers input (journal ++ e ∷ []) ≡ gathers input journal ++ says ∷ [] = gathers-push input journal e ∙ ap (λ (ms : List GatherSays). gathers input journal ++ ms) by in (
-      λ full. gathering_more most input journal (journal ++ e ∷ []) text group rest says more is g full,
-      λ some few all. gathered most input (journal ++ e ∷ []) text rest (gathered_to_more most input journal (journal ++ e ∷ []) text group rest says more is g some few) all,
+      λ full. gathering_more rule input journal (journal ++ e ∷ []) text group rest says more is g full,
+      λ some few all. gathered rule input (journal ++ e ∷ []) text rest (gathered_to_more rule input journal (journal ++ e ∷ []) text group rest says more is g some few) all,
     )
 
 -- a group that was read, where the text of the source is told
-module _ (most input : ℕ) (old new : List Entry) (moment : ℤ) (group : Group) (number : Option ℕ) (reports : List Report) (before after : Hand) (text left_before left_after : Option (List ℕ)) (r : Reads moment group before after left_before left_after)
-    (more : gathers input new ≡ gathers input old ++ says_of input moment group number reports ∷ []) (g : Told text left_before (λ xs ys. Gathering most old input xs (to_come before ys))) where
-  pub told_gathering : length r.read ≡ most → Told text left_after (λ xs ys. Gathering most new input xs (to_come after ys))
+module _ (rule : InRule) (input : ℕ) (old new : List Entry) (moment : ℤ) (group : Group) (number : Option ℕ) (reports : List Report) (before after : Hand) (text left_before left_after : Option (List ℕ)) (r : Reads rule moment group before after left_before left_after)
+    (more : gathers input new ≡ gathers input old ++ says_of input moment group number reports ∷ []) (g : Told text left_before (λ xs ys. Gathering rule old input xs (to_come before ys))) where
+  pub told_gathering : length r.read ≡ rule.most → Told text left_after (λ xs ys. Gathering rule new input xs (to_come after ys))
   told_gathering full =
       told_then text left_before left_after
-      (λ xs ys. Gathering most old input xs (to_come before ys)) (λ ys zs. to_come before ys ≡ r.read ++ to_come after zs) (λ xs zs. Gathering most new input xs (to_come after zs))
-      g r.consecutive (λ xs ys zs a b. gathering_more most input old new xs r.read (to_come after zs) (says_of input moment group number reports) more (is_group input moment group number reports before after left_before left_after r) (subst (Gathering most old input xs) b a) full)
+      (λ xs ys. Gathering rule old input xs (to_come before ys)) (λ ys zs. to_come before ys ≡ r.read ++ to_come after zs) (λ xs zs. Gathering rule new input xs (to_come after zs))
+      g r.consecutive (λ xs ys zs a b. gathering_more rule input old new xs r.read (to_come after zs) (says_of input moment group number reports) more (is_group rule input moment group number reports before after left_before left_after r) (subst (Gathering rule old input xs) b a) full)
 
-  pub told_gathered_to : 1 ≤ length r.read → length r.read ≤ most → Told text left_after (λ xs ys. GatheredTo most new input xs (to_come after ys))
+  pub told_gathered_to : 1 ≤ length r.read → length r.read ≤ rule.most → Told text left_after (λ xs ys. GatheredTo rule new input xs (to_come after ys))
   told_gathered_to some few =
       told_then text left_before left_after
-      (λ xs ys. Gathering most old input xs (to_come before ys)) (λ ys zs. to_come before ys ≡ r.read ++ to_come after zs) (λ xs zs. GatheredTo most new input xs (to_come after zs))
-      g r.consecutive (λ xs ys zs a b. gathered_to_more most input old new xs r.read (to_come after zs) (says_of input moment group number reports) more (is_group input moment group number reports before after left_before left_after r) (subst (Gathering most old input xs) b a) some few)
+      (λ xs ys. Gathering rule old input xs (to_come before ys)) (λ ys zs. to_come before ys ≡ r.read ++ to_come after zs) (λ xs zs. GatheredTo rule new input xs (to_come after zs))
+      g r.consecutive (λ xs ys zs a b. gathered_to_more rule input old new xs r.read (to_come after zs) (says_of input moment group number reports) more (is_group rule input moment group number reports before after left_before left_after r) (subst (Gathering rule old input xs) b a) some few)

@@ -25,6 +25,7 @@ use Rattle.pipeline_core.specs.Shapes.{IsRouteEntry, IsStopEntry}
 use Rattle.pipeline_core.proofs.ShapeLemmas.{entries-have-shape}
 use Rattle.pipeline_core.proofs.JournalPush.{gathered_count-push, lane_events-push}
 use Rattle.pipeline_core.specs.Stands.{Stands, Continues}
+use Rattle.agent_workers.specs.Reader.{InRule}
 use Rattle.agent_workers.specs.declared.input.InState.{InState}
 use Rattle.agent_workers.specs.declared.input.InState.TheVariants as states
 use Rattle.agent_workers.specs.Input.{IsFull, IsNextGroup, AreGroups}
@@ -84,19 +85,19 @@ text-cut start core next part more journal h stands none same notes = record {
       (notes (journal_setup_of start.setup) start.noted start.note_faults h.written h.notes (stored_in_order start core part journal h));
 }
 
-named_same : (input most : ℕ) (state : InState) (old new : List Entry) (text : List ℕ) (rest : List Cut) → gathers input new ≡ gathers input old → has_ended input new ≡ has_ended input old → IsNamed input most state old text rest → IsNamed input most state new text rest
-named_same input most states.Reading old new text rest same ended h = gathering_same most input old new text rest same h
-named_same input most states.Ended old new text rest same ended h = record { groups = h.groups; rest = h.rest; consecutive = h.consecutive; named = subst (AreGroups h.groups) (sym same) h.named; full = h.full; all = λ e. h.all (sym ended ∙ e) }
-named_same input most states.Faulted old new text rest same ended h = record { groups = h.groups; rest = h.rest; consecutive = h.consecutive; named = subst (AreGroups h.groups) (sym same) h.named; full = h.full; all = λ e. h.all (sym ended ∙ e) }
-named_same input most states.LimitReached old new text rest same ended h = record { groups = h.groups; rest = h.rest; consecutive = h.consecutive; named = subst (AreGroups h.groups) (sym same) h.named; full = h.full; all = λ e. h.all (sym ended ∙ e) }
+named_same : (input : ℕ) (rule : InRule) (state : InState) (old new : List Entry) (text : List ℕ) (rest : List Cut) → gathers input new ≡ gathers input old → has_ended input new ≡ has_ended input old → IsNamed input rule state old text rest → IsNamed input rule state new text rest
+named_same input rule states.Reading old new text rest same ended h = gathering_same rule input old new text rest same h
+named_same input rule states.Ended old new text rest same ended h = record { groups = h.groups; rest = h.rest; consecutive = h.consecutive; named = subst (AreGroups rule h.groups) (sym same) h.named; full = h.full; all = λ e. h.all (sym ended ∙ e) }
+named_same input rule states.Faulted old new text rest same ended h = record { groups = h.groups; rest = h.rest; consecutive = h.consecutive; named = subst (AreGroups rule h.groups) (sym same) h.named; full = h.full; all = λ e. h.all (sym ended ∙ e) }
+named_same input rule states.LimitReached old new text rest same ended h = record { groups = h.groups; rest = h.rest; consecutive = h.consecutive; named = subst (AreGroups rule h.groups) (sym same) h.named; full = h.full; all = λ e. h.all (sym ended ∙ e) }
 
-full_same : (input most : ℕ) (old new : List Entry) (text left : Option (List ℕ)) → gathers input new ≡ gathers input old → gathered_count new ≡ gathered_count old → IsFull most old input text left → IsFull most new input text left
-full_same input most old new text left same count h = record {
+full_same : (input : ℕ) (rule : InRule) (old new : List Entry) (text left : Option (List ℕ)) → gathers input new ≡ gathers input old → gathered_count new ≡ gathered_count old → IsFull rule old input text left → IsFull rule new input text left
+full_same input rule old new text left same count h = record {
   count = h.count;
   few = h.few;
   many = omega (arith, h.many, count);
-  next = told_map text left (λ xs ys. IsNextGroup most old input xs h.count) (λ xs ys. IsNextGroup most new input xs h.count)
-      (λ xs ys n. record { moment = n.moment; groups = n.groups; group = n.group; rest = n.rest; consecutive = n.consecutive; named = subst (AreGroups n.groups) (sym same) n.named; few = n.few; metrics = n.metrics })
+  next = told_map text left (λ xs ys. IsNextGroup rule old input xs h.count) (λ xs ys. IsNextGroup rule new input xs h.count)
+      (λ xs ys n. record { moment = n.moment; groups = n.groups; group = n.group; rest = n.rest; consecutive = n.consecutive; named = subst (AreGroups rule n.groups) (sym same) n.named; few = n.few; metrics = n.metrics })
       h.next;
 }
 
@@ -105,24 +106,24 @@ state_same states.Reading start read_faults left hand old new same count h = h
 state_same states.Ended start read_faults left hand old new same count h = h
 state_same states.Faulted start read_faults left hand old new same count h = h
 state_same states.LimitReached start read_faults left hand old new same count (inl h) = inl h
-state_same states.LimitReached start read_faults left hand old new same count (inr h) = inr (full_same start.input start.most old new start.bytes left same count h)
+state_same states.LimitReached start read_faults left hand old new same count (inr h) = inr (full_same start.input start.rule old new start.bytes left same count h)
 
 pub clocked_same : (all : Option Moments) (place : ℕ) (old new : List ℤ) → new ≡ old → IfSome all (λ moments. IsClocked moments place old) → IfSome all (λ moments. IsClocked moments place new)
 clocked_same None place old new same h = tt
 clocked_same (Some moments) place old new same h = subst (IsClocked moments place) (sym same) h
 
-taken_same : (input most : ℕ) (state : InState) (old new : List Entry) (hand : Hand) (text left : List ℕ) → gathers input new ≡ gathers input old → IsNamedOfTaken input most state old hand text left → IsNamedOfTaken input most state new hand text left
-taken_same input most states.Reading old new hand text left same h = names_same most input old new hand text left same h
-taken_same input most states.Ended old new hand text left same h = tt
-taken_same input most states.Faulted old new hand text left same h = record { taken = h.taken; split = h.split; groups = h.groups; named = subst (AreGroups h.groups) (sym same) h.named; all = h.all }
-taken_same input most states.LimitReached old new hand text left same h = tt
+taken_same : (input : ℕ) (rule : InRule) (state : InState) (old new : List Entry) (hand : Hand) (text left : List ℕ) → gathers input new ≡ gathers input old → IsNamedOfTaken input rule state old hand text left → IsNamedOfTaken input rule state new hand text left
+taken_same input rule states.Reading old new hand text left same h = names_same rule input old new hand text left same h
+taken_same input rule states.Ended old new hand text left same h = tt
+taken_same input rule states.Faulted old new hand text left same h = record { taken = h.taken; split = h.split; groups = h.groups; named = subst (AreGroups rule h.groups) (sym same) h.named; all = h.all }
+taken_same input rule states.LimitReached old new hand text left same h = tt
 
 -- a journal with the same Gathers
 pub heard_same : (start : Beginning) (now : Surroundings) (hand : Hand) (old new : List Entry) → gathers start.input new ≡ gathers start.input old → has_ended start.input new ≡ has_ended start.input old → gathered_count new ≡ gathered_count old → gather_moments start.input new ≡ gather_moments start.input old
     → Heard start now hand old → Heard start now hand new
 heard_same start now hand old new same ended count moments h = record {
-  named = told_map start.bytes now.left (λ xs ys. IsNamed start.input start.most now.state old xs (to_come hand ys)) (λ xs ys. IsNamed start.input start.most now.state new xs (to_come hand ys)) (λ xs ys. named_same start.input start.most now.state old new xs (to_come hand ys) same ended) h.named;
-  of_taken = told_map start.bytes now.left (IsNamedOfTaken start.input start.most now.state old hand) (IsNamedOfTaken start.input start.most now.state new hand) (λ xs ys. taken_same start.input start.most now.state old new hand xs ys same) h.of_taken;
+  named = told_map start.bytes now.left (λ xs ys. IsNamed start.input start.rule now.state old xs (to_come hand ys)) (λ xs ys. IsNamed start.input start.rule now.state new xs (to_come hand ys)) (λ xs ys. named_same start.input start.rule now.state old new xs (to_come hand ys) same ended) h.named;
+  of_taken = told_map start.bytes now.left (IsNamedOfTaken start.input start.rule now.state old hand) (IsNamedOfTaken start.input start.rule now.state new hand) (λ xs ys. taken_same start.input start.rule now.state old new hand xs ys same) h.of_taken;
   counted = h.counted;
   ended = ended ∙ h.ended;
   later = h.later;

@@ -1,3 +1,4 @@
+pub mod Reader
 pub mod Input
 pub mod Groups
 pub mod Run

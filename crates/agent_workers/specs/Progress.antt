@@ -26,16 +26,17 @@ use Rattle.pipeline_core.specs.Order.{EndsFailed, InOrder}
 use Rattle.agent_workers.specs.PipeSetup.{journal_setup_of}
 use Rattle.pipeline_core.specs.Sent.{Sent}
 use Rattle.agent_workers.specs.Output.{AppendsSo, batch_text, OutPart, out_at, AreAnew}
+use Rattle.agent_workers.specs.Reader.{InRule}
 use Rattle.agent_workers.specs.Running.{AreSettled}
 use Rattle.pipeline_core.specs.Worked.{Worked}
 
--- what a run began with: its set-up, the number of its input, how many pieces a gather has at most, the bytes
+-- what a run began with: its set-up, the number of its input, by what rule it is read, the bytes
 -- left of the input and its count of failed reads, its outputs, the bytes held by the journal's place and its
 -- count of failed puts, and the moments of the input's clock
 pub record Beginning : Type 0 where
   pub setup : Setup
   pub input : ℕ
-  pub most : ℕ
+  pub rule : InRule
   pub bytes : Option (List ℕ)
   pub read_faults : ℕ
   pub outs : List OutPart
@@ -65,11 +66,11 @@ pub record HasText (start : Beginning) (core : CoreState) (part : JournalPart)
 
 -- while the input is read on its Gathers name full groups up to the pieces that are to come; else they name
 -- groups of its text, all pieces where it has ended
-abbrev pub IsNamed : ℕ → ℕ → InState → List Entry → List ℕ → List Cut → Type 0
-IsNamed input most states.Reading journal text rest = Gathering most journal input text rest
-IsNamed input most states.Ended journal text rest = Gathered most journal input text
-IsNamed input most states.Faulted journal text rest = Gathered most journal input text
-IsNamed input most states.LimitReached journal text rest = Gathered most journal input text
+abbrev pub IsNamed : ℕ → InRule → InState → List Entry → List ℕ → List Cut → Type 0
+IsNamed input rule states.Reading journal text rest = Gathering rule journal input text rest
+IsNamed input rule states.Ended journal text rest = Gathered rule journal input text
+IsNamed input rule states.Faulted journal text rest = Gathered rule journal input text
+IsNamed input rule states.LimitReached journal text rest = Gathered rule journal input text
 
 abbrev pub is_ended : InState → Bool
 is_ended states.Ended = true
@@ -83,7 +84,7 @@ HasState states.Ended start read_faults left hand journal = hand.taken < 2 ^ 40
 HasState states.Faulted start read_faults left hand journal = (hand.taken < 2 ^ 40)
     × Rose start.read_faults read_faults
 HasState states.LimitReached start read_faults left hand journal = (hand.taken ≡ 2 ^ 40)
-    ⊎ IsFull start.most journal start.input start.bytes left
+    ⊎ IsFull start.rule journal start.input start.bytes left
 
 -- a clock came to a place of its list, and gave these moments on the way
 abbrev pub IsClocked : Moments → ℕ → List ℤ → Type 0
@@ -91,17 +92,17 @@ IsClocked moments place all = (place ≤ moments.last) × Clocked moments 0 plac
 
 -- while the input is read on its Gathers name the pieces of what was taken, whatever follows; after a failed
 -- read all of these but perhaps that of the last line
-abbrev pub IsNamedOfTaken : ℕ → ℕ → InState → List Entry → Hand → List ℕ → List ℕ → Type 0
-IsNamedOfTaken input most states.Reading journal hand text left = NamesSoFar most journal input hand text left
-IsNamedOfTaken input most states.Ended journal hand text left = Unit {0}
-IsNamedOfTaken input most states.Faulted journal hand text left = NamesTaken journal input text left
-IsNamedOfTaken input most states.LimitReached journal hand text left = Unit {0}
+abbrev pub IsNamedOfTaken : ℕ → InRule → InState → List Entry → Hand → List ℕ → List ℕ → Type 0
+IsNamedOfTaken input rule states.Reading journal hand text left = NamesSoFar rule journal input hand text left
+IsNamedOfTaken input rule states.Ended journal hand text left = Unit {0}
+IsNamedOfTaken input rule states.Faulted journal hand text left = NamesTaken rule journal input text left
+IsNamedOfTaken input rule states.LimitReached journal hand text left = Unit {0}
 
 -- what the journal says of the input
 pub record Heard (start : Beginning) (now : Surroundings) (hand : Hand) (journal : List Entry) : Type 0 where
-  pub named : Told start.bytes now.left (λ xs ys. IsNamed start.input start.most now.state journal xs
+  pub named : Told start.bytes now.left (λ xs ys. IsNamed start.input start.rule now.state journal xs
       (to_come hand ys))
-  pub of_taken : Told start.bytes now.left (IsNamedOfTaken start.input start.most now.state journal hand)
+  pub of_taken : Told start.bytes now.left (IsNamedOfTaken start.input start.rule now.state journal hand)
   pub counted : Told start.bytes now.left (λ xs ys. length xs ≡ hand.taken + length ys)
   pub ended : has_ended start.input journal ≡ is_ended now.state
   pub later : start.read_faults ≤ now.read_faults
@@ -158,13 +159,13 @@ SendsAt old new out new_out =
 
 -- a step that reads the input, with the state that it leaves, the bytes left before and after, the counts of
 -- failed reads, and the clock's moments and places; before it the outputs are settled
-abbrev pub ReadsOn : ℕ → ℕ → PipeRun → PipeRun → InState → Option (List ℕ) → Option (List ℕ) → ℕ → ℕ
+abbrev pub ReadsOn : ℕ → InRule → PipeRun → PipeRun → InState → Option (List ℕ) → Option (List ℕ) → ℕ → ℕ
     → Option Moments → ℕ → ℕ → Type 0
-ReadsOn input most old new state left new_left read_faults new_read_faults moments place new_place =
+ReadsOn input rule old new state left new_left read_faults new_read_faults moments place new_place =
     (start : Beginning) (now : Surroundings) → AreSettled old.core now.outs →
-    Went (record start { input = input; most = most; moments = moments }) old
+    Went (record start { input = input; rule = rule; moments = moments }) old
     (record now { state = states.Reading; left = left; read_faults = read_faults; place = place }) →
-    Went (record start { input = input; most = most; moments = moments }) new
+    Went (record start { input = input; rule = rule; moments = moments }) new
     (record now { state = state; left = new_left; read_faults = new_read_faults; place = new_place })
 
 -- a step that puts to the journal's place
@@ -174,12 +175,12 @@ NotesRun old new part new_part =
     → Went start new (record now { journal = new_part })
 
 -- rounds: they read the input, and put to the outputs and to the journal's place
-abbrev pub RunsOn : ℕ → ℕ → PipeRun → PipeRun → InState → Option (List ℕ) → Option (List ℕ) → ℕ → ℕ
+abbrev pub RunsOn : ℕ → InRule → PipeRun → PipeRun → InState → Option (List ℕ) → Option (List ℕ) → ℕ → ℕ
     → Option Moments → ℕ → ℕ → List OutPart → List OutPart → JournalPart → JournalPart → Type 0
-RunsOn input most old new state left new_left read_faults new_read_faults moments place new_place outs
+RunsOn input rule old new state left new_left read_faults new_read_faults moments place new_place outs
     new_outs part new_part =
     (start : Beginning) (now : Surroundings) →
-    Went (record start { input = input; most = most; moments = moments }) old
+    Went (record start { input = input; rule = rule; moments = moments }) old
     (record now {
       state = states.Reading;
       left = left;
@@ -188,7 +189,7 @@ RunsOn input most old new state left new_left read_faults new_read_faults moment
       outs = outs;
       journal = part;
     }) →
-    Went (record start { input = input; most = most; moments = moments }) new
+    Went (record start { input = input; rule = rule; moments = moments }) new
     (record now {
       state = state;
       left = new_left;

@@ -21,6 +21,7 @@ use Rattle.account.specs.Dones.{dones, failed_count, LastFailed}
 use Rattle.pipeline_core.specs.Stopped.{behind_stop}
 use Rattle.account.specs.EntryMoments.{gather_moments, counted_moments}
 use Rattle.pipeline_core.specs.Order.{InOrder}
+use Rattle.agent_workers.specs.Reader.{InRule}
 use Rattle.agent_workers.specs.PipeSetup.{run_setup, journal_setup_of}
 use Rattle.pipeline_core.specs.Sent.{Sent}
 use Rattle.agent_workers.specs.Output.{AppendsSo, batch_text, OutPart}
@@ -64,14 +65,14 @@ text_of setup journal = journal_text (journal_setup_of setup) journal (account_o
 
 -- a read of the input failed: its count rose, and the Gathers name all pieces of the bytes that were taken,
 -- but perhaps that of the last line
-abbrev pub IsCutShort : ℕ → Change → List Entry → Type 0
-IsCutShort number input journal = Rose input.faults_before input.faults_after
-    × Told input.before input.after (NamesTaken journal number)
+abbrev pub IsCutShort : InRule → ℕ → Change → List Entry → Type 0
+IsCutShort rule number input journal = Rose input.faults_before input.faults_after
+    × Told input.before input.after (NamesTaken rule journal number)
 
 -- why the input has no Ended: a read failed, 2^40 bytes were taken, or the run is full
-abbrev pub IsUnread : ℕ → ℕ → Change → ℕ → List Entry → Type 0
-IsUnread number most input taken journal = IsCutShort number input journal ⊎ (taken ≡ 2 ^ 40)
-    ⊎ IsFull most journal number input.before input.after
+abbrev pub IsUnread : ℕ → InRule → Change → ℕ → List Entry → Type 0
+IsUnread number rule input taken journal = IsCutShort rule number input journal ⊎ (taken ≡ 2 ^ 40)
+    ⊎ IsFull rule journal number input.before input.after
 
 -- what a journal says of an output
 pub record IsSentTo (tries : ℕ) (setup : Setup) (journal : List Entry) (output : ℕ) (place : Change)
@@ -84,14 +85,14 @@ pub record IsSentTo (tries : ℕ) (setup : Setup) (journal : List Entry) (output
   pub left : buffered_at_end setup journal output ≢ 0
       → LastFailed tries (dones output (behind_stop journal))
 
--- A legal journal of a run of one input and any number of outputs, given how many pieces a gather has at
--- most, how often in succession a repeat without an accepted batch is tried at the end, and the moments of
+-- A legal journal of a run of one input and any number of outputs, given by what rule the input is read, how
+-- often in succession a repeat without an accepted batch is tried at the end, and the moments of
 -- the run's clock and of the input's clock.
-pub record IsRun (most tries : ℕ) (setup : Setup) (input : Change) (outputs : List Change)
+pub record IsRun (rule : InRule) (tries : ℕ) (setup : Setup) (input : Change) (outputs : List Change)
     (run_moments input_moments : Option Moments) (journal : List Entry) : Type 0 where
   pub legal : IsLegal setup journal
   -- the Gathers name the pieces of what was left at the input's place
-  pub gathered : Told input.before input.after (λ xs ys. Gathered most journal 0 xs)
+  pub gathered : Told input.before input.after (λ xs ys. Gathered rule journal 0 xs)
   -- each output was sent its batches
   pub sent_to : (output : ℕ) → output < length setup.outputs →
       IsSentTo tries setup journal output (change_at outputs output)
@@ -109,19 +110,19 @@ pub record IsRun (most tries : ℕ) (setup : Setup) (input : Change) (outputs : 
   -- so many bytes of the input were taken; it was read to its end, or there is a cause
   pub taken : ℕ
   pub bytes_taken : Told input.before input.after (λ xs ys. length xs ≡ taken + length ys)
-  pub unread : has_ended 0 journal ≡ false → IsUnread 0 most input taken journal
+  pub unread : has_ended 0 journal ≡ false → IsUnread 0 rule input taken journal
   -- before each Begin all items were routed; before each Gather too, and all was sent or the last put had
   -- failed
   pub in_order : InOrder setup journal
 
 -- whether the input was read to its end, or why not
-abbrev pub EndsSo : ℕ → ℕ → InState → Change → ℕ → List Entry → Type 0
-EndsSo number most states.Reading input taken journal = ⊥
-EndsSo number most states.Ended input taken journal = (taken < 2 ^ 40) × (has_ended number journal ≡ true)
-EndsSo number most states.Faulted input taken journal = (taken < 2 ^ 40) × (has_ended number journal ≡ false)
-    × IsCutShort number input journal
-EndsSo number most states.LimitReached input taken journal = (has_ended number journal ≡ false)
-    × ((taken ≡ 2 ^ 40) ⊎ IsFull most journal number input.before input.after)
+abbrev pub EndsSo : ℕ → InRule → InState → Change → ℕ → List Entry → Type 0
+EndsSo number rule states.Reading input taken journal = ⊥
+EndsSo number rule states.Ended input taken journal = (taken < 2 ^ 40) × (has_ended number journal ≡ true)
+EndsSo number rule states.Faulted input taken journal = (taken < 2 ^ 40) × (has_ended number journal ≡ false)
+    × IsCutShort rule number input journal
+EndsSo number rule states.LimitReached input taken journal = (has_ended number journal ≡ false)
+    × ((taken ≡ 2 ^ 40) ⊎ IsFull rule journal number input.before input.after)
 
 -- a text was appended; or a part of it, and the count of faults rose
 abbrev pub IsPutSo : Bool → Change → List ℕ → Type 0
@@ -137,12 +138,12 @@ IsLeft true setup journal =
     (output : ℕ) × (output < length setup.outputs) × (buffered_at_end setup journal output ≢ 0)
 
 -- what a run leaves, before its account is reported, given the sizes of its outputs
-pub record Ran (most tries : ℕ) (sizes : List (ℕ × ℕ)) (ending : Ending) (input : Change)
+pub record Ran (rule : InRule) (tries : ℕ) (sizes : List (ℕ × ℕ)) (ending : Ending) (input : Change)
     (outputs : List Change) (note : Change) (run_moments input_moments : Option Moments) : Type 0 where
   pub start : ℤ
   pub journal : List Entry
-  pub run : IsRun most tries (run_setup sizes start) input outputs run_moments input_moments journal
-  pub ends : EndsSo 0 most ending.state input run.taken journal
+  pub run : IsRun rule tries (run_setup sizes start) input outputs run_moments input_moments journal
+  pub ends : EndsSo 0 rule ending.state input run.taken journal
   pub left : IsLeft ending.left (run_setup sizes start) journal
   pub account : ending.account.items ≡ account_of (run_setup sizes start) journal
   pub noted : IsPutSo ending.journal_failed note (text_of (run_setup sizes start) journal)

@@ -1,25 +1,25 @@
 //! An input: its next pieces, and gathering them.
 ghost use Rattle.std.specs.Prelude.{◌≡◌, ◌<◌, ◌≤◌, ◌+◌, ◌^◌, ◌∷◌, ℤ, [], length, IfOk, OnOk, ◌⊎◌, ℕ, Ok};
-ghost use Rattle.std.specs.Prelude.{Some, None, false, true, slice_get, ◌-◌};
+ghost use Rattle.std.specs.Prelude.{Some, None, false, true, slice_get, ◌-◌, All};
 ghost use Rattle.agent_base.specs.Hand.{to_come};
 ghost use Rattle.agent_base.specs.Told.{Told};
 ghost use Rattle.agent_base.specs.Counts.{Rose};
-ghost use Rattle.agent_base.specs.Cut.{TooLong, Whole};
-ghost use Rattle.agent_workers.specs.Groups.{CountsPiece, IsAllRead, ReadsGroup, ReadsNext, IsOffered};
+ghost use Rattle.metric.specs.Metric.{IsFilledTag};
+ghost use Rattle.agent_workers.specs.Groups.{IsAllRead, ReadsGroup, ReadsNext, IsOffered};
 ghost use Rattle.agent_workers.specs.Groups.{IsEnding, IsGathered};
 ghost use Rattle.agent_workers.specs.Progress.{ReadsOn};
+ghost use Rattle.agent_workers.specs.Reader.{rule_of, rule_view};
 ghost use Rattle.agent_workers.specs.Running.{IsReady, IsReading, HasJournal, StillStands};
 
 use crate::pipe_run::PipeRun;
-use agent_base::{Clock, Piece, PieceFault, Pieces, Source};
+use crate::reading::{Group, ReadRule};
+use agent_base::{Clock, PieceFault, Pieces, Source};
+use agent_config::InFormat;
 use fixed_num::{Moment, OutOfMemory, Seq};
-use line_proto::{LineKind, read_line};
-use metric::Metric;
+use metric::Text;
+use metric_filter::Filter;
 use pipeline_core::{Core, GatherRefused, Gathered};
 use std::alloc::Global;
-
-/// How many metrics a gather has room for from its start.
-const GATHER_ROOM: u32 = 1_000;
 
 /// Whether an input is read on.
 #[derive(Clone, Copy, Debug, PartialEq, Eq)]
@@ -34,53 +34,11 @@ pub enum InState {
     LimitReached,
 }
 
-/// The next pieces of an input, and what they say.
-#[derive(Drop)]
-pub struct Group {
-    /// How many pieces there are.
-    pub pieces: u32,
-    /// How many of them are refused.
-    pub refused: u32,
-    /// The readings of the others, in order.
-    pub metrics: Vec<Metric>,
-}
-
-impl Group {
-    /// Counts a piece that is too long, and so refused.
-    fn refuse(&mut self)
-        requires few { self.old.pieces < 2 ^ 32 - 1 }
-        requires some { self.old.refused ≤ self.old.pieces }
-        ensures counted { (moment : ℤ) → CountsPiece moment TooLong self.old self.new }
-    {
-        self.pieces += 1;
-        self.refused += 1;
-    }
-
-    /// Counts a piece, and keeps what it says at the moment.
-    fn read(&mut self, alloc: Global, piece: &Piece, moment: Moment) -> Result<(), OutOfMemory>
-        requires few { self.old.pieces < 2 ^ 32 - 1 }
-        requires some { self.old.refused ≤ self.old.pieces }
-        ensures counted { OnOk result (CountsPiece moment (Whole piece.now) self.old self.new) }
-    {
-        match read_line(alloc, piece.bytes(), moment) {
-            Ok(Some(metric)) => self.metrics.push(metric)?,
-            Ok(None) => {}
-            Err(fault) => {
-                if fault.kind == LineKind::OutOfMemory {
-                    return Err(OutOfMemory);
-                }
-                self.refused += 1;
-            }
-        }
-        self.pieces += 1;
-        Ok(())
-    }
-}
-
 /// Reads the next piece into the group, and says whether the input is read on: where it is, one piece was
 /// counted, else none. Nothing is promised of the group where memory ran out.
 fn read_next<S: Source>(
     alloc: Global,
+    rule: &ReadRule,
     pieces: &mut Pieces,
     source: &mut S,
     moment: Moment,
@@ -88,9 +46,10 @@ fn read_next<S: Source>(
 ) -> Result<InState, OutOfMemory>
     requires few { group.old.pieces < 2 ^ 32 - 1 }
     requires some { group.old.refused ≤ group.old.pieces }
+    requires filled { All IsFilledTag rule.now.globals.now }
     ensures next { IfOk result
-        (λ state. ReadsNext state moment group.old group.new pieces.old pieces.new (S.left source.old)
-        (S.left source.new)) }
+        (λ state. ReadsNext (rule_view rule.now) state moment group.old group.new pieces.old pieces.new
+        (S.left source.old) (S.left source.new)) }
     ensures all { IfOk result (λ state. state ≡ InState.Ended
         → IsAllRead (S.left source.old) (S.left source.new) pieces.new) }
     ensures failed { IfOk result (λ state. state ≡ InState.Faulted
@@ -106,7 +65,7 @@ fn read_next<S: Source>(
 {
     match pieces.next(source) {
         Ok(Some(piece)) => {
-            group.read(alloc, &piece, moment)?;
+            group.read(alloc, rule, &piece, moment)?;
             Ok(InState::Reading)
         }
         Ok(None) => Ok(InState::Ended),
@@ -120,8 +79,8 @@ fn read_next<S: Source>(
     }
 }
 
-/// Reads the next pieces, at most so many, and says whether the input is read on. A line without a time has
-/// the moment (nanoseconds since 1970) as its time.
+/// Reads the next pieces, at most as many as a gather may have, and says whether the input is read on. A line
+/// without a time has the moment (nanoseconds since 1970) as its time.
 ///
 /// Where the input is read on the group has as many pieces as a gather may have; where it has ended no piece
 /// is left. After a failed read the bytes that were taken are kept in hand, one piece at most. What was read
@@ -129,14 +88,15 @@ fn read_next<S: Source>(
 /// promised where memory ran out.
 pub fn read_group<S: Source>(
     alloc: Global,
+    rule: &ReadRule,
     pieces: &mut Pieces,
     source: &mut S,
     moment: Moment,
-    most: u32,
 ) -> Result<(Group, InState), OutOfMemory>
-    requires some { 1 ≤ most }
+    requires some { 1 ≤ rule.now.most }
+    requires filled { All IsFilledTag rule.now.globals.now }
     ensures reads { IfOk result
-        (λ answer. ReadsGroup most moment answer.0 answer.1 pieces.old pieces.new (S.left source.old)
+        (λ answer. ReadsGroup (rule_view rule.now) moment answer.0 answer.1 pieces.old pieces.new (S.left source.old)
         (S.left source.new)) }
     ensures failed { IfOk result (λ answer. answer.1 ≡ InState.Faulted
         → Rose (S.faults source.old) (S.faults source.new)) }
@@ -150,13 +110,9 @@ pub fn read_group<S: Source>(
         (λ xs ys. pieces.old.taken + length xs ≡ pieces.new.taken + length ys) }
     ensures faults { S.faults source.old ≤ S.faults source.new }
 {
-    let mut group = Group {
-        pieces: 0,
-        refused: 0,
-        metrics: Vec::with_capacity(alloc, most.min(GATHER_ROOM) as usize)?,
-    };
-    for _piece in 0..most {
-        let state = read_next(alloc, pieces, source, moment, &mut group)?;
+    let mut group = Group::new(alloc, rule.most)?;
+    for _piece in 0..rule.most {
+        let state = read_next(alloc, rule, pieces, source, moment, &mut group)?;
         if state != InState::Reading {
             return Ok((group, state));
         }
@@ -186,8 +142,8 @@ fn offer(core: &mut Core, input: u32, moment: Moment, group: Group) -> Result<bo
         moment,
         pieces: group.pieces,
         refused: group.refused,
-        passed: 0,
-        filtered: 0,
+        passed: group.passed,
+        filtered: group.filtered,
         metrics: Seq::of(group.metrics),
     };
     match core.gather(gathered) {
@@ -226,10 +182,16 @@ pub struct InJob<S: Drop, C: Drop> {
     pub input: u32,
     /// What is read.
     pub source: S,
-    /// What gives the moments of its gathers.
-    pub clock: C,
+    /// Its format.
+    pub format: InFormat,
+    /// The tags that each metric gets that lacks them.
+    pub globals: Seq<(Text, Text)>,
     /// How many pieces one gather has at most.
     pub gather_pieces: u32,
+    /// What is kept of its metrics, once they have these tags.
+    pub filter: Filter,
+    /// What gives the moments of its gathers.
+    pub clock: C,
 }
 
 /// Gathers the next pieces of an input, and says whether it is read on.
@@ -238,6 +200,7 @@ pub fn gather<S: Source + Drop, C: Clock + Drop>(
     job: &mut InJob<S, C>,
 ) -> Result<InState, OutOfMemory>
     requires some { 1 ≤ job.old.gather_pieces }
+    requires filled { All IsFilledTag job.old.globals }
     requires ready { IsReady run.old.core }
     requires known { job.old.input < length run.old.core.setup.inputs }
     requires reading { IsReading job.old.input run.old.core }
@@ -252,21 +215,18 @@ pub fn gather<S: Source + Drop, C: Clock + Drop>(
     ensures setup { OnOk result (run.new.core.setup ≡ run.old.core.setup) }
     ensures stands { StillStands result run.new.core }
     ensures reads { IfOk result
-        (λ state. ReadsOn job.old.input job.old.gather_pieces run.old run.new state
+        (λ state. ReadsOn job.old.input (rule_of job.old) run.old run.new state
         (S.left job.old.source) (S.left job.new.source) (S.faults job.old.source) (S.faults job.new.source)
         (C.moments job.old.clock) (C.place job.old.clock) (C.place job.new.clock)) }
     ensures list { C.moments job.new.clock ≡ C.moments job.old.clock }
     ensures number { job.new.input ≡ job.old.input }
+    ensures rule { rule_of job.new ≡ rule_of job.old }
+    ensures globals { job.new.globals ≡ job.old.globals }
     ensures pieces { job.new.gather_pieces ≡ job.old.gather_pieces }
 {
     let moment = job.clock.now();
-    let (group, state) = read_group(
-        run.alloc,
-        &mut run.pieces,
-        &mut job.source,
-        moment,
-        job.gather_pieces,
-    )?;
+    let rule = ReadRule::new(job.format, &job.globals, &job.filter, job.gather_pieces);
+    let (group, state) = read_group(run.alloc, &rule, &mut run.pieces, &mut job.source, moment)?;
     if !offer(&mut run.core, job.input, moment, group)? {
         return Ok(InState::LimitReached);
     }

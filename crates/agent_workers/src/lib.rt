@@ -7,6 +7,7 @@ mod item;
 mod journal;
 mod output;
 mod pipe_run;
+mod reading;
 mod serial;
 
 pub use input::{InJob, InState};

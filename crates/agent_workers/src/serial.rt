@@ -4,12 +4,14 @@ ghost use Rattle.std.specs.Prelude.{OnOk, IfErr, false, true};
 ghost use Rattle.std.specs.Int.{int_max};
 ghost use Rattle.account.specs.AccountText.{account_text};
 ghost use Rattle.agent_base.specs.Moments.{Gives};
+ghost use Rattle.metric.specs.Metric.{IsFilledTag};
 ghost use Rattle.pipeline_core.specs.CoreState.{sizes};
 ghost use Rattle.agent_workers.specs.Run.{Ran, change, out_changes};
 ghost use Rattle.agent_workers.specs.Noted.{part_of, EndsOn};
 ghost use Rattle.agent_workers.specs.Output.{outs_of, AreOutputs};
 ghost use Rattle.agent_workers.specs.PipeSetup.{run_setup, journal_setup_of};
 ghost use Rattle.agent_workers.specs.Progress.{Beginning, Surroundings, Went, RunsOn};
+ghost use Rattle.agent_workers.specs.Reader.{rule_of};
 ghost use Rattle.agent_workers.specs.Running.{IsReady, IsReading, HasJournal, StillStands, AreSettled};
 ghost use Rattle.agent_workers.specs.Running.{AreLeft, IsLeftOver};
 
@@ -54,6 +56,7 @@ fn rounds<S: Source + Drop, K: Sink + Drop, C: Clock + Drop>(
     journal: &mut JournalJob<K>,
 ) -> Result<InState, OutOfMemory>
     requires some { 1 ≤ input.old.gather_pieces }
+    requires filled { All IsFilledTag input.old.globals }
     requires known { input.old.input < length run.old.core.setup.inputs }
     requires ready { IsReady run.old.core }
     requires reading { IsReading input.old.input run.old.core }
@@ -68,7 +71,7 @@ fn rounds<S: Source + Drop, K: Sink + Drop, C: Clock + Drop>(
         (AreOutputs (length run.old.core.setup.outputs) (outs_of K.held K.faults outputs.new)) }
     ensures read { IfOk result (λ state. state ≢ InState.Reading) }
     ensures stands { StillStands result run.new.core }
-    ensures runs { IfOk result (λ state. RunsOn input.old.input input.old.gather_pieces run.old run.new state
+    ensures runs { IfOk result (λ state. RunsOn input.old.input (rule_of input.old) run.old run.new state
         (S.left input.old.source) (S.left input.new.source)
         (S.faults input.old.source) (S.faults input.new.source)
         (C.moments input.old.clock) (C.place input.old.clock) (C.place input.new.clock)
@@ -185,6 +188,7 @@ fn run_from<S: Source + Drop, K: Sink + Drop, C: Clock + Drop>(
     requires sizes { All (λ x. (1 ≤ x.batch) × (x.batch ≤ x.limit)) setup.now.outputs }
     requires number { input.old.input ≡ 0 }
     requires some_pieces { 1 ≤ input.old.gather_pieces }
+    requires filled { All IsFilledTag input.old.globals }
     requires some { 1 ≤ setup.now.final_tries }
     requires outputs { AreOutputs (length setup.now.outputs) (outs_of K.held K.faults outputs.old) }
     requires first { Gives (C.moments clock.old) 0 (C.place clock.old) start }
@@ -195,7 +199,7 @@ fn run_from<S: Source + Drop, K: Sink + Drop, C: Clock + Drop>(
     requires none_failed { journal.old.failed ≡ false }
     ensures count { length outputs.new ≡ length outputs.old }
     ensures ran { IfOk result
-        (λ ending. Ran input.old.gather_pieces setup.now.final_tries (map sizes setup.now.outputs) ending
+        (λ ending. Ran (rule_of input.old) setup.now.final_tries (map sizes setup.now.outputs) ending
         (change (S.left input.old.source) (S.left input.new.source)
         (S.faults input.old.source) (S.faults input.new.source))
         (out_changes (outs_of K.held K.faults outputs.old) (outs_of K.held K.faults outputs.new))
@@ -212,7 +216,7 @@ fn run_from<S: Source + Drop, K: Sink + Drop, C: Clock + Drop>(
     Ok(ending)
 }
 
-/// Runs one line protocol input and any number of line protocol outputs from the start, and gives back the
+/// Runs one input and any number of line protocol outputs from the start, and gives back the
 /// part to which the journal goes: rounds, each of which puts the entries that it made, and the end. The
 /// start is the first moment of `clock`, the stop a later one; `input_clock` gives the moments of the
 /// gathers.
@@ -230,12 +234,13 @@ pub fn run<S: Source + Drop, K: Sink + Drop, C: Clock + Drop>(
     requires sizes { All (λ x. (1 ≤ x.batch) × (x.batch ≤ x.limit)) setup.now.outputs }
     requires number { input.old.input ≡ 0 }
     requires some_pieces { 1 ≤ input.old.gather_pieces }
+    requires filled { All IsFilledTag input.old.globals }
     requires some { 1 ≤ setup.now.final_tries }
     requires outputs { AreOutputs (length setup.now.outputs) (outs_of K.held K.faults outputs.old) }
     requires first { C.place clock.old ≡ 0 }
     requires input_first { C.place input.old.clock ≡ 0 }
     ensures ran { IfOk result.1
-        (λ ending. Ran input.old.gather_pieces setup.now.final_tries (map sizes setup.now.outputs) ending
+        (λ ending. Ran (rule_of input.old) setup.now.final_tries (map sizes setup.now.outputs) ending
         (change (S.left input.old.source) (S.left input.new.source)
         (S.faults input.old.source) (S.faults input.new.source))
         (out_changes (outs_of K.held K.faults outputs.old) (outs_of K.held K.faults outputs.new))
@@ -285,11 +290,12 @@ pub fn run_one<S: Source + Drop, K: Sink + Drop, C: Clock + Drop>(
     requires sizes { All (λ x. (1 ≤ x.batch) × (x.batch ≤ x.limit)) setup.now.outputs }
     requires number { input.old.input ≡ 0 }
     requires some_pieces { 1 ≤ input.old.gather_pieces }
+    requires filled { All IsFilledTag input.old.globals }
     requires some { 1 ≤ setup.now.final_tries }
     requires first { C.place clock.old ≡ 0 }
     requires input_first { C.place input.old.clock ≡ 0 }
     ensures ran { IfOk result.2
-        (λ ending. Ran input.old.gather_pieces setup.now.final_tries (map sizes setup.now.outputs) ending
+        (λ ending. Ran (rule_of input.old) setup.now.final_tries (map sizes setup.now.outputs) ending
         (change (S.left input.old.source) (S.left input.new.source)
         (S.faults input.old.source) (S.faults input.new.source))
         (change (K.held sink) (K.held result.0) (K.faults sink) (K.faults result.0) ∷ [])

@@ -1,8 +1,8 @@
 use Rattle.std.proofs.Common.{◌∙◌, List, [], ◌∷◌, ap, refl, arith}
 use Rattle.agent_workers.specs.Run.{change}
-use Rattle.agent_run.specs.Headline.{report_change}
+use Rattle.agent_run.specs.Headline.{pipe_rule, report_change}
 use Rattle.agent_run.proofs.HeadlineLemmas.{ends_as, taken_in, report_is, reported_ends}
-use Rattle.agent_workers.proofs.RanLemmas.{ran_of, ran_sized}
+use Rattle.agent_workers.proofs.RanLemmas.{ran_of, ran_ruled, ran_sized}
 use Rattle.std.specs.Prelude.{map}
 use Rattle.pipeline_core.specs.CoreState.{sizes}
 use Rattle.pipeline_core.specs.declared.setup.OutSetup.{OutSetup}
@@ -41,7 +41,7 @@ returns-in-Ok-clause-ends g c =
     let old = c.args.world.now in
     let last = c.report_account.new.world in
     ends_as c.args.pipe.now.batch c.args.pipe.now.limit
-    (change (g.W.In.Source.left c.args.parts.source) (g.W.In.Source.left c.run_one-sink.new.input.source) (g.W.In.Source.faults c.args.parts.source) (g.W.In.Source.faults c.run_one-sink.new.input.source))
+    (change (g.W.In.Source.left c.plain_input-input.result.source) (g.W.In.Source.left c.run_one-sink.new.input.source) (g.W.In.Source.faults c.plain_input-input.result.source) (g.W.In.Source.faults c.run_one-sink.new.input.source))
     (change (g.W.Out.Sink.held c.args.parts.sink) (g.W.Out.Sink.held c.run_one-sink.result.0) (g.W.Out.Sink.faults c.args.parts.sink) (g.W.Out.Sink.faults c.run_one-sink.result.0))
     (change (g.W.Out.Sink.held c.args.parts.journal) (g.W.Out.Sink.held c.run_one-sink.result.1) (g.W.Out.Sink.faults c.args.parts.journal) (g.W.Out.Sink.faults c.run_one-sink.result.1))
     (report_change (g.W.World.rest c.give_out-2.new.self) (g.W.World.rest last))
@@ -49,8 +49,9 @@ returns-in-Ok-clause-ends g c =
     (change (g.W.Out.Sink.held c.args.parts.sink) (g.W.World.out_at last output).bytes (g.W.Out.Sink.faults c.args.parts.sink) (g.W.World.out_at last output).part_faults)
     (change (g.W.Out.Sink.held c.args.parts.journal) (g.W.World.out_at last journal_place).bytes (g.W.Out.Sink.faults c.args.parts.journal) (g.W.World.out_at last journal_place).part_faults)
     (report_change (g.W.World.rest old) (g.W.World.rest last))
-    (g.W.Clk.Clock.moments c.clock-clock.result) (g.W.Clk.Clock.moments c.clock-input_clock.result) (g.W.World.moments old 0) (g.W.World.moments old 3) c.report_account.result
-    (taken_in (g.W.In.Source.left c.args.parts.source) (g.W.In.Source.left c.run_one-sink.new.input.source) (g.W.In.Source.faults c.args.parts.source) (g.W.In.Source.faults c.run_one-sink.new.input.source)
+    (g.W.Clk.Clock.moments c.clock-clock.result) (g.W.Clk.Clock.moments c.plain_input-input.result.clock) (g.W.World.moments old 0) (g.W.World.moments old 3) c.report_account.result
+    (ap (λ source. change (g.W.In.Source.left source) (g.W.In.Source.left c.run_one-sink.new.input.source) (g.W.In.Source.faults source) (g.W.In.Source.faults c.run_one-sink.new.input.source)) c.plain_input-input.ensures.source
+    ∙ taken_in (g.W.In.Source.left c.args.parts.source) (g.W.In.Source.left c.run_one-sink.new.input.source) (g.W.In.Source.faults c.args.parts.source) (g.W.In.Source.faults c.run_one-sink.new.input.source)
     (g.W.World.in_at c.give_in.new.self input) (g.W.World.in_at last input) c.give_in.ensures.given.bytes c.give_in.ensures.given.faults
     (c.report_account.ensures.ins input ∙ c.give_out-2.ensures.ins input ∙ c.give_out.ensures.ins input))
     (taken_in (g.W.Out.Sink.held c.args.parts.sink) (g.W.Out.Sink.held c.run_one-sink.result.0) (g.W.Out.Sink.faults c.args.parts.sink) (g.W.Out.Sink.faults c.run_one-sink.result.0)
@@ -61,8 +62,8 @@ returns-in-Ok-clause-ends g c =
     (c.report_account.ensures.outs journal_place))
     (report_is (g.W.World.rest c.give_out-2.new.self) (g.W.World.rest old) (g.W.World.rest last) (g.W.World.rest last)
     (c.give_out-2.ensures.rest ∙ c.give_out.ensures.rest ∙ c.give_in.ensures.rest ∙ c.clock-input_clock.ensures.rest ∙ c.clock-clock.ensures.rest) refl)
-    c.clock-clock.ensures.told (c.clock-input_clock.ensures.told ∙ c.clock-clock.ensures.others 3 (λ e. absurd (omega (arith, e))))
-    (reported_ends c.args.pipe.now.batch c.args.pipe.now.limit _ _ _ _ _ _ c.in-Ok.ending c.report_account.result (ran_of 1000 3 ((c.args.pipe.now.batch, c.args.pipe.now.limit) ∷ []) _ c.in-Ok.ending _ _ _ _ _ c.in-Ok.is (ran_sized 1000 3 _ _ _ _ _ _ _ _ (ap (λ (xs : List OutSetup). map sizes xs) c.of_one.ensures) c.run_one-sink.ensures.ran)) c.report_account.ensures.answer)
+    c.clock-clock.ensures.told (ap (λ clock. g.W.Clk.Clock.moments clock) c.plain_input-input.ensures.clock ∙ c.clock-input_clock.ensures.told ∙ c.clock-clock.ensures.others 3 (λ e. absurd (omega (arith, e))))
+    (reported_ends c.args.pipe.now.batch c.args.pipe.now.limit _ _ _ _ _ _ c.in-Ok.ending c.report_account.result (ran_of pipe_rule 3 ((c.args.pipe.now.batch, c.args.pipe.now.limit) ∷ []) _ c.in-Ok.ending _ _ _ _ _ c.in-Ok.is (ran_sized pipe_rule 3 _ _ _ _ _ _ _ _ (ap (λ (xs : List OutSetup). map sizes xs) c.of_one.ensures) (ran_ruled _ pipe_rule 3 _ _ _ _ _ _ _ c.plain_input-input.ensures.rule c.run_one-sink.ensures.ran))) c.report_account.ensures.answer)
 
 pub returns-in-Ok-clause-ins_opened : goal.returns-in-Ok-clause-ins_opened
 returns-in-Ok-clause-ins_opened g c =

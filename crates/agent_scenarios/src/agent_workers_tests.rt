@@ -4,8 +4,10 @@ ghost use Rattle.agent_workers.specs.Output.{AreOutputs, outs_of};
 
 use crate::tests::{sink_of, source_of};
 use agent_base::{MemClock, MemSink, Sink};
+use agent_config::InFormat;
 use agent_workers::{Ending, InJob, OutJob, RunSetup, run};
 use fixed_num::{OutOfMemory, Seq};
+use metric_filter::Filter;
 use pipeline_core::OutSetup;
 use std::alloc::Global;
 use std::process::Abort;

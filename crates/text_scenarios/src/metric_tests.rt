@@ -84,9 +84,14 @@ fn tags_of(alloc: Global, pairs: &[(&str, &str)]) -> Result<Vec<(Text, Text)>, O
 #[test]
 fn missing_tags_are_added(rt: HostRuntime) -> Result<(), Fail> {
     let alloc = rt.alloc();
-    let given = tags_of(alloc, &[("zone", "z"), ("az", "q"), ("dc", "x"), ("dc", "y")])?;
+    let given = tags_of(
+        alloc,
+        &[("zone", "z"), ("az", "q"), ("dc", "x"), ("dc", "y")],
+    )?;
     assert!(rt; are_filled(given.as_slice()));
-    let metric = sample(alloc)?.finish(7)?.with_tags(alloc, given.as_slice())?;
+    let metric = sample(alloc)?
+        .finish(7)?
+        .with_tags(alloc, given.as_slice())?;
     let text = spelled(alloc, &metric)?;
     assert_eq!(rt;
         text.as_str(),
@@ -94,7 +99,9 @@ fn missing_tags_are_added(rt: HostRuntime) -> Result<(), Fail> {
     );
     let known = tags_of(alloc, &[("host", "q"), ("az", "q")])?;
     assert!(rt; are_filled(known.as_slice()));
-    let same = sample(alloc)?.finish(7)?.with_tags(alloc, known.as_slice())?;
+    let same = sample(alloc)?
+        .finish(7)?
+        .with_tags(alloc, known.as_slice())?;
     assert!(rt; same == sample(alloc)?.finish(7)?);
     Ok(())
 }

@@ -170,7 +170,14 @@ impl Case {
         let mut clock = MemClock::new(alloc, Vec::new(alloc));
         let input_clock = MemClock::new(alloc, Vec::new(alloc));
         let mut inputs = inputs_of(alloc, source, input_clock)?;
-        let (journal, ran) = run(alloc, &setup, &mut inputs, &mut outputs, journal, &mut clock);
+        let (journal, ran) = run(
+            alloc,
+            &setup,
+            &mut inputs,
+            &mut outputs,
+            journal,
+            &mut clock,
+        );
         Ok(Outcome {
             outputs,
             ending: ran?,

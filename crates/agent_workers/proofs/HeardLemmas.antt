@@ -415,17 +415,17 @@ full_at_end start part (Some g) input journal some no_end many h few =
       many = many;
       next = told_map start.left part.left (λ xs ys. IsNamed part.state part.rule all xs (to_come part.hand ys)) (λ xs ys. IsNextGroup part.rule (gathers input journal) xs (length g.metrics))
           (λ xs ys a.
-            let u = unheld part.rule (gathers input journal) (says_of g) xs (to_come part.hand ys) some (named_to part.state part.rule all xs (to_come part.hand ys) some ne a) in
-            record {
-              moment = g.moment;
-              groups = u.gathered.naming.groups;
-              group = u.group;
-              rest = to_come part.hand ys;
-              consecutive = u.gathered.naming.consecutive;
-              named = u.gathered.naming.named;
-              few = u.few;
-              metrics = ap (λ (ms : List Content). length ms) u.last.metrics;
-            }) h.named;
+          let u = unheld part.rule (gathers input journal) (says_of g) xs (to_come part.hand ys) some (named_to part.state part.rule all xs (to_come part.hand ys) some ne a) in
+          record {
+            moment = g.moment;
+            groups = u.gathered.naming.groups;
+            group = u.group;
+            rest = to_come part.hand ys;
+            consecutive = u.gathered.naming.consecutive;
+            named = u.gathered.naming.named;
+            few = u.few;
+            metrics = ap (λ (ms : List Content). length ms) u.last.metrics;
+          }) h.named;
     }
 
 -- what is held of a group that was read

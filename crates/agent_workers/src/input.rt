@@ -182,7 +182,6 @@ pub struct InJob<S: Drop, C: Drop> {
     pub state: InState,
 }
 
-
 /// Reads the next group of an input that holds nothing. It is held then, where it has a piece. Says whether the
 /// end was met.
 fn read_on<S: Source + Drop, C: Clock + Drop>(
@@ -202,13 +201,7 @@ fn read_on<S: Source + Drop, C: Clock + Drop>(
 {
     let moment = job.clock.now();
     let rule = ReadRule::new(job.format, &job.globals, &job.filter, job.gather_pieces);
-    let (group, state) = read_group(
-        alloc,
-        &rule,
-        &mut job.pieces,
-        &mut job.source,
-        moment,
-    )?;
+    let (group, state) = read_group(alloc, &rule, &mut job.pieces, &mut job.source, moment)?;
     job.held = gathered_of(job.input, moment, group);
     job.state = read_state(state);
     Ok(state == InState::Ended)

@@ -224,7 +224,14 @@ fn run_from<S: Source + Drop, K: Sink + Drop, C: Clock + Drop>(
     begin_anew(outputs);
     rounds(alloc, &mut core, &mut text, inputs, outputs, journal)?;
     let moment = clock.now();
-    stop_run(alloc, &mut core, &mut text, outputs, moment, setup.final_tries)?;
+    stop_run(
+        alloc,
+        &mut core,
+        &mut text,
+        outputs,
+        moment,
+        setup.final_tries,
+    )?;
     let (account, left) = end_journal(alloc, &mut core, &mut text, outputs.len() as u32, journal)?;
     Ok(Ending {
         account,

@@ -1,12 +1,11 @@
 -- What a run leaves at its end, and what it begins with.
-use Rattle.std.proofs.Common.{◌≡◌, ◌≢◌, ◌≤◌, ◌<◌, ℕ, zero, suc, ℤ, ◌+◌, ◌^◌, min, Bool, true, false, List, [], ◌∷◌, ◌++◌, length, replicate, refl, sym, ap, ◌∙◌, subst, inl, inr, arith}
+use Rattle.std.proofs.Common.{◌≡◌, ◌≢◌, ◌≤◌, ◌<◌, ℕ, zero, suc, ℤ, ◌^◌, min, Bool, true, false, List, [], ◌∷◌, ◌++◌, length, refl, sym, ap, ◌∙◌, subst, inl, inr, arith}
 use Rattle.std.specs.Prelude.{IfSome, not, ◌⊎◌, count_by, map}
 use Rattle.std.proofs.lemmas.List.{length-map, length-replicate}
 use Rattle.std.specs.Int.{int_max}
 use Rattle.std.specs.declared.option.Option.{Option}
 use Rattle.std.specs.declared.option.Option.TheVariants.{Some, None}
 use Rattle.account.specs.AccountText.{account_text}
-use Rattle.account.specs.Numbers.{Numbers, output_numbers}
 use Rattle.account.specs.Setup.{Setup}
 use Rattle.account.specs.declared.entry.Entry.{Entry}
 use Rattle.agent_base.specs.Clocked.{Counted}
@@ -25,12 +24,12 @@ use Rattle.pipeline_core.specs.Stopped.{behind_stop}
 use Rattle.account.specs.EntryMoments.{counted_moments}
 use Rattle.account.specs.Items.{raw_items, items, taken}
 use Rattle.agent_workers.specs.Input.{IsFull}
-use Rattle.agent_workers.specs.Inputs.{InPart, in_at, no_in, HoldsTooMany, FitsInput, AreInputs, IsOut, AreOut, IsFullOf, OneIsFull, IsOneOf, IsOneIn, IsFresh}
+use Rattle.agent_workers.specs.Inputs.{InPart, in_at, HoldsTooMany, AreInputs, AreOut, OneIsFull, IsOneOf, IsOneIn, IsFresh}
 use Rattle.agent_workers.specs.Run.{Change, change, InRun, in_run, in_runs, run_at, change_at, out_changes, SomeIsFull, RunsFull, IsUnread, IsReadFrom, IsSentTo, IsRun, EndsSo, IsPutSo, IsLeft, Ran, buffered_at_end, account_of}
 use Rattle.agent_workers.specs.Noted.{JournalPart, Notes}
 use Rattle.agent_workers.specs.PipeSetup.{run_setup, journal_setup_of}
-use Rattle.agent_workers.specs.Progress.{Beginning, Surroundings, HasText, Heard, AllHeard, Said, AllSaid, Progress, SettlesFirst, GoesOn, SendsOn, GathersOn, RunsOn, NotesRun}
-use Rattle.agent_workers.specs.Running.{IsGathered, IsRoutable, IsSentOn, AreSettled, AreLeft, IsLeftOver, buffered_at}
+use Rattle.agent_workers.specs.Progress.{Beginning, Surroundings, HasText, Heard, Said, AllSaid, Progress, GoesOn, SendsOn, GathersOn, RunsOn, NotesRun}
+use Rattle.agent_workers.specs.Running.{AreSettled, AreLeft, IsLeftOver, buffered_at}
 use Rattle.agent_workers.specs.Output.{OutPart, out_at, anew, AreAnew}
 use Rattle.agent_workers.specs.declared.input.InState.{InState}
 use Rattle.agent_workers.specs.declared.input.InState.TheVariants as states

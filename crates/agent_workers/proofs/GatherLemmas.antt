@@ -1,6 +1,6 @@
 -- The Gathers of a journal with one more, and the pieces that they name.
-use Rattle.std.proofs.Common.{◌≡◌, ◌≤◌, ℕ, ℤ, Bool, true, false, List, [], ◌∷◌, ◌++◌, length, refl, sym, ap, ◌∙◌, subst, inl, inr, arith, append_assoc, append-nil, eq-eqb}
-use Rattle.std.specs.Prelude.{◌||◌, ◌==◌, ◌⊎◌, if◌then◌else◌, map}
+use Rattle.std.proofs.Common.{◌≡◌, ◌≤◌, ℕ, Bool, true, false, List, [], ◌∷◌, ◌++◌, length, refl, sym, ap, ◌∙◌, subst, inl, inr, arith, append_assoc, append-nil, eq-eqb}
+use Rattle.std.specs.Prelude.{◌||◌, ◌==◌, ◌⊎◌, if◌then◌else◌}
 use Rattle.std.proofs.Math.Bool.{or-false}
 use Rattle.std.specs.declared.option.Option.{Option}
 use Rattle.account.specs.declared.entry.Entry.{Entry}
@@ -14,7 +14,7 @@ use Rattle.pipeline_core.proofs.JournalPush.{has_ended-push}
 use Rattle.pipeline_core.specs.declared.gathering.Gathered.{Gathered}
 use Rattle.account.specs.Says.{GatherSays}
 use Rattle.account.specs.Gathers.{gathers_by, gathers}
-use Rattle.agent_workers.specs.Reader.{InRule, reader_of}
+use Rattle.agent_workers.specs.Reader.{InRule}
 use Rattle.agent_workers.specs.Inputs.{says_of}
 use Rattle.agent_workers.specs.Input.{IsGroup, AreGroups, AreFull, AllFull, joined, Naming, Gathering, GatheredTo}
 

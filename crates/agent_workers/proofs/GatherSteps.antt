@@ -1,11 +1,10 @@
 -- How far a run has come once an input was read, and what it held was offered.
 use Rattle.std.proofs.Common.{◌≡◌, ◌≢◌, ◌≤◌, ◌<◌, ℕ, ℤ, ◌+◌, ◌^◌, Bool, true, false, List, [], ◌∷◌, ◌++◌, length, set, refl, sym, ap, ◌∙◌, subst, inl, inr, arith}
-use Rattle.std.specs.Prelude.{◌==◌, if◌then◌else◌, ◌⊎◌, IfSome}
+use Rattle.std.specs.Prelude.{◌==◌, if◌then◌else◌, IfSome}
 use Rattle.std.specs.declared.option.Option.{Option}
 use Rattle.std.specs.declared.option.Option.TheVariants.{Some, None}
 use Rattle.std.proofs.lemmas.Bool.{cases_eq}
 use Rattle.std.proofs.lemmas.List.{length-set, get_or-set_same, set-set, set-get_or}
-use Rattle.account.specs.Says.{GatherSays}
 use Rattle.account.specs.declared.entry.Entry.{Entry}
 use Rattle.account.specs.declared.entry.Entry.TheVariants.{Ended}
 use Rattle.account.specs.declared.entry.Report.{Report}
@@ -14,7 +13,6 @@ use Rattle.agent_base.specs.Hand.{Hand, to_come}
 use Rattle.agent_base.specs.Moments.{Moments, Gives}
 use Rattle.agent_base.specs.Told.{Told}
 use Rattle.pipeline_core.specs.CoreState.{CoreState}
-use Rattle.pipeline_core.specs.Legal.{gathered_count}
 use Rattle.pipeline_core.specs.Shapes.{IsGatherEntry}
 use Rattle.pipeline_core.specs.Stands.{Continues}
 use Rattle.pipeline_core.specs.Steps.{after_gather, after_ended, gather_entry}
@@ -29,12 +27,9 @@ use Rattle.agent_workers.specs.declared.input.InState.{InState}
 use Rattle.agent_workers.specs.declared.input.InState.TheVariants as states
 use Rattle.agent_workers.specs.declared.reading.Group.{Group}
 use Rattle.agent_workers.specs.Groups.{ReadsGroup, gathered_of}
-use Rattle.agent_workers.specs.Inputs.{InPart, in_at, no_in, HoldsTooMany, HoldsNoEnd, HoldsOwn, IsOffered, HasMetEnd}
-use Rattle.agent_workers.specs.Output.{OutPart, out_at}
-use Rattle.agent_workers.specs.Progress.{Beginning, Surroundings, HasText, Heard, HasOrder, Progress, SettlesFirst, ReadsAt, GathersAt, EndsAt}
-use Rattle.agent_workers.specs.Running.{AreSettled, buffered_at}
-use Rattle.agent_workers.specs.Run.{buffered_at_end}
-use Rattle.agent_workers.specs.Noted.{JournalPart}
+use Rattle.agent_workers.specs.Inputs.{InPart, in_at, no_in, HoldsNoEnd, HoldsOwn, IsOffered, HasMetEnd}
+use Rattle.agent_workers.specs.Progress.{Beginning, Surroundings, Heard, Progress, SettlesFirst, ReadsAt, GathersAt, EndsAt}
+use Rattle.agent_workers.specs.Running.{AreSettled}
 use Rattle.agent_workers.proofs.GatherLemmas.{entry_of, said_of}
 use Rattle.agent_workers.proofs.HeardLemmas.{IsNotOf, read_to, heard_push, heard_accepted, heard_full, heard_ended, heard_free, heard_read_none, heard_read_some}
 use Rattle.agent_workers.proofs.ProgressLemmas.{text-push, all_heard_set, all_said_push, order-push, buffered_is, went_behind}

@@ -1,13 +1,12 @@
 -- Inputs by their places: one changes, and the others stay.
 use Rattle.std.proofs.Common.{◌≡◌, ◌≢◌, ◌≤◌, ◌<◌, ◌+◌, ℕ, zero, suc, Bool, true, false, List, [], ◌∷◌, ◌++◌, length, length-append, get_or, set, take, drop, replicate, refl, sym, ap, ◌∙◌, subst, inl, inr, arith}
-use Rattle.std.specs.Prelude.{map, slice_get, is_some, ◌⊎◌, IfSome, IfOk, OnOk, All, Result, Ok, Err}
+use Rattle.std.specs.Prelude.{slice_get, is_some, ◌⊎◌, IfSome, IfOk, OnOk, All, Result, Ok, Err}
 use Rattle.fixed_num.specs.declared.memory.OutOfMemory.{OutOfMemory}
 use Rattle.agent_workers.specs.declared.serial.Ending.{Ending}
-use Rattle.std.proofs.lemmas.Bool.{cases_eq}
-use Rattle.std.proofs.lemmas.List.{length-map, length-set, get_or-map, get_or-set_same, get_or-set_other, map-set}
+use Rattle.std.proofs.lemmas.List.{length-map, length-set, get_or-map, get_or-set_same}
 use Rattle.std.specs.declared.option.Option.{Option}
 use Rattle.std.specs.declared.option.Option.TheVariants.{Some, None}
-use Rattle.account.specs.Numbers.{output_numbers, unreached_output}
+use Rattle.account.specs.Numbers.{unreached_output}
 use Rattle.account.specs.declared.numbers.OutputNumbers.{OutputNumbers}
 use Rattle.agent_base.specs.Moments.{Moments}
 use Rattle.account.specs.declared.entry.Entry.TheVariants.{Ended}
@@ -24,7 +23,7 @@ use Rattle.agent_workers.proofs.RanLemmas.{change_is}
 use Rattle.metric.specs.Metric.{IsFilledTag}
 use Rattle.agent_workers.specs.Output.{OutPart, AreOutputs, out_at, out_of, outs_of}
 use Rattle.agent_workers.specs.declared.output.OutJob.{OutJob}
-use Rattle.agent_workers.specs.Progress.{Beginning, Surroundings, Progress, SettlesFirst, GathersAt, GathersTo}
+use Rattle.agent_workers.specs.Progress.{Progress, GathersAt, GathersTo}
 use Rattle.agent_workers.specs.Running.{IsReady, AreSettled, IsGathered, IsGatheredAt, HasMoved, buffered_at}
 use Rattle.agent_workers.proofs.HeardLemmas.{not_ended, holds_no_end}
 use Rattle.agent_workers.proofs.OutLemmas.{each_set, ready_same}

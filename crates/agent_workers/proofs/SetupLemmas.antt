@@ -1,5 +1,5 @@
 -- What a run of untracked inputs is about.
-use Rattle.std.proofs.Common.{◌≡◌, ℕ, ℤ, zero, suc, Bool, false, List, [], ◌∷◌, replicate, length, refl, sym, ap, ◌∙◌, subst}
+use Rattle.std.proofs.Common.{◌≡◌, ℕ, ℤ, zero, suc, false, List, [], ◌∷◌, replicate, length, refl, sym, ap, ◌∙◌, subst}
 use Rattle.std.specs.Prelude.{map, All}
 use Rattle.std.specs.declared.option.Option.{Option}
 use Rattle.std.specs.declared.option.Option.TheVariants.{None}

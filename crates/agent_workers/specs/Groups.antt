@@ -1,5 +1,5 @@
 -- What the next pieces of an input say, and which pieces of its text they are.
-use Rattle.std.specs.Prelude.{◌≡◌, ◌≤◌, ◌<◌, ◌⊎◌, ◌^◌, ℕ, ℤ, ◌+◌, Bool, true, false, List, [], ◌∷◌, ◌++◌}
+use Rattle.std.specs.Prelude.{◌≡◌, ◌≤◌, ◌⊎◌, ℕ, ℤ, ◌+◌, List, [], ◌∷◌, ◌++◌}
 use Rattle.std.specs.Prelude.{length, count_by, if◌then◌else◌}
 use Rattle.std.specs.List.{flat_map, sum_by}
 use Rattle.std.specs.declared.option.Option.{Option}
@@ -12,10 +12,6 @@ use Rattle.agent_workers.specs.declared.input.InState.{InState}
 use Rattle.agent_workers.specs.declared.input.InState.TheVariants as states
 use Rattle.agent_workers.specs.Reader.{InRule, PieceSays, says, is_refusal, metrics_of, passed_of, kept}
 use Rattle.agent_workers.specs.Reader.{filtered_out, is_refused, passed_over, filtered_of, kept_of, capped}
-use Rattle.account.specs.declared.entry.Entry.TheVariants.{Ended}
-use Rattle.pipeline_core.specs.CoreState.{CoreState}
-use Rattle.pipeline_core.specs.Stands.{Continues}
-use Rattle.pipeline_core.specs.Steps.{after_gather, after_ended, gather_entry}
 use Rattle.pipeline_core.specs.declared.gathering.Gathered.{Gathered}
 
 -- what a piece says is counted: that it is refused; or the samples that are passed over, what is kept of its

@@ -1,8 +1,7 @@
-use Rattle.std.proofs.Common.{◌≡◌, ◌<◌, ◌∙◌, ◌+◌, ℕ, List, length, get_or, set, ap, sym, subst, arith, refl}
+use Rattle.std.proofs.Common.{◌≡◌, ◌<◌, ◌∙◌, ◌+◌, ℕ, List, length, get_or, set, sym, subst, arith}
 use Rattle.std.proofs.lemmas.List.{length-map, map-set}
-use Rattle.pipeline_core.specs.CoreState.{CoreState}
 use Rattle.agent_workers.specs.Inputs.{InPart, FitsInput, in_of, ins_of, AreInputs, AreSameInputs, OneIsFull, IsSameInput}
-use Rattle.agent_workers.specs.Progress.{GathersTo, GathersOn}
+use Rattle.agent_workers.specs.Progress.{GathersTo}
 use Rattle.agent_workers.specs.Running.{IsGatheredAt}
 use Rattle.agent_workers.proofs.InLemmas.{fits_here, input_number, input_here, inputs_set, inputs_themselves, same_set, gathered_none, gathered_then, gathers_then, gathers_on, gathers_nothing, one_is_full}
 use Rattle.agent_workers.proofs.input.gather_each.Goals as goal

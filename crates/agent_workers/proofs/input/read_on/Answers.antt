@@ -1,13 +1,11 @@
-use Rattle.std.proofs.Common.{◌≡◌, ◌<◌, sym, subst, rules}
+use Rattle.std.proofs.Common.{◌≡◌, subst, rules}
 use Rattle.std.proofs.lemmas.Int.{to_z-of_z}
 use mir.Syntax.{w64}
 use mir.Val.{of_z, to_z}
 use Rattle.agent_base.specs.Moments.{Gives}
 use Rattle.agent_workers.specs.Groups.{ReadsGroup}
 use Rattle.agent_workers.specs.Inputs.{InPart, in_of}
-use Rattle.agent_workers.specs.Progress.{Progress}
 use Rattle.agent_workers.specs.Reader.{InRule, rule_of}
-use Rattle.agent_workers.specs.declared.input.InState.{InState}
 use Rattle.agent_workers.proofs.HeardLemmas.{read_to, held_own}
 use Rattle.agent_workers.proofs.GatherSteps.{went_read, went_clocked}
 use Rattle.agent_workers.proofs.input.read_on.Goals as goal

@@ -1,4 +1,4 @@
-use Rattle.std.proofs.Common.{◌≡◌, ◌∙◌, ℕ, true, false, sym, ap, subst, refl}
+use Rattle.std.proofs.Common.{◌∙◌, ℕ, subst, refl}
 use Rattle.agent_workers.specs.Inputs.{InPart, in_of, FitsInput}
 use Rattle.agent_workers.specs.Running.{IsGatheredAt}
 use Rattle.agent_workers.proofs.GatherSteps.{turns, turns_full}

@@ -1,4 +1,4 @@
-use Rattle.std.proofs.Common.{◌≡◌, ◌∙◌, ℕ, length, ap, sym, subst, inl, inr, refl, rules}
+use Rattle.std.proofs.Common.{◌≡◌, ◌∙◌, ℕ, length, ap, sym, subst, inl, inr, refl}
 use Rattle.account.specs.Setup.{Setup}
 use Rattle.pipeline_core.specs.CoreState.{CoreState}
 use Rattle.agent_workers.specs.Noted.{part_of}

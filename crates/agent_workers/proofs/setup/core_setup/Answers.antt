@@ -1,4 +1,4 @@
-use Rattle.std.proofs.Common.{◌≡◌, ◌∙◌, replicate, rules}
+use Rattle.std.proofs.Common.{◌≡◌, replicate, rules}
 use Rattle.std.proofs.lemmas.Int.{to_z-of_z}
 use mir.Syntax.{w64}
 use Rattle.agent_workers.proofs.SetupLemmas.{plain, setup_is}

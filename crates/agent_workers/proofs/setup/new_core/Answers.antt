@@ -1,7 +1,5 @@
-use Rattle.std.proofs.Common.{◌≤◌, length, arith, ap}
-use Rattle.std.proofs.lemmas.List.{length-replicate}
 use Rattle.agent_workers.proofs.OutLemmas.{ready_first}
-use Rattle.agent_workers.proofs.SetupLemmas.{plain, untracked_plain, none_ended_first}
+use Rattle.agent_workers.proofs.SetupLemmas.{none_ended_first}
 use Rattle.agent_workers.proofs.setup.new_core.Goals as goal
 
 pub returns-clause-ready : goal.returns-clause-ready

@@ -13,6 +13,7 @@ use Rattle.pipeline_core.specs.Stopped.{behind_stop}
 use Rattle.agent_workers.specs.Run.{Change, change, IsRun, EndsSo, IsPutSo, IsLeft, Ran, buffered_at_end, account_of, text_of}
 use Rattle.agent_run.specs.Headline.{pipe_rule, final_tries, IsReportFault, Ends, status_of, place_change, report_change, NothingRose}
 use Rattle.agent_workers.specs.PipeSetup.{pipe_setup}
+use Rattle.agent_workers.specs.Reader.{plain_view}
 use Rattle.agent_run.specs.Places.{IsRefused}
 use Rattle.agent_workers.specs.declared.input.InState.{InState}
 use Rattle.agent_workers.specs.declared.input.InState.TheVariants as states
@@ -23,7 +24,7 @@ use Rattle.pipeline_core.proofs.StopLemmas.{behind_fewer}
 use Rattle.agent_workers.proofs.RanLemmas.{change_is}
 
 module _ (batch limit : ℕ) (input output noted reported : Change) (run_moments input_moments : Option Moments) where
-  module _ (start : ℤ) (journal : List Entry) (run : IsRun pipe_rule final_tries (pipe_setup batch limit start) input (output ∷ []) run_moments input_moments journal) where
+  module _ (start : ℤ) (journal : List Entry) (run : IsRun pipe_rule plain_view final_tries (pipe_setup batch limit start) input (output ∷ []) run_moments input_moments journal) where
     report_fault : (journal_failed failed : Bool) → (journal_failed ≡ true) ⊎ (failed ≡ true) → IsPutSo journal_failed noted (text_of (pipe_setup batch limit start) journal) → IsPutSo failed reported (account_of (pipe_setup batch limit start) journal) → run.taken < 2 ^ 40
         → IsReportFault batch limit input output noted reported run_moments input_moments
     report_fault journal_failed failed either put report few = record {
@@ -51,11 +52,11 @@ module _ (batch limit : ℕ) (input output noted reported : Change) (run_moments
     ends_of states.Ended false false false e l put report = record { headline = record { start = start; journal = journal; run = run; noted = put; reported = report }; few = e.0; ended = e.1; none_left = l 0 (omega arith) }
 
   -- a run that was reported
-  pub ran_ends : (ending : Ending) (failed : Bool) → Ran pipe_rule final_tries ((batch, limit) ∷ []) ending input (output ∷ []) noted run_moments input_moments → IsPutSo failed reported ending.account.items
+  pub ran_ends : (ending : Ending) (failed : Bool) → Ran pipe_rule plain_view final_tries ((batch, limit) ∷ []) ending input (output ∷ []) noted run_moments input_moments → IsPutSo failed reported ending.account.items
       → Ends batch limit input output noted reported run_moments input_moments (status_of ending.state (ending.journal_failed || failed) ending.left)
   ran_ends ending failed r report = ends_of r.start r.journal r.run ending.state ending.journal_failed failed ending.left r.ends r.left r.noted (subst (IsPutSo failed reported) r.account report)
 
-  pub reported_ends : (ending : Ending) (status : Status) → Ran pipe_rule final_tries ((batch, limit) ∷ []) ending input (output ∷ []) noted run_moments input_moments →
+  pub reported_ends : (ending : Ending) (status : Status) → Ran pipe_rule plain_view final_tries ((batch, limit) ∷ []) ending input (output ∷ []) noted run_moments input_moments →
       (status ≡ statuses.OutOfMemory) ⊎ ((failed : Bool) × (status ≡ status_of ending.state (ending.journal_failed || failed) ending.left) × IsPutSo failed reported ending.account.items)
       → Ends batch limit input output noted reported run_moments input_moments status
   reported_ends ending status r (inl short) = rw short tt

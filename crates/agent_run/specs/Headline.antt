@@ -15,7 +15,7 @@ use Rattle.agent_run.specs.Places.{AreOpensSame, RoseToOpen, RoseToUse}
 use Rattle.agent_run.specs.declared.status.Status.{Status}
 use Rattle.agent_run.specs.declared.status.Status.TheVariants as statuses
 use Rattle.agent_workers.specs.PipeSetup.{pipe_setup}
-use Rattle.agent_workers.specs.Reader.{InRule, plain_rule}
+use Rattle.agent_workers.specs.Reader.{InRule, plain_rule, plain_view}
 use Rattle.agent_workers.specs.declared.input.InState.{InState}
 use Rattle.agent_workers.specs.declared.input.InState.TheVariants as states
 use Rattle.agent_workers.specs.Run.{Change, change, buffered_at_end, account_of, text_of, IsCutShort, IsRun}
@@ -49,7 +49,7 @@ pub record Headline (batch limit : ℕ) (input output note report : Change)
     (run_moments input_moments : Option Moments) : Type 0 where
   pub start : ℤ
   pub journal : List Entry
-  pub run : IsRun pipe_rule final_tries (pipe_setup batch limit start) input (output ∷ []) run_moments input_moments journal
+  pub run : IsRun pipe_rule plain_view final_tries (pipe_setup batch limit start) input (output ∷ []) run_moments input_moments journal
   pub noted : Appends note.before note.after (text_of (pipe_setup batch limit start) journal)
   pub reported : Appends report.before report.after (account_of (pipe_setup batch limit start) journal)
 
@@ -59,7 +59,7 @@ pub record TornHeadline (batch limit : ℕ) (input output note report : Change)
     (run_moments input_moments : Option Moments) : Type 0 where
   pub start : ℤ
   pub journal : List Entry
-  pub run : IsRun pipe_rule final_tries (pipe_setup batch limit start) input (output ∷ []) run_moments input_moments journal
+  pub run : IsRun pipe_rule plain_view final_tries (pipe_setup batch limit start) input (output ∷ []) run_moments input_moments journal
   pub journal_failed : Bool
   pub report_failed : Bool
   pub noted : IsPutSo journal_failed note (text_of (pipe_setup batch limit start) journal)

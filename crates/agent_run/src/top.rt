@@ -128,7 +128,10 @@ fn run_parts<W: World>(
     let mut clock = world.clock(RUN_CLOCK, RUN_PAUSE);
     let input_clock = world.clock(INPUT_CLOCK, INPUT_PAUSE);
     let mut input = plain_input(alloc, source, input_clock);
-    let (sink, journal, ran) = run_one(alloc, &setup, &mut input, sink, journal, &mut clock);
+    let filters = [Filter::without_rules(alloc)];
+    let (sink, journal, ran) = run_one(
+        alloc, &setup, &mut input, &filters, sink, journal, &mut clock,
+    );
     world.give_in(pipe.input, input.source);
     world.give_out(pipe.output, sink);
     world.give_out(JOURNAL, journal);

@@ -148,7 +148,16 @@ impl Case {
             filter: Filter::without_rules(alloc),
             clock: input_clock,
         };
-        let (journal, ran) = run(alloc, &setup, &mut input, &mut outputs, journal, &mut clock);
+        let filters = [Filter::without_rules(alloc), Filter::without_rules(alloc)];
+        let (journal, ran) = run(
+            alloc,
+            &setup,
+            &mut input,
+            &filters,
+            &mut outputs,
+            journal,
+            &mut clock,
+        );
         Ok(Outcome {
             outputs,
             ending: ran?,

@@ -25,6 +25,7 @@ use Rattle.account.specs.Dones.{dones, LastFailed}
 use Rattle.pipeline_core.specs.Stopped.{behind_stop}
 use Rattle.account.specs.EntryMoments.{gather_moments, counted_moments}
 use Rattle.agent_workers.specs.Reader.{InRule}
+use Rattle.metric.specs.declared.metric.Content.{Content}
 use Rattle.agent_workers.specs.Input.{Gathered}
 use Rattle.agent_workers.specs.Run.{Change, change, change_at, out_changes, IsUnread, IsSentTo, IsRun, EndsSo, IsPutSo, IsLeft, Ran, buffered_at_end, account_of}
 use Rattle.agent_workers.specs.Noted.{JournalPart, Notes}
@@ -89,7 +90,7 @@ went_first start core hand outs part stands setup stored notes empty are count =
   out_count = ap length are ∙ length-map start.outs anew ∙ count;
   said = subst (λ (all : List OutPart). AllSaid start.outs all []) (sym are)
       (λ o l. subst (λ (out : OutPart). Said (out_at start.outs o) out o []) (sym (at_anew start.outs o (omega (arith, l, length-map start.outs anew)))) (said_first (out_at start.outs o) o));
-  worked = worked_first;
+  worked = worked_first start.views;
   in_order = in_order_first start.setup;
   counted_at = counted_none;
 }
@@ -158,11 +159,11 @@ left_is false start core part journal h none = λ o l. sym (buffered_is start co
 left_is true start core part journal h some =
     (some.0, omega (arith, some.1, ap (λ (s : Setup). length s.outputs) h.setup_is), λ z. some.2 (buffered_is start core part journal h some.0 ∙ z))
 
-module _ (rule : InRule) (tries : ℕ) (sizes : List (ℕ × ℕ)) (start : ℤ) (moment : ℤ) (text : Option (List ℕ)) (read_faults : ℕ) (outs : List OutPart) (noted : Option (List ℕ)) (note_faults : ℕ) (input_moments run_moments : Option Moments) (first last : ℕ)
+module _ (rule : InRule) (views : List (Content → Option Content)) (tries : ℕ) (sizes : List (ℕ × ℕ)) (start : ℤ) (moment : ℤ) (text : Option (List ℕ)) (read_faults : ℕ) (outs : List OutPart) (noted : Option (List ℕ)) (note_faults : ℕ) (input_moments run_moments : Option Moments) (first last : ℕ)
     (core : CoreState) (hand : Hand) (now : Surroundings) where
   -- what the run began with
   abbrev pub beginning : Beginning
-  beginning = record { setup = run_setup sizes start; input = 0; rule = rule; bytes = text; read_faults = read_faults; outs = outs; noted = noted; note_faults = note_faults; moments = input_moments }
+  beginning = record { setup = run_setup sizes start; input = 0; views = views; rule = rule; bytes = text; read_faults = read_faults; outs = outs; noted = noted; note_faults = note_faults; moments = input_moments }
 
   module _ (w : Progress beginning core hand (record now { counted_at = int_max moment start ∷ [] })) (gives_first : Gives run_moments 0 first start) (gives_last : Gives run_moments first last moment)
       (stopped : core.stopped ≡ true) (raw : core.raw ≡ []) (none_held : core.held ≡ None) (count : length outs ≡ length sizes) (rest : AreLeft tries core now.outs) (read : now.state ≢ states.Reading) where
@@ -178,7 +179,7 @@ module _ (rule : InRule) (tries : ℕ) (sizes : List (ℕ × ℕ)) (start : ℤ)
         record { sent = said.sent; put_faults = said.put_faults; left = left_failed o l (rest o l) } in
         subst (IsSentTo tries (run_setup sizes start) w.journal o) (sym (changes_at outs now.outs o (omega (arith, w.out_count, count)) (omega (arith, within, count)))) is
 
-    pub is_run : IsRun rule tries (run_setup sizes start) (input_change beginning now) (out_changes outs now.outs) run_moments input_moments w.journal
+    pub is_run : IsRun rule views tries (run_setup sizes start) (input_change beginning now) (out_changes outs now.outs) run_moments input_moments w.journal
     is_run = record {
       legal = subst (λ (s : Setup). IsLegal s w.journal) w.text.setup_is w.text.stands.legal;
       gathered = told_map text now.left (λ xs ys. IsNamed 0 rule now.state w.journal xs (to_come hand ys)) (λ xs ys. Gathered rule w.journal 0 xs) (λ xs ys. named_ends 0 rule now.state w.journal xs (to_come hand ys) read) w.heard.named;
@@ -197,7 +198,7 @@ module _ (rule : InRule) (tries : ℕ) (sizes : List (ℕ × ℕ)) (start : ℤ)
     }
 
     pub ran : (ending : Ending) (put : Change) → ending.state ≡ now.state → IsLeftOver ending.left core → ending.account.items ≡ account_text core.numbers →
-        IsPutSo ending.journal_failed put (journal_text (journal_setup_of (run_setup sizes start)) (w.text.written ++ core.stored) (account_text core.numbers)) → Ran rule tries sizes ending (input_change beginning now) (out_changes outs now.outs) put run_moments input_moments
+        IsPutSo ending.journal_failed put (journal_text (journal_setup_of (run_setup sizes start)) (w.text.written ++ core.stored) (account_text core.numbers)) → Ran rule views tries sizes ending (input_change beginning now) (out_changes outs now.outs) put run_moments input_moments
     unfolding is_run
     ran ending put state left account_is noted =
         let totals_are : core.numbers ≡ totals (run_setup sizes start) w.journal = w.text.stands.numbers ∙ ap (λ (s : Setup). totals s w.journal) w.text.setup_is in
@@ -219,15 +220,15 @@ reads_at : (input : ℕ) (rule : InRule) (old new : PipeRun) (state : InState) (
 reads_at input rule old new state left new_left read_faults new_read_faults moments first place new_place same h = subst (λ (m : Option Moments). ReadsOn input rule old new state left new_left read_faults new_read_faults m place new_place) same h
 
 -- one round more: a group was gathered, the items were routed, batches were sent, and the entries spelled
-pub runs_more : (input : ℕ) (rule : InRule) (first old gathered routed sent new : PipeRun) (state : InState) (left0 left new_left : Option (List ℕ)) (read_faults0 read_faults new_read_faults : ℕ) (moments0 moments : Option Moments) (place0 place new_place : ℕ)
-    (outs0 outs fresh new_outs : List OutPart) (part0 part new_part : JournalPart) → RunsOn input rule first old states.Reading left0 left read_faults0 read_faults moments0 place0 place outs0 outs part0 part → moments ≡ moments0 → AreSettled old.core outs →
-    ReadsOn input rule old gathered state left new_left read_faults new_read_faults moments place new_place → fresh ≡ map anew outs → GoesOn gathered routed → SendsOn routed sent fresh new_outs → NotesRun sent new part new_part
-    → RunsOn input rule first new state left0 new_left read_faults0 new_read_faults moments0 place0 new_place outs0 new_outs part0 new_part
-runs_more input rule first old gathered routed sent new state left0 left new_left read_faults0 read_faults new_read_faults moments0 moments place0 place new_place outs0 outs fresh new_outs part0 part new_part runs same settled reads_on anews routes sends notes = λ start now w.
-    let s : Beginning = record start { input = input; rule = rule; moments = moments0 } in
+pub runs_more : (views : List (Content → Option Content)) (input : ℕ) (rule : InRule) (first old gathered routed sent new : PipeRun) (state : InState) (left0 left new_left : Option (List ℕ)) (read_faults0 read_faults new_read_faults : ℕ) (moments0 moments : Option Moments) (place0 place new_place : ℕ)
+    (outs0 outs fresh new_outs : List OutPart) (part0 part new_part : JournalPart) → RunsOn views input rule first old states.Reading left0 left read_faults0 read_faults moments0 place0 place outs0 outs part0 part → moments ≡ moments0 → AreSettled old.core outs →
+    ReadsOn input rule old gathered state left new_left read_faults new_read_faults moments place new_place → fresh ≡ map anew outs → GoesOn views gathered routed → SendsOn routed sent fresh new_outs → NotesRun sent new part new_part
+    → RunsOn views input rule first new state left0 new_left read_faults0 new_read_faults moments0 place0 new_place outs0 new_outs part0 new_part
+runs_more views input rule first old gathered routed sent new state left0 left new_left read_faults0 read_faults new_read_faults moments0 moments place0 place new_place outs0 outs fresh new_outs part0 part new_part runs same settled reads_on anews routes sends notes = λ start now w.
+    let s : Beginning = record start { views = views; input = input; rule = rule; moments = moments0 } in
     let after : Surroundings = record now { state = state; left = new_left; read_faults = new_read_faults; place = new_place } in
     let a = runs start now w in
-    let b = reads_at input rule old gathered state left new_left read_faults new_read_faults moments moments0 place new_place same reads_on start (record now { outs = outs; journal = part }) settled a in
+    let b = reads_at input rule old gathered state left new_left read_faults new_read_faults moments moments0 place new_place same reads_on (record start { views = views }) (record now { outs = outs; journal = part }) settled a in
     let c = went_anew s gathered.core gathered.pieces (record after { journal = part }) outs fresh anews b in
     let d = routes s (record after { outs = fresh; journal = part }) (subst AreAnew (sym anews) (are_anew outs)) c in
     let e = sends s (record after { journal = part }) d in

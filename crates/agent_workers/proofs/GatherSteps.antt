@@ -68,7 +68,7 @@ pub record ProgressTo (start : Beginning) (core : CoreState) (hand : Hand) (now 
   pub heard : HeardTo start now hand journal
   pub out_count : length now.outs ≡ length start.setup.outputs
   pub said : AllSaid start.outs now.outs journal
-  pub worked : Worked journal
+  pub worked : Worked start.views journal
   pub in_order : InOrder start.setup journal
   pub counted_at : counted_moments journal ≡ now.counted_at
 
@@ -207,7 +207,7 @@ module _ (start : Beginning) (core : CoreState) (before after : Hand) (now : Sur
         };
         out_count = w.out_count;
         said = all_said_push start.outs now.outs w.journal e (λ o. record { ends = tt; none = refl; quiet = refl }) refl w.said;
-        worked = worked-push w.journal e tt w.worked;
+        worked = worked-push start.views w.journal e tt w.worked;
         in_order = in_order-push start.setup w.journal e w.in_order drained;
         counted_at = counted_moments-same w.journal e refl ∙ w.counted_at;
       }
@@ -301,7 +301,7 @@ went_ended states.Ended start core next hand now is w = record {
   };
   out_count = w.out_count;
   said = all_said_push start.outs now.outs w.journal (Ended start.input) (λ o. record { ends = tt; none = refl; quiet = refl }) refl w.said;
-  worked = worked-push w.journal (Ended start.input) tt w.worked;
+  worked = worked-push start.views w.journal (Ended start.input) tt w.worked;
   in_order = in_order-push start.setup w.journal (Ended start.input) w.in_order tt;
   counted_at = counted_moments-same w.journal (Ended start.input) refl ∙ w.counted_at;
 }

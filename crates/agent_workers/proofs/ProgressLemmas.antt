@@ -39,11 +39,11 @@ use Rattle.agent_workers.specs.PipeSetup.{journal_setup_of}
 use Rattle.account.specs.Routes.{RouteOnInOrder}
 use Rattle.agent_workers.specs.Progress.{Beginning, Surroundings, HasText, IsNamed, HasState, IsClocked, IsNamedOfTaken, Heard, Said, AllSaid, Progress}
 use Rattle.agent_workers.specs.Output.{OutPart, out_at, anew, AreAnew}
-use Rattle.agent_workers.specs.Running.{as_it_is}
+use Rattle.agent_workers.specs.Running.{routed_by}
 use Rattle.agent_workers.proofs.OutLemmas.{at_anew}
 use Rattle.std.specs.List.{AllByRecursion}
 use Rattle.std.proofs.lemmas.List.{length-map}
-use Rattle.pipeline_core.specs.Worked.{WorkedBy}
+use Rattle.pipeline_core.specs.Worked.{WorkedBy, views_of}
 use Rattle.account.proofs.DoneLemmas.{dones-same, last_none, last_same}
 use Rattle.pipeline_core.proofs.StopLemmas.{behind_stop-push, stop_before}
 use Rattle.agent_workers.proofs.GroupLemmas.{told_map}
@@ -200,14 +200,14 @@ went_anew start core hand now outs new_outs are w = record {
 -- an entry that says nothing of the input and of the outputs
 pub went_quiet : (start : Beginning) (core next : CoreState) (hand : Hand) (now : Surroundings) (e : Entry) (w : Progress start core hand now) →
     Continues core next e → next.stored ≡ core.stored ++ e ∷ [] → next.setup ≡ core.setup →
-    gathers_by start.input e ≡ [] → is_ended_of start.input e ≡ false → gathered_by e ≡ 0 → ((output : ℕ) → IsQuietAt output e) → is_stop e ≡ false → WorkedBy (items w.journal) e → IsOrderly start.setup w.journal e → counted_by e ≡ [] → Progress start next hand now
+    gathers_by start.input e ≡ [] → is_ended_of start.input e ≡ false → gathered_by e ≡ 0 → ((output : ℕ) → IsQuietAt output e) → is_stop e ≡ false → WorkedBy start.views (items w.journal) e → IsOrderly start.setup w.journal e → counted_by e ≡ [] → Progress start next hand now
 went_quiet start core next hand now e w more stored same none other count quiet going worked orderly still = record {
   journal = w.journal ++ e ∷ [];
   text = text-push start core next now.journal w.journal e w.text more stored same;
   heard = heard_push start now hand w.journal e none other count w.heard;
   out_count = w.out_count;
   said = all_said_push start.outs now.outs w.journal e quiet going w.said;
-  worked = worked-push w.journal e worked w.worked;
+  worked = worked-push start.views w.journal e worked w.worked;
   in_order = in_order-push start.setup w.journal e w.in_order orderly;
   counted_at = counted_moments-same w.journal e still ∙ w.counted_at;
 }
@@ -217,33 +217,28 @@ pub went_take : (start : Beginning) (core next : CoreState) (hand : Hand) (now :
 went_take start core next hand now is more w =
     went_quiet start core next hand now (Take core.taken) w more (ap (λ (s : CoreState). s.stored) is) (ap (λ (s : CoreState). s.setup) is) refl refl refl (λ o. record { ends = tt; none = refl; quiet = refl }) refl tt tt refl
 
--- each of so many views is the same
-all_same : (n : ℕ) (metric : Content) → AllByRecursion (λ (view : Option Content). view ≡ Some metric) (replicate n (Some metric))
-all_same zero metric = tt
-all_same (suc n) metric = (refl, all_same n metric)
-
--- the first raw item was taken and routed as it is
-pub went_route : (start : Beginning) (core mid next : CoreState) (hand : Hand) (now : Surroundings) (outputs : ℕ) (metric : Content) → AreAnew now.outs → slice_get core.raw 0 ≡ Some metric →
-    mid ≡ after_take core → Continues core mid (Take core.taken) → next ≡ after_route mid (as_it_is outputs core.taken metric) → Continues mid next (route_entry mid (as_it_is outputs core.taken metric)) → Progress start core hand now → Progress start next hand now
-went_route start core mid next hand now outputs metric fresh first taken takes routed routes w =
-    let v : Progress start mid hand now = went_take start core mid hand now taken takes w in
-    let shape : IsRouteEntry (as_it_is outputs core.taken metric) (route_entry mid (as_it_is outputs core.taken metric)) = entries-have-shape.routes mid (as_it_is outputs core.taken metric) in
+-- the first raw item was taken and routed
+pub went_route : (start : Beginning) (core mid next : CoreState) (hand : Hand) (now : Surroundings) (views : List (Content → Option Content)) (metric : Content) → AreAnew now.outs → slice_get core.raw 0 ≡ Some metric →
+    mid ≡ after_take core → Continues core mid (Take core.taken) → next ≡ after_route mid (routed_by views core.taken metric) → Continues mid next (route_entry mid (routed_by views core.taken metric)) → Progress (record start { views = views }) core hand now → Progress (record start { views = views }) next hand now
+went_route start core mid next hand now views metric fresh first taken takes routed routes w =
+    let s : Beginning = record start { views = views } in
+    let v : Progress s mid hand now = went_take s core mid hand now taken takes w in
+    let shape : IsRouteEntry (routed_by views core.taken metric) (route_entry mid (routed_by views core.taken metric)) = entries-have-shape.routes mid (routed_by views core.taken metric) in
     let verdict : Verdict = shape.0 in
     let reports : List Report = shape.1 in
-    let views : List (Option Content) = replicate outputs (Some metric) in
-    let e : Entry = Route core.taken (Some metric) verdict [] views reports in
+    let e : Entry = Route core.taken (Some metric) verdict [] (views_of views metric) reports in
     let at : slice_get (items w.journal) core.taken ≡ Some metric = first_raw core w.journal metric w.text.stands first in
     let there : slice_get (items (w.journal ++ Take core.taken ∷ [])) core.taken ≡ Some metric = item_stays w.journal (Take core.taken) core.taken metric at in
     record {
       journal = (w.journal ++ Take core.taken ∷ []) ++ e ∷ [];
-      text = text-push start mid next now.journal (w.journal ++ Take core.taken ∷ []) e
-          (text-push start core mid now.journal w.journal (Take core.taken) w.text takes (ap (λ (s : CoreState). s.stored) taken) (ap (λ (s : CoreState). s.setup) taken))
+      text = text-push s mid next now.journal (w.journal ++ Take core.taken ∷ []) e
+          (text-push s core mid now.journal w.journal (Take core.taken) w.text takes (ap (λ (s : CoreState). s.stored) taken) (ap (λ (s : CoreState). s.setup) taken))
           (subst (Continues mid next) shape.2 routes) (ap (λ (s : CoreState). s.stored) routed ∙ ap (λ (x : Entry). mid.stored ++ x ∷ []) shape.2) (ap (λ (s : CoreState). s.setup) routed);
-      heard = heard_push start now hand (w.journal ++ Take core.taken ∷ []) e refl refl refl (heard_push start now hand w.journal (Take core.taken) refl refl refl w.heard);
+      heard = heard_push s now hand (w.journal ++ Take core.taken ∷ []) e refl refl refl (heard_push s now hand w.journal (Take core.taken) refl refl refl w.heard);
       out_count = w.out_count;
       said = all_said_anew start.outs now.outs (w.journal ++ Take core.taken ∷ []) e fresh (λ o. tt) (λ o. refl)
           (all_said_push start.outs now.outs w.journal (Take core.taken) (λ o. record { ends = tt; none = refl; quiet = refl }) refl w.said);
-      worked = worked_route (w.journal ++ Take core.taken ∷ []) core.taken metric verdict [] views reports there (all_same outputs metric) (worked-push w.journal (Take core.taken) tt w.worked);
+      worked = worked_route views (w.journal ++ Take core.taken ∷ []) core.taken metric verdict [] reports there (worked-push views w.journal (Take core.taken) tt w.worked);
       in_order = in_order-push start.setup (w.journal ++ Take core.taken ∷ []) e (in_order-push start.setup w.journal (Take core.taken) w.in_order tt) tt;
       counted_at = counted_moments-same (w.journal ++ Take core.taken ∷ []) e refl ∙ counted_moments-same w.journal (Take core.taken) refl ∙ w.counted_at;
     }
@@ -280,14 +275,14 @@ went_stop start core next hand now moment fresh is more w =
       heard = heard_push start (record now { counted_at = int_max moment start.setup.start ∷ [] }) hand w.journal e refl refl refl (heard_beside start (record now { counted_at = [] }) hand w.journal now.outs now.journal (int_max moment start.setup.start ∷ []) w.heard);
       out_count = w.out_count;
       said = all_said_anew start.outs now.outs w.journal e fresh (λ o. tt) (λ o. refl) w.said;
-      worked = worked-push w.journal e tt w.worked;
+      worked = worked-push start.views w.journal e tt w.worked;
       in_order = in_order-push start.setup w.journal e w.in_order tt;
       counted_at = counted_moments-push w.journal e ∙ ap (λ (ms : List ℤ). ms ++ int_max moment core.counted ∷ []) w.counted_at ∙ ap (λ (m : ℤ). int_max moment m ∷ []) counted;
     }
 
 -- the same of an item with the number of the first raw one
-pub went_item : (start : Beginning) (core mid next : CoreState) (hand : Hand) (now : Surroundings) (outputs number : ℕ) (metric : Content) → AreAnew now.outs → number ≡ core.taken → slice_get core.raw 0 ≡ Some metric →
-    mid ≡ after_take core → Continues core mid (Take core.taken) → next ≡ after_route mid (as_it_is outputs number metric) → Continues mid next (route_entry mid (as_it_is outputs number metric)) → Progress start core hand now → Progress start next hand now
-went_item start core mid next hand now outputs number metric fresh is first taken takes routed routes w =
-    went_route start core mid next hand now outputs metric fresh first taken takes
-    (subst (λ (n : ℕ). next ≡ after_route mid (as_it_is outputs n metric)) is routed) (subst (λ (n : ℕ). Continues mid next (route_entry mid (as_it_is outputs n metric))) is routes) w
+pub went_item : (start : Beginning) (core mid next : CoreState) (hand : Hand) (now : Surroundings) (views : List (Content → Option Content)) (number : ℕ) (metric : Content) → AreAnew now.outs → number ≡ core.taken → slice_get core.raw 0 ≡ Some metric →
+    mid ≡ after_take core → Continues core mid (Take core.taken) → next ≡ after_route mid (routed_by views number metric) → Continues mid next (route_entry mid (routed_by views number metric)) → Progress (record start { views = views }) core hand now → Progress (record start { views = views }) next hand now
+went_item start core mid next hand now views number metric fresh is first taken takes routed routes w =
+    went_route start core mid next hand now views metric fresh first taken takes
+    (subst (λ (n : ℕ). next ≡ after_route mid (routed_by views n metric)) is routed) (subst (λ (n : ℕ). Continues mid next (route_entry mid (routed_by views n metric))) is routes) w

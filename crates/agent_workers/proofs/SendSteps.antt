@@ -79,7 +79,7 @@ module _ (start : Beginning) (core mid next : CoreState) (hand : Hand) (now : Su
         heard = heard_beside start now hand (between ++ end ∷ []) (set now.outs old.output new) now.journal now.counted_at (heard_push start now hand between end refl refl refl (heard_push start now hand w.journal begin refl refl refl w.heard));
         out_count = length-set now.outs old.output new ∙ w.out_count;
         said = said_done reports ok w.journal w.said said;
-        worked = worked-push between end tt (worked-push w.journal begin tt w.worked);
+        worked = worked-push start.views between end tt (worked-push start.views w.journal begin tt w.worked);
         in_order = in_order-push start.setup between end (in_order-push start.setup w.journal begin w.in_order (sym w.text.stands.raw ∙ routed)) tt;
         counted_at = counted_moments-same between end refl ∙ counted_moments-same w.journal begin refl ∙ w.counted_at;
       }

@@ -2,6 +2,7 @@
 use Rattle.std.specs.Prelude.{◌≡◌, ◌<◌, ◌≤◌, ◌⊎◌, ◌+◌, ◌^◌, ℕ, ℤ, Bool, true, false, List, ◌++◌, length}
 use Rattle.std.specs.Prelude.{IfSome, slice_set}
 use Rattle.std.specs.declared.option.Option.{Option}
+use Rattle.metric.specs.declared.metric.Content.{Content}
 use Rattle.account.specs.Setup.{Setup}
 use Rattle.account.specs.declared.entry.Entry.{Entry}
 use Rattle.agent_base.specs.Counts.{Rose, RoseBy}
@@ -30,12 +31,13 @@ use Rattle.agent_workers.specs.Reader.{InRule}
 use Rattle.agent_workers.specs.Running.{AreSettled}
 use Rattle.pipeline_core.specs.Worked.{Worked}
 
--- what a run began with: its set-up, the number of its input, by what rule it is read, the bytes
+-- what a run began with: its set-up, what its outputs' filters give, the number of its input, by what rule it is read, the bytes
 -- left of the input and its count of failed reads, its outputs, the bytes held by the journal's place and its
 -- count of failed puts, and the moments of the input's clock
 pub record Beginning : Type 0 where
   pub setup : Setup
   pub input : ℕ
+  pub views : List (Content → Option Content)
   pub rule : InRule
   pub bytes : Option (List ℕ)
   pub read_faults : ℕ
@@ -132,7 +134,7 @@ pub record Progress (start : Beginning) (core : CoreState) (hand : Hand) (now : 
   pub heard : Heard start now hand journal
   pub out_count : length now.outs ≡ length start.setup.outputs
   pub said : AllSaid start.outs now.outs journal
-  pub worked : Worked journal
+  pub worked : Worked start.views journal
   pub in_order : InOrder start.setup journal
   pub counted_at : counted_moments journal ≡ now.counted_at
 
@@ -140,10 +142,10 @@ pub record Progress (start : Beginning) (core : CoreState) (hand : Hand) (now : 
 abbrev pub Went : Beginning → PipeRun → Surroundings → Type 0
 Went start run now = Progress start run.core run.pieces now
 
--- a step of a run that changes nothing around it, while no batch failed
-abbrev pub GoesOn : PipeRun → PipeRun → Type 0
-GoesOn old new = (start : Beginning) (now : Surroundings) → AreAnew now.outs → Went start old now
-    → Went start new now
+-- a step of a run that changes nothing around it, while no batch failed, given what the outputs' filters give
+abbrev pub GoesOn : List (Content → Option Content) → PipeRun → PipeRun → Type 0
+GoesOn views old new = (start : Beginning) (now : Surroundings) → AreAnew now.outs
+    → Went (record start { views = views }) old now → Went (record start { views = views }) new now
 
 -- a step that puts to the outputs
 abbrev pub SendsOn : PipeRun → PipeRun → List OutPart → List OutPart → Type 0
@@ -175,12 +177,12 @@ NotesRun old new part new_part =
     → Went start new (record now { journal = new_part })
 
 -- rounds: they read the input, and put to the outputs and to the journal's place
-abbrev pub RunsOn : ℕ → InRule → PipeRun → PipeRun → InState → Option (List ℕ) → Option (List ℕ) → ℕ → ℕ
+abbrev pub RunsOn : List (Content → Option Content) → ℕ → InRule → PipeRun → PipeRun → InState → Option (List ℕ) → Option (List ℕ) → ℕ → ℕ
     → Option Moments → ℕ → ℕ → List OutPart → List OutPart → JournalPart → JournalPart → Type 0
-RunsOn input rule old new state left new_left read_faults new_read_faults moments place new_place outs
+RunsOn views input rule old new state left new_left read_faults new_read_faults moments place new_place outs
     new_outs part new_part =
     (start : Beginning) (now : Surroundings) →
-    Went (record start { input = input; rule = rule; moments = moments }) old
+    Went (record start { views = views; input = input; rule = rule; moments = moments }) old
     (record now {
       state = states.Reading;
       left = left;
@@ -189,7 +191,7 @@ RunsOn input rule old new state left new_left read_faults new_read_faults moment
       outs = outs;
       journal = part;
     }) →
-    Went (record start { input = input; rule = rule; moments = moments }) new
+    Went (record start { views = views; input = input; rule = rule; moments = moments }) new
     (record now {
       state = state;
       left = new_left;

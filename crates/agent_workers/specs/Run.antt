@@ -7,6 +7,7 @@ use Rattle.std.specs.Io.KnownBytes.{Appends}
 use Rattle.account.specs.AccountText.{account_text}
 use Rattle.account.specs.Items.{raw_items, in_hand}
 use Rattle.account.specs.Numbers.{output_numbers}
+use Rattle.metric.specs.declared.metric.Content.{Content}
 use Rattle.account.specs.Setup.{Setup}
 use Rattle.account.specs.declared.entry.Entry.{Entry}
 use Rattle.agent_base.specs.Clocked.{Clocked, Counted}
@@ -85,10 +86,10 @@ pub record IsSentTo (tries : ℕ) (setup : Setup) (journal : List Entry) (output
   pub left : buffered_at_end setup journal output ≢ 0
       → LastFailed tries (dones output (behind_stop journal))
 
--- A legal journal of a run of one input and any number of outputs, given by what rule the input is read, how
+-- A legal journal of a run of one input and any number of outputs, given by what rule the input is read, what the outputs' filters give, how
 -- often in succession a repeat without an accepted batch is tried at the end, and the moments of
 -- the run's clock and of the input's clock.
-pub record IsRun (rule : InRule) (tries : ℕ) (setup : Setup) (input : Change) (outputs : List Change)
+pub record IsRun (rule : InRule) (views : List (Content → Option Content)) (tries : ℕ) (setup : Setup) (input : Change) (outputs : List Change)
     (run_moments input_moments : Option Moments) (journal : List Entry) : Type 0 where
   pub legal : IsLegal setup journal
   -- the Gathers name the pieces of what was left at the input's place
@@ -96,8 +97,8 @@ pub record IsRun (rule : InRule) (tries : ℕ) (setup : Setup) (input : Change) 
   -- each output was sent its batches
   pub sent_to : (output : ℕ) → output < length setup.outputs →
       IsSentTo tries setup journal output (change_at outputs output)
-  -- each item was routed as it is
-  pub worked : Worked journal
+  -- each item was routed by the outputs' filters
+  pub worked : Worked views journal
   -- gathering was stopped, and no item is raw or in hand
   pub stopped : has_stop journal ≡ true
   pub none_raw : raw_items journal ≡ []
@@ -138,11 +139,11 @@ IsLeft true setup journal =
     (output : ℕ) × (output < length setup.outputs) × (buffered_at_end setup journal output ≢ 0)
 
 -- what a run leaves, before its account is reported, given the sizes of its outputs
-pub record Ran (rule : InRule) (tries : ℕ) (sizes : List (ℕ × ℕ)) (ending : Ending) (input : Change)
+pub record Ran (rule : InRule) (views : List (Content → Option Content)) (tries : ℕ) (sizes : List (ℕ × ℕ)) (ending : Ending) (input : Change)
     (outputs : List Change) (note : Change) (run_moments input_moments : Option Moments) : Type 0 where
   pub start : ℤ
   pub journal : List Entry
-  pub run : IsRun rule tries (run_setup sizes start) input outputs run_moments input_moments journal
+  pub run : IsRun rule views tries (run_setup sizes start) input outputs run_moments input_moments journal
   pub ends : EndsSo 0 rule ending.state input run.taken journal
   pub left : IsLeft ending.left (run_setup sizes start) journal
   pub account : ending.account.items ≡ account_of (run_setup sizes start) journal

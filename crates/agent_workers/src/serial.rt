@@ -11,7 +11,7 @@ ghost use Rattle.agent_workers.specs.Noted.{part_of, EndsOn};
 ghost use Rattle.agent_workers.specs.Output.{outs_of, AreOutputs};
 ghost use Rattle.agent_workers.specs.PipeSetup.{run_setup, journal_setup_of};
 ghost use Rattle.agent_workers.specs.Progress.{Beginning, Surroundings, Went, RunsOn};
-ghost use Rattle.agent_workers.specs.Reader.{rule_of};
+ghost use Rattle.agent_workers.specs.Reader.{rule_of, views_by};
 ghost use Rattle.agent_workers.specs.Running.{IsReady, IsReading, HasJournal, StillStands, AreSettled};
 ghost use Rattle.agent_workers.specs.Running.{AreLeft, IsLeftOver};
 
@@ -22,6 +22,7 @@ use crate::output::{OutJob, begin_anew, send_each, send_rest};
 use crate::pipe_run::{PipeRun, journal_setup, last_entries, new_run, note};
 use agent_base::{Clock, Sink, Source};
 use fixed_num::{Moment, OutOfMemory, Seq};
+use metric_filter::Filter;
 use pipeline_core::{Core, OutSetup};
 use std::alloc::Global;
 
@@ -52,6 +53,7 @@ pub struct Ending {
 fn rounds<S: Source + Drop, K: Sink + Drop, C: Clock + Drop>(
     run: &mut PipeRun,
     input: &mut InJob<S, C>,
+    filters: &[Filter],
     outputs: &mut [OutJob<K>],
     journal: &mut JournalJob<K>,
 ) -> Result<InState, OutOfMemory>
@@ -62,6 +64,7 @@ fn rounds<S: Source + Drop, K: Sink + Drop, C: Clock + Drop>(
     requires reading { IsReading input.old.input run.old.core }
     requires none_raw { run.old.core.raw ≡ [] }
     requires outputs { AreOutputs (length run.old.core.setup.outputs) (outs_of K.held K.faults outputs.old) }
+    requires filters { length filters.now ≡ length run.old.core.setup.outputs }
     requires settled { AreSettled run.old.core (outs_of K.held K.faults outputs.old) }
     requires stands { HasJournal run.old.core }
     ensures ready { OnOk result (IsReady run.new.core) }
@@ -71,7 +74,7 @@ fn rounds<S: Source + Drop, K: Sink + Drop, C: Clock + Drop>(
         (AreOutputs (length run.old.core.setup.outputs) (outs_of K.held K.faults outputs.new)) }
     ensures read { IfOk result (λ state. state ≢ InState.Reading) }
     ensures stands { StillStands result run.new.core }
-    ensures runs { IfOk result (λ state. RunsOn input.old.input (rule_of input.old) run.old run.new state
+    ensures runs { IfOk result (λ state. RunsOn (views_by filters.now) input.old.input (rule_of input.old) run.old run.new state
         (S.left input.old.source) (S.left input.new.source)
         (S.faults input.old.source) (S.faults input.new.source)
         (C.moments input.old.clock) (C.place input.old.clock) (C.place input.new.clock)
@@ -83,7 +86,7 @@ fn rounds<S: Source + Drop, K: Sink + Drop, C: Clock + Drop>(
     for _round in 0..u64::MAX {
         let state = gather(run, input)?;
         begin_anew(outputs);
-        route_all(run, outputs.len())?;
+        route_all(run, filters)?;
         send_each(run, outputs)?;
         note(run, journal)?;
         if state != InState::Reading {
@@ -96,12 +99,14 @@ fn rounds<S: Source + Drop, K: Sink + Drop, C: Clock + Drop>(
 /// Stops the gathering at a moment, and sends what is buffered.
 fn finish<K: Sink + Drop>(
     run: &mut PipeRun,
+    filters: &[Filter],
     outputs: &mut [OutJob<K>],
     moment: Moment,
     final_tries: u32,
 ) -> Result<(), OutOfMemory>
     requires ready { IsReady run.old.core }
     requires outputs { AreOutputs (length run.old.core.setup.outputs) (outs_of K.held K.faults outputs.old) }
+    requires filters { length filters.now ≡ length run.old.core.setup.outputs }
     requires going { run.old.core.stopped ≡ false }
     requires stands { HasJournal run.old.core }
     requires some { 1 ≤ final_tries }
@@ -114,9 +119,9 @@ fn finish<K: Sink + Drop>(
     ensures stands { StillStands result run.new.core }
     ensures count { length outputs.new ≡ length outputs.old }
     ensures goes { OnOk result ((start : Beginning) (now : Surroundings)
-        → Went start run.old
+        → Went (record start { views = views_by filters.now }) run.old
         (record now { outs = outs_of K.held K.faults outputs.old; counted_at = [] }) →
-        Went start run.new
+        Went (record start { views = views_by filters.now }) run.new
         (record now {
           outs = outs_of K.held K.faults outputs.new;
           counted_at = int_max moment
@@ -125,7 +130,7 @@ fn finish<K: Sink + Drop>(
 {
     begin_anew(outputs);
     run.core.stop(moment)?;
-    route_all(run, outputs.len())?;
+    route_all(run, filters)?;
     send_rest(run, outputs, final_tries)?;
     Ok(())
 }
@@ -180,6 +185,7 @@ fn run_from<S: Source + Drop, K: Sink + Drop, C: Clock + Drop>(
     setup: &RunSetup,
     start: Moment,
     input: &mut InJob<S, C>,
+    filters: &[Filter],
     outputs: &mut [OutJob<K>],
     journal: &mut JournalJob<K>,
     clock: &mut C,
@@ -191,6 +197,7 @@ fn run_from<S: Source + Drop, K: Sink + Drop, C: Clock + Drop>(
     requires filled { All IsFilledTag input.old.globals }
     requires some { 1 ≤ setup.now.final_tries }
     requires outputs { AreOutputs (length setup.now.outputs) (outs_of K.held K.faults outputs.old) }
+    requires filters { length filters.now ≡ length setup.now.outputs }
     requires first { Gives (C.moments clock.old) 0 (C.place clock.old) start }
     requires input_first { C.place input.old.clock ≡ 0 }
     requires about { journal.old.setup ≡ journal_setup_of (run_setup (map sizes setup.now.outputs) start) }
@@ -199,7 +206,7 @@ fn run_from<S: Source + Drop, K: Sink + Drop, C: Clock + Drop>(
     requires none_failed { journal.old.failed ≡ false }
     ensures count { length outputs.new ≡ length outputs.old }
     ensures ran { IfOk result
-        (λ ending. Ran (rule_of input.old) setup.now.final_tries (map sizes setup.now.outputs) ending
+        (λ ending. Ran (rule_of input.old) (views_by filters.now) setup.now.final_tries (map sizes setup.now.outputs) ending
         (change (S.left input.old.source) (S.left input.new.source)
         (S.faults input.old.source) (S.faults input.new.source))
         (out_changes (outs_of K.held K.faults outputs.old) (outs_of K.held K.faults outputs.new))
@@ -209,14 +216,14 @@ fn run_from<S: Source + Drop, K: Sink + Drop, C: Clock + Drop>(
 {
     let mut run = new_run(alloc, setup.outputs.as_slice(), start)?;
     begin_anew(outputs);
-    let state = rounds(&mut run, input, outputs, journal)?;
+    let state = rounds(&mut run, input, filters, outputs, journal)?;
     let moment = clock.now();
-    finish(&mut run, outputs, moment, setup.final_tries)?;
+    finish(&mut run, filters, outputs, moment, setup.final_tries)?;
     let ending = end_journal(&mut run, outputs.len() as u32, journal, state)?;
     Ok(ending)
 }
 
-/// Runs one input and any number of line protocol outputs from the start, and gives back the
+/// Runs one input and any number of line protocol outputs, each with its filter, from the start, and gives back the
 /// part to which the journal goes: rounds, each of which puts the entries that it made, and the end. The
 /// start is the first moment of `clock`, the stop a later one; `input_clock` gives the moments of the
 /// gathers.
@@ -226,6 +233,7 @@ pub fn run<S: Source + Drop, K: Sink + Drop, C: Clock + Drop>(
     alloc: Global,
     setup: &RunSetup,
     input: &mut InJob<S, C>,
+    filters: &[Filter],
     outputs: &mut [OutJob<K>],
     journal: K,
     clock: &mut C,
@@ -237,10 +245,11 @@ pub fn run<S: Source + Drop, K: Sink + Drop, C: Clock + Drop>(
     requires filled { All IsFilledTag input.old.globals }
     requires some { 1 ≤ setup.now.final_tries }
     requires outputs { AreOutputs (length setup.now.outputs) (outs_of K.held K.faults outputs.old) }
+    requires filters { length filters.now ≡ length setup.now.outputs }
     requires first { C.place clock.old ≡ 0 }
     requires input_first { C.place input.old.clock ≡ 0 }
     ensures ran { IfOk result.1
-        (λ ending. Ran (rule_of input.old) setup.now.final_tries (map sizes setup.now.outputs) ending
+        (λ ending. Ran (rule_of input.old) (views_by filters.now) setup.now.final_tries (map sizes setup.now.outputs) ending
         (change (S.left input.old.source) (S.left input.new.source)
         (S.faults input.old.source) (S.faults input.new.source))
         (out_changes (outs_of K.held K.faults outputs.old) (outs_of K.held K.faults outputs.new))
@@ -254,7 +263,9 @@ pub fn run<S: Source + Drop, K: Sink + Drop, C: Clock + Drop>(
         Err(fault) => return (journal, Err(fault)),
     };
     let mut job = JournalJob::new(alloc, about, journal);
-    let ran = run_from(alloc, setup, start, input, outputs, &mut job, clock);
+    let ran = run_from(
+        alloc, setup, start, input, filters, outputs, &mut job, clock,
+    );
     (job.sink, ran)
 }
 
@@ -282,11 +293,13 @@ pub fn run_one<S: Source + Drop, K: Sink + Drop, C: Clock + Drop>(
     alloc: Global,
     setup: &RunSetup,
     input: &mut InJob<S, C>,
+    filters: &[Filter],
     sink: K,
     journal: K,
     clock: &mut C,
 ) -> (K, K, Result<Ending, OutOfMemory>)
     requires one { length setup.now.outputs ≡ 1 }
+    requires filters { length filters.now ≡ length setup.now.outputs }
     requires sizes { All (λ x. (1 ≤ x.batch) × (x.batch ≤ x.limit)) setup.now.outputs }
     requires number { input.old.input ≡ 0 }
     requires some_pieces { 1 ≤ input.old.gather_pieces }
@@ -295,7 +308,7 @@ pub fn run_one<S: Source + Drop, K: Sink + Drop, C: Clock + Drop>(
     requires first { C.place clock.old ≡ 0 }
     requires input_first { C.place input.old.clock ≡ 0 }
     ensures ran { IfOk result.2
-        (λ ending. Ran (rule_of input.old) setup.now.final_tries (map sizes setup.now.outputs) ending
+        (λ ending. Ran (rule_of input.old) (views_by filters.now) setup.now.final_tries (map sizes setup.now.outputs) ending
         (change (S.left input.old.source) (S.left input.new.source)
         (S.faults input.old.source) (S.faults input.new.source))
         (change (K.held sink) (K.held result.0) (K.faults sink) (K.faults result.0) ∷ [])
@@ -306,7 +319,7 @@ pub fn run_one<S: Source + Drop, K: Sink + Drop, C: Clock + Drop>(
         Ok(outputs) => outputs,
         Err(sink) => return (sink, journal, Err(OutOfMemory)),
     };
-    let (journal, ran) = run(alloc, setup, input, &mut outputs, journal, clock);
+    let (journal, ran) = run(alloc, setup, input, filters, &mut outputs, journal, clock);
     let job = outputs.swap_remove(0);
     (job.sink, journal, ran)
 }

@@ -2,7 +2,10 @@ use Rattle.std.proofs.Common.{◌∙◌, List, [], ◌∷◌, ap, refl, arith}
 use Rattle.agent_workers.specs.Run.{change}
 use Rattle.agent_run.specs.Headline.{pipe_rule, report_change}
 use Rattle.agent_run.proofs.HeadlineLemmas.{ends_as, taken_in, report_is, reported_ends}
-use Rattle.agent_workers.proofs.RanLemmas.{ran_of, ran_ruled, ran_sized}
+use Rattle.agent_workers.proofs.RanLemmas.{ran_of, ran_ruled, ran_sized, ran_viewed}
+use Rattle.agent_workers.specs.Reader.{plain_view}
+use Rattle.metric_filter.specs.Filter.{filtered}
+use Rattle.metric_filter.specs.declared.rules.FilterRules.{FilterRules}
 use Rattle.std.specs.Prelude.{map}
 use Rattle.pipeline_core.specs.CoreState.{sizes}
 use Rattle.pipeline_core.specs.declared.setup.OutSetup.{OutSetup}
@@ -63,7 +66,7 @@ returns-in-Ok-clause-ends g c =
     (report_is (g.W.World.rest c.give_out-2.new.self) (g.W.World.rest old) (g.W.World.rest last) (g.W.World.rest last)
     (c.give_out-2.ensures.rest ∙ c.give_out.ensures.rest ∙ c.give_in.ensures.rest ∙ c.clock-input_clock.ensures.rest ∙ c.clock-clock.ensures.rest) refl)
     c.clock-clock.ensures.told (ap (λ clock. g.W.Clk.Clock.moments clock) c.plain_input-input.ensures.clock ∙ c.clock-input_clock.ensures.told ∙ c.clock-clock.ensures.others 3 (λ e. absurd (omega (arith, e))))
-    (reported_ends c.args.pipe.now.batch c.args.pipe.now.limit _ _ _ _ _ _ c.in-Ok.ending c.report_account.result (ran_of pipe_rule 3 ((c.args.pipe.now.batch, c.args.pipe.now.limit) ∷ []) _ c.in-Ok.ending _ _ _ _ _ c.in-Ok.is (ran_sized pipe_rule 3 _ _ _ _ _ _ _ _ (ap (λ (xs : List OutSetup). map sizes xs) c.of_one.ensures) (ran_ruled _ pipe_rule 3 _ _ _ _ _ _ _ c.plain_input-input.ensures.rule c.run_one-sink.ensures.ran))) c.report_account.ensures.answer)
+    (reported_ends c.args.pipe.now.batch c.args.pipe.now.limit _ _ _ _ _ _ c.in-Ok.ending c.report_account.result (ran_of pipe_rule plain_view 3 ((c.args.pipe.now.batch, c.args.pipe.now.limit) ∷ []) _ c.in-Ok.ending _ _ _ _ _ c.in-Ok.is (ran_sized pipe_rule plain_view 3 _ _ _ _ _ _ _ _ (ap (λ (xs : List OutSetup). map sizes xs) c.of_one.ensures) (ran_ruled _ pipe_rule plain_view 3 _ _ _ _ _ _ _ c.plain_input-input.ensures.rule (ran_viewed _ _ plain_view 3 _ _ _ _ _ _ _ (ap (λ (f : FilterRules). filtered f ∷ []) c.without_rules.ensures) c.run_one-sink.ensures.ran)))) c.report_account.ensures.answer)
 
 pub returns-in-Ok-clause-ins_opened : goal.returns-in-Ok-clause-ins_opened
 returns-in-Ok-clause-ins_opened g c =

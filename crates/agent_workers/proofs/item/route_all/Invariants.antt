@@ -1,6 +1,7 @@
 use Rattle.agent_workers.specs.Progress.{GoesOn}
+use Rattle.agent_workers.specs.Reader.{views_by}
 use Rattle.agent_workers.specs.Running.{IsReady, IsRoutable, HasJournal}
 use Rattle.agent_workers.proofs.item.route_all.Given as goal
 
 abbrev pub invariant-loop-taken : goal.invariant-loop-taken
-invariant-loop-taken l = record { ready : IsReady l.run.core; kept : IsRoutable l.fn.run.core l.run.core; stands : HasJournal l.run.core; goes : GoesOn l.fn.run l.run }
+invariant-loop-taken l = record { ready : IsReady l.run.core; kept : IsRoutable l.fn.run.core l.run.core; stands : HasJournal l.run.core; goes : GoesOn (views_by l.filters) l.fn.run l.run }

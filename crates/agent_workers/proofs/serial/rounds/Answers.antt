@@ -4,7 +4,7 @@ use Rattle.pipeline_core.specs.CoreState.{CoreState}
 use Rattle.agent_workers.specs.Noted.{part_of}
 use Rattle.agent_workers.specs.Output.{outs_of, AreOutputs}
 use Rattle.agent_workers.proofs.OutLemmas.{outputs_still}
-use Rattle.agent_workers.specs.Reader.{InRule, rule_of}
+use Rattle.agent_workers.specs.Reader.{InRule, rule_of, views_by}
 use Rattle.agent_workers.specs.Progress.{RunsOn, ReadsOn}
 use Rattle.agent_workers.specs.Running.{IsReading}
 use Rattle.agent_workers.specs.declared.input.InState.{InState}
@@ -21,7 +21,7 @@ pub returns-then-ne-clause-runs : goal.returns-then-ne-clause-runs
 returns-then-ne-clause-runs g c =
     let reads = subst (λ (n : ℕ). ReadsOn n (rule_of c.args.input.now) c.loop-round.run c.gather.new.run c.in_ok-state.state (g.S.Source.left c.loop-round.input.source) (g.S.Source.left c.gather.new.job.source) (g.S.Source.faults c.loop-round.input.source) (g.S.Source.faults c.gather.new.job.source) (g.C.Clock.moments c.loop-round.input.clock) (g.C.Clock.place c.loop-round.input.clock) (g.C.Clock.place c.gather.new.job.clock)) c.loop-round.invariant.number
     (subst (λ (r : InRule). ReadsOn c.loop-round.input.input r c.loop-round.run c.gather.new.run c.in_ok-state.state (g.S.Source.left c.loop-round.input.source) (g.S.Source.left c.gather.new.job.source) (g.S.Source.faults c.loop-round.input.source) (g.S.Source.faults c.gather.new.job.source) (g.C.Clock.moments c.loop-round.input.clock) (g.C.Clock.place c.loop-round.input.clock) (g.C.Clock.place c.gather.new.job.clock)) c.loop-round.invariant.rule c.in_ok-state.ensures.reads) in
-    runs_more c.args.input.now.input (rule_of c.args.input.now) c.args.run.now c.loop-round.run c.gather.new.run c.route_all.new.run c.send_each.new.run c.note.new.run c.in_ok-state.state
+    runs_more (views_by c.args.filters.now) c.args.input.now.input (rule_of c.args.input.now) c.args.run.now c.loop-round.run c.gather.new.run c.route_all.new.run c.send_each.new.run c.note.new.run c.in_ok-state.state
     (g.S.Source.left c.args.input.now.source) (g.S.Source.left c.loop-round.input.source) (g.S.Source.left c.gather.new.job.source) (g.S.Source.faults c.args.input.now.source) (g.S.Source.faults c.loop-round.input.source) (g.S.Source.faults c.gather.new.job.source)
     (g.C.Clock.moments c.args.input.now.clock) (g.C.Clock.moments c.loop-round.input.clock) (g.C.Clock.place c.args.input.now.clock) (g.C.Clock.place c.loop-round.input.clock) (g.C.Clock.place c.gather.new.job.clock)
     (outs_of g.K.Sink.held g.K.Sink.faults c.args.outputs.now) (outs_of g.K.Sink.held g.K.Sink.faults c.loop-round.outputs) (outs_of g.K.Sink.held g.K.Sink.faults c.begin_anew.new.outputs) (outs_of g.K.Sink.held g.K.Sink.faults c.send_each.new.outputs)
@@ -51,11 +51,11 @@ loop-round-preserved g c =
       count = c.send_each.ensures.count ∙ c.begin_anew.ensures.count ∙ c.loop-round.invariant.count;
       list = c.gather.ensures.list ∙ c.loop-round.invariant.list;
       runs = subst
-          (λ (state : InState). RunsOn c.args.input.now.input (rule_of c.args.input.now) c.args.run.now c.note.new.run state (g.S.Source.left c.args.input.now.source) (g.S.Source.left c.gather.new.job.source) (g.S.Source.faults c.args.input.now.source) (g.S.Source.faults c.gather.new.job.source)
+          (λ (state : InState). RunsOn (views_by c.args.filters.now) c.args.input.now.input (rule_of c.args.input.now) c.args.run.now c.note.new.run state (g.S.Source.left c.args.input.now.source) (g.S.Source.left c.gather.new.job.source) (g.S.Source.faults c.args.input.now.source) (g.S.Source.faults c.gather.new.job.source)
           (g.C.Clock.moments c.args.input.now.clock) (g.C.Clock.place c.args.input.now.clock) (g.C.Clock.place c.gather.new.job.clock) (outs_of g.K.Sink.held g.K.Sink.faults c.args.outputs.now) (outs_of g.K.Sink.held g.K.Sink.faults c.send_each.new.outputs)
           (part_of g.K.Sink.held g.K.Sink.faults c.args.journal.now) (part_of g.K.Sink.held g.K.Sink.faults c.note.new.journal))
           same
-          (runs_more c.args.input.now.input (rule_of c.args.input.now) c.args.run.now c.loop-round.run c.gather.new.run c.route_all.new.run c.send_each.new.run c.note.new.run c.in_ok-state.state
+          (runs_more (views_by c.args.filters.now) c.args.input.now.input (rule_of c.args.input.now) c.args.run.now c.loop-round.run c.gather.new.run c.route_all.new.run c.send_each.new.run c.note.new.run c.in_ok-state.state
           (g.S.Source.left c.args.input.now.source) (g.S.Source.left c.loop-round.input.source) (g.S.Source.left c.gather.new.job.source) (g.S.Source.faults c.args.input.now.source) (g.S.Source.faults c.loop-round.input.source) (g.S.Source.faults c.gather.new.job.source)
           (g.C.Clock.moments c.args.input.now.clock) (g.C.Clock.moments c.loop-round.input.clock) (g.C.Clock.place c.args.input.now.clock) (g.C.Clock.place c.loop-round.input.clock) (g.C.Clock.place c.gather.new.job.clock)
           (outs_of g.K.Sink.held g.K.Sink.faults c.args.outputs.now) (outs_of g.K.Sink.held g.K.Sink.faults c.loop-round.outputs) (outs_of g.K.Sink.held g.K.Sink.faults c.begin_anew.new.outputs) (outs_of g.K.Sink.held g.K.Sink.faults c.send_each.new.outputs)

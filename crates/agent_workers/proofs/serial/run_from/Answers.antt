@@ -15,7 +15,7 @@ use Rattle.account.specs.Setup.{Setup}
 use Rattle.pipeline_core.specs.declared.setup.OutSetup.{OutSetup}
 use Rattle.agent_workers.specs.Noted.{JournalPart, part_of}
 use Rattle.agent_workers.specs.PipeSetup.{run_setup, journal_setup_of}
-use Rattle.agent_workers.specs.Reader.{rule_of}
+use Rattle.agent_workers.specs.Reader.{rule_of, views_by}
 use Rattle.agent_workers.specs.Progress.{Beginning, Surroundings, Progress}
 use Rattle.agent_workers.proofs.FinishSteps.{went_first, first_surroundings, ran}
 use Rattle.agent_workers.proofs.NotedLemmas.{notes_none}
@@ -45,7 +45,7 @@ returns-clause-ran g c =
     let moments = g.C.Clock.moments c.args.input.now.clock in
     let run = c.in_ok-run.run' in
     let last = c.finish.new.run in
-    let begun : Beginning = record { setup = run_setup pairs start; input = c.args.input.now.input; rule = rule; bytes = text; read_faults = read_faults; outs = outs; noted = noted; note_faults = note_faults; moments = moments } in
+    let begun : Beginning = record { setup = run_setup pairs start; input = c.args.input.now.input; views = views_by c.args.filters.now; rule = rule; bytes = text; read_faults = read_faults; outs = outs; noted = noted; note_faults = note_faults; moments = moments } in
     let part : JournalPart = part_of g.K.Sink.held g.K.Sink.faults c.args.journal.now in
     let count : length outs ≡ length pairs = c.requires.outputs.count_is ∙ sym (length-map c.args.setup.now.outputs sizes) in
     let first = went_first begun run.core run.pieces fresh part c.in_ok-run.ensures.stands (c.in_ok-run.ensures.setup ∙ ap (λ (xs : List OutSetup). run_setup (map sizes xs) (to_z w64 (of_z w64 start))) c.as_slice.ensures ∙ ap (run_setup pairs) same_start) c.in_ok-run.ensures.stored
@@ -67,7 +67,7 @@ returns-clause-ran g c =
     let whole = journal_text (journal_setup_of (run_setup pairs start)) (finished.text.written ++ last.core.stored) (account_text last.core.numbers) in
     let put_so : IsPutSo ending.journal_failed put whole = subst (λ (failed : Bool). IsPutSo failed put whole) (sym c.in_ok-ending.ensures.failed)
     (c.in_ok-ending.ensures.ends (journal_setup_of (run_setup pairs start)) noted note_faults finished.text.written finished.text.notes (stored_in_order (record begun { input = 0 }) last.core (part_of g.K.Sink.held g.K.Sink.faults c.rounds.new.journal) finished.journal finished.text)) in
-    ran rule tries pairs start moment text read_faults outs noted note_faults moments (g.C.Clock.moments c.args.clock.now) (g.C.Clock.place c.args.clock.now) (g.C.Clock.place c.now-moment.new.self)
+    ran rule (views_by c.args.filters.now) tries pairs start moment text read_faults outs noted note_faults moments (g.C.Clock.moments c.args.clock.now) (g.C.Clock.place c.args.clock.now) (g.C.Clock.place c.now-moment.new.self)
     last.core last.pieces now finished c.requires.first (rw same_moment c.now-moment.ensures.gives)
     c.in_ok-finish.ensures.stopped c.in_ok-finish.ensures.none_raw c.in_ok-finish.ensures.ready.empty_handed count c.in_ok-finish.ensures.rest c.in_ok-state.ensures.read
     ending put c.in_ok-ending.ensures.state c.in_ok-ending.ensures.left c.in_ok-ending.ensures.account put_so

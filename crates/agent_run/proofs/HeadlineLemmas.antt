@@ -17,6 +17,7 @@ use Rattle.agent_workers.specs.Reader.{plain_rule}
 use Rattle.pipeline_core.specs.Legal.{has_ended}
 use Rattle.agent_run.specs.Headline.{gather_pieces, pipe_input, final_tries, IsReportFault, Ends, status_of, place_change, report_change, NothingRose}
 use Rattle.agent_workers.specs.PipeSetup.{pipe_setup}
+use Rattle.agent_workers.specs.Reader.{plain_view}
 use Rattle.agent_run.specs.Places.{IsRefused}
 use Rattle.agent_workers.specs.declared.input.InState.{InState}
 use Rattle.agent_workers.specs.declared.input.InState.TheVariants as states

@@ -221,14 +221,13 @@ went_route start core mid next now outputs metric fresh first taken takes routed
     let shape : IsRouteEntry (as_it_is outputs core.taken metric) (route_entry mid (as_it_is outputs core.taken metric)) = entries-have-shape.routes mid (as_it_is outputs core.taken metric) in
     let verdict : Verdict = shape.0 in
     let reports : List Report = shape.1 in
-    let views : List (Option Content) = replicate outputs (Some metric) in
-    let e : Entry = Route core.taken (Some metric) verdict [] views reports in
+    let e : Entry = Route core.taken (Some metric) verdict [] (views_of views metric) reports in
     let at : slice_get (items w.journal) core.taken ≡ Some metric = first_raw core w.journal metric w.text.stands first in
     let there : slice_get (items (w.journal ++ Take core.taken ∷ [])) core.taken ≡ Some metric = item_stays w.journal (Take core.taken) core.taken metric at in
     record {
       journal = (w.journal ++ Take core.taken ∷ []) ++ e ∷ [];
-      text = text-push start mid next now.journal (w.journal ++ Take core.taken ∷ []) e
-          (text-push start core mid now.journal w.journal (Take core.taken) w.text takes (ap (λ (s : CoreState). s.stored) taken) (ap (λ (s : CoreState). s.setup) taken))
+      text = text-push s mid next now.journal (w.journal ++ Take core.taken ∷ []) e
+          (text-push s core mid now.journal w.journal (Take core.taken) w.text takes (ap (λ (s : CoreState). s.stored) taken) (ap (λ (s : CoreState). s.setup) taken))
           (subst (Continues mid next) shape.2 routes) (ap (λ (s : CoreState). s.stored) routed ∙ ap (λ (x : Entry). mid.stored ++ x ∷ []) shape.2) (ap (λ (s : CoreState). s.setup) routed);
       in_count = w.in_count;
       heard = all_heard_push start.ins now.ins (w.journal ++ Take core.taken ∷ []) e (λ k. record { none = refl; other = refl }) (all_heard_push start.ins now.ins w.journal (Take core.taken) (λ k. record { none = refl; other = refl }) w.heard);

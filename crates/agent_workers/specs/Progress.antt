@@ -2,6 +2,7 @@
 use Rattle.std.specs.Prelude.{◌≡◌, ◌<◌, ◌≤◌, ◌⊎◌, ◌+◌, ◌^◌, ℕ, ℤ, Bool, true, List, [], ◌++◌, map, length}
 use Rattle.std.specs.Prelude.{IfSome, slice_set}
 use Rattle.std.specs.declared.option.Option.{Option}
+use Rattle.metric.specs.declared.metric.Content.{Content}
 use Rattle.account.specs.Setup.{Setup}
 use Rattle.account.specs.Says.{GatherSays}
 use Rattle.account.specs.Origins.{raw_of}

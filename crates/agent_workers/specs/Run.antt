@@ -7,6 +7,7 @@ use Rattle.std.specs.Io.KnownBytes.{Appends}
 use Rattle.account.specs.AccountText.{account_text}
 use Rattle.account.specs.Items.{raw_items, in_hand}
 use Rattle.account.specs.Numbers.{output_numbers}
+use Rattle.metric.specs.declared.metric.Content.{Content}
 use Rattle.account.specs.Setup.{Setup}
 use Rattle.account.specs.declared.entry.Entry.{Entry}
 use Rattle.agent_base.specs.Clocked.{Clocked, Counted}
@@ -142,8 +143,8 @@ pub record IsRun (tries : ℕ) (setup : Setup) (ins : List InRun) (outputs : Lis
   -- each output was sent its batches
   pub sent_to : (output : ℕ) → output < length setup.outputs →
       IsSentTo tries setup journal output (change_at outputs output)
-  -- each item was routed as it is
-  pub worked : Worked journal
+  -- each item was routed by the outputs' filters
+  pub worked : Worked views journal
   -- gathering was stopped, and no item is raw or in hand
   pub stopped : has_stop journal ≡ true
   pub none_raw : raw_items journal ≡ []

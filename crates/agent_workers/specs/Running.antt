@@ -1,13 +1,15 @@
 -- What a core keeps between the steps of a run.
 use Rattle.std.specs.Prelude.{◌≡◌, ◌≢◌, ◌<◌, ◌≤◌, ◌+◌, ◌-◌, ◌^◌, ◌⊎◌, ℕ, min, Bool, List, [], true}
 use Rattle.std.specs.Prelude.{false}
-use Rattle.std.specs.Prelude.{length, slice_get, replicate, Result, Ok, Err, ⊤}
+use Rattle.std.specs.Prelude.{length, slice_get, Result, Ok, Err, ⊤}
+use Rattle.std.specs.declared.option.Option.{Option}
 use Rattle.std.specs.declared.option.Option.TheVariants.{Some, None}
 use Rattle.account.specs.Numbers.{output_numbers}
 use Rattle.account.specs.declared.entry.Entry.{Entry}
 use Rattle.out_lane.specs.Lane.{LaneState}
 use Rattle.pipeline_core.specs.CoreState.{CoreState, lane_at}
 use Rattle.pipeline_core.specs.Stands.{Stands}
+use Rattle.pipeline_core.specs.Worked.{views_of}
 use Rattle.pipeline_core.specs.declared.output.Offer.{Offer}
 use Rattle.metric.specs.declared.metric.Content.{Content}
 use Rattle.pipeline_core.specs.declared.routing.Routed.{Routed}

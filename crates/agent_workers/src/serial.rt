@@ -200,6 +200,7 @@ fn run_from<S: Source + Drop, K: Sink + Drop, C: Clock + Drop>(
     requires inputs { AreFresh (ins_of S.left S.faults C.moments C.place inputs.old) }
     requires some { 1 ≤ setup.now.final_tries }
     requires outputs { AreOutputs (length setup.now.outputs) (outs_of K.held K.faults outputs.old) }
+    requires filters { length filters.now ≡ length setup.now.outputs }
     requires first { Gives (C.moments clock.old) 0 (C.place clock.old) start }
     requires about { journal.old.setup
         ≡ journal_setup_of (run_setup (length inputs.old) (map sizes setup.now.outputs) start) }
@@ -255,6 +256,7 @@ pub fn run<S: Source + Drop, K: Sink + Drop, C: Clock + Drop>(
     requires inputs { AreFresh (ins_of S.left S.faults C.moments C.place inputs.old) }
     requires some { 1 ≤ setup.now.final_tries }
     requires outputs { AreOutputs (length setup.now.outputs) (outs_of K.held K.faults outputs.old) }
+    requires filters { length filters.now ≡ length setup.now.outputs }
     requires first { C.place clock.old ≡ 0 }
     ensures ran { IfOk result.1
         (λ ending. Ran setup.now.final_tries (length inputs.old) (map sizes setup.now.outputs) ending
@@ -354,6 +356,7 @@ pub fn run_one<S: Source + Drop, K: Sink + Drop, C: Clock + Drop>(
     clock: &mut C,
 ) -> (S, K, K, Result<Ending, OutOfMemory>)
     requires one { length setup.now.outputs ≡ 1 }
+    requires filters { length filters.now ≡ length setup.now.outputs }
     requires sizes { All (λ x. (1 ≤ x.batch) × (x.batch ≤ x.limit)) setup.now.outputs }
     requires some_pieces { 1 ≤ gather_pieces }
     requires some { 1 ≤ setup.now.final_tries }

@@ -28,6 +28,7 @@ returns-clause-gathered g c = c.in_ok-send_rest.ensures.kept.gathered ∙ c.in_o
 
 pub returns-clause-goes : goal.returns-clause-goes
 returns-clause-goes g c = λ start now w.
+    let s : Beginning = record start { views = views_by c.args.filters.now } in
     let outs : List OutPart = outs_of g.K.Sink.held g.K.Sink.faults c.args.outputs.now in
     let fresh : List OutPart = outs_of g.K.Sink.held g.K.Sink.faults c.begin_anew.new.outputs in
     let zero : AreAnew fresh = subst AreAnew (sym c.begin_anew.ensures.fresh) (are_anew outs) in

@@ -143,7 +143,7 @@ abbrev pub IsLeftOver : Bool → CoreState → Type 0
 IsLeftOver false core = (output : ℕ) → output < length core.setup.outputs → buffered_at core output ≡ 0
 IsLeftOver true core = (output : ℕ) × (output < length core.setup.outputs) × (buffered_at core output ≢ 0)
 
--- an item is routed with itself as its whole and as its only view, at so many outputs
-abbrev pub as_it_is : ℕ → ℕ → Content → Routed
-as_it_is outputs item metric = record
-    { item = item; whole = Some metric; aggs = []; outs = replicate outputs (Some metric) }
+-- an item is routed with itself as its whole, and with what each output's filter gives for it
+abbrev pub routed_by : List (Content → Option Content) → ℕ → Content → Routed
+routed_by views item metric = record
+    { item = item; whole = Some metric; aggs = []; outs = views_of views metric }

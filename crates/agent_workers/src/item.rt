@@ -58,20 +58,20 @@ fn route(alloc: Global, core: &mut Core, item: Item, filters: &[Filter]) -> Resu
 }
 
 /// Takes the next raw item and routes it, and says whether there was one.
-fn route_next(alloc: Global, core: &mut Core, outputs: usize) -> Result<bool, OutOfMemory>
+fn route_next(alloc: Global, core: &mut Core, filters: &[Filter]) -> Result<bool, OutOfMemory>
     requires ready { IsReady core.old }
-    requires outputs { outputs ≡ length core.old.setup.outputs }
+    requires outputs { length filters.now ≡ length core.old.setup.outputs }
     requires stands { HasJournal core.old }
     ensures ready { OnOk result (IsReady core.new) }
     ensures kept { OnOk result (IsRoutable core.old core.new) }
     ensures none { result ≡ Ok false → core.new.raw ≡ [] }
     ensures fewer { result ≡ Ok true → length core.new.raw + 1 ≡ length core.old.raw }
     ensures stands { StillStands result core.new }
-    ensures goes { OnOk result (GoesOn core.old core.new) }
+    ensures goes { OnOk result (GoesOn (views_by filters.now) core.old core.new) }
 {
     match core.take() {
         Ok(item) => {
-            route(alloc, core, item, outputs)?;
+            route(alloc, core, item, filters)?;
             Ok(true)
         }
         Err(TakeAnswer::OutOfMemory) => Err(OutOfMemory),
@@ -80,19 +80,19 @@ fn route_next(alloc: Global, core: &mut Core, outputs: usize) -> Result<bool, Ou
     }
 }
 
-/// Routes all raw items, each to all of so many outputs.
-pub fn route_all(alloc: Global, core: &mut Core, outputs: usize) -> Result<(), OutOfMemory>
+/// Routes all raw items, each with what each output's filter gives for it.
+pub fn route_all(alloc: Global, core: &mut Core, filters: &[Filter]) -> Result<(), OutOfMemory>
     requires ready { IsReady core.old }
-    requires outputs { outputs ≡ length core.old.setup.outputs }
+    requires outputs { length filters.now ≡ length core.old.setup.outputs }
     requires stands { HasJournal core.old }
     ensures ready { OnOk result (IsReady core.new) }
     ensures kept { OnOk result (IsRoutable core.old core.new) }
     ensures none { OnOk result (core.new.raw ≡ []) }
     ensures stands { StillStands result core.new }
-    ensures goes { OnOk result (GoesOn core.old core.new) }
+    ensures goes { OnOk result (GoesOn (views_by filters.now) core.old core.new) }
 {
     for _taken in 0..u64::MAX {
-        if !route_next(alloc, core, outputs)? {
+        if !route_next(alloc, core, filters)? {
             return Ok(());
         }
     }

@@ -6,7 +6,8 @@ use Rattle.pipeline_core.specs.Stands.{Continues}
 use Rattle.pipeline_core.specs.Steps.{after_stop, stop_entry}
 use Rattle.std.specs.Int.{int_max}
 use Rattle.agent_base.specs.Clocked.{last_of}
-use Rattle.agent_workers.specs.Progress.{Surroundings}
+use Rattle.agent_workers.specs.Progress.{Beginning, Surroundings}
+use Rattle.agent_workers.specs.Reader.{views_by}
 use Rattle.agent_workers.proofs.ProgressLemmas.{went_stop, went_anew}
 use Rattle.agent_workers.proofs.OutLemmas.{are_anew, outputs_still}
 use Rattle.account.specs.Setup.{Setup}
@@ -37,7 +38,7 @@ returns-clause-goes g c = λ start now w.
     let same : to_z w64 (of_z w64 c.args.moment) ≡ c.args.moment = to_z-of_z w64 c.args.moment c.ranges.moment in
     let after_stopped = subst (λ (m : ℤ). c.stop.new.self ≡ after_stop c.args.core.now m) same c.in_ok-stop.ensures.ok in
     let stands = subst (λ (m : ℤ). Continues c.args.core.now c.stop.new.self (stop_entry c.args.core.now m)) same c.in_ok-stop.ensures.stands in
-    let begun = went_anew start c.args.core.now now outs fresh c.begin_anew.ensures.fresh w in
-    let a = went_stop start c.args.core.now c.stop.new.self here c.args.moment zero after_stopped stands begun in
+    let begun = went_anew s c.args.core.now now outs fresh c.begin_anew.ensures.fresh w in
+    let a = went_stop s c.args.core.now c.stop.new.self here c.args.moment zero after_stopped stands begun in
     let b = c.in_ok-route_all.ensures.goes start (record stopped { outs = fresh }) zero a in
-    c.in_ok-send_rest.ensures.sends start stopped b
+    c.in_ok-send_rest.ensures.sends s stopped b

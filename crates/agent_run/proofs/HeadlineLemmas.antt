@@ -13,7 +13,7 @@ use Rattle.pipeline_core.specs.Stopped.{behind_stop}
 use Rattle.agent_workers.specs.Run.{Change, change, run_at, IsCutShort, IsRun, RunsFull, SomeIsFull, EndsSo, IsPutSo, IsLeft, Ran, buffered_at_end, account_of, text_of}
 use Rattle.agent_workers.specs.Input.{IsFull}
 use Rattle.agent_workers.specs.Inputs.{IsOneOf}
-use Rattle.agent_workers.specs.Reader.{plain_rule}
+use Rattle.agent_workers.specs.Reader.{plain_rule, plain_view}
 use Rattle.pipeline_core.specs.Legal.{has_ended}
 use Rattle.agent_run.specs.Headline.{gather_pieces, pipe_input, final_tries, IsReportFault, Ends, status_of, place_change, report_change, NothingRose}
 use Rattle.agent_workers.specs.PipeSetup.{pipe_setup}
@@ -27,7 +27,7 @@ use Rattle.pipeline_core.proofs.StopLemmas.{behind_fewer}
 use Rattle.agent_workers.proofs.RanLemmas.{change_is}
 
 module _ (batch limit : ℕ) (input output noted reported : Change) (run_moments input_moments : Option Moments) where
-  module _ (start : ℤ) (journal : List Entry) (run : IsRun final_tries (pipe_setup batch limit start) (pipe_input input input_moments ∷ []) (output ∷ []) run_moments journal) where
+  module _ (start : ℤ) (journal : List Entry) (run : IsRun plain_view final_tries (pipe_setup batch limit start) (pipe_input input input_moments ∷ []) (output ∷ []) run_moments journal) where
     report_fault : (journal_failed failed : Bool) → (journal_failed ≡ true) ⊎ (failed ≡ true) → IsPutSo journal_failed noted (text_of (pipe_setup batch limit start) journal) → IsPutSo failed reported (account_of (pipe_setup batch limit start) journal) → run.taken 0 < 2 ^ 40
         → IsReportFault batch limit input output noted reported run_moments input_moments
     report_fault journal_failed failed either put report few = record {
@@ -94,12 +94,12 @@ module _ (batch limit : ℕ) (input output noted reported : Change) (run_moments
         record { headline = record { start = start; journal = journal; run = run; noted = put; reported = report }; few = h.0; ended = h.1; none_left = l 0 (omega arith) }
 
   -- a run that was reported
-  pub ran_ends : (ending : Ending) (failed : Bool) → Ran final_tries 1 ((batch, limit) ∷ []) ending (pipe_input input input_moments ∷ []) (output ∷ []) noted run_moments → IsPutSo failed reported ending.account.items
+  pub ran_ends : (ending : Ending) (failed : Bool) → Ran plain_view final_tries 1 ((batch, limit) ∷ []) ending (pipe_input input input_moments ∷ []) (output ∷ []) noted run_moments → IsPutSo failed reported ending.account.items
       → Ends batch limit input output noted reported run_moments input_moments (status_of ending.limit ending.read_fault (ending.journal_fault || failed) ending.left)
   ran_ends ending failed r report =
       ends_of r.start r.journal r.run ending.limit ending.read_fault r.state ending.journal_fault failed ending.left r.limit r.read_fault (r.ends 0 (omega arith)) r.left r.noted (subst (IsPutSo failed reported) r.account report)
 
-  pub reported_ends : (ending : Ending) (status : Status) → Ran final_tries 1 ((batch, limit) ∷ []) ending (pipe_input input input_moments ∷ []) (output ∷ []) noted run_moments →
+  pub reported_ends : (ending : Ending) (status : Status) → Ran plain_view final_tries 1 ((batch, limit) ∷ []) ending (pipe_input input input_moments ∷ []) (output ∷ []) noted run_moments →
       (status ≡ statuses.OutOfMemory) ⊎ ((failed : Bool) × (status ≡ status_of ending.limit ending.read_fault (ending.journal_fault || failed) ending.left) × IsPutSo failed reported ending.account.items)
       → Ends batch limit input output noted reported run_moments input_moments status
   reported_ends ending status r (inl short) = rw short tt

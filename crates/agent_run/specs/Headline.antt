@@ -15,7 +15,7 @@ use Rattle.agent_run.specs.Places.{AreOpensSame, RoseToOpen, RoseToUse}
 use Rattle.agent_run.specs.declared.status.Status.{Status}
 use Rattle.agent_run.specs.declared.status.Status.TheVariants as statuses
 use Rattle.agent_workers.specs.PipeSetup.{pipe_setup}
-use Rattle.agent_workers.specs.Reader.{plain_rule}
+use Rattle.agent_workers.specs.Reader.{plain_rule, plain_view}
 use Rattle.agent_workers.specs.Run.{Change, change, InRun, buffered_at_end, account_of, text_of, IsCutShort}
 use Rattle.agent_workers.specs.Run.{IsRun, IsPutSo}
 
@@ -45,7 +45,7 @@ pub record Headline (batch limit : ℕ) (input output note report : Change)
     (run_moments input_moments : Option Moments) : Type 0 where
   pub start : ℤ
   pub journal : List Entry
-  pub run : IsRun final_tries (pipe_setup batch limit start) (pipe_input input input_moments ∷ [])
+  pub run : IsRun plain_view final_tries (pipe_setup batch limit start) (pipe_input input input_moments ∷ [])
       (output ∷ []) run_moments journal
   pub noted : Appends note.before note.after (text_of (pipe_setup batch limit start) journal)
   pub reported : Appends report.before report.after (account_of (pipe_setup batch limit start) journal)
@@ -56,7 +56,7 @@ pub record TornHeadline (batch limit : ℕ) (input output note report : Change)
     (run_moments input_moments : Option Moments) : Type 0 where
   pub start : ℤ
   pub journal : List Entry
-  pub run : IsRun final_tries (pipe_setup batch limit start) (pipe_input input input_moments ∷ [])
+  pub run : IsRun plain_view final_tries (pipe_setup batch limit start) (pipe_input input input_moments ∷ [])
       (output ∷ []) run_moments journal
   pub journal_failed : Bool
   pub report_failed : Bool

@@ -170,10 +170,12 @@ impl Case {
         let mut clock = MemClock::new(alloc, Vec::new(alloc));
         let input_clock = MemClock::new(alloc, Vec::new(alloc));
         let mut inputs = inputs_of(alloc, source, input_clock)?;
+        let filters = [Filter::without_rules(alloc), Filter::without_rules(alloc)];
         let (journal, ran) = run(
             alloc,
             &setup,
             &mut inputs,
+            &filters,
             &mut outputs,
             journal,
             &mut clock,

@@ -8,6 +8,7 @@ use Rattle.std.specs.declared.option.Option.TheVariants.{Some, None}
 use Rattle.account.specs.AccountText.{account_text}
 use Rattle.account.specs.Setup.{Setup}
 use Rattle.account.specs.declared.entry.Entry.{Entry}
+use Rattle.metric.specs.declared.metric.Content.{Content}
 use Rattle.agent_base.specs.Clocked.{Counted}
 use Rattle.agent_base.specs.Moments.{Moments, Gives}
 use Rattle.agent_base.proofs.ClockLemmas.{counted_one_over, counted_wider}
@@ -75,7 +76,7 @@ went_first start core outs part stands setup stored notes front in_count fresh a
   out_count = ap length are ∙ length-map start.outs anew ∙ count;
   said = subst (λ (all : List OutPart). AllSaid start.outs all []) (sym are)
       (λ o l. subst (λ (out : OutPart). Said (out_at start.outs o) out o []) (sym (at_anew start.outs o (omega (arith, l, length-map start.outs anew)))) (said_first (out_at start.outs o) o));
-  worked = worked_first;
+  worked = worked_first start.views;
   order = record { in_order = λ f. in_order_first start.setup; none_raw = λ f k l. raw_of-none k [] none_raw_first };
   counted_at = counted_none;
 }
@@ -155,10 +156,10 @@ limit_by : (limit : Bool) (gathered : ℕ) (ins : List InPart) → IsOneIn state
 limit_by true gathered ins one full = refl
 limit_by false gathered ins none full = absurd (none full.0 full.1 full.2.limit)
 
-module _ (tries count : ℕ) (sizes : List (ℕ × ℕ)) (start moment : ℤ) (starts : List InPart) (outs : List OutPart) (noted : Option (List ℕ)) (note_faults : ℕ) (run_moments : Option Moments) (first last : ℕ) (core : CoreState) (now : Surroundings) where
+module _ (views : List (Content → Option Content)) (tries count : ℕ) (sizes : List (ℕ × ℕ)) (start moment : ℤ) (starts : List InPart) (outs : List OutPart) (noted : Option (List ℕ)) (note_faults : ℕ) (run_moments : Option Moments) (first last : ℕ) (core : CoreState) (now : Surroundings) where
   -- what the run began with
   abbrev pub beginning : Beginning
-  beginning = record { setup = run_setup count sizes start; ins = starts; outs = outs; noted = noted; note_faults = note_faults; front = [] }
+  beginning = record { setup = run_setup count sizes start; views = views; ins = starts; outs = outs; noted = noted; note_faults = note_faults; front = [] }
 
   module _ (w : Progress beginning core (record now { counted_at = int_max moment start ∷ [] })) (gives_first : Gives run_moments 0 first start) (gives_last : Gives run_moments first last moment)
       (stopped : core.stopped ≡ true) (raw : core.raw ≡ []) (none_held : core.held ≡ None) (in_count : length starts ≡ count) (out_count : length outs ≡ length sizes) (rest : AreLeft tries core now.outs)
@@ -228,7 +229,7 @@ module _ (tries count : ℕ) (sizes : List (ℕ × ℕ)) (start moment : ℤ) (s
           unread = unread k l;
         }
 
-    pub is_run : IsRun tries (run_setup count sizes start) (in_runs starts now.ins) (out_changes outs now.outs) run_moments w.journal
+    pub is_run : IsRun views tries (run_setup count sizes start) (in_runs starts now.ins) (out_changes outs now.outs) run_moments w.journal
     is_run = record {
       legal = subst (λ (s : Setup). IsLegal s w.journal) w.text.setup_is w.text.stands.legal;
       taken = λ k. (in_at now.ins k).hand.taken;
@@ -244,7 +245,7 @@ module _ (tries count : ℕ) (sizes : List (ℕ × ℕ)) (start moment : ℤ) (s
     }
 
     pub ran : (ending : Ending) (put : Change) → IsOneIn states.LimitReached now.ins ending.limit → IsOneIn states.Faulted now.ins ending.read_fault → IsLeftOver ending.left core → ending.account.items ≡ account_text core.numbers →
-        IsPutSo ending.journal_fault put (journal_text (journal_setup_of (run_setup count sizes start)) (w.text.written ++ core.stored) (account_text core.numbers)) → Ran tries count sizes ending (in_runs starts now.ins) (out_changes outs now.outs) put run_moments
+        IsPutSo ending.journal_fault put (journal_text (journal_setup_of (run_setup count sizes start)) (w.text.written ++ core.stored) (account_text core.numbers)) → Ran views tries count sizes ending (in_runs starts now.ins) (out_changes outs now.outs) put run_moments
     unfolding is_run
     ran ending put limit fault left account_is noted =
         let totals_are : core.numbers ≡ totals (run_setup count sizes start) w.journal = w.text.stands.numbers ∙ ap (λ (s : Setup). totals s w.journal) w.text.setup_is in
@@ -266,18 +267,19 @@ module _ (tries count : ℕ) (sizes : List (ℕ × ℕ)) (start moment : ℤ) (s
 -- ---- rounds
 
 -- one round more: inputs were gathered, the items were routed, batches were sent, and the entries spelled
-pub runs_more : (first old gathered routed sent new : CoreState) (ins0 ins new_ins : List InPart) (outs0 outs fresh new_outs : List OutPart) (part0 part new_part : JournalPart) → RunsOn first old ins0 ins outs0 outs part0 part → (AreSettled first outs0 → AreSettled old outs) →
-    GathersOn old gathered ins new_ins → fresh ≡ map anew outs → GoesOn gathered routed → routed.raw ≡ [] → SendsOn routed sent fresh new_outs → NotesRun sent new part new_part → RunsOn first new ins0 new_ins outs0 new_outs part0 new_part
-runs_more first old gathered routed sent new ins0 ins new_ins outs0 outs fresh new_outs part0 part new_part runs settles gathers anews routes none sends notes = λ start now settled w.
+pub runs_more : (views : List (Content → Option Content)) (first old gathered routed sent new : CoreState) (ins0 ins new_ins : List InPart) (outs0 outs fresh new_outs : List OutPart) (part0 part new_part : JournalPart) → RunsOn views first old ins0 ins outs0 outs part0 part → (AreSettled first outs0 → AreSettled old outs) →
+    GathersOn old gathered ins new_ins → fresh ≡ map anew outs → GoesOn views gathered routed → routed.raw ≡ [] → SendsOn routed sent fresh new_outs → NotesRun sent new part new_part → RunsOn views first new ins0 new_ins outs0 new_outs part0 new_part
+runs_more views first old gathered routed sent new ins0 ins new_ins outs0 outs fresh new_outs part0 part new_part runs settles gathers anews routes none sends notes = λ start now settled w.
+    let s : Beginning = record start { views = views } in
     let after : Surroundings = record now { ins = new_ins; next = length ins } in
     let last : Surroundings = record now { ins = new_ins; next = 0 } in
     let a = runs start now settled w in
-    let b = gathers start (record now { outs = outs; journal = part }) (λ f. settles (settled f)) a in
-    let c = went_anew start gathered (record after { journal = part }) outs fresh anews b in
+    let b = gathers s (record now { outs = outs; journal = part }) (λ f. settles (settled f)) a in
+    let c = went_anew s gathered (record after { journal = part }) outs fresh anews b in
     let d = routes start (record after { outs = fresh; journal = part }) (subst AreAnew (sym anews) (are_anew outs)) c in
-    let n = went_next start routed (record after { outs = fresh; journal = part }) 0 none d in
-    let e = sends start (record last { journal = part }) n in
-    notes start (record last { outs = new_outs }) e
+    let n = went_next s routed (record after { outs = fresh; journal = part }) 0 none d in
+    let e = sends s (record last { journal = part }) n in
+    notes s (record last { outs = new_outs }) e
 
 -- the outputs are settled still, once the entries were spelled
 pub settled_still : (sent new : CoreState) (outs : List OutPart) → new ≡ after_cut sent → AreSettled sent outs → AreSettled new outs

@@ -122,7 +122,7 @@ went_accepted start core next now ins part g b at own few is more settled w =
           (λ k ne h. heard_push (in_at start.ins k) (in_at ins k) k w.journal e (gather_other g number reports k (λ q. ne (q ∙ own))) h) w.heard;
       out_count = w.out_count;
       said = all_said_push start.outs now.outs w.journal e (λ o. record { ends = tt; none = refl; quiet = refl }) refl w.said;
-      worked = worked-push w.journal e tt w.worked;
+      worked = worked-push start.views w.journal e tt w.worked;
       order = order-push start core i (i + 1) w.journal e w.text.stands (omega arith)
           (λ f. drained start core (record now { ins = ins; next = i }) w g.input (omega (arith, own)) f (settled f))
           (λ k l. none_of_other k g.input (length g.metrics) number (λ (q : g.input ≡ k). absurd (omega (arith, l, q, own)))) w.order;
@@ -153,7 +153,7 @@ went_ended start core next now ins part b at some is more none w =
           (λ k ne h. heard_push (in_at start.ins k) (in_at ins k) k w.journal e (ended_other i k ne) h) w.heard;
       out_count = w.out_count;
       said = all_said_push start.outs now.outs w.journal e (λ o. record { ends = tt; none = refl; quiet = refl }) refl w.said;
-      worked = worked-push w.journal e tt w.worked;
+      worked = worked-push start.views w.journal e tt w.worked;
       order = order-push start core now.next now.next w.journal e w.text.stands (omega arith) (λ f. tt) (λ k l. refl) w.order;
       counted_at = counted_moments-same w.journal e refl ∙ w.counted_at;
     }

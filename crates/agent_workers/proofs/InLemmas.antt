@@ -21,6 +21,7 @@ use Rattle.agent_workers.specs.Reader.{InRule, plain_rule}
 use Rattle.agent_workers.specs.Run.{Change, change, InRun, in_run, in_runs, out_changes, Ran}
 use Rattle.agent_workers.proofs.RanLemmas.{change_is}
 use Rattle.metric.specs.Metric.{IsFilledTag}
+use Rattle.metric.specs.declared.metric.Content.{Content}
 use Rattle.agent_workers.specs.Output.{OutPart, AreOutputs, out_at, out_of, outs_of}
 use Rattle.agent_workers.specs.declared.output.OutJob.{OutJob}
 use Rattle.agent_workers.specs.Progress.{Progress, GathersAt, GathersTo}
@@ -321,13 +322,13 @@ outs_of_one {K} held faults olds (x ∷ []) old last e long v =
 outs_of_one held faults olds (x ∷ y ∷ news) old last e long v = absurd (omega (arith, long))
 
 -- what was left, of one input and one output
-pub ran_one : (tries count : ℕ) (sizes : List (ℕ × ℕ)) (r : Result Ending OutOfMemory) (firsts lasts : List InPart) (ins : List InRun) (outs others : List Change) (noted : Change) (run_moments : Option Moments) → count ≡ 1 → outs ≡ others → (AreSameInputs firsts lasts → in_runs firsts lasts ≡ ins) → OnOk r (AreSameInputs firsts lasts)
-    → IfOk r (λ ending. Ran tries count sizes ending (in_runs firsts lasts) outs noted run_moments) → IfOk r (λ ending. Ran tries 1 sizes ending ins others noted run_moments)
-ran_one tries count sizes (Ok ending) firsts lasts ins outs others noted run_moments one same is k h =
-    subst (λ (n : ℕ). Ran tries n sizes ending ins others noted run_moments) one
-    (subst (λ (x : List Change). Ran tries count sizes ending ins x noted run_moments) same
-    (subst (λ (x : List InRun). Ran tries count sizes ending x outs noted run_moments) (is k) h))
-ran_one tries count sizes (Err fault) firsts lasts ins outs others noted run_moments one same is k h = tt
+pub ran_one : (views : List (Content → Option Content)) (tries count : ℕ) (sizes : List (ℕ × ℕ)) (r : Result Ending OutOfMemory) (firsts lasts : List InPart) (ins : List InRun) (outs others : List Change) (noted : Change) (run_moments : Option Moments) → count ≡ 1 → outs ≡ others → (AreSameInputs firsts lasts → in_runs firsts lasts ≡ ins) → OnOk r (AreSameInputs firsts lasts)
+    → IfOk r (λ ending. Ran views tries count sizes ending (in_runs firsts lasts) outs noted run_moments) → IfOk r (λ ending. Ran views tries 1 sizes ending ins others noted run_moments)
+ran_one views tries count sizes (Ok ending) firsts lasts ins outs others noted run_moments one same is k h =
+    subst (λ (n : ℕ). Ran views tries n sizes ending ins others noted run_moments) one
+    (subst (λ (x : List Change). Ran views tries count sizes ending ins x noted run_moments) same
+    (subst (λ (x : List InRun). Ran views tries count sizes ending x outs noted run_moments) (is k) h))
+ran_one views tries count sizes (Err fault) firsts lasts ins outs others noted run_moments one same is k h = tt
 
 pub none_held : (held : Option Gathered) → is_some held ≡ false → held ≡ None
 none_held None e = refl

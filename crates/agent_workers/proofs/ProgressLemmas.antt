@@ -30,6 +30,7 @@ use Rattle.account.specs.Dones.{dones_by, dones}
 use Rattle.pipeline_core.specs.Stopped.{behind_stop}
 use Rattle.agent_workers.specs.Noted.{JournalPart, Notes, NotesOn}
 use Rattle.pipeline_core.specs.Order.{EndsFailed, IsOrderly}
+use Rattle.pipeline_core.specs.Worked.{views_of}
 use Rattle.agent_workers.specs.PipeSetup.{journal_setup_of}
 use Rattle.account.specs.Routes.{RouteOnInOrder}
 use Rattle.agent_workers.specs.Inputs.{InPart, in_at, no_in}
@@ -37,7 +38,7 @@ use Rattle.agent_workers.specs.Progress.{Beginning, Surroundings, HasText, Heard
 use Rattle.agent_workers.specs.Output.{OutPart, out_at, anew, AreAnew}
 use Rattle.pipeline_core.specs.Totals.{totals}
 use Rattle.agent_workers.specs.Run.{buffered_at_end}
-use Rattle.agent_workers.specs.Running.{as_it_is, buffered_at}
+use Rattle.agent_workers.specs.Running.{routed_by, buffered_at}
 use Rattle.agent_workers.proofs.OutLemmas.{each_set, at_anew}
 use Rattle.agent_workers.proofs.HeardLemmas.{IsNotOf, heard_push}
 use Rattle.std.proofs.lemmas.List.{length-map}
@@ -203,42 +204,34 @@ went_take start core next now is more w =
       heard = all_heard_push start.ins now.ins w.journal e (λ k. record { none = refl; other = refl }) w.heard;
       out_count = w.out_count;
       said = all_said_push start.outs now.outs w.journal e (λ o. record { ends = tt; none = refl; quiet = refl }) refl w.said;
-      worked = worked-push w.journal e tt w.worked;
+      worked = worked-push start.views w.journal e tt w.worked;
       order = order-push start core now.next now.next w.journal e w.text.stands (omega arith) (λ f. tt) (λ k b. refl) w.order;
       counted_at = counted_moments-same w.journal e refl ∙ w.counted_at;
     }
 
--- each of so many views is the same
-all_same : (n : ℕ) (metric : Content) → AllByRecursion (λ (view : Option Content). view ≡ Some metric) (replicate n (Some metric))
-all_same zero metric = tt
-all_same (suc n) metric = (refl, all_same n metric)
-
--- the first raw item was taken and routed as it is
-pub went_route : (start : Beginning) (core mid next : CoreState) (now : Surroundings) (outputs : ℕ) (metric : Content) → AreAnew now.outs → slice_get core.raw 0 ≡ Some metric →
-    mid ≡ after_take core → Continues core mid (Take core.taken) → next ≡ after_route mid (as_it_is outputs core.taken metric) → Continues mid next (route_entry mid (as_it_is outputs core.taken metric)) → Progress start core now → Progress start next now
-went_route start core mid next now outputs metric fresh first taken takes routed routes w =
-    let v : Progress start mid now = went_take start core mid now taken takes w in
-    let shape : IsRouteEntry (as_it_is outputs core.taken metric) (route_entry mid (as_it_is outputs core.taken metric)) = entries-have-shape.routes mid (as_it_is outputs core.taken metric) in
+-- the first raw item was taken and routed
+pub went_route : (start : Beginning) (core mid next : CoreState) (now : Surroundings) (views : List (Content → Option Content)) (metric : Content) → AreAnew now.outs → slice_get core.raw 0 ≡ Some metric → mid ≡ after_take core → Continues core mid (Take core.taken) → next ≡ after_route mid (routed_by views core.taken metric) →
+    Continues mid next (route_entry mid (routed_by views core.taken metric)) → Progress (record start { views = views }) core now → Progress (record start { views = views }) next now
+went_route start core mid next now views metric fresh first taken takes routed routes w =
+    let s : Beginning = record start { views = views } in
+    let shape : IsRouteEntry (routed_by views core.taken metric) (route_entry mid (routed_by views core.taken metric)) = entries-have-shape.routes mid (routed_by views core.taken metric) in
     let verdict : Verdict = shape.0 in
     let reports : List Report = shape.1 in
-    let views : List (Option Content) = replicate outputs (Some metric) in
-    let e : Entry = Route core.taken (Some metric) verdict [] views reports in
+    let t : Entry = Take core.taken in
+    let e : Entry = Route core.taken (Some metric) verdict [] (views_of views metric) reports in
     let at : slice_get (items w.journal) core.taken ≡ Some metric = first_raw core w.journal metric w.text.stands first in
-    let there : slice_get (items (w.journal ++ Take core.taken ∷ [])) core.taken ≡ Some metric = item_stays w.journal (Take core.taken) core.taken metric at in
+    let there : slice_get (items (w.journal ++ t ∷ [])) core.taken ≡ Some metric = item_stays w.journal t core.taken metric at in
     record {
-      journal = (w.journal ++ Take core.taken ∷ []) ++ e ∷ [];
-      text = text-push start mid next now.journal (w.journal ++ Take core.taken ∷ []) e
-          (text-push start core mid now.journal w.journal (Take core.taken) w.text takes (ap (λ (s : CoreState). s.stored) taken) (ap (λ (s : CoreState). s.setup) taken))
-          (subst (Continues mid next) shape.2 routes) (ap (λ (s : CoreState). s.stored) routed ∙ ap (λ (x : Entry). mid.stored ++ x ∷ []) shape.2) (ap (λ (s : CoreState). s.setup) routed);
+      journal = (w.journal ++ t ∷ []) ++ e ∷ [];
+      text = text-push s mid next now.journal (w.journal ++ t ∷ []) e (text-push s core mid now.journal w.journal t w.text takes (ap (λ (x : CoreState). x.stored) taken) (ap (λ (x : CoreState). x.setup) taken)) (subst (Continues mid next) shape.2 routes)
+          (ap (λ (x : CoreState). x.stored) routed ∙ ap (λ (x : Entry). mid.stored ++ x ∷ []) shape.2) (ap (λ (x : CoreState). x.setup) routed);
       in_count = w.in_count;
-      heard = all_heard_push start.ins now.ins (w.journal ++ Take core.taken ∷ []) e (λ k. record { none = refl; other = refl }) (all_heard_push start.ins now.ins w.journal (Take core.taken) (λ k. record { none = refl; other = refl }) w.heard);
+      heard = all_heard_push start.ins now.ins (w.journal ++ t ∷ []) e (λ k. record { none = refl; other = refl }) (all_heard_push start.ins now.ins w.journal t (λ k. record { none = refl; other = refl }) w.heard);
       out_count = w.out_count;
-      said = all_said_anew start.outs now.outs (w.journal ++ Take core.taken ∷ []) e fresh (λ o. tt) (λ o. refl)
-          (all_said_push start.outs now.outs w.journal (Take core.taken) (λ o. record { ends = tt; none = refl; quiet = refl }) refl w.said);
-      worked = worked_route (w.journal ++ Take core.taken ∷ []) core.taken metric verdict [] views reports there (all_same outputs metric) (worked-push w.journal (Take core.taken) tt w.worked);
-      order = order-push start mid now.next now.next (w.journal ++ Take core.taken ∷ []) e (takes w.journal w.text.stands) (omega arith) (λ f. tt) (λ k b. refl)
-          (order-push start core now.next now.next w.journal (Take core.taken) w.text.stands (omega arith) (λ f. tt) (λ k b. refl) w.order);
-      counted_at = counted_moments-same (w.journal ++ Take core.taken ∷ []) e refl ∙ counted_moments-same w.journal (Take core.taken) refl ∙ w.counted_at;
+      said = all_said_anew start.outs now.outs (w.journal ++ t ∷ []) e fresh (λ o. tt) (λ o. refl) (all_said_push start.outs now.outs w.journal t (λ o. record { ends = tt; none = refl; quiet = refl }) refl w.said);
+      worked = worked_route views (w.journal ++ t ∷ []) core.taken metric verdict [] reports there (worked-push views w.journal t tt w.worked);
+      order = order-push s mid now.next now.next (w.journal ++ t ∷ []) e (takes w.journal w.text.stands) (omega arith) (λ f. tt) (λ k b. refl) (order-push s core now.next now.next w.journal t w.text.stands (omega arith) (λ f. tt) (λ k b. refl) w.order);
+      counted_at = counted_moments-same (w.journal ++ t ∷ []) e refl ∙ counted_moments-same w.journal t refl ∙ w.counted_at;
     }
 
 -- the stored entries were noted
@@ -275,14 +268,14 @@ went_stop start core next now moment fresh is more w =
       heard = all_heard_push start.ins now.ins w.journal e (λ k. record { none = refl; other = refl }) w.heard;
       out_count = w.out_count;
       said = all_said_anew start.outs now.outs w.journal e fresh (λ o. tt) (λ o. refl) w.said;
-      worked = worked-push w.journal e tt w.worked;
+      worked = worked-push start.views w.journal e tt w.worked;
       order = order-push start core now.next now.next w.journal e w.text.stands (omega arith) (λ f. tt) (λ k b. none_of_made k (length shape.0)) w.order;
       counted_at = counted_moments-push w.journal e ∙ ap (λ (ms : List ℤ). ms ++ int_max moment core.counted ∷ []) w.counted_at ∙ ap (λ (m : ℤ). now.counted_at ++ int_max moment m ∷ []) counted;
     }
 
 -- the same of an item with the number of the first raw one
-pub went_item : (start : Beginning) (core mid next : CoreState) (now : Surroundings) (outputs number : ℕ) (metric : Content) → AreAnew now.outs → number ≡ core.taken → slice_get core.raw 0 ≡ Some metric →
-    mid ≡ after_take core → Continues core mid (Take core.taken) → next ≡ after_route mid (as_it_is outputs number metric) → Continues mid next (route_entry mid (as_it_is outputs number metric)) → Progress start core now → Progress start next now
-went_item start core mid next now outputs number metric fresh is first taken takes routed routes w =
-    went_route start core mid next now outputs metric fresh first taken takes
-    (subst (λ (n : ℕ). next ≡ after_route mid (as_it_is outputs n metric)) is routed) (subst (λ (n : ℕ). Continues mid next (route_entry mid (as_it_is outputs n metric))) is routes) w
+pub went_item : (start : Beginning) (core mid next : CoreState) (now : Surroundings) (views : List (Content → Option Content)) (number : ℕ) (metric : Content) → AreAnew now.outs → number ≡ core.taken → slice_get core.raw 0 ≡ Some metric → mid ≡ after_take core → Continues core mid (Take core.taken) →
+    next ≡ after_route mid (routed_by views number metric) → Continues mid next (route_entry mid (routed_by views number metric)) → Progress (record start { views = views }) core now → Progress (record start { views = views }) next now
+went_item start core mid next now views number metric fresh is first taken takes routed routes w =
+    went_route start core mid next now views metric fresh first taken takes
+    (subst (λ (n : ℕ). next ≡ after_route mid (routed_by views n metric)) is routed) (subst (λ (n : ℕ). Continues mid next (route_entry mid (routed_by views n metric))) is routes) w

@@ -2,6 +2,7 @@
 use Rattle.std.specs.Prelude.{◌≡◌, ◌<◌, ◌≤◌, ◌⊎◌, ◌+◌, ◌^◌, ℕ, ℤ, Bool, true, List, [], ◌++◌, map, length}
 use Rattle.std.specs.Prelude.{IfSome, slice_set}
 use Rattle.std.specs.declared.option.Option.{Option}
+use Rattle.metric.specs.declared.metric.Content.{Content}
 use Rattle.account.specs.Setup.{Setup}
 use Rattle.account.specs.Says.{GatherSays}
 use Rattle.account.specs.Origins.{raw_of}
@@ -32,10 +33,11 @@ use Rattle.agent_workers.specs.Output.{AppendsSo, batch_text, OutPart, out_at, A
 use Rattle.agent_workers.specs.Running.{AreSettled}
 use Rattle.pipeline_core.specs.Worked.{Worked}
 
--- what a run began with: its set-up, its inputs, its outputs, and the bytes held by the journal's place and its
+-- what a run began with: its set-up, what its outputs' filters give, its inputs, its outputs, and the bytes held by the journal's place and its
 -- count of failed puts, when these were new; and the journal that the run continues
 pub record Beginning : Type 0 where
   pub setup : Setup
+  pub views : List (Content → Option Content)
   pub ins : List InPart
   pub outs : List OutPart
   pub noted : Option (List ℕ)
@@ -141,14 +143,14 @@ pub record Progress (start : Beginning) (core : CoreState) (now : Surroundings) 
   pub heard : AllHeard start.ins now.ins journal
   pub out_count : length now.outs ≡ length start.setup.outputs
   pub said : AllSaid start.outs now.outs journal
-  pub worked : Worked journal
+  pub worked : Worked start.views journal
   pub order : HasOrder start now.next journal
   pub counted_at : counted_moments journal ≡ now.counted_at
 
--- a step that changes nothing around the run, while no batch failed
-abbrev pub GoesOn : CoreState → CoreState → Type 0
-GoesOn old new = (start : Beginning) (now : Surroundings) → AreAnew now.outs → Progress start old now
-    → Progress start new now
+-- a step that changes nothing around the run, while no batch failed, given what the outputs' filters give
+abbrev pub GoesOn : List (Content → Option Content) → CoreState → CoreState → Type 0
+GoesOn views old new = (start : Beginning) (now : Surroundings) → AreAnew now.outs
+    → Progress (record start { views = views }) old now → Progress (record start { views = views }) new now
 
 -- a step that puts to the outputs
 abbrev pub SendsOn : CoreState → CoreState → List OutPart → List OutPart → Type 0
@@ -210,9 +212,10 @@ NotesRun old new part new_part =
     → Progress start new (record now { journal = new_part })
 
 -- rounds: they read the inputs, and put to the outputs and to the journal's place
-abbrev pub RunsOn : CoreState → CoreState → List InPart → List InPart → List OutPart → List OutPart
-    → JournalPart → JournalPart → Type 0
-RunsOn old new ins new_ins outs new_outs part new_part =
+abbrev pub RunsOn : List (Content → Option Content) → CoreState → CoreState → List InPart → List InPart
+    → List OutPart → List OutPart → JournalPart → JournalPart → Type 0
+RunsOn views old new ins new_ins outs new_outs part new_part =
     (start : Beginning) (now : Surroundings) → SettlesFirst start old outs
-    → Progress start old (record now { ins = ins; next = 0; outs = outs; journal = part })
-    → Progress start new (record now { ins = new_ins; next = 0; outs = new_outs; journal = new_part })
+    → Progress (record start { views = views }) old
+    (record now { ins = ins; next = 0; outs = outs; journal = part })
+    → Progress (record start { views = views }) new (record now { ins = new_ins; next = 0; outs = new_outs; journal = new_part })

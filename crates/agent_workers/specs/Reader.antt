@@ -1,5 +1,5 @@
 -- How the pieces of an input are read, and what is kept of them.
-use Rattle.std.specs.Prelude.{ℕ, ℤ, min, Bool, true, false, List, [], ◌∷◌, Result, Ok, Err, count_by}
+use Rattle.std.specs.Prelude.{ℕ, ℤ, min, Bool, true, false, List, [], ◌∷◌, Result, Ok, Err, count_by, map}
 use Rattle.std.specs.List.{filter_map}
 use Rattle.std.specs.declared.option.Option.{Option}
 use Rattle.std.specs.declared.option.Option.TheVariants.{Some, None}
@@ -114,3 +114,11 @@ passed_over rule moment piece = passed_of (says rule moment piece)
 -- a count that stands still at 4,294,967,295
 abbrev pub capped : ℕ → ℕ
 capped n = min n 4294967295
+
+-- what the filters of outputs give
+abbrev pub views_by : List FilterRules → List (Content → Option Content)
+views_by filters = map filtered filters
+
+-- one output to which each metric goes as it is
+abbrev pub plain_view : List (Content → Option Content)
+plain_view = (λ metric. Some metric) ∷ []

@@ -7,6 +7,7 @@ use Rattle.std.specs.Io.KnownBytes.{Appends}
 use Rattle.account.specs.AccountText.{account_text}
 use Rattle.account.specs.Items.{raw_items, in_hand}
 use Rattle.account.specs.Numbers.{output_numbers}
+use Rattle.metric.specs.declared.metric.Content.{Content}
 use Rattle.account.specs.Setup.{Setup}
 use Rattle.account.specs.declared.entry.Entry.{Entry}
 use Rattle.agent_base.specs.Clocked.{Clocked, Counted}
@@ -130,9 +131,10 @@ pub record IsSentTo (tries : ℕ) (setup : Setup) (journal : List Entry) (output
   pub left : buffered_at_end setup journal output ≢ 0
       → LastFailed tries (dones output (behind_stop journal))
 
--- A legal journal of a run, given its inputs and outputs, how often in succession a repeat without an accepted
+-- A legal journal of a run, given its inputs and outputs, what the outputs' filters give, how often in succession a repeat without an accepted
 -- batch is tried at the end, and the moments of the run's clock.
-pub record IsRun (tries : ℕ) (setup : Setup) (ins : List InRun) (outputs : List Change)
+pub record IsRun (views : List (Content → Option Content)) (tries : ℕ) (setup : Setup) (ins : List InRun)
+    (outputs : List Change)
     (run_moments : Option Moments) (journal : List Entry) : Type 0 where
   pub legal : IsLegal setup journal
   -- what each input gave was gathered, so many bytes of it
@@ -142,8 +144,8 @@ pub record IsRun (tries : ℕ) (setup : Setup) (ins : List InRun) (outputs : Lis
   -- each output was sent its batches
   pub sent_to : (output : ℕ) → output < length setup.outputs →
       IsSentTo tries setup journal output (change_at outputs output)
-  -- each item was routed as it is
-  pub worked : Worked journal
+  -- each item was routed by the outputs' filters
+  pub worked : Worked views journal
   -- gathering was stopped, and no item is raw or in hand
   pub stopped : has_stop journal ≡ true
   pub none_raw : raw_items journal ≡ []
@@ -183,11 +185,11 @@ IsLeft true setup journal =
     (output : ℕ) × (output < length setup.outputs) × (buffered_at_end setup journal output ≢ 0)
 
 -- what a run leaves, before its account is reported, given how many inputs it has, and the sizes of its outputs
-pub record Ran (tries count : ℕ) (sizes : List (ℕ × ℕ)) (ending : Ending) (ins : List InRun)
+pub record Ran (views : List (Content → Option Content)) (tries count : ℕ) (sizes : List (ℕ × ℕ)) (ending : Ending) (ins : List InRun)
     (outputs : List Change) (note : Change) (run_moments : Option Moments) : Type 0 where
   pub start : ℤ
   pub journal : List Entry
-  pub run : IsRun tries (run_setup count sizes start) ins outputs run_moments journal
+  pub run : IsRun views tries (run_setup count sizes start) ins outputs run_moments journal
   -- the states of the inputs; a limit was reached, or a read failed, exactly where one of them says so
   pub state : ℕ → InState
   pub ends : (number : ℕ) → number < count →

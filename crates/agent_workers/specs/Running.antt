@@ -1,13 +1,15 @@
 -- What a core keeps between the steps of a run.
 use Rattle.std.specs.Prelude.{◌≡◌, ◌≢◌, ◌<◌, ◌≤◌, ◌+◌, ◌-◌, ◌^◌, ◌⊎◌, ℕ, min, Bool, List, [], true}
 use Rattle.std.specs.Prelude.{false}
-use Rattle.std.specs.Prelude.{length, slice_get, replicate, Result, Ok, Err, ⊤}
+use Rattle.std.specs.Prelude.{length, slice_get, Result, Ok, Err, ⊤}
+use Rattle.std.specs.declared.option.Option.{Option}
 use Rattle.std.specs.declared.option.Option.TheVariants.{Some, None}
 use Rattle.account.specs.Numbers.{output_numbers}
 use Rattle.account.specs.declared.entry.Entry.{Entry}
 use Rattle.out_lane.specs.Lane.{LaneState}
 use Rattle.pipeline_core.specs.CoreState.{CoreState, lane_at}
 use Rattle.pipeline_core.specs.Stands.{Stands}
+use Rattle.pipeline_core.specs.Worked.{views_of}
 use Rattle.pipeline_core.specs.declared.output.Offer.{Offer}
 use Rattle.metric.specs.declared.metric.Content.{Content}
 use Rattle.pipeline_core.specs.declared.routing.Routed.{Routed}
@@ -141,7 +143,7 @@ abbrev pub IsLeftOver : Bool → CoreState → Type 0
 IsLeftOver false core = (output : ℕ) → output < length core.setup.outputs → buffered_at core output ≡ 0
 IsLeftOver true core = (output : ℕ) × (output < length core.setup.outputs) × (buffered_at core output ≢ 0)
 
--- an item is routed with itself as its whole and as its only view, at so many outputs
-abbrev pub as_it_is : ℕ → ℕ → Content → Routed
-as_it_is outputs item metric = record
-    { item = item; whole = Some metric; aggs = []; outs = replicate outputs (Some metric) }
+-- an item is routed with itself as its whole, and with what each output's filter gives for it
+abbrev pub routed_by : List (Content → Option Content) → ℕ → Content → Routed
+routed_by views item metric = record
+    { item = item; whole = Some metric; aggs = []; outs = views_of views metric }

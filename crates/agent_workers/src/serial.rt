@@ -13,7 +13,7 @@ ghost use Rattle.agent_workers.specs.Noted.{part_of, EndsOn};
 ghost use Rattle.agent_workers.specs.Output.{outs_of, AreOutputs};
 ghost use Rattle.agent_workers.specs.PipeSetup.{run_setup, journal_setup_of};
 ghost use Rattle.agent_workers.specs.Progress.{Beginning, Surroundings, Progress, RunsOn};
-ghost use Rattle.agent_workers.specs.Reader.{plain_rule};
+ghost use Rattle.agent_workers.specs.Reader.{plain_rule, plain_view, views_by};
 ghost use Rattle.agent_workers.specs.Running.{IsReady, HasJournal, StillStands, AreLeft, IsLeftOver};
 
 use crate::input::{InJob, InState, are_out, gather_each, has_fault, has_limit};
@@ -59,10 +59,12 @@ fn rounds<S: Source + Drop, K: Sink + Drop, C: Clock + Drop>(
     core: &mut Core,
     text: &mut Vec<u8>,
     inputs: &mut [InJob<S, C>],
+    filters: &[Filter],
     outputs: &mut [OutJob<K>],
     journal: &mut JournalJob<K>,
 ) -> Result<(), OutOfMemory>
     requires ready { IsReady core.old }
+    requires filters { length filters.now ≡ length core.old.setup.outputs }
     requires inputs { AreInputs (length core.old.setup.inputs) core.old.ended (ins_of S.left S.faults C.moments C.place inputs.old) }
     requires outputs { AreOutputs (length core.old.setup.outputs) (outs_of K.held K.faults outputs.old) }
     requires going { core.old.stopped ≡ false }
@@ -77,7 +79,7 @@ fn rounds<S: Source + Drop, K: Sink + Drop, C: Clock + Drop>(
     ensures over { OnOk result
         (OneIsFull core.new.gathered (ins_of S.left S.faults C.moments C.place inputs.new) ⊎ AreOut (ins_of S.left S.faults C.moments C.place inputs.new)) }
     ensures stands { StillStands result core.new }
-    ensures runs { OnOk result (RunsOn core.old core.new (ins_of S.left S.faults C.moments C.place inputs.old)
+    ensures runs { OnOk result (RunsOn (views_by filters.now) core.old core.new (ins_of S.left S.faults C.moments C.place inputs.old)
         (ins_of S.left S.faults C.moments C.place inputs.new)
         (outs_of K.held K.faults outputs.old) (outs_of K.held K.faults outputs.new)
         (part_of K.held K.faults journal.old) (part_of K.held K.faults journal.new)) }
@@ -89,7 +91,7 @@ fn rounds<S: Source + Drop, K: Sink + Drop, C: Clock + Drop>(
     for _round in 0..u64::MAX {
         let full = gather_each(alloc, core, inputs)?;
         begin_anew(outputs);
-        route_all(alloc, core, outputs.len())?;
+        route_all(alloc, core, filters)?;
         send_each(alloc, core, text, outputs)?;
         note(alloc, core, text, journal)?;
         if is_over(full, inputs) {
@@ -111,11 +113,13 @@ fn stop_run<K: Sink + Drop>(
     alloc: Global,
     core: &mut Core,
     text: &mut Vec<u8>,
+    filters: &[Filter],
     outputs: &mut [OutJob<K>],
     moment: Moment,
     final_tries: u32,
 ) -> Result<(), OutOfMemory>
     requires ready { IsReady core.old }
+    requires filters { length filters.now ≡ length core.old.setup.outputs }
     requires outputs { AreOutputs (length core.old.setup.outputs) (outs_of K.held K.faults outputs.old) }
     requires going { core.old.stopped ≡ false }
     requires stands { HasJournal core.old }
@@ -130,9 +134,9 @@ fn stop_run<K: Sink + Drop>(
     ensures stands { StillStands result core.new }
     ensures count { length outputs.new ≡ length outputs.old }
     ensures goes { OnOk result ((start : Beginning) (now : Surroundings)
-        → Progress start core.old
+        → Progress (record start { views = views_by filters.now }) core.old
         (record now { outs = outs_of K.held K.faults outputs.old }) →
-        Progress start core.new
+        Progress (record start { views = views_by filters.now }) core.new
         (record now {
           outs = outs_of K.held K.faults outputs.new;
           counted_at = now.counted_at ++ int_max moment
@@ -141,7 +145,7 @@ fn stop_run<K: Sink + Drop>(
 {
     begin_anew(outputs);
     core.stop(moment)?;
-    route_all(alloc, core, outputs.len())?;
+    route_all(alloc, core, filters)?;
     send_rest(alloc, core, text, outputs, final_tries)?;
     Ok(())
 }
@@ -190,12 +194,14 @@ fn run_from<S: Source + Drop, K: Sink + Drop, C: Clock + Drop>(
     setup: &RunSetup,
     start: Moment,
     inputs: &mut [InJob<S, C>],
+    filters: &[Filter],
     outputs: &mut [OutJob<K>],
     journal: &mut JournalJob<K>,
     clock: &mut C,
 ) -> Result<Ending, OutOfMemory>
     requires few_inputs { length inputs.old ≤ 16 }
     requires few { length setup.now.outputs ≤ 16 }
+    requires filters { length filters.now ≡ length setup.now.outputs }
     requires sizes { All (λ x. (1 ≤ x.batch) × (x.batch ≤ x.limit)) setup.now.outputs }
     requires inputs { AreFresh (ins_of S.left S.faults C.moments C.place inputs.old) }
     requires some { 1 ≤ setup.now.final_tries }
@@ -211,7 +217,7 @@ fn run_from<S: Source + Drop, K: Sink + Drop, C: Clock + Drop>(
     ensures same { OnOk result (AreSameInputs (ins_of S.left S.faults C.moments C.place inputs.old)
         (ins_of S.left S.faults C.moments C.place inputs.new)) }
     ensures ran { IfOk result
-        (λ ending. Ran setup.now.final_tries (length inputs.old) (map sizes setup.now.outputs) ending
+        (λ ending. Ran (views_by filters.now) setup.now.final_tries (length inputs.old) (map sizes setup.now.outputs) ending
         (in_runs (ins_of S.left S.faults C.moments C.place inputs.old)
         (ins_of S.left S.faults C.moments C.place inputs.new))
         (out_changes (outs_of K.held K.faults outputs.old) (outs_of K.held K.faults outputs.new))
@@ -222,16 +228,9 @@ fn run_from<S: Source + Drop, K: Sink + Drop, C: Clock + Drop>(
     let mut core = new_core(alloc, inputs.len(), setup.outputs.as_slice(), start)?;
     let mut text = Vec::new(alloc);
     begin_anew(outputs);
-    rounds(alloc, &mut core, &mut text, inputs, outputs, journal)?;
+    rounds(alloc, &mut core, &mut text, inputs, filters, outputs, journal)?;
     let moment = clock.now();
-    stop_run(
-        alloc,
-        &mut core,
-        &mut text,
-        outputs,
-        moment,
-        setup.final_tries,
-    )?;
+    stop_run(alloc, &mut core, &mut text, filters, outputs, moment, setup.final_tries)?;
     let (account, left) = end_journal(alloc, &mut core, &mut text, outputs.len() as u32, journal)?;
     Ok(Ending {
         account,
@@ -242,7 +241,7 @@ fn run_from<S: Source + Drop, K: Sink + Drop, C: Clock + Drop>(
     })
 }
 
-/// Runs any number of inputs and of line protocol outputs from the start, and gives back the part to which the
+/// Runs any number of inputs and of line protocol outputs, each with its filter, from the start, and gives back the part to which the
 /// journal goes: rounds, each of which puts the entries that it made, and the end. The start is the first
 /// moment of `clock`, the stop a later one; the inputs have clocks of their own, which give the moments of
 /// their gathers.
@@ -252,19 +251,21 @@ pub fn run<S: Source + Drop, K: Sink + Drop, C: Clock + Drop>(
     alloc: Global,
     setup: &RunSetup,
     inputs: &mut [InJob<S, C>],
+    filters: &[Filter],
     outputs: &mut [OutJob<K>],
     journal: K,
     clock: &mut C,
 ) -> (K, Result<Ending, OutOfMemory>)
     requires few_inputs { length inputs.old ≤ 16 }
     requires few { length setup.now.outputs ≤ 16 }
+    requires filters { length filters.now ≡ length setup.now.outputs }
     requires sizes { All (λ x. (1 ≤ x.batch) × (x.batch ≤ x.limit)) setup.now.outputs }
     requires inputs { AreFresh (ins_of S.left S.faults C.moments C.place inputs.old) }
     requires some { 1 ≤ setup.now.final_tries }
     requires outputs { AreOutputs (length setup.now.outputs) (outs_of K.held K.faults outputs.old) }
     requires first { C.place clock.old ≡ 0 }
     ensures ran { IfOk result.1
-        (λ ending. Ran setup.now.final_tries (length inputs.old) (map sizes setup.now.outputs) ending
+        (λ ending. Ran (views_by filters.now) setup.now.final_tries (length inputs.old) (map sizes setup.now.outputs) ending
         (in_runs (ins_of S.left S.faults C.moments C.place inputs.old)
         (ins_of S.left S.faults C.moments C.place inputs.new))
         (out_changes (outs_of K.held K.faults outputs.old) (outs_of K.held K.faults outputs.new))
@@ -281,7 +282,7 @@ pub fn run<S: Source + Drop, K: Sink + Drop, C: Clock + Drop>(
         Err(fault) => return (journal, Err(fault)),
     };
     let mut job = JournalJob::new(alloc, about, journal);
-    let ran = run_from(alloc, setup, start, inputs, outputs, &mut job, clock);
+    let ran = run_from(alloc, setup, start, inputs, filters, outputs, &mut job, clock);
     (job.sink, ran)
 }
 
@@ -349,7 +350,7 @@ fn source_of<S: Drop, C: Drop>(mut jobs: Vec<InJob<S, C>>) -> S
 }
 
 /// Runs one line protocol input and one output from the start, as `run` does, and gives back the source, the
-/// output's sink and the part to which the journal goes. A gather has at most `gather_pieces` pieces.
+/// output's sink and the part to which the journal goes. Each metric goes to the output as it is. A gather has at most `gather_pieces` pieces.
 pub fn run_one<S: Source + Drop, K: Sink + Drop, C: Clock + Drop>(
     alloc: Global,
     setup: &RunSetup,
@@ -367,7 +368,7 @@ pub fn run_one<S: Source + Drop, K: Sink + Drop, C: Clock + Drop>(
     requires first { C.place clock.old ≡ 0 }
     requires input_first { C.place input_clock ≡ 0 }
     ensures ran { IfOk result.3
-        (λ ending. Ran setup.now.final_tries 1 (map sizes setup.now.outputs) ending
+        (λ ending. Ran plain_view setup.now.final_tries 1 (map sizes setup.now.outputs) ending
         (record {
           rule = plain_rule gather_pieces;
           place = change (S.left source) (S.left result.0) (S.faults source) (S.faults result.0);
@@ -385,7 +386,8 @@ pub fn run_one<S: Source + Drop, K: Sink + Drop, C: Clock + Drop>(
         Ok(outputs) => outputs,
         Err(sink) => return (source_of(inputs), sink, journal, Err(OutOfMemory)),
     };
-    let (journal, ran) = run(alloc, setup, &mut inputs, &mut outputs, journal, clock);
+    let filters = [Filter::without_rules(alloc)];
+    let (journal, ran) = run(alloc, setup, &mut inputs, &filters, &mut outputs, journal, clock);
     let source = source_of(inputs);
     let job = outputs.swap_remove(0);
     (source, job.sink, journal, ran)

@@ -1,6 +1,7 @@
 use Rattle.std.proofs.Common.{◌≡◌, false, length}
 use Rattle.agent_workers.specs.Noted.{part_of}
 use Rattle.agent_workers.specs.Inputs.{ins_of, AreInputs, AreSameInputs}
+use Rattle.agent_workers.specs.Reader.{views_by}
 use Rattle.agent_workers.specs.Output.{outs_of, AreOutputs}
 use Rattle.agent_workers.specs.Progress.{RunsOn}
 use Rattle.agent_workers.specs.Running.{IsReady, HasJournal, AreSettled}
@@ -18,5 +19,5 @@ invariant-loop-round g l = record {
   in_count : length l.inputs ≡ length l.fn.inputs;
   count : length l.outputs ≡ length l.fn.outputs;
   same : AreSameInputs (ins_of g.S.Source.left g.S.Source.faults g.C.Clock.moments g.C.Clock.place l.fn.inputs) (ins_of g.S.Source.left g.S.Source.faults g.C.Clock.moments g.C.Clock.place l.inputs);
-  runs : RunsOn l.fn.core l.core (ins_of g.S.Source.left g.S.Source.faults g.C.Clock.moments g.C.Clock.place l.fn.inputs) (ins_of g.S.Source.left g.S.Source.faults g.C.Clock.moments g.C.Clock.place l.inputs) (outs_of g.K.Sink.held g.K.Sink.faults l.fn.outputs) (outs_of g.K.Sink.held g.K.Sink.faults l.outputs) (part_of g.K.Sink.held g.K.Sink.faults l.fn.journal) (part_of g.K.Sink.held g.K.Sink.faults l.journal);
+  runs : RunsOn (views_by l.filters) l.fn.core l.core (ins_of g.S.Source.left g.S.Source.faults g.C.Clock.moments g.C.Clock.place l.fn.inputs) (ins_of g.S.Source.left g.S.Source.faults g.C.Clock.moments g.C.Clock.place l.inputs) (outs_of g.K.Sink.held g.K.Sink.faults l.fn.outputs) (outs_of g.K.Sink.held g.K.Sink.faults l.outputs) (part_of g.K.Sink.held g.K.Sink.faults l.fn.journal) (part_of g.K.Sink.held g.K.Sink.faults l.journal);
 }

@@ -18,6 +18,7 @@ use Rattle.agent_workers.specs.PipeSetup.{run_setup, journal_setup_of}
 use Rattle.agent_workers.specs.Progress.{Beginning, Surroundings}
 use Rattle.agent_workers.proofs.FinishSteps.{went_first, first_surroundings, none_buffered, ran}
 use Rattle.agent_workers.proofs.InLemmas.{fit_first}
+use Rattle.agent_workers.specs.Reader.{views_by}
 use Rattle.agent_workers.proofs.NotedLemmas.{notes_none}
 use Rattle.agent_workers.proofs.ProgressLemmas.{stored_in_order}
 use Rattle.agent_workers.proofs.serial.run_from.Goals as goal
@@ -52,7 +53,7 @@ returns-clause-ran g c =
     let note_faults = g.K.Sink.faults c.args.journal.now.sink in
     let core = c.in_ok-core.core in
     let last = c.stop_run.new.core in
-    let begun : Beginning = record { setup = run_setup n pairs start; ins = ins; outs = outs; noted = noted; note_faults = note_faults; front = [] } in
+    let begun : Beginning = record { setup = run_setup n pairs start; views = views_by c.args.filters.now; ins = ins; outs = outs; noted = noted; note_faults = note_faults; front = [] } in
     let part : JournalPart = part_of g.K.Sink.held g.K.Sink.faults c.args.journal.now in
     let in_count : length ins ≡ n = length-map c.args.inputs.now (in_of g.S.Source.left g.S.Source.faults g.C.Clock.moments g.C.Clock.place) in
     let out_count : length outs ≡ length pairs = c.requires.outputs.count_is ∙ sym (length-map c.args.setup.now.outputs sizes) in
@@ -77,7 +78,7 @@ returns-clause-ran g c =
       | inl full ↦ inl (subst (λ (k : ℕ). OneIsFull k last_ins) (sym c.in_ok-stop_run.ensures.gathered) full)
       | inr out ↦ inr out
     ] in
-    ran tries n pairs start moment ins outs noted note_faults (g.C.Clock.moments c.args.clock.now) (g.C.Clock.place c.args.clock.now) (g.C.Clock.place c.now-moment.new.self)
+    ran (views_by c.args.filters.now) tries n pairs start moment ins outs noted note_faults (g.C.Clock.moments c.args.clock.now) (g.C.Clock.place c.args.clock.now) (g.C.Clock.place c.now-moment.new.self)
     last now finished c.requires.first (rw same_moment c.now-moment.ensures.gives)
     c.in_ok-stop_run.ensures.stopped c.in_ok-stop_run.ensures.none_raw c.in_ok-stop_run.ensures.ready.empty_handed in_count out_count c.in_ok-stop_run.ensures.rest
     c.rounds.new.core.ended (subst (λ (k : ℕ). AreInputs k c.rounds.new.core.ended last_ins) number fit) over

@@ -5,6 +5,10 @@ use Rattle.agent_workers.specs.Inputs.{AreFresh, IsOneInput, ins_of}
 use Rattle.agent_workers.specs.Output.{AreOutputs, outs_of}
 use Rattle.agent_workers.specs.declared.input.InJob.{InJob}
 use Rattle.agent_workers.specs.declared.output.OutJob.{OutJob}
+use Rattle.agent_workers.specs.Reader.{plain_view}
+use Rattle.metric_filter.specs.Filter.{filtered}
+use Rattle.metric_filter.specs.declared.rules.FilterRules.{FilterRules}
+use Rattle.agent_workers.proofs.RanLemmas.{ran_viewed}
 use Rattle.agent_workers.proofs.InLemmas.{fresh_one, one_output, outs_of_one, run_of_one, ran_one, wrote_one}
 use Rattle.agent_workers.proofs.serial.run_one.Goals as goal
 
@@ -38,8 +42,8 @@ returns g c =
     let last_source = λ (job : InJob g.row.S.Denot g.row.C.Denot) (e : news ≡ job ∷ []). c.source_of-source.ensures job (wrote_one c.in-Ok.inputs.len news c.in-Ok.inputs.items in_len in_count ∙ e) in
     let last_sink = c.swap_remove-job.ensures.value ∙ ap (λ (jobs : List (OutJob g.row.K.Denot)). get_or jobs 0 c.swap_remove-job.result) (wrote_one c.in-Ok-one_job.outputs.len lasts c.in-Ok-one_job.outputs.items out_len out_count) in
     record {
-      ran = ran_one c.args.setup.now.final_tries (length olds) (map sizes c.args.setup.now.outputs) c.run-journal.result.1 (ins_of left faults moments place olds) (ins_of left faults moments place news) _ _ _ _ _ count
+      ran = ran_viewed _ plain_view c.args.setup.now.final_tries 1 (map sizes c.args.setup.now.outputs) c.run-journal.result.1 _ _ _ _ (ap (λ (f : FilterRules). filtered f ∷ []) c.without_rules.ensures) (ran_one _ c.args.setup.now.final_tries (length olds) (map sizes c.args.setup.now.outputs) c.run-journal.result.1 (ins_of left faults moments place olds) (ins_of left faults moments place news) _ _ _ _ _ count
           (outs_of_one g.K.Sink.held g.K.Sink.faults firsts lasts _ c.swap_remove-job.result firsts_are out_count last_sink)
           (run_of_one left faults moments place c.args.gather_pieces c.args.source c.source_of-source.result c.args.input_clock olds news one_input in_count last_source)
-          c.run-journal.ensures.same c.run-journal.ensures.ran;
+          c.run-journal.ensures.same c.run-journal.ensures.ran);
     }

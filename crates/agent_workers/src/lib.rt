@@ -6,6 +6,7 @@ mod input;
 mod item;
 mod journal;
 mod output;
+mod reading;
 mod serial;
 mod setup;
 

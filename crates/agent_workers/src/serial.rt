@@ -6,8 +6,10 @@ ghost use Rattle.account.specs.AccountText.{account_text};
 ghost use Rattle.agent_base.specs.Clocked.{last_of};
 ghost use Rattle.agent_base.specs.Moments.{Gives};
 ghost use Rattle.pipeline_core.specs.CoreState.{sizes};
+ghost use Rattle.pipeline_core.specs.Steps.{after_cut};
 ghost use Rattle.agent_workers.specs.Inputs.{ins_of, AreInputs, AreSameInputs, AreOut, AreFresh, OneIsFull};
 ghost use Rattle.agent_workers.specs.Inputs.{IsOneInput};
+ghost use Rattle.agent_workers.specs.Finished.{FinishesSo};
 ghost use Rattle.agent_workers.specs.Run.{Ran, change, in_runs, out_changes};
 ghost use Rattle.agent_workers.specs.Noted.{part_of, EndsOn};
 ghost use Rattle.agent_workers.specs.Output.{outs_of, AreOutputs};
@@ -176,6 +178,7 @@ fn end_journal<K: Sink + Drop>(
     requires stands { HasJournal core.old }
     ensures left { IfOk result (λ end. IsLeftOver end.1 core.old) }
     ensures account { IfOk result (λ end. end.0.items ≡ account_text core.old.numbers) }
+    ensures cut { OnOk result (core.new ≡ after_cut core.old) }
     ensures ends { OnOk result
         (EndsOn core.old.stored (account_text core.old.numbers) (part_of K.held K.faults journal.old)
         (part_of K.held K.faults journal.new)) }
@@ -188,7 +191,52 @@ fn end_journal<K: Sink + Drop>(
     Ok((account, left))
 }
 
-/// Runs from the start: rounds, the end, and the end of the journal.
+/// Comes to the end of a run: rounds, the stop at the timer's moment, and the end of the journal.
+fn finish_jobs<S: Source + Drop, K: Sink + Drop, C: Clock + Drop>(
+    alloc: Global,
+    core: &mut Core,
+    text: &mut Vec<u8>,
+    inputs: &mut [InJob<S, C>],
+    timer: &mut C,
+    filters: &[Filter],
+    outputs: &mut [OutJob<K>],
+    journal: &mut JournalJob<K>,
+    final_tries: u32,
+) -> Result<Ending, OutOfMemory>
+    requires few { length core.old.setup.outputs ≤ 16 }
+    requires ready { IsReady core.old }
+    requires filters { length filters.now ≡ length core.old.setup.outputs }
+    requires inputs { AreInputs (length core.old.setup.inputs) core.old.ended (ins_of S.left S.faults C.moments C.place inputs.old) }
+    requires outputs { AreOutputs (length core.old.setup.outputs) (outs_of K.held K.faults outputs.old) }
+    requires going { core.old.stopped ≡ false }
+    requires stands { HasJournal core.old }
+    requires some { 1 ≤ final_tries }
+    ensures in_count { length inputs.new ≡ length inputs.old }
+    ensures count { length outputs.new ≡ length outputs.old }
+    ensures same { OnOk result (AreSameInputs (ins_of S.left S.faults C.moments C.place inputs.old)
+        (ins_of S.left S.faults C.moments C.place inputs.new)) }
+    ensures finished { IfOk result
+        (λ ending. FinishesSo (views_by filters.now) final_tries ending core.old core.new
+        (ins_of S.left S.faults C.moments C.place inputs.old)
+        (ins_of S.left S.faults C.moments C.place inputs.new)
+        (outs_of K.held K.faults outputs.old) (outs_of K.held K.faults outputs.new)
+        (part_of K.held K.faults journal.old) (part_of K.held K.faults journal.new)
+        (record { moments = C.moments timer.old; before = C.place timer.old; after = C.place timer.new })) }
+{
+    rounds(alloc, core, text, inputs, filters, outputs, journal)?;
+    let moment = timer.now();
+    stop_run(alloc, core, text, filters, outputs, moment, final_tries)?;
+    let (account, left) = end_journal(alloc, core, text, outputs.len() as u32, journal)?;
+    Ok(Ending {
+        account,
+        limit: has_limit(inputs),
+        journal_fault: journal.failed,
+        read_fault: has_fault(inputs),
+        left,
+    })
+}
+
+/// Runs from the start to the end.
 fn run_from<S: Source + Drop, K: Sink + Drop, C: Clock + Drop>(
     alloc: Global,
     setup: &RunSetup,
@@ -228,17 +276,18 @@ fn run_from<S: Source + Drop, K: Sink + Drop, C: Clock + Drop>(
     let mut core = new_core(alloc, inputs.len(), setup.outputs.as_slice(), start)?;
     let mut text = Vec::new(alloc);
     begin_anew(outputs);
-    rounds(alloc, &mut core, &mut text, inputs, filters, outputs, journal)?;
-    let moment = clock.now();
-    stop_run(alloc, &mut core, &mut text, filters, outputs, moment, setup.final_tries)?;
-    let (account, left) = end_journal(alloc, &mut core, &mut text, outputs.len() as u32, journal)?;
-    Ok(Ending {
-        account,
-        limit: has_limit(inputs),
-        journal_fault: journal.failed,
-        read_fault: has_fault(inputs),
-        left,
-    })
+    let ending = finish_jobs(
+        alloc,
+        &mut core,
+        &mut text,
+        inputs,
+        clock,
+        filters,
+        outputs,
+        journal,
+        setup.final_tries,
+    )?;
+    Ok(ending)
 }
 
 /// Runs any number of inputs and of line protocol outputs, each with its filter, from the start, and gives back the part to which the

@@ -1,6 +1,6 @@
 -- What a run leaves at its end, and what it begins with.
 use Rattle.std.proofs.Common.{◌≡◌, ◌≢◌, ◌≤◌, ◌<◌, ℕ, zero, suc, ℤ, ◌^◌, min, Bool, true, false, List, [], ◌∷◌, ◌++◌, length, refl, sym, ap, ◌∙◌, subst, inl, inr, arith}
-use Rattle.std.specs.Prelude.{IfSome, not, ◌⊎◌, count_by, map}
+use Rattle.std.specs.Prelude.{IfSome, not, ◌⊎◌, count_by, map, take}
 use Rattle.std.proofs.lemmas.List.{length-map, length-replicate}
 use Rattle.std.specs.Int.{int_max}
 use Rattle.std.specs.declared.option.Option.{Option}
@@ -27,7 +27,7 @@ use Rattle.account.specs.Items.{raw_items, items, taken}
 use Rattle.agent_workers.specs.Input.{IsFull}
 use Rattle.agent_workers.specs.Inputs.{InPart, in_at, HoldsTooMany, AreInputs, AreOut, OneIsFull, IsOneOf, IsOneIn, IsFresh}
 use Rattle.agent_workers.specs.Run.{Change, change, InRun, in_run, in_runs, run_at, change_at, out_changes, SomeIsFull, RunsFull, IsUnread, IsReadFrom, IsSentTo, HasRun, EndsSo, IsPutSo, IsLeft, Ran, buffered_at_end, account_of}
-use Rattle.agent_workers.specs.Finished.{ClockRun, IsCounted, Finished}
+use Rattle.agent_workers.specs.Finished.{ClockRun, IsCounted, Finished, FinishesSo}
 use Rattle.agent_workers.specs.Noted.{JournalPart, Notes}
 use Rattle.agent_workers.specs.PipeSetup.{run_setup, journal_setup_of}
 use Rattle.agent_workers.specs.Progress.{Beginning, Surroundings, HasText, Heard, Said, AllSaid, Progress, GoesOn, SendsOn, GathersOn, RunsOn, NotesRun}
@@ -295,6 +295,19 @@ module _ (start : Beginning) (tries : ℕ) (core : CoreState) (now : Surrounding
           noted = subst (λ (account : List ℕ). IsPutSo ending.journal_fault (change start.noted part.held start.note_faults part.faults) (journal_text (journal_setup_of start.setup) w.journal account)) same
               (subst (λ (es : List Entry). IsPutSo ending.journal_fault (change start.noted part.held start.note_faults part.faults) (journal_text (journal_setup_of start.setup) es (account_text core.numbers))) (sym w.text.split) noted);
         }
+
+-- a list that was written over another one of its length
+pub taken_front : {X : Type 0} (n : ℕ) (news rest : List X) → length news ≡ n → take n (news ++ rest) ≡ news
+taken_front zero [] rest e = refl
+taken_front (suc n) [] rest e = absurd (omega (arith, e))
+taken_front zero (x ∷ news) rest e = absurd (omega (arith, e))
+taken_front {X} (suc n) (x ∷ news) rest e = ap (λ (xs : List X). x ∷ xs) (taken_front n news rest (omega (arith, e)))
+
+-- a run ends, by other terms
+pub finishes_by : (views other : List (Content → Option Content)) (tries : ℕ) (ending : Ending) (old new : CoreState) (ins last_ins ins_by last_ins_by : List InPart) (outs last_outs outs_by last_outs_by : List OutPart) (part last_part : JournalPart) (timer : ClockRun) →
+    other ≡ views → ins_by ≡ ins → last_ins_by ≡ last_ins → outs_by ≡ outs → last_outs_by ≡ last_outs → FinishesSo views tries ending old new ins last_ins outs last_outs part last_part timer
+    → FinishesSo other tries ending old new ins_by last_ins_by outs_by last_outs_by part last_part timer
+finishes_by views other tries ending old new ins last_ins ins_by last_ins_by outs last_outs outs_by last_outs_by part last_part timer v a b d e h = rw (v, a, b, d, e) h
 
 -- a run that began with nothing
 module _ (views : List (Content → Option Content)) (tries count : ℕ) (sizes : List (ℕ × ℕ)) (start : ℤ) (starts : List InPart) (outs : List OutPart) (noted : Option (List ℕ)) (note_faults : ℕ) where

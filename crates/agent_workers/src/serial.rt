@@ -19,7 +19,7 @@ ghost use Rattle.agent_workers.specs.Reader.{plain_rule, plain_view, views_by};
 ghost use Rattle.agent_workers.specs.Running.{IsReady, HasJournal, StillStands, AreLeft, IsLeftOver};
 
 use crate::input::{InJob, InState, are_out, gather_each, has_fault, has_limit};
-use crate::item::route_all;
+use crate::item::{ProcJob, route_all};
 use crate::journal::{JournalJob, last_entries, note};
 use crate::output::{OutJob, begin_anew, send_each, send_rest};
 use crate::setup::{journal_setup, new_core};
@@ -35,6 +35,21 @@ use std::alloc::Global;
 pub struct RunSetup {
     /// The sizes of its outputs, in order.
     pub outputs: Seq<OutSetup>,
+    /// How often in succession a repeat that had no batch accepted is tried at the end.
+    pub final_tries: u32,
+}
+
+/// The jobs of a run.
+#[derive(Drop)]
+pub struct Parts<S: Drop, K: Drop, C: Drop> {
+    /// Its inputs, by their numbers.
+    pub inputs: Vec<InJob<S, C>>,
+    /// The clock that gives the moment of the stop.
+    pub timer: C,
+    pub proc: ProcJob<C>,
+    /// Its outputs, by their numbers.
+    pub outputs: Vec<OutJob<K>>,
+    pub journal: JournalJob<K>,
     /// How often in succession a repeat that had no batch accepted is tried at the end.
     pub final_tries: u32,
 }
@@ -234,6 +249,51 @@ fn finish_jobs<S: Source + Drop, K: Sink + Drop, C: Clock + Drop>(
         read_fault: has_fault(inputs),
         left,
     })
+}
+
+/// Comes to the end of a run, whatever its core and its jobs have come to: rounds, each of which puts the
+/// entries that it made, until each input is read no more and holds nothing; the stop, and what is buffered is
+/// sent; and the end of the journal.
+///
+/// It always returns. Where memory ran out the core and the jobs are as the calls made until then left them.
+pub fn finish<S: Source + Drop, K: Sink + Drop, C: Clock + Drop>(
+    alloc: Global,
+    core: &mut Core,
+    parts: &mut Parts<S, K, C>,
+) -> Result<Ending, OutOfMemory>
+    requires few { length core.old.setup.outputs ≤ 16 }
+    requires ready { IsReady core.old }
+    requires filters { length parts.old.proc.outs ≡ length core.old.setup.outputs }
+    requires inputs { AreInputs (length core.old.setup.inputs) core.old.ended
+        (ins_of S.left S.faults C.moments C.place parts.old.inputs.items) }
+    requires outputs { AreOutputs (length core.old.setup.outputs)
+        (outs_of K.held K.faults parts.old.outputs.items) }
+    requires going { core.old.stopped ≡ false }
+    requires stands { HasJournal core.old }
+    requires some { 1 ≤ parts.old.final_tries }
+    ensures finished { IfOk result
+        (λ ending. FinishesSo (views_by parts.old.proc.outs) parts.old.final_tries ending core.old core.new
+        (ins_of S.left S.faults C.moments C.place parts.old.inputs.items)
+        (ins_of S.left S.faults C.moments C.place parts.new.inputs.items)
+        (outs_of K.held K.faults parts.old.outputs.items)
+        (outs_of K.held K.faults parts.new.outputs.items)
+        (part_of K.held K.faults parts.old.journal) (part_of K.held K.faults parts.new.journal)
+        (record { moments = C.moments parts.old.timer; before = C.place parts.old.timer;
+        after = C.place parts.new.timer })) }
+{
+    let mut text = Vec::new(alloc);
+    let ending = finish_jobs(
+        alloc,
+        core,
+        &mut text,
+        &mut parts.inputs,
+        &mut parts.timer,
+        parts.proc.outs.as_slice(),
+        &mut parts.outputs,
+        &mut parts.journal,
+        parts.final_tries,
+    )?;
+    Ok(ending)
 }
 
 /// Runs from the start to the end.

@@ -1,5 +1,4 @@
-use Rattle.std.proofs.Common.{◌≡◌, ◌++◌, ◌∙◌, ℕ, List, length, arith, sym, ap, subst}
-use Rattle.std.specs.Prelude.{drop, take}
+use Rattle.std.proofs.Common.{◌≡◌, List, length, drop, arith, sym, ap, subst}
 use Rattle.metric_filter.specs.declared.rules.FilterRules.{FilterRules}
 use Rattle.agent_workers.specs.Inputs.{ins_of, AreInputs}
 use Rattle.agent_workers.specs.Output.{outs_of, AreOutputs}

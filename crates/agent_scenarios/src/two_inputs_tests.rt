@@ -191,7 +191,7 @@ fn two_and_two(rt: HostRuntime) -> Result<(), Fail> {
 #[test]
 fn dead_output(rt: HostRuntime) -> Result<(), Fail> {
     let outcome = outcome_of(rt.alloc(), (FIRST, b""), &[], DEAD, 1_000)?;
-    assert_eq!(rt; sent_to(&outcome, 0), b"");
+    assert_eq!(rt; sent_to(&outcome, 0).len(), 0);
     assert_eq!(rt; sent_to(&outcome, 1), CPU_SENT);
     assert_eq!(rt; outcome.ending.left, true);
     assert_eq!(rt; outcome.journal.bytes(), ONE_DEAD);

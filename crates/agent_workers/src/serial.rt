@@ -300,16 +300,24 @@ pub fn set_up<S: Source + Drop, K: Sink + Drop, C: Clock + Drop>(
         Ok(about) => about,
         Err(_) => return Err(makings),
     };
-    let journal = JournalJob::new(alloc, about, makings.journal);
+    let Makings {
+        inputs,
+        timer,
+        proc,
+        outputs,
+        journal,
+        final_tries,
+    } = makings;
+    let job = JournalJob::new(alloc, about, journal);
     Ok((
         core,
         Parts {
-            inputs: makings.inputs,
-            timer: makings.timer,
-            proc: makings.proc,
-            outputs: makings.outputs,
-            journal,
-            final_tries: makings.final_tries,
+            inputs,
+            timer,
+            proc,
+            outputs,
+            journal: job,
+            final_tries,
         },
     ))
 }

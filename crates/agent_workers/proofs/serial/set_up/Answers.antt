@@ -1,4 +1,4 @@
-use Rattle.std.proofs.Common.{◌≡◌, ◌∙◌, ℕ, List, length, arith, sym, ap}
+use Rattle.std.proofs.Common.{◌≡◌, ◌∙◌, ℕ, ℤ, List, length, arith, sym, ap}
 use Rattle.std.specs.Prelude.{map}
 use Rattle.std.proofs.lemmas.Int.{to_z-of_z}
 use Rattle.std.proofs.lemmas.List.{length-map}
@@ -21,10 +21,10 @@ returns-clause-made g c =
     let n = length c.as_slice.result.now in
     let ins : List InPart = ins_of g.S.Source.left g.S.Source.faults g.C.Clock.moments g.C.Clock.place c.args.makings.inputs.items in
     let outs : List OutPart = outs_of g.K.Sink.held g.K.Sink.faults c.args.makings.outputs.items in
-    let part : JournalPart = part_of g.K.Sink.held g.K.Sink.faults c.new-journal.result in
+    let part : JournalPart = part_of g.K.Sink.held g.K.Sink.faults c.new-job.result in
     let number : n ≡ length ins = ap (λ (jobs : List (InJob g.row.S.Denot g.row.C.Denot)). length jobs) c.as_slice.ensures.value ∙ sym (length-map c.args.makings.inputs.items (in_of g.S.Source.left g.S.Source.faults g.C.Clock.moments g.C.Clock.place)) in
     let many : length pairs ≡ length c.args.setups.now = length-map c.args.setups.now sizes in
     is_set_up pairs start n c.in-Ok.core ins outs part number (omega (arith, many, c.requires.few))
     c.in-Ok.ensures.ready c.in-Ok.ensures.going c.in-Ok.ensures.stands (c.in-Ok.ensures.setup ∙ ap (run_setup n pairs) same_start) c.in-Ok.ensures.stored c.in-Ok.ensures.reading c.in-Ok.ensures.none_buffered
     c.requires.inputs (rw many c.requires.outputs) c.requires.fresh
-    (c.new-journal.ensures.setup ∙ c.in-Ok-journal_setup.ensures ∙ ap (λ m. journal_setup_of (run_setup n pairs m)) same_start) c.new-journal.ensures.kept c.new-journal.ensures.entries c.new-journal.ensures.going
+    (c.new-job.ensures.setup ∙ c.in-Ok-journal_setup.ensures ∙ ap (λ (m : ℤ). journal_setup_of (run_setup n pairs m)) same_start) c.new-job.ensures.kept c.new-job.ensures.entries c.new-job.ensures.going

@@ -1,5 +1,5 @@
 -- What a run leaves at its end, and what it begins with.
-use Rattle.std.proofs.Common.{◌≡◌, ◌≢◌, ◌≤◌, ◌<◌, ℕ, zero, suc, ℤ, ◌^◌, min, Bool, true, false, List, [], ◌∷◌, ◌++◌, length, take, refl, sym, ap, ◌∙◌, subst, inl, inr, arith}
+use Rattle.std.proofs.Common.{◌≡◌, ◌≢◌, ◌≤◌, ◌<◌, ℕ, zero, suc, ℤ, ◌^◌, min, Bool, true, false, List, [], ◌∷◌, ◌++◌, length, take, replicate, refl, sym, ap, ◌∙◌, subst, inl, inr, arith}
 use Rattle.std.specs.Prelude.{IfSome, not, ◌⊎◌, count_by, map}
 use Rattle.std.proofs.lemmas.List.{length-map, length-replicate}
 use Rattle.std.specs.Int.{int_max}
@@ -25,14 +25,14 @@ use Rattle.pipeline_core.specs.Stopped.{behind_stop}
 use Rattle.account.specs.EntryMoments.{counted_moments}
 use Rattle.account.specs.Items.{raw_items, items, taken}
 use Rattle.agent_workers.specs.Input.{IsFull}
-use Rattle.agent_workers.specs.Inputs.{InPart, in_at, HoldsTooMany, AreInputs, AreOut, OneIsFull, IsOneOf, IsOneIn, IsFresh}
+use Rattle.agent_workers.specs.Inputs.{InPart, in_at, HoldsTooMany, AreInputs, AreOut, OneIsFull, IsOneOf, IsOneIn, IsFresh, AreFresh}
 use Rattle.agent_workers.specs.Run.{Change, change, InRun, in_run, in_runs, run_at, change_at, out_changes, SomeIsFull, RunsFull, IsUnread, IsReadFrom, IsSentTo, HasRun, EndsSo, IsPutSo, IsLeft, Ran, buffered_at_end, account_of}
-use Rattle.agent_workers.specs.Finished.{ClockRun, IsCounted, Finished, FinishesSo}
+use Rattle.agent_workers.specs.Finished.{ClockRun, IsCounted, Finished, FinishesSo, begun, IsSetUp}
 use Rattle.agent_workers.specs.Noted.{JournalPart, Notes}
 use Rattle.agent_workers.specs.PipeSetup.{run_setup, journal_setup_of}
 use Rattle.agent_workers.specs.Progress.{Beginning, Surroundings, HasText, Heard, Said, AllSaid, Progress, GoesOn, SendsOn, GathersOn, RunsOn, NotesRun}
-use Rattle.agent_workers.specs.Running.{AreSettled, AreLeft, IsLeftOver, buffered_at}
-use Rattle.agent_workers.specs.Output.{OutPart, out_at, anew, AreAnew}
+use Rattle.agent_workers.specs.Running.{IsReady, AreSettled, AreLeft, IsLeftOver, buffered_at}
+use Rattle.agent_workers.specs.Output.{OutPart, out_at, anew, AreAnew, AreOutputs}
 use Rattle.agent_workers.specs.declared.input.InState.{InState}
 use Rattle.agent_workers.specs.declared.input.InState.TheVariants as states
 use Rattle.agent_workers.specs.declared.serial.Ending.{Ending}
@@ -43,6 +43,8 @@ use Rattle.pipeline_core.proofs.StandsCuts.{cut_stands}
 use Rattle.pipeline_core.proofs.RawLemmas.{raw_of-none}
 use Rattle.pipeline_core.proofs.WorkedLemmas.{worked_first}
 use Rattle.agent_workers.proofs.HeardLemmas.{heard_first, gathered_at_end, clocked_at_end, full_at_end}
+use Rattle.agent_workers.proofs.InLemmas.{fit_first}
+use Rattle.agent_workers.proofs.NotedLemmas.{notes_none}
 use Rattle.agent_workers.proofs.OutLemmas.{at_anew, are_anew}
 use Rattle.agent_workers.proofs.ProgressLemmas.{buffered_is, went_anew, went_next}
 use Rattle.agent_workers.proofs.RoseLemmas.{rose_none}
@@ -86,6 +88,34 @@ went_first start core outs part stands setup stored notes front in_count fresh a
 -- where nothing is buffered the outputs are settled
 pub none_buffered : (core : CoreState) (outs : List OutPart) → ((o : ℕ) → buffered_at core o ≡ 0) → AreSettled core outs
 none_buffered core outs none = λ o l. inl (none o)
+
+-- outputs at which no batch failed are as when they begin anew
+anew_same : (outs : List OutPart) → AreAnew outs → outs ≡ map anew outs
+anew_same [] h = refl
+anew_same (x ∷ outs) h =
+    let first : x ≡ anew x = ap (λ (n : ℕ). record x { failed = n }) (h 0 (omega arith)) in
+    ap (λ (y : OutPart). y ∷ outs) first ∙ ap (λ (ys : List OutPart). anew x ∷ ys) (anew_same outs (λ o l. h (suc o) (omega (arith, l))))
+
+-- a run is set up
+pub is_set_up : (sizes : List (ℕ × ℕ)) (start : ℤ) (n : ℕ) (core : CoreState) (ins : List InPart) (outs : List OutPart) (part : JournalPart) → n ≡ length ins → length sizes ≤ 16 → IsReady core → core.stopped ≡ false → Stands core [] → core.setup ≡ run_setup n sizes start → core.stored ≡ [] →
+    core.ended ≡ replicate n false → ((o : ℕ) → buffered_at core o ≡ 0) → AreFresh ins → AreOutputs (length sizes) outs → AreAnew outs → part.setup ≡ journal_setup_of (run_setup n sizes start) → part.kept ≡ [] → part.entries ≡ 0 → part.failed ≡ false → IsSetUp sizes start core ins outs part
+is_set_up sizes start n core ins outs part number few ready going stands setup stored ended none fresh are zeros about kept entries unfailed =
+    let setup_is : core.setup ≡ run_setup (length ins) sizes start = setup ∙ ap (λ (k : ℕ). run_setup k sizes start) number in
+    let about_is : part.setup ≡ journal_setup_of (run_setup (length ins) sizes start) = about ∙ ap (λ (k : ℕ). journal_setup_of (run_setup k sizes start)) number in
+    let outputs_are : length core.setup.outputs ≡ length sizes = ap (λ (s : Setup). length s.outputs) setup in
+    let inputs_are : length core.setup.inputs ≡ n = ap (λ (s : Setup). length s.inputs) setup ∙ length-replicate {A = Option ℕ} n None in
+    record {
+      few = omega (arith, outputs_are, few);
+      ready = ready;
+      going = going;
+      stands = record { journal = []; stands = stands };
+      outputs_are = outputs_are;
+      inputs = fit_first n (length core.setup.inputs) core.ended ins inputs_are (sym number) ended fresh;
+      outputs = subst (λ (k : ℕ). AreOutputs k outs) (sym outputs_are) are;
+      settled = none_buffered core outs none;
+      agrees = λ views. went_first (begun sizes start views ins outs part) core outs part stands setup_is stored (notes_none (journal_setup_of (run_setup (length ins) sizes start)) part about_is kept entries unfailed) refl
+          (sym (length-replicate {A = Option ℕ} (length ins) None)) fresh.fresh (anew_same outs zeros) are.count_is;
+    }
 
 -- ---- the end
 

@@ -1,5 +1,5 @@
 -- How a run ends, from whatever it had come to.
-use Rattle.std.specs.Prelude.{◌≡◌, ◌≤◌, ◌<◌, ℕ, ℤ, List, [], ◌++◌, length, IfSome}
+use Rattle.std.specs.Prelude.{◌≡◌, ◌≤◌, ◌<◌, ℕ, ℤ, false, List, [], ◌++◌, length, IfSome}
 use Rattle.std.specs.declared.option.Option.{Option}
 use Rattle.metric.specs.declared.metric.Content.{Content}
 use Rattle.account.specs.EntryMoments.{counted_moments}
@@ -11,10 +11,12 @@ use Rattle.pipeline_core.specs.Order.{InOrder}
 use Rattle.pipeline_core.specs.Stands.{Stands}
 use Rattle.agent_workers.specs.Inputs.{InPart, in_at, AreInputs, IsOneIn}
 use Rattle.agent_workers.specs.Noted.{JournalPart}
-use Rattle.agent_workers.specs.Output.{OutPart}
+use Rattle.agent_workers.specs.Output.{OutPart, AreOutputs}
+use Rattle.agent_workers.specs.PipeSetup.{run_setup}
 use Rattle.agent_workers.specs.Progress.{Beginning, Surroundings, Progress, AllHeard, AllSaid, SettlesFirst}
 use Rattle.agent_workers.specs.Run.{change, in_runs, out_changes, run_at, HasRun, EndsSo, IsPutSo, IsLeft}
 use Rattle.agent_workers.specs.Run.{account_of, text_of}
+use Rattle.agent_workers.specs.Running.{IsReady, HasJournal, AreSettled}
 use Rattle.agent_workers.specs.declared.input.InState.TheVariants as states
 use Rattle.agent_workers.specs.declared.serial.Ending.{Ending}
 
@@ -71,3 +73,34 @@ FinishesSo views tries ending old new ins new_ins outs new_outs part new_part ti
     → Progress (record start { views = views }) old
     (record now { ins = ins; next = 0; outs = outs; journal = part })
     → Finished (record start { views = views }) tries ending new new_ins new_outs new_part now.counted_at timer
+
+-- what a run begins with that has come to nothing yet
+abbrev pub begun : List (ℕ × ℕ) → ℤ → List (Content → Option Content) → List InPart → List OutPart → JournalPart
+    → Beginning
+begun sizes start views ins outs part = record {
+  setup = run_setup (length ins) sizes start;
+  views = views;
+  ins = ins;
+  outs = outs;
+  noted = part.held;
+  note_faults = part.faults;
+  front = [];
+}
+
+-- what is around it
+abbrev pub around : List InPart → List OutPart → JournalPart → Surroundings
+around ins outs part = record { ins = ins; next = 0; outs = outs; journal = part; counted_at = [] }
+
+-- a core in which nothing happened, and parts that fit it and agree with it: with them a run can be finished
+pub record IsSetUp (sizes : List (ℕ × ℕ)) (start : ℤ) (core : CoreState) (ins : List InPart) (outs : List OutPart)
+    (part : JournalPart) : Type 0 where
+  pub few : length core.setup.outputs ≤ 16
+  pub ready : IsReady core
+  pub going : core.stopped ≡ false
+  pub stands : HasJournal core
+  pub outputs_are : length core.setup.outputs ≡ length sizes
+  pub inputs : AreInputs (length core.setup.inputs) core.ended ins
+  pub outputs : AreOutputs (length core.setup.outputs) outs
+  pub settled : AreSettled core outs
+  pub agrees : (views : List (Content → Option Content)) →
+      Progress (begun sizes start views ins outs part) core (around ins outs part)

@@ -9,10 +9,10 @@ ghost use Rattle.pipeline_core.specs.CoreState.{sizes};
 ghost use Rattle.pipeline_core.specs.Steps.{after_cut};
 ghost use Rattle.agent_workers.specs.Inputs.{ins_of, AreInputs, AreSameInputs, AreOut, AreFresh, OneIsFull};
 ghost use Rattle.agent_workers.specs.Inputs.{IsOneInput};
-ghost use Rattle.agent_workers.specs.Finished.{FinishesSo};
+ghost use Rattle.agent_workers.specs.Finished.{FinishesSo, IsSetUp};
 ghost use Rattle.agent_workers.specs.Run.{Ran, change, in_runs, out_changes};
 ghost use Rattle.agent_workers.specs.Noted.{part_of, EndsOn};
-ghost use Rattle.agent_workers.specs.Output.{outs_of, AreOutputs};
+ghost use Rattle.agent_workers.specs.Output.{outs_of, AreAnew, AreOutputs};
 ghost use Rattle.agent_workers.specs.PipeSetup.{run_setup, journal_setup_of};
 ghost use Rattle.agent_workers.specs.Progress.{Beginning, Surroundings, Progress, RunsOn};
 ghost use Rattle.agent_workers.specs.Reader.{plain_rule, plain_view, views_by};
@@ -51,6 +51,18 @@ pub struct Parts<S: Drop, K: Drop, C: Drop> {
     pub outputs: Vec<OutJob<K>>,
     pub journal: JournalJob<K>,
     /// How often in succession a repeat that had no batch accepted is tried at the end.
+    pub final_tries: u32,
+}
+
+/// What the jobs of a run are made of, before its core is.
+#[derive(Drop)]
+pub struct Makings<S: Drop, K: Drop, C: Drop> {
+    pub inputs: Vec<InJob<S, C>>,
+    pub timer: C,
+    pub proc: ProcJob<C>,
+    pub outputs: Vec<OutJob<K>>,
+    /// Where the journal is put.
+    pub journal: K,
     pub final_tries: u32,
 }
 
@@ -249,6 +261,65 @@ fn finish_jobs<S: Source + Drop, K: Sink + Drop, C: Clock + Drop>(
         read_fault: has_fault(inputs),
         left,
     })
+}
+
+/// A core in which nothing happened, and the jobs of a run that begins with it at a moment; all that they are
+/// made of, where memory was short. All memory is taken before something is handed in.
+pub fn set_up<S: Source + Drop, K: Sink + Drop, C: Clock + Drop>(
+    alloc: Global,
+    setups: &[OutSetup],
+    start: Moment,
+    makings: Makings<S, K, C>,
+) -> Result<(Core, Parts<S, K, C>), Makings<S, K, C>>
+    requires few_inputs { length makings.inputs.items ≤ 16 }
+    requires few { length setups.now ≤ 16 }
+    requires sizes { All (λ x. (1 ≤ x.batch) × (x.batch ≤ x.limit)) setups.now }
+    requires inputs { AreFresh (ins_of S.left S.faults C.moments C.place makings.inputs.items) }
+    requires outputs { AreOutputs (length setups.now) (outs_of K.held K.faults makings.outputs.items) }
+    requires fresh { AreAnew (outs_of K.held K.faults makings.outputs.items) }
+    ensures made { IfOk result (λ made. IsSetUp (map sizes setups.now) start made.0
+        (ins_of S.left S.faults C.moments C.place made.1.inputs.items)
+        (outs_of K.held K.faults made.1.outputs.items) (part_of K.held K.faults made.1.journal)) }
+    ensures of { IfOk result (λ made. made.1 ≡ record {
+          inputs = makings.inputs;
+          timer = makings.timer;
+          proc = makings.proc;
+          outputs = makings.outputs;
+          journal = made.1.journal;
+          final_tries = makings.final_tries;
+        }) }
+    ensures sink { IfOk result (λ made. made.1.journal.sink ≡ makings.journal) }
+    ensures back { IfErr result (λ back. back ≡ makings) }
+{
+    let count = makings.inputs.as_slice().len();
+    let core = match new_core(alloc, count, setups, start) {
+        Ok(core) => core,
+        Err(_) => return Err(makings),
+    };
+    let about = match journal_setup(alloc, count, setups, start) {
+        Ok(about) => about,
+        Err(_) => return Err(makings),
+    };
+    let Makings {
+        inputs,
+        timer,
+        proc,
+        outputs,
+        journal,
+        final_tries,
+    } = makings;
+    let job = JournalJob::new(alloc, about, journal);
+    Ok((
+        core,
+        Parts {
+            inputs,
+            timer,
+            proc,
+            outputs,
+            journal: job,
+            final_tries,
+        },
+    ))
 }
 
 /// Comes to the end of a run, whatever its core and its jobs have come to: rounds, each of which puts the

@@ -18,11 +18,11 @@ returns-clause-made g c =
     let pairs : List (ℕ × ℕ) = map sizes c.args.setups.now in
     let start = c.args.start in
     let same_start : to_z w64 (of_z w64 start) ≡ start = to_z-of_z w64 start c.ranges.start in
-    let n = length c.as_slice.result.now in
+    let n = length c.as_slice-count.result.now in
     let ins : List InPart = ins_of g.S.Source.left g.S.Source.faults g.C.Clock.moments g.C.Clock.place c.args.makings.inputs.items in
     let outs : List OutPart = outs_of g.K.Sink.held g.K.Sink.faults c.args.makings.outputs.items in
     let part : JournalPart = part_of g.K.Sink.held g.K.Sink.faults c.new-job.result in
-    let number : n ≡ length ins = ap (λ (jobs : List (InJob g.row.S.Denot g.row.C.Denot)). length jobs) c.as_slice.ensures.value ∙ sym (length-map c.args.makings.inputs.items (in_of g.S.Source.left g.S.Source.faults g.C.Clock.moments g.C.Clock.place)) in
+    let number : n ≡ length ins = ap (λ (jobs : List (InJob g.row.S.Denot g.row.C.Denot)). length jobs) c.as_slice-count.ensures.value ∙ sym (length-map c.args.makings.inputs.items (in_of g.S.Source.left g.S.Source.faults g.C.Clock.moments g.C.Clock.place)) in
     let many : length pairs ≡ length c.args.setups.now = length-map c.args.setups.now sizes in
     is_set_up pairs start n c.in-Ok.core ins outs part number (omega (arith, many, c.requires.few))
     c.in-Ok.ensures.ready c.in-Ok.ensures.going c.in-Ok.ensures.stands (c.in-Ok.ensures.setup ∙ ap (run_setup n pairs) same_start) c.in-Ok.ensures.stored c.in-Ok.ensures.reading c.in-Ok.ensures.none_buffered

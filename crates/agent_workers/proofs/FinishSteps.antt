@@ -26,7 +26,7 @@ use Rattle.account.specs.EntryMoments.{counted_moments}
 use Rattle.account.specs.Items.{raw_items, items, taken}
 use Rattle.agent_workers.specs.Input.{IsFull}
 use Rattle.agent_workers.specs.Inputs.{InPart, in_at, HoldsTooMany, AreInputs, AreOut, OneIsFull, IsOneOf, IsOneIn, IsFresh, AreFresh}
-use Rattle.agent_workers.specs.Run.{Change, change, InRun, in_run, in_runs, run_at, change_at, out_changes, SomeIsFull, RunsFull, IsUnread, IsReadFrom, IsSentTo, HasRun, EndsSo, IsPutSo, IsLeft, Ran, buffered_at_end, account_of}
+use Rattle.agent_workers.specs.Run.{change, InRun, in_run, in_runs, run_at, change_at, out_changes, SomeIsFull, RunsFull, IsUnread, IsReadFrom, IsSentTo, HasRun, EndsSo, IsPutSo, IsLeft, Ran, buffered_at_end, account_of}
 use Rattle.agent_workers.specs.Finished.{ClockRun, IsCounted, Finished, FinishesSo, begun, IsSetUp}
 use Rattle.agent_workers.specs.Noted.{JournalPart, Notes}
 use Rattle.agent_workers.specs.PipeSetup.{run_setup, journal_setup_of}

@@ -28,7 +28,7 @@ use Rattle.agent_workers.proofs.RanLemmas.{change_is}
 
 module _ (batch limit : ℕ) (input output noted reported : Change) (run_moments input_moments : Option Moments) where
   module _ (start : ℤ) (journal : List Entry) (run : IsRun plain_view final_tries (pipe_setup batch limit start) (pipe_input input input_moments ∷ []) (output ∷ []) run_moments journal) where
-    report_fault : (journal_failed failed : Bool) → (journal_failed ≡ true) ⊎ (failed ≡ true) → IsPutSo journal_failed noted (text_of (pipe_setup batch limit start) journal) → IsPutSo failed reported (account_of (pipe_setup batch limit start) journal) → run.taken 0 < 2 ^ 40
+    report_fault : (journal_failed failed : Bool) → (journal_failed ≡ true) ⊎ (failed ≡ true) → IsPutSo journal_failed noted (text_of (pipe_setup batch limit start) journal) → IsPutSo failed reported (account_of (pipe_setup batch limit start) journal) → run.has.taken 0 < 2 ^ 40
         → IsReportFault batch limit input output noted reported run_moments input_moments
     report_fault journal_failed failed either put report few = record {
       headline = record { start = start; journal = journal; run = run; journal_failed = journal_failed; report_failed = failed; noted = put; reported = report };
@@ -48,21 +48,21 @@ module _ (batch limit : ℕ) (input output noted reported : Change) (run_moments
     full_here : SomeIsFull (pipe_input input input_moments ∷ []) journal → IsFull (plain_rule gather_pieces) journal 0 input.before input.after
     full_here h = subst (λ (k : ℕ). IsFull (run_at (pipe_input input input_moments ∷ []) k).rule journal k (run_at (pipe_input input input_moments ∷ []) k).place.before (run_at (pipe_input input input_moments ∷ []) k).place.after) (let first : h.0 ≡ 0 = omega (arith, h.1) in first) h.2
 
-    limited : (state : InState) → state ≡ states.LimitReached → EndsSo true (pipe_input input input_moments ∷ []) 0 state (pipe_input input input_moments) (run.taken 0) journal
-        → (has_ended 0 journal ≡ false) × ((run.taken 0 ≡ 2 ^ 40) ⊎ IsFull (plain_rule gather_pieces) journal 0 input.before input.after)
+    limited : (state : InState) → state ≡ states.LimitReached → EndsSo true (pipe_input input input_moments ∷ []) 0 state (pipe_input input input_moments) (run.has.taken 0) journal
+        → (has_ended 0 journal ≡ false) × ((run.has.taken 0 ≡ 2 ^ 40) ⊎ IsFull (plain_rule gather_pieces) journal 0 input.before input.after)
     limited states.LimitReached e h = (h.0, elim h.1 [ inl many ↦ inl many | inr full ↦ inr (full_here full.1) ])
     limited states.Reading e h = absurd (let x : states.Reading ≡ states.LimitReached = e in cc)
     limited states.Ended e h = absurd (let x : states.Ended ≡ states.LimitReached = e in cc)
     limited states.Faulted e h = absurd (let x : states.Faulted ≡ states.LimitReached = e in cc)
 
-    failed_read : (state : InState) → state ≡ states.Faulted → EndsSo false (pipe_input input input_moments ∷ []) 0 state (pipe_input input input_moments) (run.taken 0) journal
-        → (run.taken 0 < 2 ^ 40) × (has_ended 0 journal ≡ false) × IsCutShort 0 (pipe_input input input_moments) journal
+    failed_read : (state : InState) → state ≡ states.Faulted → EndsSo false (pipe_input input input_moments ∷ []) 0 state (pipe_input input input_moments) (run.has.taken 0) journal
+        → (run.has.taken 0 < 2 ^ 40) × (has_ended 0 journal ≡ false) × IsCutShort 0 (pipe_input input input_moments) journal
     failed_read states.Faulted e h = (h.0, h.1, elim h.2 [ inl short ↦ short | inr full ↦ absurd (not_full full) ])
     failed_read states.Reading e h = absurd (let x : states.Reading ≡ states.Faulted = e in cc)
     failed_read states.Ended e h = absurd (let x : states.Ended ≡ states.Faulted = e in cc)
     failed_read states.LimitReached e h = absurd (let x : states.LimitReached ≡ states.Faulted = e in cc)
 
-    read_whole : (state : InState) → (state ≢ states.LimitReached) → (state ≢ states.Faulted) → EndsSo false (pipe_input input input_moments ∷ []) 0 state (pipe_input input input_moments) (run.taken 0) journal → (run.taken 0 < 2 ^ 40) × (has_ended 0 journal ≡ true)
+    read_whole : (state : InState) → (state ≢ states.LimitReached) → (state ≢ states.Faulted) → EndsSo false (pipe_input input input_moments ∷ []) 0 state (pipe_input input input_moments) (run.has.taken 0) journal → (run.has.taken 0 < 2 ^ 40) × (has_ended 0 journal ≡ true)
     read_whole states.Ended l f h = h
     read_whole states.Reading l f h = absurd (not_full h)
     read_whole states.Faulted l f h = absurd (f refl)
@@ -74,7 +74,7 @@ module _ (batch limit : ℕ) (input output noted reported : Change) (run_moments
 
     -- the status that a run ends with says what it left
     pub ends_of : (limit_reached fault : Bool) (state : ℕ → InState) (journal_failed failed left : Bool) → IsOneOf states.LimitReached 1 state limit_reached → IsOneOf states.Faulted 1 state fault →
-        EndsSo limit_reached (pipe_input input input_moments ∷ []) 0 (state 0) (pipe_input input input_moments) (run.taken 0) journal → IsLeft left (pipe_setup batch limit start) journal → IsPutSo journal_failed noted (text_of (pipe_setup batch limit start) journal)
+        EndsSo limit_reached (pipe_input input input_moments ∷ []) 0 (state 0) (pipe_input input input_moments) (run.has.taken 0) journal → IsLeft left (pipe_setup batch limit start) journal → IsPutSo journal_failed noted (text_of (pipe_setup batch limit start) journal)
         → IsPutSo failed reported (account_of (pipe_setup batch limit start) journal) → Ends batch limit input output noted reported run_moments input_moments (status_of limit_reached fault (journal_failed || failed) left)
     ends_of true fault state journal_failed failed left one some e l put report =
         let h = limited (state 0) (first_of one.0 state states.LimitReached one.1 one.2) e in
@@ -119,9 +119,9 @@ module _ (batch limit : ℕ) (input output noted reported : Change) (run_moments
   done_or_short statuses.OutOfMemory e i o n r l = inr refl
   done_or_short statuses.Left e i o n r l =
       let journal : List Entry = e.headline.journal in
-      let behind : 3 ≤ failed_count 0 (behind_stop journal) = failed_last (dones 0 (behind_stop journal)) ((e.headline.run.sent_to 0 (omega arith)).left e.some_left) in
+      let behind : 3 ≤ failed_count 0 (behind_stop journal) = failed_last (dones 0 (behind_stop journal)) ((e.headline.run.has.sent_to 0 (omega arith)).left e.some_left) in
       let many : 3 ≤ failed_count 0 journal = omega (arith, behind, behind_fewer 0 journal) in
-      absurd (o (rose_of (failed_count 0 journal) output.faults_before output.faults_after (omega (arith, many)) (e.headline.run.sent_to 0 (omega arith)).put_faults))
+      absurd (o (rose_of (failed_count 0 journal) output.faults_before output.faults_after (omega (arith, many)) (e.headline.run.has.sent_to 0 (omega arith)).put_faults))
   done_or_short statuses.ReadFault e i o n r l = absurd (i e.cut_short.0)
   done_or_short statuses.ReportFault e i o n r l =
       elim e.failed [

@@ -68,35 +68,35 @@ module _ (batch limit : ℕ) (input output note report : Change)
   -- the input was read to its end, and nothing is buffered
   pub record IsDone : Type 0 where
     pub headline : Headline batch limit input output note report run_moments input_moments
-    pub few : headline.run.taken 0 < 2 ^ 40
+    pub few : headline.run.has.taken 0 < 2 ^ 40
     pub ended : has_ended 0 headline.journal ≡ true
     pub none_left : buffered_at_end (pipe_setup batch limit headline.start) headline.journal 0 ≡ 0
 
   -- the input was read to its end, and a metric is buffered
   pub record IsLeftOver : Type 0 where
     pub headline : Headline batch limit input output note report run_moments input_moments
-    pub few : headline.run.taken 0 < 2 ^ 40
+    pub few : headline.run.has.taken 0 < 2 ^ 40
     pub ended : has_ended 0 headline.journal ≡ true
     pub some_left : buffered_at_end (pipe_setup batch limit headline.start) headline.journal 0 ≢ 0
 
   -- a read of the input failed, and it wasn't read to its end
   pub record IsReadFault : Type 0 where
     pub headline : Headline batch limit input output note report run_moments input_moments
-    pub few : headline.run.taken 0 < 2 ^ 40
+    pub few : headline.run.has.taken 0 < 2 ^ 40
     pub unended : has_ended 0 headline.journal ≡ false
     pub cut_short : IsCutShort 0 (pipe_input input input_moments) headline.journal
 
   -- the put of the journal or of the report failed
   pub record IsReportFault : Type 0 where
     pub headline : TornHeadline batch limit input output note report run_moments input_moments
-    pub few : headline.run.taken 0 < 2 ^ 40
+    pub few : headline.run.has.taken 0 < 2 ^ 40
     pub failed : (headline.journal_failed ≡ true) ⊎ (headline.report_failed ≡ true)
 
   -- 2^40 bytes of the input were taken, or the run is full
   pub record IsLimit : Type 0 where
     pub headline : TornHeadline batch limit input output note report run_moments input_moments
     pub unended : has_ended 0 headline.journal ≡ false
-    pub reached : (headline.run.taken 0 ≡ 2 ^ 40)
+    pub reached : (headline.run.has.taken 0 ≡ 2 ^ 40)
         ⊎ IsFull (plain_rule gather_pieces) headline.journal 0 input.before input.after
 
   -- what each status of a run says; nothing is promised where memory was short

@@ -54,7 +54,7 @@ const TRIED_FIVE_TIMES: &[u8] = b"journal 1\nstart 0\ninput 0 plain\n\
     end 25\n";
 
 /// Puts of which each fails before its first byte.
-const DEAD: &[(u64, usize)] = &[
+pub const DEAD: &[(u64, usize)] = &[
     (0, 0),
     (1, 0),
     (2, 0),
@@ -78,7 +78,7 @@ struct Case {
 }
 
 /// The jobs of two outputs.
-fn jobs_of(
+pub fn jobs_of(
     alloc: Global,
     first: MemSink,
     second: MemSink,
@@ -130,7 +130,7 @@ fn inputs_of(
 }
 
 /// Two outputs of the same sizes.
-fn setup_of(alloc: Global, final_tries: u32) -> Result<RunSetup, OutOfMemory>
+pub fn setup_of(alloc: Global, final_tries: u32) -> Result<RunSetup, OutOfMemory>
     ensures count { IfOk result (λ setup. length setup.outputs ≡ 2) }
     ensures sizes { IfOk result
         (λ setup. All (λ x. (1 ≤ x.batch) × (x.batch ≤ x.limit)) setup.outputs) }
@@ -148,10 +148,10 @@ fn setup_of(alloc: Global, final_tries: u32) -> Result<RunSetup, OutOfMemory>
 
 /// What a run left: the jobs of its outputs, how it ended, and the journal.
 #[derive(Drop)]
-struct Outcome {
-    outputs: Vec<OutJob<MemSink>>,
-    ending: Ending,
-    journal: MemSink,
+pub struct Outcome {
+    pub outputs: Vec<OutJob<MemSink>>,
+    pub ending: Ending,
+    pub journal: MemSink,
 }
 
 impl Case {

@@ -1,5 +1,5 @@
 -- What a run leaves at its end, and what it begins with.
-use Rattle.std.proofs.Common.{◌≡◌, ◌≢◌, ◌≤◌, ◌<◌, ℕ, zero, suc, ℤ, ◌^◌, min, Bool, true, false, List, [], ◌∷◌, ◌++◌, length, refl, sym, ap, ◌∙◌, subst, inl, inr, arith}
+use Rattle.std.proofs.Common.{◌≡◌, ◌≢◌, ◌≤◌, ◌<◌, ℕ, zero, suc, ℤ, ◌^◌, min, Bool, true, false, List, [], ◌∷◌, ◌++◌, length, take, replicate, refl, sym, ap, ◌∙◌, subst, inl, inr, arith}
 use Rattle.std.specs.Prelude.{IfSome, not, ◌⊎◌, count_by, map}
 use Rattle.std.proofs.lemmas.List.{length-map, length-replicate}
 use Rattle.std.specs.Int.{int_max}
@@ -9,9 +9,9 @@ use Rattle.account.specs.AccountText.{account_text}
 use Rattle.account.specs.Setup.{Setup}
 use Rattle.account.specs.declared.entry.Entry.{Entry}
 use Rattle.metric.specs.declared.metric.Content.{Content}
-use Rattle.agent_base.specs.Clocked.{Counted}
+use Rattle.agent_base.specs.Clocked.{Counted, last_of}
 use Rattle.agent_base.specs.Moments.{Moments, Gives}
-use Rattle.agent_base.proofs.ClockLemmas.{counted_one_over, counted_wider}
+use Rattle.agent_base.proofs.ClockLemmas.{counted_joined, counted_one_over, counted_wider}
 use Rattle.journal_text.specs.JournalText.{journal_text}
 use Rattle.pipeline_core.specs.CoreState.{CoreState}
 use Rattle.pipeline_core.specs.Legal.{IsLegal, has_ended, gathered_count}
@@ -25,22 +25,26 @@ use Rattle.pipeline_core.specs.Stopped.{behind_stop}
 use Rattle.account.specs.EntryMoments.{counted_moments}
 use Rattle.account.specs.Items.{raw_items, items, taken}
 use Rattle.agent_workers.specs.Input.{IsFull}
-use Rattle.agent_workers.specs.Inputs.{InPart, in_at, HoldsTooMany, AreInputs, AreOut, OneIsFull, IsOneOf, IsOneIn, IsFresh}
-use Rattle.agent_workers.specs.Run.{Change, change, InRun, in_run, in_runs, run_at, change_at, out_changes, SomeIsFull, RunsFull, IsUnread, IsReadFrom, IsSentTo, IsRun, EndsSo, IsPutSo, IsLeft, Ran, buffered_at_end, account_of}
+use Rattle.agent_workers.specs.Inputs.{InPart, in_at, HoldsTooMany, AreInputs, AreOut, OneIsFull, IsOneOf, IsOneIn, IsFresh, AreFresh}
+use Rattle.agent_workers.specs.Run.{change, InRun, in_run, in_runs, run_at, change_at, out_changes, SomeIsFull, RunsFull, IsUnread, IsReadFrom, IsSentTo, HasRun, EndsSo, IsPutSo, IsLeft, Ran, buffered_at_end, account_of}
+use Rattle.agent_workers.specs.Finished.{ClockRun, IsCounted, Finished, FinishesSo, begun, IsSetUp}
 use Rattle.agent_workers.specs.Noted.{JournalPart, Notes}
 use Rattle.agent_workers.specs.PipeSetup.{run_setup, journal_setup_of}
 use Rattle.agent_workers.specs.Progress.{Beginning, Surroundings, HasText, Heard, Said, AllSaid, Progress, GoesOn, SendsOn, GathersOn, RunsOn, NotesRun}
-use Rattle.agent_workers.specs.Running.{AreSettled, AreLeft, IsLeftOver, buffered_at}
-use Rattle.agent_workers.specs.Output.{OutPart, out_at, anew, AreAnew}
+use Rattle.agent_workers.specs.Running.{IsReady, AreSettled, AreLeft, IsLeftOver, buffered_at}
+use Rattle.agent_workers.specs.Output.{OutPart, out_at, anew, AreAnew, AreOutputs}
 use Rattle.agent_workers.specs.declared.input.InState.{InState}
 use Rattle.agent_workers.specs.declared.input.InState.TheVariants as states
 use Rattle.agent_workers.specs.declared.serial.Ending.{Ending}
 use Rattle.account.proofs.DoneLemmas.{dones_none, last_none, last_fewer}
 use Rattle.account.proofs.MomentLemmas.{counted_none}
 use Rattle.pipeline_core.proofs.OrderLemmas.{in_order_first}
+use Rattle.pipeline_core.proofs.StandsCuts.{cut_stands}
 use Rattle.pipeline_core.proofs.RawLemmas.{raw_of-none}
 use Rattle.pipeline_core.proofs.WorkedLemmas.{worked_first}
 use Rattle.agent_workers.proofs.HeardLemmas.{heard_first, gathered_at_end, clocked_at_end, full_at_end}
+use Rattle.agent_workers.proofs.InLemmas.{fit_first}
+use Rattle.agent_workers.proofs.NotedLemmas.{notes_none}
 use Rattle.agent_workers.proofs.OutLemmas.{at_anew, are_anew}
 use Rattle.agent_workers.proofs.ProgressLemmas.{buffered_is, went_anew, went_next}
 use Rattle.agent_workers.proofs.RoseLemmas.{rose_none}
@@ -85,6 +89,34 @@ went_first start core outs part stands setup stored notes front in_count fresh a
 pub none_buffered : (core : CoreState) (outs : List OutPart) → ((o : ℕ) → buffered_at core o ≡ 0) → AreSettled core outs
 none_buffered core outs none = λ o l. inl (none o)
 
+-- outputs at which no batch failed are as when they begin anew
+anew_same : (outs : List OutPart) → AreAnew outs → outs ≡ map anew outs
+anew_same [] h = refl
+anew_same (x ∷ outs) h =
+    let first : x ≡ anew x = ap (λ (n : ℕ). record x { failed = n }) (h 0 (omega arith)) in
+    ap (λ (y : OutPart). y ∷ outs) first ∙ ap (λ (ys : List OutPart). anew x ∷ ys) (anew_same outs (λ o l. h (suc o) (omega (arith, l))))
+
+-- a run is set up
+pub is_set_up : (sizes : List (ℕ × ℕ)) (start : ℤ) (n : ℕ) (core : CoreState) (ins : List InPart) (outs : List OutPart) (part : JournalPart) → n ≡ length ins → length sizes ≤ 16 → IsReady core → core.stopped ≡ false → Stands core [] → core.setup ≡ run_setup n sizes start → core.stored ≡ [] →
+    core.ended ≡ replicate n false → ((o : ℕ) → buffered_at core o ≡ 0) → AreFresh ins → AreOutputs (length sizes) outs → AreAnew outs → part.setup ≡ journal_setup_of (run_setup n sizes start) → part.kept ≡ [] → part.entries ≡ 0 → part.failed ≡ false → IsSetUp sizes start core ins outs part
+is_set_up sizes start n core ins outs part number few ready going stands setup stored ended none fresh are zeros about kept entries unfailed =
+    let setup_is : core.setup ≡ run_setup (length ins) sizes start = setup ∙ ap (λ (k : ℕ). run_setup k sizes start) number in
+    let about_is : part.setup ≡ journal_setup_of (run_setup (length ins) sizes start) = about ∙ ap (λ (k : ℕ). journal_setup_of (run_setup k sizes start)) number in
+    let outputs_are : length core.setup.outputs ≡ length sizes = ap (λ (s : Setup). length s.outputs) setup in
+    let inputs_are : length core.setup.inputs ≡ n = ap (λ (s : Setup). length s.inputs) setup ∙ length-replicate {A = Option ℕ} n None in
+    record {
+      few = omega (arith, outputs_are, few);
+      ready = ready;
+      going = going;
+      stands = record { journal = []; stands = stands };
+      outputs_are = outputs_are;
+      inputs = fit_first n (length core.setup.inputs) core.ended ins inputs_are (sym number) ended fresh;
+      outputs = subst (λ (k : ℕ). AreOutputs k outs) (sym outputs_are) are;
+      settled = none_buffered core outs none;
+      agrees = λ views. went_first (begun sizes start views ins outs part) core outs part stands setup_is stored (notes_none (journal_setup_of (run_setup (length ins) sizes start)) part about_is kept entries unfailed) refl
+          (sym (length-replicate {A = Option ℕ} (length ins) None)) fresh.fresh (anew_same outs zeros) are.count_is;
+    }
+
 -- ---- the end
 
 -- an input at its place
@@ -111,10 +143,25 @@ start_at : (all : Option Moments) (place : ℕ) (start : ℤ) → Gives all 0 pl
 start_at None place start g = tt
 start_at (Some moments) place start g = g.given
 
-counted_ends : (all : Option Moments) (place last : ℕ) (start moment : ℤ) (ms : List ℤ) → Gives all 0 place start → Gives all place last moment → ms ≡ int_max moment start ∷ [] → IfSome all (λ moments. Counted moments (min 1 moments.last) moments.last start ms)
-counted_ends None place last start moment ms g h e = tt
-counted_ends (Some moments) place last start moment ms g h e =
-    rw e (counted_wider moments (min 1 moments.last) place last moments.last start (int_max moment start ∷ []) (omega (arith, g.next)) (omega (arith, h.next)) (counted_one_over moments place last moment start h))
+-- no moment counted yet
+counted_first : (all : Option Moments) (place : ℕ) (start : ℤ) → IfSome all (λ moments. Counted moments place place start [])
+unfolding Counted
+counted_first None place start = tt
+counted_first (Some moments) place start = omega arith
+
+-- one moment more
+counted_on : (all : Option Moments) (first place last : ℕ) (floor moment : ℤ) (olds news : List ℤ) → Gives all place last moment → news ≡ olds ++ int_max moment (last_of floor olds) ∷ [] → IfSome all (λ moments. Counted moments first place floor olds)
+    → IfSome all (λ moments. IsCounted moments first last floor news)
+counted_on None first place last floor moment olds news g e h = tt
+counted_on (Some moments) first place last floor moment olds news g e h = (
+  omega (arith, g.next),
+  subst (λ (ms : List ℤ). Counted moments first last floor ms) (sym e) (counted_joined moments first place last floor olds (int_max moment (last_of floor olds) ∷ []) h (counted_one_over moments place last moment (last_of floor olds) g)),
+)
+
+-- all moments of a run that began with nothing
+counted_all : (all : Option Moments) (place last : ℕ) (start : ℤ) (ms : List ℤ) → Gives all 0 place start → IfSome all (λ moments. IsCounted moments place last start ms) → IfSome all (λ moments. Counted moments (min 1 moments.last) moments.last start ms)
+counted_all None place last start ms g h = tt
+counted_all (Some moments) place last start ms g h = counted_wider moments (min 1 moments.last) place last moments.last start ms (omega (arith, g.next)) h.0 h.1
 
 left_is : (left : Bool) (start : Beginning) (core : CoreState) (part : JournalPart) (journal : List Entry) → HasText start core part journal → IsLeftOver left core → IsLeft left start.setup journal
 left_is false start core part journal h none = λ o l. sym (buffered_is start core part journal h o) ∙ none o (omega (arith, l, ap (λ (s : Setup). length s.outputs) h.setup_is))
@@ -156,113 +203,167 @@ limit_by : (limit : Bool) (gathered : ℕ) (ins : List InPart) → IsOneIn state
 limit_by true gathered ins one full = refl
 limit_by false gathered ins none full = absurd (none full.0 full.1 full.2.limit)
 
-module _ (views : List (Content → Option Content)) (tries count : ℕ) (sizes : List (ℕ × ℕ)) (start moment : ℤ) (starts : List InPart) (outs : List OutPart) (noted : Option (List ℕ)) (note_faults : ℕ) (run_moments : Option Moments) (first last : ℕ) (core : CoreState) (now : Surroundings) where
-  -- what the run began with
-  abbrev pub beginning : Beginning
-  beginning = record { setup = run_setup count sizes start; views = views; ins = starts; outs = outs; noted = noted; note_faults = note_faults; front = [] }
-
-  module _ (w : Progress beginning core (record now { counted_at = int_max moment start ∷ [] })) (gives_first : Gives run_moments 0 first start) (gives_last : Gives run_moments first last moment)
-      (stopped : core.stopped ≡ true) (raw : core.raw ≡ []) (none_held : core.held ≡ None) (in_count : length starts ≡ count) (out_count : length outs ≡ length sizes) (rest : AreLeft tries core now.outs)
-      (ended : List Bool) (fit : AreInputs count ended now.ins) (why : OneIsFull core.gathered now.ins ⊎ AreOut now.ins) where
-    left_failed : (o : ℕ) → o < length now.outs → (buffered_at core o ≡ 0) ⊎ (tries ≤ (out_at now.outs o).failed) → buffered_at_end (run_setup count sizes start) w.journal o ≢ 0 → LastFailed tries (dones o (behind_stop w.journal))
-    left_failed o l (inl none) some = absurd (some (sym (buffered_is beginning core now.journal w.journal w.text o) ∙ none))
+module _ (start : Beginning) (tries : ℕ) (core : CoreState) (now : Surroundings) where
+  module _ (w : Progress start core now) (stopped : core.stopped ≡ true) (raw : core.raw ≡ []) (none_held : core.held ≡ None) (starts_count : length start.ins ≡ length start.setup.inputs) (outs_count : length start.outs ≡ length start.setup.outputs) (rest : AreLeft tries core now.outs)
+      (ended : List Bool) (fit : AreInputs (length start.setup.inputs) ended now.ins) (why : OneIsFull core.gathered now.ins ⊎ AreOut now.ins) where
+    left_failed : (o : ℕ) → o < length now.outs → (buffered_at core o ≡ 0) ⊎ (tries ≤ (out_at now.outs o).failed) → buffered_at_end start.setup w.journal o ≢ 0 → LastFailed tries (dones o (behind_stop w.journal))
+    left_failed o l (inl none) some = absurd (some (sym (buffered_is start core now.journal w.journal w.text o) ∙ none))
     left_failed o l (inr many) some = last_fewer tries (out_at now.outs o).failed (dones o (behind_stop w.journal)) many ((w.said o l).last (sym w.text.stands.stopped ∙ stopped))
 
-    sent_to : (o : ℕ) → o < length sizes → IsSentTo tries (run_setup count sizes start) w.journal o (change_at (out_changes outs now.outs) o)
+    sent_to : (o : ℕ) → o < length start.setup.outputs → IsSentTo tries start.setup w.journal o (change_at (out_changes start.outs now.outs) o)
     sent_to o within =
         let l : o < length now.outs = omega (arith, within, w.out_count) in
         let said = w.said o l in
-        let is : IsSentTo tries (run_setup count sizes start) w.journal o (change (out_at outs o).held (out_at now.outs o).held (out_at outs o).put_faults (out_at now.outs o).put_faults) =
+        let is : IsSentTo tries start.setup w.journal o (change (out_at start.outs o).held (out_at now.outs o).held (out_at start.outs o).put_faults (out_at now.outs o).put_faults) =
         record { sent = said.sent; put_faults = said.put_faults; left = left_failed o l (rest o l) } in
-        subst (IsSentTo tries (run_setup count sizes start) w.journal o) (sym (changes_at outs now.outs o (omega (arith, w.out_count, out_count)) (omega (arith, within, out_count)))) is
+        subst (IsSentTo tries start.setup w.journal o) (sym (changes_at start.outs now.outs o (omega (arith, w.out_count, outs_count)) (omega (arith, within, outs_count)))) is
 
-    same_count : length now.ins ≡ length starts
-    same_count = fit.count_is ∙ sym in_count
+    same_count : length now.ins ≡ length start.ins
+    same_count = fit.count_is ∙ sym starts_count
 
-    within_ins : (k : ℕ) → k < count → k < length now.ins
+    within_ins : (k : ℕ) → k < length start.setup.inputs → k < length now.ins
     within_ins k l = omega (arith, l, fit.count_is)
 
-    at_place : (k : ℕ) → k < count → run_at (in_runs starts now.ins) k ≡ in_run (in_at starts k) (in_at now.ins k)
-    at_place k l = runs_at starts now.ins k same_count (omega (arith, l, in_count))
+    at_place : (k : ℕ) → k < length start.setup.inputs → run_at (in_runs start.ins now.ins) k ≡ in_run (in_at start.ins k) (in_at now.ins k)
+    at_place k l = runs_at start.ins now.ins k same_count (omega (arith, l, starts_count))
 
-    is_full : OneIsFull core.gathered now.ins → SomeIsFull (in_runs starts now.ins) w.journal
+    is_full : OneIsFull core.gathered now.ins → SomeIsFull (in_runs start.ins now.ins) w.journal
     is_full full =
         let k : ℕ = full.0 in
-        let l : k < count = omega (arith, full.1, fit.count_is) in
+        let l : k < length start.setup.inputs = omega (arith, full.1, fit.count_is) in
         let part : InPart = in_at now.ins k in
         let f = fit.each k l in
         let many : HoldsTooMany part.held (gathered_count w.journal) = subst (HoldsTooMany part.held) w.text.stands.gathered full.2.many in
-        let is : IsFull part.rule w.journal k (in_at starts k).left part.left = full_at_end (in_at starts k) part part.held k w.journal f.readable.some f.none_held many (w.heard k full.1) (few_of part.held part.input part.rule.most f.own) in (
+        let is : IsFull part.rule w.journal k (in_at start.ins k).left part.left = full_at_end (in_at start.ins k) part part.held k w.journal f.readable.some f.none_held many (w.heard k full.1) (few_of part.held part.input part.rule.most f.own) in (
           k,
-          omega (arith, l, in_count, length-in_runs starts now.ins same_count),
+          omega (arith, l, starts_count, length-in_runs start.ins now.ins same_count),
           subst (λ (x : InRun). IsFull x.rule w.journal k x.place.before x.place.after) (sym (at_place k l)) is,
         )
 
-    why_by : (limit : Bool) → IsOneIn states.LimitReached now.ins limit → (k : ℕ) → k < length now.ins → RunsFull limit (in_runs starts now.ins) w.journal ⊎ (((in_at now.ins k).state ≢ states.Reading) × ((in_at now.ins k).held ≡ None))
+    why_by : (limit : Bool) → IsOneIn states.LimitReached now.ins limit → (k : ℕ) → k < length now.ins → RunsFull limit (in_runs start.ins now.ins) w.journal ⊎ (((in_at now.ins k).state ≢ states.Reading) × ((in_at now.ins k).held ≡ None))
     why_by limit one k l =
         elim why [
           | inl full ↦ inl (limit_by limit core.gathered now.ins one full, is_full full)
           | inr out ↦ inr ((out k l).read, (out k l).none_held)
         ]
 
-    ends_at : (limit : Bool) → IsOneIn states.LimitReached now.ins limit → (k : ℕ) → k < count → EndsSo limit (in_runs starts now.ins) k (in_at now.ins k).state (in_run (in_at starts k) (in_at now.ins k)) (in_at now.ins k).hand.taken w.journal
+    ends_at : (limit : Bool) → IsOneIn states.LimitReached now.ins limit → (k : ℕ) → k < length start.setup.inputs → EndsSo limit (in_runs start.ins now.ins) k (in_at now.ins k).state (in_run (in_at start.ins k) (in_at now.ins k)) (in_at now.ins k).hand.taken w.journal
     ends_at limit one k l =
-        ends_by limit (in_runs starts now.ins) (in_at now.ins k).state (in_at now.ins k).held (in_at starts k) (in_at now.ins k) k w.journal (why_by limit one k (within_ins k l)) (w.heard k (within_ins k l))
+        ends_by limit (in_runs start.ins now.ins) (in_at now.ins k).state (in_at now.ins k).held (in_at start.ins k) (in_at now.ins k) k w.journal (why_by limit one k (within_ins k l)) (w.heard k (within_ins k l))
 
-    unread : (k : ℕ) → k < count → has_ended k w.journal ≡ false → IsUnread (in_runs starts now.ins) k (in_run (in_at starts k) (in_at now.ins k)) (in_at now.ins k).hand.taken w.journal
+    unread : (k : ℕ) → k < length start.setup.inputs → has_ended k w.journal ≡ false → IsUnread (in_runs start.ins now.ins) k (in_run (in_at start.ins k) (in_at now.ins k)) (in_at now.ins k).hand.taken w.journal
     unread k l =
         elim why [
           | inl full ↦ λ e. inr (inr (is_full full))
-          | inr out ↦ unread_by false (in_runs starts now.ins) (in_at now.ins k).state (in_run (in_at starts k) (in_at now.ins k)) (in_at now.ins k).hand.taken k w.journal
-              (ends_by false (in_runs starts now.ins) (in_at now.ins k).state (in_at now.ins k).held (in_at starts k) (in_at now.ins k) k w.journal (inr ((out k (within_ins k l)).read, (out k (within_ins k l)).none_held)) (w.heard k (within_ins k l)))
+          | inr out ↦ unread_by false (in_runs start.ins now.ins) (in_at now.ins k).state (in_run (in_at start.ins k) (in_at now.ins k)) (in_at now.ins k).hand.taken k w.journal
+              (ends_by false (in_runs start.ins now.ins) (in_at now.ins k).state (in_at now.ins k).held (in_at start.ins k) (in_at now.ins k) k w.journal (inr ((out k (within_ins k l)).read, (out k (within_ins k l)).none_held)) (w.heard k (within_ins k l)))
         ]
 
-    read_of : (k : ℕ) → k < count → IsReadFrom (in_runs starts now.ins) w.journal k (in_run (in_at starts k) (in_at now.ins k)) (in_at now.ins k).hand.taken
+    read_of : (k : ℕ) → k < length start.setup.inputs → IsReadFrom (in_runs start.ins now.ins) w.journal k (in_run (in_at start.ins k) (in_at now.ins k)) (in_at now.ins k).hand.taken
     read_of k l =
         let part : InPart = in_at now.ins k in
         let f = fit.each k l in
         let h = w.heard k (within_ins k l) in
         record {
-          gathered = gathered_at_end (in_at starts k) part part.held k w.journal f.readable.some f.none_held h;
-          clocked = clocked_at_end (in_at starts k) part part.held k w.journal h;
+          gathered = gathered_at_end (in_at start.ins k) part part.held k w.journal f.readable.some f.none_held h;
+          clocked = clocked_at_end (in_at start.ins k) part part.held k w.journal h;
           bytes_taken = h.counted;
           unread = unread k l;
         }
 
-    pub is_run : IsRun views tries (run_setup count sizes start) (in_runs starts now.ins) (out_changes outs now.outs) run_moments w.journal
-    is_run = record {
+    pub has_run : HasRun start.views tries start.setup (in_runs start.ins now.ins) (out_changes start.outs now.outs) w.journal
+    has_run = record {
       legal = subst (λ (s : Setup). IsLegal s w.journal) w.text.setup_is w.text.stands.legal;
       taken = λ k. (in_at now.ins k).hand.taken;
-      read_from = λ k l. subst (λ (x : InRun). IsReadFrom (in_runs starts now.ins) w.journal k x (in_at now.ins k).hand.taken) (sym (at_place k (omega (arith, l, length-replicate {A = Option ℕ} count None)))) (read_of k (omega (arith, l, length-replicate {A = Option ℕ} count None)));
+      read_from = λ k l. subst (λ (x : InRun). IsReadFrom (in_runs start.ins now.ins) w.journal k x (in_at now.ins k).hand.taken) (sym (at_place k l)) (read_of k l);
       sent_to = sent_to;
       worked = w.worked;
       stopped = sym w.text.stands.stopped ∙ stopped;
       none_raw = sym w.text.stands.raw ∙ raw;
       none_held = sym w.text.stands.held ∙ none_held;
-      start = start_at run_moments first start gives_first;
-      counted = counted_ends run_moments first last start moment (counted_moments w.journal) gives_first gives_last w.counted_at;
-      in_order = w.order.in_order refl;
     }
 
-    pub ran : (ending : Ending) (put : Change) → IsOneIn states.LimitReached now.ins ending.limit → IsOneIn states.Faulted now.ins ending.read_fault → IsLeftOver ending.left core → ending.account.items ≡ account_text core.numbers →
-        IsPutSo ending.journal_fault put (journal_text (journal_setup_of (run_setup count sizes start)) (w.text.written ++ core.stored) (account_text core.numbers)) → Ran views tries count sizes ending (in_runs starts now.ins) (out_changes outs now.outs) put run_moments
-    unfolding is_run
-    ran ending put limit fault left account_is noted =
-        let totals_are : core.numbers ≡ totals (run_setup count sizes start) w.journal = w.text.stands.numbers ∙ ap (λ (s : Setup). totals s w.journal) w.text.setup_is in
-        let same : account_text core.numbers ≡ account_of (run_setup count sizes start) w.journal = ap account_text totals_are in
+    -- the inputs fit the core still
+    fit_still : AreInputs (length start.setup.inputs) core.ended now.ins
+    fit_still = record {
+      count_is = fit.count_is;
+      each = λ k l.
+          let f = fit.each k l in
+          let within : k < length core.setup.inputs = omega (arith, l, ap (λ (s : Setup). length s.inputs) w.text.setup_is) in
+          record {
+            number = f.number;
+            readable = f.readable;
+            ended_is = w.text.stands.ended k within ∙ ap Some (w.heard k (within_ins k l)).ended;
+            own = f.own;
+            none_held = f.none_held;
+          };
+    }
+
+    pub finished : (ending : Ending) (last : CoreState) (part : JournalPart) (olds : List ℤ) (timer : ClockRun) (moment : ℤ) → last ≡ after_cut core → Gives timer.moments timer.before timer.after moment → now.counted_at ≡ olds ++ int_max moment (last_of start.setup.start olds) ∷ [] →
+        IsOneIn states.LimitReached now.ins ending.limit → IsOneIn states.Faulted now.ins ending.read_fault → IsLeftOver ending.left core → ending.account.items ≡ account_text core.numbers →
+        IsPutSo ending.journal_fault (change start.noted part.held start.note_faults part.faults) (journal_text (journal_setup_of start.setup) (w.text.written ++ core.stored) (account_text core.numbers)) → Finished start tries ending last now.ins now.outs part olds timer
+    unfolding has_run
+    finished ending last part olds timer moment cut gives counts limit fault left account_is noted =
+        let totals_are : core.numbers ≡ totals start.setup w.journal = w.text.stands.numbers ∙ ap (λ (s : Setup). totals s w.journal) w.text.setup_is in
+        let same : account_text core.numbers ≡ account_of start.setup w.journal = ap account_text totals_are in
         record {
-          start = start;
           journal = w.journal;
-          run = is_run;
-          state = λ k. (in_at now.ins k).state;
-          ends = λ k l. subst (λ (x : InRun). EndsSo ending.limit (in_runs starts now.ins) k (in_at now.ins k).state x (in_at now.ins k).hand.taken w.journal) (sym (at_place k l)) (ends_at ending.limit limit k l);
-          limit = subst (λ (n : ℕ). IsOneOf states.LimitReached n (λ k. (in_at now.ins k).state) ending.limit) fit.count_is limit;
-          read_fault = subst (λ (n : ℕ). IsOneOf states.Faulted n (λ k. (in_at now.ins k).state) ending.read_fault) fit.count_is fault;
-          left = left_is ending.left beginning core now.journal w.journal w.text left;
+          stands = cut_stands core last cut w.journal w.text.stands;
+          more = w.text.more;
+          goes_on = w.text.goes_on;
+          run = has_run;
+          fit = subst (λ (s : CoreState). AreInputs (length start.setup.inputs) s.ended now.ins) (sym cut) fit_still;
+          heard = w.heard;
+          said = w.said;
+          counted = λ first. counted_on timer.moments first timer.before timer.after start.setup.start moment olds (counted_moments w.journal) gives (w.counted_at ∙ counts);
+          in_order = w.order.in_order;
+          ends = λ k l. subst (λ (x : InRun). EndsSo ending.limit (in_runs start.ins now.ins) k (in_at now.ins k).state x (in_at now.ins k).hand.taken w.journal) (sym (at_place k l)) (ends_at ending.limit limit k l);
+          limit = limit;
+          read_fault = fault;
+          left = left_is ending.left start core now.journal w.journal w.text left;
           account = account_is ∙ same;
-          noted = subst (λ (account : List ℕ). IsPutSo ending.journal_fault put (journal_text (journal_setup_of (run_setup count sizes start)) w.journal account)) same
-              (subst (λ (es : List Entry). IsPutSo ending.journal_fault put (journal_text (journal_setup_of (run_setup count sizes start)) es (account_text core.numbers))) (sym w.text.split) noted);
+          noted = subst (λ (account : List ℕ). IsPutSo ending.journal_fault (change start.noted part.held start.note_faults part.faults) (journal_text (journal_setup_of start.setup) w.journal account)) same
+              (subst (λ (es : List Entry). IsPutSo ending.journal_fault (change start.noted part.held start.note_faults part.faults) (journal_text (journal_setup_of start.setup) es (account_text core.numbers))) (sym w.text.split) noted);
         }
+
+-- a list that was written over another one of its length
+pub taken_front : {X : Type 0} (n : ℕ) (news rest : List X) → length news ≡ n → take n (news ++ rest) ≡ news
+taken_front zero [] rest e = refl
+taken_front (suc n) [] rest e = absurd (omega (arith, e))
+taken_front zero (x ∷ news) rest e = absurd (omega (arith, e))
+taken_front {X} (suc n) (x ∷ news) rest e = ap (λ (xs : List X). x ∷ xs) (taken_front n news rest (omega (arith, e)))
+
+-- a run ends, by other terms
+pub finishes_by : (views other : List (Content → Option Content)) (tries : ℕ) (ending : Ending) (old new : CoreState) (ins last_ins ins_by last_ins_by : List InPart) (outs last_outs outs_by last_outs_by : List OutPart) (part last_part : JournalPart) (timer : ClockRun) →
+    other ≡ views → ins_by ≡ ins → last_ins_by ≡ last_ins → outs_by ≡ outs → last_outs_by ≡ last_outs → FinishesSo views tries ending old new ins last_ins outs last_outs part last_part timer
+    → FinishesSo other tries ending old new ins_by last_ins_by outs_by last_outs_by part last_part timer
+finishes_by views other tries ending old new ins last_ins ins_by last_ins_by outs last_outs outs_by last_outs_by part last_part timer v a b d e h = rw (v, a, b, d, e) h
+
+-- a run that began with nothing
+module _ (views : List (Content → Option Content)) (tries count : ℕ) (sizes : List (ℕ × ℕ)) (start : ℤ) (starts : List InPart) (outs : List OutPart) (noted : Option (List ℕ)) (note_faults : ℕ) where
+  -- what it began with
+  abbrev pub beginning : Beginning
+  beginning = record { setup = run_setup count sizes start; views = views; ins = starts; outs = outs; noted = noted; note_faults = note_faults; front = [] }
+
+  pub ran : (ending : Ending) (core : CoreState) (ins : List InPart) (new_outs : List OutPart) (part : JournalPart) (timer : ClockRun) → Gives timer.moments 0 timer.before start → length ins ≡ count → Finished beginning tries ending core ins new_outs part [] timer
+      → Ran views tries count sizes ending (in_runs starts ins) (out_changes outs new_outs) (change noted part.held note_faults part.faults) timer.moments
+  ran ending core ins new_outs part timer gives number f = record {
+    start = start;
+    journal = f.journal;
+    run = record {
+      has = f.run;
+      start = start_at timer.moments timer.before start gives;
+      counted = counted_all timer.moments timer.before timer.after start (counted_moments f.journal) gives (f.counted timer.before (counted_first timer.moments timer.before start));
+      in_order = f.in_order refl;
+    };
+    state = λ k. (in_at ins k).state;
+    ends = λ k l. f.ends k (omega (arith, l, length-replicate {A = Option ℕ} count None));
+    limit = subst (λ (n : ℕ). IsOneOf states.LimitReached n (λ k. (in_at ins k).state) ending.limit) number f.limit;
+    read_fault = subst (λ (n : ℕ). IsOneOf states.Faulted n (λ k. (in_at ins k).state) ending.read_fault) number f.read_fault;
+    left = f.left;
+    account = f.account;
+    noted = f.noted;
+  }
 
 -- ---- rounds
 

@@ -1,3 +1,4 @@
+pub mod Finished
 pub mod Groups
 pub mod Input
 pub mod Inputs

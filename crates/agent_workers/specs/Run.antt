@@ -131,11 +131,10 @@ pub record IsSentTo (tries : ℕ) (setup : Setup) (journal : List Entry) (output
   pub left : buffered_at_end setup journal output ≢ 0
       → LastFailed tries (dones output (behind_stop journal))
 
--- A legal journal of a run, given its inputs and outputs, what the outputs' filters give, how often in succession a repeat without an accepted
--- batch is tried at the end, and the moments of the run's clock.
-pub record IsRun (views : List (Content → Option Content)) (tries : ℕ) (setup : Setup) (ins : List InRun)
-    (outputs : List Change)
-    (run_moments : Option Moments) (journal : List Entry) : Type 0 where
+-- A legal journal of a run that came to its end, given what its outputs' filters give, how often in succession a
+-- repeat without an accepted batch is tried at the end, its inputs and its outputs.
+pub record HasRun (views : List (Content → Option Content)) (tries : ℕ) (setup : Setup) (ins : List InRun)
+    (outputs : List Change) (journal : List Entry) : Type 0 where
   pub legal : IsLegal setup journal
   -- what each input gave was gathered, so many bytes of it
   pub taken : ℕ → ℕ
@@ -150,6 +149,11 @@ pub record IsRun (views : List (Content → Option Content)) (tries : ℕ) (setu
   pub stopped : has_stop journal ≡ true
   pub none_raw : raw_items journal ≡ []
   pub none_held : in_hand journal ≡ None
+
+-- The same of a run that began with nothing, given the moments of its clock.
+pub record IsRun (views : List (Content → Option Content)) (tries : ℕ) (setup : Setup) (ins : List InRun)
+    (outputs : List Change) (run_moments : Option Moments) (journal : List Entry) : Type 0 where
+  pub has : HasRun views tries setup ins outputs journal
   -- the moments are those of the run's clock
   pub start : IfSome run_moments (λ moments. setup.start ≡ moments.at 0)
   pub counted : IfSome run_moments
@@ -193,7 +197,7 @@ pub record Ran (views : List (Content → Option Content)) (tries count : ℕ) (
   -- the states of the inputs; a limit was reached, or a read failed, exactly where one of them says so
   pub state : ℕ → InState
   pub ends : (number : ℕ) → number < count →
-      EndsSo ending.limit ins number (state number) (run_at ins number) (run.taken number) journal
+      EndsSo ending.limit ins number (state number) (run_at ins number) (run.has.taken number) journal
   pub limit : IsOneOf states.LimitReached count state ending.limit
   pub read_fault : IsOneOf states.Faulted count state ending.read_fault
   pub left : IsLeft ending.left (run_setup count sizes start) journal

@@ -15,6 +15,15 @@ use metric_filter::Filter;
 use pipeline_core::{Core, Item, Routed, TakeAnswer};
 use std::alloc::Global;
 
+/// What routes the items of a run.
+#[derive(Drop)]
+pub struct ProcJob<C: Drop> {
+    /// The filter of each output, in order.
+    pub outs: Seq<Filter>,
+    /// Its clock, which is asked for no moment yet.
+    pub clock: C,
+}
+
 /// What each of the filters gives for a metric. That of one output takes no memory but its own.
 fn views_of(
     alloc: Global,

@@ -6,18 +6,20 @@ ghost use Rattle.account.specs.AccountText.{account_text};
 ghost use Rattle.agent_base.specs.Clocked.{last_of};
 ghost use Rattle.agent_base.specs.Moments.{Gives};
 ghost use Rattle.pipeline_core.specs.CoreState.{sizes};
+ghost use Rattle.pipeline_core.specs.Steps.{after_cut};
 ghost use Rattle.agent_workers.specs.Inputs.{ins_of, AreInputs, AreSameInputs, AreOut, AreFresh, OneIsFull};
 ghost use Rattle.agent_workers.specs.Inputs.{IsOneInput};
+ghost use Rattle.agent_workers.specs.Finished.{FinishesSo, IsSetUp};
 ghost use Rattle.agent_workers.specs.Run.{Ran, change, in_runs, out_changes};
 ghost use Rattle.agent_workers.specs.Noted.{part_of, EndsOn};
-ghost use Rattle.agent_workers.specs.Output.{outs_of, AreOutputs};
+ghost use Rattle.agent_workers.specs.Output.{outs_of, AreAnew, AreOutputs};
 ghost use Rattle.agent_workers.specs.PipeSetup.{run_setup, journal_setup_of};
 ghost use Rattle.agent_workers.specs.Progress.{Beginning, Surroundings, Progress, RunsOn};
 ghost use Rattle.agent_workers.specs.Reader.{plain_rule, plain_view, views_by};
 ghost use Rattle.agent_workers.specs.Running.{IsReady, HasJournal, StillStands, AreLeft, IsLeftOver};
 
 use crate::input::{InJob, InState, are_out, gather_each, has_fault, has_limit};
-use crate::item::route_all;
+use crate::item::{ProcJob, route_all};
 use crate::journal::{JournalJob, last_entries, note};
 use crate::output::{OutJob, begin_anew, send_each, send_rest};
 use crate::setup::{journal_setup, new_core};
@@ -34,6 +36,33 @@ pub struct RunSetup {
     /// The sizes of its outputs, in order.
     pub outputs: Seq<OutSetup>,
     /// How often in succession a repeat that had no batch accepted is tried at the end.
+    pub final_tries: u32,
+}
+
+/// The jobs of a run.
+#[derive(Drop)]
+pub struct Parts<S: Drop, K: Drop, C: Drop> {
+    /// Its inputs, by their numbers.
+    pub inputs: Vec<InJob<S, C>>,
+    /// The clock that gives the moment of the stop.
+    pub timer: C,
+    pub proc: ProcJob<C>,
+    /// Its outputs, by their numbers.
+    pub outputs: Vec<OutJob<K>>,
+    pub journal: JournalJob<K>,
+    /// How often in succession a repeat that had no batch accepted is tried at the end.
+    pub final_tries: u32,
+}
+
+/// What the jobs of a run are made of, before its core is.
+#[derive(Drop)]
+pub struct Makings<S: Drop, K: Drop, C: Drop> {
+    pub inputs: Vec<InJob<S, C>>,
+    pub timer: C,
+    pub proc: ProcJob<C>,
+    pub outputs: Vec<OutJob<K>>,
+    /// Where the journal is put.
+    pub journal: K,
     pub final_tries: u32,
 }
 
@@ -176,6 +205,7 @@ fn end_journal<K: Sink + Drop>(
     requires stands { HasJournal core.old }
     ensures left { IfOk result (λ end. IsLeftOver end.1 core.old) }
     ensures account { IfOk result (λ end. end.0.items ≡ account_text core.old.numbers) }
+    ensures cut { OnOk result (core.new ≡ after_cut core.old) }
     ensures ends { OnOk result
         (EndsOn core.old.stored (account_text core.old.numbers) (part_of K.held K.faults journal.old)
         (part_of K.held K.faults journal.new)) }
@@ -188,7 +218,156 @@ fn end_journal<K: Sink + Drop>(
     Ok((account, left))
 }
 
-/// Runs from the start: rounds, the end, and the end of the journal.
+/// Comes to the end of a run: rounds, the stop at the timer's moment, and the end of the journal.
+fn finish_jobs<S: Source + Drop, K: Sink + Drop, C: Clock + Drop>(
+    alloc: Global,
+    core: &mut Core,
+    text: &mut Vec<u8>,
+    inputs: &mut [InJob<S, C>],
+    timer: &mut C,
+    filters: &[Filter],
+    outputs: &mut [OutJob<K>],
+    journal: &mut JournalJob<K>,
+    final_tries: u32,
+) -> Result<Ending, OutOfMemory>
+    requires few { length core.old.setup.outputs ≤ 16 }
+    requires ready { IsReady core.old }
+    requires filters { length filters.now ≡ length core.old.setup.outputs }
+    requires inputs { AreInputs (length core.old.setup.inputs) core.old.ended (ins_of S.left S.faults C.moments C.place inputs.old) }
+    requires outputs { AreOutputs (length core.old.setup.outputs) (outs_of K.held K.faults outputs.old) }
+    requires going { core.old.stopped ≡ false }
+    requires stands { HasJournal core.old }
+    requires some { 1 ≤ final_tries }
+    ensures in_count { length inputs.new ≡ length inputs.old }
+    ensures count { length outputs.new ≡ length outputs.old }
+    ensures same { OnOk result (AreSameInputs (ins_of S.left S.faults C.moments C.place inputs.old)
+        (ins_of S.left S.faults C.moments C.place inputs.new)) }
+    ensures finished { IfOk result
+        (λ ending. FinishesSo (views_by filters.now) final_tries ending core.old core.new
+        (ins_of S.left S.faults C.moments C.place inputs.old)
+        (ins_of S.left S.faults C.moments C.place inputs.new)
+        (outs_of K.held K.faults outputs.old) (outs_of K.held K.faults outputs.new)
+        (part_of K.held K.faults journal.old) (part_of K.held K.faults journal.new)
+        (record { moments = C.moments timer.old; before = C.place timer.old; after = C.place timer.new })) }
+{
+    rounds(alloc, core, text, inputs, filters, outputs, journal)?;
+    let moment = timer.now();
+    stop_run(alloc, core, text, filters, outputs, moment, final_tries)?;
+    let (account, left) = end_journal(alloc, core, text, outputs.len() as u32, journal)?;
+    Ok(Ending {
+        account,
+        limit: has_limit(inputs),
+        journal_fault: journal.failed,
+        read_fault: has_fault(inputs),
+        left,
+    })
+}
+
+/// A core in which nothing happened, and the jobs of a run that begins with it at a moment; all that they are
+/// made of, where memory was short. All memory is taken before something is handed in.
+pub fn set_up<S: Source + Drop, K: Sink + Drop, C: Clock + Drop>(
+    alloc: Global,
+    setups: &[OutSetup],
+    start: Moment,
+    makings: Makings<S, K, C>,
+) -> Result<(Core, Parts<S, K, C>), Makings<S, K, C>>
+    requires few_inputs { length makings.inputs.items ≤ 16 }
+    requires few { length setups.now ≤ 16 }
+    requires sizes { All (λ x. (1 ≤ x.batch) × (x.batch ≤ x.limit)) setups.now }
+    requires inputs { AreFresh (ins_of S.left S.faults C.moments C.place makings.inputs.items) }
+    requires outputs { AreOutputs (length setups.now) (outs_of K.held K.faults makings.outputs.items) }
+    requires fresh { AreAnew (outs_of K.held K.faults makings.outputs.items) }
+    ensures made { IfOk result (λ made. IsSetUp (map sizes setups.now) start made.0
+        (ins_of S.left S.faults C.moments C.place made.1.inputs.items)
+        (outs_of K.held K.faults made.1.outputs.items) (part_of K.held K.faults made.1.journal)) }
+    ensures of { IfOk result (λ made. made.1 ≡ record {
+          inputs = makings.inputs;
+          timer = makings.timer;
+          proc = makings.proc;
+          outputs = makings.outputs;
+          journal = made.1.journal;
+          final_tries = makings.final_tries;
+        }) }
+    ensures sink { IfOk result (λ made. made.1.journal.sink ≡ makings.journal) }
+    ensures back { IfErr result (λ back. back ≡ makings) }
+{
+    let count = makings.inputs.as_slice().len();
+    let core = match new_core(alloc, count, setups, start) {
+        Ok(core) => core,
+        Err(_) => return Err(makings),
+    };
+    let about = match journal_setup(alloc, count, setups, start) {
+        Ok(about) => about,
+        Err(_) => return Err(makings),
+    };
+    let Makings {
+        inputs,
+        timer,
+        proc,
+        outputs,
+        journal,
+        final_tries,
+    } = makings;
+    let job = JournalJob::new(alloc, about, journal);
+    Ok((
+        core,
+        Parts {
+            inputs,
+            timer,
+            proc,
+            outputs,
+            journal: job,
+            final_tries,
+        },
+    ))
+}
+
+/// Comes to the end of a run, whatever its core and its jobs have come to: rounds, each of which puts the
+/// entries that it made, until each input is read no more and holds nothing; the stop, and what is buffered is
+/// sent; and the end of the journal.
+///
+/// It always returns. Where memory ran out the core and the jobs are as the calls made until then left them.
+pub fn finish<S: Source + Drop, K: Sink + Drop, C: Clock + Drop>(
+    alloc: Global,
+    core: &mut Core,
+    parts: &mut Parts<S, K, C>,
+) -> Result<Ending, OutOfMemory>
+    requires few { length core.old.setup.outputs ≤ 16 }
+    requires ready { IsReady core.old }
+    requires filters { length parts.old.proc.outs ≡ length core.old.setup.outputs }
+    requires inputs { AreInputs (length core.old.setup.inputs) core.old.ended
+        (ins_of S.left S.faults C.moments C.place parts.old.inputs.items) }
+    requires outputs { AreOutputs (length core.old.setup.outputs)
+        (outs_of K.held K.faults parts.old.outputs.items) }
+    requires going { core.old.stopped ≡ false }
+    requires stands { HasJournal core.old }
+    requires some { 1 ≤ parts.old.final_tries }
+    ensures finished { IfOk result
+        (λ ending. FinishesSo (views_by parts.old.proc.outs) parts.old.final_tries ending core.old core.new
+        (ins_of S.left S.faults C.moments C.place parts.old.inputs.items)
+        (ins_of S.left S.faults C.moments C.place parts.new.inputs.items)
+        (outs_of K.held K.faults parts.old.outputs.items)
+        (outs_of K.held K.faults parts.new.outputs.items)
+        (part_of K.held K.faults parts.old.journal) (part_of K.held K.faults parts.new.journal)
+        (record { moments = C.moments parts.old.timer; before = C.place parts.old.timer;
+        after = C.place parts.new.timer })) }
+{
+    let mut text = Vec::new(alloc);
+    let ending = finish_jobs(
+        alloc,
+        core,
+        &mut text,
+        &mut parts.inputs,
+        &mut parts.timer,
+        parts.proc.outs.as_slice(),
+        &mut parts.outputs,
+        &mut parts.journal,
+        parts.final_tries,
+    )?;
+    Ok(ending)
+}
+
+/// Runs from the start to the end.
 fn run_from<S: Source + Drop, K: Sink + Drop, C: Clock + Drop>(
     alloc: Global,
     setup: &RunSetup,
@@ -228,17 +407,18 @@ fn run_from<S: Source + Drop, K: Sink + Drop, C: Clock + Drop>(
     let mut core = new_core(alloc, inputs.len(), setup.outputs.as_slice(), start)?;
     let mut text = Vec::new(alloc);
     begin_anew(outputs);
-    rounds(alloc, &mut core, &mut text, inputs, filters, outputs, journal)?;
-    let moment = clock.now();
-    stop_run(alloc, &mut core, &mut text, filters, outputs, moment, setup.final_tries)?;
-    let (account, left) = end_journal(alloc, &mut core, &mut text, outputs.len() as u32, journal)?;
-    Ok(Ending {
-        account,
-        limit: has_limit(inputs),
-        journal_fault: journal.failed,
-        read_fault: has_fault(inputs),
-        left,
-    })
+    let ending = finish_jobs(
+        alloc,
+        &mut core,
+        &mut text,
+        inputs,
+        clock,
+        filters,
+        outputs,
+        journal,
+        setup.final_tries,
+    )?;
+    Ok(ending)
 }
 
 /// Runs any number of inputs and of line protocol outputs, each with its filter, from the start, and gives back the part to which the

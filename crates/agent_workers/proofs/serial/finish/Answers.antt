@@ -1,0 +1,32 @@
+use Rattle.std.proofs.Common.{◌≡◌, List, length, drop, arith, sym, ap, subst}
+use Rattle.metric_filter.specs.declared.rules.FilterRules.{FilterRules}
+use Rattle.agent_workers.specs.Inputs.{ins_of, AreInputs}
+use Rattle.agent_workers.specs.Output.{outs_of, AreOutputs}
+use Rattle.agent_workers.specs.Reader.{views_by}
+use Rattle.agent_workers.specs.declared.input.InJob.{InJob}
+use Rattle.agent_workers.specs.declared.output.OutJob.{OutJob}
+use Rattle.agent_workers.proofs.FinishSteps.{finishes_by, taken_front}
+use Rattle.agent_workers.proofs.serial.finish.Goals as goal
+
+pub finish_jobs-requires-clause-inputs : goal.finish_jobs-requires-clause-inputs
+finish_jobs-requires-clause-inputs g c =
+    subst (λ (jobs : List (InJob g.row.S.Denot g.row.C.Denot)). AreInputs (length c.args.core.now.setup.inputs) c.args.core.now.ended (ins_of g.S.Source.left g.S.Source.faults g.C.Clock.moments g.C.Clock.place jobs)) (sym c.deref_mut.ensures.value) c.requires.inputs
+
+pub finish_jobs-requires-clause-outputs : goal.finish_jobs-requires-clause-outputs
+finish_jobs-requires-clause-outputs g c =
+    subst (λ (jobs : List (OutJob g.row.K.Denot)). AreOutputs (length c.args.core.now.setup.outputs) (outs_of g.K.Sink.held g.K.Sink.faults jobs)) (sym c.deref_mut-2.ensures.value) c.requires.outputs
+
+pub returns : goal.returns
+returns g c =
+    let in_len : length c.finish_jobs.new.inputs ≡ c.args.parts.now.inputs.len = omega (arith, c.deref_mut.ensures.len, c.finish_jobs.ensures.in_count) in
+    let out_len : length c.finish_jobs.new.outputs ≡ c.args.parts.now.outputs.len = omega (arith, c.deref_mut-2.ensures.len, c.finish_jobs.ensures.count) in
+    let ins = λ (jobs : List (InJob g.row.S.Denot g.row.C.Denot)). ins_of g.S.Source.left g.S.Source.faults g.C.Clock.moments g.C.Clock.place jobs in
+    let outs = λ (jobs : List (OutJob g.row.K.Denot)). outs_of g.K.Sink.held g.K.Sink.faults jobs in
+    record {
+      finished = finishes_by _ _ c.args.parts.now.final_tries c.in_ok-ending.ending c.args.core.now c.finish_jobs.new.core _ _ _ _ _ _ _ _ _ _ _
+          (ap (λ (fs : List FilterRules). views_by fs) (sym c.as_slice.ensures)) (ap ins (sym c.deref_mut.ensures.value))
+          (ap ins (taken_front c.args.parts.now.inputs.len c.finish_jobs.new.inputs (drop (length c.finish_jobs.new.inputs) c.args.parts.now.inputs.items) in_len))
+          (ap outs (sym c.deref_mut-2.ensures.value))
+          (ap outs (taken_front c.args.parts.now.outputs.len c.finish_jobs.new.outputs (drop (length c.finish_jobs.new.outputs) c.args.parts.now.outputs.items) out_len))
+          c.in_ok-ending.ensures.finished;
+    }

@@ -281,13 +281,13 @@ pub fn set_up<S: Source + Drop, K: Sink + Drop, C: Clock + Drop>(
         (ins_of S.left S.faults C.moments C.place made.1.inputs.items)
         (outs_of K.held K.faults made.1.outputs.items) (part_of K.held K.faults made.1.journal)) }
     ensures of { IfOk result (λ made. made.1 ≡ record {
-          inputs = makings.inputs;
-          timer = makings.timer;
-          proc = makings.proc;
-          outputs = makings.outputs;
-          journal = made.1.journal;
-          final_tries = makings.final_tries;
-        }) }
+      inputs = makings.inputs;
+      timer = makings.timer;
+      proc = makings.proc;
+      outputs = makings.outputs;
+      journal = made.1.journal;
+      final_tries = makings.final_tries;
+    }) }
     ensures sink { IfOk result (λ made. made.1.journal.sink ≡ makings.journal) }
     ensures back { IfErr result (λ back. back ≡ makings) }
 {
@@ -349,8 +349,11 @@ pub fn finish<S: Source + Drop, K: Sink + Drop, C: Clock + Drop>(
         (outs_of K.held K.faults parts.old.outputs.items)
         (outs_of K.held K.faults parts.new.outputs.items)
         (part_of K.held K.faults parts.old.journal) (part_of K.held K.faults parts.new.journal)
-        (record { moments = C.moments parts.old.timer; before = C.place parts.old.timer;
-        after = C.place parts.new.timer })) }
+        (record {
+          moments = C.moments parts.old.timer;
+          before = C.place parts.old.timer;
+          after = C.place parts.new.timer;
+        })) }
 {
     let mut text = Vec::new(alloc);
     let ending = finish_jobs(
@@ -462,7 +465,9 @@ pub fn run<S: Source + Drop, K: Sink + Drop, C: Clock + Drop>(
         Err(fault) => return (journal, Err(fault)),
     };
     let mut job = JournalJob::new(alloc, about, journal);
-    let ran = run_from(alloc, setup, start, inputs, filters, outputs, &mut job, clock);
+    let ran = run_from(
+        alloc, setup, start, inputs, filters, outputs, &mut job, clock,
+    );
     (job.sink, ran)
 }
 
@@ -567,7 +572,15 @@ pub fn run_one<S: Source + Drop, K: Sink + Drop, C: Clock + Drop>(
         Err(sink) => return (source_of(inputs), sink, journal, Err(OutOfMemory)),
     };
     let filters = [Filter::without_rules(alloc)];
-    let (journal, ran) = run(alloc, setup, &mut inputs, &filters, &mut outputs, journal, clock);
+    let (journal, ran) = run(
+        alloc,
+        setup,
+        &mut inputs,
+        &filters,
+        &mut outputs,
+        journal,
+        clock,
+    );
     let source = source_of(inputs);
     let job = outputs.swap_remove(0);
     (source, job.sink, journal, ran)

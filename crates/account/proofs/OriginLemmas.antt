@@ -41,3 +41,10 @@ group_inputs-push [] e = append-nil (group_inputs_said (gather_of e))
 group_inputs-push (x ∷ es) e =
     ap (λ (ns : List ℕ). group_inputs_said (gather_of x) ++ ns) (group_inputs-push es e)
     ∙ sym (append_assoc (group_inputs_said (gather_of x)) (group_inputs es) (group_inputs_said (gather_of e)))
+
+pub origins-push : (es : List Entry) (e : Entry) → origins (es ++ e ∷ []) ≡ origins es ++ origins_by e
+unfolding origins
+origins-push [] e = append-nil (origins_by e)
+origins-push (x ∷ es) e =
+    ap (λ (more : List Origin). origins_by x ++ more) (origins-push es e)
+    ∙ sym (append_assoc (origins_by x) (origins es) (origins_by e))

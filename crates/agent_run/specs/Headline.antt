@@ -15,24 +15,25 @@ use Rattle.agent_run.specs.Places.{AreOpensSame, RoseToOpen, RoseToUse}
 use Rattle.agent_run.specs.declared.status.Status.{Status}
 use Rattle.agent_run.specs.declared.status.Status.TheVariants as statuses
 use Rattle.agent_workers.specs.PipeSetup.{pipe_setup}
-use Rattle.agent_workers.specs.declared.input.InState.{InState}
-use Rattle.agent_workers.specs.declared.input.InState.TheVariants as states
-use Rattle.agent_workers.specs.Run.{Change, change, buffered_at_end, account_of, text_of, IsCutShort, IsRun}
-use Rattle.agent_workers.specs.Run.{IsPutSo}
+use Rattle.agent_workers.specs.Reader.{plain_rule, plain_view}
+use Rattle.agent_workers.specs.Run.{Change, change, InRun, buffered_at_end, account_of, text_of, IsCutShort}
+use Rattle.agent_workers.specs.Run.{IsRun, IsPutSo}
 
--- the status by why the input is read no more, whether the put of the journal or of the report failed, and
--- whether a metric is left
-abbrev pub status_of : InState → Bool → Bool → Status
-status_of states.LimitReached failed left = statuses.Limit
-status_of states.Faulted failed left = if failed then statuses.ReportFault else statuses.ReadFault
-status_of states.Ended failed left = if failed then statuses.ReportFault else
-    (if left then statuses.Left else statuses.Done)
-status_of states.Reading failed left = if failed then statuses.ReportFault else
+-- the status by whether a limit was reached, whether a read failed, whether the put of the journal or of the
+-- report failed, and whether a metric is left
+abbrev pub status_of : Bool → Bool → Bool → Bool → Status
+status_of true fault failed left = statuses.Limit
+status_of false true failed left = if failed then statuses.ReportFault else statuses.ReadFault
+status_of false false failed left = if failed then statuses.ReportFault else
     (if left then statuses.Left else statuses.Done)
 
 -- how many pieces a gather has at most
 abbrev pub gather_pieces : ℕ
 gather_pieces = 1000
+
+-- the one input of a pipe: line protocol, of which each metric is kept as it is
+abbrev pub pipe_input : Change → Option Moments → InRun
+pipe_input place moments = record { rule = plain_rule gather_pieces; place = place; moments = moments }
 
 -- how often in succession a repeat without an accepted batch is tried at the end
 abbrev pub final_tries : ℕ
@@ -44,7 +45,8 @@ pub record Headline (batch limit : ℕ) (input output note report : Change)
     (run_moments input_moments : Option Moments) : Type 0 where
   pub start : ℤ
   pub journal : List Entry
-  pub run : IsRun gather_pieces final_tries (pipe_setup batch limit start) input (output ∷ []) run_moments input_moments journal
+  pub run : IsRun plain_view final_tries (pipe_setup batch limit start) (pipe_input input input_moments ∷ [])
+      (output ∷ []) run_moments journal
   pub noted : Appends note.before note.after (text_of (pipe_setup batch limit start) journal)
   pub reported : Appends report.before report.after (account_of (pipe_setup batch limit start) journal)
 
@@ -54,7 +56,8 @@ pub record TornHeadline (batch limit : ℕ) (input output note report : Change)
     (run_moments input_moments : Option Moments) : Type 0 where
   pub start : ℤ
   pub journal : List Entry
-  pub run : IsRun gather_pieces final_tries (pipe_setup batch limit start) input (output ∷ []) run_moments input_moments journal
+  pub run : IsRun plain_view final_tries (pipe_setup batch limit start) (pipe_input input input_moments ∷ [])
+      (output ∷ []) run_moments journal
   pub journal_failed : Bool
   pub report_failed : Bool
   pub noted : IsPutSo journal_failed note (text_of (pipe_setup batch limit start) journal)
@@ -65,35 +68,36 @@ module _ (batch limit : ℕ) (input output note report : Change)
   -- the input was read to its end, and nothing is buffered
   pub record IsDone : Type 0 where
     pub headline : Headline batch limit input output note report run_moments input_moments
-    pub few : headline.run.taken < 2 ^ 40
+    pub few : headline.run.has.taken 0 < 2 ^ 40
     pub ended : has_ended 0 headline.journal ≡ true
     pub none_left : buffered_at_end (pipe_setup batch limit headline.start) headline.journal 0 ≡ 0
 
   -- the input was read to its end, and a metric is buffered
   pub record IsLeftOver : Type 0 where
     pub headline : Headline batch limit input output note report run_moments input_moments
-    pub few : headline.run.taken < 2 ^ 40
+    pub few : headline.run.has.taken 0 < 2 ^ 40
     pub ended : has_ended 0 headline.journal ≡ true
     pub some_left : buffered_at_end (pipe_setup batch limit headline.start) headline.journal 0 ≢ 0
 
   -- a read of the input failed, and it wasn't read to its end
   pub record IsReadFault : Type 0 where
     pub headline : Headline batch limit input output note report run_moments input_moments
-    pub few : headline.run.taken < 2 ^ 40
+    pub few : headline.run.has.taken 0 < 2 ^ 40
     pub unended : has_ended 0 headline.journal ≡ false
-    pub cut_short : IsCutShort 0 input headline.journal
+    pub cut_short : IsCutShort 0 (pipe_input input input_moments) headline.journal
 
   -- the put of the journal or of the report failed
   pub record IsReportFault : Type 0 where
     pub headline : TornHeadline batch limit input output note report run_moments input_moments
-    pub few : headline.run.taken < 2 ^ 40
+    pub few : headline.run.has.taken 0 < 2 ^ 40
     pub failed : (headline.journal_failed ≡ true) ⊎ (headline.report_failed ≡ true)
 
   -- 2^40 bytes of the input were taken, or the run is full
   pub record IsLimit : Type 0 where
     pub headline : TornHeadline batch limit input output note report run_moments input_moments
     pub unended : has_ended 0 headline.journal ≡ false
-    pub reached : (headline.run.taken ≡ 2 ^ 40) ⊎ IsFull gather_pieces headline.journal 0 input.before input.after
+    pub reached : (headline.run.has.taken 0 ≡ 2 ^ 40)
+        ⊎ IsFull (plain_rule gather_pieces) headline.journal 0 input.before input.after
 
   -- what each status of a run says; nothing is promised where memory was short
   abbrev pub Ends : Status → Type 0

@@ -3,7 +3,7 @@ ghost use Rattle.std.specs.Prelude.{◌≡◌, ◌||◌};
 ghost use Rattle.agent_run.specs.Headline.{status_of};
 ghost use Rattle.agent_run.specs.Status.{code_of};
 
-use agent_workers::{Ending, InState};
+use agent_workers::Ending;
 
 /// How a run ended.
 #[derive(Clone, Copy, Debug, PartialEq, Eq)]
@@ -50,14 +50,14 @@ impl Status {
 
 /// The status of a run that came to this end, given whether the put of the report failed.
 pub fn run_status(ending: &Ending, report_failed: bool) -> Status
-    ensures { result ≡ status_of ending.now.state (ending.now.journal_failed || report_failed)
-        ending.now.left }
+    ensures { result ≡ status_of ending.now.limit ending.now.read_fault
+        (ending.now.journal_fault || report_failed) ending.now.left }
 {
-    if ending.state == InState::LimitReached {
+    if ending.limit {
         Status::Limit
-    } else if ending.journal_failed || report_failed {
+    } else if ending.journal_fault || report_failed {
         Status::ReportFault
-    } else if ending.state == InState::Faulted {
+    } else if ending.read_fault {
         Status::ReadFault
     } else if ending.left {
         Status::Left

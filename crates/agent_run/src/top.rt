@@ -42,7 +42,8 @@ const FINAL_TRIES: u32 = 3;
 fn report_account<W: World>(ending: &Ending, world: &mut W) -> Status
     ensures answer { (result ≡ Status.OutOfMemory)
         ⊎ ((failed : Bool)
-        × (result ≡ status_of ending.now.state (ending.now.journal_failed || failed) ending.now.left)
+        × (result ≡ status_of ending.now.limit ending.now.read_fault (ending.now.journal_fault || failed)
+        ending.now.left)
         × IsPutSo failed (report_change (W.rest world.old) (W.rest world.new)) ending.now.account.items) }
     ensures ins { SameAtAll (W.in_at world.old) (W.in_at world.new) }
     ensures outs { SameAtAll (W.out_at world.old) (W.out_at world.new) }

@@ -1,11 +1,14 @@
 //! Runs of one input and two outputs, over parts in memory.
 ghost use Rattle.std.specs.Prelude.{◌≡◌, ◌≤◌, All, IfOk, length};
+ghost use Rattle.agent_workers.specs.Inputs.{AreFresh, ins_of};
 ghost use Rattle.agent_workers.specs.Output.{AreOutputs, outs_of};
 
 use crate::tests::{sink_of, source_of};
-use agent_base::{CutKind, MemClock, MemSink, Pieces, Sink};
+use agent_base::{Clock, CutKind, MemClock, MemSink, MemSource, Pieces, Sink, Source};
+use agent_config::InFormat;
 use agent_workers::{Ending, InJob, InState, OutJob, RunSetup, run};
 use fixed_num::{OutOfMemory, Seq};
+use metric_filter::Filter;
 use pipeline_core::OutSetup;
 use std::alloc::Global;
 use std::process::Abort;
@@ -51,7 +54,7 @@ const TRIED_FIVE_TIMES: &[u8] = b"journal 1\nstart 0\ninput 0 plain\n\
     end 25\n";
 
 /// Puts of which each fails before its first byte.
-const DEAD: &[(u64, usize)] = &[
+pub const DEAD: &[(u64, usize)] = &[
     (0, 0),
     (1, 0),
     (2, 0),
@@ -75,7 +78,7 @@ struct Case {
 }
 
 /// The jobs of two outputs.
-fn jobs_of(
+pub fn jobs_of(
     alloc: Global,
     first: MemSink,
     second: MemSink,
@@ -97,8 +100,37 @@ fn jobs_of(
     ]?)
 }
 
+/// The job of one line protocol input, of which nothing was read.
+fn inputs_of(
+    alloc: Global,
+    source: MemSource,
+    clock: MemClock,
+) -> Result<Vec<InJob<MemSource, MemClock>>, OutOfMemory>
+    requires { (⟦<MemClock as Clock>⟧.place) clock ≡ 0 }
+    ensures count { IfOk result (λ jobs. length jobs.items ≡ 1) }
+    ensures fresh { IfOk result (λ jobs. AreFresh
+        (ins_of (⟦<MemSource as Source>⟧.left) (⟦<MemSource as Source>⟧.faults)
+        (⟦<MemClock as Clock>⟧.moments) (⟦<MemClock as Clock>⟧.place) jobs.items)) }
+{
+    Ok(vec![in alloc;
+        InJob {
+            input: 0,
+            source,
+            pieces: Pieces::new(alloc, CutKind::Lines)?,
+            format: InFormat::Influx,
+            globals: Seq::of(Vec::new(alloc)),
+            gather_pieces: 1_000,
+            filter: Filter::without_rules(alloc),
+            clock,
+            limit: None,
+            held: None,
+            state: InState::Reading,
+        },
+    ]?)
+}
+
 /// Two outputs of the same sizes.
-fn setup_of(alloc: Global, final_tries: u32) -> Result<RunSetup, OutOfMemory>
+pub fn setup_of(alloc: Global, final_tries: u32) -> Result<RunSetup, OutOfMemory>
     ensures count { IfOk result (λ setup. length setup.outputs ≡ 2) }
     ensures sizes { IfOk result
         (λ setup. All (λ x. (1 ≤ x.batch) × (x.batch ≤ x.limit)) setup.outputs) }
@@ -116,10 +148,10 @@ fn setup_of(alloc: Global, final_tries: u32) -> Result<RunSetup, OutOfMemory>
 
 /// What a run left: the jobs of its outputs, how it ended, and the journal.
 #[derive(Drop)]
-struct Outcome {
-    outputs: Vec<OutJob<MemSink>>,
-    ending: Ending,
-    journal: MemSink,
+pub struct Outcome {
+    pub outputs: Vec<OutJob<MemSink>>,
+    pub ending: Ending,
+    pub journal: MemSink,
 }
 
 impl Case {
@@ -137,15 +169,17 @@ impl Case {
         let journal = sink_of(alloc, &[])?;
         let mut clock = MemClock::new(alloc, Vec::new(alloc));
         let input_clock = MemClock::new(alloc, Vec::new(alloc));
-        let mut input = InJob {
-            input: 0,
-            source,
-            pieces: Pieces::new(alloc, CutKind::Lines)?,
-            clock: input_clock,
-            gather_pieces: 1_000,
-            state: InState::Reading,
-        };
-        let (journal, ran) = run(alloc, &setup, &mut input, &mut outputs, journal, &mut clock);
+        let mut inputs = inputs_of(alloc, source, input_clock)?;
+        let filters = [Filter::without_rules(alloc), Filter::without_rules(alloc)];
+        let (journal, ran) = run(
+            alloc,
+            &setup,
+            &mut inputs,
+            &filters,
+            &mut outputs,
+            journal,
+            &mut clock,
+        );
         Ok(Outcome {
             outputs,
             ending: ran?,

@@ -15,3 +15,5 @@ mod journal_tests;
 mod report_tests;
 #[cfg(test)]
 mod tests;
+#[cfg(test)]
+mod two_inputs_tests;

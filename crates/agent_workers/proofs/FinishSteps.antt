@@ -1,66 +1,64 @@
 -- What a run leaves at its end, and what it begins with.
-use Rattle.std.proofs.Common.{◌≡◌, ◌≤◌, ◌<◌, ℕ, zero, suc, ℤ, ◌+◌, ◌^◌, min, Bool, true, false, List, [], ◌∷◌, ◌++◌, length, refl, sym, ap, ◌∙◌, subst, inl, inr, arith}
-use Rattle.std.specs.Prelude.{◌≢◌, IfSome, not, ◌⊎◌, count_by, slice_get, map}
-use Rattle.std.proofs.lemmas.List.{length-map}
+use Rattle.std.proofs.Common.{◌≡◌, ◌≢◌, ◌≤◌, ◌<◌, ℕ, zero, suc, ℤ, ◌^◌, min, Bool, true, false, List, [], ◌∷◌, ◌++◌, length, take, replicate, refl, sym, ap, ◌∙◌, subst, inl, inr, arith}
+use Rattle.std.specs.Prelude.{IfSome, not, ◌⊎◌, count_by, map}
+use Rattle.std.proofs.lemmas.List.{length-map, length-replicate}
 use Rattle.std.specs.Int.{int_max}
 use Rattle.std.specs.declared.option.Option.{Option}
 use Rattle.std.specs.declared.option.Option.TheVariants.{Some, None}
 use Rattle.account.specs.AccountText.{account_text}
-use Rattle.account.specs.Numbers.{Numbers, output_numbers}
 use Rattle.account.specs.Setup.{Setup}
 use Rattle.account.specs.declared.entry.Entry.{Entry}
-use Rattle.agent_base.specs.Clocked.{Clocked, Counted}
-use Rattle.agent_base.specs.declared.piece.CutKind.TheVariants.{Lines}
-use Rattle.agent_base.specs.Cut.{Cut}
-use Rattle.agent_base.specs.Hand.{Hand, to_come, empty_hand}
+use Rattle.metric.specs.declared.metric.Content.{Content}
+use Rattle.agent_base.specs.Clocked.{Counted, last_of}
 use Rattle.agent_base.specs.Moments.{Moments, Gives}
-use Rattle.agent_base.specs.Told.{Told}
-use Rattle.agent_base.proofs.ClockLemmas.{clocked_wider, clocked_none, counted_one_over, counted_wider}
+use Rattle.agent_base.proofs.ClockLemmas.{counted_joined, counted_one_over, counted_wider}
 use Rattle.journal_text.specs.JournalText.{journal_text}
 use Rattle.pipeline_core.specs.CoreState.{CoreState}
-use Rattle.pipeline_core.specs.Legal.{IsLegal, has_ended}
+use Rattle.pipeline_core.specs.Legal.{IsLegal, has_ended, gathered_count}
 use Rattle.pipeline_core.specs.Stands.{Stands}
+use Rattle.pipeline_core.specs.Steps.{after_cut}
 use Rattle.pipeline_core.specs.Totals.{totals}
+use Rattle.pipeline_core.specs.declared.gathering.Gathered.{Gathered}
 use Rattle.agent_base.specs.Counts.{RoseBy}
 use Rattle.account.specs.Dones.{dones, LastFailed}
 use Rattle.pipeline_core.specs.Stopped.{behind_stop}
-use Rattle.account.specs.EntryMoments.{gather_moments, counted_moments}
-use Rattle.agent_workers.specs.Input.{Gathered, Gathering}
-use Rattle.agent_workers.specs.Run.{Change, change, in_change, change_at, out_changes, IsUnread, IsSentTo, IsRun, EndsSo, IsPutSo, IsLeft, Ran, buffered_at_end, account_of}
+use Rattle.account.specs.EntryMoments.{counted_moments}
+use Rattle.account.specs.Items.{raw_items, items, taken}
+use Rattle.agent_workers.specs.Input.{IsFull}
+use Rattle.agent_workers.specs.Inputs.{InPart, in_at, HoldsTooMany, AreInputs, AreOut, OneIsFull, IsOneOf, IsOneIn, IsFresh, AreFresh}
+use Rattle.agent_workers.specs.Run.{change, InRun, in_run, in_runs, run_at, change_at, out_changes, SomeIsFull, RunsFull, IsUnread, IsReadFrom, IsSentTo, HasRun, EndsSo, IsPutSo, IsLeft, Ran, buffered_at_end, account_of}
+use Rattle.agent_workers.specs.Finished.{ClockRun, IsCounted, Finished, FinishesSo, begun, IsSetUp}
 use Rattle.agent_workers.specs.Noted.{JournalPart, Notes}
-use Rattle.pipeline_core.specs.Order.{IsDrained}
 use Rattle.agent_workers.specs.PipeSetup.{run_setup, journal_setup_of}
-use Rattle.agent_workers.specs.Progress.{Beginning, Surroundings, HasText, IsNamed, is_ended, HasState, IsClocked, IsNamedOfTaken, Heard, Said, AllSaid, Progress, GoesOn, SendsOn, ReadsOn, RunsOn, NotesRun}
-use Rattle.agent_workers.specs.Running.{IsReading, IsRoutable, IsSentOn, AreSettled, AreLeft, IsLeftOver, buffered_at}
-use Rattle.agent_workers.specs.Inputs.{InPart, IsSameInput}
-use Rattle.agent_workers.specs.Output.{OutPart, out_at, anew, AreAnew}
-use Rattle.agent_workers.proofs.OutLemmas.{at_anew, are_anew}
-use Rattle.pipeline_core.specs.Steps.{after_cut}
+use Rattle.agent_workers.specs.Progress.{Beginning, Surroundings, HasText, Heard, Said, AllSaid, Progress, GoesOn, SendsOn, GathersOn, RunsOn, NotesRun}
+use Rattle.agent_workers.specs.Running.{IsReady, AreSettled, AreLeft, IsLeftOver, buffered_at}
+use Rattle.agent_workers.specs.Output.{OutPart, out_at, anew, AreAnew, AreOutputs}
 use Rattle.agent_workers.specs.declared.input.InState.{InState}
 use Rattle.agent_workers.specs.declared.input.InState.TheVariants as states
 use Rattle.agent_workers.specs.declared.serial.Ending.{Ending}
 use Rattle.account.proofs.DoneLemmas.{dones_none, last_none, last_fewer}
-use Rattle.agent_workers.proofs.RoseLemmas.{rose_none}
-use Rattle.agent_workers.proofs.GatherLemmas.{gathering_starts}
-use Rattle.account.proofs.MomentLemmas.{counted_none, gather_moments_none}
+use Rattle.account.proofs.MomentLemmas.{counted_none}
 use Rattle.pipeline_core.proofs.OrderLemmas.{in_order_first}
-use Rattle.agent_workers.proofs.ProgressLemmas.{clocked_same, went_anew}
-use Rattle.agent_workers.proofs.GroupLemmas.{told_map, told_self}
-use Rattle.agent_workers.proofs.TakenSteps.{told_names_start}
-use Rattle.agent_workers.proofs.SentLemmas.{sent_first}
+use Rattle.pipeline_core.proofs.StandsCuts.{cut_stands}
+use Rattle.pipeline_core.proofs.RawLemmas.{raw_of-none}
 use Rattle.pipeline_core.proofs.WorkedLemmas.{worked_first}
+use Rattle.agent_workers.proofs.HeardLemmas.{heard_first, gathered_at_end, clocked_at_end, full_at_end}
+use Rattle.agent_workers.proofs.InLemmas.{fit_first}
+use Rattle.agent_workers.proofs.NotedLemmas.{notes_none}
+use Rattle.agent_workers.proofs.OutLemmas.{at_anew, are_anew}
+use Rattle.agent_workers.proofs.ProgressLemmas.{buffered_is, went_anew, went_next}
+use Rattle.agent_workers.proofs.RoseLemmas.{rose_none}
+use Rattle.agent_workers.proofs.SentLemmas.{sent_first}
 
-clock_starts : (all : Option Moments) → IfSome all (λ moments. IsClocked moments 0 [])
-clock_starts None = tt
-clock_starts (Some moments) = (omega arith, clocked_none moments 0 0 (omega arith))
-
-none_ended : (input : ℕ) → has_ended input [] ≡ false
-unfolding has_ended
-none_ended input = refl
+-- ---- the beginning
 
 -- nothing was put yet
 abbrev pub first_surroundings : Beginning → List OutPart → JournalPart → Surroundings
-first_surroundings start outs part = record { input = start.input; outs = outs; journal = part; counted_at = [] }
+first_surroundings start outs part = record { ins = start.ins; next = 0; outs = outs; journal = part; counted_at = [] }
+
+none_raw_first : raw_items [] ≡ []
+unfolding items taken
+none_raw_first = refl
 
 -- nothing was put
 said_first : (start : OutPart) (output : ℕ) → Said start (anew start) output []
@@ -71,55 +69,67 @@ said_first start output = record {
   last = λ stopped. last_none (dones output (behind_stop []));
 }
 
--- nothing was read
-heard_first : (input : InPart) → input.hand ≡ empty_hand Lines → input.place ≡ 0 → input.state ≡ states.Reading → Heard input input []
-heard_first input empty place reading = record {
-  named = subst (λ (s : InState). Told input.left input.left (λ xs ys. IsNamed input.input input.most s [] xs (to_come input.hand ys))) (sym reading)
-      (told_self input.left (λ xs ys. Gathering input.most [] input.input xs (to_come input.hand ys)) (λ xs. rw empty (gathering_starts input.most input.input xs)));
-  of_taken = subst (λ (s : InState). Told input.left input.left (IsNamedOfTaken input.input input.most s [] input.hand)) (sym reading) (told_names_start input.most input.input input.hand input.left empty);
-  counted = told_self input.left (λ xs ys. length xs ≡ input.hand.taken + length ys) (λ xs. omega (arith, ap (λ (h : Hand). h.taken) empty));
-  ended = none_ended input.input ∙ sym (ap is_ended reading);
-  later = omega arith;
-  state = subst (λ (s : InState). HasState s input input []) (sym reading) (let few : input.hand.taken < 2 ^ 40 = omega (arith, ap (λ (h : Hand). h.taken) empty) in few);
-  clocked = clocked_same input.moments input.place [] (gather_moments input.input []) (gather_moments_none input.input) (subst (λ (k : ℕ). IfSome input.moments (λ moments. IsClocked moments k [])) (sym place) (clock_starts input.moments));
-}
-
 -- nothing happened
-pub went_first : (start : Beginning) (core : CoreState) (outs : List OutPart) (part : JournalPart) → Stands core [] → core.setup ≡ start.setup → core.stored ≡ [] → Notes (journal_setup_of start.setup) start.noted start.note_faults [] part → start.input.hand ≡ empty_hand Lines → start.input.place ≡ 0 → start.input.state ≡ states.Reading
-    → outs ≡ map anew start.outs → length start.outs ≡ length start.setup.outputs → Progress start core (first_surroundings start outs part)
-went_first start core outs part stands setup stored notes empty place reading are count = record {
+pub went_first : (start : Beginning) (core : CoreState) (outs : List OutPart) (part : JournalPart) → Stands core [] → core.setup ≡ start.setup → core.stored ≡ [] → Notes (journal_setup_of start.setup) start.noted start.note_faults [] part → start.front ≡ [] →
+    length start.ins ≡ length start.setup.inputs → ((k : ℕ) → k < length start.ins → IsFresh (in_at start.ins k)) → outs ≡ map anew start.outs → length start.outs ≡ length start.setup.outputs → Progress start core (first_surroundings start outs part)
+went_first start core outs part stands setup stored notes front in_count fresh are count = record {
   journal = [];
-  text = record { stands = stands; setup_is = setup; written = []; split = sym stored; notes = notes };
-  heard = heard_first start.input empty place reading;
+  text = record { stands = stands; setup_is = setup; more = []; goes_on = ap (λ (es : List Entry). es ++ []) (sym front); written = []; split = sym stored; notes = notes };
+  in_count = in_count;
+  heard = λ k l. heard_first (in_at start.ins k) k (fresh k l);
   out_count = ap length are ∙ length-map start.outs anew ∙ count;
   said = subst (λ (all : List OutPart). AllSaid start.outs all []) (sym are)
       (λ o l. subst (λ (out : OutPart). Said (out_at start.outs o) out o []) (sym (at_anew start.outs o (omega (arith, l, length-map start.outs anew)))) (said_first (out_at start.outs o) o));
-  worked = worked_first;
-  in_order = in_order_first start.setup;
+  worked = worked_first start.views;
+  order = record { in_order = λ f. in_order_first start.setup; none_raw = λ f k l. raw_of-none k [] none_raw_first };
   counted_at = counted_none;
 }
 
--- what is buffered at an output is what the journal says
-buffered_is : (start : Beginning) (core : CoreState) (part : JournalPart) (journal : List Entry) → HasText start core part journal → (o : ℕ) → buffered_at core o ≡ buffered_at_end start.setup journal o
-buffered_is start core part journal h o = ap (λ (n : Numbers). (output_numbers n o).buffered) h.stands.numbers ∙ ap (λ (s : Setup). (output_numbers (totals s journal) o).buffered) h.setup_is
+-- where nothing is buffered the outputs are settled
+pub none_buffered : (core : CoreState) (outs : List OutPart) → ((o : ℕ) → buffered_at core o ≡ 0) → AreSettled core outs
+none_buffered core outs none = λ o l. inl (none o)
 
--- no item is raw, and nothing is buffered or the last batch failed
-pub drained : (start : Beginning) (core : CoreState) (now : Surroundings) (w : Progress start core now) → core.raw ≡ [] → AreSettled core now.outs → IsDrained start.setup w.journal
-drained start core now w raw settled = record {
-  none_raw = sym w.text.stands.raw ∙ raw;
-  each = λ o within.
-      let l : o < length now.outs = omega (arith, within, w.out_count) in
-      elim (settled o l) [
-        | inl none ↦ inl (sym (buffered_is start core now.journal w.journal w.text o) ∙ none)
-        | inr some ↦ inr ((w.said o l).stuck some)
-      ];
-}
+-- outputs at which no batch failed are as when they begin anew
+anew_same : (outs : List OutPart) → AreAnew outs → outs ≡ map anew outs
+anew_same [] h = refl
+anew_same (x ∷ outs) h =
+    let first : x ≡ anew x = ap (λ (n : ℕ). record x { failed = n }) (h 0 (omega arith)) in
+    ap (λ (y : OutPart). y ∷ outs) first ∙ ap (λ (ys : List OutPart). anew x ∷ ys) (anew_same outs (λ o l. h (suc o) (omega (arith, l))))
 
-named_ends : (input most : ℕ) (state : InState) (journal : List Entry) (text : List ℕ) (rest : List Cut) → (state ≢ states.Reading) → IsNamed input most state journal text rest → Gathered most journal input text
-named_ends input most states.Reading journal text rest ne h = absurd (ne refl)
-named_ends input most states.Ended journal text rest ne h = h
-named_ends input most states.Faulted journal text rest ne h = h
-named_ends input most states.LimitReached journal text rest ne h = h
+-- a run is set up
+pub is_set_up : (sizes : List (ℕ × ℕ)) (start : ℤ) (n : ℕ) (core : CoreState) (ins : List InPart) (outs : List OutPart) (part : JournalPart) → n ≡ length ins → length sizes ≤ 16 → IsReady core → core.stopped ≡ false → Stands core [] → core.setup ≡ run_setup n sizes start → core.stored ≡ [] →
+    core.ended ≡ replicate n false → ((o : ℕ) → buffered_at core o ≡ 0) → AreFresh ins → AreOutputs (length sizes) outs → AreAnew outs → part.setup ≡ journal_setup_of (run_setup n sizes start) → part.kept ≡ [] → part.entries ≡ 0 → part.failed ≡ false → IsSetUp sizes start core ins outs part
+is_set_up sizes start n core ins outs part number few ready going stands setup stored ended none fresh are zeros about kept entries unfailed =
+    let setup_is : core.setup ≡ run_setup (length ins) sizes start = setup ∙ ap (λ (k : ℕ). run_setup k sizes start) number in
+    let about_is : part.setup ≡ journal_setup_of (run_setup (length ins) sizes start) = about ∙ ap (λ (k : ℕ). journal_setup_of (run_setup k sizes start)) number in
+    let outputs_are : length core.setup.outputs ≡ length sizes = ap (λ (s : Setup). length s.outputs) setup in
+    let inputs_are : length core.setup.inputs ≡ n = ap (λ (s : Setup). length s.inputs) setup ∙ length-replicate {A = Option ℕ} n None in
+    record {
+      few = omega (arith, outputs_are, few);
+      ready = ready;
+      going = going;
+      stands = record { journal = []; stands = stands };
+      outputs_are = outputs_are;
+      inputs = fit_first n (length core.setup.inputs) core.ended ins inputs_are (sym number) ended fresh;
+      outputs = subst (λ (k : ℕ). AreOutputs k outs) (sym outputs_are) are;
+      settled = none_buffered core outs none;
+      agrees = λ views. went_first (begun sizes start views ins outs part) core outs part stands setup_is stored (notes_none (journal_setup_of (run_setup (length ins) sizes start)) part about_is kept entries unfailed) refl
+          (sym (length-replicate {A = Option ℕ} (length ins) None)) fresh.fresh (anew_same outs zeros) are.count_is;
+    }
+
+-- ---- the end
+
+-- an input at its place
+length-in_runs : (olds news : List InPart) → length news ≡ length olds → length (in_runs olds news) ≡ length olds
+length-in_runs [] news same = refl
+length-in_runs (old ∷ olds) [] same = absurd (omega (arith, same))
+length-in_runs (old ∷ olds) (new ∷ news) same = omega (arith, length-in_runs olds news (omega (arith, same)))
+
+runs_at : (olds news : List InPart) (k : ℕ) → length news ≡ length olds → k < length olds → run_at (in_runs olds news) k ≡ in_run (in_at olds k) (in_at news k)
+runs_at [] news k same l = absurd (omega (arith, l))
+runs_at (old ∷ olds) [] k same l = absurd (omega (arith, same))
+runs_at (old ∷ olds) (new ∷ news) zero same l = refl
+runs_at (old ∷ olds) (new ∷ news) (suc k) same l = runs_at olds news k (omega (arith, same)) (omega (arith, l))
 
 -- the change of an output's place
 changes_at : (olds news : List OutPart) (o : ℕ) → length news ≡ length olds → o < length olds →
@@ -129,116 +139,248 @@ changes_at (old ∷ olds) [] o same l = absurd (omega (arith, same))
 changes_at (old ∷ olds) (new ∷ news) zero same l = refl
 changes_at (old ∷ olds) (new ∷ news) (suc o) same l = changes_at olds news o (omega (arith, same)) (omega (arith, l))
 
-unread_by : (state : InState) (start now : InPart) (journal : List Entry) → (state ≢ states.Reading) → HasState state start now journal → Told start.left now.left (IsNamedOfTaken now.input now.most state journal now.hand) → has_ended now.input journal ≡ is_ended state → has_ended now.input journal ≡ false
-    → IsUnread now.input now.most (in_change start now) now.hand.taken journal
-unread_by states.Reading start now journal ne h t e f = absurd (ne refl)
-unread_by states.Ended start now journal ne h t e f = absurd (let x : true ≡ false = sym e ∙ f in cc)
-unread_by states.Faulted start now journal ne h t e f = inl (h.1, t)
-unread_by states.LimitReached start now journal ne h t e f = inr h
-
-ends_by : (state : InState) (start now : InPart) (journal : List Entry) → (state ≢ states.Reading) → HasState state start now journal → Told start.left now.left (IsNamedOfTaken now.input now.most state journal now.hand) → has_ended now.input journal ≡ is_ended state
-    → EndsSo now.input now.most state (in_change start now) now.hand.taken journal
-ends_by states.Reading start now journal ne h t e = absurd (ne refl)
-ends_by states.Ended start now journal ne h t e = (h, e)
-ends_by states.Faulted start now journal ne h t e = (h.0, e, (h.1, t))
-ends_by states.LimitReached start now journal ne h t e = (e, h)
-
-clocked_ends : (all : Option Moments) (place : ℕ) (ms : List ℤ) → IfSome all (λ moments. IsClocked moments place ms) → IfSome all (λ moments. Clocked moments 0 moments.last ms)
-clocked_ends None place ms h = tt
-clocked_ends (Some moments) place ms h = clocked_wider moments 0 0 place moments.last ms (omega arith) h.0 h.1
-
 start_at : (all : Option Moments) (place : ℕ) (start : ℤ) → Gives all 0 place start → IfSome all (λ moments. start ≡ moments.at 0)
 start_at None place start g = tt
 start_at (Some moments) place start g = g.given
 
-counted_ends : (all : Option Moments) (place last : ℕ) (start moment : ℤ) (ms : List ℤ) → Gives all 0 place start → Gives all place last moment → ms ≡ int_max moment start ∷ [] → IfSome all (λ moments. Counted moments (min 1 moments.last) moments.last start ms)
-counted_ends None place last start moment ms g h e = tt
-counted_ends (Some moments) place last start moment ms g h e =
-    rw e (counted_wider moments (min 1 moments.last) place last moments.last start (int_max moment start ∷ []) (omega (arith, g.next)) (omega (arith, h.next)) (counted_one_over moments place last moment start h))
+-- no moment counted yet
+counted_first : (all : Option Moments) (place : ℕ) (start : ℤ) → IfSome all (λ moments. Counted moments place place start [])
+unfolding Counted
+counted_first None place start = tt
+counted_first (Some moments) place start = omega arith
+
+-- one moment more
+counted_on : (all : Option Moments) (first place last : ℕ) (floor moment : ℤ) (olds news : List ℤ) → Gives all place last moment → news ≡ olds ++ int_max moment (last_of floor olds) ∷ [] → IfSome all (λ moments. Counted moments first place floor olds)
+    → IfSome all (λ moments. IsCounted moments first last floor news)
+counted_on None first place last floor moment olds news g e h = tt
+counted_on (Some moments) first place last floor moment olds news g e h = (
+  omega (arith, g.next),
+  subst (λ (ms : List ℤ). Counted moments first last floor ms) (sym e) (counted_joined moments first place last floor olds (int_max moment (last_of floor olds) ∷ []) h (counted_one_over moments place last moment (last_of floor olds) g)),
+)
+
+-- all moments of a run that began with nothing
+counted_all : (all : Option Moments) (place last : ℕ) (start : ℤ) (ms : List ℤ) → Gives all 0 place start → IfSome all (λ moments. IsCounted moments place last start ms) → IfSome all (λ moments. Counted moments (min 1 moments.last) moments.last start ms)
+counted_all None place last start ms g h = tt
+counted_all (Some moments) place last start ms g h = counted_wider moments (min 1 moments.last) place last moments.last start ms (omega (arith, g.next)) h.0 h.1
 
 left_is : (left : Bool) (start : Beginning) (core : CoreState) (part : JournalPart) (journal : List Entry) → HasText start core part journal → IsLeftOver left core → IsLeft left start.setup journal
 left_is false start core part journal h none = λ o l. sym (buffered_is start core part journal h o) ∙ none o (omega (arith, l, ap (λ (s : Setup). length s.outputs) h.setup_is))
 left_is true start core part journal h some =
     (some.0, omega (arith, some.1, ap (λ (s : Setup). length s.outputs) h.setup_is), λ z. some.2 (buffered_is start core part journal h some.0 ∙ z))
 
-module _ (tries : ℕ) (sizes : List (ℕ × ℕ)) (start : ℤ) (moment : ℤ) (input : InPart) (outs : List OutPart) (noted : Option (List ℕ)) (note_faults : ℕ) (run_moments : Option Moments) (first last : ℕ) (core : CoreState) (now : Surroundings) where
-  -- what the run began with
-  abbrev pub beginning : Beginning
-  beginning = record { setup = run_setup sizes start; input = input; outs = outs; noted = noted; note_faults = note_faults }
+some_none : (g : Gathered) → Some g ≡ None → ⊥
+some_none g e = cc
 
-  module _ (w : Progress beginning core (record now { counted_at = int_max moment start ∷ [] })) (gives_first : Gives run_moments 0 first start) (gives_last : Gives run_moments first last moment)
-      (stopped : core.stopped ≡ true) (raw : core.raw ≡ []) (none_held : core.held ≡ None) (count : length outs ≡ length sizes) (rest : AreLeft tries core now.outs) (read : now.input.state ≢ states.Reading) (number : now.input.input ≡ 0) where
-    left_failed : (o : ℕ) → o < length now.outs → (buffered_at core o ≡ 0) ⊎ (tries ≤ (out_at now.outs o).failed) → buffered_at_end (run_setup sizes start) w.journal o ≢ 0 → LastFailed tries (dones o (behind_stop w.journal))
-    left_failed o l (inl none) some = absurd (some (sym (buffered_is beginning core now.journal w.journal w.text o) ∙ none))
+taken_only : (limit : Bool) (ins : List InRun) (taken gathered : ℕ) (journal : List Entry) → (taken ≡ 2 ^ 40) ⊎ HoldsTooMany None gathered → (taken ≡ 2 ^ 40) ⊎ RunsFull limit ins journal
+taken_only limit ins taken gathered journal (inl many) = inl many
+taken_only limit ins taken gathered journal (inr many) = absurd many
+
+-- what the state of an input says, where the run is full or the input is out
+ends_by : (limit : Bool) (ins : List InRun) (state : InState) (held : Option Gathered) (start part : InPart) (k : ℕ) (journal : List Entry) → RunsFull limit ins journal ⊎ ((state ≢ states.Reading) × (held ≡ None)) → Heard start (record part { state = state; held = held }) k journal
+    → EndsSo limit ins k state (in_run start part) part.hand.taken journal
+ends_by limit ins states.Reading held start part k journal (inl full) h = full
+ends_by limit ins states.Reading held start part k journal (inr out) h = absurd (out.0 refl)
+ends_by limit ins states.Ended held start part k journal why h = (h.state, h.ended)
+ends_by limit ins states.Faulted held start part k journal (inl full) h = (h.state.0, h.ended, inr full)
+ends_by limit ins states.Faulted None start part k journal (inr out) h = (h.state.0, h.ended, inl (h.state.1, h.of_taken))
+ends_by limit ins states.Faulted (Some g) start part k journal (inr out) h = absurd (some_none g out.1)
+ends_by limit ins states.LimitReached held start part k journal (inl full) h = (h.ended, inr full)
+ends_by limit ins states.LimitReached None start part k journal (inr out) h = (h.ended, taken_only limit ins part.hand.taken (gathered_count journal) journal h.state)
+ends_by limit ins states.LimitReached (Some g) start part k journal (inr out) h = absurd (some_none g out.1)
+
+unread_by : (limit : Bool) (ins : List InRun) (state : InState) (input : InRun) (taken k : ℕ) (journal : List Entry) → EndsSo limit ins k state input taken journal → has_ended k journal ≡ false → IsUnread ins k input taken journal
+unread_by limit ins states.Reading input taken k journal h e = inr (inr h.1)
+unread_by limit ins states.Ended input taken k journal h e = absurd (let x : true ≡ false = sym h.1 ∙ e in cc)
+unread_by limit ins states.Faulted input taken k journal h e = elim h.2 [ inl short ↦ inl short | inr full ↦ inr (inr full.1) ]
+unread_by limit ins states.LimitReached input taken k journal h e = elim h.1 [ inl many ↦ inr (inl many) | inr full ↦ inr (inr full.1) ]
+
+few_of : (held : Option Gathered) (i most : ℕ) → IfSome held (λ g. (g.input ≡ i) × (length g.metrics ≤ most)) → IfSome held (λ g. length g.metrics ≤ most)
+few_of None i most h = tt
+few_of (Some g) i most h = h.1
+
+-- a full run has an input that reached a limit
+limit_by : (limit : Bool) (gathered : ℕ) (ins : List InPart) → IsOneIn states.LimitReached ins limit → OneIsFull gathered ins → limit ≡ true
+limit_by true gathered ins one full = refl
+limit_by false gathered ins none full = absurd (none full.0 full.1 full.2.limit)
+
+module _ (start : Beginning) (tries : ℕ) (core : CoreState) (now : Surroundings) where
+  module _ (w : Progress start core now) (stopped : core.stopped ≡ true) (raw : core.raw ≡ []) (none_held : core.held ≡ None) (starts_count : length start.ins ≡ length start.setup.inputs) (outs_count : length start.outs ≡ length start.setup.outputs) (rest : AreLeft tries core now.outs)
+      (ended : List Bool) (fit : AreInputs (length start.setup.inputs) ended now.ins) (why : OneIsFull core.gathered now.ins ⊎ AreOut now.ins) where
+    left_failed : (o : ℕ) → o < length now.outs → (buffered_at core o ≡ 0) ⊎ (tries ≤ (out_at now.outs o).failed) → buffered_at_end start.setup w.journal o ≢ 0 → LastFailed tries (dones o (behind_stop w.journal))
+    left_failed o l (inl none) some = absurd (some (sym (buffered_is start core now.journal w.journal w.text o) ∙ none))
     left_failed o l (inr many) some = last_fewer tries (out_at now.outs o).failed (dones o (behind_stop w.journal)) many ((w.said o l).last (sym w.text.stands.stopped ∙ stopped))
 
-    sent_to : (o : ℕ) → o < length sizes → IsSentTo tries (run_setup sizes start) w.journal o (change_at (out_changes outs now.outs) o)
+    sent_to : (o : ℕ) → o < length start.setup.outputs → IsSentTo tries start.setup w.journal o (change_at (out_changes start.outs now.outs) o)
     sent_to o within =
         let l : o < length now.outs = omega (arith, within, w.out_count) in
         let said = w.said o l in
-        let is : IsSentTo tries (run_setup sizes start) w.journal o (change (out_at outs o).held (out_at now.outs o).held (out_at outs o).put_faults (out_at now.outs o).put_faults) =
+        let is : IsSentTo tries start.setup w.journal o (change (out_at start.outs o).held (out_at now.outs o).held (out_at start.outs o).put_faults (out_at now.outs o).put_faults) =
         record { sent = said.sent; put_faults = said.put_faults; left = left_failed o l (rest o l) } in
-        subst (IsSentTo tries (run_setup sizes start) w.journal o) (sym (changes_at outs now.outs o (omega (arith, w.out_count, count)) (omega (arith, within, count)))) is
+        subst (IsSentTo tries start.setup w.journal o) (sym (changes_at start.outs now.outs o (omega (arith, w.out_count, outs_count)) (omega (arith, within, outs_count)))) is
 
-    pub is_run : IsRun now.input.most tries (run_setup sizes start) (in_change input now.input) (out_changes outs now.outs) run_moments now.input.moments w.journal
-    is_run = record {
+    same_count : length now.ins ≡ length start.ins
+    same_count = fit.count_is ∙ sym starts_count
+
+    within_ins : (k : ℕ) → k < length start.setup.inputs → k < length now.ins
+    within_ins k l = omega (arith, l, fit.count_is)
+
+    at_place : (k : ℕ) → k < length start.setup.inputs → run_at (in_runs start.ins now.ins) k ≡ in_run (in_at start.ins k) (in_at now.ins k)
+    at_place k l = runs_at start.ins now.ins k same_count (omega (arith, l, starts_count))
+
+    is_full : OneIsFull core.gathered now.ins → SomeIsFull (in_runs start.ins now.ins) w.journal
+    is_full full =
+        let k : ℕ = full.0 in
+        let l : k < length start.setup.inputs = omega (arith, full.1, fit.count_is) in
+        let part : InPart = in_at now.ins k in
+        let f = fit.each k l in
+        let many : HoldsTooMany part.held (gathered_count w.journal) = subst (HoldsTooMany part.held) w.text.stands.gathered full.2.many in
+        let is : IsFull part.rule w.journal k (in_at start.ins k).left part.left = full_at_end (in_at start.ins k) part part.held k w.journal f.readable.some f.none_held many (w.heard k full.1) (few_of part.held part.input part.rule.most f.own) in (
+          k,
+          omega (arith, l, starts_count, length-in_runs start.ins now.ins same_count),
+          subst (λ (x : InRun). IsFull x.rule w.journal k x.place.before x.place.after) (sym (at_place k l)) is,
+        )
+
+    why_by : (limit : Bool) → IsOneIn states.LimitReached now.ins limit → (k : ℕ) → k < length now.ins → RunsFull limit (in_runs start.ins now.ins) w.journal ⊎ (((in_at now.ins k).state ≢ states.Reading) × ((in_at now.ins k).held ≡ None))
+    why_by limit one k l =
+        elim why [
+          | inl full ↦ inl (limit_by limit core.gathered now.ins one full, is_full full)
+          | inr out ↦ inr ((out k l).read, (out k l).none_held)
+        ]
+
+    ends_at : (limit : Bool) → IsOneIn states.LimitReached now.ins limit → (k : ℕ) → k < length start.setup.inputs → EndsSo limit (in_runs start.ins now.ins) k (in_at now.ins k).state (in_run (in_at start.ins k) (in_at now.ins k)) (in_at now.ins k).hand.taken w.journal
+    ends_at limit one k l =
+        ends_by limit (in_runs start.ins now.ins) (in_at now.ins k).state (in_at now.ins k).held (in_at start.ins k) (in_at now.ins k) k w.journal (why_by limit one k (within_ins k l)) (w.heard k (within_ins k l))
+
+    unread : (k : ℕ) → k < length start.setup.inputs → has_ended k w.journal ≡ false → IsUnread (in_runs start.ins now.ins) k (in_run (in_at start.ins k) (in_at now.ins k)) (in_at now.ins k).hand.taken w.journal
+    unread k l =
+        elim why [
+          | inl full ↦ λ e. inr (inr (is_full full))
+          | inr out ↦ unread_by false (in_runs start.ins now.ins) (in_at now.ins k).state (in_run (in_at start.ins k) (in_at now.ins k)) (in_at now.ins k).hand.taken k w.journal
+              (ends_by false (in_runs start.ins now.ins) (in_at now.ins k).state (in_at now.ins k).held (in_at start.ins k) (in_at now.ins k) k w.journal (inr ((out k (within_ins k l)).read, (out k (within_ins k l)).none_held)) (w.heard k (within_ins k l)))
+        ]
+
+    read_of : (k : ℕ) → k < length start.setup.inputs → IsReadFrom (in_runs start.ins now.ins) w.journal k (in_run (in_at start.ins k) (in_at now.ins k)) (in_at now.ins k).hand.taken
+    read_of k l =
+        let part : InPart = in_at now.ins k in
+        let f = fit.each k l in
+        let h = w.heard k (within_ins k l) in
+        record {
+          gathered = gathered_at_end (in_at start.ins k) part part.held k w.journal f.readable.some f.none_held h;
+          clocked = clocked_at_end (in_at start.ins k) part part.held k w.journal h;
+          bytes_taken = h.counted;
+          unread = unread k l;
+        }
+
+    pub has_run : HasRun start.views tries start.setup (in_runs start.ins now.ins) (out_changes start.outs now.outs) w.journal
+    has_run = record {
       legal = subst (λ (s : Setup). IsLegal s w.journal) w.text.setup_is w.text.stands.legal;
-      gathered = told_map input.left now.input.left (λ xs ys. IsNamed now.input.input now.input.most now.input.state w.journal xs (to_come now.input.hand ys)) (λ xs ys. Gathered now.input.most w.journal 0 xs)
-          (λ xs ys h. subst (λ (i : ℕ). Gathered now.input.most w.journal i xs) number (named_ends now.input.input now.input.most now.input.state w.journal xs (to_come now.input.hand ys) read h)) w.heard.named;
+      taken = λ k. (in_at now.ins k).hand.taken;
+      read_from = λ k l. subst (λ (x : InRun). IsReadFrom (in_runs start.ins now.ins) w.journal k x (in_at now.ins k).hand.taken) (sym (at_place k l)) (read_of k l);
       sent_to = sent_to;
       worked = w.worked;
       stopped = sym w.text.stands.stopped ∙ stopped;
       none_raw = sym w.text.stands.raw ∙ raw;
       none_held = sym w.text.stands.held ∙ none_held;
-      start = start_at run_moments first start gives_first;
-      counted = counted_ends run_moments first last start moment (counted_moments w.journal) gives_first gives_last w.counted_at;
-      clocked = subst (λ (i : ℕ). IfSome now.input.moments (λ moments. Clocked moments 0 moments.last (gather_moments i w.journal))) number (clocked_ends now.input.moments now.input.place (gather_moments now.input.input w.journal) w.heard.clocked);
-      taken = now.input.hand.taken;
-      bytes_taken = w.heard.counted;
-      unread = subst (λ (i : ℕ). has_ended i w.journal ≡ false → IsUnread i now.input.most (in_change input now.input) now.input.hand.taken w.journal) number
-          (unread_by now.input.state input now.input w.journal read w.heard.state w.heard.of_taken w.heard.ended);
-      in_order = w.in_order;
     }
 
-    pub ran : (ending : Ending) (put : Change) → ending.state ≡ now.input.state → IsLeftOver ending.left core → ending.account.items ≡ account_text core.numbers →
-        IsPutSo ending.journal_failed put (journal_text (journal_setup_of (run_setup sizes start)) (w.text.written ++ core.stored) (account_text core.numbers)) → Ran now.input.most tries sizes ending (in_change input now.input) (out_changes outs now.outs) put run_moments now.input.moments
-    unfolding is_run
-    ran ending put state left account_is noted =
-        let totals_are : core.numbers ≡ totals (run_setup sizes start) w.journal = w.text.stands.numbers ∙ ap (λ (s : Setup). totals s w.journal) w.text.setup_is in
-        let same : account_text core.numbers ≡ account_of (run_setup sizes start) w.journal = ap account_text totals_are in
+    -- the inputs fit the core still
+    fit_still : AreInputs (length start.setup.inputs) core.ended now.ins
+    fit_still = record {
+      count_is = fit.count_is;
+      each = λ k l.
+          let f = fit.each k l in
+          let within : k < length core.setup.inputs = omega (arith, l, ap (λ (s : Setup). length s.inputs) w.text.setup_is) in
+          record {
+            number = f.number;
+            readable = f.readable;
+            ended_is = w.text.stands.ended k within ∙ ap Some (w.heard k (within_ins k l)).ended;
+            own = f.own;
+            none_held = f.none_held;
+          };
+    }
+
+    pub finished : (ending : Ending) (last : CoreState) (part : JournalPart) (olds : List ℤ) (timer : ClockRun) (moment : ℤ) → last ≡ after_cut core → Gives timer.moments timer.before timer.after moment → now.counted_at ≡ olds ++ int_max moment (last_of start.setup.start olds) ∷ [] →
+        IsOneIn states.LimitReached now.ins ending.limit → IsOneIn states.Faulted now.ins ending.read_fault → IsLeftOver ending.left core → ending.account.items ≡ account_text core.numbers →
+        IsPutSo ending.journal_fault (change start.noted part.held start.note_faults part.faults) (journal_text (journal_setup_of start.setup) (w.text.written ++ core.stored) (account_text core.numbers)) → Finished start tries ending last now.ins now.outs part olds timer
+    unfolding has_run
+    finished ending last part olds timer moment cut gives counts limit fault left account_is noted =
+        let totals_are : core.numbers ≡ totals start.setup w.journal = w.text.stands.numbers ∙ ap (λ (s : Setup). totals s w.journal) w.text.setup_is in
+        let same : account_text core.numbers ≡ account_of start.setup w.journal = ap account_text totals_are in
         record {
-          start = start;
           journal = w.journal;
-          run = is_run;
-          ends = rw state (subst (λ (i : ℕ). EndsSo i now.input.most now.input.state (in_change input now.input) now.input.hand.taken w.journal) number (ends_by now.input.state input now.input w.journal read w.heard.state w.heard.of_taken w.heard.ended));
-          left = left_is ending.left beginning core now.journal w.journal w.text left;
+          stands = cut_stands core last cut w.journal w.text.stands;
+          more = w.text.more;
+          goes_on = w.text.goes_on;
+          run = has_run;
+          fit = subst (λ (s : CoreState). AreInputs (length start.setup.inputs) s.ended now.ins) (sym cut) fit_still;
+          heard = w.heard;
+          said = w.said;
+          counted = λ first. counted_on timer.moments first timer.before timer.after start.setup.start moment olds (counted_moments w.journal) gives (w.counted_at ∙ counts);
+          in_order = w.order.in_order;
+          ends = λ k l. subst (λ (x : InRun). EndsSo ending.limit (in_runs start.ins now.ins) k (in_at now.ins k).state x (in_at now.ins k).hand.taken w.journal) (sym (at_place k l)) (ends_at ending.limit limit k l);
+          limit = limit;
+          read_fault = fault;
+          left = left_is ending.left start core now.journal w.journal w.text left;
           account = account_is ∙ same;
-          noted = subst (λ (account : List ℕ). IsPutSo ending.journal_failed put (journal_text (journal_setup_of (run_setup sizes start)) w.journal account)) same
-              (subst (λ (es : List Entry). IsPutSo ending.journal_failed put (journal_text (journal_setup_of (run_setup sizes start)) es (account_text core.numbers))) (sym w.text.split) noted);
+          noted = subst (λ (account : List ℕ). IsPutSo ending.journal_fault (change start.noted part.held start.note_faults part.faults) (journal_text (journal_setup_of start.setup) w.journal account)) same
+              (subst (λ (es : List Entry). IsPutSo ending.journal_fault (change start.noted part.held start.note_faults part.faults) (journal_text (journal_setup_of start.setup) es (account_text core.numbers))) (sym w.text.split) noted);
         }
 
--- one round more: a group was gathered, the items were routed, batches were sent, and the entries spelled
-pub runs_more : (first old gathered routed sent new : CoreState) (input0 input new_input : InPart) (outs0 outs fresh new_outs : List OutPart) (part0 part new_part : JournalPart) → RunsOn first old input0 input outs0 outs part0 part → AreSettled old outs →
-    ReadsOn old gathered input new_input → fresh ≡ map anew outs → GoesOn gathered routed → SendsOn routed sent fresh new_outs → NotesRun sent new part new_part → RunsOn first new input0 new_input outs0 new_outs part0 new_part
-runs_more first old gathered routed sent new input0 input new_input outs0 outs fresh new_outs part0 part new_part runs settled reads_on anews routes sends notes = λ start now w.
-    let after : Surroundings = record now { input = new_input } in
-    let a = runs start now w in
-    let b = reads_on start (record now { outs = outs; journal = part }) settled a in
-    let c = went_anew start gathered (record after { journal = part }) outs fresh anews b in
+-- a list that was written over another one of its length
+pub taken_front : {X : Type 0} (n : ℕ) (news rest : List X) → length news ≡ n → take n (news ++ rest) ≡ news
+taken_front zero [] rest e = refl
+taken_front (suc n) [] rest e = absurd (omega (arith, e))
+taken_front zero (x ∷ news) rest e = absurd (omega (arith, e))
+taken_front {X} (suc n) (x ∷ news) rest e = ap (λ (xs : List X). x ∷ xs) (taken_front n news rest (omega (arith, e)))
+
+-- a run ends, by other terms
+pub finishes_by : (views other : List (Content → Option Content)) (tries : ℕ) (ending : Ending) (old new : CoreState) (ins last_ins ins_by last_ins_by : List InPart) (outs last_outs outs_by last_outs_by : List OutPart) (part last_part : JournalPart) (timer : ClockRun) →
+    other ≡ views → ins_by ≡ ins → last_ins_by ≡ last_ins → outs_by ≡ outs → last_outs_by ≡ last_outs → FinishesSo views tries ending old new ins last_ins outs last_outs part last_part timer
+    → FinishesSo other tries ending old new ins_by last_ins_by outs_by last_outs_by part last_part timer
+finishes_by views other tries ending old new ins last_ins ins_by last_ins_by outs last_outs outs_by last_outs_by part last_part timer v a b d e h = rw (v, a, b, d, e) h
+
+-- a run that began with nothing
+module _ (views : List (Content → Option Content)) (tries count : ℕ) (sizes : List (ℕ × ℕ)) (start : ℤ) (starts : List InPart) (outs : List OutPart) (noted : Option (List ℕ)) (note_faults : ℕ) where
+  -- what it began with
+  abbrev pub beginning : Beginning
+  beginning = record { setup = run_setup count sizes start; views = views; ins = starts; outs = outs; noted = noted; note_faults = note_faults; front = [] }
+
+  pub ran : (ending : Ending) (core : CoreState) (ins : List InPart) (new_outs : List OutPart) (part : JournalPart) (timer : ClockRun) → Gives timer.moments 0 timer.before start → length ins ≡ count → Finished beginning tries ending core ins new_outs part [] timer
+      → Ran views tries count sizes ending (in_runs starts ins) (out_changes outs new_outs) (change noted part.held note_faults part.faults) timer.moments
+  ran ending core ins new_outs part timer gives number f = record {
+    start = start;
+    journal = f.journal;
+    run = record {
+      has = f.run;
+      start = start_at timer.moments timer.before start gives;
+      counted = counted_all timer.moments timer.before timer.after start (counted_moments f.journal) gives (f.counted timer.before (counted_first timer.moments timer.before start));
+      in_order = f.in_order refl;
+    };
+    state = λ k. (in_at ins k).state;
+    ends = λ k l. f.ends k (omega (arith, l, length-replicate {A = Option ℕ} count None));
+    limit = subst (λ (n : ℕ). IsOneOf states.LimitReached n (λ k. (in_at ins k).state) ending.limit) number f.limit;
+    read_fault = subst (λ (n : ℕ). IsOneOf states.Faulted n (λ k. (in_at ins k).state) ending.read_fault) number f.read_fault;
+    left = f.left;
+    account = f.account;
+    noted = f.noted;
+  }
+
+-- ---- rounds
+
+-- one round more: inputs were gathered, the items were routed, batches were sent, and the entries spelled
+pub runs_more : (views : List (Content → Option Content)) (first old gathered routed sent new : CoreState) (ins0 ins new_ins : List InPart) (outs0 outs fresh new_outs : List OutPart) (part0 part new_part : JournalPart) → RunsOn views first old ins0 ins outs0 outs part0 part → (AreSettled first outs0 → AreSettled old outs) →
+    GathersOn old gathered ins new_ins → fresh ≡ map anew outs → GoesOn views gathered routed → routed.raw ≡ [] → SendsOn routed sent fresh new_outs → NotesRun sent new part new_part → RunsOn views first new ins0 new_ins outs0 new_outs part0 new_part
+runs_more views first old gathered routed sent new ins0 ins new_ins outs0 outs fresh new_outs part0 part new_part runs settles gathers anews routes none sends notes = λ start now settled w.
+    let s : Beginning = record start { views = views } in
+    let after : Surroundings = record now { ins = new_ins; next = length ins } in
+    let last : Surroundings = record now { ins = new_ins; next = 0 } in
+    let a = runs start now settled w in
+    let b = gathers s (record now { outs = outs; journal = part }) (λ f. settles (settled f)) a in
+    let c = went_anew s gathered (record after { journal = part }) outs fresh anews b in
     let d = routes start (record after { outs = fresh; journal = part }) (subst AreAnew (sym anews) (are_anew outs)) c in
-    let e = sends start (record after { journal = part }) d in
-    notes start (record after { outs = new_outs }) e
-
--- an input is the same after another step
-pub same_input : (first old new : InPart) → IsSameInput first old → IsSameInput old new → IsSameInput first new
-same_input first old new h k = record { input = k.input ∙ h.input; most = k.most ∙ h.most; moments = k.moments ∙ h.moments }
-
--- the input is still read after items were routed, batches sent and entries spelled
-pub still_reading : (input : ℕ) (gathered routed sent new : CoreState) → IsReading input gathered → IsRoutable gathered routed → IsSentOn routed sent → new ≡ after_cut sent → IsReading input new
-still_reading input gathered routed sent new r k s is = record {
-  reading = ap (λ (c : CoreState). slice_get c.ended input) is ∙ ap (λ (bs : List Bool). slice_get bs input) (s.ended ∙ k.ended) ∙ r.reading;
-  going = ap (λ (c : CoreState). c.stopped) is ∙ s.stopped ∙ k.stopped ∙ r.going;
-}
+    let n = went_next s routed (record after { outs = fresh; journal = part }) 0 none d in
+    let e = sends s (record last { journal = part }) n in
+    notes s (record last { outs = new_outs }) e
 
 -- the outputs are settled still, once the entries were spelled
 pub settled_still : (sent new : CoreState) (outs : List OutPart) → new ≡ after_cut sent → AreSettled sent outs → AreSettled new outs

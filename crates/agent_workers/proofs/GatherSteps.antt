@@ -1,352 +1,253 @@
--- How far a run has come once a group was read.
-use Rattle.std.proofs.Common.{◌≡◌, ◌≤◌, ◌<◌, ℕ, ℤ, ◌+◌, ◌^◌, Bool, true, false, List, [], ◌∷◌, ◌++◌, length, refl, sym, ap, ◌∙◌, subst, inl, inr, arith}
-use Rattle.std.specs.Prelude.{IfSome, map}
+-- How far a run has come once an input was read, and what it held was offered.
+use Rattle.std.proofs.Common.{◌≡◌, ◌≢◌, ◌≤◌, ◌<◌, ℕ, ℤ, ◌+◌, ◌^◌, Bool, true, false, List, [], ◌∷◌, ◌++◌, length, set, refl, sym, ap, ◌∙◌, subst, inl, inr, arith}
+use Rattle.std.specs.Prelude.{◌==◌, if◌then◌else◌, IfSome}
 use Rattle.std.specs.declared.option.Option.{Option}
 use Rattle.std.specs.declared.option.Option.TheVariants.{Some, None}
-use Rattle.std.proofs.Math.Bool.{or-true}
-use Rattle.metric.specs.declared.metric.Content.{Content}
+use Rattle.std.proofs.lemmas.Bool.{cases_eq}
+use Rattle.std.proofs.lemmas.List.{length-set, get_or-set_same, set-set, set-get_or}
 use Rattle.account.specs.declared.entry.Entry.{Entry}
-use Rattle.account.specs.declared.entry.Report.{Report}
-use Rattle.pipeline_core.specs.Shapes.{IsGatherEntry}
-use Rattle.pipeline_core.proofs.ShapeLemmas.{entries-have-shape}
 use Rattle.account.specs.declared.entry.Entry.TheVariants.{Ended}
-use Rattle.agent_base.specs.Cut.{Cut}
+use Rattle.account.specs.declared.entry.Report.{Report}
 use Rattle.agent_base.specs.Counts.{Rose}
 use Rattle.agent_base.specs.Hand.{Hand, to_come}
 use Rattle.agent_base.specs.Moments.{Moments, Gives}
 use Rattle.agent_base.specs.Told.{Told}
-use Rattle.agent_base.proofs.ClockLemmas.{clocked_one, clocked_joined, clocked_wider}
 use Rattle.pipeline_core.specs.CoreState.{CoreState}
-use Rattle.pipeline_core.specs.Legal.{has_ended}
+use Rattle.pipeline_core.specs.Shapes.{IsGatherEntry}
 use Rattle.pipeline_core.specs.Stands.{Continues}
-use Rattle.pipeline_core.specs.Steps.{after_gather, gather_entry}
-use Rattle.pipeline_core.proofs.JournalPush.{has_ended-push}
-use Rattle.pipeline_core.proofs.StandsSteps.{same_number}
-use Rattle.std.specs.Prelude.{◌||◌}
-use Rattle.agent_workers.specs.declared.input.Group.{Group}
+use Rattle.pipeline_core.specs.Steps.{after_gather, after_ended, gather_entry}
+use Rattle.pipeline_core.specs.Order.{IsDrained}
+use Rattle.pipeline_core.specs.declared.gathering.Gathered.{Gathered}
+use Rattle.pipeline_core.proofs.ShapeLemmas.{entries-have-shape}
+use Rattle.pipeline_core.proofs.StandsSteps.{differs}
+use Rattle.pipeline_core.proofs.RawLemmas.{none_of_other}
+use Rattle.pipeline_core.proofs.WorkedLemmas.{worked-push}
+use Rattle.account.proofs.MomentLemmas.{counted_moments-same}
 use Rattle.agent_workers.specs.declared.input.InState.{InState}
 use Rattle.agent_workers.specs.declared.input.InState.TheVariants as states
-use Rattle.agent_workers.specs.Input.{IsNextGroup, Gathered, Gathering, GatheredTo, NamesSoFar, joined}
-use Rattle.account.specs.EntryMoments.{gather_moments, counted_moments}
-use Rattle.account.specs.Says.{GatherSays}
-use Rattle.account.specs.Gathers.{gathers}
-use Rattle.agent_workers.specs.Groups.{ReadsGroup, gathered_of, IsOffered, IsEnding, IsGathered}
-use Rattle.pipeline_core.specs.Order.{InOrder, IsDrained}
-use Rattle.agent_workers.specs.Progress.{Beginning, Surroundings, HasText, IsNamed, is_ended, HasState, IsClocked, IsNamedOfTaken, AllSaid, Progress}
-use Rattle.agent_workers.specs.Inputs.{InPart}
-use Rattle.pipeline_core.specs.Worked.{Worked}
-use Rattle.agent_workers.proofs.GatherLemmas.{says_of, entry_of, gathers_own, has_ended-other, gathered_to_here, gathered_to_same, gathered, told_gathering, told_gathered_to}
-use Rattle.account.proofs.GatherLemmas.{gathers-push, gathers-other}
-use Rattle.agent_workers.proofs.GroupLemmas.{told_then, told_map, told_pair, few_readings}
-use Rattle.agent_workers.proofs.TakenSteps.{told_names_more, told_taken_more, told_taken_same}
-use Rattle.account.proofs.MomentLemmas.{gather_moments-push, gather_moments-same, counted_moments-same}
-use Rattle.pipeline_core.proofs.OrderLemmas.{in_order-push}
-use Rattle.agent_workers.proofs.ProgressLemmas.{text-push, all_said_push, clocked_same}
-use Rattle.pipeline_core.proofs.WorkedLemmas.{worked-push}
+use Rattle.agent_workers.specs.declared.reading.Group.{Group}
+use Rattle.agent_workers.specs.Groups.{ReadsGroup, gathered_of}
+use Rattle.agent_workers.specs.Inputs.{InPart, in_at, no_in, HoldsNoEnd, HoldsOwn, IsOffered, HasMetEnd}
+use Rattle.agent_workers.specs.Progress.{Beginning, Surroundings, Heard, Progress, SettlesFirst, ReadsAt, GathersAt, EndsAt}
+use Rattle.agent_workers.specs.Running.{AreSettled}
+use Rattle.agent_workers.proofs.GatherLemmas.{entry_of, said_of}
+use Rattle.agent_workers.proofs.HeardLemmas.{IsNotOf, read_to, heard_push, heard_accepted, heard_full, heard_ended, heard_free, heard_read_none, heard_read_some}
+use Rattle.agent_workers.proofs.ProgressLemmas.{text-push, all_heard_set, all_said_push, order-push, buffered_is, went_behind}
+use Rattle.agent_workers.proofs.GroupLemmas.{told_then}
 
--- while the input is read on the Gathers name full groups; else the last one needn't be full
-abbrev pub IsNamedTo : ℕ → ℕ → InState → List Entry → List ℕ → List Cut → Type 0
-IsNamedTo input most states.Reading journal text rest = Gathering most journal input text rest
-IsNamedTo input most states.Ended journal text rest = GatheredTo most journal input text rest
-IsNamedTo input most states.Faulted journal text rest = GatheredTo most journal input text rest
-IsNamedTo input most states.LimitReached journal text rest = GatheredTo most journal input text rest
-
--- a group was read and offered, and the input's end isn't noted yet
-pub record HeardTo (start now : InPart) (journal : List Entry) : Type 0 where
-  pub named : Told start.left now.left (λ xs ys. IsNamedTo now.input now.most now.state journal xs (to_come now.hand ys))
-  pub of_taken : Told start.left now.left (IsNamedOfTaken now.input now.most now.state journal now.hand)
-  pub all : now.state ≡ states.Ended → Told start.left now.left (λ xs ys. to_come now.hand ys ≡ [])
-  pub counted : Told start.left now.left (λ xs ys. length xs ≡ now.hand.taken + length ys)
-  pub unended : has_ended now.input journal ≡ false
-  pub later : start.read_faults ≤ now.read_faults
-  pub state : HasState now.state start now journal
-  pub clocked : IfSome now.moments (λ moments. IsClocked moments now.place (gather_moments now.input journal))
-
-pub record ProgressTo (start : Beginning) (core : CoreState) (now : Surroundings) : Type 0 where
-  pub journal : List Entry
-  pub text : HasText start core now.journal journal
-  pub heard : HeardTo start.input now.input journal
-  pub out_count : length now.outs ≡ length start.setup.outputs
-  pub said : AllSaid start.outs now.outs journal
-  pub worked : Worked journal
-  pub in_order : InOrder start.setup journal
-  pub counted_at : counted_moments journal ≡ now.counted_at
-
--- what a read of a group leaves of an input
-abbrev pub read_to : InPart → InState → Hand → Option (List ℕ) → ℕ → ℕ → InPart
-read_to old state hand left read_faults place = record old { state = state; hand = hand; left = left; read_faults = read_faults; place = place }
-
-clocked_wide : (all : Option Moments) (old new : ℕ) (moment : ℤ) (ms : List ℤ) → Gives all old new moment → IfSome all (λ moments. IsClocked moments old ms) → IfSome all (λ moments. IsClocked moments new ms)
-clocked_wide None old new moment ms g h = tt
-clocked_wide (Some moments) old new moment ms g h = (omega (arith, g.next), clocked_wider moments 0 0 old new ms (omega arith) (omega (arith, g.within, g.next)) h.1)
-
-clocked_more : (all : Option Moments) (old new : ℕ) (moment : ℤ) (ms : List ℤ) → Gives all old new moment → IfSome all (λ moments. IsClocked moments old ms) → IfSome all (λ moments. IsClocked moments new (ms ++ moment ∷ []))
-clocked_more None old new moment ms g h = tt
-clocked_more (Some moments) old new moment ms g h = (omega (arith, g.next), clocked_joined moments 0 old new ms (moment ∷ []) h.1 (clocked_one moments old new moment g))
-
-none_of : {X : Type 0} (xs : List X) → length xs ≡ 0 → xs ≡ []
-none_of [] l = refl
-none_of (x ∷ xs) l = absurd (omega (arith, l))
-
-rose_from : (a b c : ℕ) → a ≤ b → Rose b c → Rose a c
-rose_from a b c l r = omega arith
-
-has_state : (state : InState) (start now : InPart) (journal : List Entry) (read_faults : ℕ) → start.read_faults ≤ read_faults → (state ≡ states.LimitReached → now.hand.taken ≡ 2 ^ 40) → ((state ≡ states.LimitReached → ⊥) → now.hand.taken < 2 ^ 40)
-    → (state ≡ states.Faulted → Rose read_faults now.read_faults) → HasState state start now journal
-has_state states.Reading start now journal read_faults l limit below failed = below (λ e. absurd (let x : states.Reading ≡ states.LimitReached = e in cc))
-has_state states.Ended start now journal read_faults l limit below failed = below (λ e. absurd (let x : states.Ended ≡ states.LimitReached = e in cc))
-has_state states.Faulted start now journal read_faults l limit below failed = (below (λ e. absurd (let x : states.Faulted ≡ states.LimitReached = e in cc)), rose_from start.read_faults read_faults now.read_faults l (failed refl))
-has_state states.LimitReached start now journal read_faults l limit below failed = inl (limit refl)
-
-module _ (start : Beginning) (core : CoreState) (now : Surroundings) (old : InPart) (after : Hand) (state : InState) (moment : ℤ) (group : Group) (new_left : Option (List ℕ)) (new_read_faults new_place : ℕ)
-    (w : Progress start core (record now { input = old })) (reading : old.state ≡ states.Reading) (one_piece : 1 ≤ old.most) (g : ReadsGroup old.most moment group state old.hand after old.left new_left)
-    (gives : Gives old.moments old.place new_place moment) (read_faults : old.read_faults ≤ new_read_faults)
-    (counted : Told old.left new_left (λ xs ys. old.hand.taken + length xs ≡ after.taken + length ys))
-    (limit : state ≡ states.LimitReached → after.taken ≡ 2 ^ 40) (below : (state ≡ states.LimitReached → ⊥) → after.taken < 2 ^ 40) (faulted : state ≡ states.Faulted → Rose old.read_faults new_read_faults) (one : state ≡ states.Faulted → length (to_come after []) ≤ 1) (line : state ≡ states.Faulted → length (to_come after (10 ∷ [])) ≤ 1) where
-  -- the input, once the group was read
-  abbrev pub new : InPart
-  new = read_to old state after new_left new_read_faults new_place
-
-  here : Told start.input.left old.left (λ xs ys. Gathering old.most w.journal old.input xs (to_come old.hand ys))
-  here = subst (λ (s : InState). Told start.input.left old.left (λ xs ys. IsNamed old.input old.most s w.journal xs (to_come old.hand ys))) reading w.heard.named
-
-  before_taken : Told start.input.left old.left (NamesSoFar old.most w.journal old.input old.hand)
-  before_taken = subst (λ (s : InState). Told start.input.left old.left (IsNamedOfTaken old.input old.most s w.journal old.hand)) reading w.heard.of_taken
-
-  unended : has_ended old.input w.journal ≡ false
-  unended = subst (λ (s : InState). has_ended old.input w.journal ≡ is_ended s) reading w.heard.ended
-
-  counted_all : Told start.input.left new_left (λ xs ys. length xs ≡ after.taken + length ys)
-  counted_all =
-      told_then start.input.left old.left new_left (λ xs ys. length xs ≡ old.hand.taken + length ys) (λ ys zs. old.hand.taken + length ys ≡ after.taken + length zs) (λ xs zs. length xs ≡ after.taken + length zs)
-      w.heard.counted counted (λ xs ys zs a b. a ∙ b)
-
-  all_read : state ≡ states.Ended → Told start.input.left new_left (λ xs ys. to_come after ys ≡ [])
-  all_read e =
-      told_then start.input.left old.left new_left (λ xs ys. Gathering old.most w.journal old.input xs (to_come old.hand ys)) (λ ys zs. to_come after zs ≡ []) (λ xs zs. to_come after zs ≡ [])
-      here (g.all e) (λ xs ys zs a b. b)
-
-  named_none : length g.reads.read ≡ 0 → Told start.input.left new_left (λ xs ys. GatheredTo old.most w.journal old.input xs (to_come after ys))
-  named_none none =
-      told_then start.input.left old.left new_left (λ xs ys. Gathering old.most w.journal old.input xs (to_come old.hand ys)) (λ ys zs. to_come old.hand ys ≡ g.reads.read ++ to_come after zs) (λ xs zs. GatheredTo old.most w.journal old.input xs (to_come after zs))
-      here g.reads.consecutive
-      (λ xs ys zs a b. gathered_to_here old.most old.input w.journal xs (to_come after zs) one_piece (subst (Gathering old.most w.journal old.input xs) (b ∙ ap (λ (cs : List Cut). cs ++ to_come after zs) (none_of g.reads.read none)) a))
-
-  named_by_state : (state : InState) → (state ≡ states.Reading → ⊥) → (journal : List Entry) → Told start.input.left new_left (λ xs ys. GatheredTo old.most journal old.input xs (to_come after ys)) → Told start.input.left new_left (λ xs ys. IsNamedTo old.input old.most state journal xs (to_come after ys))
-  named_by_state states.Reading ne journal h = absurd (ne refl)
-  named_by_state states.Ended ne journal h = h
-  named_by_state states.Faulted ne journal h = h
-  named_by_state states.LimitReached ne journal h = h
-
-  taken_none : (s : InState) → s ≡ state → (s ≡ states.Reading → ⊥) → group.pieces ≡ 0 → Told start.input.left new_left (IsNamedOfTaken old.input old.most s w.journal after)
-  taken_none states.Reading e ne none = absurd (ne refl)
-  taken_none states.Ended e ne none = told_map start.input.left new_left (λ xs ys. length xs ≡ after.taken + length ys) (IsNamedOfTaken old.input old.most states.Ended w.journal after) (λ xs ys h. tt) counted_all
-  taken_none states.Faulted e ne none = told_taken_same old.most old.input w.journal moment group old.hand after start.input.left old.left new_left g.reads before_taken here (one (sym e)) (line (sym e)) w.journal refl none
-  taken_none states.LimitReached e ne none = told_map start.input.left new_left (λ xs ys. length xs ≡ after.taken + length ys) (IsNamedOfTaken old.input old.most states.LimitReached w.journal after) (λ xs ys h. tt) counted_all
-
-  -- no piece was read
-  pub went_none : group.pieces ≡ 0 → ProgressTo start core (record now { input = new })
-  went_none empty =
-      let none : length g.reads.read ≡ 0 = sym g.reads.pieces ∙ empty in
-      record {
-        journal = w.journal;
-        text = w.text;
-        heard = record {
-          named = named_by_state state (λ e. absurd (omega (arith, g.full e, none, one_piece))) w.journal (named_none none);
-          of_taken = taken_none state refl (λ e. absurd (omega (arith, g.full e, none, one_piece))) empty;
-          all = all_read;
-          counted = counted_all;
-          unended = unended;
-          later = omega (arith, w.heard.later, read_faults);
-          state = has_state state start.input new w.journal old.read_faults w.heard.later limit below faulted;
-          clocked = clocked_wide old.moments old.place new_place moment (gather_moments old.input w.journal) gives w.heard.clocked;
-        };
-        out_count = w.out_count;
-        said = w.said;
-        worked = w.worked;
-        in_order = w.in_order;
-        counted_at = w.counted_at;
-      }
-
-  more_named : (number : Option ℕ) (reports : List Report) → gathers old.input (w.journal ++ entry_of old.input moment group number reports ∷ []) ≡ gathers old.input w.journal ++ says_of old.input moment group number reports ∷ []
-  more_named number reports =
-      gathers-push old.input w.journal (entry_of old.input moment group number reports) ∙ ap (λ (more : List GatherSays). gathers old.input w.journal ++ more) (gathers_own old.input moment group number reports)
-
-  named_more : (number : Option ℕ) (reports : List Report) (s : InState) → s ≡ state → 0 < length g.reads.read → Told start.input.left new_left (λ xs ys. IsNamedTo old.input old.most s (w.journal ++ entry_of old.input moment group number reports ∷ []) xs (to_come after ys))
-  named_more number reports states.Reading e some =
-      told_gathering old.most old.input w.journal (w.journal ++ entry_of old.input moment group number reports ∷ []) moment group number reports old.hand after start.input.left old.left new_left g.reads (more_named number reports) here (g.full (sym e))
-  named_more number reports states.Ended e some =
-      told_gathered_to old.most old.input w.journal (w.journal ++ entry_of old.input moment group number reports ∷ []) moment group number reports old.hand after start.input.left old.left new_left g.reads (more_named number reports) here (omega arith) g.most
-  named_more number reports states.Faulted e some =
-      told_gathered_to old.most old.input w.journal (w.journal ++ entry_of old.input moment group number reports ∷ []) moment group number reports old.hand after start.input.left old.left new_left g.reads (more_named number reports) here (omega arith) g.most
-  named_more number reports states.LimitReached e some =
-      told_gathered_to old.most old.input w.journal (w.journal ++ entry_of old.input moment group number reports ∷ []) moment group number reports old.hand after start.input.left old.left new_left g.reads (more_named number reports) here (omega arith) g.most
-
-  taken_more : (number : Option ℕ) (reports : List Report) (s : InState) → s ≡ state → Told start.input.left new_left (IsNamedOfTaken old.input old.most s (w.journal ++ entry_of old.input moment group number reports ∷ []) after)
-  taken_more number reports states.Reading e =
-      told_names_more old.most old.input w.journal moment group old.hand after start.input.left old.left new_left g.reads before_taken number reports (w.journal ++ entry_of old.input moment group number reports ∷ []) (more_named number reports) (g.full (sym e))
-  taken_more number reports states.Ended e =
-      told_map start.input.left new_left (λ xs ys. length xs ≡ after.taken + length ys) (IsNamedOfTaken old.input old.most states.Ended (w.journal ++ entry_of old.input moment group number reports ∷ []) after) (λ xs ys h. tt) counted_all
-  taken_more number reports states.Faulted e =
-      told_taken_more old.most old.input w.journal moment group old.hand after start.input.left old.left new_left g.reads before_taken here (one (sym e)) (line (sym e)) number reports (w.journal ++ entry_of old.input moment group number reports ∷ []) (more_named number reports)
-  taken_more number reports states.LimitReached e =
-      told_map start.input.left new_left (λ xs ys. length xs ≡ after.taken + length ys) (IsNamedOfTaken old.input old.most states.LimitReached (w.journal ++ entry_of old.input moment group number reports ∷ []) after) (λ xs ys h. tt) counted_all
-
-  -- the group was gathered
-  pub went_gathered : (next : CoreState) → 0 < group.pieces → next ≡ after_gather core (gathered_of old.input moment group) → Continues core next (gather_entry core (gathered_of old.input moment group)) → IsDrained start.setup w.journal
-      → ProgressTo start next (record now { input = new })
-  went_gathered next some is more drained =
-      let shape : IsGatherEntry (gathered_of old.input moment group) (gather_entry core (gathered_of old.input moment group)) = entries-have-shape.gathers core (gathered_of old.input moment group) in
-      let number : Option ℕ = shape.0 in
-      let reports : List Report = shape.1 in
-      let e : Entry = entry_of old.input moment group number reports in
-      record {
-        journal = w.journal ++ e ∷ [];
-        text = text-push start core next now.journal w.journal e w.text (subst (Continues core next) shape.2 more) (ap (λ (s : CoreState). s.stored) is ∙ ap (λ (x : Entry). core.stored ++ x ∷ []) shape.2) (ap (λ (s : CoreState). s.setup) is);
-        heard = record {
-          named = named_more number reports state refl (omega (arith, some, g.reads.pieces));
-          of_taken = taken_more number reports state refl;
-          all = all_read;
-          counted = counted_all;
-          unended = has_ended-other old.input w.journal e refl ∙ unended;
-          later = omega (arith, w.heard.later, read_faults);
-          state = has_state state start.input new (w.journal ++ e ∷ []) old.read_faults w.heard.later limit below faulted;
-          clocked = clocked_same old.moments new_place (gather_moments old.input w.journal ++ moment ∷ []) (gather_moments old.input (w.journal ++ e ∷ []))
-              (gather_moments-push old.input w.journal e ∙ ap (λ (more : List GatherSays). gather_moments old.input w.journal ++ map (λ (says : GatherSays). says.moment) more) (gathers_own old.input moment group number reports))
-              (clocked_more old.moments old.place new_place moment (gather_moments old.input w.journal) gives w.heard.clocked);
-        };
-        out_count = w.out_count;
-        said = all_said_push start.outs now.outs w.journal e (λ o. record { ends = tt; none = refl; quiet = refl }) refl w.said;
-        worked = worked-push w.journal e tt w.worked;
-        in_order = in_order-push start.setup w.journal e w.in_order drained;
-        counted_at = counted_moments-same w.journal e refl ∙ w.counted_at;
-      }
-
-  -- the group was offered
-  pub went_offered : (next : CoreState) → IsOffered old.input true moment group core next → IsDrained start.setup w.journal → ProgressTo start next (record now { input = new })
-  went_offered next (inl none) drained = subst (λ (k : CoreState). ProgressTo start k (record now { input = new })) (sym none.1) (went_none none.0)
-  went_offered next (inr some) drained = went_gathered next some.0 some.1 some.2 drained
-
-  -- the group was refused, since the run is full
-  pub went_full : 2 ^ 32 ≤ core.gathered + length group.metrics.items → Progress start core (record now { input = read_to old states.LimitReached after new_left new_read_faults new_place })
-  went_full many = record {
-    journal = w.journal;
-    text = w.text;
-    heard = record {
-      named =
-          told_then start.input.left old.left new_left (λ xs ys. Gathering old.most w.journal old.input xs (to_come old.hand ys)) (λ ys zs. to_come old.hand ys ≡ g.reads.read ++ to_come after zs) (λ xs zs. Gathered old.most w.journal old.input xs)
-          here g.reads.consecutive
-          (λ xs ys zs a b. gathered old.most old.input w.journal xs (to_come old.hand ys) (gathered_to_here old.most old.input w.journal xs (to_come old.hand ys) one_piece a) (λ e. absurd (let x : false ≡ true = sym unended ∙ e in cc)));
-      of_taken = told_map start.input.left new_left (λ xs ys. length xs ≡ after.taken + length ys) (IsNamedOfTaken old.input old.most states.LimitReached w.journal after) (λ xs ys h. tt) counted_all;
-      counted = counted_all;
-      ended = unended;
-      later = omega (arith, w.heard.later, read_faults);
-      state = inr (record {
-        count = length group.metrics.items;
-        few = omega (arith, g.most, ap (λ (ms : List Content). length ms) g.reads.metrics, few_readings moment g.reads.read);
-        many = omega (arith, many, w.text.stands.gathered);
-        next =
-            told_then start.input.left old.left new_left (λ xs ys. Gathering old.most w.journal old.input xs (to_come old.hand ys)) (λ ys zs. to_come old.hand ys ≡ g.reads.read ++ to_come after zs) (λ xs zs. IsNextGroup old.most w.journal old.input xs (length group.metrics.items))
-            here g.reads.consecutive
-            (λ xs ys zs a b. record { moment = moment; groups = a.groups; group = g.reads.read; rest = to_come after zs; consecutive = a.consecutive ∙ ap (λ (cs : List Cut). joined a.groups ++ cs) b; named = a.named; few = g.most; metrics = ap (λ (ms : List Content). length ms) g.reads.metrics });
-      });
-      clocked = clocked_wide old.moments old.place new_place moment (gather_moments old.input w.journal) gives w.heard.clocked;
-    };
-    out_count = w.out_count;
-    said = w.said;
-    worked = w.worked;
-    in_order = w.in_order;
-    counted_at = w.counted_at;
-  }
-
-ended_here : (input : ℕ) (journal : List Entry) → has_ended input (journal ++ Ended input ∷ []) ≡ true
-ended_here input journal = has_ended-push input journal (Ended input) ∙ ap (λ (b : Bool). has_ended input journal || b) (same_number input) ∙ or-true (has_ended input journal)
-
-named_ended : (input most : ℕ) (journal : List Entry) (text left : Option (List ℕ)) (hand : Hand) → Told text left (λ xs ys. GatheredTo most journal input xs (to_come hand ys)) → Told text left (λ xs ys. to_come hand ys ≡ []) → Told text left (λ xs ys. Gathered most (journal ++ Ended input ∷ []) input xs)
-named_ended input most journal text left hand h all =
-    told_pair text left (λ xs ys. GatheredTo most journal input xs (to_come hand ys)) (λ xs ys. to_come hand ys ≡ []) (λ xs ys. Gathered most (journal ++ Ended input ∷ []) input xs) h all
-    (λ xs ys p q. gathered most input (journal ++ Ended input ∷ []) xs (to_come hand ys) (gathered_to_same most input journal (journal ++ Ended input ∷ []) xs (to_come hand ys) (gathers-other input journal (Ended input) refl) p) (λ e. q))
-
-named_unended : (input most : ℕ) (journal : List Entry) (text left : Option (List ℕ)) (hand : Hand) → has_ended input journal ≡ false → Told text left (λ xs ys. GatheredTo most journal input xs (to_come hand ys)) → Told text left (λ xs ys. Gathered most journal input xs)
-named_unended input most journal text left hand none h =
-    told_map text left (λ xs ys. GatheredTo most journal input xs (to_come hand ys)) (λ xs ys. Gathered most journal input xs)
-    (λ xs ys p. gathered most input journal xs (to_come hand ys) p (λ e. absurd (let x : false ≡ true = sym none ∙ e in cc))) h
-
--- the same journal
-went_unended : (start : Beginning) (core : CoreState) (now : Surroundings) (w : ProgressTo start core now) → is_ended now.input.state ≡ false →
-    Told start.input.left now.input.left (λ xs ys. IsNamed now.input.input now.input.most now.input.state w.journal xs (to_come now.input.hand ys)) → Progress start core now
-went_unended start core now w none named = record {
+-- one of the inputs changes, and the journal stays
+pub went_set : (start : Beginning) (core : CoreState) (now : Surroundings) (ins : List InPart) (i : ℕ) (part : InPart) → i < length ins → (w : Progress start core (record now { ins = ins })) → Heard (in_at start.ins i) part i w.journal → Progress start core (record now { ins = set ins i part })
+went_set start core now ins i part b w here = record {
   journal = w.journal;
   text = w.text;
-  heard = record { named = named; of_taken = w.heard.of_taken; counted = w.heard.counted; ended = w.heard.unended ∙ sym none; later = w.heard.later; state = w.heard.state; clocked = w.heard.clocked };
+  in_count = length-set ins i part ∙ w.in_count;
+  heard = all_heard_set start.ins ins w.journal w.journal i part b here (λ k ne h. h) w.heard;
   out_count = w.out_count;
   said = w.said;
   worked = w.worked;
-  in_order = w.in_order;
+  order = w.order;
   counted_at = w.counted_at;
 }
 
--- the end of the input was noted, where it was reached
-pub went_ended : (state : InState) (start : Beginning) (core next : CoreState) (now : Surroundings) (input : InPart) → IsEnding input.input state core next → ProgressTo start core (record now { input = record input { state = state } })
-    → Progress start next (record now { input = record input { state = state } })
-went_ended states.Reading start core next now input is w =
-    subst (λ (s : CoreState). Progress start s (record now { input = record input { state = states.Reading } })) (sym is) (went_unended start core (record now { input = record input { state = states.Reading } }) w refl w.heard.named)
-went_ended states.Faulted start core next now input is w =
-    subst (λ (s : CoreState). Progress start s (record now { input = record input { state = states.Faulted } })) (sym is)
-    (went_unended start core (record now { input = record input { state = states.Faulted } }) w refl (named_unended input.input input.most w.journal start.input.left input.left input.hand w.heard.unended w.heard.named))
-went_ended states.LimitReached start core next now input is w =
-    subst (λ (s : CoreState). Progress start s (record now { input = record input { state = states.LimitReached } })) (sym is)
-    (went_unended start core (record now { input = record input { state = states.LimitReached } }) w refl (named_unended input.input input.most w.journal start.input.left input.left input.hand w.heard.unended w.heard.named))
-went_ended states.Ended start core next now input is w = record {
-  journal = w.journal ++ Ended input.input ∷ [];
-  text = text-push start core next now.journal w.journal (Ended input.input) w.text is.1 (ap (λ (s : CoreState). s.stored) is.0) (ap (λ (s : CoreState). s.setup) is.0);
-  heard = record {
-    named = named_ended input.input input.most w.journal start.input.left input.left input.hand w.heard.named (w.heard.all refl);
-    of_taken = w.heard.of_taken;
-    counted = w.heard.counted;
-    ended = ended_here input.input w.journal;
-    later = w.heard.later;
-    state = w.heard.state;
-    clocked = clocked_same input.moments input.place (gather_moments input.input w.journal) (gather_moments input.input (w.journal ++ Ended input.input ∷ [])) (gather_moments-same input.input w.journal (Ended input.input) refl) w.heard.clocked;
-  };
-  out_count = w.out_count;
-  said = all_said_push start.outs now.outs w.journal (Ended input.input) (λ o. record { ends = tt; none = refl; quiet = refl }) refl w.said;
-  worked = worked-push w.journal (Ended input.input) tt w.worked;
-  in_order = in_order-push start.setup w.journal (Ended input.input) w.in_order tt;
-  counted_at = counted_moments-same w.journal (Ended input.input) refl ∙ w.counted_at;
+-- the next group was read, and is held where it has a piece
+module _ (start : Beginning) (core : CoreState) (now : Surroundings) (ins : List InPart) (old : InPart) (after : Hand) (state : InState) (moment : ℤ) (group : Group) (left : Option (List ℕ)) (read_faults place : ℕ) (held : Option Gathered)
+    (b : old.input < length ins) (at : in_at ins old.input ≡ old) (reading : old.state ≡ states.Reading) (free : old.held ≡ None) (one_piece : 1 ≤ old.rule.most) (g : ReadsGroup old.rule moment group state old.hand after old.left left)
+    (gives : Gives old.moments old.place place moment) (later : old.read_faults ≤ read_faults)
+    (counted : Told old.left left (λ xs ys. old.hand.taken + length xs ≡ after.taken + length ys))
+    (limit : state ≡ states.LimitReached → after.taken ≡ 2 ^ 40) (below : (state ≡ states.LimitReached → ⊥) → after.taken < 2 ^ 40) (faulted : state ≡ states.Faulted → Rose old.read_faults read_faults) (one : state ≡ states.Faulted → length (to_come after []) ≤ 1) (line : state ≡ states.Faulted → length (to_come after (10 ∷ [])) ≤ 1)
+    (none : group.pieces ≡ 0 → held ≡ None) (some : 0 < group.pieces → held ≡ Some (gathered_of old.input moment group)) (w : Progress start core (record now { ins = ins })) where
+  before : Heard (in_at start.ins old.input) (record old { state = states.Reading; held = None }) old.input w.journal
+  before = heard_free (in_at start.ins old.input) old old.input w.journal reading free (subst (λ (x : InPart). Heard (in_at start.ins old.input) x old.input w.journal) at (w.heard old.input b))
+
+  read : Heard (in_at start.ins old.input) (read_to old state after left read_faults place held) old.input w.journal
+  read =
+      elim (cases_eq group.pieces 0) [
+        | inl e ↦ subst (λ (x : Option Gathered). Heard (in_at start.ins old.input) (read_to old state after left read_faults place x) old.input w.journal) (sym (none e))
+            (heard_read_none (in_at start.ins old.input) old old.input w.journal after state moment group left read_faults place before one_piece g gives later counted limit below faulted one line e)
+        | inr ne ↦ let l : 0 < group.pieces = omega (arith, ne) in
+            subst (λ (x : Option Gathered). Heard (in_at start.ins old.input) (read_to old state after left read_faults place x) old.input w.journal) (sym (some l))
+            (heard_read_some (in_at start.ins old.input) old old.input w.journal after state moment group left read_faults place before one_piece g gives later counted limit below faulted one line l)
+      ]
+
+  pub went_read : Progress start core (record now { ins = set ins old.input (read_to old state after left read_faults place held) })
+  went_read = went_set start core now ins old.input (read_to old state after left read_faults place held) b w read
+
+-- the moments of an input's clock by another term
+pub went_clocked : (start : Beginning) (core : CoreState) (now : Surroundings) (ins : List InPart) (i : ℕ) (part : InPart) (moments : Option Moments) → moments ≡ part.moments → Progress start core (record now { ins = set ins i part }) → Progress start core (record now { ins = set ins i (record part { moments = moments }) })
+went_clocked start core now ins i part moments same w = subst (λ (m : Option Moments). Progress start core (record now { ins = set ins i (record part { moments = m }) })) (sym same) w
+
+-- nothing changes
+pub reads_none : (core : CoreState) (part new : InPart) → new ≡ part → ReadsAt core core part new
+reads_none core part new same = λ ins b at start now w.
+    let kept : set ins part.input new ≡ ins = ap (set ins part.input) same ∙ subst (λ (x : InPart). set ins part.input x ≡ ins) at (set-get_or ins part.input no_in) in
+    subst (λ (all : List InPart). Progress start core (record now { ins = all })) (sym kept) w
+
+-- the Gather of one input, and its Ended, say nothing of another one
+gather_other : (g : Gathered) (number : Option ℕ) (reports : List Report) (k : ℕ) → k ≢ g.input → IsNotOf k (entry_of g number reports)
+gather_other g number reports k ne =
+    let apart : (g.input == k) ≡ false = differs g.input k (λ e. ne (sym e)) in
+    record { none = ap (λ (here : Bool). if here then (said_of g number reports ∷ []) else []) apart; other = refl }
+
+ended_other : (i k : ℕ) → k ≢ i → IsNotOf k (Ended i)
+ended_other i k ne = record { none = refl; other = differs i k (λ e. ne (sym e)) }
+
+-- no item of the input is raw, and at each output nothing is buffered or the last batch failed
+drained : (start : Beginning) (core : CoreState) (now : Surroundings) (w : Progress start core now) (i : ℕ) → now.next ≤ i → start.front ≡ [] → AreSettled core now.outs → IsDrained start.setup w.journal i
+drained start core now w i l f settled = record {
+  none_raw = w.order.none_raw f i l;
+  each = λ o within.
+      let b : o < length now.outs = omega (arith, within, w.out_count) in
+      elim (settled o b) [
+        | inl none ↦ inl (sym (buffered_is start core now.journal w.journal w.text o) ∙ none)
+        | inr some ↦ inr ((w.said o b).stuck some)
+      ];
 }
 
--- the moments of the clock by another term
-pub went_clocked : (start : Beginning) (core : CoreState) (now : Surroundings) (input : InPart) (moments : Option Moments) → moments ≡ input.moments → Progress start core (record now { input = input }) → Progress start core (record now { input = record input { moments = moments } })
-went_clocked start core now input moments same w = subst (λ (m : Option Moments). Progress start core (record now { input = record input { moments = m } })) (sym same) w
+-- what an input holds is gathered
+pub went_accepted : (start : Beginning) (core next : CoreState) (now : Surroundings) (ins : List InPart) (part : InPart) (g : Gathered) → part.input < length ins → in_at ins part.input ≡ record part { held = Some g } → g.input ≡ part.input → core.gathered + length g.metrics < 2 ^ 32 →
+    next ≡ after_gather core g → Continues core next (gather_entry core g) → SettlesFirst start core now.outs → Progress start core (record now { ins = ins; next = part.input }) → Progress start next (record now { ins = set ins part.input (record part { held = None }); next = part.input + 1 })
+went_accepted start core next now ins part g b at own few is more settled w =
+    let i : ℕ = part.input in
+    let shape : IsGatherEntry g (gather_entry core g) = entries-have-shape.gathers core g in
+    let number : Option ℕ = shape.0 in
+    let reports : List Report = shape.1 in
+    let e : Entry = entry_of g number reports in
+    let before : Heard (in_at start.ins i) (record part { held = Some g }) i w.journal = subst (λ (x : InPart). Heard (in_at start.ins i) x i w.journal) at (w.heard i b) in
+    let after : Heard (in_at start.ins i) (record part { held = None }) i (w.journal ++ e ∷ []) = heard_accepted (in_at start.ins i) part i w.journal g number reports own (omega (arith, few, w.text.stands.gathered)) before in
+    record {
+      journal = w.journal ++ e ∷ [];
+      text = text-push start core next now.journal w.journal e w.text (subst (Continues core next) shape.2 more) (ap (λ (s : CoreState). s.stored) is ∙ ap (λ (x : Entry). core.stored ++ x ∷ []) shape.2) (ap (λ (s : CoreState). s.setup) is);
+      in_count = length-set ins i (record part { held = None }) ∙ w.in_count;
+      heard = all_heard_set start.ins ins w.journal (w.journal ++ e ∷ []) i (record part { held = None }) b after
+          (λ k ne h. heard_push (in_at start.ins k) (in_at ins k) k w.journal e (gather_other g number reports k (λ q. ne (q ∙ own))) h) w.heard;
+      out_count = w.out_count;
+      said = all_said_push start.outs now.outs w.journal e (λ o. record { ends = tt; none = refl; quiet = refl }) refl w.said;
+      worked = worked-push start.views w.journal e tt w.worked;
+      order = order-push start core i (i + 1) w.journal e w.text.stands (omega arith)
+          (λ f. drained start core (record now { ins = ins; next = i }) w g.input (omega (arith, own)) f (settled f))
+          (λ k l. none_of_other k g.input (length g.metrics) number (λ (q : g.input ≡ k). absurd (omega (arith, l, q, own)))) w.order;
+      counted_at = counted_moments-same w.journal e refl ∙ w.counted_at;
+    }
 
--- whether the group was accepted
-pub accepted_offer : (input : ℕ) (accepted : Bool) (moment : ℤ) (group : Group) (old new : CoreState) → accepted ≡ true → IsOffered input accepted moment group old new → IsOffered input true moment group old new
-accepted_offer input accepted moment group old new e h = subst (λ (b : Bool). IsOffered input b moment group old new) e h
+-- what an input holds is too much for the run
+pub went_full : (start : Beginning) (core : CoreState) (now : Surroundings) (ins : List InPart) (part : InPart) (g : Gathered) → part.input < length ins → in_at ins part.input ≡ record part { held = Some g } → 1 ≤ part.rule.most → HoldsNoEnd part.state (Some g) → 2 ^ 32 ≤ core.gathered + length g.metrics →
+    Progress start core (record now { ins = ins }) → Progress start core (record now { ins = set ins part.input (record part { held = Some g; state = states.LimitReached }) })
+went_full start core now ins part g b at some no_end many w =
+    let i : ℕ = part.input in
+    let before : Heard (in_at start.ins i) (record part { held = Some g }) i w.journal = subst (λ (x : InPart). Heard (in_at start.ins i) x i w.journal) at (w.heard i b) in
+    went_set start core now ins i (record part { held = Some g; state = states.LimitReached }) b w (heard_full (in_at start.ins i) part i w.journal g some no_end (omega (arith, many, w.text.stands.gathered)) before)
 
-pub refused_offer : (input : ℕ) (accepted : Bool) (moment : ℤ) (group : Group) (old new : CoreState) → accepted ≡ false → IsOffered input accepted moment group old new → IsOffered input false moment group old new
-refused_offer input accepted moment group old new e h = subst (λ (b : Bool). IsOffered input b moment group old new) e h
+-- the end of an input is noted
+pub went_ended : (start : Beginning) (core next : CoreState) (now : Surroundings) (ins : List InPart) (part : InPart) → part.input < length ins → in_at ins part.input ≡ record part { state = states.Reading; held = None } → 1 ≤ part.rule.most →
+    next ≡ after_ended core part.input → Continues core next (Ended part.input) → Told (in_at start.ins part.input).left part.left (λ xs ys. to_come part.hand ys ≡ []) → Progress start core (record now { ins = ins })
+    → Progress start next (record now { ins = set ins part.input (record part { state = states.Ended; held = None }) })
+went_ended start core next now ins part b at some is more none w =
+    let i : ℕ = part.input in
+    let e : Entry = Ended i in
+    let before : Heard (in_at start.ins i) (record part { state = states.Reading; held = None }) i w.journal = subst (λ (x : InPart). Heard (in_at start.ins i) x i w.journal) at (w.heard i b) in
+    record {
+      journal = w.journal ++ e ∷ [];
+      text = text-push start core next now.journal w.journal e w.text more (ap (λ (s : CoreState). s.stored) is) (ap (λ (s : CoreState). s.setup) is);
+      in_count = length-set ins i (record part { state = states.Ended; held = None }) ∙ w.in_count;
+      heard = all_heard_set start.ins ins w.journal (w.journal ++ e ∷ []) i (record part { state = states.Ended; held = None }) b (heard_ended (in_at start.ins i) part i w.journal some before none)
+          (λ k ne h. heard_push (in_at start.ins k) (in_at ins k) k w.journal e (ended_other i k ne) h) w.heard;
+      out_count = w.out_count;
+      said = all_said_push start.outs now.outs w.journal e (λ o. record { ends = tt; none = refl; quiet = refl }) refl w.said;
+      worked = worked-push start.views w.journal e tt w.worked;
+      order = order-push start core now.next now.next w.journal e w.text.stands (omega arith) (λ f. tt) (λ k l. refl) w.order;
+      counted_at = counted_moments-same w.journal e refl ∙ w.counted_at;
+    }
 
--- a group that was gathered, by other terms
-pub offered_some : (input : ℕ) (moment stored : ℤ) (group : Group) (metrics : List Content) (old new : CoreState) → metrics ≡ group.metrics.items → stored ≡ moment → 0 < group.pieces →
-    new ≡ after_gather old (record (gathered_of input stored group) { metrics = metrics }) → Continues old new (gather_entry old (record (gathered_of input stored group) { metrics = metrics })) → IsOffered input true moment group old new
-offered_some input moment stored group metrics old new same is some after stands = inr (
-  some,
-  subst (λ (m : ℤ). new ≡ after_gather old (gathered_of input m group)) is (subst (λ (ms : List Content). new ≡ after_gather old (record (gathered_of input stored group) { metrics = ms })) same after),
-  subst (λ (m : ℤ). Continues old new (gather_entry old (gathered_of input m group))) is (subst (λ (ms : List Content). Continues old new (gather_entry old (record (gathered_of input stored group) { metrics = ms }))) same stands),
-)
+-- nothing was held
+pub gathers_none : (old new : CoreState) (part new_part : InPart) → new ≡ old → new_part ≡ part → GathersAt old new part new_part
+gathers_none old new part new_part core same = λ ins b at start now settled w.
+    let kept : set ins part.input new_part ≡ ins = ap (set ins part.input) same ∙ subst (λ (x : InPart). set ins part.input x ≡ ins) at (set-get_or ins part.input no_in) in
+    went_behind start new (record now { ins = set ins part.input new_part }) part.input (part.input + 1) (omega arith)
+    (subst (λ (all : List InPart). Progress start new (record now { ins = all; next = part.input })) (sym kept) (subst (λ (k : CoreState). Progress start k (record now { ins = ins; next = part.input })) (sym core) w))
 
--- where the input is read on a whole group was gathered
-pub gathered_full : (input most : ℕ) (state : InState) (moment : ℤ) (group : Group) (old offered new : CoreState) (before after : Hand) (left_before left_after : Option (List ℕ)) → 1 ≤ most → state ≡ states.Reading → ReadsGroup most moment group state before after left_before left_after →
-    IsOffered input true moment group old offered → IsEnding input state offered new → IsGathered input most old new
-gathered_full input most state moment group old offered new before after left_before left_after one_piece reading g accepted ending = go accepted
-  where
-    count : group.pieces ≡ most
-    count = g.reads.pieces ∙ g.full reading
+-- no end is noted
+pub ends_none : (met : Bool) (old new : CoreState) (part new_part : InPart) → new ≡ old → new_part ≡ part → EndsAt met old new part new_part
+ends_none met old new part new_part core same = λ ins b at start now told w.
+    let kept : set ins part.input new_part ≡ ins = ap (set ins part.input) same ∙ subst (λ (x : InPart). set ins part.input x ≡ ins) at (set-get_or ins part.input no_in) in
+    subst (λ (all : List InPart). Progress start new (record now { ins = all })) (sym kept) (subst (λ (k : CoreState). Progress start k (record now { ins = ins })) (sym core) w)
 
-    same : new ≡ offered
-    same = subst (λ (s : InState). IsEnding input s offered new) reading ending
+-- ---- the turn of an input: it is read, what it holds is offered, and its end is noted
 
-    go : IsOffered input true moment group old offered → IsGathered input most old new
-    go (inl none) = absurd (omega (arith, count, none.0, one_piece))
-    go (inr some) = record { moment = moment; group = group; count = count; is = same ∙ some.1 }
+set_here : (ins : List InPart) (i : ℕ) (part : InPart) → i < length ins → in_at (set ins i part) i ≡ part
+set_here ins i part b = get_or-set_same ins i part no_in b
+
+module _ (met : Bool) (old offered new : CoreState) (part read held last : InPart) (same : read.input ≡ part.input) (offered_as : IsOffered read held) (reads : ReadsAt old old part read) (ends_met : met ≡ true → HasMetEnd part read) (gathers : GathersAt old offered read held) where
+  module _ (ins : List InPart) (b : part.input < length ins) (at : in_at ins part.input ≡ part) (start : Beginning) (now : Surroundings) (settled : SettlesFirst start old now.outs) (w : Progress start old (record now { ins = ins; next = part.input })) where
+    -- once it was read
+    after_read : Progress start old (record now { ins = set ins part.input read; next = part.input })
+    after_read = reads ins b at start (record now { next = part.input }) w
+
+    -- once what it holds was offered
+    after_offer : Progress start offered (record now { ins = set ins part.input held; next = part.input + 1 })
+    after_offer =
+        let i : ℕ = part.input in
+        let l : read.input < length (set ins i read) = omega (arith, b, same, length-set ins i read) in
+        let here : in_at (set ins i read) read.input ≡ read = ap (in_at (set ins i read)) same ∙ set_here ins i read b in
+        let twice : set (set ins i read) read.input held ≡ set ins i held = ap (λ (k : ℕ). set (set ins i read) k held) same ∙ set-set ins i read held in
+        let from : Progress start old (record now { ins = set ins i read; next = read.input }) = subst (λ (k : ℕ). Progress start old (record now { ins = set ins i read; next = k })) (sym same) after_read in
+        let to = gathers (set ins i read) l here start now settled from in
+        subst (λ (k : ℕ). Progress start offered (record now { ins = set ins i held; next = k + 1 })) same
+        (subst (λ (all : List InPart). Progress start offered (record now { ins = all; next = read.input + 1 })) twice to)
+
+    -- what the end is told by
+    told_end : met ≡ true → Told (in_at start.ins part.input).left held.left (λ xs ys. to_come held.hand ys ≡ [])
+    told_end e =
+        let h : Heard (in_at start.ins part.input) part part.input w.journal = subst (λ (x : InPart). Heard (in_at start.ins part.input) x part.input w.journal) at (w.heard part.input b) in
+        let told = told_then (in_at start.ins part.input).left part.left read.left (λ xs ys. length xs ≡ part.hand.taken + length ys) (λ ys zs. to_come read.hand zs ≡ []) (λ xs zs. to_come read.hand zs ≡ []) h.counted (ends_met e).1 (λ xs ys zs a c. c) in
+        subst (λ (x : InPart). Told (in_at start.ins part.input).left x.left (λ xs ys. to_come x.hand ys ≡ [])) (sym offered_as) told
+
+  -- the run is full
+  pub turns_full : GathersAt old offered part held
+  turns_full = λ ins b at start now settled w. after_offer ins b at start now settled w
+
+  -- it isn't, and the end may be noted
+  pub turns : held.input ≡ read.input → EndsAt met offered new held last → GathersAt old new part last
+  turns number ends = λ ins b at start now settled w.
+      let i : ℕ = part.input in
+      let is : held.input ≡ i = number ∙ same in
+      let l : held.input < length (set ins i held) = omega (arith, b, is, length-set ins i held) in
+      let here : in_at (set ins i held) held.input ≡ held = ap (in_at (set ins i held)) is ∙ set_here ins i held b in
+      let twice : set (set ins i held) held.input last ≡ set ins i last = ap (λ (k : ℕ). set (set ins i held) k last) is ∙ set-set ins i held last in
+      let told = subst (λ (k : ℕ). met ≡ true → Told (in_at start.ins k).left held.left (λ xs ys. to_come held.hand ys ≡ [])) (sym is) (told_end ins b at start now settled w) in
+      subst (λ (all : List InPart). Progress start new (record now { ins = all; next = i + 1 })) twice
+      (ends (set ins i held) l here start (record now { next = i + 1 }) told (after_offer ins b at start now settled w))
+
+-- ---- what came of an offer
+
+-- what is held, by name
+pub held_as : (part : InPart) (g : Gathered) → part.held ≡ Some g → part ≡ record part { held = Some g }
+held_as part g e = ap (λ (x : Option Gathered). let p : InPart = record part { held = x } in p) e
+
+own_of : (part : InPart) (g : Gathered) → part.held ≡ Some g → HoldsOwn part → g.input ≡ part.input
+own_of part g e own = (subst (λ (x : Option Gathered). IfSome x (λ y. (y.input ≡ part.input) × (length y.metrics ≤ part.rule.most))) e own).0
+
+-- it was accepted
+pub offer_accepted : (core next : CoreState) (part : InPart) (g : Gathered) → part.held ≡ Some g → HoldsOwn part → core.gathered + length g.metrics < 2 ^ 32 → next ≡ after_gather core g → Continues core next (gather_entry core g) → GathersAt core next part (record part { held = None })
+offer_accepted core next part g e own few is more = λ ins b at start now settled w. went_accepted start core next now ins part g b (at ∙ held_as part g e) (own_of part g e own) few is more settled w
+
+-- the run is full
+pub offer_full : (core next : CoreState) (part : InPart) (g back : Gathered) → part.held ≡ Some g → back ≡ g → next ≡ core → 1 ≤ part.rule.most → HoldsNoEnd part.state part.held → 2 ^ 32 ≤ core.gathered + length g.metrics → GathersAt core next part (record part { held = Some back; state = states.LimitReached })
+offer_full core next part g back e same core_same some no_end many = λ ins b at start now settled w.
+    let full : Progress start core (record now { ins = set ins part.input (record part { held = Some g; state = states.LimitReached }); next = part.input }) =
+    went_full start core (record now { next = part.input }) ins part g b (at ∙ held_as part g e) some (subst (HoldsNoEnd part.state) e no_end) many w in
+    went_behind start next (record now { ins = set ins part.input (record part { held = Some back; state = states.LimitReached }) }) part.input (part.input + 1) (omega arith)
+    (subst (λ (x : Gathered). Progress start next (record now { ins = set ins part.input (record part { held = Some x; state = states.LimitReached }); next = part.input })) (sym same)
+    (subst (λ (k : CoreState). Progress start k (record now { ins = set ins part.input (record part { held = Some g; state = states.LimitReached }); next = part.input })) (sym core_same) full))
+
+-- items were raw
+pub offer_kept : (core next : CoreState) (part : InPart) (g back : Gathered) → part.held ≡ Some g → back ≡ g → next ≡ core → GathersAt core next part (record part { held = Some back })
+offer_kept core next part g back e same core_same =
+    gathers_none core next part (record part { held = Some back }) core_same (ap (λ (x : Gathered). let p : InPart = record part { held = Some x } in p) same ∙ sym (held_as part g e))
+
+-- the end was met, and is noted
+pub end_noted : (met : Bool) (core next : CoreState) (part : InPart) → met ≡ true → part.held ≡ None → part.state ≡ states.Reading → 1 ≤ part.rule.most → next ≡ after_ended core part.input → Continues core next (Ended part.input) → EndsAt met core next part (record part { state = states.Ended })
+end_noted met core next part e free reading some is more = λ ins b at start now told w.
+    let as_free : part ≡ record part { state = states.Reading; held = None } =
+    ap (λ (x : InState). let p : InPart = record part { state = x } in p) reading ∙ ap (λ (x : Option Gathered). let p : InPart = record part { state = states.Reading; held = x } in p) free in
+    subst (λ (x : Option Gathered). Progress start next (record now { ins = set ins part.input (record part { state = states.Ended; held = x }) })) (sym free)
+    (went_ended start core next now ins part b (at ∙ as_free) some is more (told e) w)

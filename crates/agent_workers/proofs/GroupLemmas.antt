@@ -1,7 +1,7 @@
 -- Groups with one piece more.
-use Rattle.std.proofs.Common.{◌≡◌, ◌<◌, ◌+◌, ◌⊎◌, ℕ, ℤ, cond, List, [], ◌∷◌, ◌++◌, refl, sym, ap, subst, inl, inr, ◌∙◌, arith, append_assoc, append-nil, length-append}
+use Rattle.std.proofs.Common.{◌≡◌, ◌<◌, ◌+◌, ◌⊎◌, ℕ, suc, ℤ, cond, List, [], ◌∷◌, ◌++◌, refl, sym, ap, subst, inl, inr, ◌∙◌, arith, append_assoc, append-nil, length-append}
 use Rattle.std.specs.Prelude.{count_by, ◌≤◌, length, Result, Ok, Err}
-use Rattle.std.specs.List.{flat_map}
+use Rattle.std.specs.List.{flat_map, sum_by, cons_option}
 use Rattle.std.specs.declared.option.Option.{Option}
 use Rattle.std.specs.declared.option.Option.TheVariants.{Some, None}
 use Rattle.std.proofs.lemmas.Int.{to_z-of_z}
@@ -14,10 +14,12 @@ use Rattle.agent_base.specs.Cut.{Cut, TooLong, Whole}
 use Rattle.agent_base.specs.Hand.{Hand, to_come}
 use Rattle.agent_base.specs.Taken.{IsSpent}
 use Rattle.agent_base.specs.Told.{Told}
-use Rattle.agent_workers.specs.declared.input.Group.{Group}
+use Rattle.agent_workers.specs.declared.reading.Group.{Group}
 use Rattle.agent_workers.specs.declared.input.InState.{InState}
 use Rattle.agent_workers.specs.declared.input.InState.TheVariants as states
-use Rattle.agent_workers.specs.Input.{is_refused, metric_of, readings}
+use Rattle.agent_config.specs.declared.config.InFormat.{InFormat}
+use Rattle.agent_config.specs.declared.config.InFormat.TheVariants.{Influx}
+use Rattle.agent_workers.specs.Reader.{InRule, is_refused, passed_over, filtered_of, kept_of, kept, keeps, capped, metrics_of, line_says, say_in}
 use Rattle.line_proto.specs.Reading.{reading}
 use Rattle.line_proto.specs.declared.fault.LineFault.{LineFault}
 use Rattle.std.proofs.lemmas.List.Concat.{flat_map-cons, length-flat_map}
@@ -90,45 +92,67 @@ takes_then : (read others : List Cut) (before between after : Hand) (left_before
 takes_then read others before between after left_before left_between left_after h k =
     told_then left_before left_between left_after (TakesPieces read before between) (TakesPieces others between after) (TakesPieces (read ++ others) before after) h k (takes_both read others before between after)
 
-counted_more : (moment : ℤ) (read : List Cut) (piece : Cut) → count_by (is_refused moment) (read ++ piece ∷ []) ≡ count_by (is_refused moment) read + cond (is_refused moment piece) 1 0
-counted_more moment read piece = omega (arith, sum_by-append (λ (x : Cut). cond (is_refused moment x) 1 0) read (piece ∷ []))
+counted_more : (rule : InRule) (moment : ℤ) (read : List Cut) (piece : Cut) → count_by (is_refused rule moment) (read ++ piece ∷ []) ≡ count_by (is_refused rule moment) read + cond (is_refused rule moment piece) 1 0
+counted_more rule moment read piece = omega (arith, sum_by-append (λ (x : Cut). cond (is_refused rule moment x) 1 0) read (piece ∷ []))
 
-few_metrics : (reading : Result (Option Content) LineFault) → length (metric_of reading) ≤ 1
-few_metrics (Ok None) = omega arith
-few_metrics (Ok (Some metric)) = omega arith
-few_metrics (Err fault) = omega arith
+-- a number more in a sum that stands still at its highest number
+capped_more : (sum now count : ℕ) → now ≡ capped sum → capped (now + count) ≡ capped (sum + count)
+capped_more sum now count e = omega (arith, e)
 
-few_of : (moment : ℤ) (piece : Cut) → length (readings moment piece) ≤ 1
-few_of moment TooLong = omega arith
-few_of moment (Whole piece) = few_metrics (reading piece moment)
+sum_more : (count : Cut → ℕ) (read : List Cut) (piece : Cut) → sum_by count (read ++ piece ∷ []) ≡ sum_by count read + count piece
+sum_more count read piece = omega (arith, sum_by-append count read (piece ∷ []))
 
--- pieces have at most as many readings as they are
-pub few_readings : (moment : ℤ) (pieces : List Cut) → length (flat_map (readings moment) pieces) ≤ length pieces
-few_readings moment [] = omega (arith, length-flat_map (readings moment) [])
-few_readings moment (piece ∷ pieces) =
-    omega (arith, ap (λ (ms : List Content). length ms) (flat_map-cons (readings moment) piece pieces), length-append (readings moment piece) (flat_map (readings moment) pieces), few_of moment piece, few_readings moment pieces)
+one_more : (answer : Option Content) (kept : List Content) (most : ℕ) → length kept ≤ most → length (cons_option answer kept) ≤ suc most
+one_more None kept most few = omega (arith, few)
+one_more (Some left) kept most few = omega (arith, few)
 
-read_more : (moment : ℤ) (read : List Cut) (piece : Cut) → flat_map (readings moment) (read ++ piece ∷ []) ≡ flat_map (readings moment) read ++ readings moment piece
-read_more moment read piece = flat_map-append (readings moment) read (piece ∷ []) ∙ ap (λ (ms : List Content). flat_map (readings moment) read ++ ms) (append-nil (readings moment piece))
+kept_fewer : (rule : InRule) (metrics : List Content) → length (kept rule metrics) ≤ length metrics
+kept_fewer rule [] = omega arith
+kept_fewer rule (metric ∷ metrics) = one_more (keeps rule metric) (kept rule metrics) (length metrics) (kept_fewer rule metrics)
+
+line_says_few : (reading : Result (Option Content) LineFault) → length (metrics_of (line_says reading)) ≤ 1
+line_says_few (Ok None) = omega arith
+line_says_few (Ok (Some metric)) = omega arith
+line_says_few (Err fault) = omega arith
+
+says_few : (format : InFormat) (moment : ℤ) (piece : List ℕ) → length (metrics_of (say_in format moment piece)) ≤ 1
+says_few Influx moment piece = line_says_few (reading piece moment)
+
+few_of : (rule : InRule) (moment : ℤ) (piece : Cut) → length (kept_of rule moment piece) ≤ 1
+few_of rule moment TooLong = omega arith
+few_of rule moment (Whole piece) = omega (arith, kept_fewer rule (metrics_of (say_in rule.format moment piece)), says_few rule.format moment piece)
+
+-- at most as many metrics are kept of pieces as they are
+pub few_kept : (rule : InRule) (moment : ℤ) (pieces : List Cut) → length (flat_map (kept_of rule moment) pieces) ≤ length pieces
+few_kept rule moment [] = omega (arith, length-flat_map (kept_of rule moment) [])
+few_kept rule moment (piece ∷ pieces) =
+    omega (arith, ap (λ (ms : List Content). length ms) (flat_map-cons (kept_of rule moment) piece pieces), length-append (kept_of rule moment piece) (flat_map (kept_of rule moment) pieces), few_of rule moment piece, few_kept rule moment pieces)
+
+read_more : (rule : InRule) (moment : ℤ) (read : List Cut) (piece : Cut) → flat_map (kept_of rule moment) (read ++ piece ∷ []) ≡ flat_map (kept_of rule moment) read ++ kept_of rule moment piece
+read_more rule moment read piece = flat_map-append (kept_of rule moment) read (piece ∷ []) ∙ ap (λ (ms : List Content). flat_map (kept_of rule moment) read ++ ms) (append-nil (kept_of rule moment piece))
 
 -- no piece was read yet
-pub reads_nothing : (moment : ℤ) (group : Group) (hand : Hand) (text : Option (List ℕ)) → group.pieces ≡ 0 → group.refused ≡ 0 → group.metrics.items ≡ [] → Reads moment group hand hand text text
-reads_nothing moment group hand text pieces refused metrics = record {
+pub reads_nothing : (rule : InRule) (moment : ℤ) (group : Group) (hand : Hand) (text : Option (List ℕ)) → group.pieces ≡ 0 → group.refused ≡ 0 → group.passed ≡ 0 → group.filtered ≡ 0 → group.metrics.items ≡ [] → Reads rule moment group hand hand text text
+reads_nothing rule moment group hand text pieces refused passed filtered metrics = record {
   read = [];
   pieces = pieces;
   refused = refused;
+  passed = passed;
+  filtered = filtered;
   metrics = metrics;
   consecutive = told_self text (λ xs ys. to_come hand xs ≡ to_come hand ys) (λ xs. refl);
   whatever_follows = takes_nothing hand text;
 }
 
-pub reads_piece : (moment : ℤ) (old new : Group) (before between after : Hand) (left_before left_between left_after : Option (List ℕ)) → Reads moment old before between left_before left_between → ReadsPiece moment old new between after left_between left_after
-    → Reads moment new before after left_before left_after
-reads_piece moment old new before between after left_before left_between left_after r p = record {
+pub reads_piece : (rule : InRule) (moment : ℤ) (old new : Group) (before between after : Hand) (left_before left_between left_after : Option (List ℕ)) → Reads rule moment old before between left_before left_between → ReadsPiece rule moment old new between after left_between left_after
+    → Reads rule moment new before after left_before left_after
+reads_piece rule moment old new before between after left_before left_between left_after r p = record {
   read = r.read ++ p.piece ∷ [];
   pieces = omega (arith, r.pieces, p.counted.pieces, length-append r.read (p.piece ∷ []));
-  refused = omega (arith, r.refused, p.counted.refused, counted_more moment r.read p.piece);
-  metrics = p.counted.metrics ∙ ap (λ (ms : List Content). ms ++ readings moment p.piece) r.metrics ∙ sym (read_more moment r.read p.piece);
+  refused = omega (arith, r.refused, p.counted.said.refused, counted_more rule moment r.read p.piece);
+  passed = p.counted.said.passed ∙ capped_more (sum_by (passed_over rule moment) r.read) old.passed (passed_over rule moment p.piece) r.passed ∙ sym (ap capped (sum_more (passed_over rule moment) r.read p.piece));
+  filtered = p.counted.said.filtered ∙ capped_more (sum_by (filtered_of rule moment) r.read) old.filtered (filtered_of rule moment p.piece) r.filtered ∙ sym (ap capped (sum_more (filtered_of rule moment) r.read p.piece));
+  metrics = p.counted.said.metrics ∙ ap (λ (ms : List Content). ms ++ kept_of rule moment p.piece) r.metrics ∙ sym (read_more rule moment r.read p.piece);
   consecutive =
       told_then left_before left_between left_after
       (λ xs ys. to_come before xs ≡ r.read ++ to_come between ys) (λ ys zs. to_come between ys ≡ p.piece ∷ to_come after zs) (λ xs zs. to_come before xs ≡ (r.read ++ p.piece ∷ []) ++ to_come after zs)
@@ -136,12 +160,14 @@ reads_piece moment old new before between after left_before left_between left_af
   whatever_follows = takes_then r.read (p.piece ∷ []) before between after left_before left_between left_after r.whatever_follows p.whatever_follows;
 }
 
-pub reads_none : (moment : ℤ) (old new : Group) (before between after : Hand) (left_before left_between left_after : Option (List ℕ)) → Reads moment old before between left_before left_between → ReadsNone old new between after left_between left_after
-    → Reads moment new before after left_before left_after
-reads_none moment old new before between after left_before left_between left_after r n = record {
+pub reads_none : (rule : InRule) (moment : ℤ) (old new : Group) (before between after : Hand) (left_before left_between left_after : Option (List ℕ)) → Reads rule moment old before between left_before left_between → ReadsNone old new between after left_between left_after
+    → Reads rule moment new before after left_before left_after
+reads_none rule moment old new before between after left_before left_between left_after r n = record {
   read = r.read;
   pieces = ap (λ (g : Group). g.pieces) n.same ∙ r.pieces;
   refused = ap (λ (g : Group). g.refused) n.same ∙ r.refused;
+  passed = ap (λ (g : Group). g.passed) n.same ∙ r.passed;
+  filtered = ap (λ (g : Group). g.filtered) n.same ∙ r.filtered;
   metrics = ap (λ (g : Group). g.metrics.items) n.same ∙ r.metrics;
   consecutive =
       told_then left_before left_between left_after
@@ -152,36 +178,36 @@ reads_none moment old new before between after left_before left_between left_aft
       r.whatever_follows n.whatever_follows (λ xs ys zs h k. subst (λ (cs : List Cut). TakesPieces cs before after xs zs) (append-nil r.read) (takes_both r.read [] before between after xs ys zs h k));
 }
 
-pub reads_next : (state : InState) (moment : ℤ) (old new : Group) (before between after : Hand) (left_before left_between left_after : Option (List ℕ)) → Reads moment old before between left_before left_between → ReadsNext state moment old new between after left_between left_after
-    → Reads moment new before after left_before left_after
-reads_next states.Reading moment old new before between after left_before left_between left_after r n = reads_piece moment old new before between after left_before left_between left_after r n
-reads_next states.Ended moment old new before between after left_before left_between left_after r n = reads_none moment old new before between after left_before left_between left_after r n
-reads_next states.Faulted moment old new before between after left_before left_between left_after r n = reads_none moment old new before between after left_before left_between left_after r n
-reads_next states.LimitReached moment old new before between after left_before left_between left_after r n = reads_none moment old new before between after left_before left_between left_after r n
+pub reads_next : (rule : InRule) (state : InState) (moment : ℤ) (old new : Group) (before between after : Hand) (left_before left_between left_after : Option (List ℕ)) → Reads rule moment old before between left_before left_between → ReadsNext rule state moment old new between after left_between left_after
+    → Reads rule moment new before after left_before left_after
+reads_next rule states.Reading moment old new before between after left_before left_between left_after r n = reads_piece rule moment old new before between after left_before left_between left_after r n
+reads_next rule states.Ended moment old new before between after left_before left_between left_after r n = reads_none rule moment old new before between after left_before left_between left_after r n
+reads_next rule states.Faulted moment old new before between after left_before left_between left_after r n = reads_none rule moment old new before between after left_before left_between left_after r n
+reads_next rule states.LimitReached moment old new before between after left_before left_between left_after r n = reads_none rule moment old new before between after left_before left_between left_after r n
 
 pub reading_on : (state : InState) → state ≡ states.Reading → state ≡ states.LimitReached → ⊥
 reading_on state reading limit = let x : states.Reading ≡ states.LimitReached = sym reading ∙ limit in absurd cc
 
-pub next_pieces : (state : InState) (moment : ℤ) (old new : Group) (before after : Hand) (left_before left_after : Option (List ℕ)) → ReadsNext state moment old new before after left_before left_after → state ≡ states.Reading → new.pieces ≡ old.pieces + 1
-next_pieces states.Reading moment old new before after left_before left_after n e = n.counted.pieces
-next_pieces states.Ended moment old new before after left_before left_after n e = absurd (let x : states.Ended ≡ states.Reading = e in cc)
-next_pieces states.Faulted moment old new before after left_before left_after n e = absurd (let x : states.Faulted ≡ states.Reading = e in cc)
-next_pieces states.LimitReached moment old new before after left_before left_after n e = absurd (let x : states.LimitReached ≡ states.Reading = e in cc)
+pub next_pieces : (rule : InRule) (state : InState) (moment : ℤ) (old new : Group) (before after : Hand) (left_before left_after : Option (List ℕ)) → ReadsNext rule state moment old new before after left_before left_after → state ≡ states.Reading → new.pieces ≡ old.pieces + 1
+next_pieces rule states.Reading moment old new before after left_before left_after n e = n.counted.pieces
+next_pieces rule states.Ended moment old new before after left_before left_after n e = absurd (let x : states.Ended ≡ states.Reading = e in cc)
+next_pieces rule states.Faulted moment old new before after left_before left_after n e = absurd (let x : states.Faulted ≡ states.Reading = e in cc)
+next_pieces rule states.LimitReached moment old new before after left_before left_after n e = absurd (let x : states.LimitReached ≡ states.Reading = e in cc)
 
-pub next_same : (state : InState) (moment : ℤ) (old new : Group) (before after : Hand) (left_before left_after : Option (List ℕ)) → ReadsNext state moment old new before after left_before left_after → (state ≡ states.Reading → ⊥) → new.pieces ≡ old.pieces
-next_same states.Reading moment old new before after left_before left_after n ne = absurd (ne refl)
-next_same states.Ended moment old new before after left_before left_after n ne = ap (λ (g : Group). g.pieces) n.same
-next_same states.Faulted moment old new before after left_before left_after n ne = ap (λ (g : Group). g.pieces) n.same
-next_same states.LimitReached moment old new before after left_before left_after n ne = ap (λ (g : Group). g.pieces) n.same
+pub next_same : (rule : InRule) (state : InState) (moment : ℤ) (old new : Group) (before after : Hand) (left_before left_after : Option (List ℕ)) → ReadsNext rule state moment old new before after left_before left_after → (state ≡ states.Reading → ⊥) → new.pieces ≡ old.pieces
+next_same rule states.Reading moment old new before after left_before left_after n ne = absurd (ne refl)
+next_same rule states.Ended moment old new before after left_before left_after n ne = ap (λ (g : Group). g.pieces) n.same
+next_same rule states.Faulted moment old new before after left_before left_after n ne = ap (λ (g : Group). g.pieces) n.same
+next_same rule states.LimitReached moment old new before after left_before left_after n ne = ap (λ (g : Group). g.pieces) n.same
 
 -- a group behind which nothing is read
-pub group_ends : (limit : ℕ) (state : InState) (moment : ℤ) (old new : Group) (before between after : Hand) (left_before left_between left_after : Option (List ℕ)) → Reads moment old before between left_before left_between → ReadsNext state moment old new between after left_between left_after
-    → (state ≡ states.Reading → ⊥) → old.pieces < limit → (state ≡ states.Ended → IsAllRead left_between left_after after) → ReadsGroup limit moment new state before after left_before left_after
-group_ends limit state moment old new before between after left_before left_between left_after r n ne few all =
-    let reads : Reads moment new before after left_before left_after = reads_next state moment old new before between after left_before left_between left_after r n in
+pub group_ends : (rule : InRule) (state : InState) (moment : ℤ) (old new : Group) (before between after : Hand) (left_before left_between left_after : Option (List ℕ)) → Reads rule moment old before between left_before left_between → ReadsNext rule state moment old new between after left_between left_after
+    → (state ≡ states.Reading → ⊥) → old.pieces < rule.most → (state ≡ states.Ended → IsAllRead left_between left_after after) → ReadsGroup rule moment new state before after left_before left_after
+group_ends rule state moment old new before between after left_before left_between left_after r n ne few all =
+    let reads : Reads rule moment new before after left_before left_after = reads_next rule state moment old new before between after left_before left_between left_after r n in
     record {
       reads = reads;
-      most = omega (arith, few, reads.pieces, next_same state moment old new between after left_between left_after n ne);
+      most = omega (arith, few, reads.pieces, next_same rule state moment old new between after left_between left_after n ne);
       full = λ e. absurd (ne e);
       all = λ e. told_then left_before left_between left_after
           (λ xs ys. to_come before xs ≡ r.read ++ to_come between ys) (λ ys zs. to_come after zs ≡ []) (λ xs zs. to_come after zs ≡ [])
@@ -189,14 +215,14 @@ group_ends limit state moment old new before between after left_before left_betw
     }
 
 -- a group of as many pieces as there may be
-pub group_full : (limit : ℕ) (moment : ℤ) (group : Group) (before after : Hand) (left_before left_after : Option (List ℕ)) → Reads moment group before after left_before left_after → group.pieces ≡ limit → ReadsGroup limit moment group states.Reading before after left_before left_after
-group_full limit moment group before after left_before left_after r n = record {
+pub group_full : (rule : InRule) (moment : ℤ) (group : Group) (before after : Hand) (left_before left_after : Option (List ℕ)) → Reads rule moment group before after left_before left_after → group.pieces ≡ rule.most → ReadsGroup rule moment group states.Reading before after left_before left_after
+group_full rule moment group before after left_before left_after r n = record {
   reads = r;
   most = omega (arith, r.pieces, n);
   full = λ e. sym r.pieces ∙ n;
   all = λ e. absurd (let x : states.Reading ≡ states.Ended = e in cc);
 }
 
-pub at_moment : (limit : ℕ) (moment : ℤ) (group : Group) (state : InState) (before after : Hand) (left_before left_after : Option (List ℕ)) → SFits w64 moment → ReadsGroup limit (to_z w64 (of_z w64 moment)) group state before after left_before left_after
-    → ReadsGroup limit moment group state before after left_before left_after
-at_moment limit moment group state before after left_before left_after fits r = subst (λ (m : ℤ). ReadsGroup limit m group state before after left_before left_after) (to_z-of_z w64 moment fits) r
+pub at_moment : (rule : InRule) (moment : ℤ) (group : Group) (state : InState) (before after : Hand) (left_before left_after : Option (List ℕ)) → SFits w64 moment → ReadsGroup rule (to_z w64 (of_z w64 moment)) group state before after left_before left_after
+    → ReadsGroup rule moment group state before after left_before left_after
+at_moment rule moment group state before after left_before left_after fits r = subst (λ (m : ℤ). ReadsGroup rule m group state before after left_before left_after) (to_z-of_z w64 moment fits) r

@@ -66,6 +66,7 @@ module _ (core mid next : CoreState) (o from to : ℕ) (ok : Bool) (b : o < leng
       raw = ap (λ (s : CoreState). s.raw) done ∙ ap (λ (s : CoreState). s.raw) began;
       held = ap (λ (s : CoreState). s.held) done ∙ ap (λ (s : CoreState). s.held) began;
       ended = ap (λ (s : CoreState). s.ended) done ∙ ap (λ (s : CoreState). s.ended) began;
+      gathered = ap (λ (s : CoreState). s.gathered) done ∙ ap (λ (s : CoreState). s.gathered) began;
       stopped = ap (λ (s : CoreState). s.stopped) done ∙ ap (λ (s : CoreState). s.stopped) began;
     };
     lane_count = ap length lanes_are ∙ length-set core.lanes o (lane_done ok (lane.after_begin (lane_at core.lanes o)));
@@ -85,6 +86,7 @@ sent_none o core next same = record {
     raw = ap (λ (s : CoreState). s.raw) same;
     held = ap (λ (s : CoreState). s.held) same;
     ended = ap (λ (s : CoreState). s.ended) same;
+    gathered = ap (λ (s : CoreState). s.gathered) same;
     stopped = ap (λ (s : CoreState). s.stopped) same;
   };
   lane_count = ap (λ (s : CoreState). length s.lanes) same;
@@ -92,7 +94,7 @@ sent_none o core next same = record {
 }
 
 pub sent_on : (old mid new : CoreState) → IsSentOn old mid → IsSentOn mid new → IsSentOn old new
-sent_on old mid new h k = record { setup = k.setup ∙ h.setup; raw = k.raw ∙ h.raw; held = k.held ∙ h.held; ended = k.ended ∙ h.ended; stopped = k.stopped ∙ h.stopped }
+sent_on old mid new h k = record { setup = k.setup ∙ h.setup; raw = k.raw ∙ h.raw; held = k.held ∙ h.held; ended = k.ended ∙ h.ended; gathered = k.gathered ∙ h.gathered; stopped = k.stopped ∙ h.stopped }
 
 pub sent_more : (o : ℕ) (old mid new : CoreState) → IsSentAt o old mid → IsSentAt o mid new → IsSentAt o old new
 sent_more o old mid new h k = record {
@@ -110,16 +112,18 @@ pub routed_kept : (core next : CoreState) (item : ℕ) (metric : Content) (aggs 
 routed_kept core next item metric aggs outs is = record {
   setup = ap (λ (s : CoreState). s.setup) is;
   ended = ap (λ (s : CoreState). s.ended) is;
+  gathered = ap (λ (s : CoreState). s.gathered) is;
   stopped = ap (λ (s : CoreState). s.stopped) is;
   lane_count = ap (λ (s : CoreState). length s.lanes) is ∙ length-lanes_with item outs core.lanes;
   each = λ o b. subst (IsLaneKept (lane_at core.lanes o)) (sym (ap (λ (s : CoreState). lane_at s.lanes o) is ∙ lanes_with-at item outs core.lanes o b))
       (view_kept item (view_at o outs) (lane_at core.lanes o));
 }
 
-pub routable_same : (old new : CoreState) → new.setup ≡ old.setup → new.ended ≡ old.ended → new.stopped ≡ old.stopped → new.lanes ≡ old.lanes → IsRoutable old new
-routable_same old new setup ended stopped lanes = record {
+pub routable_same : (old new : CoreState) → new.setup ≡ old.setup → new.ended ≡ old.ended → new.gathered ≡ old.gathered → new.stopped ≡ old.stopped → new.lanes ≡ old.lanes → IsRoutable old new
+routable_same old new setup ended gathered stopped lanes = record {
   setup = setup;
   ended = ended;
+  gathered = gathered;
   stopped = stopped;
   lane_count = ap length lanes;
   each = λ o b. record { batch = ap (λ (xs : List (LaneState Offer)). (lane_at xs o).batch) lanes; flight = ap (λ (xs : List (LaneState Offer)). (lane_at xs o).flight) lanes };
@@ -129,6 +133,7 @@ pub routable_more : (old mid new : CoreState) → IsRoutable old mid → IsRouta
 routable_more old mid new h k = record {
   setup = k.setup ∙ h.setup;
   ended = k.ended ∙ h.ended;
+  gathered = k.gathered ∙ h.gathered;
   stopped = k.stopped ∙ h.stopped;
   lane_count = k.lane_count ∙ h.lane_count;
   each = λ o b. let a = h.each o b in let c = k.each o (omega (arith, b, h.lane_count)) in record { batch = c.batch ∙ a.batch; flight = c.flight ∙ a.flight };

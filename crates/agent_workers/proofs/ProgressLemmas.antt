@@ -1,57 +1,51 @@
 -- How far a run has come, with one entry more.
-use Rattle.std.proofs.Common.{◌≡◌, ◌<◌, ℕ, zero, suc, ℤ, length, replicate, Bool, true, false, List, [], ◌∷◌, ◌++◌, refl, sym, ap, ◌∙◌, subst, inl, inr, arith, append_assoc, append-nil}
-use Rattle.std.specs.Prelude.{IfSome, not, count_by, slice_get, map}
+use Rattle.std.proofs.Common.{◌≡◌, ◌≢◌, ◌≤◌, ◌<◌, ℕ, ℤ, length, set, Bool, true, false, List, [], ◌∷◌, ◌++◌, refl, sym, ap, ◌∙◌, subst, arith, append_assoc, append-nil}
+use Rattle.std.specs.Prelude.{not, count_by, slice_get, map}
 use Rattle.std.specs.Int.{int_max}
+use Rattle.std.specs.List.{filter}
 use Rattle.std.specs.declared.option.Option.{Option}
-use Rattle.std.specs.declared.option.Option.TheVariants.{Some, None}
+use Rattle.std.specs.declared.option.Option.TheVariants.{Some}
 use Rattle.account.specs.Setup.{Setup}
+use Rattle.account.specs.Numbers.{Numbers, output_numbers}
 use Rattle.account.specs.Items.{items}
+use Rattle.account.specs.Origins.{origins_by, is_of_input}
 use Rattle.account.specs.declared.entry.Entry.{Entry}
 use Rattle.account.specs.declared.entry.Entry.TheVariants.{Take, Route, Stop}
 use Rattle.account.specs.declared.entry.Report.{Report}
 use Rattle.account.specs.declared.entry.Verdict.{Verdict}
 use Rattle.metric.specs.declared.metric.Content.{Content}
-use Rattle.agent_base.specs.Cut.{Cut}
 use Rattle.agent_base.specs.Clocked.{last_of}
 use Rattle.agent_base.specs.Counts.{RoseBy}
-use Rattle.agent_base.specs.Hand.{Hand, to_come}
-use Rattle.agent_base.specs.Moments.{Moments}
 use Rattle.pipeline_core.specs.CoreState.{CoreState}
 use Rattle.out_lane.specs.LaneEvents.{LaneEvent}
-use Rattle.pipeline_core.specs.Legal.{IsLegal, has_ended, is_ended_of, has_stop, is_stop, gathered_count, gathered_by}
+use Rattle.pipeline_core.specs.Legal.{IsLegal, has_stop, is_stop}
 use Rattle.pipeline_core.specs.Offers.{lane_events, lane_events_by}
 use Rattle.pipeline_core.specs.Steps.{after_take, after_route, after_stop, after_cut, route_entry, stop_entry, moment_at}
 use Rattle.pipeline_core.specs.Shapes.{IsRouteEntry, IsStopEntry}
 use Rattle.pipeline_core.proofs.ShapeLemmas.{entries-have-shape}
-use Rattle.pipeline_core.proofs.JournalPush.{gathered_count-push, lane_events-push}
+use Rattle.pipeline_core.proofs.JournalPush.{lane_events-push}
+use Rattle.pipeline_core.proofs.RawLemmas.{raw_of-push, raw_of-none, none_of_made}
 use Rattle.pipeline_core.specs.Stands.{Stands, Continues}
-use Rattle.agent_workers.specs.declared.input.InState.{InState}
-use Rattle.agent_workers.specs.declared.input.InState.TheVariants as states
-use Rattle.agent_workers.specs.Input.{IsFull, IsNextGroup, AreGroups}
 use Rattle.account.specs.Dones.{dones_by, dones}
 use Rattle.pipeline_core.specs.Stopped.{behind_stop}
-use Rattle.account.specs.EntryMoments.{gather_moments, counted_by}
-use Rattle.account.specs.Gathers.{gathers_by, gathers}
 use Rattle.agent_workers.specs.Noted.{JournalPart, Notes, NotesOn}
 use Rattle.pipeline_core.specs.Order.{EndsFailed, IsOrderly}
+use Rattle.pipeline_core.specs.Worked.{views_of}
 use Rattle.agent_workers.specs.PipeSetup.{journal_setup_of}
 use Rattle.account.specs.Routes.{RouteOnInOrder}
-use Rattle.agent_workers.specs.Progress.{Beginning, Surroundings, HasText, IsNamed, HasState, IsClocked, IsNamedOfTaken, Heard, Said, AllSaid, Progress}
-use Rattle.agent_workers.specs.Inputs.{InPart}
+use Rattle.agent_workers.specs.Inputs.{InPart, in_at, no_in}
+use Rattle.agent_workers.specs.Progress.{Beginning, Surroundings, HasText, Heard, AllHeard, Said, AllSaid, HasOrder, Progress}
 use Rattle.agent_workers.specs.Output.{OutPart, out_at, anew, AreAnew}
-use Rattle.agent_workers.specs.Running.{as_it_is}
-use Rattle.agent_workers.proofs.OutLemmas.{at_anew}
-use Rattle.std.specs.List.{AllByRecursion}
+use Rattle.pipeline_core.specs.Totals.{totals}
+use Rattle.agent_workers.specs.Run.{buffered_at_end}
+use Rattle.agent_workers.specs.Running.{routed_by, buffered_at}
+use Rattle.agent_workers.proofs.OutLemmas.{each_set, at_anew}
+use Rattle.agent_workers.proofs.HeardLemmas.{IsNotOf, heard_push}
 use Rattle.std.proofs.lemmas.List.{length-map}
-use Rattle.pipeline_core.specs.Worked.{WorkedBy}
 use Rattle.account.proofs.DoneLemmas.{dones-same, last_none, last_same}
 use Rattle.pipeline_core.proofs.StopLemmas.{behind_stop-push, stop_before}
-use Rattle.agent_workers.proofs.GroupLemmas.{told_map}
-use Rattle.agent_workers.proofs.TakenSteps.{names_same}
-use Rattle.account.proofs.GatherLemmas.{gathers-other}
-use Rattle.agent_workers.proofs.GatherLemmas.{has_ended-other, gathering_same}
 use Rattle.pipeline_core.proofs.RouteLemmas.{legal_rest_in_order}
-use Rattle.account.proofs.MomentLemmas.{counted_moments-push, counted_moments-same, gather_moments-same}
+use Rattle.account.proofs.MomentLemmas.{counted_moments-push, counted_moments-same}
 use Rattle.agent_workers.proofs.MomentLemmas.{counted_from-last}
 use Rattle.pipeline_core.proofs.OrderLemmas.{in_order-push}
 use Rattle.pipeline_core.proofs.SentLemmas.{EndsNone}
@@ -64,6 +58,8 @@ pub text-push : (start : Beginning) (core next : CoreState) (part : JournalPart)
 text-push start core next part journal e h more stored same = record {
   stands = more journal h.stands;
   setup_is = same ∙ h.setup_is;
+  more = h.more ++ e ∷ [];
+  goes_on = ap (λ (es : List Entry). es ++ e ∷ []) h.goes_on ∙ append_assoc start.front h.more (e ∷ []);
   written = h.written;
   split = ap (λ (es : List Entry). es ++ e ∷ []) h.split ∙ append_assoc h.written core.stored (e ∷ []) ∙ ap (λ (es : List Entry). h.written ++ es) (sym stored);
   notes = h.notes;
@@ -79,63 +75,67 @@ pub text-cut : (start : Beginning) (core next : CoreState) (part more : JournalP
 text-cut start core next part more journal h stands none same notes = record {
   stands = stands journal h.stands;
   setup_is = same ∙ h.setup_is;
+  more = h.more;
+  goes_on = h.goes_on;
   written = journal;
   split = sym (append-nil journal) ∙ ap (λ (es : List Entry). journal ++ es) (sym none);
   notes = subst (λ (es : List Entry). Notes (journal_setup_of start.setup) start.noted start.note_faults es more) (sym h.split)
       (notes (journal_setup_of start.setup) start.noted start.note_faults h.written h.notes (stored_in_order start core part journal h));
 }
 
-named_same : (input most : ℕ) (state : InState) (old new : List Entry) (text : List ℕ) (rest : List Cut) → gathers input new ≡ gathers input old → has_ended input new ≡ has_ended input old → IsNamed input most state old text rest → IsNamed input most state new text rest
-named_same input most states.Reading old new text rest same ended h = gathering_same most input old new text rest same h
-named_same input most states.Ended old new text rest same ended h = record { groups = h.groups; rest = h.rest; consecutive = h.consecutive; named = subst (AreGroups h.groups) (sym same) h.named; full = h.full; all = λ e. h.all (sym ended ∙ e) }
-named_same input most states.Faulted old new text rest same ended h = record { groups = h.groups; rest = h.rest; consecutive = h.consecutive; named = subst (AreGroups h.groups) (sym same) h.named; full = h.full; all = λ e. h.all (sym ended ∙ e) }
-named_same input most states.LimitReached old new text rest same ended h = record { groups = h.groups; rest = h.rest; consecutive = h.consecutive; named = subst (AreGroups h.groups) (sym same) h.named; full = h.full; all = λ e. h.all (sym ended ∙ e) }
+-- what is buffered at an output is what the journal says
+pub buffered_is : (start : Beginning) (core : CoreState) (part : JournalPart) (journal : List Entry) → HasText start core part journal → (o : ℕ) → buffered_at core o ≡ buffered_at_end start.setup journal o
+buffered_is start core part journal h o = ap (λ (n : Numbers). (output_numbers n o).buffered) h.stands.numbers ∙ ap (λ (s : Setup). (output_numbers (totals s journal) o).buffered) h.setup_is
 
-full_same : (input most : ℕ) (old new : List Entry) (text left : Option (List ℕ)) → gathers input new ≡ gathers input old → gathered_count new ≡ gathered_count old → IsFull most old input text left → IsFull most new input text left
-full_same input most old new text left same count h = record {
-  count = h.count;
-  few = h.few;
-  many = omega (arith, h.many, count);
-  next = told_map text left (λ xs ys. IsNextGroup most old input xs h.count) (λ xs ys. IsNextGroup most new input xs h.count)
-      (λ xs ys n. record { moment = n.moment; groups = n.groups; group = n.group; rest = n.rest; consecutive = n.consecutive; named = subst (AreGroups n.groups) (sym same) n.named; few = n.few; metrics = n.metrics })
-      h.next;
+-- ---- what the journal says of the inputs
+
+-- an entry that says nothing of any input
+pub all_heard_push : (starts ins : List InPart) (journal : List Entry) (e : Entry) → ((input : ℕ) → IsNotOf input e) → AllHeard starts ins journal → AllHeard starts ins (journal ++ e ∷ [])
+all_heard_push starts ins journal e quiet h = λ k l. heard_push (in_at starts k) (in_at ins k) k journal e (quiet k) (h k l)
+
+-- one of the inputs changes, and the journal says nothing more of the others
+pub all_heard_set : (starts ins : List InPart) (old new : List Entry) (i : ℕ) (part : InPart) → i < length ins → Heard (in_at starts i) part i new → ((k : ℕ) → k ≢ i → Heard (in_at starts k) (in_at ins k) k old → Heard (in_at starts k) (in_at ins k) k new) → AllHeard starts ins old
+    → AllHeard starts (set ins i part) new
+all_heard_set starts ins old new i part b here others h = each_set (λ (k : ℕ) (x : InPart). Heard (in_at starts k) x k new) ins i part no_in b here (λ k l ne. others k ne (h k l))
+
+-- ---- the order
+
+pub order-push : (start : Beginning) (core : CoreState) (next last : ℕ) (journal : List Entry) (e : Entry) → Stands core journal → next ≤ last → (start.front ≡ [] → IsOrderly start.setup journal e) → ((input : ℕ) → last ≤ input → filter (is_of_input input) (origins_by e) ≡ []) → HasOrder start next journal
+    → HasOrder start last (journal ++ e ∷ [])
+order-push start core next last journal e stands l orderly none h = record {
+  in_order = λ f. in_order-push start.setup journal e (h.in_order f) (orderly f);
+  none_raw = λ f input b. raw_of-push core.setup input journal e stands.legal (h.none_raw f input (omega (arith, l, b))) (none input b);
 }
 
-state_same : (state : InState) (start now : InPart) (old new : List Entry) → gathers now.input new ≡ gathers now.input old → gathered_count new ≡ gathered_count old → HasState state start now old → HasState state start now new
-state_same states.Reading start now old new same count h = h
-state_same states.Ended start now old new same count h = h
-state_same states.Faulted start now old new same count h = h
-state_same states.LimitReached start now old new same count (inl h) = inl h
-state_same states.LimitReached start now old new same count (inr h) = inr (full_same now.input now.most old new start.left now.left same count h)
-
-pub clocked_same : (all : Option Moments) (place : ℕ) (old new : List ℤ) → new ≡ old → IfSome all (λ moments. IsClocked moments place old) → IfSome all (λ moments. IsClocked moments place new)
-clocked_same None place old new same h = tt
-clocked_same (Some moments) place old new same h = subst (IsClocked moments place) (sym same) h
-
-taken_same : (input most : ℕ) (state : InState) (old new : List Entry) (hand : Hand) (text left : List ℕ) → gathers input new ≡ gathers input old → IsNamedOfTaken input most state old hand text left → IsNamedOfTaken input most state new hand text left
-taken_same input most states.Reading old new hand text left same h = names_same most input old new hand text left same h
-taken_same input most states.Ended old new hand text left same h = tt
-taken_same input most states.Faulted old new hand text left same h = record { taken = h.taken; split = h.split; groups = h.groups; named = subst (AreGroups h.groups) (sym same) h.named; all = h.all }
-taken_same input most states.LimitReached old new hand text left same h = tt
-
--- a journal with the same Gathers
-pub heard_same : (start now : InPart) (old new : List Entry) → gathers now.input new ≡ gathers now.input old → has_ended now.input new ≡ has_ended now.input old → gathered_count new ≡ gathered_count old → gather_moments now.input new ≡ gather_moments now.input old
-    → Heard start now old → Heard start now new
-heard_same start now old new same ended count moments h = record {
-  named = told_map start.left now.left (λ xs ys. IsNamed now.input now.most now.state old xs (to_come now.hand ys)) (λ xs ys. IsNamed now.input now.most now.state new xs (to_come now.hand ys)) (λ xs ys. named_same now.input now.most now.state old new xs (to_come now.hand ys) same ended) h.named;
-  of_taken = told_map start.left now.left (IsNamedOfTaken now.input now.most now.state old now.hand) (IsNamedOfTaken now.input now.most now.state new now.hand) (λ xs ys. taken_same now.input now.most now.state old new now.hand xs ys same) h.of_taken;
-  counted = h.counted;
-  ended = ended ∙ h.ended;
-  later = h.later;
-  state = state_same now.state start now old new same count h.state;
-  clocked = clocked_same now.moments now.place (gather_moments now.input old) (gather_moments now.input new) moments h.clocked;
+-- where no item is raw none is of an input
+pub went_next : (start : Beginning) (core : CoreState) (now : Surroundings) (next : ℕ) → core.raw ≡ [] → Progress start core now → Progress start core (record now { next = next })
+went_next start core now next none w = record {
+  journal = w.journal;
+  text = w.text;
+  in_count = w.in_count;
+  heard = w.heard;
+  out_count = w.out_count;
+  said = w.said;
+  worked = w.worked;
+  order = record { in_order = w.order.in_order; none_raw = λ f input b. raw_of-none input w.journal (sym w.text.stands.raw ∙ none) };
+  counted_at = w.counted_at;
 }
 
--- an entry that is no Gather, and not the Ended of the input
-pub heard_push : (start now : InPart) (journal : List Entry) (e : Entry) → gathers_by now.input e ≡ [] → is_ended_of now.input e ≡ false → gathered_by e ≡ 0 → Heard start now journal → Heard start now (journal ++ e ∷ [])
-heard_push start now journal e none other count h =
-    heard_same start now journal (journal ++ e ∷ []) (gathers-other now.input journal e none) (has_ended-other now.input journal e other)
-    (let n : gathered_count (journal ++ e ∷ []) ≡ gathered_count journal = omega (arith, gathered_count-push journal e, count) in n) (gather_moments-same now.input journal e none) h
+-- and none is of an input behind those of which none is
+pub went_behind : (start : Beginning) (core : CoreState) (now : Surroundings) (next last : ℕ) → next ≤ last → Progress start core (record now { next = next }) → Progress start core (record now { next = last })
+went_behind start core now next last l w = record {
+  journal = w.journal;
+  text = w.text;
+  in_count = w.in_count;
+  heard = w.heard;
+  out_count = w.out_count;
+  said = w.said;
+  worked = w.worked;
+  order = record { in_order = w.order.in_order; none_raw = λ f input b. w.order.none_raw f input (omega (arith, l, b)) };
+  counted_at = w.counted_at;
+}
+
+-- ---- steps
 
 -- an entry that says nothing of an output
 pub record IsQuietAt (output : ℕ) (e : Entry) : Type 0 where
@@ -182,65 +182,56 @@ pub went_anew : (start : Beginning) (core : CoreState) (now : Surroundings) (out
 went_anew start core now outs new_outs are w = record {
   journal = w.journal;
   text = w.text;
+  in_count = w.in_count;
   heard = w.heard;
   out_count = ap length are ∙ length-map outs anew ∙ w.out_count;
   said = subst (λ (all : List OutPart). AllSaid start.outs all w.journal) (sym are)
       (λ o l. let b : o < length outs = omega (arith, l, length-map outs anew) in
       subst (λ (out : OutPart). Said (out_at start.outs o) out o w.journal) (sym (at_anew outs o b)) (said_fresh (out_at start.outs o) (out_at outs o) o w.journal (w.said o b)));
   worked = w.worked;
-  in_order = w.in_order;
+  order = w.order;
   counted_at = w.counted_at;
-}
-
--- an entry that says nothing of the input and of the outputs
-pub went_quiet : (start : Beginning) (core next : CoreState) (now : Surroundings) (e : Entry) (w : Progress start core now) →
-    Continues core next e → next.stored ≡ core.stored ++ e ∷ [] → next.setup ≡ core.setup →
-    gathers_by now.input.input e ≡ [] → is_ended_of now.input.input e ≡ false → gathered_by e ≡ 0 → ((output : ℕ) → IsQuietAt output e) → is_stop e ≡ false → WorkedBy (items w.journal) e → IsOrderly start.setup w.journal e → counted_by e ≡ [] → Progress start next now
-went_quiet start core next now e w more stored same none other count quiet going worked orderly still = record {
-  journal = w.journal ++ e ∷ [];
-  text = text-push start core next now.journal w.journal e w.text more stored same;
-  heard = heard_push start.input now.input w.journal e none other count w.heard;
-  out_count = w.out_count;
-  said = all_said_push start.outs now.outs w.journal e quiet going w.said;
-  worked = worked-push w.journal e worked w.worked;
-  in_order = in_order-push start.setup w.journal e w.in_order orderly;
-  counted_at = counted_moments-same w.journal e still ∙ w.counted_at;
 }
 
 -- an item was taken
 pub went_take : (start : Beginning) (core next : CoreState) (now : Surroundings) → next ≡ after_take core → Continues core next (Take core.taken) → Progress start core now → Progress start next now
 went_take start core next now is more w =
-    went_quiet start core next now (Take core.taken) w more (ap (λ (s : CoreState). s.stored) is) (ap (λ (s : CoreState). s.setup) is) refl refl refl (λ o. record { ends = tt; none = refl; quiet = refl }) refl tt tt refl
+    let e : Entry = Take core.taken in
+    record {
+      journal = w.journal ++ e ∷ [];
+      text = text-push start core next now.journal w.journal e w.text more (ap (λ (s : CoreState). s.stored) is) (ap (λ (s : CoreState). s.setup) is);
+      in_count = w.in_count;
+      heard = all_heard_push start.ins now.ins w.journal e (λ k. record { none = refl; other = refl }) w.heard;
+      out_count = w.out_count;
+      said = all_said_push start.outs now.outs w.journal e (λ o. record { ends = tt; none = refl; quiet = refl }) refl w.said;
+      worked = worked-push start.views w.journal e tt w.worked;
+      order = order-push start core now.next now.next w.journal e w.text.stands (omega arith) (λ f. tt) (λ k b. refl) w.order;
+      counted_at = counted_moments-same w.journal e refl ∙ w.counted_at;
+    }
 
--- each of so many views is the same
-all_same : (n : ℕ) (metric : Content) → AllByRecursion (λ (view : Option Content). view ≡ Some metric) (replicate n (Some metric))
-all_same zero metric = tt
-all_same (suc n) metric = (refl, all_same n metric)
-
--- the first raw item was taken and routed as it is
-pub went_route : (start : Beginning) (core mid next : CoreState) (now : Surroundings) (outputs : ℕ) (metric : Content) → AreAnew now.outs → slice_get core.raw 0 ≡ Some metric →
-    mid ≡ after_take core → Continues core mid (Take core.taken) → next ≡ after_route mid (as_it_is outputs core.taken metric) → Continues mid next (route_entry mid (as_it_is outputs core.taken metric)) → Progress start core now → Progress start next now
-went_route start core mid next now outputs metric fresh first taken takes routed routes w =
-    let v : Progress start mid now = went_take start core mid now taken takes w in
-    let shape : IsRouteEntry (as_it_is outputs core.taken metric) (route_entry mid (as_it_is outputs core.taken metric)) = entries-have-shape.routes mid (as_it_is outputs core.taken metric) in
+-- the first raw item was taken and routed
+pub went_route : (start : Beginning) (core mid next : CoreState) (now : Surroundings) (views : List (Content → Option Content)) (metric : Content) → AreAnew now.outs → slice_get core.raw 0 ≡ Some metric → mid ≡ after_take core → Continues core mid (Take core.taken) → next ≡ after_route mid (routed_by views core.taken metric) →
+    Continues mid next (route_entry mid (routed_by views core.taken metric)) → Progress (record start { views = views }) core now → Progress (record start { views = views }) next now
+went_route start core mid next now views metric fresh first taken takes routed routes w =
+    let s : Beginning = record start { views = views } in
+    let shape : IsRouteEntry (routed_by views core.taken metric) (route_entry mid (routed_by views core.taken metric)) = entries-have-shape.routes mid (routed_by views core.taken metric) in
     let verdict : Verdict = shape.0 in
     let reports : List Report = shape.1 in
-    let views : List (Option Content) = replicate outputs (Some metric) in
-    let e : Entry = Route core.taken (Some metric) verdict [] views reports in
+    let t : Entry = Take core.taken in
+    let e : Entry = Route core.taken (Some metric) verdict [] (views_of views metric) reports in
     let at : slice_get (items w.journal) core.taken ≡ Some metric = first_raw core w.journal metric w.text.stands first in
-    let there : slice_get (items (w.journal ++ Take core.taken ∷ [])) core.taken ≡ Some metric = item_stays w.journal (Take core.taken) core.taken metric at in
+    let there : slice_get (items (w.journal ++ t ∷ [])) core.taken ≡ Some metric = item_stays w.journal t core.taken metric at in
     record {
-      journal = (w.journal ++ Take core.taken ∷ []) ++ e ∷ [];
-      text = text-push start mid next now.journal (w.journal ++ Take core.taken ∷ []) e
-          (text-push start core mid now.journal w.journal (Take core.taken) w.text takes (ap (λ (s : CoreState). s.stored) taken) (ap (λ (s : CoreState). s.setup) taken))
-          (subst (Continues mid next) shape.2 routes) (ap (λ (s : CoreState). s.stored) routed ∙ ap (λ (x : Entry). mid.stored ++ x ∷ []) shape.2) (ap (λ (s : CoreState). s.setup) routed);
-      heard = heard_push start.input now.input (w.journal ++ Take core.taken ∷ []) e refl refl refl (heard_push start.input now.input w.journal (Take core.taken) refl refl refl w.heard);
+      journal = (w.journal ++ t ∷ []) ++ e ∷ [];
+      text = text-push s mid next now.journal (w.journal ++ t ∷ []) e (text-push s core mid now.journal w.journal t w.text takes (ap (λ (x : CoreState). x.stored) taken) (ap (λ (x : CoreState). x.setup) taken)) (subst (Continues mid next) shape.2 routes)
+          (ap (λ (x : CoreState). x.stored) routed ∙ ap (λ (x : Entry). mid.stored ++ x ∷ []) shape.2) (ap (λ (x : CoreState). x.setup) routed);
+      in_count = w.in_count;
+      heard = all_heard_push start.ins now.ins (w.journal ++ t ∷ []) e (λ k. record { none = refl; other = refl }) (all_heard_push start.ins now.ins w.journal t (λ k. record { none = refl; other = refl }) w.heard);
       out_count = w.out_count;
-      said = all_said_anew start.outs now.outs (w.journal ++ Take core.taken ∷ []) e fresh (λ o. tt) (λ o. refl)
-          (all_said_push start.outs now.outs w.journal (Take core.taken) (λ o. record { ends = tt; none = refl; quiet = refl }) refl w.said);
-      worked = worked_route (w.journal ++ Take core.taken ∷ []) core.taken metric verdict [] views reports there (all_same outputs metric) (worked-push w.journal (Take core.taken) tt w.worked);
-      in_order = in_order-push start.setup (w.journal ++ Take core.taken ∷ []) e (in_order-push start.setup w.journal (Take core.taken) w.in_order tt) tt;
-      counted_at = counted_moments-same (w.journal ++ Take core.taken ∷ []) e refl ∙ counted_moments-same w.journal (Take core.taken) refl ∙ w.counted_at;
+      said = all_said_anew start.outs now.outs (w.journal ++ t ∷ []) e fresh (λ o. tt) (λ o. refl) (all_said_push start.outs now.outs w.journal t (λ o. record { ends = tt; none = refl; quiet = refl }) refl w.said);
+      worked = worked_route views (w.journal ++ t ∷ []) core.taken metric verdict [] reports there (worked-push views w.journal t tt w.worked);
+      order = order-push s mid now.next now.next (w.journal ++ t ∷ []) e (takes w.journal w.text.stands) (omega arith) (λ f. tt) (λ k b. refl) (order-push s core now.next now.next w.journal t w.text.stands (omega arith) (λ f. tt) (λ k b. refl) w.order);
+      counted_at = counted_moments-same (w.journal ++ t ∷ []) e refl ∙ counted_moments-same w.journal t refl ∙ w.counted_at;
     }
 
 -- the stored entries were noted
@@ -249,11 +240,12 @@ pub went_cut : (start : Beginning) (core next : CoreState) (part more : JournalP
 went_cut start core next part more now stands is notes w = record {
   journal = w.journal;
   text = text-cut start core next part more w.journal w.text stands (ap (λ (s : CoreState). s.stored) is) (ap (λ (s : CoreState). s.setup) is) notes;
+  in_count = w.in_count;
   heard = w.heard;
   out_count = w.out_count;
   said = w.said;
   worked = w.worked;
-  in_order = w.in_order;
+  order = w.order;
   counted_at = w.counted_at;
 }
 
@@ -263,26 +255,27 @@ went_uncut start core next now is w = subst (λ (s : CoreState). Progress start 
 
 -- the run was stopped at a moment
 pub went_stop : (start : Beginning) (core next : CoreState) (now : Surroundings) (moment : ℤ) → AreAnew now.outs → next ≡ after_stop core moment → Continues core next (stop_entry core moment)
-    → (w : Progress start core (record now { counted_at = [] })) → Progress start next (record now { counted_at = int_max moment start.setup.start ∷ [] })
+    → Progress start core now → Progress start next (record now { counted_at = now.counted_at ++ int_max moment (last_of start.setup.start now.counted_at) ∷ [] })
 went_stop start core next now moment fresh is more w =
     let shape : IsStopEntry (moment_at core moment) (stop_entry core moment) = entries-have-shape.stops core moment in
     let e : Entry = Stop (int_max moment core.counted) shape.0 in
-    let counted : core.counted ≡ start.setup.start =
-    w.text.stands.counted ∙ counted_from-last core.setup.start w.journal ∙ ap (λ (ms : List ℤ). last_of core.setup.start ms) w.counted_at ∙ ap (λ (s : Setup). s.start) w.text.setup_is in
+    let counted : core.counted ≡ last_of start.setup.start now.counted_at =
+    w.text.stands.counted ∙ counted_from-last core.setup.start w.journal ∙ ap (λ (ms : List ℤ). last_of core.setup.start ms) w.counted_at ∙ ap (λ (s : Setup). last_of s.start now.counted_at) w.text.setup_is in
     record {
       journal = w.journal ++ e ∷ [];
       text = text-push start core next now.journal w.journal e w.text (subst (Continues core next) shape.1 more) (ap (λ (s : CoreState). s.stored) is ∙ ap (λ (x : Entry). core.stored ++ x ∷ []) shape.1) (ap (λ (s : CoreState). s.setup) is);
-      heard = heard_push start.input now.input w.journal e refl refl refl w.heard;
+      in_count = w.in_count;
+      heard = all_heard_push start.ins now.ins w.journal e (λ k. record { none = refl; other = refl }) w.heard;
       out_count = w.out_count;
       said = all_said_anew start.outs now.outs w.journal e fresh (λ o. tt) (λ o. refl) w.said;
-      worked = worked-push w.journal e tt w.worked;
-      in_order = in_order-push start.setup w.journal e w.in_order tt;
-      counted_at = counted_moments-push w.journal e ∙ ap (λ (ms : List ℤ). ms ++ int_max moment core.counted ∷ []) w.counted_at ∙ ap (λ (m : ℤ). int_max moment m ∷ []) counted;
+      worked = worked-push start.views w.journal e tt w.worked;
+      order = order-push start core now.next now.next w.journal e w.text.stands (omega arith) (λ f. tt) (λ k b. none_of_made k (length shape.0)) w.order;
+      counted_at = counted_moments-push w.journal e ∙ ap (λ (ms : List ℤ). ms ++ int_max moment core.counted ∷ []) w.counted_at ∙ ap (λ (m : ℤ). now.counted_at ++ int_max moment m ∷ []) counted;
     }
 
 -- the same of an item with the number of the first raw one
-pub went_item : (start : Beginning) (core mid next : CoreState) (now : Surroundings) (outputs number : ℕ) (metric : Content) → AreAnew now.outs → number ≡ core.taken → slice_get core.raw 0 ≡ Some metric →
-    mid ≡ after_take core → Continues core mid (Take core.taken) → next ≡ after_route mid (as_it_is outputs number metric) → Continues mid next (route_entry mid (as_it_is outputs number metric)) → Progress start core now → Progress start next now
-went_item start core mid next now outputs number metric fresh is first taken takes routed routes w =
-    went_route start core mid next now outputs metric fresh first taken takes
-    (subst (λ (n : ℕ). next ≡ after_route mid (as_it_is outputs n metric)) is routed) (subst (λ (n : ℕ). Continues mid next (route_entry mid (as_it_is outputs n metric))) is routes) w
+pub went_item : (start : Beginning) (core mid next : CoreState) (now : Surroundings) (views : List (Content → Option Content)) (number : ℕ) (metric : Content) → AreAnew now.outs → number ≡ core.taken → slice_get core.raw 0 ≡ Some metric → mid ≡ after_take core → Continues core mid (Take core.taken) →
+    next ≡ after_route mid (routed_by views number metric) → Continues mid next (route_entry mid (routed_by views number metric)) → Progress (record start { views = views }) core now → Progress (record start { views = views }) next now
+went_item start core mid next now views number metric fresh is first taken takes routed routes w =
+    went_route start core mid next now views metric fresh first taken takes
+    (subst (λ (n : ℕ). next ≡ after_route mid (routed_by views n metric)) is routed) (subst (λ (n : ℕ). Continues mid next (route_entry mid (routed_by views n metric))) is routes) w

@@ -31,8 +31,7 @@ use Rattle.account.proofs.DoneLemmas.{dones-same, dones-more, failed-more, last_
 use Rattle.agent_workers.proofs.RoseLemmas.{rose_later, rose_more}
 use Rattle.pipeline_core.proofs.StopLemmas.{behind_stop-push, stop_before}
 use Rattle.account.proofs.MomentLemmas.{counted_moments-same}
-use Rattle.pipeline_core.proofs.OrderLemmas.{in_order-push}
-use Rattle.agent_workers.proofs.ProgressLemmas.{text-push, heard_push}
+use Rattle.agent_workers.proofs.ProgressLemmas.{text-push, all_heard_push, order-push}
 use Rattle.agent_workers.proofs.SentLemmas.{sent_accepted, sent_failed}
 use Rattle.pipeline_core.proofs.WorkedLemmas.{worked-push}
 
@@ -74,11 +73,13 @@ module _ (start : Beginning) (core mid next : CoreState) (now : Surroundings) (o
         text = text-push start mid next now.journal between end
             (text-push start core mid now.journal w.journal begin w.text begins (ap (λ (s : CoreState). s.stored) began) (ap (λ (s : CoreState). s.setup) began))
             ends stored same;
-        heard = heard_push start.input now.input between end refl refl refl (heard_push start.input now.input w.journal begin refl refl refl w.heard);
+        in_count = w.in_count;
+        heard = all_heard_push start.ins now.ins between end (λ k. record { none = refl; other = refl }) (all_heard_push start.ins now.ins w.journal begin (λ k. record { none = refl; other = refl }) w.heard);
         out_count = length-set now.outs old.output new ∙ w.out_count;
         said = said_done reports ok w.journal w.said said;
-        worked = worked-push between end tt (worked-push w.journal begin tt w.worked);
-        in_order = in_order-push start.setup between end (in_order-push start.setup w.journal begin w.in_order (sym w.text.stands.raw ∙ routed)) tt;
+        worked = worked-push start.views between end tt (worked-push start.views w.journal begin tt w.worked);
+        order = order-push start mid now.next now.next between end (begins w.journal w.text.stands) (omega arith) (λ f. tt) (λ k b. refl)
+            (order-push start core now.next now.next w.journal begin w.text.stands (omega arith) (λ f. sym w.text.stands.raw ∙ routed) (λ k b. refl) w.order);
         counted_at = counted_moments-same between end refl ∙ counted_moments-same w.journal begin refl ∙ w.counted_at;
       }
 

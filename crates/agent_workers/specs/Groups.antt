@@ -1,27 +1,31 @@
 -- What the next pieces of an input say, and which pieces of its text they are.
-use Rattle.std.specs.Prelude.{◌≡◌, ◌≤◌, ◌<◌, ◌⊎◌, ◌^◌, ℕ, ℤ, ◌+◌, Bool, true, false, List, [], ◌∷◌, ◌++◌}
+use Rattle.std.specs.Prelude.{◌≡◌, ◌≤◌, ◌⊎◌, ℕ, ℤ, ◌+◌, List, [], ◌∷◌, ◌++◌}
 use Rattle.std.specs.Prelude.{length, count_by, if◌then◌else◌}
-use Rattle.std.specs.List.{flat_map}
+use Rattle.std.specs.List.{flat_map, sum_by}
 use Rattle.std.specs.declared.option.Option.{Option}
 use Rattle.agent_base.specs.Cut.{Cut}
 use Rattle.agent_base.specs.Hand.{Hand, to_come}
 use Rattle.agent_base.specs.Taken.{IsSpent}
 use Rattle.agent_base.specs.Told.{Told}
-use Rattle.agent_workers.specs.declared.input.Group.{Group}
+use Rattle.agent_workers.specs.declared.reading.Group.{Group}
 use Rattle.agent_workers.specs.declared.input.InState.{InState}
 use Rattle.agent_workers.specs.declared.input.InState.TheVariants as states
-use Rattle.agent_workers.specs.Input.{is_refused, readings}
-use Rattle.account.specs.declared.entry.Entry.TheVariants.{Ended}
-use Rattle.pipeline_core.specs.CoreState.{CoreState}
-use Rattle.pipeline_core.specs.Stands.{Continues}
-use Rattle.pipeline_core.specs.Steps.{after_gather, after_ended, gather_entry}
+use Rattle.agent_workers.specs.Reader.{InRule, PieceSays, says, is_refusal, metrics_of, passed_of, kept}
+use Rattle.agent_workers.specs.Reader.{filtered_out, is_refused, passed_over, filtered_of, kept_of, capped}
 use Rattle.pipeline_core.specs.declared.gathering.Gathered.{Gathered}
 
--- one piece more is counted, as refused where it is, and its reading is kept behind the others
-pub record CountsPiece (moment : ℤ) (piece : Cut) (old new : Group) : Type 0 where
+-- what a piece says is counted: that it is refused; or the samples that are passed over, what is kept of its
+-- metrics behind the others, and of how many nothing is
+pub record Counts (rule : InRule) (said : PieceSays) (old new : Group) : Type 0 where
+  pub refused : new.refused ≡ old.refused + (if is_refusal said then 1 else 0)
+  pub passed : new.passed ≡ capped (old.passed + passed_of said)
+  pub filtered : new.filtered ≡ capped (old.filtered + filtered_out rule (metrics_of said))
+  pub metrics : new.metrics.items ≡ old.metrics.items ++ kept rule (metrics_of said)
+
+-- one piece more is counted, and what it says
+pub record CountsPiece (rule : InRule) (moment : ℤ) (piece : Cut) (old new : Group) : Type 0 where
   pub pieces : new.pieces ≡ old.pieces + 1
-  pub refused : new.refused ≡ old.refused + (if is_refused moment piece then 1 else 0)
-  pub metrics : new.metrics.items ≡ old.metrics.items ++ readings moment piece
+  pub said : Counts rule (says rule moment piece) old new
 
 -- bytes were taken of those that were left, and these pieces are the first to come whatever stands behind the
 -- bytes taken; or nothing is left and no piece is to come
@@ -32,10 +36,10 @@ pub record TakesPieces (read : List Cut) (before after : Hand) (xs ys : List ℕ
       ⊎ ((more : List ℕ) → to_come before (taken ++ more) ≡ read ++ to_come after more)
 
 -- the first piece to come is counted, and the others are to come then
-pub record ReadsPiece (moment : ℤ) (old new : Group) (before after : Hand)
+pub record ReadsPiece (rule : InRule) (moment : ℤ) (old new : Group) (before after : Hand)
     (left_before left_after : Option (List ℕ)) : Type 0 where
   pub piece : Cut
-  pub counted : CountsPiece moment piece old new
+  pub counted : CountsPiece rule moment piece old new
   pub first : Told left_before left_after (λ xs ys. to_come before xs ≡ piece ∷ to_come after ys)
   pub whatever_follows : Told left_before left_after (TakesPieces (piece ∷ []) before after)
 
@@ -47,14 +51,14 @@ pub record ReadsNone (old new : Group) (before after : Hand)
   pub whatever_follows : Told left_before left_after (TakesPieces [] before after)
 
 -- a piece is counted where the input is read on, else none
-abbrev pub ReadsNext : InState → ℤ → Group → Group → Hand → Hand → Option (List ℕ) → Option (List ℕ) → Type 0
-ReadsNext states.Reading moment old new before after left_before left_after = ReadsPiece moment old new
+abbrev pub ReadsNext : InRule → InState → ℤ → Group → Group → Hand → Hand → Option (List ℕ) → Option (List ℕ) → Type 0
+ReadsNext rule states.Reading moment old new before after left_before left_after = ReadsPiece rule moment old new
     before after left_before left_after
-ReadsNext states.Ended moment old new before after left_before left_after = ReadsNone old new before after
+ReadsNext rule states.Ended moment old new before after left_before left_after = ReadsNone old new before after
     left_before left_after
-ReadsNext states.Faulted moment old new before after left_before left_after = ReadsNone old new before after
+ReadsNext rule states.Faulted moment old new before after left_before left_after = ReadsNone old new before after
     left_before left_after
-ReadsNext states.LimitReached moment old new before after left_before left_after = ReadsNone old new before
+ReadsNext rule states.LimitReached moment old new before after left_before left_after = ReadsNone old new before
     after left_before left_after
 
 -- no piece is to come
@@ -63,21 +67,24 @@ IsAllRead left_before left_after after = Told left_before left_after (λ xs ys. 
 
 -- the group is what some pieces say at the moment: those are the first that were to come, and the others are
 -- to come then
-pub record Reads (moment : ℤ) (group : Group) (before after : Hand)
+pub record Reads (rule : InRule) (moment : ℤ) (group : Group) (before after : Hand)
     (left_before left_after : Option (List ℕ)) : Type 0 where
   pub read : List Cut
   pub pieces : group.pieces ≡ length read
-  pub refused : group.refused ≡ count_by (is_refused moment) read
-  pub metrics : group.metrics.items ≡ flat_map (readings moment) read
+  pub refused : group.refused ≡ count_by (is_refused rule moment) read
+  pub passed : group.passed ≡ capped (sum_by (passed_over rule moment) read)
+  pub filtered : group.filtered ≡ capped (sum_by (filtered_of rule moment) read)
+  pub metrics : group.metrics.items ≡ flat_map (kept_of rule moment) read
   pub consecutive : Told left_before left_after (λ xs ys. to_come before xs ≡ read ++ to_come after ys)
   pub whatever_follows : Told left_before left_after (TakesPieces read before after)
 
--- and they are at most so many, exactly so many where the input is read on, and all where it has ended
-pub record ReadsGroup (limit : ℕ) (moment : ℤ) (group : Group) (state : InState) (before after : Hand)
+-- and they are at most as many as a gather has, exactly so many where the input is read on, and all where it
+-- has ended
+pub record ReadsGroup (rule : InRule) (moment : ℤ) (group : Group) (state : InState) (before after : Hand)
     (left_before left_after : Option (List ℕ)) : Type 0 where
-  pub reads : Reads moment group before after left_before left_after
-  pub most : length reads.read ≤ limit
-  pub full : state ≡ states.Reading → length reads.read ≡ limit
+  pub reads : Reads rule moment group before after left_before left_after
+  pub most : length reads.read ≤ rule.most
+  pub full : state ≡ states.Reading → length reads.read ≡ rule.most
   pub all : state ≡ states.Ended → IsAllRead left_before left_after after
 
 -- what a group says, as the core gathers it
@@ -87,30 +94,14 @@ gathered_of input moment group = record {
   moment = moment;
   pieces = group.pieces;
   refused = group.refused;
-  passed = 0;
-  filtered = 0;
+  passed = group.passed;
+  filtered = group.filtered;
   metrics = group.metrics.items;
 }
 
--- what offering a group leaves: nothing where it has no piece, else it was gathered; or the run is full
-abbrev pub IsOffered : ℕ → Bool → ℤ → Group → CoreState → CoreState → Type 0
-IsOffered input true moment group old new =
-    ((group.pieces ≡ 0) × (new ≡ old))
-    ⊎ ((0 < group.pieces) × (new ≡ after_gather old (gathered_of input moment group))
-    × Continues old new (gather_entry old (gathered_of input moment group)))
-IsOffered input false moment group old new =
-    (new ≡ old) × (2 ^ 32 ≤ old.gathered + length group.metrics.items)
-
--- a group of so many pieces was gathered
-pub record IsGathered (input pieces : ℕ) (old new : CoreState) : Type 0 where
-  pub moment : ℤ
-  pub group : Group
-  pub count : group.pieces ≡ pieces
-  pub is : new ≡ after_gather old (gathered_of input moment group)
-
--- what the end of the input leaves
-abbrev pub IsEnding : ℕ → InState → CoreState → CoreState → Type 0
-IsEnding input states.Reading old new = new ≡ old
-IsEnding input states.Ended old new = (new ≡ after_ended old input) × Continues old new (Ended input)
-IsEnding input states.Faulted old new = new ≡ old
-IsEnding input states.LimitReached old new = new ≡ old
+-- whether an input is read on after a read: that its end was met isn't remembered
+abbrev pub read_state : InState → InState
+read_state states.Reading = states.Reading
+read_state states.Ended = states.Reading
+read_state states.Faulted = states.Faulted
+read_state states.LimitReached = states.LimitReached

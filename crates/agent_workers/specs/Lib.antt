@@ -1,9 +1,11 @@
+pub mod Finished
+pub mod Groups
 pub mod Input
 pub mod Inputs
-pub mod Groups
-pub mod Run
 pub mod Noted
+pub mod Output
 pub mod PipeSetup
 pub mod Progress
+pub mod Reader
+pub mod Run
 pub mod Running
-pub mod Output

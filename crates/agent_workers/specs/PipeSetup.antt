@@ -1,17 +1,17 @@
 -- What a run is about.
-use Rattle.std.specs.Prelude.{ℕ, ℤ, List, [], ◌∷◌}
+use Rattle.std.specs.Prelude.{ℕ, ℤ, List, [], ◌∷◌, replicate}
 use Rattle.std.specs.declared.option.Option.TheVariants.{None}
 use Rattle.account.specs.Setup.{Setup}
 use Rattle.journal_text.specs.declared.setup.JournalSetup.{JournalSetup}
 
--- one input, which isn't tracked, and outputs with their batch sizes and buffer limits
-abbrev pub run_setup : List (ℕ × ℕ) → ℤ → Setup
-run_setup outputs start = record
-    { start = start; inputs = None ∷ []; aggs = []; outputs = outputs }
+-- so many inputs, none of which is tracked, and outputs with their batch sizes and buffer limits
+abbrev pub run_setup : ℕ → List (ℕ × ℕ) → ℤ → Setup
+run_setup inputs outputs start = record
+    { start = start; inputs = replicate inputs None; aggs = []; outputs = outputs }
 
--- the same with one output
+-- one input and one output
 abbrev pub pipe_setup : ℕ → ℕ → ℤ → Setup
-pipe_setup batch limit start = run_setup ((batch, limit) ∷ []) start
+pipe_setup batch limit start = run_setup 1 ((batch, limit) ∷ []) start
 
 -- the head of a journal: its set-up
 abbrev pub journal_setup_of : Setup → JournalSetup

@@ -1,8 +1,11 @@
 -- How far a run has come.
-use Rattle.std.specs.Prelude.{◌≡◌, ◌<◌, ◌≤◌, ◌⊎◌, ◌+◌, ◌^◌, ℕ, ℤ, Bool, true, false, List, ◌++◌, length}
+use Rattle.std.specs.Prelude.{◌≡◌, ◌<◌, ◌≤◌, ◌⊎◌, ◌+◌, ◌^◌, ℕ, ℤ, Bool, true, List, [], ◌++◌, map, length}
 use Rattle.std.specs.Prelude.{IfSome, slice_set}
 use Rattle.std.specs.declared.option.Option.{Option}
+use Rattle.metric.specs.declared.metric.Content.{Content}
 use Rattle.account.specs.Setup.{Setup}
+use Rattle.account.specs.Says.{GatherSays}
+use Rattle.account.specs.Origins.{raw_of}
 use Rattle.account.specs.declared.entry.Entry.{Entry}
 use Rattle.agent_base.specs.Counts.{Rose, RoseBy}
 use Rattle.agent_base.specs.Cut.{Cut}
@@ -11,16 +14,17 @@ use Rattle.agent_base.specs.Hand.{Hand, to_come}
 use Rattle.agent_base.specs.Moments.{Moments}
 use Rattle.agent_base.specs.Told.{Told}
 use Rattle.pipeline_core.specs.CoreState.{CoreState}
-use Rattle.pipeline_core.specs.Legal.{has_ended, has_stop}
+use Rattle.pipeline_core.specs.Legal.{has_ended, has_stop, gathered_count}
 use Rattle.pipeline_core.specs.Offers.{lane_events}
 use Rattle.pipeline_core.specs.Stands.{Stands}
 use Rattle.agent_workers.specs.declared.input.InState.{InState}
 use Rattle.agent_workers.specs.declared.input.InState.TheVariants as states
-use Rattle.agent_workers.specs.Inputs.{InPart}
-use Rattle.agent_workers.specs.Input.{IsFull, Gathered, Gathering, NamesSoFar, NamesTaken}
+use Rattle.agent_workers.specs.Inputs.{InPart, in_at, heard_of, is_ended, HoldsTooMany}
+use Rattle.agent_workers.specs.Input.{Gathering, GatheredTo, NamesSoFar, NamesTaken}
+use Rattle.agent_workers.specs.Reader.{InRule}
 use Rattle.account.specs.Dones.{dones, failed_count, LastFailed}
 use Rattle.pipeline_core.specs.Stopped.{behind_stop}
-use Rattle.account.specs.EntryMoments.{gather_moments, counted_moments}
+use Rattle.account.specs.EntryMoments.{counted_moments}
 use Rattle.agent_workers.specs.Noted.{JournalPart, Notes}
 use Rattle.pipeline_core.specs.Order.{EndsFailed, InOrder}
 use Rattle.agent_workers.specs.PipeSetup.{journal_setup_of}
@@ -29,76 +33,86 @@ use Rattle.agent_workers.specs.Output.{AppendsSo, batch_text, OutPart, out_at, A
 use Rattle.agent_workers.specs.Running.{AreSettled}
 use Rattle.pipeline_core.specs.Worked.{Worked}
 
--- what a run began with: its set-up, its input, its outputs, and the bytes held by the journal's place and its
--- count of failed puts
+-- what a run began with: its set-up, what its outputs' filters give, its inputs, its outputs, and the bytes held by the journal's place and its
+-- count of failed puts, when these were new; and the journal that the run continues
 pub record Beginning : Type 0 where
   pub setup : Setup
-  pub input : InPart
+  pub views : List (Content → Option Content)
+  pub ins : List InPart
   pub outs : List OutPart
   pub noted : Option (List ℕ)
   pub note_faults : ℕ
+  pub front : List Entry
 
--- what is around a run: the input, the outputs, the journal's part, and the moments that were counted since the
--- start
+-- what is around a run: the inputs, the input from which on none has a raw item, the outputs, the journal's
+-- part, and the moments that were counted since the start
 pub record Surroundings : Type 0 where
-  pub input : InPart
+  pub ins : List InPart
+  pub next : ℕ
   pub outs : List OutPart
   pub journal : JournalPart
   pub counted_at : List ℤ
 
--- the core stands for a journal, whose entries are noted but for those that the core stores
+-- the core stands for a journal, which goes on from the one that the run continues, and whose entries are
+-- noted but for those that the core stores
 pub record HasText (start : Beginning) (core : CoreState) (part : JournalPart)
     (journal : List Entry) : Type 0 where
   pub stands : Stands core journal
   pub setup_is : core.setup ≡ start.setup
+  pub more : List Entry
+  pub goes_on : journal ≡ start.front ++ more
   pub written : List Entry
   pub split : journal ≡ written ++ core.stored
   pub notes : Notes (journal_setup_of start.setup) start.noted start.note_faults written part
 
--- while the input is read on its Gathers name full groups up to the pieces that are to come; else they name
--- groups of its text, all pieces where it has ended
-abbrev pub IsNamed : ℕ → ℕ → InState → List Entry → List ℕ → List Cut → Type 0
-IsNamed input most states.Reading journal text rest = Gathering most journal input text rest
-IsNamed input most states.Ended journal text rest = Gathered most journal input text
-IsNamed input most states.Faulted journal text rest = Gathered most journal input text
-IsNamed input most states.LimitReached journal text rest = Gathered most journal input text
+-- while an input is read on its Gathers name full groups up to the pieces that are to come, or all pieces; else
+-- they name groups of its text, all pieces where it has ended
+abbrev pub IsNamed : InState → InRule → List GatherSays → List ℕ → List Cut → Type 0
+IsNamed states.Reading rule all text rest = Gathering rule all text rest
+IsNamed states.Ended rule all text rest = GatheredTo rule all text []
+IsNamed states.Faulted rule all text rest = GatheredTo rule all text rest
+IsNamed states.LimitReached rule all text rest = GatheredTo rule all text rest
 
-abbrev pub is_ended : InState → Bool
-is_ended states.Ended = true
-is_ended _ = false
-
--- fewer than 2^40 bytes were taken; where a read failed its count rose; or so many bytes were taken, or the
--- run is full
+-- fewer than 2^40 bytes were taken; where a read failed its count rose; or so many bytes were taken, or what is
+-- held is too much for the run
 abbrev pub HasState : InState → InPart → InPart → List Entry → Type 0
 HasState states.Reading start now journal = now.hand.taken < 2 ^ 40
 HasState states.Ended start now journal = now.hand.taken < 2 ^ 40
-HasState states.Faulted start now journal = (now.hand.taken < 2 ^ 40) × Rose start.read_faults now.read_faults
+HasState states.Faulted start now journal = (now.hand.taken < 2 ^ 40)
+    × Rose start.read_faults now.read_faults
 HasState states.LimitReached start now journal = (now.hand.taken ≡ 2 ^ 40)
-    ⊎ IsFull now.most journal now.input start.left now.left
+    ⊎ HoldsTooMany now.held (gathered_count journal)
 
--- a clock came to a place of its list, and gave these moments on the way
-abbrev pub IsClocked : Moments → ℕ → List ℤ → Type 0
-IsClocked moments place all = (place ≤ moments.last) × Clocked moments 0 place all
+-- a clock came from a place of its list to another one, and gave these moments on the way
+abbrev pub IsClocked : Moments → ℕ → ℕ → List ℤ → Type 0
+IsClocked moments first place all = (place ≤ moments.last) × Clocked moments first place all
 
 -- while the input is read on its Gathers name the pieces of what was taken, whatever follows; after a failed
 -- read all of these but perhaps that of the last line
-abbrev pub IsNamedOfTaken : ℕ → ℕ → InState → List Entry → Hand → List ℕ → List ℕ → Type 0
-IsNamedOfTaken input most states.Reading journal hand text left = NamesSoFar most journal input hand text left
-IsNamedOfTaken input most states.Ended journal hand text left = Unit {0}
-IsNamedOfTaken input most states.Faulted journal hand text left = NamesTaken journal input text left
-IsNamedOfTaken input most states.LimitReached journal hand text left = Unit {0}
+abbrev pub IsNamedOfTaken : InState → InRule → List GatherSays → Hand → List ℕ → List ℕ → Type 0
+IsNamedOfTaken states.Reading rule all hand text left = NamesSoFar rule all hand text left
+IsNamedOfTaken states.Ended rule all hand text left = Unit {0}
+IsNamedOfTaken states.Faulted rule all hand text left = NamesTaken rule all text left
+IsNamedOfTaken states.LimitReached rule all hand text left = Unit {0}
 
--- what the journal says of an input
-pub record Heard (start now : InPart) (journal : List Entry) : Type 0 where
-  pub named : Told start.left now.left (λ xs ys. IsNamed now.input now.most now.state journal xs
-      (to_come now.hand ys))
-  pub of_taken : Told start.left now.left (IsNamedOfTaken now.input now.most now.state journal now.hand)
+-- what the journal says of an input, and then the gather that is held
+pub record Heard (start now : InPart) (input : ℕ) (journal : List Entry) : Type 0 where
+  pub named : Told start.left now.left (λ xs ys. IsNamed now.state now.rule
+      (heard_of input journal now.held) xs (to_come now.hand ys))
+  pub of_taken : Told start.left now.left (IsNamedOfTaken now.state now.rule
+      (heard_of input journal now.held) now.hand)
   pub counted : Told start.left now.left (λ xs ys. length xs ≡ now.hand.taken + length ys)
-  pub ended : has_ended now.input journal ≡ is_ended now.state
+  pub ended : has_ended input journal ≡ is_ended now.state
   pub later : start.read_faults ≤ now.read_faults
   pub state : HasState now.state start now journal
   pub clocked : IfSome now.moments
-      (λ moments. IsClocked moments now.place (gather_moments now.input journal))
+      (λ moments. IsClocked moments start.place now.place
+      (map (λ (says : GatherSays). says.moment) (heard_of input journal now.held)))
+
+-- what it says of each input
+abbrev pub AllHeard : List InPart → List InPart → List Entry → Type 0
+AllHeard starts ins journal =
+    (input : ℕ) → input < length ins → Heard (in_at starts input) (in_at ins input) input journal
 
 -- what the journal says of an output
 pub record Said (start now : OutPart) (output : ℕ) (journal : List Entry) : Type 0 where
@@ -114,22 +128,29 @@ abbrev pub AllSaid : List OutPart → List OutPart → List Entry → Type 0
 AllSaid starts outs journal =
     (output : ℕ) → output < length outs → Said (out_at starts output) (out_at outs output) output journal
 
+-- where the run began with nothing: each item was routed before more is sent, and sent before more is gathered,
+-- and no item is raw of an input from the next one on
+pub record HasOrder (start : Beginning) (next : ℕ) (journal : List Entry) : Type 0 where
+  pub in_order : start.front ≡ [] → InOrder start.setup journal
+  pub none_raw : start.front ≡ [] → (input : ℕ) → next ≤ input → raw_of input journal ≡ []
+
 -- there is a journal for which the core stands, which is noted, and which says what was read and what was
 -- sent
 pub record Progress (start : Beginning) (core : CoreState) (now : Surroundings) : Type 0 where
   pub journal : List Entry
   pub text : HasText start core now.journal journal
-  pub heard : Heard start.input now.input journal
+  pub in_count : length now.ins ≡ length start.setup.inputs
+  pub heard : AllHeard start.ins now.ins journal
   pub out_count : length now.outs ≡ length start.setup.outputs
   pub said : AllSaid start.outs now.outs journal
-  pub worked : Worked journal
-  pub in_order : InOrder start.setup journal
+  pub worked : Worked start.views journal
+  pub order : HasOrder start now.next journal
   pub counted_at : counted_moments journal ≡ now.counted_at
 
--- a step that changes nothing around the run, while no batch failed
-abbrev pub GoesOn : CoreState → CoreState → Type 0
-GoesOn old new = (start : Beginning) (now : Surroundings) → AreAnew now.outs → Progress start old now
-    → Progress start new now
+-- a step that changes nothing around the run, while no batch failed, given what the outputs' filters give
+abbrev pub GoesOn : List (Content → Option Content) → CoreState → CoreState → Type 0
+GoesOn views old new = (start : Beginning) (now : Surroundings) → AreAnew now.outs
+    → Progress (record start { views = views }) old now → Progress (record start { views = views }) new now
 
 -- a step that puts to the outputs
 abbrev pub SendsOn : CoreState → CoreState → List OutPart → List OutPart → Type 0
@@ -143,11 +164,46 @@ SendsAt old new out new_out =
     (outs : List OutPart) → out.output < length outs → out_at outs out.output ≡ out
     → SendsOn old new outs (slice_set outs out.output new_out)
 
--- a step that reads the input; before it the outputs are settled
-abbrev pub ReadsOn : CoreState → CoreState → InPart → InPart → Type 0
-ReadsOn old new input new_input =
-    (start : Beginning) (now : Surroundings) → AreSettled old now.outs
-    → Progress start old (record now { input = input }) → Progress start new (record now { input = new_input })
+-- where the run began with nothing the outputs are settled
+abbrev pub SettlesFirst : Beginning → CoreState → List OutPart → Type 0
+SettlesFirst start core outs = start.front ≡ [] → AreSettled core outs
+
+-- a step that reads one of the inputs, whatever the others are
+abbrev pub ReadsAt : CoreState → CoreState → InPart → InPart → Type 0
+ReadsAt old new part new_part =
+    (ins : List InPart) → part.input < length ins → in_at ins part.input ≡ part
+    → (start : Beginning) (now : Surroundings)
+    → Progress start old (record now { ins = ins })
+    → Progress start new (record now { ins = slice_set ins part.input new_part })
+
+-- a step that notes the end of one of the inputs, where it was met
+abbrev pub EndsAt : Bool → CoreState → CoreState → InPart → InPart → Type 0
+EndsAt met old new part new_part =
+    (ins : List InPart) → part.input < length ins → in_at ins part.input ≡ part
+    → (start : Beginning) (now : Surroundings)
+    → (met ≡ true → Told (in_at start.ins part.input).left part.left (λ xs ys. to_come part.hand ys ≡ []))
+    → Progress start old (record now { ins = ins })
+    → Progress start new (record now { ins = slice_set ins part.input new_part })
+
+-- a step that may gather of one of the inputs: before it no item is raw of that one and of those behind it, and
+-- then of none behind it
+abbrev pub GathersAt : CoreState → CoreState → InPart → InPart → Type 0
+GathersAt old new part new_part =
+    (ins : List InPart) → part.input < length ins → in_at ins part.input ≡ part
+    → (start : Beginning) (now : Surroundings) → SettlesFirst start old now.outs
+    → Progress start old (record now { ins = ins; next = part.input })
+    → Progress start new (record now { ins = slice_set ins part.input new_part; next = part.input + 1 })
+
+-- steps that read and gather of the inputs before one
+abbrev pub GathersTo : ℕ → CoreState → CoreState → List InPart → List InPart → Type 0
+GathersTo next old new ins new_ins =
+    (start : Beginning) (now : Surroundings) → SettlesFirst start old now.outs
+    → Progress start old (record now { ins = ins; next = 0 })
+    → Progress start new (record now { ins = new_ins; next = next })
+
+-- so it is for all
+abbrev pub GathersOn : CoreState → CoreState → List InPart → List InPart → Type 0
+GathersOn old new ins new_ins = GathersTo (length ins) old new ins new_ins
 
 -- a step that puts to the journal's place
 abbrev pub NotesRun : CoreState → CoreState → JournalPart → JournalPart → Type 0
@@ -155,10 +211,11 @@ NotesRun old new part new_part =
     (start : Beginning) (now : Surroundings) → Progress start old (record now { journal = part })
     → Progress start new (record now { journal = new_part })
 
--- rounds: they read the input, and put to the outputs and to the journal's place
-abbrev pub RunsOn : CoreState → CoreState → InPart → InPart → List OutPart → List OutPart → JournalPart
-    → JournalPart → Type 0
-RunsOn old new input new_input outs new_outs part new_part =
-    (start : Beginning) (now : Surroundings)
-    → Progress start old (record now { input = input; outs = outs; journal = part })
-    → Progress start new (record now { input = new_input; outs = new_outs; journal = new_part })
+-- rounds: they read the inputs, and put to the outputs and to the journal's place
+abbrev pub RunsOn : List (Content → Option Content) → CoreState → CoreState → List InPart → List InPart
+    → List OutPart → List OutPart → JournalPart → JournalPart → Type 0
+RunsOn views old new ins new_ins outs new_outs part new_part =
+    (start : Beginning) (now : Surroundings) → SettlesFirst start old outs
+    → Progress (record start { views = views }) old
+    (record now { ins = ins; next = 0; outs = outs; journal = part })
+    → Progress (record start { views = views }) new (record now { ins = new_ins; next = 0; outs = new_outs; journal = new_part })

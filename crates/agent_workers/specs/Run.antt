@@ -7,6 +7,7 @@ use Rattle.std.specs.Io.KnownBytes.{Appends}
 use Rattle.account.specs.AccountText.{account_text}
 use Rattle.account.specs.Items.{raw_items, in_hand}
 use Rattle.account.specs.Numbers.{output_numbers}
+use Rattle.metric.specs.declared.metric.Content.{Content}
 use Rattle.account.specs.Setup.{Setup}
 use Rattle.account.specs.declared.entry.Entry.{Entry}
 use Rattle.agent_base.specs.Clocked.{Clocked, Counted}
@@ -17,6 +18,7 @@ use Rattle.journal_text.specs.JournalText.{journal_text}
 use Rattle.pipeline_core.specs.Legal.{IsLegal, has_ended, has_stop}
 use Rattle.pipeline_core.specs.Totals.{totals}
 use Rattle.agent_workers.specs.Input.{IsFull, Gathered, NamesTaken}
+use Rattle.account.specs.Gathers.{gathers}
 use Rattle.account.specs.Dones.{dones, failed_count, LastFailed}
 use Rattle.pipeline_core.specs.Stopped.{behind_stop}
 use Rattle.account.specs.EntryMoments.{gather_moments, counted_moments}
@@ -24,7 +26,8 @@ use Rattle.pipeline_core.specs.Order.{InOrder}
 use Rattle.agent_workers.specs.PipeSetup.{run_setup, journal_setup_of}
 use Rattle.pipeline_core.specs.Sent.{Sent}
 use Rattle.agent_workers.specs.Output.{AppendsSo, batch_text, OutPart}
-use Rattle.agent_workers.specs.Inputs.{InPart}
+use Rattle.agent_workers.specs.Inputs.{InPart, no_in, IsOneOf}
+use Rattle.agent_workers.specs.Reader.{InRule}
 use Rattle.pipeline_core.specs.Worked.{Worked}
 use Rattle.agent_workers.specs.declared.serial.Ending.{Ending}
 use Rattle.agent_workers.specs.declared.input.InState.{InState}
@@ -41,9 +44,30 @@ abbrev pub change : Option (List ℕ) → Option (List ℕ) → ℕ → ℕ → 
 change before after faults_before faults_after = record
     { before = before; after = after; faults_before = faults_before; faults_after = faults_after }
 
--- the change of the place of an input
-abbrev pub in_change : InPart → InPart → Change
-in_change old new = change old.left new.left old.read_faults new.read_faults
+-- an input of a run, seen from outside: by what rule it was read, the change of its place, and the moments of
+-- its clock
+pub record InRun : Type 0 where
+  pub rule : InRule
+  pub place : Change
+  pub moments : Option Moments
+
+-- an input at its beginning and now
+abbrev pub in_run : InPart → InPart → InRun
+in_run old new = record {
+  rule = new.rule;
+  place = change old.left new.left old.read_faults new.read_faults;
+  moments = new.moments;
+}
+
+-- the inputs at their beginning and now
+abbrev pub in_runs : List InPart → List InPart → List InRun
+in_runs [] news = []
+in_runs (old ∷ olds) [] = []
+in_runs (old ∷ olds) (new ∷ news) = in_run old new ∷ in_runs olds news
+
+-- the input at a place
+abbrev pub run_at : List InRun → ℕ → InRun
+run_at ins input = slice_index_or ins input (in_run no_in no_in)
 
 -- the change of the place of an output
 abbrev pub change_at : List Change → ℕ → Change
@@ -69,14 +93,32 @@ text_of setup journal = journal_text (journal_setup_of setup) journal (account_o
 
 -- a read of the input failed: its count rose, and the Gathers name all pieces of the bytes that were taken,
 -- but perhaps that of the last line
-abbrev pub IsCutShort : ℕ → Change → List Entry → Type 0
-IsCutShort number input journal = Rose input.faults_before input.faults_after
-    × Told input.before input.after (NamesTaken journal number)
+abbrev pub IsCutShort : ℕ → InRun → List Entry → Type 0
+IsCutShort number input journal = Rose input.place.faults_before input.place.faults_after
+    × Told input.place.before input.place.after (NamesTaken input.rule (gathers number journal))
 
--- why the input has no Ended: a read failed, 2^40 bytes were taken, or the run is full
-abbrev pub IsUnread : ℕ → ℕ → Change → ℕ → List Entry → Type 0
-IsUnread number most input taken journal = IsCutShort number input journal ⊎ (taken ≡ 2 ^ 40)
-    ⊎ IsFull most journal number input.before input.after
+-- the gathered metrics with the next ones of one of the inputs would reach 2^32
+abbrev pub SomeIsFull : List InRun → List Entry → Type 0
+SomeIsFull ins journal = (number : ℕ) × (number < length ins)
+    × IsFull (run_at ins number).rule journal number (run_at ins number).place.before
+    (run_at ins number).place.after
+
+-- why an input has no Ended: a read failed, 2^40 bytes were taken, or the run is full
+abbrev pub IsUnread : List InRun → ℕ → InRun → ℕ → List Entry → Type 0
+IsUnread ins number input taken journal = IsCutShort number input journal ⊎ (taken ≡ 2 ^ 40)
+    ⊎ SomeIsFull ins journal
+
+-- what a journal says of an input, of which so many bytes were taken
+pub record IsReadFrom (ins : List InRun) (journal : List Entry) (number : ℕ) (input : InRun) (taken : ℕ)
+    : Type 0 where
+  -- the Gathers name the pieces of what was left at the input's place
+  pub gathered : Told input.place.before input.place.after (λ xs ys. Gathered input.rule journal number xs)
+  -- their moments are those of the input's clock
+  pub clocked : IfSome input.moments
+      (λ moments. Clocked moments 0 moments.last (gather_moments number journal))
+  -- so many bytes of the input were taken; it was read to its end, or there is a cause
+  pub bytes_taken : Told input.place.before input.place.after (λ xs ys. length xs ≡ taken + length ys)
+  pub unread : has_ended number journal ≡ false → IsUnread ins number input taken journal
 
 -- what a journal says of an output
 pub record IsSentTo (tries : ℕ) (setup : Setup) (journal : List Entry) (output : ℕ) (place : Change)
@@ -89,44 +131,49 @@ pub record IsSentTo (tries : ℕ) (setup : Setup) (journal : List Entry) (output
   pub left : buffered_at_end setup journal output ≢ 0
       → LastFailed tries (dones output (behind_stop journal))
 
--- A legal journal of a run of one input and any number of outputs, given how many pieces a gather has at
--- most, how often in succession a repeat without an accepted batch is tried at the end, and the moments of
--- the run's clock and of the input's clock.
-pub record IsRun (most tries : ℕ) (setup : Setup) (input : Change) (outputs : List Change)
-    (run_moments input_moments : Option Moments) (journal : List Entry) : Type 0 where
+-- A legal journal of a run that came to its end, given what its outputs' filters give, how often in succession a
+-- repeat without an accepted batch is tried at the end, its inputs and its outputs.
+pub record HasRun (views : List (Content → Option Content)) (tries : ℕ) (setup : Setup) (ins : List InRun)
+    (outputs : List Change) (journal : List Entry) : Type 0 where
   pub legal : IsLegal setup journal
-  -- the Gathers name the pieces of what was left at the input's place
-  pub gathered : Told input.before input.after (λ xs ys. Gathered most journal 0 xs)
+  -- what each input gave was gathered, so many bytes of it
+  pub taken : ℕ → ℕ
+  pub read_from : (number : ℕ) → number < length setup.inputs →
+      IsReadFrom ins journal number (run_at ins number) (taken number)
   -- each output was sent its batches
   pub sent_to : (output : ℕ) → output < length setup.outputs →
       IsSentTo tries setup journal output (change_at outputs output)
-  -- each item was routed as it is
-  pub worked : Worked journal
+  -- each item was routed by the outputs' filters
+  pub worked : Worked views journal
   -- gathering was stopped, and no item is raw or in hand
   pub stopped : has_stop journal ≡ true
   pub none_raw : raw_items journal ≡ []
   pub none_held : in_hand journal ≡ None
-  -- the moments are those of the clocks
+
+-- The same of a run that began with nothing, given the moments of its clock.
+pub record IsRun (views : List (Content → Option Content)) (tries : ℕ) (setup : Setup) (ins : List InRun)
+    (outputs : List Change) (run_moments : Option Moments) (journal : List Entry) : Type 0 where
+  pub has : HasRun views tries setup ins outputs journal
+  -- the moments are those of the run's clock
   pub start : IfSome run_moments (λ moments. setup.start ≡ moments.at 0)
   pub counted : IfSome run_moments
       (λ moments. Counted moments (min 1 moments.last) moments.last setup.start (counted_moments journal))
-  pub clocked : IfSome input_moments (λ moments. Clocked moments 0 moments.last (gather_moments 0 journal))
-  -- so many bytes of the input were taken; it was read to its end, or there is a cause
-  pub taken : ℕ
-  pub bytes_taken : Told input.before input.after (λ xs ys. length xs ≡ taken + length ys)
-  pub unread : has_ended 0 journal ≡ false → IsUnread 0 most input taken journal
-  -- before each Begin all items were routed; before each Gather too, and all was sent or the last put had
-  -- failed
+  -- before each Begin all items were routed; before each Gather those of its input, and all was sent or the
+  -- last put had failed
   pub in_order : InOrder setup journal
 
--- whether the input was read to its end, or why not
-abbrev pub EndsSo : ℕ → ℕ → InState → Change → ℕ → List Entry → Type 0
-EndsSo number most states.Reading input taken journal = ⊥
-EndsSo number most states.Ended input taken journal = (taken < 2 ^ 40) × (has_ended number journal ≡ true)
-EndsSo number most states.Faulted input taken journal = (taken < 2 ^ 40) × (has_ended number journal ≡ false)
-    × IsCutShort number input journal
-EndsSo number most states.LimitReached input taken journal = (has_ended number journal ≡ false)
-    × ((taken ≡ 2 ^ 40) ⊎ IsFull most journal number input.before input.after)
+-- a limit was reached, since the run is full
+abbrev pub RunsFull : Bool → List InRun → List Entry → Type 0
+RunsFull limit ins journal = (limit ≡ true) × SomeIsFull ins journal
+
+-- whether an input was read to its end, or why not
+abbrev pub EndsSo : Bool → List InRun → ℕ → InState → InRun → ℕ → List Entry → Type 0
+EndsSo limit ins number states.Reading input taken journal = RunsFull limit ins journal
+EndsSo limit ins number states.Ended input taken journal = (taken < 2 ^ 40) × (has_ended number journal ≡ true)
+EndsSo limit ins number states.Faulted input taken journal = (taken < 2 ^ 40)
+    × (has_ended number journal ≡ false) × (IsCutShort number input journal ⊎ RunsFull limit ins journal)
+EndsSo limit ins number states.LimitReached input taken journal = (has_ended number journal ≡ false)
+    × ((taken ≡ 2 ^ 40) ⊎ RunsFull limit ins journal)
 
 -- a text was appended; or a part of it, and the count of faults rose
 abbrev pub IsPutSo : Bool → Change → List ℕ → Type 0
@@ -141,13 +188,18 @@ IsLeft false setup journal =
 IsLeft true setup journal =
     (output : ℕ) × (output < length setup.outputs) × (buffered_at_end setup journal output ≢ 0)
 
--- what a run leaves, before its account is reported, given the sizes of its outputs
-pub record Ran (most tries : ℕ) (sizes : List (ℕ × ℕ)) (ending : Ending) (input : Change)
-    (outputs : List Change) (note : Change) (run_moments input_moments : Option Moments) : Type 0 where
+-- what a run leaves, before its account is reported, given how many inputs it has, and the sizes of its outputs
+pub record Ran (views : List (Content → Option Content)) (tries count : ℕ) (sizes : List (ℕ × ℕ)) (ending : Ending) (ins : List InRun)
+    (outputs : List Change) (note : Change) (run_moments : Option Moments) : Type 0 where
   pub start : ℤ
   pub journal : List Entry
-  pub run : IsRun most tries (run_setup sizes start) input outputs run_moments input_moments journal
-  pub ends : EndsSo 0 most ending.state input run.taken journal
-  pub left : IsLeft ending.left (run_setup sizes start) journal
-  pub account : ending.account.items ≡ account_of (run_setup sizes start) journal
-  pub noted : IsPutSo ending.journal_failed note (text_of (run_setup sizes start) journal)
+  pub run : IsRun views tries (run_setup count sizes start) ins outputs run_moments journal
+  -- the states of the inputs; a limit was reached, or a read failed, exactly where one of them says so
+  pub state : ℕ → InState
+  pub ends : (number : ℕ) → number < count →
+      EndsSo ending.limit ins number (state number) (run_at ins number) (run.has.taken number) journal
+  pub limit : IsOneOf states.LimitReached count state ending.limit
+  pub read_fault : IsOneOf states.Faulted count state ending.read_fault
+  pub left : IsLeft ending.left (run_setup count sizes start) journal
+  pub account : ending.account.items ≡ account_of (run_setup count sizes start) journal
+  pub noted : IsPutSo ending.journal_fault note (text_of (run_setup count sizes start) journal)

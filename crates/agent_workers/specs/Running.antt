@@ -1,13 +1,15 @@
 -- What a core keeps between the steps of a run.
 use Rattle.std.specs.Prelude.{◌≡◌, ◌≢◌, ◌<◌, ◌≤◌, ◌+◌, ◌-◌, ◌^◌, ◌⊎◌, ℕ, min, Bool, List, [], true}
 use Rattle.std.specs.Prelude.{false}
-use Rattle.std.specs.Prelude.{length, slice_get, replicate, Result, Ok, Err, ⊤}
+use Rattle.std.specs.Prelude.{length, slice_get, Result, Ok, Err, ⊤}
+use Rattle.std.specs.declared.option.Option.{Option}
 use Rattle.std.specs.declared.option.Option.TheVariants.{Some, None}
 use Rattle.account.specs.Numbers.{output_numbers}
 use Rattle.account.specs.declared.entry.Entry.{Entry}
 use Rattle.out_lane.specs.Lane.{LaneState}
 use Rattle.pipeline_core.specs.CoreState.{CoreState, lane_at}
 use Rattle.pipeline_core.specs.Stands.{Stands}
+use Rattle.pipeline_core.specs.Worked.{views_of}
 use Rattle.pipeline_core.specs.declared.output.Offer.{Offer}
 use Rattle.metric.specs.declared.metric.Content.{Content}
 use Rattle.pipeline_core.specs.declared.routing.Routed.{Routed}
@@ -26,10 +28,24 @@ pub record IsReady (core : CoreState) : Type 0 where
   pub each : (output : ℕ) → output < length core.lanes → IsLaneReady (lane_at core.lanes output)
   pub empty_handed : core.held ≡ None
 
--- the input hasn't ended, and nothing is stopped
-pub record IsReading (input : ℕ) (core : CoreState) : Type 0 where
-  pub reading : slice_get core.ended input ≡ Some false
-  pub going : core.stopped ≡ false
+-- inputs were gathered or ended: the set-up, what is in hand and stopped, what waits at the outputs and their
+-- numbers are as before, and no entry that was stored is lost
+pub record IsGathered (old new : CoreState) : Type 0 where
+  pub setup : new.setup ≡ old.setup
+  pub held : new.held ≡ old.held
+  pub stopped : new.stopped ≡ old.stopped
+  pub lanes : new.lanes ≡ old.lanes
+  pub numbers : new.numbers.outputs ≡ old.numbers.outputs
+  pub stored : length old.stored ≤ length new.stored
+
+-- one input was gathered or ended: the others have ended where they had
+pub record IsGatheredAt (input : ℕ) (old new : CoreState) : Type 0 where
+  pub kept : IsGathered old new
+  pub others : (other : ℕ) → other ≢ input → slice_get new.ended other ≡ slice_get old.ended other
+
+-- a gather was accepted, or items were raw
+abbrev pub HasMoved : CoreState → CoreState → Type 0
+HasMoved old new = (old.raw ≢ []) ⊎ (length old.stored < length new.stored)
 
 -- a lane was offered an item at most: its batch size and its batch in flight are as before
 pub record IsLaneKept (old new : LaneState Offer) : Type 0 where
@@ -40,6 +56,7 @@ pub record IsLaneKept (old new : LaneState Offer) : Type 0 where
 pub record IsRoutable (old new : CoreState) : Type 0 where
   pub setup : new.setup ≡ old.setup
   pub ended : new.ended ≡ old.ended
+  pub gathered : new.gathered ≡ old.gathered
   pub stopped : new.stopped ≡ old.stopped
   pub lane_count : length new.lanes ≡ length old.lanes
   pub each : (output : ℕ) → output < length old.lanes
@@ -61,6 +78,7 @@ pub record IsSentOn (old new : CoreState) : Type 0 where
   pub raw : new.raw ≡ old.raw
   pub held : new.held ≡ old.held
   pub ended : new.ended ≡ old.ended
+  pub gathered : new.gathered ≡ old.gathered
   pub stopped : new.stopped ≡ old.stopped
 
 -- what waits at an output, and its numbers, are as before
@@ -125,7 +143,7 @@ abbrev pub IsLeftOver : Bool → CoreState → Type 0
 IsLeftOver false core = (output : ℕ) → output < length core.setup.outputs → buffered_at core output ≡ 0
 IsLeftOver true core = (output : ℕ) × (output < length core.setup.outputs) × (buffered_at core output ≢ 0)
 
--- an item is routed with itself as its whole and as its only view, at so many outputs
-abbrev pub as_it_is : ℕ → ℕ → Content → Routed
-as_it_is outputs item metric = record
-    { item = item; whole = Some metric; aggs = []; outs = replicate outputs (Some metric) }
+-- an item is routed with itself as its whole, and with what each output's filter gives for it
+abbrev pub routed_by : List (Content → Option Content) → ℕ → Content → Routed
+routed_by views item metric = record
+    { item = item; whole = Some metric; aggs = []; outs = views_of views metric }

@@ -1,25 +1,28 @@
 //! An input: its next pieces, and gathering them.
-ghost use Rattle.std.specs.Prelude.{◌≡◌, ◌<◌, ◌≤◌, ◌+◌, ◌^◌, ◌∷◌, ℤ, [], length, IfOk, OnOk, ◌⊎◌, ℕ, Ok};
-ghost use Rattle.std.specs.Prelude.{Some, None, false, true, slice_get, ◌-◌};
+ghost use Rattle.std.specs.Prelude.{◌≡◌, ◌≢◌, ◌<◌, ◌≤◌, ◌+◌, ◌^◌, ◌∷◌, ℤ, [], length, IfOk, OnOk, ◌⊎◌, Ok};
+ghost use Rattle.std.specs.Prelude.{Some, None, false, true, ◌-◌, All};
 ghost use Rattle.agent_base.specs.Hand.{to_come};
 ghost use Rattle.agent_base.specs.Told.{Told};
 ghost use Rattle.agent_base.specs.Counts.{Rose};
-ghost use Rattle.agent_base.specs.Cut.{TooLong, Whole};
-ghost use Rattle.agent_workers.specs.Groups.{CountsPiece, IsAllRead, ReadsGroup, ReadsNext, IsOffered};
-ghost use Rattle.agent_workers.specs.Groups.{IsEnding, IsGathered};
-ghost use Rattle.agent_workers.specs.Inputs.{in_of, IsSameInput};
-ghost use Rattle.agent_workers.specs.Progress.{ReadsOn};
-ghost use Rattle.agent_workers.specs.Running.{IsReady, IsReading, HasJournal, StillStands};
+ghost use Rattle.metric.specs.Metric.{IsFilledTag};
+ghost use Rattle.pipeline_core.specs.CoreState.{CoreState};
+ghost use Rattle.agent_workers.specs.Groups.{IsAllRead, ReadsGroup, ReadsNext, gathered_of, read_state};
+ghost use Rattle.agent_workers.specs.Inputs.{in_of, ins_of, is_ended, IsSameInput, AreSameInputs, HoldsOwn, HoldsNoEnd};
+ghost use Rattle.agent_workers.specs.Inputs.{FitsInput, AreInputs, IsOut, AreOut, IsMoved, HasMetEnd};
+ghost use Rattle.agent_workers.specs.Inputs.{IsOffered, IsFullOf, OneIsFull, IsOneIn};
+ghost use Rattle.agent_workers.specs.Progress.{ReadsAt, GathersAt, EndsAt, GathersOn};
+ghost use Rattle.agent_workers.specs.Reader.{rule_view};
+ghost use Rattle.agent_workers.specs.Running.{IsReady, HasJournal, StillStands, IsGathered, IsGatheredAt};
+ghost use Rattle.agent_workers.specs.Running.{HasMoved};
 
-use agent_base::{Clock, Piece, PieceFault, Pieces, Source};
+use crate::reading::{Group, ReadRule};
+use agent_base::{Clock, PieceFault, Pieces, Source};
+use agent_config::InFormat;
 use fixed_num::{Moment, OutOfMemory, Seq};
-use line_proto::{LineKind, read_line};
-use metric::Metric;
+use metric::Text;
+use metric_filter::Filter;
 use pipeline_core::{Core, GatherRefused, Gathered};
 use std::alloc::Global;
-
-/// How many metrics a gather has room for from its start.
-const GATHER_ROOM: u32 = 1_000;
 
 /// Whether an input is read on.
 #[derive(Clone, Copy, Debug, PartialEq, Eq)]
@@ -34,53 +37,11 @@ pub enum InState {
     LimitReached,
 }
 
-/// The next pieces of an input, and what they say.
-#[derive(Drop)]
-pub struct Group {
-    /// How many pieces there are.
-    pub pieces: u32,
-    /// How many of them are refused.
-    pub refused: u32,
-    /// The readings of the others, in order.
-    pub metrics: Vec<Metric>,
-}
-
-impl Group {
-    /// Counts a piece that is too long, and so refused.
-    fn refuse(&mut self)
-        requires few { self.old.pieces < 2 ^ 32 - 1 }
-        requires some { self.old.refused ≤ self.old.pieces }
-        ensures counted { (moment : ℤ) → CountsPiece moment TooLong self.old self.new }
-    {
-        self.pieces += 1;
-        self.refused += 1;
-    }
-
-    /// Counts a piece, and keeps what it says at the moment.
-    fn read(&mut self, alloc: Global, piece: &Piece, moment: Moment) -> Result<(), OutOfMemory>
-        requires few { self.old.pieces < 2 ^ 32 - 1 }
-        requires some { self.old.refused ≤ self.old.pieces }
-        ensures counted { OnOk result (CountsPiece moment (Whole piece.now) self.old self.new) }
-    {
-        match read_line(alloc, piece.bytes(), moment) {
-            Ok(Some(metric)) => self.metrics.push(metric)?,
-            Ok(None) => {}
-            Err(fault) => {
-                if fault.kind == LineKind::OutOfMemory {
-                    return Err(OutOfMemory);
-                }
-                self.refused += 1;
-            }
-        }
-        self.pieces += 1;
-        Ok(())
-    }
-}
-
 /// Reads the next piece into the group, and says whether the input is read on: where it is, one piece was
 /// counted, else none. Nothing is promised of the group where memory ran out.
 fn read_next<S: Source>(
     alloc: Global,
+    rule: &ReadRule,
     pieces: &mut Pieces,
     source: &mut S,
     moment: Moment,
@@ -88,9 +49,10 @@ fn read_next<S: Source>(
 ) -> Result<InState, OutOfMemory>
     requires few { group.old.pieces < 2 ^ 32 - 1 }
     requires some { group.old.refused ≤ group.old.pieces }
+    requires filled { All IsFilledTag rule.now.globals.now }
     ensures next { IfOk result
-        (λ state. ReadsNext state moment group.old group.new pieces.old pieces.new (S.left source.old)
-        (S.left source.new)) }
+        (λ state. ReadsNext (rule_view rule.now) state moment group.old group.new pieces.old pieces.new
+        (S.left source.old) (S.left source.new)) }
     ensures all { IfOk result (λ state. state ≡ InState.Ended
         → IsAllRead (S.left source.old) (S.left source.new) pieces.new) }
     ensures failed { IfOk result (λ state. state ≡ InState.Faulted
@@ -106,7 +68,7 @@ fn read_next<S: Source>(
 {
     match pieces.next(source) {
         Ok(Some(piece)) => {
-            group.read(alloc, &piece, moment)?;
+            group.read(alloc, rule, &piece, moment)?;
             Ok(InState::Reading)
         }
         Ok(None) => Ok(InState::Ended),
@@ -120,8 +82,8 @@ fn read_next<S: Source>(
     }
 }
 
-/// Reads the next pieces, at most so many, and says whether the input is read on. A line without a time has
-/// the moment (nanoseconds since 1970) as its time.
+/// Reads the next pieces, at most as many as a gather may have, and says whether the input is read on. A line
+/// without a time has the moment (nanoseconds since 1970) as its time.
 ///
 /// Where the input is read on the group has as many pieces as a gather may have; where it has ended no piece
 /// is left. After a failed read the bytes that were taken are kept in hand, one piece at most. What was read
@@ -129,14 +91,15 @@ fn read_next<S: Source>(
 /// promised where memory ran out.
 pub fn read_group<S: Source>(
     alloc: Global,
+    rule: &ReadRule,
     pieces: &mut Pieces,
     source: &mut S,
     moment: Moment,
-    most: u32,
 ) -> Result<(Group, InState), OutOfMemory>
-    requires some { 1 ≤ most }
+    requires some { 1 ≤ rule.now.most }
+    requires filled { All IsFilledTag rule.now.globals.now }
     ensures reads { IfOk result
-        (λ answer. ReadsGroup most moment answer.0 answer.1 pieces.old pieces.new (S.left source.old)
+        (λ answer. ReadsGroup (rule_view rule.now) moment answer.0 answer.1 pieces.old pieces.new (S.left source.old)
         (S.left source.new)) }
     ensures failed { IfOk result (λ answer. answer.1 ≡ InState.Faulted
         → Rose (S.faults source.old) (S.faults source.new)) }
@@ -150,13 +113,9 @@ pub fn read_group<S: Source>(
         (λ xs ys. pieces.old.taken + length xs ≡ pieces.new.taken + length ys) }
     ensures faults { S.faults source.old ≤ S.faults source.new }
 {
-    let mut group = Group {
-        pieces: 0,
-        refused: 0,
-        metrics: Vec::with_capacity(alloc, most.min(GATHER_ROOM) as usize)?,
-    };
-    for _piece in 0..most {
-        let state = read_next(alloc, pieces, source, moment, &mut group)?;
+    let mut group = Group::new(alloc, rule.most)?;
+    for _piece in 0..rule.most {
+        let state = read_next(alloc, rule, pieces, source, moment, &mut group)?;
         if state != InState::Reading {
             return Ok((group, state));
         }
@@ -164,59 +123,36 @@ pub fn read_group<S: Source>(
     Ok((group, InState::Reading))
 }
 
-/// Offers a group to the core, unless it has no piece, and says whether there was room for it. While no item
-/// is raw, the core has none only where the run is full.
-fn offer(core: &mut Core, input: u32, moment: Moment, group: Group) -> Result<bool, OutOfMemory>
-    requires ready { IsReady core.old }
-    requires known { input < length core.old.setup.inputs }
-    requires reading { IsReading input core.old }
-    requires none_raw { core.old.raw ≡ [] }
-    requires stands { HasJournal core.old }
-    ensures ready { OnOk result (IsReady core.new) }
-    ensures reading { OnOk result (IsReading input core.new) }
-    ensures setup { OnOk result (core.new.setup ≡ core.old.setup) }
-    ensures stands { StillStands result core.new }
-    ensures offered { IfOk result (λ accepted. IsOffered input accepted moment group core.old core.new) }
+/// A group as the core gathers it, where it has a piece.
+fn gathered_of(input: u32, moment: Moment, group: Group) -> Option<Gathered>
+    ensures none { group.pieces ≡ 0 → result ≡ None }
+    ensures some { 0 < group.pieces → result ≡ Some (gathered_of input moment group) }
 {
     if group.pieces == 0 {
-        return Ok(true);
+        return None;
     }
-    let gathered = Gathered {
+    Some(Gathered {
         input,
         moment,
         pieces: group.pieces,
         refused: group.refused,
-        passed: 0,
-        filtered: 0,
+        passed: group.passed,
+        filtered: group.filtered,
         metrics: Seq::of(group.metrics),
-    };
-    match core.gather(gathered) {
-        Ok(()) => Ok(true),
-        Err(GatherRefused::OutOfMemory) => Err(OutOfMemory),
-        Err(GatherRefused::RunFull(_)) => Ok(false),
-        Err(GatherRefused::HeldUndelivered(_)) => Ok(false),
-        Err(GatherRefused::HeldRaw(_)) => Ok(false),
-    }
+    })
 }
 
-/// Notes the end of the input, where it was reached.
-fn end_input(core: &mut Core, input: u32, state: InState) -> Result<(), OutOfMemory>
-    requires ready { IsReady core.old }
-    requires known { input < length core.old.setup.inputs }
-    requires reading { IsReading input core.old }
-    requires stands { HasJournal core.old }
-    ensures ready { OnOk result (IsReady core.new) }
-    ensures reading { OnOk result (state ≡ InState.Reading → IsReading input core.new) }
-    ensures going { OnOk result (core.new.stopped ≡ false) }
-    ensures setup { OnOk result (core.new.setup ≡ core.old.setup) }
-    ensures stands { StillStands result core.new }
-    ensures ending { OnOk result (IsEnding input state core.old core.new) }
+/// Whether an input is read on after a read. That its end was met isn't remembered: the next read meets it
+/// again.
+fn read_state(state: InState) -> InState
+    ensures { result ≡ read_state state }
 {
-    if state != InState::Ended {
-        return Ok(());
+    match state {
+        InState::Reading => InState::Reading,
+        InState::Ended => InState::Reading,
+        InState::Faulted => InState::Faulted,
+        InState::LimitReached => InState::LimitReached,
     }
-    core.ended(input)?;
-    Ok(())
 }
 
 /// An input of a run.
@@ -228,53 +164,244 @@ pub struct InJob<S: Drop, C: Drop> {
     pub source: S,
     /// What was taken of it and isn't given yet.
     pub pieces: Pieces,
-    /// What gives the moments of its gathers.
-    pub clock: C,
+    /// Its format.
+    pub format: InFormat,
+    /// The tags that each metric gets that lacks them.
+    pub globals: Seq<(Text, Text)>,
     /// How many pieces one gather has at most.
     pub gather_pieces: u32,
+    /// What is kept of its metrics, once they have these tags.
+    pub filter: Filter,
+    /// What gives the moments of its gathers.
+    pub clock: C,
+    /// The most groups that it has undelivered; none, since no input is tracked.
+    pub limit: Option<u32>,
+    /// What was read and isn't gathered yet.
+    pub held: Option<Gathered>,
     /// Whether it is read on.
     pub state: InState,
 }
 
-/// Gathers the next pieces of an input that is read on.
-pub fn gather<S: Source + Drop, C: Clock + Drop>(
+/// Reads the next group of an input that holds nothing. It is held then, where it has a piece. Says whether the
+/// end was met.
+fn read_on<S: Source + Drop, C: Clock + Drop>(
+    alloc: Global,
+    job: &mut InJob<S, C>,
+) -> Result<bool, OutOfMemory>
+    requires some { 1 ≤ job.old.gather_pieces }
+    requires filled { All IsFilledTag job.old.globals }
+    requires reading { job.old.state ≡ InState.Reading }
+    requires free { job.old.held ≡ None }
+    ensures reads { OnOk result ((core : CoreState) → ReadsAt core core (in_of S.left S.faults C.moments C.place job.old) (in_of S.left S.faults C.moments C.place job.new)) }
+    ensures met { IfOk result (λ met. met ≡ true → HasMetEnd (in_of S.left S.faults C.moments C.place job.old) (in_of S.left S.faults C.moments C.place job.new)) }
+    ensures moved { IfOk result (λ met. met ≡ false → IsMoved (in_of S.left S.faults C.moments C.place job.new)) }
+    ensures own { OnOk result (HoldsOwn (in_of S.left S.faults C.moments C.place job.new)) }
+    ensures unended { OnOk result (job.new.state ≢ InState.Ended) }
+    ensures same { IsSameInput (in_of S.left S.faults C.moments C.place job.old) (in_of S.left S.faults C.moments C.place job.new) }
+{
+    let moment = job.clock.now();
+    let rule = ReadRule::new(job.format, &job.globals, &job.filter, job.gather_pieces);
+    let (group, state) = read_group(alloc, &rule, &mut job.pieces, &mut job.source, moment)?;
+    job.held = gathered_of(job.input, moment, group);
+    job.state = read_state(state);
+    Ok(state == InState::Ended)
+}
+
+/// Reads the next group of an input that is read on and holds nothing, and says whether the end was met.
+fn read_where_free<S: Source + Drop, C: Clock + Drop>(
+    alloc: Global,
+    job: &mut InJob<S, C>,
+) -> Result<bool, OutOfMemory>
+    requires some { 1 ≤ job.old.gather_pieces }
+    requires filled { All IsFilledTag job.old.globals }
+    requires own { HoldsOwn (in_of S.left S.faults C.moments C.place job.old) }
+    requires none_held { HoldsNoEnd job.old.state job.old.held }
+    ensures reads { OnOk result ((core : CoreState) → ReadsAt core core (in_of S.left S.faults C.moments C.place job.old) (in_of S.left S.faults C.moments C.place job.new)) }
+    ensures met { IfOk result (λ met. met ≡ true → HasMetEnd (in_of S.left S.faults C.moments C.place job.old) (in_of S.left S.faults C.moments C.place job.new)) }
+    ensures moved { IfOk result (λ met. met ≡ false → IsMoved (in_of S.left S.faults C.moments C.place job.new)) }
+    ensures own { OnOk result (HoldsOwn (in_of S.left S.faults C.moments C.place job.new)) }
+    ensures none_held { OnOk result (HoldsNoEnd job.new.state job.new.held) }
+    ensures ended { OnOk result (is_ended job.new.state ≡ is_ended job.old.state) }
+    ensures same { IsSameInput (in_of S.left S.faults C.moments C.place job.old) (in_of S.left S.faults C.moments C.place job.new) }
+{
+    if job.state != InState::Reading || job.held.is_some() {
+        return Ok(false);
+    }
+    read_on(alloc, job)
+}
+
+/// Offers what an input holds to the core, and says whether the run is full. It holds it still, where it wasn't
+/// accepted; and where the run is full it is read no more.
+fn offer<S: Source + Drop, C: Clock + Drop>(
+    core: &mut Core,
+    job: &mut InJob<S, C>,
+) -> Result<bool, OutOfMemory>
+    requires ready { IsReady core.old }
+    requires fits { FitsInput job.old.input core.old.ended (in_of S.left S.faults C.moments C.place job.old) }
+    requires going { core.old.stopped ≡ false }
+    requires stands { HasJournal core.old }
+    ensures ready { OnOk result (IsReady core.new) }
+    ensures stands { StillStands result core.new }
+    ensures kept { OnOk result (IsGatheredAt job.old.input core.old core.new) }
+    ensures ended { OnOk result (core.new.ended ≡ core.old.ended) }
+    ensures part { OnOk result (IsOffered (in_of S.left S.faults C.moments C.place job.old) (in_of S.left S.faults C.moments C.place job.new)) }
+    ensures fits { OnOk result (FitsInput job.old.input core.new.ended (in_of S.left S.faults C.moments C.place job.new)) }
+    ensures full { IfOk result (λ full. full ≡ true → IsFullOf core.new.gathered
+        (in_of S.left S.faults C.moments C.place job.new)) }
+    ensures room { IfOk result (λ full. full ≡ false → job.new.state ≡ job.old.state) }
+    ensures moved { IfOk result (λ full. full ≡ false → (job.old.held ≢ None)
+        → HasMoved core.old core.new) }
+    ensures none { job.old.held ≡ None → job.new.held ≡ None }
+    ensures same { IsSameInput (in_of S.left S.faults C.moments C.place job.old) (in_of S.left S.faults C.moments C.place job.new) }
+    ensures gathers { OnOk result (GathersAt core.old core.new (in_of S.left S.faults C.moments C.place job.old) (in_of S.left S.faults C.moments C.place job.new)) }
+{
+    let gathered = match job.held.take() {
+        Some(gathered) => gathered,
+        None => return Ok(false),
+    };
+    match core.gather(gathered) {
+        Ok(()) => Ok(false),
+        Err(GatherRefused::OutOfMemory) => Err(OutOfMemory),
+        Err(GatherRefused::RunFull(back)) => {
+            job.held = Some(back);
+            job.state = InState::LimitReached;
+            Ok(true)
+        }
+        Err(GatherRefused::HeldUndelivered(back)) => {
+            job.held = Some(back);
+            Ok(false)
+        }
+        Err(GatherRefused::HeldRaw(back)) => {
+            job.held = Some(back);
+            Ok(false)
+        }
+    }
+}
+
+/// Notes the end of an input, where it was met and nothing is held.
+fn end_where_met<S: Source + Drop, C: Clock + Drop>(
+    core: &mut Core,
+    job: &mut InJob<S, C>,
+    met: bool,
+) -> Result<(), OutOfMemory>
+    requires ready { IsReady core.old }
+    requires fits { FitsInput job.old.input core.old.ended (in_of S.left S.faults C.moments C.place job.old) }
+    requires going { core.old.stopped ≡ false }
+    requires stands { HasJournal core.old }
+    ensures ready { OnOk result (IsReady core.new) }
+    ensures stands { StillStands result core.new }
+    ensures kept { OnOk result (IsGatheredAt job.old.input core.old core.new) }
+    ensures fits { OnOk result (FitsInput job.old.input core.new.ended (in_of S.left S.faults C.moments C.place job.new)) }
+    ensures held { job.new.held ≡ job.old.held }
+    ensures ends { OnOk result (EndsAt met core.old core.new (in_of S.left S.faults C.moments C.place job.old) (in_of S.left S.faults C.moments C.place job.new)) }
+    ensures out { OnOk result (met ≡ true → job.old.held ≡ None → job.old.state ≡ InState.Reading
+        → job.new.state ≡ InState.Ended) }
+    ensures unmet { OnOk result (met ≡ false → job.new.state ≡ job.old.state) }
+    ensures same { IsSameInput (in_of S.left S.faults C.moments C.place job.old) (in_of S.left S.faults C.moments C.place job.new) }
+{
+    if !met || job.held.is_some() || job.state != InState::Reading {
+        return Ok(());
+    }
+    core.ended(job.input)?;
+    job.state = InState::Ended;
+    Ok(())
+}
+
+/// The turn of an input in a round. Where it is read on and holds nothing, it is read; what it holds is offered;
+/// and where this turn met the end and nothing is held, the end is noted. Says whether the run is full.
+fn turn<S: Source + Drop, C: Clock + Drop>(
     alloc: Global,
     core: &mut Core,
     job: &mut InJob<S, C>,
-) -> Result<(), OutOfMemory>
-    requires some { 1 ≤ job.old.gather_pieces }
-    requires read { job.old.state ≡ InState.Reading }
+) -> Result<bool, OutOfMemory>
     requires ready { IsReady core.old }
-    requires known { job.old.input < length core.old.setup.inputs }
-    requires reading { IsReading job.old.input core.old }
-    requires none_raw { core.old.raw ≡ [] }
+    requires fits { FitsInput job.old.input core.old.ended (in_of S.left S.faults C.moments C.place job.old) }
+    requires going { core.old.stopped ≡ false }
     requires stands { HasJournal core.old }
     ensures ready { OnOk result (IsReady core.new) }
-    ensures reading { OnOk result (job.new.state ≡ InState.Reading → IsReading job.old.input core.new) }
-    ensures further { OnOk result (job.new.state ≡ InState.Reading
-        → IsGathered job.old.input job.old.gather_pieces core.old core.new) }
-    ensures going { OnOk result (core.new.stopped ≡ false) }
-    ensures setup { OnOk result (core.new.setup ≡ core.old.setup) }
     ensures stands { StillStands result core.new }
-    ensures reads { OnOk result (ReadsOn core.old core.new
-        (in_of S.left S.faults C.moments C.place job.old)
+    ensures kept { OnOk result (IsGatheredAt job.old.input core.old core.new) }
+    ensures fits { OnOk result (FitsInput job.old.input core.new.ended (in_of S.left S.faults C.moments C.place job.new)) }
+    ensures full { IfOk result (λ full. full ≡ true → IsFullOf core.new.gathered
         (in_of S.left S.faults C.moments C.place job.new)) }
-    ensures same { IsSameInput (in_of S.left S.faults C.moments C.place job.old)
-        (in_of S.left S.faults C.moments C.place job.new) }
+    ensures moved { IfOk result (λ full. full ≡ false
+        → IsOut (in_of S.left S.faults C.moments C.place job.new) ⊎ HasMoved core.old core.new) }
+    ensures gathers { OnOk result (GathersAt core.old core.new (in_of S.left S.faults C.moments C.place job.old) (in_of S.left S.faults C.moments C.place job.new)) }
+    ensures same { IsSameInput (in_of S.left S.faults C.moments C.place job.old) (in_of S.left S.faults C.moments C.place job.new) }
 {
-    let moment = job.clock.now();
-    let (group, state) = read_group(
-        alloc,
-        &mut job.pieces,
-        &mut job.source,
-        moment,
-        job.gather_pieces,
-    )?;
-    if !offer(core, job.input, moment, group)? {
-        job.state = InState::LimitReached;
-        return Ok(());
+    let met = read_where_free(alloc, job)?;
+    if offer(core, job)? {
+        return Ok(true);
     }
-    end_input(core, job.input, state)?;
-    job.state = state;
-    Ok(())
+    end_where_met(core, job, met)?;
+    Ok(false)
+}
+
+/// One turn of each input in order, until the run is full; says whether it is.
+pub fn gather_each<S: Source + Drop, C: Clock + Drop>(
+    alloc: Global,
+    core: &mut Core,
+    inputs: &mut [InJob<S, C>],
+) -> Result<bool, OutOfMemory>
+    requires ready { IsReady core.old }
+    requires inputs { AreInputs (length core.old.setup.inputs) core.old.ended
+        (ins_of S.left S.faults C.moments C.place inputs.old) }
+    requires going { core.old.stopped ≡ false }
+    requires stands { HasJournal core.old }
+    ensures ready { OnOk result (IsReady core.new) }
+    ensures stands { StillStands result core.new }
+    ensures kept { OnOk result (IsGathered core.old core.new) }
+    ensures inputs { OnOk result (AreInputs (length core.old.setup.inputs) core.new.ended
+        (ins_of S.left S.faults C.moments C.place inputs.new)) }
+    ensures full { IfOk result (λ full. full ≡ true → OneIsFull core.new.gathered
+        (ins_of S.left S.faults C.moments C.place inputs.new)) }
+    ensures gathers { OnOk result (GathersOn core.old core.new
+        (ins_of S.left S.faults C.moments C.place inputs.old)
+        (ins_of S.left S.faults C.moments C.place inputs.new)) }
+    ensures same { OnOk result (AreSameInputs (ins_of S.left S.faults C.moments C.place inputs.old)
+        (ins_of S.left S.faults C.moments C.place inputs.new)) }
+    ensures count { length inputs.new ≡ length inputs.old }
+{
+    for job in inputs.iter_mut() {
+        if turn(alloc, core, job)? {
+            return Ok(true);
+        }
+    }
+    Ok(false)
+}
+
+/// Whether each input is read no more and holds nothing.
+pub fn are_out<S: Source + Drop, C: Clock + Drop>(inputs: &[InJob<S, C>]) -> bool
+    ensures { result ≡ true → AreOut (ins_of S.left S.faults C.moments C.place inputs.now) }
+{
+    for job in inputs {
+        if job.state == InState::Reading || job.held.is_some() {
+            return false;
+        }
+    }
+    true
+}
+
+/// Whether a limit was reached at an input.
+pub fn has_limit<S: Source + Drop, C: Clock + Drop>(inputs: &[InJob<S, C>]) -> bool
+    ensures { IsOneIn InState.LimitReached (ins_of S.left S.faults C.moments C.place inputs.now) result }
+{
+    for job in inputs {
+        if job.state == InState::LimitReached {
+            return true;
+        }
+    }
+    false
+}
+
+/// Whether a read of an input failed.
+pub fn has_fault<S: Source + Drop, C: Clock + Drop>(inputs: &[InJob<S, C>]) -> bool
+    ensures { IsOneIn InState.Faulted (ins_of S.left S.faults C.moments C.place inputs.now) result }
+{
+    for job in inputs {
+        if job.state == InState::Faulted {
+            return true;
+        }
+    }
+    false
 }

@@ -259,7 +259,8 @@ pub fn note<K: Sink + Drop>(
 
 /// The entries since the last cut.
 pub fn last_entries(alloc: Global, core: &mut Core) -> Result<Vec<Entry>, OutOfMemory>
-    ensures { IfOk result (λ entries. entries.items ≡ core.old.stored) }
+    ensures entries { IfOk result (λ entries. entries.items ≡ core.old.stored) }
+    ensures cut { OnOk result (core.new ≡ after_cut core.old) }
 {
     match core.cut() {
         Ok(entries) => Ok(entries),

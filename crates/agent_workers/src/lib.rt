@@ -6,9 +6,12 @@ mod input;
 mod item;
 mod journal;
 mod output;
+mod reading;
 mod serial;
 mod setup;
 
 pub use input::{InJob, InState};
+pub use item::ProcJob;
+pub use journal::JournalJob;
 pub use output::OutJob;
-pub use serial::{Ending, RunSetup, run, run_one};
+pub use serial::{Ending, Makings, Parts, RunSetup, finish, run, run_one, set_up};

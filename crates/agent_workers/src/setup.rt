@@ -1,9 +1,9 @@
 //! What a run and its journal are about.
-ghost use Rattle.std.specs.Prelude.{◌≡◌, ◌≤◌, ◌∷◌, ℕ, [], false, All, length, map, IfOk};
+ghost use Rattle.std.specs.Prelude.{◌≡◌, ◌≤◌, ℕ, [], false, All, length, map, replicate, IfOk};
 ghost use Rattle.pipeline_core.specs.CoreState.{CoreState, setup_of, sizes};
 ghost use Rattle.pipeline_core.specs.Stands.{Stands};
 ghost use Rattle.agent_workers.specs.PipeSetup.{run_setup, journal_setup_of};
-ghost use Rattle.agent_workers.specs.Running.{IsReady, IsReading, buffered_at};
+ghost use Rattle.agent_workers.specs.Running.{IsReady, buffered_at};
 
 use fixed_num::{Moment, OutOfMemory, Seq};
 use journal_text::JournalSetup;
@@ -35,51 +35,65 @@ fn copies_of(alloc: Global, outputs: &[OutSetup]) -> Result<Vec<OutSetup>, OutOf
 /// What the journal is about.
 pub fn journal_setup(
     alloc: Global,
+    inputs: usize,
     outputs: &[OutSetup],
     start: Moment,
 ) -> Result<JournalSetup, OutOfMemory>
-    ensures { IfOk result (λ setup. setup ≡ journal_setup_of (run_setup (map sizes outputs.now) start)) }
+    ensures { IfOk result
+        (λ setup. setup ≡ journal_setup_of (run_setup inputs (map sizes outputs.now) start)) }
 {
     Ok(JournalSetup {
         start,
-        inputs: Seq::of(vec![in alloc; None]?),
+        inputs: Seq::of(vec![in alloc; None; inputs]?),
         aggs: Seq::of(Vec::new(alloc)),
         outputs: Seq::of(sizes_of(alloc, outputs)?),
     })
 }
 
-/// The set-up of the core: one input, which isn't tracked, and the outputs.
-fn core_setup(alloc: Global, outputs: &[OutSetup], start: Moment) -> Result<CoreSetup, OutOfMemory>
-    ensures setup { IfOk result (λ setup. setup_of setup ≡ run_setup (map sizes outputs.now) start) }
+/// The set-up of the core: so many inputs, none of which is tracked, and the outputs.
+fn core_setup(
+    alloc: Global,
+    inputs: usize,
+    outputs: &[OutSetup],
+    start: Moment,
+) -> Result<CoreSetup, OutOfMemory>
+    ensures setup { IfOk result
+        (λ setup. setup_of setup ≡ run_setup inputs (map sizes outputs.now) start) }
     ensures inputs { IfOk result
-        (λ setup. setup.inputs ≡ record { tracked = false; max_undelivered = 0 } ∷ []) }
+        (λ setup. setup.inputs ≡ replicate inputs (record { tracked = false; max_undelivered = 0 })) }
     ensures outputs { IfOk result (λ setup. setup.outputs ≡ outputs.now) }
 {
+    let plain = InSetup {
+        tracked: false,
+        max_undelivered: 0,
+    };
     Ok(CoreSetup {
-        inputs: Seq::of(vec![in alloc;
-            InSetup {
-                tracked: false,
-                max_undelivered: 0,
-            },
-        ]?),
+        inputs: Seq::of(vec![in alloc; plain; inputs]?),
         outputs: Seq::of(copies_of(alloc, outputs)?),
         start,
     })
 }
 
 /// A core in which nothing happened.
-pub fn new_core(alloc: Global, outputs: &[OutSetup], start: Moment) -> Result<Core, OutOfMemory>
+pub fn new_core(
+    alloc: Global,
+    inputs: usize,
+    outputs: &[OutSetup],
+    start: Moment,
+) -> Result<Core, OutOfMemory>
+    requires few_inputs { inputs ≤ 16 }
     requires few { length outputs.now ≤ 16 }
     requires sizes { All (λ x. (1 ≤ x.batch) × (x.batch ≤ x.limit)) outputs.now }
     ensures ready { IfOk result (λ core. IsReady core) }
-    ensures reading { IfOk result (λ core. IsReading 0 core) }
+    ensures reading { IfOk result (λ core. core.ended ≡ replicate inputs false) }
+    ensures going { IfOk result (λ core. core.stopped ≡ false) }
     ensures none_raw { IfOk result (λ core. core.raw ≡ []) }
     ensures none_buffered { IfOk result (λ core. (output : ℕ) → buffered_at core output ≡ 0) }
     ensures stands { IfOk result (λ core. Stands core []) }
-    ensures setup { IfOk result (λ core. core.setup ≡ run_setup (map sizes outputs.now) start) }
+    ensures setup { IfOk result (λ core. core.setup ≡ run_setup inputs (map sizes outputs.now) start) }
     ensures stored { IfOk result (λ core. core.stored ≡ []) }
 {
-    let setup = core_setup(alloc, outputs, start)?;
+    let setup = core_setup(alloc, inputs, outputs, start)?;
     let core = Core::new(alloc, setup)?;
     Ok(core)
 }

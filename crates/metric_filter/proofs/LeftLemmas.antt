@@ -6,12 +6,12 @@ use Rattle.std.proofs.lemmas.List.{drop_more, drop_all, append-nil}
 use Rattle.metric.specs.declared.glob.Element.{Element}
 use Rattle.metric.specs.declared.metric.Content.{Content}
 use Rattle.metric_filter.specs.declared.rules.FilterRules.{FilterRules}
-use Rattle.metric_filter.specs.Filter.{keeps, keeps_each, kept, left}
+use Rattle.metric_filter.specs.Filter.{applied, has_no_rule, keeps, keeps_each, kept, left, selects, with_fields}
 use Rattle.metric.specs.Metric.{IsMetric}
 use Rattle.metric.proofs.KeptLemmas.{kept as is_kept}
 use Rattle.std.specs.Prelude.{◌==◌}
-use Rattle.std.proofs.lemmas.Bool.{eqb-false}
-use Rattle.std.proofs.Common.{arith, subst, ℤ}
+use Rattle.std.proofs.lemmas.Bool.{eqb-false, eqb-true, ne_eqb}
+use Rattle.std.proofs.Common.{arith, subst, ℤ, suc, Some}
 use Rattle.metric.specs.declared.value.Value.{Value}
 
 module _ {X : Type 0} (include exclude : List (List Element)) where
@@ -84,3 +84,33 @@ pub kept_carried : {X : Type 0} (made : List (List ℕ × X))
 kept_carried made include include' exclude exclude' pairs pairs' e i x p =
     e ∙ (ap (λ i. kept i exclude pairs) i ∙ ap (λ x. kept include' x pairs) x
     ∙ ap (λ p. kept include' exclude' p) p)
+
+-- ---- a filter without rules
+
+none_of : {X : Type 0} (xs : List X) → (length xs == 0) ≡ true → xs ≡ []
+none_of [] e = refl
+none_of (x ∷ xs) e = let z : suc (length xs) ≡ 0 = eqb-true (suc (length xs)) 0 e in absurd (omega (arith, z))
+
+all_kept : {X : Type 0} (pairs : List (List ℕ × X)) → keeps_each [] [] pairs ≡ true
+all_kept [] = refl
+all_kept (pair ∷ pairs) = all_kept pairs
+
+-- gives each metric as it is
+pub no_rule_applied : (rules : FilterRules) (m : Content) → has_no_rule rules ≡ true → 0 < length m.fields
+    → applied rules m ≡ Some m
+no_rule_applied rules m h some =
+    let a = and_parts _ (length rules.tagexclude == 0) h in
+    let b = and_parts _ (length rules.taginclude == 0) a.0 in
+    let c = and_parts _ (length rules.fieldexclude == 0) b.0 in
+    let d = and_parts _ (length rules.fieldinclude == 0) c.0 in
+    let e = and_parts _ (length rules.tagdrop == 0) d.0 in
+    let f = and_parts _ (length rules.tagpass == 0) e.0 in
+    let g = and_parts (length rules.namepass == 0) (length rules.namedrop == 0) f.0 in
+    let selected : selects rules m ≡ true =
+    rw (none_of rules.namepass g.0, none_of rules.namedrop g.1, none_of rules.tagpass f.1, none_of rules.tagdrop e.1) refl in
+    let fields : keeps_each rules.fieldinclude rules.fieldexclude m.fields ≡ true =
+    rw (none_of rules.fieldinclude d.1, none_of rules.fieldexclude c.1) (all_kept m.fields) in
+    let tags : keeps_each rules.taginclude rules.tagexclude m.tags ≡ true =
+    rw (none_of rules.taginclude b.1, none_of rules.tagexclude a.1) (all_kept m.tags) in
+    let filled : (length m.fields == 0) ≡ false = ne_eqb (length m.fields) 0 (λ z. absurd (omega (arith, z, some))) in
+    rw selected (ap with_fields (left_whole rules m fields tags) ∙ rw filled refl)

@@ -1,5 +1,5 @@
 -- What a filter lets pass, and what it leaves of it.
-use Rattle.std.specs.Prelude.{◌==◌, ◌&&◌, ◌||◌, ℕ, Bool, false, not, List, length, filter, chars}
+use Rattle.std.specs.Prelude.{◌==◌, ◌&&◌, ◌||◌, ℕ, Bool, false, not, List, [], length, filter, chars}
 use Rattle.std.specs.Prelude.{Option, Some, None, if◌then◌else◌}
 use Rattle.std.specs.List.{list_any, list_all}
 use Rattle.metric.specs.Glob.{matches}
@@ -64,3 +64,28 @@ with_fields m = if length m.fields == 0 then None else Some m
 -- what a filter makes of a metric: nothing where it doesn't select it or leaves no field
 abbrev pub applied : FilterRules → Content → Option Content
 applied rules m = if selects rules m then with_fields (left rules m) else None
+
+-- the rules of a filter that has none
+abbrev pub no_rules : FilterRules
+no_rules = record {
+  namepass = [];
+  namedrop = [];
+  fieldinclude = [];
+  fieldexclude = [];
+  taginclude = [];
+  tagexclude = [];
+  tagpass = [];
+  tagdrop = [];
+}
+
+-- has a filter no rule
+abbrev pub has_no_rule : FilterRules → Bool
+has_no_rule rules =
+    length rules.namepass == 0 && length rules.namedrop == 0
+    && length rules.tagpass == 0 && length rules.tagdrop == 0
+    && length rules.fieldinclude == 0 && length rules.fieldexclude == 0
+    && length rules.taginclude == 0 && length rules.tagexclude == 0
+
+-- the result of a filter for a metric: where it has no rule the metric as it is
+abbrev pub filtered : FilterRules → Content → Option Content
+filtered rules m = if has_no_rule rules then Some m else applied rules m

@@ -1,10 +1,10 @@
 //! Filters.
 ghost use Rattle.std.specs.Prelude.{◌≡◌, IfOk};
-ghost use Rattle.metric_filter.specs.Filter.{applied, selects};
+ghost use Rattle.metric_filter.specs.Filter.{applied, filtered, has_no_rule, no_rules, selects};
 
 use crate::left::{keeps_all, left};
 use crate::rules::{FilterRules, passes, some_matches, some_tag, tags_pass};
-use fixed_num::OutOfMemory;
+use fixed_num::{OutOfMemory, Seq};
 use metric::Metric;
 use std::alloc::Global;
 use std::marker::Model;
@@ -30,6 +30,25 @@ impl Filter {
         ensures { result ≡ rules }
     {
         Filter { alloc, rules }
+    }
+
+    /// The filter without rules.
+    pub fn without_rules(alloc: Global) -> Filter
+        ensures { result ≡ no_rules }
+    {
+        Filter::new(
+            alloc,
+            FilterRules {
+                namepass: Seq::of(Vec::new(alloc)),
+                namedrop: Seq::of(Vec::new(alloc)),
+                fieldinclude: Seq::of(Vec::new(alloc)),
+                fieldexclude: Seq::of(Vec::new(alloc)),
+                taginclude: Seq::of(Vec::new(alloc)),
+                tagexclude: Seq::of(Vec::new(alloc)),
+                tagpass: Seq::of(Vec::new(alloc)),
+                tagdrop: Seq::of(Vec::new(alloc)),
+            },
+        )
     }
 
     /// Does the metric pass by its name and tags? It does where its name passes namepass and isn't dropped by
@@ -59,5 +78,32 @@ impl Filter {
             return Ok(Some(m.copy()?));
         }
         left(self.alloc, rules, m)
+    }
+
+    /// Has the filter no rule?
+    pub fn has_no_rule(&self) -> bool
+        ensures { result ≡ has_no_rule self.now }
+    {
+        let rules = &self.rules;
+        rules.namepass.as_slice().is_empty()
+            && rules.namedrop.as_slice().is_empty()
+            && rules.tagpass.as_slice().is_empty()
+            && rules.tagdrop.as_slice().is_empty()
+            && rules.fieldinclude.as_slice().is_empty()
+            && rules.fieldexclude.as_slice().is_empty()
+            && rules.taginclude.as_slice().is_empty()
+            && rules.tagexclude.as_slice().is_empty()
+    }
+
+    /// What `apply` gives for the metric, which is given up; where the filter has no rule that is the metric itself.
+    pub fn apply_to(&self, m: Metric) -> Result<Option<Metric>, OutOfMemory>
+        ensures filtered { IfOk result (λ answer. answer ≡ filtered self.now m) }
+        ensures applied { IfOk result (λ answer. answer ≡ applied self.now m) }
+    {
+        m.is_metric();
+        if self.has_no_rule() {
+            return Ok(Some(m));
+        }
+        self.apply(&m)
     }
 }

@@ -78,7 +78,7 @@ fn kept_fields(
         if !keeps(include, exclude, key) {
             continue;
         }
-        left.push((Text::of(alloc, key)?, copy_of(alloc, &field.1)?))?;
+        left.push((Text::of(alloc, key)?, field.1.copy(alloc)?))?;
     }
     Ok(left)
 }
@@ -101,17 +101,4 @@ fn kept_tags(
         left.push((Text::of(alloc, key)?, Text::of(alloc, tag.1.as_str())?))?;
     }
     Ok(left)
-}
-
-/// An equal value.
-fn copy_of(alloc: Global, value: &Value) -> Result<Value, OutOfMemory>
-    ensures { IfOk result (λ copy. copy ≡ value.now) }
-{
-    Ok(match value {
-        Value::Int(n) => Value::Int(*n),
-        Value::Uint(n) => Value::Uint(*n),
-        Value::Fixed(n) => Value::Fixed(*n),
-        Value::Bool(b) => Value::Bool(*b),
-        Value::Text(text) => Value::Text(Text::of(alloc, text.as_str())?),
-    })
 }

@@ -16,3 +16,4 @@ pub mod RouteLemmas
 pub mod OrderLemmas
 pub mod SentLemmas
 pub mod WorkedLemmas
+pub mod RawLemmas

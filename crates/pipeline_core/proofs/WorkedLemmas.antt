@@ -1,7 +1,6 @@
 -- What the processors made of each item, with one entry more.
 use Rattle.std.proofs.Common.{◌≡◌, ℕ, zero, suc, List, [], ◌∷◌, ◌++◌, drop, refl, sym, ap, ◌∙◌, subst}
 use Rattle.std.specs.Prelude.{slice_get}
-use Rattle.std.specs.List.{AllByRecursion}
 use Rattle.std.specs.declared.option.Option.{Option}
 use Rattle.std.specs.declared.option.Option.TheVariants.{Some, None}
 use Rattle.metric.specs.declared.metric.Content.{Content}
@@ -13,7 +12,7 @@ use Rattle.account.specs.declared.entry.Verdict.{Verdict}
 use Rattle.pipeline_core.specs.CoreState.{CoreState}
 use Rattle.pipeline_core.specs.Stands.{Stands}
 use Rattle.account.proofs.ItemLemmas.{items-push}
-use Rattle.pipeline_core.specs.Worked.{WorkedBy, AreWorked, Worked}
+use Rattle.pipeline_core.specs.Worked.{WorkedBy, AreWorked, Worked, views_of}
 
 -- an item keeps its number as more come
 pub slice_get-append : (xs ys : List Content) (k : ℕ) (m : Content) → slice_get xs k ≡ Some m → slice_get (xs ++ ys) k ≡ Some m
@@ -21,43 +20,44 @@ slice_get-append [] ys k m e = absurd (let x : None ≡ Some m = e in cc)
 slice_get-append (x ∷ xs) ys zero m e = e
 slice_get-append (x ∷ xs) ys (suc k) m e = slice_get-append xs ys k m e
 
-WorkedBy-more : (all more : List Content) (e : Entry) → WorkedBy all e → WorkedBy (all ++ more) e
-WorkedBy-more all more (Gather input moment pieces refused passed filtered metrics group reports) w = tt
-WorkedBy-more all more (Ended input) w = tt
-WorkedBy-more all more (Take item) w = tt
-WorkedBy-more all more (Route item whole verdict aggs outs reports) w =
-    record { metric = w.metric; is_item = slice_get-append all more item w.metric w.is_item; is_whole = w.is_whole; views = w.views }
-WorkedBy-more all more (Tick moment made) w = tt
-WorkedBy-more all more (Stop moment made) w = tt
-WorkedBy-more all more (Begin output from to) w = tt
-WorkedBy-more all more (Done output ok reports) w = tt
+module _ (outs : List (Content → Option Content)) where
+  WorkedBy-more : (all more : List Content) (e : Entry) → WorkedBy outs all e → WorkedBy outs (all ++ more) e
+  WorkedBy-more all more (Gather input moment pieces refused passed filtered metrics group reports) w = tt
+  WorkedBy-more all more (Ended input) w = tt
+  WorkedBy-more all more (Take item) w = tt
+  WorkedBy-more all more (Route item whole verdict aggs views reports) w =
+      record { metric = w.metric; is_item = slice_get-append all more item w.metric w.is_item; is_whole = w.is_whole; views_are = w.views_are }
+  WorkedBy-more all more (Tick moment made) w = tt
+  WorkedBy-more all more (Stop moment made) w = tt
+  WorkedBy-more all more (Begin output from to) w = tt
+  WorkedBy-more all more (Done output ok reports) w = tt
 
-AreWorked-more : (all more : List Content) (es : List Entry) → AreWorked all es → AreWorked (all ++ more) es
-unfolding AreWorked
-AreWorked-more all more [] w = tt
-AreWorked-more all more (e ∷ es) w = (WorkedBy-more all more e w.0, AreWorked-more all more es w.1)
+  AreWorked-more : (all more : List Content) (es : List Entry) → AreWorked outs all es → AreWorked outs (all ++ more) es
+  unfolding AreWorked
+  AreWorked-more all more [] w = tt
+  AreWorked-more all more (e ∷ es) w = (WorkedBy-more all more e w.0, AreWorked-more all more es w.1)
 
-AreWorked-push : (all : List Content) (es : List Entry) (e : Entry) → AreWorked all es → WorkedBy all e → AreWorked all (es ++ e ∷ [])
-unfolding AreWorked
-AreWorked-push all [] e w h = (h, tt)
-AreWorked-push all (d ∷ es) e w h = (w.0, AreWorked-push all es e w.1 h)
+  AreWorked-push : (all : List Content) (es : List Entry) (e : Entry) → AreWorked outs all es → WorkedBy outs all e → AreWorked outs all (es ++ e ∷ [])
+  unfolding AreWorked
+  AreWorked-push all [] e w h = (h, tt)
+  AreWorked-push all (d ∷ es) e w h = (w.0, AreWorked-push all es e w.1 h)
 
--- nothing happened
-pub worked_first : Worked []
-unfolding AreWorked
-worked_first = tt
+  -- nothing happened
+  pub worked_first : Worked outs []
+  unfolding AreWorked
+  worked_first = tt
 
--- one entry more
-pub worked-push : (journal : List Entry) (e : Entry) → WorkedBy (items journal) e → Worked journal → Worked (journal ++ e ∷ [])
-worked-push journal e h w =
-    subst (λ (all : List Content). AreWorked all (journal ++ e ∷ [])) (sym (items-push journal e))
-    (AreWorked-push (items journal ++ named_by e) journal e (AreWorked-more (items journal) (named_by e) journal w) (WorkedBy-more (items journal) (named_by e) e h))
+  -- one entry more
+  pub worked-push : (journal : List Entry) (e : Entry) → WorkedBy outs (items journal) e → Worked outs journal → Worked outs (journal ++ e ∷ [])
+  worked-push journal e h w =
+      subst (λ (all : List Content). AreWorked outs all (journal ++ e ∷ [])) (sym (items-push journal e))
+      (AreWorked-push (items journal ++ named_by e) journal e (AreWorked-more (items journal) (named_by e) journal w) (WorkedBy-more (items journal) (named_by e) e h))
 
--- an item that was routed as it is
-pub worked_route : (journal : List Entry) (item : ℕ) (metric : Content) (verdict : Verdict) (aggs outs : List (Option Content)) (reports : List Report) → slice_get (items journal) item ≡ Some metric →
-    AllByRecursion (λ (view : Option Content). view ≡ Some metric) outs → Worked journal → Worked (journal ++ Route item (Some metric) verdict aggs outs reports ∷ [])
-worked_route journal item metric verdict aggs outs reports at views w =
-    worked-push journal (Route item (Some metric) verdict aggs outs reports) (record { metric = metric; is_item = at; is_whole = refl; views = views }) w
+  -- an item that was routed
+  pub worked_route : (journal : List Entry) (item : ℕ) (metric : Content) (verdict : Verdict) (aggs : List (Option Content)) (reports : List Report) → slice_get (items journal) item ≡ Some metric →
+      Worked outs journal → Worked outs (journal ++ Route item (Some metric) verdict aggs (views_of outs metric) reports ∷ [])
+  worked_route journal item metric verdict aggs reports at w =
+      worked-push journal (Route item (Some metric) verdict aggs (views_of outs metric) reports) (record { metric = metric; is_item = at; is_whole = refl; views_are = refl }) w
 
 first_behind : (k : ℕ) (xs : List Content) → slice_get (drop k xs) 0 ≡ slice_get xs k
 first_behind zero [] = refl

@@ -2,6 +2,7 @@
 use Rattle.std.specs.Prelude.{◌≡◌, ◌<◌, ◌⊎◌, ℕ, false, List, [], ◌∷◌, ◌++◌, length}
 use Rattle.account.specs.Setup.{Setup}
 use Rattle.account.specs.Items.{raw_items}
+use Rattle.account.specs.Origins.{raw_of}
 use Rattle.account.specs.Numbers.{output_numbers}
 use Rattle.account.specs.declared.entry.Entry.{Entry}
 use Rattle.account.specs.declared.entry.Entry.TheVariants.{Begin}
@@ -21,16 +22,16 @@ pub record EndsFailed (events : List LaneEvent) : Type 0 where
   pub front : List LaneEvent
   pub is : events ≡ front ++ Done false ∷ []
 
--- no item is raw, and at each output nothing is buffered or the last event is that a batch failed
-pub record IsDrained (setup : Setup) (before : List Entry) : Type 0 where
-  pub none_raw : raw_items before ≡ []
+-- no item of an input is raw, and at each output nothing is buffered or the last event is that a batch failed
+pub record IsDrained (setup : Setup) (before : List Entry) (input : ℕ) : Type 0 where
+  pub none_raw : raw_of input before ≡ []
   pub each : (output : ℕ) → output < length setup.outputs → NothingBuffered setup before output
       ⊎ EndsFailed (lane_events output before)
 
--- so it is before a Gather; before a Begin no item is raw
+-- so it is before a Gather of the input; before a Begin no item at all is raw
 abbrev pub IsDrainedFor : Setup → List Entry → Option GatherSays → Type 0
 IsDrainedFor setup before None = Unit {0}
-IsDrainedFor setup before (Some says) = IsDrained setup before
+IsDrainedFor setup before (Some says) = IsDrained setup before says.input
 
 abbrev pub IsOrderly : Setup → List Entry → Entry → Type 0
 IsOrderly setup before (Begin output from to) = raw_items before ≡ []

@@ -1,6 +1,6 @@
 //! Metrics as the rules in plain words make them.
 use fixed_num::{Fixed, OutOfMemory};
-use metric::{BuildFault, Builder, Metric, Text, Value};
+use metric::{BuildFault, Builder, Metric, Text, Value, are_filled};
 use std::alloc::Global;
 use std::test::Fail;
 
@@ -68,6 +68,41 @@ fn metrics_are_made(rt: HostRuntime) -> Result<(), Fail> {
     assert!(rt; copy == metric && copy.same_as(&metric));
     let later = sample(alloc)?.finish(1_700_000_000_000_000_001)?;
     assert!(rt; later != metric && !later.same_as(&metric));
+    Ok(())
+}
+
+/// Tags of these keys and values.
+fn tags_of(alloc: Global, pairs: &[(&str, &str)]) -> Result<Vec<(Text, Text)>, OutOfMemory> {
+    let mut tags = Vec::new(alloc);
+    for (key, value) in pairs {
+        tags.push((Text::of(alloc, key)?, Text::of(alloc, value)?))?;
+    }
+    Ok(tags)
+}
+
+/// Of tags that are given, in any order, a metric gets those that it lacks; of two with one key the first.
+#[test]
+fn missing_tags_are_added(rt: HostRuntime) -> Result<(), Fail> {
+    let alloc = rt.alloc();
+    let given = tags_of(
+        alloc,
+        &[("zone", "z"), ("az", "q"), ("dc", "x"), ("dc", "y")],
+    )?;
+    assert!(rt; are_filled(given.as_slice()));
+    let metric = sample(alloc)?
+        .finish(7)?
+        .with_tags(alloc, given.as_slice())?;
+    let text = spelled(alloc, &metric)?;
+    assert_eq!(rt;
+        text.as_str(),
+        "cpu az=y dc=x hos=c host=b zone=z | idle='two words' busy=4u up=true load=500000000b | 7"
+    );
+    let known = tags_of(alloc, &[("host", "q"), ("az", "q")])?;
+    assert!(rt; are_filled(known.as_slice()));
+    let same = sample(alloc)?
+        .finish(7)?
+        .with_tags(alloc, known.as_slice())?;
+    assert!(rt; same == sample(alloc)?.finish(7)?);
     Ok(())
 }
 

@@ -2,6 +2,7 @@ use Rattle.std.proofs.Common.{◌∙◌, List, [], ◌∷◌, ap, refl, arith}
 use Rattle.agent_workers.specs.Run.{change}
 use Rattle.agent_run.specs.Headline.{report_change}
 use Rattle.agent_run.proofs.HeadlineLemmas.{ends_as, taken_in, report_is, reported_ends}
+use Rattle.agent_workers.specs.Reader.{plain_view}
 use Rattle.agent_workers.proofs.RanLemmas.{ran_of, ran_sized}
 use Rattle.std.specs.Prelude.{map}
 use Rattle.pipeline_core.specs.CoreState.{sizes}
@@ -62,7 +63,7 @@ returns-in-Ok-clause-ends g c =
     (report_is (g.W.World.rest c.give_out-2.new.self) (g.W.World.rest old) (g.W.World.rest last) (g.W.World.rest last)
     (c.give_out-2.ensures.rest ∙ c.give_out.ensures.rest ∙ c.give_in.ensures.rest ∙ c.clock-input_clock.ensures.rest ∙ c.clock-clock.ensures.rest) refl)
     c.clock-clock.ensures.told (c.clock-input_clock.ensures.told ∙ c.clock-clock.ensures.others 3 (λ e. absurd (omega (arith, e))))
-    (reported_ends c.args.pipe.now.batch c.args.pipe.now.limit _ _ _ _ _ _ c.in-Ok.ending c.report_account.result (ran_of 1000 3 ((c.args.pipe.now.batch, c.args.pipe.now.limit) ∷ []) _ c.in-Ok.ending _ _ _ _ _ c.in-Ok.is (ran_sized 1000 3 _ _ _ _ _ _ _ _ (ap (λ (xs : List OutSetup). map sizes xs) c.of_one.ensures) c.run_one-source.ensures.ran)) c.report_account.ensures.answer)
+    (reported_ends c.args.pipe.now.batch c.args.pipe.now.limit _ _ _ _ _ _ c.in-Ok.ending c.report_account.result (ran_of plain_view 3 1 ((c.args.pipe.now.batch, c.args.pipe.now.limit) ∷ []) _ c.in-Ok.ending _ _ _ _ c.in-Ok.is (ran_sized plain_view 3 1 _ _ _ _ _ _ _ (ap (λ (xs : List OutSetup). map sizes xs) c.of_one.ensures) c.run_one-source.ensures.ran)) c.report_account.ensures.answer)
 
 pub returns-in-Ok-clause-ins_opened : goal.returns-in-Ok-clause-ins_opened
 returns-in-Ok-clause-ins_opened g c =

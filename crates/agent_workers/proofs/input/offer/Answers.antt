@@ -1,15 +1,52 @@
-use Rattle.std.proofs.Common.{◌≡◌, arith}
-use Rattle.std.proofs.lemmas.Int.{to_z-of_z}
-use mir.Syntax.{w64}
-use mir.Val.{of_z, to_z}
-use Rattle.agent_workers.proofs.GatherSteps.{offered_some}
+use Rattle.std.proofs.Common.{◌≡◌, ◌∙◌, sym, ap, subst, refl, rules}
+use Rattle.std.specs.declared.option.Option.{Option}
+use Rattle.std.specs.declared.option.Option.TheVariants.{Some, None}
+use Rattle.pipeline_core.specs.CoreState.{CoreState}
+use Rattle.agent_workers.specs.Inputs.{InPart, in_of, FitsInput}
+use Rattle.agent_workers.specs.Progress.{GathersAt}
+use Rattle.pipeline_core.specs.declared.gathering.Gathered.{Gathered}
+use Rattle.agent_workers.proofs.GatherSteps.{offer_accepted, offer_full, offer_kept, gathers_none}
+use Rattle.agent_workers.proofs.InLemmas.{gathered_core, ready_gathered, fits_gathered}
 use Rattle.agent_workers.proofs.StandingLemmas.{continues}
 use Rattle.agent_workers.proofs.input.offer.Goals as goal
 
 pub returns-in-Ok-clause-stands : goal.returns-in-Ok-clause-stands
-returns-in-Ok-clause-stands c = continues c.in-Ok.ensures.stands c.requires.stands
+returns-in-Ok-clause-stands g c = continues c.in-Ok.ensures.stands c.requires.stands
 
-pub returns-in-Ok-clause-offered : goal.returns-in-Ok-clause-offered
-returns-in-Ok-clause-offered c =
-    let same : to_z w64 (of_z w64 c.args.moment) ≡ c.args.moment = to_z-of_z w64 c.args.moment c.ranges.moment in
-    offered_some c.args.input c.args.moment (to_z w64 (of_z w64 c.args.moment)) c.args.group c.of.result c.args.core.now c.gather.new.self c.of.ensures same (omega (arith, c.if-group-eq0.false)) c.in-Ok.ensures.ok c.in-Ok.ensures.stands
+pub returns-in-Ok-clause-ready : goal.returns-in-Ok-clause-ready
+returns-in-Ok-clause-ready g c = ready_gathered c.args.job.now.input c.args.core.now c.gather.new.self (gathered_core c.args.job.now.input c.args.core.now c.gather.new.self c.in-Some.gathered c.in-Ok.ensures.ok) c.requires.ready
+
+pub returns-in-Ok-clause-kept : goal.returns-in-Ok-clause-kept
+returns-in-Ok-clause-kept g c = gathered_core c.args.job.now.input c.args.core.now c.gather.new.self c.in-Some.gathered c.in-Ok.ensures.ok
+
+pub returns-in-Ok-clause-fits : goal.returns-in-Ok-clause-fits
+returns-in-Ok-clause-fits g c =
+    let free : c.take.new.self ≡ None = search rules in
+    let old : InPart = in_of g.S.Source.left g.S.Source.faults g.C.Clock.moments g.C.Clock.place c.args.job.now in
+    subst (λ (x : Option Gathered). FitsInput c.args.job.now.input c.gather.new.self.ended (record old { held = x })) (sym free)
+    (fits_gathered c.args.job.now.input c.args.core.now.ended c.gather.new.self.ended (in_of g.S.Source.left g.S.Source.faults g.C.Clock.moments g.C.Clock.place c.args.job.now) (ap (λ (s : CoreState). s.ended) c.in-Ok.ensures.ok) c.requires.fits)
+
+pub returns-in-Ok-clause-gathers : goal.returns-in-Ok-clause-gathers
+returns-in-Ok-clause-gathers g c =
+    let held : c.args.job.now.held ≡ Some c.in-Some.gathered = search rules in
+    let free : c.take.new.self ≡ None = search rules in
+    let old : InPart = in_of g.S.Source.left g.S.Source.faults g.C.Clock.moments g.C.Clock.place c.args.job.now in
+    subst (λ (x : Option Gathered). GathersAt c.args.core.now c.gather.new.self old (record old { held = x })) (sym free)
+    (offer_accepted c.args.core.now c.gather.new.self (in_of g.S.Source.left g.S.Source.faults g.C.Clock.moments g.C.Clock.place c.args.job.now) c.in-Some.gathered held c.requires.fits.own c.in-Ok.ensures.answer.0 c.in-Ok.ensures.ok c.in-Ok.ensures.stands)
+
+pub returns-in-None-clause-gathers : goal.returns-in-None-clause-gathers
+returns-in-None-clause-gathers g c =
+    let held : c.args.job.now.held ≡ None = search rules in
+    let free : c.take.new.self ≡ None = search rules in
+    let old : InPart = in_of g.S.Source.left g.S.Source.faults g.C.Clock.moments g.C.Clock.place c.args.job.now in
+    gathers_none c.args.core.now c.args.core.now old (record old { held = c.take.new.self }) refl (ap (λ (x : Option Gathered). let p : InPart = record old { held = x } in p) (free ∙ sym held))
+
+pub returns-in-Err-RunFull-clause-gathers : goal.returns-in-Err-RunFull-clause-gathers
+returns-in-Err-RunFull-clause-gathers g c =
+    let held : c.args.job.now.held ≡ Some c.in-Some.gathered = search rules in
+    offer_full c.args.core.now c.gather.new.self (in_of g.S.Source.left g.S.Source.faults g.C.Clock.moments g.C.Clock.place c.args.job.now) c.in-Some.gathered c.in-Err-RunFull.back held (search rules) (search rules) c.requires.fits.readable.some c.requires.fits.none_held (search rules)
+
+pub returns-in-Err-HeldRaw-clause-gathers : goal.returns-in-Err-HeldRaw-clause-gathers
+returns-in-Err-HeldRaw-clause-gathers g c =
+    let held : c.args.job.now.held ≡ Some c.in-Some.gathered = search rules in
+    offer_kept c.args.core.now c.gather.new.self (in_of g.S.Source.left g.S.Source.faults g.C.Clock.moments g.C.Clock.place c.args.job.now) c.in-Some.gathered c.in-Err-HeldRaw.back held (search rules) (search rules)

@@ -1,3 +1,4 @@
+use Rattle.agent_workers.specs.Reader.{views_by}
 use Rattle.agent_workers.proofs.ProgressLemmas.{went_item}
 use Rattle.agent_workers.proofs.StandingLemmas.{continues}
 use Rattle.agent_workers.proofs.item.route_next.Goals as goal
@@ -7,5 +8,5 @@ route-requires-clause-stands c = continues c.in-Ok.ensures.stands c.requires.sta
 
 pub returns-in_ok-route-in-Ok-clause-goes : goal.returns-in_ok-route-in-Ok-clause-goes
 returns-in_ok-route-in-Ok-clause-goes c = λ start now zero w.
-    went_item start c.args.core.now c.take.new.self c.route.new.core now c.args.outputs c.in-Ok.item.number c.in-Ok.item.metric zero
+    went_item start c.args.core.now c.take.new.self c.route.new.core now (views_by c.args.filters.now) c.in-Ok.item.number c.in-Ok.item.metric zero
     c.in-Ok.ensures.item.0 c.in-Ok.ensures.item.2 c.in-Ok.ensures.ok c.in-Ok.ensures.stands c.in_ok-route-in-Ok.ensures.after c.in_ok-route-in-Ok.ensures.continues w

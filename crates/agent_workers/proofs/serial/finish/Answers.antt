@@ -1,38 +1,32 @@
-use Rattle.std.proofs.Common.{◌≡◌, ℤ, List, [], ◌∷◌, length, ap, ◌∙◌, sym, subst}
-use Rattle.std.proofs.lemmas.Int.{to_z-of_z}
-use mir.Syntax.{w64}
-use mir.Val.{of_z, to_z}
-use Rattle.pipeline_core.specs.Stands.{Continues}
-use Rattle.pipeline_core.specs.Steps.{after_stop, stop_entry}
-use Rattle.std.specs.Int.{int_max}
-use Rattle.agent_workers.specs.Progress.{Surroundings}
-use Rattle.agent_workers.proofs.ProgressLemmas.{went_stop, went_anew}
-use Rattle.agent_workers.proofs.OutLemmas.{are_anew, outputs_still}
-use Rattle.account.specs.Setup.{Setup}
-use Rattle.pipeline_core.specs.CoreState.{CoreState}
-use Rattle.agent_workers.specs.Output.{OutPart, outs_of, AreAnew}
-use Rattle.agent_workers.proofs.StandingLemmas.{continues}
+use Rattle.std.proofs.Common.{◌≡◌, List, length, drop, arith, sym, ap, subst}
+use Rattle.metric_filter.specs.declared.rules.FilterRules.{FilterRules}
+use Rattle.agent_workers.specs.Inputs.{ins_of, AreInputs}
+use Rattle.agent_workers.specs.Output.{outs_of, AreOutputs}
+use Rattle.agent_workers.specs.Reader.{views_by}
+use Rattle.agent_workers.specs.declared.input.InJob.{InJob}
+use Rattle.agent_workers.specs.declared.output.OutJob.{OutJob}
+use Rattle.agent_workers.proofs.FinishSteps.{finishes_by, taken_front}
 use Rattle.agent_workers.proofs.serial.finish.Goals as goal
 
-pub route_all-requires-clause-stands : goal.route_all-requires-clause-stands
-route_all-requires-clause-stands g c = continues c.in_ok-stop.ensures.stands c.requires.stands
+pub finish_jobs-requires-clause-inputs : goal.finish_jobs-requires-clause-inputs
+finish_jobs-requires-clause-inputs g c =
+    subst (λ (jobs : List (InJob g.row.S.Denot g.row.C.Denot)). AreInputs (length c.args.core.now.setup.inputs) c.args.core.now.ended (ins_of g.S.Source.left g.S.Source.faults g.C.Clock.moments g.C.Clock.place jobs)) (sym c.deref_mut.ensures.value) c.requires.inputs
 
-pub send_rest-requires-clause-outputs : goal.send_rest-requires-clause-outputs
-send_rest-requires-clause-outputs g c =
-    outputs_still (length c.args.core.now.setup.outputs) (length c.route_all.new.core.setup.outputs) (outs_of g.K.Sink.held g.K.Sink.faults c.args.outputs.now) (outs_of g.K.Sink.held g.K.Sink.faults c.begin_anew.new.outputs) c.begin_anew.ensures.fresh
-    (ap (λ (s : Setup). length s.outputs) (c.in_ok-route_all.ensures.kept.setup ∙ ap (λ (s : CoreState). s.setup) c.in_ok-stop.ensures.ok)) c.requires.outputs
+pub finish_jobs-requires-clause-outputs : goal.finish_jobs-requires-clause-outputs
+finish_jobs-requires-clause-outputs g c =
+    subst (λ (jobs : List (OutJob g.row.K.Denot)). AreOutputs (length c.args.core.now.setup.outputs) (outs_of g.K.Sink.held g.K.Sink.faults jobs)) (sym c.deref_mut-2.ensures.value) c.requires.outputs
 
-pub returns-clause-goes : goal.returns-clause-goes
-returns-clause-goes g c = λ start now w.
-    let outs : List OutPart = outs_of g.K.Sink.held g.K.Sink.faults c.args.outputs.now in
-    let fresh : List OutPart = outs_of g.K.Sink.held g.K.Sink.faults c.begin_anew.new.outputs in
-    let zero : AreAnew fresh = subst AreAnew (sym c.begin_anew.ensures.fresh) (are_anew outs) in
-    let here : Surroundings = record now { outs = fresh } in
-    let stopped : Surroundings = record now { counted_at = int_max c.args.moment start.setup.start ∷ [] } in
-    let same : to_z w64 (of_z w64 c.args.moment) ≡ c.args.moment = to_z-of_z w64 c.args.moment c.ranges.moment in
-    let after_stopped = subst (λ (m : ℤ). c.stop.new.self ≡ after_stop c.args.core.now m) same c.in_ok-stop.ensures.ok in
-    let stands = subst (λ (m : ℤ). Continues c.args.core.now c.stop.new.self (stop_entry c.args.core.now m)) same c.in_ok-stop.ensures.stands in
-    let begun = went_anew start c.args.core.now (record now { counted_at = [] }) outs fresh c.begin_anew.ensures.fresh w in
-    let a = went_stop start c.args.core.now c.stop.new.self here c.args.moment zero after_stopped stands begun in
-    let b = c.in_ok-route_all.ensures.goes start (record here { counted_at = int_max c.args.moment start.setup.start ∷ [] }) zero a in
-    c.in_ok-send_rest.ensures.sends start stopped b
+pub returns : goal.returns
+returns g c =
+    let in_len : length c.finish_jobs.new.inputs ≡ c.args.parts.now.inputs.len = omega (arith, c.deref_mut.ensures.len, c.finish_jobs.ensures.in_count) in
+    let out_len : length c.finish_jobs.new.outputs ≡ c.args.parts.now.outputs.len = omega (arith, c.deref_mut-2.ensures.len, c.finish_jobs.ensures.count) in
+    let ins = λ (jobs : List (InJob g.row.S.Denot g.row.C.Denot)). ins_of g.S.Source.left g.S.Source.faults g.C.Clock.moments g.C.Clock.place jobs in
+    let outs = λ (jobs : List (OutJob g.row.K.Denot)). outs_of g.K.Sink.held g.K.Sink.faults jobs in
+    record {
+      finished = finishes_by _ _ c.args.parts.now.final_tries c.in_ok-ending.ending c.args.core.now c.finish_jobs.new.core _ _ _ _ _ _ _ _ _ _ _
+          (ap (λ (fs : List FilterRules). views_by fs) (sym c.as_slice.ensures)) (ap ins (sym c.deref_mut.ensures.value))
+          (ap ins (taken_front c.args.parts.now.inputs.len c.finish_jobs.new.inputs (drop (length c.finish_jobs.new.inputs) c.args.parts.now.inputs.items) in_len))
+          (ap outs (sym c.deref_mut-2.ensures.value))
+          (ap outs (taken_front c.args.parts.now.outputs.len c.finish_jobs.new.outputs (drop (length c.finish_jobs.new.outputs) c.args.parts.now.outputs.items) out_len))
+          c.in_ok-ending.ensures.finished;
+    }

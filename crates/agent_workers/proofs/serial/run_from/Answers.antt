@@ -1,69 +1,66 @@
-use Rattle.std.proofs.Common.{◌≡◌, ◌++◌, ℕ, Bool, List, [], length, sym, ap, subst, ◌∙◌, rules}
+use Rattle.std.proofs.Common.{◌≡◌, ℕ, List, [], length, refl, sym, ap, ◌∙◌}
 use Rattle.std.proofs.lemmas.Int.{to_z-of_z}
 use mir.Syntax.{w64}
 use mir.Val.{of_z, to_z}
-use Rattle.account.specs.AccountText.{account_text}
-use Rattle.journal_text.specs.JournalText.{journal_text}
-use Rattle.agent_workers.specs.Run.{Change, change, in_change, out_changes, IsPutSo}
 use Rattle.std.specs.Prelude.{map}
-use Rattle.std.proofs.lemmas.List.{length-map}
+use Rattle.std.specs.declared.option.Option.{Option}
+use Rattle.std.specs.declared.option.Option.TheVariants.{None}
+use Rattle.std.proofs.lemmas.List.{length-map, length-replicate}
 use Rattle.pipeline_core.specs.CoreState.{sizes}
-use Rattle.agent_workers.specs.Inputs.{InPart, in_of}
-use Rattle.agent_workers.specs.Output.{OutPart, outs_of}
+use Rattle.agent_workers.specs.Finished.{ClockRun}
+use Rattle.agent_workers.specs.Inputs.{InPart, in_of, ins_of}
+use Rattle.agent_workers.specs.Output.{OutPart, outs_of, anew}
 use Rattle.agent_workers.proofs.OutLemmas.{outputs_still}
 use Rattle.account.specs.Setup.{Setup}
 use Rattle.pipeline_core.specs.declared.setup.OutSetup.{OutSetup}
 use Rattle.agent_workers.specs.Noted.{JournalPart, part_of}
 use Rattle.agent_workers.specs.PipeSetup.{run_setup, journal_setup_of}
-use Rattle.agent_workers.specs.Progress.{Beginning, Surroundings}
-use Rattle.agent_workers.proofs.FinishSteps.{went_first, first_surroundings, ran}
+use Rattle.agent_workers.specs.Progress.{Beginning}
+use Rattle.agent_workers.proofs.FinishSteps.{went_first, first_surroundings, none_buffered, ran}
+use Rattle.agent_workers.proofs.InLemmas.{fit_first}
+use Rattle.agent_workers.specs.Reader.{views_by}
 use Rattle.agent_workers.proofs.NotedLemmas.{notes_none}
-use Rattle.agent_workers.proofs.RanLemmas.{ran_like}
-use Rattle.agent_workers.proofs.ProgressLemmas.{stored_in_order}
 use Rattle.agent_workers.proofs.serial.run_from.Goals as goal
 
-pub rounds-requires-clause-outputs : goal.rounds-requires-clause-outputs
-rounds-requires-clause-outputs g c =
+pub finish_jobs-requires-clause-outputs : goal.finish_jobs-requires-clause-outputs
+finish_jobs-requires-clause-outputs g c =
     outputs_still (length c.args.setup.now.outputs) (length c.in_ok-core.core.setup.outputs) (outs_of g.K.Sink.held g.K.Sink.faults c.args.outputs.now) (outs_of g.K.Sink.held g.K.Sink.faults c.begin_anew.new.outputs) c.begin_anew.ensures.fresh
     (ap (λ (s : Setup). length s.outputs) c.in_ok-core.ensures.setup ∙ length-map c.as_slice.result.now sizes ∙ ap (λ (xs : List OutSetup). length xs) c.as_slice.ensures) c.requires.outputs
+
+-- the inputs, of which nothing was read, fit the core
+pub finish_jobs-requires-clause-inputs : goal.finish_jobs-requires-clause-inputs
+finish_jobs-requires-clause-inputs g c =
+    let ins : List InPart = ins_of g.S.Source.left g.S.Source.faults g.C.Clock.moments g.C.Clock.place c.args.inputs.now in
+    let n = length c.args.inputs.now in
+    let is : length c.in_ok-core.core.setup.inputs ≡ n = ap (λ (s : Setup). length s.inputs) c.in_ok-core.ensures.setup ∙ length-replicate {A = Option ℕ} n None in
+    fit_first n (length c.in_ok-core.core.setup.inputs) c.in_ok-core.core.ended ins is (length-map c.args.inputs.now (in_of g.S.Source.left g.S.Source.faults g.C.Clock.moments g.C.Clock.place)) c.in_ok-core.ensures.reading c.requires.inputs
 
 pub returns-clause-ran : goal.returns-clause-ran
 returns-clause-ran g c =
     let tries = c.args.setup.now.final_tries in
     let pairs : List (ℕ × ℕ) = map sizes c.args.setup.now.outputs in
     let start = c.args.start in
+    let n = length c.args.inputs.now in
     let same_start : to_z w64 (of_z w64 start) ≡ start = to_z-of_z w64 start c.ranges.start in
-    let moment = to_z w64 (of_z w64 c.now-moment.result) in
-    let same_moment : moment ≡ c.now-moment.result = to_z-of_z w64 c.now-moment.result (search rules) in
-    let input : InPart = in_of g.S.Source.left g.S.Source.faults g.C.Clock.moments g.C.Clock.place c.args.input.now in
-    let last_input : InPart = in_of g.S.Source.left g.S.Source.faults g.C.Clock.moments g.C.Clock.place c.rounds.new.input in
+    let ins : List InPart = ins_of g.S.Source.left g.S.Source.faults g.C.Clock.moments g.C.Clock.place c.args.inputs.now in
+    let last_ins : List InPart = ins_of g.S.Source.left g.S.Source.faults g.C.Clock.moments g.C.Clock.place c.finish_jobs.new.inputs in
     let outs : List OutPart = outs_of g.K.Sink.held g.K.Sink.faults c.args.outputs.now in
     let fresh : List OutPart = outs_of g.K.Sink.held g.K.Sink.faults c.begin_anew.new.outputs in
+    let last_outs : List OutPart = outs_of g.K.Sink.held g.K.Sink.faults c.finish_jobs.new.outputs in
     let noted = g.K.Sink.held c.args.journal.now.sink in
     let note_faults = g.K.Sink.faults c.args.journal.now.sink in
     let core = c.in_ok-core.core in
-    let last = c.finish.new.core in
-    let begun : Beginning = record { setup = run_setup pairs start; input = input; outs = outs; noted = noted; note_faults = note_faults } in
+    let begun : Beginning = record { setup = run_setup n pairs start; views = views_by c.args.filters.now; ins = ins; outs = outs; noted = noted; note_faults = note_faults; front = [] } in
     let part : JournalPart = part_of g.K.Sink.held g.K.Sink.faults c.args.journal.now in
-    let count : length outs ≡ length pairs = c.requires.outputs.count_is ∙ sym (length-map c.args.setup.now.outputs sizes) in
-    let first = went_first begun core fresh part c.in_ok-core.ensures.stands (c.in_ok-core.ensures.setup ∙ ap (λ (xs : List OutSetup). run_setup (map sizes xs) (to_z w64 (of_z w64 start))) c.as_slice.ensures ∙ ap (run_setup pairs) same_start) c.in_ok-core.ensures.stored
-    (notes_none (journal_setup_of (run_setup pairs start)) part c.requires.about c.requires.none_kept c.requires.none_put c.requires.none_failed) c.requires.none_taken c.requires.input_first c.requires.read c.begin_anew.ensures.fresh count in
-    let rounds = c.in_ok-rounds.ensures.runs begun (first_surroundings begun fresh part) first in
-    let now : Surroundings = record {
-      input = last_input;
-      outs = outs_of g.K.Sink.held g.K.Sink.faults c.finish.new.outputs;
-      journal = part_of g.K.Sink.held g.K.Sink.faults c.rounds.new.journal;
-      counted_at = [];
-    } in
-    let finished = c.in_ok-finish.ensures.goes begun now rounds in
-    let ending = c.in_ok-ending.ending in
-    let put : Change = change noted (g.K.Sink.held c.end_journal.new.journal.sink) note_faults (g.K.Sink.faults c.end_journal.new.journal.sink) in
-    let whole = journal_text (journal_setup_of (run_setup pairs start)) (finished.text.written ++ last.stored) (account_text last.numbers) in
-    let put_so : IsPutSo ending.journal_failed put whole = subst (λ (failed : Bool). IsPutSo failed put whole) (sym c.in_ok-ending.ensures.failed)
-    (c.in_ok-ending.ensures.ends (journal_setup_of (run_setup pairs start)) noted note_faults finished.text.written finished.text.notes (stored_in_order begun last (part_of g.K.Sink.held g.K.Sink.faults c.rounds.new.journal) finished.journal finished.text)) in
-    let same = c.rounds.ensures.same in
-    ran_like tries pairs ending (in_change input last_input) (out_changes outs now.outs) put (g.C.Clock.moments c.args.clock.now) last_input.most input.most last_input.moments input.moments same.most same.moments
-    (ran tries pairs start moment input outs noted note_faults (g.C.Clock.moments c.args.clock.now) (g.C.Clock.place c.args.clock.now) (g.C.Clock.place c.now-moment.new.self)
-    last now finished c.requires.first (rw same_moment c.now-moment.ensures.gives)
-    c.in_ok-finish.ensures.stopped c.in_ok-finish.ensures.none_raw c.in_ok-finish.ensures.ready.empty_handed count c.in_ok-finish.ensures.rest c.in_ok-rounds.ensures.read (same.input ∙ c.requires.number)
-    ending put c.in_ok-ending.ensures.state c.in_ok-ending.ensures.left c.in_ok-ending.ensures.account put_so)
+    let last_part : JournalPart = part_of g.K.Sink.held g.K.Sink.faults c.finish_jobs.new.journal in
+    let timer : ClockRun = record { moments = g.C.Clock.moments c.args.clock.now; before = g.C.Clock.place c.args.clock.now; after = g.C.Clock.place c.finish_jobs.new.timer } in
+    let in_count : length ins ≡ n = length-map c.args.inputs.now (in_of g.S.Source.left g.S.Source.faults g.C.Clock.moments g.C.Clock.place) in
+    let last_count : length last_ins ≡ n = length-map c.finish_jobs.new.inputs (in_of g.S.Source.left g.S.Source.faults g.C.Clock.moments g.C.Clock.place) ∙ c.finish_jobs.ensures.in_count in
+    let out_count : length outs ≡ length pairs = c.requires.outputs.count_is ∙ sym (length-map c.args.setup.now.outputs sizes) in
+    let fresh_count : length outs ≡ length fresh = sym (ap (λ (xs : List OutPart). length xs) c.begin_anew.ensures.fresh ∙ length-map outs anew) in
+    let setup_is : core.setup ≡ run_setup n pairs start = c.in_ok-core.ensures.setup ∙ ap (λ (xs : List OutSetup). run_setup n (map sizes xs) (to_z w64 (of_z w64 start))) c.as_slice.ensures ∙ ap (run_setup n pairs) same_start in
+    let first = went_first begun core fresh part c.in_ok-core.ensures.stands setup_is c.in_ok-core.ensures.stored
+    (notes_none (journal_setup_of (run_setup n pairs start)) part c.requires.about c.requires.none_kept c.requires.none_put c.requires.none_failed) refl (in_count ∙ sym (length-replicate {A = Option ℕ} n None)) c.requires.inputs.fresh c.begin_anew.ensures.fresh out_count in
+    let settled = λ (f : begun.front ≡ []). none_buffered core fresh c.in_ok-core.ensures.none_buffered in
+    let end = c.in_ok-ending.ensures.finished begun (first_surroundings begun fresh part) refl fresh_count settled first in
+    ran (views_by c.args.filters.now) tries n pairs start ins outs noted note_faults c.in_ok-ending.ending c.finish_jobs.new.core last_ins last_outs last_part timer c.requires.first last_count end

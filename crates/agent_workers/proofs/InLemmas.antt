@@ -1,0 +1,341 @@
+-- Inputs by their places: one changes, and the others stay.
+use Rattle.std.proofs.Common.{◌≡◌, ◌≢◌, ◌≤◌, ◌<◌, ◌+◌, ℕ, zero, suc, Bool, true, false, List, [], ◌∷◌, ◌++◌, length, length-append, get_or, set, take, drop, replicate, refl, sym, ap, ◌∙◌, subst, inl, inr, arith}
+use Rattle.std.specs.Prelude.{slice_get, is_some, ◌⊎◌, IfSome, IfOk, OnOk, All, Result, Ok, Err}
+use Rattle.fixed_num.specs.declared.memory.OutOfMemory.{OutOfMemory}
+use Rattle.agent_workers.specs.declared.serial.Ending.{Ending}
+use Rattle.std.proofs.lemmas.List.{length-map, length-set, get_or-map, get_or-set_same}
+use Rattle.std.specs.declared.option.Option.{Option}
+use Rattle.std.specs.declared.option.Option.TheVariants.{Some, None}
+use Rattle.account.specs.Numbers.{unreached_output}
+use Rattle.account.specs.declared.numbers.OutputNumbers.{OutputNumbers}
+use Rattle.agent_base.specs.Moments.{Moments}
+use Rattle.account.specs.declared.entry.Entry.TheVariants.{Ended}
+use Rattle.pipeline_core.specs.CoreState.{CoreState}
+use Rattle.pipeline_core.specs.Steps.{after_gather, after_ended, gather_entry}
+use Rattle.pipeline_core.specs.declared.gathering.Gathered.{Gathered}
+use Rattle.agent_workers.specs.declared.input.InState.{InState}
+use Rattle.agent_workers.specs.declared.input.InState.TheVariants as states
+use Rattle.agent_workers.specs.declared.input.InJob.{InJob}
+use Rattle.agent_workers.specs.Inputs.{InPart, in_of, ins_of, in_at, no_in, is_ended, IsSameInput, AreSameInputs, FitsInput, AreInputs, HoldsNoEnd, HoldsOwn, IsReadable, IsMoved, IsOut, IsFullOf, OneIsFull, AreFresh, IsFresh, IsPlain, IsOneInput}
+use Rattle.agent_workers.specs.Reader.{InRule, plain_rule}
+use Rattle.agent_workers.specs.Run.{Change, change, InRun, in_run, in_runs, out_changes, Ran}
+use Rattle.agent_workers.proofs.RanLemmas.{change_is}
+use Rattle.metric.specs.Metric.{IsFilledTag}
+use Rattle.metric.specs.declared.metric.Content.{Content}
+use Rattle.agent_workers.specs.Output.{OutPart, AreOutputs, out_at, out_of, outs_of}
+use Rattle.agent_workers.specs.declared.output.OutJob.{OutJob}
+use Rattle.agent_workers.specs.Progress.{Progress, GathersAt, GathersTo}
+use Rattle.agent_workers.specs.Running.{IsReady, AreSettled, IsGathered, IsGatheredAt, HasMoved, buffered_at}
+use Rattle.agent_workers.proofs.HeardLemmas.{not_ended, holds_no_end}
+use Rattle.agent_workers.proofs.OutLemmas.{each_set, ready_same}
+use Rattle.agent_workers.proofs.ProgressLemmas.{went_behind}
+
+-- ---- the same inputs
+
+pub same_input : (first old new : InPart) → IsSameInput first old → IsSameInput old new → IsSameInput first new
+same_input first old new h k = record { input = k.input ∙ h.input; rule = k.rule ∙ h.rule; moments = k.moments ∙ h.moments }
+
+pub same_inputs : (firsts olds news : List InPart) → AreSameInputs firsts olds → AreSameInputs olds news → AreSameInputs firsts news
+same_inputs firsts olds news h k = record { count = k.count ∙ h.count; each = λ i l. same_input (in_at firsts i) (in_at olds i) (in_at news i) (h.each i l) (k.each i (omega (arith, l, h.count))) }
+
+pub inputs_themselves : (ins : List InPart) → AreSameInputs ins ins
+inputs_themselves ins = record { count = refl; each = λ i l. record { input = refl; rule = refl; moments = refl } }
+
+pub same_set : (firsts ins : List InPart) (n : ℕ) (part : InPart) → n < length ins → AreSameInputs firsts ins → IsSameInput (in_at ins n) part → AreSameInputs firsts (set ins n part)
+same_set firsts ins n part b h k =
+    let each : (i : ℕ) → i < length (set ins n part) → IsSameInput (in_at firsts i) (get_or (set ins n part) i no_in) =
+    each_set (λ (i : ℕ) (x : InPart). IsSameInput (in_at firsts i) x) ins n part no_in b (same_input (in_at firsts n) (in_at ins n) part (h.each n (omega (arith, b, h.count))) k) (λ i l ne. h.each i (omega (arith, l, h.count))) in
+    record { count = length-set ins n part ∙ h.count; each = λ i l. each i (omega (arith, l, h.count, length-set ins n part)) }
+
+-- ---- inputs that fit a core
+
+pub fits_still : (place : ℕ) (old new : List Bool) (part : InPart) → slice_get new place ≡ slice_get old place → FitsInput place old part → FitsInput place new part
+fits_still place old new part same h = record { number = h.number; readable = h.readable; ended_is = same ∙ h.ended_is; own = h.own; none_held = h.none_held }
+
+pub inputs_set : (count n : ℕ) (old new : CoreState) (ins : List InPart) (part : InPart) → n < count → IsGatheredAt n old new → FitsInput n new.ended part → AreInputs count old.ended ins → AreInputs count new.ended (set ins n part)
+inputs_set count n old new ins part b at fits h =
+    let each : (i : ℕ) → i < length (set ins n part) → FitsInput i new.ended (get_or (set ins n part) i no_in) =
+    each_set (λ (i : ℕ) (x : InPart). FitsInput i new.ended x) ins n part no_in (omega (arith, b, h.count_is)) fits (λ i l ne. fits_still i old.ended new.ended (in_at ins i) (at.others i ne) (h.each i (omega (arith, l, h.count_is)))) in
+    record { count_is = length-set ins n part ∙ h.count_is; each = λ i l. each i (omega (arith, l, h.count_is, length-set ins n part)) }
+
+-- what ended is as before
+pub inputs_still : (count : ℕ) (old new : List Bool) (ins : List InPart) → new ≡ old → AreInputs count old ins → AreInputs count new ins
+inputs_still count old new ins same h = subst (λ (ended : List Bool). AreInputs count ended ins) (sym same) h
+
+-- ---- cores that gather
+
+pub gathered_none : (core : CoreState) → IsGathered core core
+gathered_none core = record { setup = refl; held = refl; stopped = refl; lanes = refl; numbers = refl; stored = omega arith }
+
+pub gathered_then : (old mid new : CoreState) → IsGathered old mid → IsGathered mid new → IsGathered old new
+gathered_then old mid new h k = record { setup = k.setup ∙ h.setup; held = k.held ∙ h.held; stopped = k.stopped ∙ h.stopped; lanes = k.lanes ∙ h.lanes; numbers = k.numbers ∙ h.numbers; stored = omega (arith, h.stored, k.stored) }
+
+pub gathered_at_then : (n : ℕ) (old mid new : CoreState) → IsGatheredAt n old mid → IsGatheredAt n mid new → IsGatheredAt n old new
+gathered_at_then n old mid new h k = record { kept = gathered_then old mid new h.kept k.kept; others = λ i ne. k.others i ne ∙ h.others i ne }
+
+-- the outputs are settled as before
+pub settled_gathered : (old new : CoreState) (outs : List OutPart) → IsGathered old new → AreSettled old outs → AreSettled new outs
+settled_gathered old new outs h s = λ o l.
+    let same : buffered_at new o ≡ buffered_at old o = ap (λ (xs : List OutputNumbers). (get_or xs o unreached_output).buffered) h.numbers in
+    elim (s o l) [
+      | inl none ↦ inl (same ∙ none)
+      | inr some ↦ inr some
+    ]
+
+-- one input more had its turn
+pub gathers_then : (n : ℕ) (old mid new : CoreState) (ins mid_ins : List InPart) (part new_part : InPart) → IsGathered old mid → part.input ≡ n → n < length mid_ins → in_at mid_ins n ≡ part → GathersAt mid new part new_part → GathersTo n old mid ins mid_ins → GathersTo (n + 1) old new ins (set mid_ins n new_part)
+gathers_then n old mid new ins mid_ins part new_part kept number b at turn h = λ start now settled w.
+    let from : Progress start mid (record now { ins = mid_ins; next = part.input }) = subst (λ (k : ℕ). Progress start mid (record now { ins = mid_ins; next = k })) (sym number) (h start now settled w) in
+    subst (λ (k : ℕ). Progress start new (record now { ins = set mid_ins k new_part; next = k + 1 })) number
+    (turn mid_ins (omega (arith, b, number)) (ap (in_at mid_ins) number ∙ at) start now (λ f. settled_gathered old mid now.outs kept (settled f)) from)
+
+-- the others had none
+pub gathers_on : (n : ℕ) (old new : CoreState) (ins new_ins : List InPart) → n ≤ length ins → GathersTo n old new ins new_ins → GathersTo (length ins) old new ins new_ins
+gathers_on n old new ins new_ins l h = λ start now settled w. went_behind start new (record now { ins = new_ins }) n (length ins) l (h start now settled w)
+
+pub gathers_nothing : (core : CoreState) (ins : List InPart) → GathersTo 0 core core ins ins
+gathers_nothing core ins = λ start now settled w. w
+
+-- ---- parts of jobs
+
+pub input_here : {S C : Type 0} (left : S → Option (List ℕ)) (faults : S → ℕ) (moments : C → Option Moments) (place : C → ℕ) (jobs : List (InJob S C)) (i : ℕ) (d : InJob S C) → i < length jobs → in_at (ins_of left faults moments place jobs) i ≡ in_of left faults moments place (get_or jobs i d)
+input_here left faults moments place jobs i d b = get_or-map (in_of left faults moments place) jobs i d no_in b
+
+pub one_is_full : (gathered : ℕ) (ins : List InPart) (n : ℕ) (part : InPart) → n < length ins → IsFullOf gathered part → OneIsFull gathered (set ins n part)
+one_is_full gathered ins n part b h = (n, omega (arith, b, length-set ins n part), subst (IsFullOf gathered) (sym (get_or-set_same ins n part no_in b)) h)
+
+-- ---- an input that fits, by its job
+
+module _ {S C : Type 0} (left : S → Option (List ℕ)) (faults : S → ℕ) (moments : C → Option Moments) (place : C → ℕ) (jobs : List (InJob S C)) (i : ℕ) (d : InJob S C) (count : ℕ) (ended : List Bool) (b : i < length jobs) (h : AreInputs count ended (ins_of left faults moments place jobs)) where
+  within : i < count
+  within = omega (arith, b, h.count_is, length-map jobs (in_of left faults moments place))
+
+  at_place : FitsInput i ended (in_of left faults moments place (get_or jobs i d))
+  at_place = subst (FitsInput i ended) (input_here left faults moments place jobs i d b) (h.each i within)
+
+  pub input_number : (get_or jobs i d).input ≡ i
+  input_number = at_place.number
+
+  pub fits_here : FitsInput (get_or jobs i d).input ended (in_of left faults moments place (get_or jobs i d))
+  fits_here = subst (λ (k : ℕ). FitsInput k ended (in_of left faults moments place (get_or jobs i d))) (sym at_place.number) at_place
+
+-- ---- what a gather and an end leave of a core
+
+get_other : (xs : List Bool) (i k : ℕ) (y : Bool) → k ≢ i → slice_get (set xs i y) k ≡ slice_get xs k
+get_other [] i k y ne = refl
+get_other (x ∷ xs) zero zero y ne = absurd (ne refl)
+get_other (x ∷ xs) zero (suc k) y ne = refl
+get_other (x ∷ xs) (suc i) zero y ne = refl
+get_other (x ∷ xs) (suc i) (suc k) y ne = get_other xs i k y (λ e. ne (ap suc e))
+
+get_same : (xs : List Bool) (i : ℕ) (y z : Bool) → slice_get xs i ≡ Some z → slice_get (set xs i y) i ≡ Some y
+get_same [] i y z e = absurd (let n : None ≡ Some z = e in cc)
+get_same (x ∷ xs) zero y z e = refl
+get_same (x ∷ xs) (suc i) y z e = get_same xs i y z e
+
+pub gathered_core : (i : ℕ) (core next : CoreState) (g : Gathered) → next ≡ after_gather core g → IsGatheredAt i core next
+gathered_core i core next g is = record {
+  kept = record {
+    setup = ap (λ (s : CoreState). s.setup) is;
+    held = ap (λ (s : CoreState). s.held) is;
+    stopped = ap (λ (s : CoreState). s.stopped) is;
+    lanes = ap (λ (s : CoreState). s.lanes) is;
+    numbers = ap (λ (s : CoreState). s.numbers.outputs) is;
+    stored = omega (arith, ap (λ (s : CoreState). length s.stored) is, length-append core.stored (gather_entry core g ∷ []));
+  };
+  others = λ k ne. ap (λ (s : CoreState). slice_get s.ended k) is;
+}
+
+-- a gather is an entry more
+pub moved_core : (core next : CoreState) (g : Gathered) → next ≡ after_gather core g → length core.stored < length next.stored
+moved_core core next g is = omega (arith, ap (λ (s : CoreState). length s.stored) is, length-append core.stored (gather_entry core g ∷ []))
+
+pub ended_core : (i : ℕ) (core next : CoreState) → next ≡ after_ended core i → IsGatheredAt i core next
+ended_core i core next is = record {
+  kept = record {
+    setup = ap (λ (s : CoreState). s.setup) is;
+    held = ap (λ (s : CoreState). s.held) is;
+    stopped = ap (λ (s : CoreState). s.stopped) is;
+    lanes = ap (λ (s : CoreState). s.lanes) is;
+    numbers = ap (λ (s : CoreState). s.numbers.outputs) is;
+    stored = omega (arith, ap (λ (s : CoreState). length s.stored) is, length-append core.stored (Ended i ∷ []));
+  };
+  others = λ k ne. ap (λ (s : CoreState). slice_get s.ended k) is ∙ get_other core.ended i k true ne;
+}
+
+pub same_core : (i : ℕ) (core next : CoreState) → next ≡ core → IsGatheredAt i core next
+same_core i core next same = subst (IsGatheredAt i core) (sym same) (record { kept = gathered_none core; others = λ k ne. refl })
+
+-- the core is ready as before
+pub ready_gathered : (i : ℕ) (old new : CoreState) → IsGatheredAt i old new → IsReady old → IsReady new
+ready_gathered i old new h ready = ready_same old new h.kept.setup h.kept.lanes h.kept.held ready
+
+no_end_none : (state : InState) → HoldsNoEnd state None
+no_end_none states.Reading = tt
+no_end_none states.Ended = refl
+no_end_none states.Faulted = tt
+no_end_none states.LimitReached = tt
+
+-- an input that fits, once what it held was gathered, or was too much
+pub fits_gathered : (place : ℕ) (old new : List Bool) (part : InPart) → new ≡ old → FitsInput place old part → FitsInput place new (record part { held = None })
+fits_gathered place old new part same h = record { number = h.number; readable = h.readable; ended_is = ap (λ (ended : List Bool). slice_get ended place) same ∙ h.ended_is; own = tt; none_held = no_end_none part.state }
+
+pub fits_full : (place : ℕ) (old new : List Bool) (part : InPart) (g : Gathered) → new ≡ old → part.held ≡ Some g → FitsInput place old part → FitsInput place new (record part { held = Some g; state = states.LimitReached })
+fits_full place old new part g same held h = record {
+  number = h.number;
+  readable = h.readable;
+  ended_is = ap (λ (ended : List Bool). slice_get ended place) same ∙ h.ended_is ∙ ap Some (not_ended part.state (holds_no_end part.state g (subst (HoldsNoEnd part.state) held h.none_held)));
+  own = subst (λ (x : Option Gathered). IfSome x (λ y. (y.input ≡ part.input) × (length y.metrics ≤ part.rule.most))) held h.own;
+  none_held = tt;
+}
+
+-- and once its end was noted
+pub fits_ended : (core next : CoreState) (part : InPart) → next ≡ after_ended core part.input → part.held ≡ None → part.state ≡ states.Reading → FitsInput part.input core.ended part → FitsInput part.input next.ended (record part { state = states.Ended })
+fits_ended core next part is free reading h = record {
+  number = h.number;
+  readable = h.readable;
+  ended_is = ap (λ (s : CoreState). slice_get s.ended part.input) is ∙ get_same core.ended part.input true (is_ended part.state) h.ended_is;
+  own = subst (λ (x : Option Gathered). IfSome x (λ y. (y.input ≡ part.input) × (length y.metrics ≤ part.rule.most))) (sym free) tt;
+  none_held = free;
+}
+
+get_replicate : (n k : ℕ) → k < n → slice_get (replicate n false) k ≡ Some false
+get_replicate zero k l = absurd (omega (arith, l))
+get_replicate (suc n) zero l = refl
+get_replicate (suc n) (suc k) l = get_replicate n k (omega (arith, l))
+
+-- inputs of which nothing was read fit a core in which nothing happened
+pub fit_first : (n count : ℕ) (ended : List Bool) (ins : List InPart) → count ≡ n → length ins ≡ n → ended ≡ replicate n false → AreFresh ins → AreInputs count ended ins
+fit_first n count ended ins same long none h = record {
+  count_is = long ∙ sym same;
+  each = λ k l.
+      let b : k < length ins = omega (arith, l, same, long) in
+      let fresh = h.fresh k b in
+      record {
+        number = h.numbered k b;
+        readable = h.readable k b;
+        ended_is = ap (λ (xs : List Bool). slice_get xs k) none ∙ get_replicate n k (omega (arith, l, same)) ∙ sym (ap (λ (s : InState). Some (is_ended s)) fresh.reading);
+        own = subst (λ (x : Option Gathered). IfSome x (λ g. (g.input ≡ (in_at ins k).input) × (length g.metrics ≤ (in_at ins k).rule.most))) (sym fresh.none_held) tt;
+        none_held = subst (HoldsNoEnd (in_at ins k).state) (sym fresh.none_held) (no_end_none (in_at ins k).state);
+      };
+}
+
+-- ---- the turn of an input
+
+-- an input that fits, once it was read
+pub fits_read : (ended : List Bool) (old new : InPart) → FitsInput old.input ended old → IsSameInput old new → is_ended new.state ≡ is_ended old.state → HoldsOwn new → HoldsNoEnd new.state new.held → FitsInput new.input ended new
+fits_read ended old new h same state own none = record {
+  number = refl;
+  readable = subst IsReadable (sym same.rule) h.readable;
+  ended_is = ap (slice_get ended) same.input ∙ h.ended_is ∙ ap Some (sym state);
+  own = own;
+  none_held = none;
+}
+
+pub fits_own : (place : ℕ) (ended : List Bool) (part : InPart) → FitsInput place ended part → FitsInput part.input ended part
+fits_own place ended part h = subst (λ (k : ℕ). FitsInput k ended part) (sym h.number) h
+
+-- it is out, or a gather was accepted or items were raw
+pub turn_moved : (met : Bool) (held : Option Gathered) (old offered new : CoreState) (read part last : InPart) → read.held ≡ held → (met ≡ true → read.state ≡ states.Reading) → (met ≡ false → IsMoved read) → (read.held ≢ None → HasMoved old offered) → (read.held ≡ None → part.held ≡ None) → part.state ≡ read.state
+    → last.held ≡ part.held → (met ≡ true → part.held ≡ None → part.state ≡ states.Reading → last.state ≡ states.Ended) → (met ≡ false → last.state ≡ part.state) → length offered.stored ≤ length new.stored → IsOut last ⊎ HasMoved old new
+turn_moved met (Some g) old offered new read part last is reading moved gathered none room held ends unmet grown =
+    elim (gathered (λ e. let x : Some g ≡ None = sym is ∙ e in absurd cc)) [
+      | inl raw ↦ inr (inl raw)
+      | inr more ↦ inr (inr (omega (arith, more, grown)))
+    ]
+turn_moved true None old offered new read part last is reading moved gathered none room held ends unmet grown =
+    let free : part.held ≡ None = none is in
+    let over : last.state ≡ states.Ended = ends refl free (room ∙ reading refl) in
+    inl (record { read = λ e. let x : states.Ended ≡ states.Reading = sym over ∙ e in absurd cc; none_held = held ∙ free })
+turn_moved false None old offered new read part last is reading moved gathered none room held ends unmet grown =
+    elim (moved refl) [
+      | inl some ↦ absurd (some is)
+      | inr stopped ↦ inl (record { read = λ e. stopped (sym room ∙ sym (unmet refl) ∙ e); none_held = held ∙ none is })
+    ]
+
+-- ---- one input
+
+only_first : (P : ℕ → Type 0) → P 0 → (k : ℕ) → k < 1 → P k
+only_first P h zero l = h
+only_first P h (suc k) l = absurd (omega (arith, l))
+
+none_of_tags : (tags : List (List ℕ × List ℕ)) → tags ≡ [] → All IsFilledTag tags
+none_of_tags tags e = subst (All IsFilledTag) (sym e) (λ k d l. absurd (omega (arith, l)))
+
+-- nothing was read of the one
+pub fresh_one : {S C : Type 0} (left : S → Option (List ℕ)) (faults : S → ℕ) (moments : C → Option Moments) (place : C → ℕ) (most : ℕ) (from : S) (by : C) (jobs : List (InJob S C)) → IsOneInput most from by jobs → place by ≡ 0 → 1 ≤ most → AreFresh (ins_of left faults moments place jobs)
+fresh_one {S} {C} left faults moments place most from by jobs h first some =
+    let job : InJob S C = h.0 in
+    let plain : IsPlain most from by job = h.2 in
+    let part : InPart = in_of left faults moments place job in
+    let rule_is : part.rule ≡ plain_rule most = plain.rule in
+    subst (λ (all : List (InJob S C)). AreFresh (ins_of left faults moments place all)) (sym h.1) (record {
+      readable = only_first (λ (k : ℕ). IsReadable (in_at (part ∷ []) k).rule)
+          (record { some = subst (λ (r : InRule). 1 ≤ r.most) (sym rule_is) some; filled = none_of_tags part.rule.globals (ap (λ (r : InRule). r.globals) rule_is) });
+      numbered = only_first (λ (k : ℕ). (in_at (part ∷ []) k).input ≡ k) plain.number;
+      fresh = only_first (λ (k : ℕ). IsFresh (in_at (part ∷ []) k)) (record { hand = plain.hand; place = ap place plain.clock ∙ first; none_held = plain.none_held; reading = plain.reading });
+    })
+
+-- the one at its beginning and now
+pub in_runs_one : (olds news : List InPart) (old new : InPart) → olds ≡ old ∷ [] → news ≡ new ∷ [] → in_runs olds news ≡ in_run old new ∷ []
+in_runs_one olds news old new e f = rw (e, f) refl
+
+pub input_as : (old new : InPart) (most : ℕ) (left new_left : Option (List ℕ)) (faults new_faults : ℕ) (moments : Option Moments) → new.rule ≡ plain_rule most → old.left ≡ left → new.left ≡ new_left → old.read_faults ≡ faults → new.read_faults ≡ new_faults → new.moments ≡ moments →
+    in_run old new ≡ record { rule = plain_rule most; place = change left new_left faults new_faults; moments = moments }
+input_as old new most left new_left faults new_faults moments r l n f g m =
+    ap (λ (x : InRule). let run : InRun = record { rule = x; place = change old.left new.left old.read_faults new.read_faults; moments = new.moments } in run) r
+    ∙ ap (λ (x : Change). let run : InRun = record { rule = plain_rule most; place = x; moments = new.moments } in run) (change_is old.left left new.left new_left old.read_faults faults new.read_faults new_faults l n f g)
+    ∙ ap (λ (x : Option Moments). let run : InRun = record { rule = plain_rule most; place = change left new_left faults new_faults; moments = x } in run) m
+
+-- the list of one output
+pub one_output : {K : Type 0} (held : K → Option (List ℕ)) (faults : K → ℕ) (jobs : List (OutJob K)) (job : OutJob K) → jobs ≡ job ∷ [] → job.output ≡ 0 → AreOutputs 1 (outs_of held faults jobs)
+one_output {K} held faults jobs job e first =
+    subst (λ (all : List (OutJob K)). AreOutputs 1 (outs_of held faults all)) (sym e) (record { count_is = refl; numbered = only_first (λ (k : ℕ). (out_at (out_of held faults job ∷ []) k).output ≡ k) first })
+
+one_of : {X : Type 0} (xs : List X) → length xs ≡ 1 → (x : X) × (xs ≡ x ∷ [])
+one_of [] e = absurd (omega (arith, e))
+one_of (x ∷ []) e = (x, refl)
+one_of (x ∷ y ∷ xs) e = absurd (omega (arith, e))
+
+-- the one input, at the beginning and at the end
+pub run_of_one : {S C : Type 0} (left : S → Option (List ℕ)) (faults : S → ℕ) (moments : C → Option Moments) (place : C → ℕ) (most : ℕ) (from last : S) (by : C) (olds news : List (InJob S C)) → IsOneInput most from by olds → length news ≡ 1 → ((job : InJob S C) → news ≡ job ∷ [] → last ≡ job.source) →
+    AreSameInputs (ins_of left faults moments place olds) (ins_of left faults moments place news)
+    → in_runs (ins_of left faults moments place olds) (ins_of left faults moments place news) ≡ record { rule = plain_rule most; place = change (left from) (left last) (faults from) (faults last); moments = moments by } ∷ []
+run_of_one {S} {C} left faults moments place most from last by olds news h long last_is k =
+    let job : InJob S C = h.0 in
+    let plain : IsPlain most from by job = h.2 in
+    let n = one_of news long in
+    let old : InPart = in_of left faults moments place job in
+    let new : InPart = in_of left faults moments place n.0 in
+    let is : last ≡ n.0.source = last_is n.0 n.1 in
+    let both : AreSameInputs (old ∷ []) (new ∷ []) =
+    subst (λ (all : List (InJob S C)). AreSameInputs (ins_of left faults moments place all) (new ∷ [])) h.1 (subst (λ (all : List (InJob S C)). AreSameInputs (ins_of left faults moments place olds) (ins_of left faults moments place all)) n.1 k) in
+    let same : IsSameInput old new = both.each 0 (omega arith) in
+    in_runs_one (ins_of left faults moments place olds) (ins_of left faults moments place news) old new (ap (λ (all : List (InJob S C)). ins_of left faults moments place all) h.1) (ap (λ (all : List (InJob S C)). ins_of left faults moments place all) n.1)
+    ∙ ap (λ (x : InRun). x ∷ []) (input_as old new most (left from) (left last) (faults from) (faults last) (moments by) (same.rule ∙ plain.rule) (ap left plain.source) (ap left (sym is)) (ap faults plain.source) (ap faults (sym is)) (same.moments ∙ ap moments plain.clock))
+
+-- the one output, at the beginning and at the end
+pub outs_of_one : {K : Type 0} (held : K → Option (List ℕ)) (faults : K → ℕ) (olds news : List (OutJob K)) (old last : OutJob K) → olds ≡ old ∷ [] → length news ≡ 1 → last ≡ get_or news 0 last → out_changes (outs_of held faults olds) (outs_of held faults news) ≡ change (held old.sink) (held last.sink) (faults old.sink) (faults last.sink) ∷ []
+outs_of_one held faults olds [] old last e long v = absurd (omega (arith, long))
+outs_of_one {K} held faults olds (x ∷ []) old last e long v =
+    ap (λ (all : List (OutJob K)). out_changes (outs_of held faults all) (outs_of held faults (x ∷ []))) e ∙ ap (λ (y : OutJob K). change (held old.sink) (held y.sink) (faults old.sink) (faults y.sink) ∷ []) (sym v)
+outs_of_one held faults olds (x ∷ y ∷ news) old last e long v = absurd (omega (arith, long))
+
+-- what was left, of one input and one output
+pub ran_one : (views : List (Content → Option Content)) (tries count : ℕ) (sizes : List (ℕ × ℕ)) (r : Result Ending OutOfMemory) (firsts lasts : List InPart) (ins : List InRun) (outs others : List Change) (noted : Change) (run_moments : Option Moments) → count ≡ 1 → outs ≡ others → (AreSameInputs firsts lasts → in_runs firsts lasts ≡ ins) → OnOk r (AreSameInputs firsts lasts)
+    → IfOk r (λ ending. Ran views tries count sizes ending (in_runs firsts lasts) outs noted run_moments) → IfOk r (λ ending. Ran views tries 1 sizes ending ins others noted run_moments)
+ran_one views tries count sizes (Ok ending) firsts lasts ins outs others noted run_moments one same is k h =
+    subst (λ (n : ℕ). Ran views tries n sizes ending ins others noted run_moments) one
+    (subst (λ (x : List Change). Ran views tries count sizes ending ins x noted run_moments) same
+    (subst (λ (x : List InRun). Ran views tries count sizes ending x outs noted run_moments) (is k) h))
+ran_one views tries count sizes (Err fault) firsts lasts ins outs others noted run_moments one same is k h = tt
+
+pub none_held : (held : Option Gathered) → is_some held ≡ false → held ≡ None
+none_held None e = refl
+none_held (Some g) e = absurd (let x : true ≡ false = e in cc)
+
+-- a list of one that was written over another one
+pub wrote_one : {X : Type 0} (n : ℕ) (news olds : List X) → n ≡ 1 → length news ≡ 1 → take n (news ++ drop (length news) olds) ≡ news
+wrote_one n [] olds e l = absurd (omega (arith, l))
+wrote_one {X} n (x ∷ []) olds e l = ap (λ (k : ℕ). take k (x ∷ drop 1 olds)) e
+wrote_one n (x ∷ y ∷ news) olds e l = absurd (omega (arith, l))

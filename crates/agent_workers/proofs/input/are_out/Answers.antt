@@ -1,0 +1,19 @@
+use Rattle.std.proofs.Common.{◌≡◌, ◌<◌, ◌∙◌, false, length, sym, ap, subst, arith, rules, below_more}
+use Rattle.std.specs.Prelude.{is_some}
+use Rattle.std.specs.declared.option.Option.TheVariants.{None}
+use Rattle.agent_workers.specs.Inputs.{in_of, ins_of, in_at, IsOut}
+use Rattle.agent_workers.specs.declared.input.InState.TheVariants as states
+use Rattle.agent_workers.proofs.InLemmas.{input_here, none_held}
+use Rattle.agent_workers.proofs.input.are_out.Goals as goal
+
+pub loop-job-preserved : goal.loop-job-preserved
+loop-job-preserved g c =
+    let jobs = c.args.inputs.now in
+    let i = c.loop-job.job-index in
+    let b : i < length jobs = omega (arith, c.loop-job-test.true, c.loop-job.auto.job-index-end) in
+    let at : in_at (ins_of g.S.Source.left g.S.Source.faults g.C.Clock.moments g.C.Clock.place jobs) i ≡ in_of g.S.Source.left g.S.Source.faults g.C.Clock.moments g.C.Clock.place c.job-item.result = input_here g.S.Source.left g.S.Source.faults g.C.Clock.moments g.C.Clock.place jobs i c.job-item.result b ∙ ap (in_of g.S.Source.left g.S.Source.faults g.C.Clock.moments g.C.Clock.place) (sym c.job-item.is) in
+    let reading : c.job-item.result.state ≡ states.Reading → ⊥ = search rules in
+    let none : is_some c.job-item.result.held ≡ false = search rules in
+    let free : c.job-item.result.held ≡ None = none_held c.job-item.result.held none in
+    let here : IsOut (in_of g.S.Source.left g.S.Source.faults g.C.Clock.moments g.C.Clock.place c.job-item.result) = record { read = reading; none_held = free } in
+    below_more _ _ c.loop-job.invariant (subst IsOut (sym at) here)

@@ -1,0 +1,124 @@
+-- How the pieces of an input are read, and what is kept of them.
+use Rattle.std.specs.Prelude.{ℕ, ℤ, min, Bool, true, false, List, [], ◌∷◌, Result, Ok, Err, count_by, map}
+use Rattle.std.specs.List.{filter_map}
+use Rattle.std.specs.declared.option.Option.{Option}
+use Rattle.std.specs.declared.option.Option.TheVariants.{Some, None}
+use Rattle.agent_base.specs.Cut.{Cut, TooLong, Whole}
+use Rattle.agent_base.specs.Cut as lines
+use Rattle.agent_base.specs.declared.piece.CutKind.TheVariants.{Lines}
+use Rattle.agent_config.specs.declared.config.InFormat.{InFormat}
+use Rattle.agent_config.specs.declared.config.InFormat.TheVariants.{Influx}
+use Rattle.line_proto.specs.declared.fault.LineFault.{LineFault}
+use Rattle.line_proto.specs.Reading.{reading}
+use Rattle.metric.specs.Pairs.{with_all_missing}
+use Rattle.metric.specs.declared.metric.Content.{Content}
+use Rattle.metric_filter.specs.Filter.{filtered}
+use Rattle.metric_filter.specs.declared.rules.FilterRules.{FilterRules}
+use Rattle.agent_workers.specs.declared.input.InJob.{InJob}
+use Rattle.agent_workers.specs.declared.reading.ReadRule.{ReadRule}
+
+-- what a piece says at a moment: it is refused; or it says metrics, and so many samples of it are passed over
+pub data PieceSays : Type 0 where
+  Refused : PieceSays
+  Says : List Content → ℕ → PieceSays
+
+-- how a text is cut into pieces, and what a piece that isn't too long says at a moment
+pub record Reader : Type 0 where
+  pub cut : List ℕ → List Cut
+  pub say : ℤ → List ℕ → PieceSays
+
+-- a line says its metric, and one that is blank or a comment none; no sample is passed over
+abbrev pub line_says : Result (Option Content) LineFault → PieceSays
+line_says (Ok None) = Says [] 0
+line_says (Ok (Some metric)) = Says (metric ∷ []) 0
+line_says (Err fault) = Refused
+
+-- what a piece says in a format
+abbrev pub say_in : InFormat → ℤ → List ℕ → PieceSays
+say_in Influx moment piece = line_says (reading piece moment)
+
+-- the reader of a format; each is read in lines
+abbrev pub reader_of : InFormat → Reader
+reader_of format = record { cut = lines.cut Lines; say = say_in format }
+
+-- by what rule an input is read: its format, the tags that each metric gets that lacks them, what is kept of a
+-- metric, and how many pieces a gather has at most
+pub record InRule : Type 0 where
+  pub format : InFormat
+  pub globals : List (List ℕ × List ℕ)
+  pub keep : Content → Option Content
+  pub most : ℕ
+
+-- a filter keeps its result for a metric
+abbrev pub in_rule : InFormat → List (List ℕ × List ℕ) → FilterRules → ℕ → InRule
+in_rule format globals filter most = record { format = format; globals = globals; keep = filtered filter; most = most }
+
+-- line protocol with no global tags, of which each metric is kept
+abbrev pub plain_rule : ℕ → InRule
+plain_rule most = record { format = Influx; globals = []; keep = λ metric. Some metric; most = most }
+
+-- the rule of a job, and of what is handed down of it
+abbrev pub rule_of : {S C : Type 0} → InJob S C → InRule
+rule_of job = in_rule job.format job.globals job.filter job.gather_pieces
+
+abbrev pub rule_view : ReadRule → InRule
+rule_view rule = in_rule rule.format rule.globals.now rule.filter.now rule.most
+
+-- what a piece says: one that is too long is refused
+abbrev pub says : InRule → ℤ → Cut → PieceSays
+says rule moment TooLong = Refused
+says rule moment (Whole piece) = (reader_of rule.format).say moment piece
+
+abbrev pub is_refusal : PieceSays → Bool
+is_refusal Refused = true
+is_refusal (Says metrics passed) = false
+
+abbrev pub metrics_of : PieceSays → List Content
+metrics_of Refused = []
+metrics_of (Says metrics passed) = metrics
+
+abbrev pub passed_of : PieceSays → ℕ
+passed_of Refused = 0
+passed_of (Says metrics passed) = passed
+
+-- what is kept of a metric once it has the global tags that it lacks
+abbrev pub keeps : InRule → Content → Option Content
+keeps rule metric = rule.keep (record metric { tags = with_all_missing metric.tags rule.globals })
+
+abbrev pub is_none : Option Content → Bool
+is_none None = true
+is_none (Some metric) = false
+
+-- what is kept of metrics, and of how many of them nothing is
+abbrev pub kept : InRule → List Content → List Content
+kept rule metrics = filter_map (keeps rule) metrics
+
+abbrev pub filtered_out : InRule → List Content → ℕ
+filtered_out rule metrics = count_by (λ metric. is_none (keeps rule metric)) metrics
+
+-- is a piece refused at a moment
+abbrev pub is_refused : InRule → ℤ → Cut → Bool
+is_refused rule moment piece = is_refusal (says rule moment piece)
+
+-- the metrics that are kept of a piece, how many of its metrics are not, and how many of its samples are passed
+-- over
+abbrev pub kept_of : InRule → ℤ → Cut → List Content
+kept_of rule moment piece = kept rule (metrics_of (says rule moment piece))
+
+abbrev pub filtered_of : InRule → ℤ → Cut → ℕ
+filtered_of rule moment piece = filtered_out rule (metrics_of (says rule moment piece))
+
+abbrev pub passed_over : InRule → ℤ → Cut → ℕ
+passed_over rule moment piece = passed_of (says rule moment piece)
+
+-- a count that stands still at 4,294,967,295
+abbrev pub capped : ℕ → ℕ
+capped n = min n 4294967295
+
+-- what the filters of outputs give
+abbrev pub views_by : List FilterRules → List (Content → Option Content)
+views_by filters = map filtered filters
+
+-- one output to which each metric goes as it is
+abbrev pub plain_view : List (Content → Option Content)
+plain_view = (λ metric. Some metric) ∷ []

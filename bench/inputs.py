@@ -1,7 +1,7 @@
-"""Writes an input of line protocol, or of lines of StatsD or Graphite: inputs.py KIND LINES FILE.
+"""Writes an input of line protocol, of lines of StatsD or Graphite, or of expositions: inputs.py KIND LINES FILE.
 
-KIND is telegraf, small, escaped, statsd or graphite. The same words give the same bytes, and a shorter input begins a
-longer one. Each line of line protocol is as Hogzent writes it (tags sorted by key, canonical numbers with at
+KIND is telegraf, small, escaped, statsd, graphite or openmetrics; of the last LINES are its samples, 1,000 an exposition.
+The same words give the same bytes, and a shorter input begins a longer one. Each line of line protocol is as Hogzent writes it (tags sorted by key, canonical numbers with at
 most nine decimals, a time), so that an output must equal its input. Only escaped has backslashes and double
 quotes.
 """
@@ -145,9 +145,36 @@ def graphite_line(rng, number):
     return "%s %s %d\n" % (path, decimal(rng, 500, 3), time)
 
 
+# The families of an exposition, each with its type and its labels beside the instance; each has a hundred samples.
+FAMILIES = [
+    ("http_requests_total", "counter", ("code", "handler", "method")), ("go_goroutines", "gauge", ()),
+    ("http_request_duration_seconds_sum", "gauge", ("handler",)), ("node_cpu_seconds_total", "counter", ("cpu", "mode")),
+    ("node_filesystem_avail_bytes", "gauge", ("device", "fstype", "mountpoint")), ("up", "gauge", ("job",)),
+    ("node_memory_MemFree_bytes", "gauge", ()), ("process_cpu_seconds_total", "counter", ()),
+    ("node_network_receive_bytes_total", "counter", ("device",)), ("grpc_server_handled_total", "counter", ("method",)),
+]
+LABEL_VALUES = {
+    "code": ["200", "302", "404", "500"], "handler": PATHS, "method": ["get", "post", "put"], "job": SERVICES,
+    "cpu": ["0", "1", "2", "3"], "mode": ["idle", "user", "system", "iowait"], "device": DEVICES,
+    "fstype": ["ext4", "xfs"], "mountpoint": PATHS,
+}
+
+
+def openmetrics_line(rng, number):
+    """A sample as exporters have it, with what stands before and behind it in its exposition."""
+    family, kind, keys = FAMILIES[number % 1000 // 100]
+    front = "# HELP %s Some help of it.\n# TYPE %s %s\n" % (family, family, kind) if number % 100 == 0 else ""
+    labels = [("instance", "node-%04d.example.net:9100" % (number % 100))]
+    labels += [(key, rng.choice(LABEL_VALUES[key])) for key in keys]
+    inside = ",".join('%s="%s"' % pair for pair in labels)
+    value = "%d" % rng.randrange(1 << 30) if rng.random() < 0.5 else decimal(rng, 10_000, 6)
+    back = "# EOF\n" if number % 1000 == 999 else ""
+    return "%s%s{%s} %s %d\n%s" % (front, family, inside, value, START + number // 1000 * 10, back)
+
+
 KINDS = {
     "telegraf": telegraf_line, "small": small_line, "escaped": escaped_line, "statsd": statsd_line,
-    "graphite": graphite_line,
+    "graphite": graphite_line, "openmetrics": openmetrics_line,
 }
 
 

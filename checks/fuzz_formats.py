@@ -7,8 +7,9 @@ module format_FORMAT gives, which follows docs/formats.md alone. Where the forma
 agent: `pipe` must write these lines too, and what it wrote must be read by `pipe` without a refusal and written
 again, as the same line; where the document itself has another line, that one must come, and the number of these
 lines is printed. Graphite is read with seeded separators and templates, written too, also from line protocol, and
-of lists of texts each must be templates, or no templates, in both. Of the differences the first ten are printed,
-with their bytes.
+of lists of texts each must be templates, or no templates, in both. Expositions are read with types and without, and
+written, also from line protocol; those at whole seconds go through the Python client of Prometheus too, where there
+is one. Of the differences the first ten are printed, with their bytes.
 """
 
 import importlib
@@ -35,9 +36,10 @@ SHOWN = 10
 LINES_EACH = 200
 LINES_PER_LIST = 20
 
-# How texts are read and written: the words of the probe, the plain reading of a piece, which gives a metric, none or a
-# list of them, and the plain writing, which gives the lines of a metric.
-Way = namedtuple("Way", "words read write")
+# So many metrics make an exposition.
+BATCH = 1_000
+# Where Debian puts the Python client of Prometheus.
+CLIENT = "/usr/lib/python3/dist-packages"
 
 
 def pieces_of(text):
@@ -47,27 +49,34 @@ def pieces_of(text):
     return pieces + ([None if len(rest) > LONGEST else rest] if rest else [])
 
 
+# How texts are read and written: the words of the probe, the plain reading of a piece, which gives its metrics and how
+# many samples are passed over, the plain writing, which gives the lines of a metric, and how a text is cut.
+Way = namedtuple("Way", "words read write cut", defaults=[pieces_of])
+
+
 def expected_of(way, text):
-    """What the probe is to write of a line: the lines for its pieces, and how many were refused and read."""
-    told, refused, metrics = [], 0, 0
-    pieces = pieces_of(text)
+    """What the probe is to write of a text: the lines for its pieces, and the numbers of these."""
+    told, refused, passed, metrics = [], 0, 0, 0
+    pieces = way.cut(text)
     for piece in pieces:
         try:
             if piece is None:
                 raise TooLong
-            for metric in read_all(way, piece):
+            read, more = way.read(piece, MOMENT)
+            for metric in read:
                 told += way.write(metric)
                 metrics += 1
+            passed += more
         except (Refused, TooLong) as fault:
             told.append(str(fault).encode())
             refused += 1
-    return told, (len(pieces), refused, metrics)
+    return told, (len(pieces), refused, passed, metrics)
 
 
-def read_all(way, piece):
-    """The metrics of a piece, as a list."""
-    read = way.read(piece, MOMENT)
-    return read if isinstance(read, list) else [] if read is None else [read]
+def listed(read, piece, moment):
+    """The metrics of a piece, of a reading that gives one, none or a list of them; no sample is passed over."""
+    metrics = read(piece, moment)
+    return (metrics if isinstance(metrics, list) else [] if metrics is None else [metrics]), 0
 
 
 class TooLong(Exception):
@@ -86,8 +95,8 @@ def probed(probe, words, lines):
 def wanted(expected):
     """What it is to write of lines, given what is expected of each."""
     told = [it for one, _ in expected for it in one]
-    sums = tuple(sum(numbers[at] for _, numbers in expected) for at in range(3))
-    told.append(b"pieces %d refused %d passed 0 metrics %d" % sums)
+    sums = tuple(sum(numbers[at] for _, numbers in expected) for at in range(4))
+    told.append(b"pieces %d refused %d passed %d metrics %d" % sums)
     return b"".join(it + b"\n" for it in told)
 
 
@@ -121,15 +130,15 @@ def compare_endings(way, example, probe):
     return found
 
 
-def compare_lines(parts, probe):
+def compare_lines(parts, probe, between=b"\n"):
     """Compares what the probe writes of parts, each a way and its lines; a text for each line where they differ."""
     found, kinds = [], {}
     for way, lines in parts:
         # What follows the last newline is a piece too.
-        lines = [line + b"\n" for line in lines[:-1]] + lines[-1:]
+        lines = [line + between for line in lines[:-1]] + lines[-1:]
         expected = [expected_of(way, line) for line in lines]
-        for told, (_, refused, metrics) in expected:
-            kind = told[0].split()[0].decode() if refused else "metrics" if metrics else "nothing"
+        for told, (_, refused, _, metrics) in expected:
+            kind = "metrics" if metrics else told[0].split()[0].decode() if refused else "nothing"
             kinds[kind] = kinds.get(kind, 0) + 1
         for at in differing(probe, way.words, lines, expected, MOST - len(found)):
             texts = (way.words, lines[at], probed(probe, way.words, [lines[at]]), wanted(expected[at : at + 1]))
@@ -151,13 +160,13 @@ def chunks(way, lines):
 
 def way_of(reader, form):
     """How a format is read and written as line protocol, without further words."""
-    return Way([form, "influx"], reader.read, lambda metric: [format_influx.write(metric)])
+    return Way([form, "influx"], partial(listed, reader.read), lambda metric: [format_influx.write(metric)])
 
 
 def graphite_ways(reader, separator, texts):
     """How Graphite is read with a separator and templates, and written as line protocol and as Graphite."""
     templates = [reader.read_template(text) for text in texts]
-    read = partial(reader.read, templates=templates, separator=separator)
+    read = partial(listed, partial(reader.read, templates=templates, separator=separator))
     words = [separator, *texts]
     yield Way(["graphite", "influx", *words], read, lambda metric: [format_influx.write(metric)])
     yield Way(["graphite", "graphite", *words], read, reader.write)
@@ -185,12 +194,126 @@ def compare_graphite(reader, rng, count, probe):
     written = compare_lines(shown[1], probe)
     report("graphite, %d lines, written as Graphite" % count, written)
     lines = list(reader.written_lines(rng, count // 2)) + list(format_influx.lines(rng, count - count // 2))
-    others = compare_lines(chunks(Way(["influx", "graphite"], format_influx.read, reader.write), lines), probe)
+    others = compare_lines(chunks(Way(["influx", "graphite"], partial(listed, format_influx.read), reader.write), lines), probe)
     report("influx, %d lines, written as Graphite" % count, others)
     lists = list(reader.template_lists(rng, count // LINES_PER_LIST))
     refused = compare_templates(reader, lists, probe)
     report("graphite, %d lists of templates" % len(lists), refused)
     return found + written + others + refused
+
+
+def batches_of(way, text):
+    """The batches of a text's metrics, and what the probe is to write of it where they are written as expositions."""
+    told, batches = [], [[]]
+    expected, numbers = expected_of(way._replace(write=lambda metric: [metric]), text)
+    for one in expected:
+        if isinstance(one, bytes):
+            told.append(one + b"\n")
+            continue
+        batches[-1].append(one)
+        if len(batches[-1]) == BATCH:
+            told.append(way.write(batches[-1]))
+            batches.append([])
+    batches = [batch for batch in batches if batch]
+    if batches and len(batches[-1]) < BATCH:
+        told.append(way.write(batches[-1]))
+    return batches, b"".join(told) + wanted([([], numbers)])
+
+
+def compare_batches(parts, probe):
+    """Compares what the probe writes of parts as expositions, each a way and its texts; the differences, of few texts
+    each, and the batches."""
+    found, batches = [], []
+    for way, texts in parts:
+        batches += batches_of(way, b"".join(texts))[0]
+        while texts and probed(probe, way.words, texts) != batches_of(way, b"".join(texts))[1]:
+            half = len(texts) // 2
+            halves = [part for part in (texts[:half], texts[half:]) if part and len(part) < len(texts)]
+            halves = [part for part in halves if probed(probe, way.words, part) != batches_of(way, b"".join(part))[1]]
+            if not halves:
+                said, right = probed(probe, way.words, texts), batches_of(way, b"".join(texts))[1]
+                found.append("%r\n    texts:    %r\n    probe:    %r\n    document: %r" % (way.words, texts, said, right))
+            texts = halves[0] if halves else []
+    return found, batches
+
+
+def client_families():
+    """The Python client's parser of expositions; None where there is none."""
+    try:
+        return importlib.import_module("prometheus_client.openmetrics.parser").text_string_to_metric_families
+    except ImportError:
+        if CLIENT in sys.path:
+            return None
+        sys.path.append(CLIENT)
+        return client_families()
+
+
+def client_samples(parse, text):
+    """What the client reads in an exposition: its families with their samples."""
+    try:
+        return [
+            (one.name, one.type, [(it.name, it.labels, float(it.value), float(it.timestamp)) for it in one.samples])
+            for one in parse(text.decode())
+        ]
+    except ValueError as fault:
+        return repr(fault)
+
+
+def compare_client(reader, batches):
+    """Compares what the client reads in the expositions of batches with their samples; a text for each difference."""
+    found, parse = [], client_families()
+    if parse is None:
+        print("fuzz-formats: left out: there is no Python client of Prometheus")
+        return found
+    for batch in batches:
+        right = [
+            (family.decode(), "unknown", [sample_behind(family, *sample) for sample in samples])
+            for family, samples in reader.families_of(batch)
+        ]
+        said = client_samples(parse, reader.write(batch))
+        if said != right:
+            found.append("client:   %r\n    document: %r" % (said, right))
+    return found
+
+
+def sample_behind(family, labels, text, time):
+    """A sample as the client gives it."""
+    labels = {label.decode(): value.decode() for label, value in labels.items()}
+    return family.decode(), labels, float(text), float(time // format_influx.BILLION)
+
+
+def compare_openmetrics(reader, rng, count, probe):
+    """Compares the reading of expositions, and the writing; the differences."""
+    texts = list(reader.texts(rng, count))
+    ways = [
+        Way(["openmetrics", "influx", *words], partial(reader.read, type_tag=bool(words)), write_line, reader.pieces_of)
+        for words in ([], ["type_tag"])
+    ]
+    # A text without its last newline, or without an end, is a piece with the next one: it stands alone.
+    ended = [text for text in texts if text.endswith((b"\n# EOF\n",)) or text == b"# EOF\n"]
+    alone = [text for text in texts if not (text.endswith((b"\n# EOF\n",)) or text == b"# EOF\n")]
+    parts = [part for at, way in enumerate(ways) for part in chunks(way, ended[at::2])]
+    parts += [(ways[at % 2], [text]) for at, text in enumerate(alone)]
+    found = compare_lines(parts, probe, b"")
+    report("openmetrics, %d texts, beside a reading by docs/formats.md" % count, found)
+    way = Way(["openmetrics", "openmetrics"], reader.read, reader.write, reader.pieces_of)
+    again, _ = compare_batches(chunks(way, ended), probe)
+    report("openmetrics, %d texts, written as expositions" % len(ended), again)
+    way = Way(["influx", "openmetrics"], partial(listed, format_influx.read), reader.write)
+    lines = [line + b"\n" for line in list(reader.lines(rng, count)) + list(format_influx.lines(rng, count // 4))]
+    written, _ = compare_batches(chunks(way, lines), probe)
+    report("influx, %d lines, written as expositions" % len(lines), written)
+    whole = [line for line in lines if line.endswith(b"000000000\n") or line.endswith(b" 0\n")]
+    others, batches = compare_batches(chunks(way, whole), probe)
+    whole = [[metric for metric in batch if metric[3] % format_influx.BILLION == 0] for batch in batches]
+    clients = compare_client(reader, whole)
+    report("influx, %d batches, written as expositions, through the Python client" % len(whole), clients)
+    return found + again + written + others + clients
+
+
+def write_line(metric):
+    """The line of a metric."""
+    return [format_influx.write(metric)]
 
 
 def piped(program, source, target):
@@ -277,8 +400,9 @@ def main(form, count, seed, probe, program):
     """Makes the lines and compares; the status."""
     reader = importlib.import_module("format_" + form)
     rng, count = random.Random("%s %s" % (form, seed)), int(count)
-    if form == "graphite":
-        return 1 if compare_graphite(reader, rng, count, probe) else 0
+    if form in ("graphite", "openmetrics"):
+        compare = compare_graphite if form == "graphite" else compare_openmetrics
+        return 1 if compare(reader, rng, count, probe) else 0
     lines, way = list(reader.lines(rng, count)), way_of(reader, form)
     reading = compare_reading(way, reader.EXAMPLES[0], chunks(way, lines), probe)
     report("%s, %d lines, beside a reading by docs/formats.md" % (form, count), reading)

@@ -14,3 +14,4 @@ pub mod Hand
 pub mod PieceAnswers
 pub mod Taken
 pub mod Buffered
+pub mod Views

@@ -28,12 +28,12 @@ impl<S: Source + Send + Drop, K: Sink + Send + Drop> MemWorld<S, K> {
 
     /// A world without places and clocks, and with an empty report.
     pub fn new(alloc: Global) -> MemWorld<S, K>
-        ensures ins { (place : List ℕ) → ⟦<MemWorld<S, K> as World>⟧.in_at result place ≡ empty_place }
-        ensures outs { (place : List ℕ) → ⟦<MemWorld<S, K> as World>⟧.out_at result place ≡ empty_place }
-        ensures ins_home { AreHome (⟦<MemWorld<S, K> as World>⟧.in_at result) }
-        ensures outs_home { AreHome (⟦<MemWorld<S, K> as World>⟧.out_at result) }
-        ensures rest { ⟦<MemWorld<S, K> as World>⟧.rest result ≡ record { reported = Some []; report_faults = 0 } }
-        ensures moments { (who : ℕ) → ⟦<MemWorld<S, K> as World>⟧.moments result who ≡ Some (moments_of []) }
+        ensures ins { (place : List ℕ) → (⟦<MemWorld<S, K> as World>⟧.view result).ins place ≡ empty_place }
+        ensures outs { (place : List ℕ) → (⟦<MemWorld<S, K> as World>⟧.view result).outs place ≡ empty_place }
+        ensures ins_home { AreHome ((⟦<MemWorld<S, K> as World>⟧.view result).ins) }
+        ensures outs_home { AreHome ((⟦<MemWorld<S, K> as World>⟧.view result).outs) }
+        ensures rest { (⟦<MemWorld<S, K> as World>⟧.view result).report ≡ record { reported = Some []; report_faults = 0 } }
+        ensures moments { (who : ℕ) → (⟦<MemWorld<S, K> as World>⟧.view result).clocks who ≡ Some (moments_of []) }
     {
         MemWorld {
             alloc,
@@ -47,23 +47,23 @@ impl<S: Source + Send + Drop, K: Sink + Send + Drop> MemWorld<S, K> {
     /// Puts a source at an input place.
     pub fn add_in(&mut self, place: &str, s: S) -> Result<(), OutOfMemory>
         ensures added { OnOk result
-            (TakesIn (S.left s) (S.faults s) (⟦<MemWorld<S, K> as World>⟧.in_at self.old place.now)
-            (⟦<MemWorld<S, K> as World>⟧.in_at self.new place.now)) }
-        ensures others { SameBut place.now (⟦<MemWorld<S, K> as World>⟧.in_at self.old)
-            (⟦<MemWorld<S, K> as World>⟧.in_at self.new) }
+            (TakesIn (S.left s) (S.faults s) ((⟦<MemWorld<S, K> as World>⟧.view self.old).ins place.now)
+            ((⟦<MemWorld<S, K> as World>⟧.view self.new).ins place.now)) }
+        ensures others { SameBut place.now ((⟦<MemWorld<S, K> as World>⟧.view self.old).ins)
+            ((⟦<MemWorld<S, K> as World>⟧.view self.new).ins) }
         ensures refused { OnErr result
-            (SameAtAll (⟦<MemWorld<S, K> as World>⟧.in_at self.old)
-            (⟦<MemWorld<S, K> as World>⟧.in_at self.new)) }
-        ensures home { AreHome (⟦<MemWorld<S, K> as World>⟧.in_at self.old)
-            → AreHome (⟦<MemWorld<S, K> as World>⟧.in_at self.new) }
+            (SameAtAll ((⟦<MemWorld<S, K> as World>⟧.view self.old).ins)
+            ((⟦<MemWorld<S, K> as World>⟧.view self.new).ins)) }
+        ensures home { AreHome ((⟦<MemWorld<S, K> as World>⟧.view self.old).ins)
+            → AreHome ((⟦<MemWorld<S, K> as World>⟧.view self.new).ins) }
 
-        ensures outs { SameAtAll (⟦<MemWorld<S, K> as World>⟧.out_at self.old)
-            (⟦<MemWorld<S, K> as World>⟧.out_at self.new) }
-        ensures outs_home { AreHome (⟦<MemWorld<S, K> as World>⟧.out_at self.old)
-            → AreHome (⟦<MemWorld<S, K> as World>⟧.out_at self.new) }
-        ensures rest { ⟦<MemWorld<S, K> as World>⟧.rest self.new ≡ ⟦<MemWorld<S, K> as World>⟧.rest self.old }
-        ensures moments { SameAtAll (⟦<MemWorld<S, K> as World>⟧.moments self.old)
-            (⟦<MemWorld<S, K> as World>⟧.moments self.new) }
+        ensures outs { SameAtAll ((⟦<MemWorld<S, K> as World>⟧.view self.old).outs)
+            ((⟦<MemWorld<S, K> as World>⟧.view self.new).outs) }
+        ensures outs_home { AreHome ((⟦<MemWorld<S, K> as World>⟧.view self.old).outs)
+            → AreHome ((⟦<MemWorld<S, K> as World>⟧.view self.new).outs) }
+        ensures rest { (⟦<MemWorld<S, K> as World>⟧.view self.new).report ≡ (⟦<MemWorld<S, K> as World>⟧.view self.old).report }
+        ensures moments { SameAtAll ((⟦<MemWorld<S, K> as World>⟧.view self.old).clocks)
+            ((⟦<MemWorld<S, K> as World>⟧.view self.new).clocks) }
     {
         add(self.alloc, &mut self.ins, place, s)
     }
@@ -71,23 +71,23 @@ impl<S: Source + Send + Drop, K: Sink + Send + Drop> MemWorld<S, K> {
     /// Puts a sink at an output place.
     pub fn add_out(&mut self, place: &str, s: K) -> Result<(), OutOfMemory>
         ensures added { OnOk result
-            (TakesIn (K.held s) (K.faults s) (⟦<MemWorld<S, K> as World>⟧.out_at self.old place.now)
-            (⟦<MemWorld<S, K> as World>⟧.out_at self.new place.now)) }
-        ensures others { SameBut place.now (⟦<MemWorld<S, K> as World>⟧.out_at self.old)
-            (⟦<MemWorld<S, K> as World>⟧.out_at self.new) }
+            (TakesIn (K.held s) (K.faults s) ((⟦<MemWorld<S, K> as World>⟧.view self.old).outs place.now)
+            ((⟦<MemWorld<S, K> as World>⟧.view self.new).outs place.now)) }
+        ensures others { SameBut place.now ((⟦<MemWorld<S, K> as World>⟧.view self.old).outs)
+            ((⟦<MemWorld<S, K> as World>⟧.view self.new).outs) }
         ensures refused { OnErr result
-            (SameAtAll (⟦<MemWorld<S, K> as World>⟧.out_at self.old)
-            (⟦<MemWorld<S, K> as World>⟧.out_at self.new)) }
-        ensures home { AreHome (⟦<MemWorld<S, K> as World>⟧.out_at self.old)
-            → AreHome (⟦<MemWorld<S, K> as World>⟧.out_at self.new) }
+            (SameAtAll ((⟦<MemWorld<S, K> as World>⟧.view self.old).outs)
+            ((⟦<MemWorld<S, K> as World>⟧.view self.new).outs)) }
+        ensures home { AreHome ((⟦<MemWorld<S, K> as World>⟧.view self.old).outs)
+            → AreHome ((⟦<MemWorld<S, K> as World>⟧.view self.new).outs) }
 
-        ensures ins { SameAtAll (⟦<MemWorld<S, K> as World>⟧.in_at self.old)
-            (⟦<MemWorld<S, K> as World>⟧.in_at self.new) }
-        ensures ins_home { AreHome (⟦<MemWorld<S, K> as World>⟧.in_at self.old)
-            → AreHome (⟦<MemWorld<S, K> as World>⟧.in_at self.new) }
-        ensures rest { ⟦<MemWorld<S, K> as World>⟧.rest self.new ≡ ⟦<MemWorld<S, K> as World>⟧.rest self.old }
-        ensures moments { SameAtAll (⟦<MemWorld<S, K> as World>⟧.moments self.old)
-            (⟦<MemWorld<S, K> as World>⟧.moments self.new) }
+        ensures ins { SameAtAll ((⟦<MemWorld<S, K> as World>⟧.view self.old).ins)
+            ((⟦<MemWorld<S, K> as World>⟧.view self.new).ins) }
+        ensures ins_home { AreHome ((⟦<MemWorld<S, K> as World>⟧.view self.old).ins)
+            → AreHome ((⟦<MemWorld<S, K> as World>⟧.view self.new).ins) }
+        ensures rest { (⟦<MemWorld<S, K> as World>⟧.view self.new).report ≡ (⟦<MemWorld<S, K> as World>⟧.view self.old).report }
+        ensures moments { SameAtAll ((⟦<MemWorld<S, K> as World>⟧.view self.old).clocks)
+            ((⟦<MemWorld<S, K> as World>⟧.view self.new).clocks) }
     {
         add(self.alloc, &mut self.outs, place, s)
     }
@@ -98,52 +98,52 @@ impl<S: Source + Send + Drop, K: Sink + Send + Drop> MemWorld<S, K> {
         requires unstopped { ⟦<MemClock as Clock>⟧.stopped c ≡ false }
 
         ensures added { OnOk result
-            (⟦<MemWorld<S, K> as World>⟧.moments self.new who ≡ ⟦<MemClock as Clock>⟧.moments c) }
-        ensures others { SameBut who (⟦<MemWorld<S, K> as World>⟧.moments self.old)
-            (⟦<MemWorld<S, K> as World>⟧.moments self.new) }
+            ((⟦<MemWorld<S, K> as World>⟧.view self.new).clocks who ≡ ⟦<MemClock as Clock>⟧.moments c) }
+        ensures others { SameBut who ((⟦<MemWorld<S, K> as World>⟧.view self.old).clocks)
+            ((⟦<MemWorld<S, K> as World>⟧.view self.new).clocks) }
         ensures refused { OnErr result
-            (SameAtAll (⟦<MemWorld<S, K> as World>⟧.moments self.old)
-            (⟦<MemWorld<S, K> as World>⟧.moments self.new)) }
+            (SameAtAll ((⟦<MemWorld<S, K> as World>⟧.view self.old).clocks)
+            ((⟦<MemWorld<S, K> as World>⟧.view self.new).clocks)) }
 
-        ensures ins { SameAtAll (⟦<MemWorld<S, K> as World>⟧.in_at self.old)
-            (⟦<MemWorld<S, K> as World>⟧.in_at self.new) }
-        ensures ins_home { AreHome (⟦<MemWorld<S, K> as World>⟧.in_at self.old)
-            → AreHome (⟦<MemWorld<S, K> as World>⟧.in_at self.new) }
-        ensures outs { SameAtAll (⟦<MemWorld<S, K> as World>⟧.out_at self.old)
-            (⟦<MemWorld<S, K> as World>⟧.out_at self.new) }
-        ensures outs_home { AreHome (⟦<MemWorld<S, K> as World>⟧.out_at self.old)
-            → AreHome (⟦<MemWorld<S, K> as World>⟧.out_at self.new) }
-        ensures rest { ⟦<MemWorld<S, K> as World>⟧.rest self.new ≡ ⟦<MemWorld<S, K> as World>⟧.rest self.old }
+        ensures ins { SameAtAll ((⟦<MemWorld<S, K> as World>⟧.view self.old).ins)
+            ((⟦<MemWorld<S, K> as World>⟧.view self.new).ins) }
+        ensures ins_home { AreHome ((⟦<MemWorld<S, K> as World>⟧.view self.old).ins)
+            → AreHome ((⟦<MemWorld<S, K> as World>⟧.view self.new).ins) }
+        ensures outs { SameAtAll ((⟦<MemWorld<S, K> as World>⟧.view self.old).outs)
+            ((⟦<MemWorld<S, K> as World>⟧.view self.new).outs) }
+        ensures outs_home { AreHome ((⟦<MemWorld<S, K> as World>⟧.view self.old).outs)
+            → AreHome ((⟦<MemWorld<S, K> as World>⟧.view self.new).outs) }
+        ensures rest { (⟦<MemWorld<S, K> as World>⟧.view self.new).report ≡ (⟦<MemWorld<S, K> as World>⟧.view self.old).report }
     {
         put_moments(&mut self.clocks, who, c.into_moments())
     }
 
     /// Whether a source stands at an input place. Where none does, the place tells no bytes and no faults.
     pub fn has_in(&self, place: &str) -> bool
-        ensures { result ≡ false → IsTold None 0 (⟦<MemWorld<S, K> as World>⟧.in_at self.now place.now) }
+        ensures { result ≡ false → IsTold None 0 ((⟦<MemWorld<S, K> as World>⟧.view self.now).ins place.now) }
     {
         has_part(&self.ins, place)
     }
 
     /// Whether a sink stands at an output place. Where none does, the place tells no bytes and no faults.
     pub fn has_out(&self, place: &str) -> bool
-        ensures { result ≡ false → IsTold None 0 (⟦<MemWorld<S, K> as World>⟧.out_at self.now place.now) }
+        ensures { result ≡ false → IsTold None 0 ((⟦<MemWorld<S, K> as World>⟧.view self.now).outs place.now) }
     {
         has_part(&self.outs, place)
     }
 
     /// The sink of an output place, where it isn't out.
     pub fn out(&self, place: &str) -> Option<&K>
-        ensures { MatchOption result ((⟦<MemWorld<S, K> as World>⟧.out_at self.now place.now).bytes ≡ None)
+        ensures { MatchOption result (((⟦<MemWorld<S, K> as World>⟧.view self.now).outs place.now).bytes ≡ None)
             (λ sink. IsTold (K.held sink.now) (K.faults sink.now)
-            (⟦<MemWorld<S, K> as World>⟧.out_at self.now place.now)) }
+            ((⟦<MemWorld<S, K> as World>⟧.view self.now).outs place.now)) }
     {
         part_of(&self.outs, place)
     }
 
     /// What was reported.
     pub fn reported(&self) -> &[u8]
-        ensures { Some result.now ≡ (⟦<MemWorld<S, K> as World>⟧.rest self.now).reported }
+        ensures { Some result.now ≡ ((⟦<MemWorld<S, K> as World>⟧.view self.now).report).reported }
     {
         self.reported.as_slice()
     }
@@ -209,13 +209,12 @@ impl<S: Source + Send + Drop, K: Sink + Send + Drop> World for MemWorld<S, K> {
 
     type Clk = MemClock;
 
-    ghost in_at = { λ w place. told_of S.left S.faults (slot_at w.ins.items place) };
-
-    ghost out_at = { λ w place. told_of K.held K.faults (slot_at w.outs.items place) };
-
-    ghost rest = { λ w. record { reported = Some w.reported.items; report_faults = 0 } };
-
-    ghost moments = { λ w who. Some (moments_at w.clocks.items who) };
+    ghost view = { λ w. record {
+      ins = λ place. told_of S.left S.faults (slot_at w.ins.items place);
+      outs = λ place. told_of K.held K.faults (slot_at w.outs.items place);
+      clocks = λ who. Some (moments_at w.clocks.items who);
+      report = record { reported = Some w.reported.items; report_faults = 0 };
+    } };
 
     fn open_in(&mut self, place: &str) -> Result<S, OpenFault> {
         open(self.alloc, &mut self.ins, place)

@@ -1,8 +1,8 @@
 //! A world of places.
-ghost use Rattle.std.specs.Prelude.{◌≡◌, List, ℕ, true, false, IfOk, IfErr, Option};
-ghost use Rattle.agent_base.specs.Moments.{Moments};
-ghost use Rattle.agent_base.specs.Places.{Place, Rest, Opens, Refuses, TakesIn, SameBut, SameAtAll};
+ghost use Rattle.std.specs.Prelude.{◌≡◌, true, false, IfOk, IfErr};
+ghost use Rattle.agent_base.specs.Places.{Opens, Refuses, TakesIn};
 ghost use Rattle.agent_base.specs.Puts.{PutAppends, PutHasCause};
+ghost use Rattle.agent_base.specs.Views.{WorldView, OnlyIn, OnlyOut, OnlyClock, OnlyReport};
 
 use crate::{Clock, PutFault, Sink, Source};
 
@@ -29,76 +29,50 @@ pub trait World {
     /// What gives moments.
     type Clk: Clock + Send + Drop;
 
-    /// What is told of an input place.
-    ghost in_at: { Self → List ℕ → Place };
-
-    /// What is told of an output place.
-    ghost out_at: { Self → List ℕ → Place };
-
-    /// What is told of the report.
-    ghost rest: { Self → Rest };
-
-    /// The moments of each clock number, where they are told.
-    ghost moments: { Self → ℕ → Option Moments };
+    /// What it tells.
+    ghost view: { Self → WorldView };
 
     /// Moves the part of an input place out; nothing else changes.
     fn open_in(&mut self, place: &str) -> Result<Self::In, OpenFault>
-        requires { (in_at self.old place.now).is_out ≡ false }
-        ensures opened { IfOk result (λ part. Opens (Self.In.left part) (Self.In.faults part) (in_at self.old place.now)
-            (in_at self.new place.now)) }
-        ensures refused { IfErr result (λ e. Refuses e (in_at self.old place.now) (in_at self.new place.now)) }
-        ensures others { SameBut place.now (in_at self.old) (in_at self.new) }
-        ensures outs { SameAtAll (out_at self.old) (out_at self.new) }
-        ensures rest { rest self.new ≡ rest self.old }
-        ensures moments { SameAtAll (moments self.old) (moments self.new) };
+        requires { ((view self.old).ins place.now).is_out ≡ false }
+        ensures opened { IfOk result (λ part. Opens (Self.In.left part) (Self.In.faults part) ((view self.old).ins place.now)
+            ((view self.new).ins place.now)) }
+        ensures refused { IfErr result (λ e. Refuses e ((view self.old).ins place.now) ((view self.new).ins place.now)) }
+        ensures only { OnlyIn place.now (view self.old) (view self.new) };
 
     /// Moves the part of an output place out; nothing else changes.
     fn open_out(&mut self, place: &str) -> Result<Self::Out, OpenFault>
-        requires { (out_at self.old place.now).is_out ≡ false }
+        requires { ((view self.old).outs place.now).is_out ≡ false }
         ensures opened { IfOk result
-            (λ part. Opens (Self.Out.held part) (Self.Out.faults part) (out_at self.old place.now)
-            (out_at self.new place.now)) }
-        ensures refused { IfErr result (λ e. Refuses e (out_at self.old place.now) (out_at self.new place.now)) }
-        ensures others { SameBut place.now (out_at self.old) (out_at self.new) }
-        ensures ins { SameAtAll (in_at self.old) (in_at self.new) }
-        ensures rest { rest self.new ≡ rest self.old }
-        ensures moments { SameAtAll (moments self.old) (moments self.new) };
+            (λ part. Opens (Self.Out.held part) (Self.Out.faults part) ((view self.old).outs place.now)
+            ((view self.new).outs place.now)) }
+        ensures refused { IfErr result (λ e. Refuses e ((view self.old).outs place.now) ((view self.new).outs place.now)) }
+        ensures only { OnlyOut place.now (view self.old) (view self.new) };
 
     /// Gives the part of an input place back: the place tells what the part tells.
     fn give_in(&mut self, place: &str, part: Self::In)
-        requires { (in_at self.old place.now).is_out ≡ true }
-        ensures given { TakesIn (Self.In.left part) (Self.In.faults part) (in_at self.old place.now)
-            (in_at self.new place.now) }
-        ensures others { SameBut place.now (in_at self.old) (in_at self.new) }
-        ensures outs { SameAtAll (out_at self.old) (out_at self.new) }
-        ensures rest { rest self.new ≡ rest self.old }
-        ensures moments { SameAtAll (moments self.old) (moments self.new) };
+        requires { ((view self.old).ins place.now).is_out ≡ true }
+        ensures given { TakesIn (Self.In.left part) (Self.In.faults part) ((view self.old).ins place.now)
+            ((view self.new).ins place.now) }
+        ensures only { OnlyIn place.now (view self.old) (view self.new) };
 
     /// Gives the part of an output place back: the place tells what the part tells.
     fn give_out(&mut self, place: &str, part: Self::Out)
-        requires { (out_at self.old place.now).is_out ≡ true }
-        ensures given { TakesIn (Self.Out.held part) (Self.Out.faults part) (out_at self.old place.now)
-            (out_at self.new place.now) }
-        ensures others { SameBut place.now (out_at self.old) (out_at self.new) }
-        ensures ins { SameAtAll (in_at self.old) (in_at self.new) }
-        ensures rest { rest self.new ≡ rest self.old }
-        ensures moments { SameAtAll (moments self.old) (moments self.new) };
+        requires { ((view self.old).outs place.now).is_out ≡ true }
+        ensures given { TakesIn (Self.Out.held part) (Self.Out.faults part) ((view self.old).outs place.now)
+            ((view self.new).outs place.now) }
+        ensures only { OnlyOut place.now (view self.old) (view self.new) };
 
     /// The clock with this number, at its first place; its waits pause so many nanoseconds.
     fn clock(&mut self, who: u32, pause: i64) -> Self::Clk
-        ensures told { Self.Clk.moments result ≡ moments self.old who }
+        ensures told { Self.Clk.moments result ≡ (view self.old).clocks who }
         ensures first { Self.Clk.place result ≡ 0 }
         ensures unstopped { Self.Clk.stopped result ≡ false }
-        ensures others { SameBut who (moments self.old) (moments self.new) }
-        ensures ins { SameAtAll (in_at self.old) (in_at self.new) }
-        ensures outs { SameAtAll (out_at self.old) (out_at self.new) }
-        ensures rest { rest self.new ≡ rest self.old };
+        ensures only { OnlyClock who (view self.old) (view self.new) };
 
     /// Appends to the report, as a put does.
     fn report(&mut self, bytes: &[u8]) -> Result<(), PutFault>
-        ensures bytes { PutAppends (rest self.old).reported (rest self.new).reported bytes.now result }
-        ensures cause { PutHasCause (rest self.old).report_faults (rest self.new).report_faults result }
-        ensures ins { SameAtAll (in_at self.old) (in_at self.new) }
-        ensures outs { SameAtAll (out_at self.old) (out_at self.new) }
-        ensures moments { SameAtAll (moments self.old) (moments self.new) };
+        ensures bytes { PutAppends (view self.old).report.reported (view self.new).report.reported bytes.now result }
+        ensures cause { PutHasCause (view self.old).report.report_faults (view self.new).report.report_faults result }
+        ensures only { OnlyReport (view self.old) (view self.new) };
 }

@@ -154,8 +154,8 @@ impl<'r, R: Files<File = File> + std::rt::Clock + Sync> RealWorld<'r, R> {
         stdout: Stdout,
         standard: StandardStreams,
     ) -> RealWorld<'r, R>
-        ensures ins { AreHome (⟦<RealWorld<'r, R> as World>⟧.in_at result) }
-        ensures outs { AreHome (⟦<RealWorld<'r, R> as World>⟧.out_at result) }
+        ensures ins { AreHome (⟦<RealWorld<'r, R> as World>⟧.view result).ins }
+        ensures outs { AreHome (⟦<RealWorld<'r, R> as World>⟧.view result).outs }
     {
         RealWorld {
             rt,
@@ -187,16 +187,12 @@ impl<'r, R: Files<File = File> + std::rt::Clock + Sync> World for RealWorld<'r, 
 
     type Clk = RealClock<'r, R>;
 
-    ghost in_at = { λ w place.
-        ⟦<MemWorld<StdSource<Reader>, StdSink<Writer>> as World>⟧.in_at w.parts place };
-
-    ghost out_at = { λ w place.
-        ⟦<MemWorld<StdSource<Reader>, StdSink<Writer>> as World>⟧.out_at w.parts place };
-
-    ghost rest = { λ w.
-        record { reported = None; report_faults = ⟦<StdSink<Writer> as Sink>⟧.faults w.report } };
-
-    ghost moments = { λ w who. None };
+    ghost view = { λ w. record {
+      ins = (⟦<MemWorld<StdSource<Reader>, StdSink<Writer>> as World>⟧.view w.parts).ins;
+      outs = (⟦<MemWorld<StdSource<Reader>, StdSink<Writer>> as World>⟧.view w.parts).outs;
+      clocks = λ who. None;
+      report = record { reported = None; report_faults = ⟦<StdSink<Writer> as Sink>⟧.faults w.report };
+    } };
 
     fn open_in(&mut self, place: &str) -> Result<StdSource<Reader>, OpenFault> {
         if !self.parts.has_in(place) {

@@ -7,6 +7,7 @@ use Rattle.std.proofs.lemmas.Bool.{cases_lt, lt-leb}
 use Rattle.std.proofs.KnownBytes.{Consumes-trans}
 use Rattle.std.specs.declared.alloc.Global.{Global}
 use Rattle.std.specs.Io.KnownBytes.{Consumes}
+use Rattle.agent_base.specs.Views.{WorldView}
 use Rattle.agent_base.specs.Places.{Place, Rest}
 use Rattle.agent_config.specs.Faults.{faults_in, first, text_faults, tree_of}
 use Rattle.agent_config.specs.declared.fault.ConfigFault.{ConfigFault}
@@ -101,16 +102,16 @@ judges_fault status text rest new_rest fault is (inl told) = rw told.0 (record {
 judges_fault status text rest new_rest fault is (inr short) = rw short tt
 
 -- a check that no fault ended
-pub check_completes : (status : Status) (place : List ℕ) (ins new_ins outs new_outs : List ℕ → Place) (rest new_rest : Rest) → ChecksAs status place ins new_ins rest new_rest → NothingRose ins new_ins outs new_outs rest new_rest → (status ≢ statuses.Config) → (status ≡ statuses.Done) ⊎ (status ≡ statuses.OutOfMemory)
-check_completes statuses.Done place ins new_ins outs new_outs rest new_rest c n config = inl refl
-check_completes statuses.OutOfMemory place ins new_ins outs new_outs rest new_rest c n config = inr refl
-check_completes statuses.Config place ins new_ins outs new_outs rest new_rest c n config = absurd (config refl)
-check_completes statuses.ReportFault place ins new_ins outs new_outs rest new_rest c n config = absurd (n.reported c.judged.1.0)
-check_completes statuses.ReadFault place ins new_ins outs new_outs rest new_rest c n config = absurd (n.ins_used place c.rose)
-check_completes statuses.OpenFault place ins new_ins outs new_outs rest new_rest c n config = absurd (n.ins_opened place c.0.failed.rose)
-check_completes statuses.Usage place ins new_ins outs new_outs rest new_rest c n config = absurd c
-check_completes statuses.Left place ins new_ins outs new_outs rest new_rest c n config = absurd c
-check_completes statuses.Limit place ins new_ins outs new_outs rest new_rest c n config = absurd c
+pub check_completes : (status : Status) (place : List ℕ) (old new : WorldView) → ChecksAs status place old.ins new.ins old.report new.report → NothingRose old new → (status ≢ statuses.Config) → (status ≡ statuses.Done) ⊎ (status ≡ statuses.OutOfMemory)
+check_completes statuses.Done place old new c n config = inl refl
+check_completes statuses.OutOfMemory place old new c n config = inr refl
+check_completes statuses.Config place old new c n config = absurd (config refl)
+check_completes statuses.ReportFault place old new c n config = absurd (n.reported c.judged.1.0)
+check_completes statuses.ReadFault place old new c n config = absurd (n.ins_used place c.rose)
+check_completes statuses.OpenFault place old new c n config = absurd (n.ins_opened place c.0.failed.rose)
+check_completes statuses.Usage place old new c n config = absurd c
+check_completes statuses.Left place old new c n config = absurd c
+check_completes statuses.Limit place old new c n config = absurd c
 
 -- a check is never refused as words
 pub check_never_usage : (status : Status) (place : List ℕ) (ins new_ins : List ℕ → Place) (rest new_rest : Rest) → ChecksAs status place ins new_ins rest new_rest → status ≡ statuses.Usage → ⊥

@@ -1,189 +1,229 @@
 -- What each status of a run says.
-use Rattle.std.proofs.Common.{◌≡◌, ◌≤◌, ◌<◌, ℕ, ℤ, ◌^◌, Bool, true, false, List, [], ◌∷◌, refl, sym, ap, ◌∙◌, subst, inl, inr, arith, cond, replicate}
-use Rattle.std.specs.Prelude.{◌≢◌, not, ◌⊎◌, ◌||◌, count_by}
-use Rattle.std.specs.declared.option.Option.{Option}
+use Rattle.std.proofs.Common.{◌≡◌, ◌≤◌, ◌<◌, ◌+◌, ℕ, zero, suc, ℤ, ◌^◌, Bool, true, false, List, [], ◌∷◌, length, refl, sym, ap, ◌∙◌, subst, inl, inr, arith, cond, replicate}
+use Rattle.std.specs.Prelude.{◌≢◌, not, ◌⊎◌, ◌||◌, count_by, IfOk, Ok, Result}
+use Rattle.fixed_num.specs.declared.memory.OutOfMemory.{OutOfMemory}
 use Rattle.std.proofs.lemmas.List.Sums.{sum_by-append}
-use Rattle.agent_base.specs.Counts.{Rose, RoseBy}
-use Rattle.agent_base.specs.Moments.{Moments}
-use Rattle.agent_base.specs.Places.{Place, Rest}
 use Rattle.account.specs.declared.entry.Entry.{Entry}
-use Rattle.agent_run.specs.Command.{journal_place}
+use Rattle.agent_base.specs.Counts.{Rose, RoseBy}
+use Rattle.agent_config.specs.declared.config.Config.{Config}
 use Rattle.account.specs.Dones.{dones, failed_count, LastFailed}
-use Rattle.pipeline_core.specs.Stopped.{behind_stop}
-use Rattle.agent_workers.specs.Run.{Change, change, run_at, IsCutShort, IsRun, RunsFull, SomeIsFull, EndsSo, IsPutSo, IsLeft, Ran, buffered_at_end, account_of, text_of}
-use Rattle.agent_workers.specs.Input.{IsFull}
-use Rattle.agent_workers.specs.Inputs.{IsOneOf}
-use Rattle.agent_workers.specs.Reader.{plain_rule, plain_view}
 use Rattle.pipeline_core.specs.Legal.{has_ended}
-use Rattle.agent_run.specs.Headline.{gather_pieces, pipe_input, final_tries, IsReportFault, Ends, status_of, place_change, report_change, NothingRose}
-use Rattle.agent_workers.specs.PipeSetup.{pipe_setup}
-use Rattle.agent_run.specs.Places.{IsRefused}
+use Rattle.pipeline_core.specs.Stopped.{behind_stop}
+use Rattle.pipeline_core.proofs.StopLemmas.{behind_fewer}
+use Rattle.std.specs.declared.option.Option.{Option}
+use Rattle.std.proofs.lemmas.List.{length-map}
+use Rattle.agent_base.specs.Moments.{Moments}
+use Rattle.agent_workers.specs.Opened.{RanBy, conf_sizes}
+use Rattle.agent_workers.specs.Inputs.{IsOneOf}
+use Rattle.agent_workers.specs.Run.{Change, InRun, run_at, OutRun, out_run_at, RunsFull, SomeIsFull, EndsSo, IsPutSo, IsLeft, account_of, text_of}
 use Rattle.agent_workers.specs.declared.input.InState.{InState}
 use Rattle.agent_workers.specs.declared.input.InState.TheVariants as states
 use Rattle.agent_workers.specs.declared.serial.Ending.{Ending}
+use Rattle.agent_run.specs.Headline.{RunChange, IsRunOf, Headline, IsWhole, IsBroken, IsReportFault, Ends, NothingRose, config_setup, status_of, place_change, world_change, world_ins, world_outs}
+use Rattle.agent_base.specs.Views.{WorldView}
+use Rattle.agent_config.specs.declared.config.InputConf.{InputConf}
+use Rattle.agent_config.specs.declared.config.OutputConf.{OutputConf}
+use Rattle.agent_run.specs.PlaceLists.{place_at, places_in, places_out}
+use Rattle.agent_run.specs.Running.{IsRefusedBy}
 use Rattle.agent_run.specs.declared.status.Status.{Status}
 use Rattle.agent_run.specs.declared.status.Status.TheVariants as statuses
-use Rattle.pipeline_core.proofs.StopLemmas.{behind_fewer}
-use Rattle.agent_workers.proofs.RanLemmas.{change_is}
 
-module _ (batch limit : ℕ) (input output noted reported : Change) (run_moments input_moments : Option Moments) where
-  module _ (start : ℤ) (journal : List Entry) (run : IsRun plain_view final_tries (pipe_setup batch limit start) (pipe_input input input_moments ∷ []) (output ∷ []) run_moments journal) where
-    report_fault : (journal_failed failed : Bool) → (journal_failed ≡ true) ⊎ (failed ≡ true) → IsPutSo journal_failed noted (text_of (pipe_setup batch limit start) journal) → IsPutSo failed reported (account_of (pipe_setup batch limit start) journal) → run.has.taken 0 < 2 ^ 40
-        → IsReportFault batch limit input output noted reported run_moments input_moments
-    report_fault journal_failed failed either put report few = record {
-      headline = record { start = start; journal = journal; run = run; journal_failed = journal_failed; report_failed = failed; noted = put; reported = report };
+module _ (config : Config) (x : RunChange) where
+  module _ (start : ℤ) (journal : List Entry) (run : IsRunOf config x start journal) where
+    headline_of : (journal_failed report_failed : Bool) → IsPutSo journal_failed x.journal (text_of (config_setup config start) journal) → IsPutSo report_failed x.report (account_of (config_setup config start) journal) → Headline config x journal_failed report_failed
+    headline_of journal_failed report_failed put report = record { start = start; journal = journal; run = run; noted = put; reported = report }
+
+    -- the run isn't full where no limit was reached
+    not_full : RunsFull false x.ins journal → ⊥
+    not_full h = let e : false ≡ true = h.0 in cc
+
+    limited : (k : ℕ) (state : InState) → state ≡ states.LimitReached → EndsSo true x.ins k state (run_at x.ins k) (run.has.taken k) journal → (has_ended k journal ≡ false) × ((run.has.taken k ≡ 2 ^ 40) ⊎ SomeIsFull x.ins journal)
+    limited k states.LimitReached e h = (h.0, elim h.1 [ inl many ↦ inl many | inr full ↦ inr full.1 ])
+    limited k states.Reading e h = absurd (let y : states.Reading ≡ states.LimitReached = e in cc)
+    limited k states.Ended e h = absurd (let y : states.Ended ≡ states.LimitReached = e in cc)
+    limited k states.Faulted e h = absurd (let y : states.Faulted ≡ states.LimitReached = e in cc)
+
+    broken : (k : ℕ) (state : InState) → state ≡ states.Faulted → EndsSo false x.ins k state (run_at x.ins k) (run.has.taken k) journal → IsBroken config x run.has.taken journal k
+    broken k states.Faulted e h = record { few = h.0; unended = h.1; cut_short = elim h.2 [ inl short ↦ short | inr full ↦ absurd (not_full full) ] }
+    broken k states.Reading e h = absurd (let y : states.Reading ≡ states.Faulted = e in cc)
+    broken k states.Ended e h = absurd (let y : states.Ended ≡ states.Faulted = e in cc)
+    broken k states.LimitReached e h = absurd (let y : states.LimitReached ≡ states.Faulted = e in cc)
+
+    whole : (k : ℕ) (state : InState) → (state ≢ states.LimitReached) → (state ≢ states.Faulted) → EndsSo false x.ins k state (run_at x.ins k) (run.has.taken k) journal → IsWhole config x run.has.taken journal k
+    whole k states.Ended l f h = record { few = h.0; ended = h.1 }
+    whole k states.Reading l f h = absurd (not_full h)
+    whole k states.Faulted l f h = absurd (f refl)
+    whole k states.LimitReached l f h = absurd (l refl)
+
+    whole_or_broken : (k : ℕ) (state : InState) → (state ≢ states.LimitReached) → EndsSo false x.ins k state (run_at x.ins k) (run.has.taken k) journal → IsWhole config x run.has.taken journal k ⊎ IsBroken config x run.has.taken journal k
+    whole_or_broken k states.Ended l h = inl (record { few = h.0; ended = h.1 })
+    whole_or_broken k states.Faulted l h = inr (broken k states.Faulted refl h)
+    whole_or_broken k states.Reading l h = absurd (not_full h)
+    whole_or_broken k states.LimitReached l h = absurd (l refl)
+
+    few_of : (k : ℕ) → IsWhole config x run.has.taken journal k ⊎ IsBroken config x run.has.taken journal k → run.has.taken k < 2 ^ 40
+    few_of k (inl h) = h.few
+    few_of k (inr h) = h.few
+
+    report_fault : (journal_failed report_failed : Bool) → (journal_failed ≡ true) ⊎ (report_failed ≡ true) → IsPutSo journal_failed x.journal (text_of (config_setup config start) journal) → IsPutSo report_failed x.report (account_of (config_setup config start) journal)
+        → ((k : ℕ) → k < length config.inputs → run.has.taken k < 2 ^ 40) → IsReportFault config x
+    unfolding headline_of
+    report_fault journal_failed report_failed either put report few = record {
+      journal_failed = journal_failed;
+      report_failed = report_failed;
+      headline = headline_of journal_failed report_failed put report;
       few = few;
       failed = either;
     }
 
-    -- a metric is left at the one output
-    left_here : IsLeft true (pipe_setup batch limit start) journal → buffered_at_end (pipe_setup batch limit start) journal 0 ≢ 0
-    left_here l = subst (λ (o : ℕ). buffered_at_end (pipe_setup batch limit start) journal o ≢ 0) (let first : l.0 ≡ 0 = omega (arith, l.1) in first) l.2
+    -- how many outputs the set-up has
+    within : (o : ℕ) → o < length config.outputs → o < length (config_setup config start).outputs
+    within o b = omega (arith, b, length-map config.outputs conf_sizes)
 
-    -- the run isn't full where no limit was reached
-    not_full : RunsFull false (pipe_input input input_moments ∷ []) journal → ⊥
-    not_full h = let x : false ≡ true = h.0 in cc
-
-    -- the one input's next metrics would fill the run
-    full_here : SomeIsFull (pipe_input input input_moments ∷ []) journal → IsFull (plain_rule gather_pieces) journal 0 input.before input.after
-    full_here h = subst (λ (k : ℕ). IsFull (run_at (pipe_input input input_moments ∷ []) k).rule journal k (run_at (pipe_input input input_moments ∷ []) k).place.before (run_at (pipe_input input input_moments ∷ []) k).place.after) (let first : h.0 ≡ 0 = omega (arith, h.1) in first) h.2
-
-    limited : (state : InState) → state ≡ states.LimitReached → EndsSo true (pipe_input input input_moments ∷ []) 0 state (pipe_input input input_moments) (run.has.taken 0) journal
-        → (has_ended 0 journal ≡ false) × ((run.has.taken 0 ≡ 2 ^ 40) ⊎ IsFull (plain_rule gather_pieces) journal 0 input.before input.after)
-    limited states.LimitReached e h = (h.0, elim h.1 [ inl many ↦ inl many | inr full ↦ inr (full_here full.1) ])
-    limited states.Reading e h = absurd (let x : states.Reading ≡ states.LimitReached = e in cc)
-    limited states.Ended e h = absurd (let x : states.Ended ≡ states.LimitReached = e in cc)
-    limited states.Faulted e h = absurd (let x : states.Faulted ≡ states.LimitReached = e in cc)
-
-    failed_read : (state : InState) → state ≡ states.Faulted → EndsSo false (pipe_input input input_moments ∷ []) 0 state (pipe_input input input_moments) (run.has.taken 0) journal
-        → (run.has.taken 0 < 2 ^ 40) × (has_ended 0 journal ≡ false) × IsCutShort 0 (pipe_input input input_moments) journal
-    failed_read states.Faulted e h = (h.0, h.1, elim h.2 [ inl short ↦ short | inr full ↦ absurd (not_full full) ])
-    failed_read states.Reading e h = absurd (let x : states.Reading ≡ states.Faulted = e in cc)
-    failed_read states.Ended e h = absurd (let x : states.Ended ≡ states.Faulted = e in cc)
-    failed_read states.LimitReached e h = absurd (let x : states.LimitReached ≡ states.Faulted = e in cc)
-
-    read_whole : (state : InState) → (state ≢ states.LimitReached) → (state ≢ states.Faulted) → EndsSo false (pipe_input input input_moments ∷ []) 0 state (pipe_input input input_moments) (run.has.taken 0) journal → (run.has.taken 0 < 2 ^ 40) × (has_ended 0 journal ≡ true)
-    read_whole states.Ended l f h = h
-    read_whole states.Reading l f h = absurd (not_full h)
-    read_whole states.Faulted l f h = absurd (f refl)
-    read_whole states.LimitReached l f h = absurd (l refl)
-
-    -- the one state that there is
-    first_of : (k : ℕ) (state : ℕ → InState) (is : InState) → k < 1 → state k ≡ is → state 0 ≡ is
-    first_of k state is l e = subst (λ (j : ℕ). state j ≡ is) (let first : k ≡ 0 = omega (arith, l) in first) e
+    within_back : (o : ℕ) → o < length (config_setup config start).outputs → o < length config.outputs
+    within_back o b = omega (arith, b, length-map config.outputs conf_sizes)
 
     -- the status that a run ends with says what it left
-    pub ends_of : (limit_reached fault : Bool) (state : ℕ → InState) (journal_failed failed left : Bool) → IsOneOf states.LimitReached 1 state limit_reached → IsOneOf states.Faulted 1 state fault →
-        EndsSo limit_reached (pipe_input input input_moments ∷ []) 0 (state 0) (pipe_input input input_moments) (run.has.taken 0) journal → IsLeft left (pipe_setup batch limit start) journal → IsPutSo journal_failed noted (text_of (pipe_setup batch limit start) journal)
-        → IsPutSo failed reported (account_of (pipe_setup batch limit start) journal) → Ends batch limit input output noted reported run_moments input_moments (status_of limit_reached fault (journal_failed || failed) left)
+    pub ends_of : (limit_reached fault : Bool) (state : ℕ → InState) (journal_failed failed left : Bool) → IsOneOf states.LimitReached (length config.inputs) state limit_reached → IsOneOf states.Faulted (length config.inputs) state fault →
+        ((k : ℕ) → k < length config.inputs → EndsSo limit_reached x.ins k (state k) (run_at x.ins k) (run.has.taken k) journal) → IsLeft left (config_setup config start) journal → IsPutSo journal_failed x.journal (text_of (config_setup config start) journal)
+        → IsPutSo failed x.report (account_of (config_setup config start) journal) → Ends config x (status_of limit_reached fault (journal_failed || failed) left)
+    unfolding headline_of
     ends_of true fault state journal_failed failed left one some e l put report =
-        let h = limited (state 0) (first_of one.0 state states.LimitReached one.1 one.2) e in
-        record { headline = record { start = start; journal = journal; run = run; journal_failed = journal_failed; report_failed = failed; noted = put; reported = report }; unended = h.0; reached = h.1 }
-    ends_of false true state true failed left one some e l put report = report_fault true failed (inl refl) put report (failed_read (state 0) (first_of some.0 state states.Faulted some.1 some.2) e).0
-    ends_of false true state false true left one some e l put report = report_fault false true (inr refl) put report (failed_read (state 0) (first_of some.0 state states.Faulted some.1 some.2) e).0
-    ends_of false true state false false left one some e l put report =
-        let h = failed_read (state 0) (first_of some.0 state states.Faulted some.1 some.2) e in
-        record { headline = record { start = start; journal = journal; run = run; noted = put; reported = report }; few = h.0; unended = h.1; cut_short = h.2 }
-    ends_of false false state true failed left none unfaulted e l put report = report_fault true failed (inl refl) put report (read_whole (state 0) (none 0 (omega arith)) (unfaulted 0 (omega arith)) e).0
-    ends_of false false state false true left none unfaulted e l put report = report_fault false true (inr refl) put report (read_whole (state 0) (none 0 (omega arith)) (unfaulted 0 (omega arith)) e).0
-    ends_of false false state false false true none unfaulted e l put report =
-        let h = read_whole (state 0) (none 0 (omega arith)) (unfaulted 0 (omega arith)) e in
-        record { headline = record { start = start; journal = journal; run = run; noted = put; reported = report }; few = h.0; ended = h.1; some_left = left_here l }
-    ends_of false false state false false false none unfaulted e l put report =
-        let h = read_whole (state 0) (none 0 (omega arith)) (unfaulted 0 (omega arith)) e in
-        record { headline = record { start = start; journal = journal; run = run; noted = put; reported = report }; few = h.0; ended = h.1; none_left = l 0 (omega arith) }
+        let h = limited one.0 (state one.0) one.2 (e one.0 one.1) in
+        record { journal_failed = journal_failed; report_failed = failed; headline = headline_of journal_failed failed put report; number = one.0; known = one.1; unended = h.0; reached = h.1 }
+    ends_of false true state true failed left none some e l put report = report_fault true failed (inl refl) put report (λ k b. few_of k (whole_or_broken k (state k) (none k b) (e k b)))
+    ends_of false false state true failed left none some e l put report = report_fault true failed (inl refl) put report (λ k b. few_of k (whole_or_broken k (state k) (none k b) (e k b)))
+    ends_of false true state false true left none some e l put report = report_fault false true (inr refl) put report (λ k b. few_of k (whole_or_broken k (state k) (none k b) (e k b)))
+    ends_of false false state false true left none some e l put report = report_fault false true (inr refl) put report (λ k b. few_of k (whole_or_broken k (state k) (none k b) (e k b)))
+    ends_of false true state false false left none some e l put report = record {
+      headline = headline_of false false put report;
+      each = λ k b. whole_or_broken k (state k) (none k b) (e k b);
+      number = some.0;
+      known = some.1;
+      broken = broken some.0 (state some.0) some.2 (e some.0 some.1);
+    }
+    ends_of false false state false false true none unfaulted e l put report = record {
+      headline = headline_of false false put report;
+      whole = λ k b. whole k (state k) (none k b) (unfaulted k b) (e k b);
+      output = l.0;
+      known = within_back l.0 l.1;
+      some_left = l.2;
+    }
+    ends_of false false state false false false none unfaulted e l put report = record {
+      headline = headline_of false false put report;
+      whole = λ k b. whole k (state k) (none k b) (unfaulted k b) (e k b);
+      none_left = λ o b. l o (within o b);
+    }
 
-  -- a run that was reported
-  pub ran_ends : (ending : Ending) (failed : Bool) → Ran plain_view final_tries 1 ((batch, limit) ∷ []) ending (pipe_input input input_moments ∷ []) (output ∷ []) noted run_moments → IsPutSo failed reported ending.account.items
-      → Ends batch limit input output noted reported run_moments input_moments (status_of ending.limit ending.read_fault (ending.journal_fault || failed) ending.left)
+-- a run that was reported
+module _ (config : Config) (ins : List InRun) (outs : List OutRun) (noted reported : Change) (moments : Option Moments) where
+  -- what it left
+  abbrev pub left : RunChange
+  left = record { ins = ins; outs = outs; journal = noted; report = reported; moments = moments }
+
+  ran_ends : (ending : Ending) (failed : Bool) → RanBy config ending ins outs noted moments → IsPutSo failed reported ending.account.items → Ends config left (status_of ending.limit ending.read_fault (ending.journal_fault || failed) ending.left)
   ran_ends ending failed r report =
-      ends_of r.start r.journal r.run ending.limit ending.read_fault r.state ending.journal_fault failed ending.left r.limit r.read_fault (r.ends 0 (omega arith)) r.left r.noted (subst (IsPutSo failed reported) r.account report)
+      ends_of config left r.start r.journal r.run ending.limit ending.read_fault r.state ending.journal_fault failed ending.left r.limit r.read_fault r.ends r.left r.noted (subst (IsPutSo failed reported) r.account report)
 
-  pub reported_ends : (ending : Ending) (status : Status) → Ran plain_view final_tries 1 ((batch, limit) ∷ []) ending (pipe_input input input_moments ∷ []) (output ∷ []) noted run_moments →
+  pub reported_ends : (ending : Ending) (status : Status) → RanBy config ending ins outs noted moments →
       (status ≡ statuses.OutOfMemory) ⊎ ((failed : Bool) × (status ≡ status_of ending.limit ending.read_fault (ending.journal_fault || failed) ending.left) × IsPutSo failed reported ending.account.items)
-      → Ends batch limit input output noted reported run_moments input_moments status
+      → Ends config left status
   reported_ends ending status r (inl short) = rw short tt
   reported_ends ending status r (inr so) = rw so.1 (ran_ends ending so.0 r so.2)
 
-  failed_last : (all : List Bool) → LastFailed 3 all → 3 ≤ count_by not all
-  failed_last all h = omega (arith, ap (λ (bs : List Bool). count_by not bs) h.is, sum_by-append (λ (b : Bool). cond (not b) 1 0) h.front (replicate 3 false))
+-- of a run that ended
+pub ran_ok : (config : Config) (r : Result Ending OutOfMemory) (ending : Ending) (ins : List InRun) (outs : List OutRun) (noted : Change) (moments : Option Moments) → r ≡ Ok ending → IfOk r (λ e. RanBy config e ins outs noted moments) → RanBy config ending ins outs noted moments
+ran_ok config r ending ins outs noted moments is h = subst (λ (x : Result Ending OutOfMemory). IfOk x (λ e. RanBy config e ins outs noted moments)) is h
 
-  rose_of : (n a b : ℕ) → 1 ≤ n → RoseBy n a b → Rose a b
-  rose_of n a b some r = omega arith
+-- ---- without a count that rose
 
+count_false : (n : ℕ) → count_by not (replicate n false) ≡ n
+count_false zero = refl
+count_false (suc n) = omega (arith, count_false n, sum_by-append (λ (b : Bool). cond (not b) 1 0) (false ∷ []) (replicate n false))
+
+failed_some : (n : ℕ) (all : List Bool) → 1 ≤ n → LastFailed n all → 1 ≤ count_by not all
+failed_some n all some h = omega (arith, some, ap (λ (bs : List Bool). count_by not bs) h.is, sum_by-append (λ (b : Bool). cond (not b) 1 0) h.front (replicate n false), count_false n)
+
+rose_of : (n a b : ℕ) → 1 ≤ n → RoseBy n a b → Rose a b
+rose_of n a b some r = omega arith
+
+-- no count of what a run touches rose
+pub record NoneRose (config : Config) (x : RunChange) : Type 0 where
+  pub ins : (k : ℕ) → k < length config.inputs → Rose (run_at x.ins k).place.faults_before (run_at x.ins k).place.faults_after → ⊥
+  pub outs : (o : ℕ) → o < length config.outputs → Rose (out_run_at x.outs o).place.faults_before (out_run_at x.outs o).place.faults_after → ⊥
+  pub journal : Rose x.journal.faults_before x.journal.faults_after → ⊥
+  pub report : Rose x.report.faults_before x.report.faults_after → ⊥
+
+module _ (config : Config) (x : RunChange) (sound : 1 ≤ config.agent.final_tries) (none : NoneRose config x) where
   -- without a count that rose and without a limit a run is done, or memory was short
-  pub done_or_short : (status : Status) → Ends batch limit input output noted reported run_moments input_moments status →
-      (Rose input.faults_before input.faults_after → ⊥) → (Rose output.faults_before output.faults_after → ⊥) → (Rose noted.faults_before noted.faults_after → ⊥) → (Rose reported.faults_before reported.faults_after → ⊥) → (status ≢ statuses.Limit)
-      → (status ≡ statuses.Done) ⊎ (status ≡ statuses.OutOfMemory)
-  done_or_short statuses.Done e i o n r l = inl refl
-  done_or_short statuses.OutOfMemory e i o n r l = inr refl
-  done_or_short statuses.Left e i o n r l =
+  pub done_or_short : (status : Status) → Ends config x status → (status ≢ statuses.Limit) → (status ≡ statuses.Done) ⊎ (status ≡ statuses.OutOfMemory)
+  done_or_short statuses.Done e l = inl refl
+  done_or_short statuses.OutOfMemory e l = inr refl
+  done_or_short statuses.Left e l =
       let journal : List Entry = e.headline.journal in
-      let behind : 3 ≤ failed_count 0 (behind_stop journal) = failed_last (dones 0 (behind_stop journal)) ((e.headline.run.has.sent_to 0 (omega arith)).left e.some_left) in
-      let many : 3 ≤ failed_count 0 journal = omega (arith, behind, behind_fewer 0 journal) in
-      absurd (o (rose_of (failed_count 0 journal) output.faults_before output.faults_after (omega (arith, many)) (e.headline.run.has.sent_to 0 (omega arith)).put_faults))
-  done_or_short statuses.ReadFault e i o n r l = absurd (i e.cut_short.0)
-  done_or_short statuses.ReportFault e i o n r l =
+      let o : ℕ = e.output in
+      let sent = e.headline.run.has.sent_to o (omega (arith, e.known, length-map config.outputs conf_sizes)) in
+      let behind : 1 ≤ failed_count o (behind_stop journal) = failed_some config.agent.final_tries (dones o (behind_stop journal)) sound (sent.left e.some_left) in
+      let many : 1 ≤ failed_count o journal = omega (arith, behind, behind_fewer o journal) in
+      absurd (none.outs o e.known (rose_of (failed_count o journal) (out_run_at x.outs o).place.faults_before (out_run_at x.outs o).place.faults_after many sent.put_faults))
+  done_or_short statuses.ReadFault e l = absurd (none.ins e.number e.known e.broken.cut_short.0)
+  done_or_short statuses.ReportFault e l =
       elim e.failed [
-        | inl j ↦ absurd (n (subst (λ (b : Bool). IsPutSo b noted (text_of (pipe_setup batch limit e.headline.start) e.headline.journal)) j e.headline.noted).0)
-        | inr j ↦ absurd (r (subst (λ (b : Bool). IsPutSo b reported (account_of (pipe_setup batch limit e.headline.start) e.headline.journal)) j e.headline.reported).0)
+        | inl j ↦ absurd (none.journal (subst (λ (b : Bool). IsPutSo b x.journal (text_of (config_setup config e.headline.start) e.headline.journal)) j e.headline.noted).0)
+        | inr j ↦ absurd (none.report (subst (λ (b : Bool). IsPutSo b x.report (account_of (config_setup config e.headline.start) e.headline.journal)) j e.headline.reported).0)
       ]
-  done_or_short statuses.Limit e i o n r l = absurd (l refl)
-  done_or_short statuses.Usage e i o n r l = absurd e
-  done_or_short statuses.Config e i o n r l = absurd e
-  done_or_short statuses.OpenFault e i o n r l = absurd e
+  done_or_short statuses.Limit e l = absurd (l refl)
+  done_or_short statuses.Usage e l = absurd e
+  done_or_short statuses.Config e l = absurd e
+  done_or_short statuses.OpenFault e l = absurd e
 
--- the same of a place
-pub taken_in : (before after : Option (List ℕ)) (a b : ℕ) (place last : Place) → place.bytes ≡ after → place.part_faults ≡ b → last ≡ place → change before after a b ≡ change before last.bytes a last.part_faults
-taken_in before after a b place last bytes faults same =
-    change_is before before after last.bytes a a b last.part_faults refl (sym bytes ∙ ap (λ (p : Place). p.bytes) (sym same)) refl (sym faults ∙ ap (λ (p : Place). p.part_faults) (sym same))
+module _ (config : Config) (x : RunChange) (status : Status) where
+  -- a run doesn't end so
+  pub never_open : Ends config x status → status ≡ statuses.OpenFault → ⊥
+  never_open h e = subst (Ends config x) e h
 
-pub opened : (carried : Option (List ℕ)) (count : ℕ) (old new : Place) → carried ≡ old.bytes → count ≡ old.part_faults → change carried new.bytes count new.part_faults ≡ place_change old new
-opened carried count old new bytes faults = change_is carried old.bytes new.bytes new.bytes count old.part_faults new.part_faults new.part_faults bytes refl faults refl
+  pub never_usage : Ends config x status → status ≡ statuses.Usage → ⊥
+  never_usage h e = subst (Ends config x) e h
 
-pub report_is : (old first new last : Rest) → old ≡ first → new ≡ last → report_change old new ≡ report_change first last
-report_is old first new last e f = rw (e, f) refl
+  pub never_config : Ends config x status → status ≡ statuses.Config → ⊥
+  never_config h e = subst (Ends config x) e h
 
-pub ends_as : (batch limit : ℕ) (input output noted reported new_input new_output new_noted new_reported : Change) (run_moments input_moments new_run_moments new_input_moments : Option Moments) (status : Status) →
-    input ≡ new_input → output ≡ new_output → noted ≡ new_noted → reported ≡ new_reported → run_moments ≡ new_run_moments → input_moments ≡ new_input_moments
-    → Ends batch limit input output noted reported run_moments input_moments status → Ends batch limit new_input new_output new_noted new_reported new_run_moments new_input_moments status
-ends_as batch limit input output noted reported new_input new_output new_noted new_reported run_moments input_moments new_run_moments new_input_moments status i o n r m k e =
-    subst (λ (x : Option Moments). Ends batch limit new_input new_output new_noted new_reported new_run_moments x status) k
-    (subst (λ (x : Option Moments). Ends batch limit new_input new_output new_noted new_reported x input_moments status) m
-    (subst (λ (x : Change). Ends batch limit new_input new_output new_noted x run_moments input_moments status) r
-    (subst (λ (x : Change). Ends batch limit new_input new_output x reported run_moments input_moments status) n
-    (subst (λ (x : Change). Ends batch limit new_input x noted reported run_moments input_moments status) o
-    (subst (λ (x : Change). Ends batch limit x output noted reported run_moments input_moments status) i e)))))
+  -- where memory was short nothing is promised
+  pub short_ends : status ≡ statuses.OutOfMemory → Ends config x status
+  short_ends e = rw e tt
+
+-- ---- a command
 
 -- a place of a refusal whose count didn't rise
-not_refused : (ins new_ins outs new_outs : List ℕ → Place) (rest new_rest : Rest) (input output : List ℕ) → NothingRose ins new_ins outs new_outs rest new_rest → IsRefused ins new_ins outs new_outs rest new_rest input output → ⊥
-not_refused ins new_ins outs new_outs rest new_rest input output nothing refused =
+not_refused : (config : Config) (old new : WorldView) → NothingRose old new → IsRefusedBy config old new → ⊥
+not_refused config old new nothing refused =
     elim refused.unopened [
       | inl i ↦ nothing.ins_opened refused.place i.1.failed.rose
       | inr o ↦ nothing.outs_opened refused.place o.2.failed.rose
     ]
 
--- a command whose run no fault and no limit ended
-pub completes : (batch limit : ℕ) (ins new_ins outs new_outs : List ℕ → Place) (rest new_rest : Rest) (input output : List ℕ) (run_moments input_moments : Option Moments) (status : Status) →
-    (status ≡ statuses.OpenFault → IsRefused ins new_ins outs new_outs rest new_rest input output) →
-    ((status ≢ statuses.OpenFault) → Ends batch limit (place_change (ins input) (new_ins input)) (place_change (outs output) (new_outs output)) (place_change (outs journal_place) (new_outs journal_place)) (report_change rest new_rest) run_moments input_moments status) →
-    NothingRose ins new_ins outs new_outs rest new_rest → (status ≢ statuses.Limit) → (status ≡ statuses.Done) ⊎ (status ≡ statuses.OutOfMemory)
-completes batch limit ins new_ins outs new_outs rest new_rest input output run_moments input_moments status refused ends nothing l =
-    done_or_short batch limit (place_change (ins input) (new_ins input)) (place_change (outs output) (new_outs output)) (place_change (outs journal_place) (new_outs journal_place)) (report_change rest new_rest) run_moments input_moments
-    status (ends (λ e. not_refused ins new_ins outs new_outs rest new_rest input output nothing (refused e)))
-    (nothing.ins_used input) (nothing.outs_used output) (nothing.outs_used journal_place) nothing.reported l
+ins_at : (config : Config) (n : ℕ) (confs : List InputConf) (old new : WorldView) (k : ℕ) → k < length confs → (run_at (world_ins config n confs old new) k).place ≡ place_change (old.ins (place_at (places_in confs) k)) (new.ins (place_at (places_in confs) k))
+unfolding world_ins
+ins_at config n [] old new k l = absurd (omega (arith, l))
+ins_at config n (conf ∷ confs) old new zero l = refl
+ins_at config n (conf ∷ confs) old new (suc k) l = ins_at config (n + 1) confs old new k (omega (arith, l))
 
-module _ (batch limit : ℕ) (input output noted reported : Change) (run_moments input_moments : Option Moments) (status : Status) where
-  -- a run doesn't end so
-  pub never_open : Ends batch limit input output noted reported run_moments input_moments status → status ≡ statuses.OpenFault → ⊥
-  never_open h e = subst (Ends batch limit input output noted reported run_moments input_moments) e h
+outs_at : (confs : List OutputConf) (old new : WorldView) (k : ℕ) → k < length confs → (out_run_at (world_outs confs old new) k).place ≡ place_change (old.outs (place_at (places_out confs) k)) (new.outs (place_at (places_out confs) k))
+unfolding world_outs
+outs_at [] old new k l = absurd (omega (arith, l))
+outs_at (conf ∷ confs) old new zero l = refl
+outs_at (conf ∷ confs) old new (suc k) l = outs_at confs old new k (omega (arith, l))
 
-  pub never_usage : ((status ≢ statuses.OpenFault) → Ends batch limit input output noted reported run_moments input_moments status) → status ≡ statuses.Usage → ⊥
-  never_usage h e = subst (Ends batch limit input output noted reported run_moments input_moments) e (h (λ k. absurd (let x : statuses.Usage ≡ statuses.OpenFault = sym e ∙ k in cc)))
+none_rose : (config : Config) (old new : WorldView) → NothingRose old new → NoneRose config (world_change config old new)
+none_rose config old new nothing = record {
+  ins = λ k l rose. nothing.ins_used (place_at (places_in config.inputs) k) (subst (λ (x : Change). Rose x.faults_before x.faults_after) (ins_at config 0 config.inputs old new k l) rose);
+  outs = λ o l rose. nothing.outs_used (place_at (places_out config.outputs) o) (subst (λ (x : Change). Rose x.faults_before x.faults_after) (outs_at config.outputs old new o l) rose);
+  journal = nothing.outs_used config.agent.journal;
+  report = nothing.reported;
+}
 
-  pub never_config : ((status ≢ statuses.OpenFault) → Ends batch limit input output noted reported run_moments input_moments status) → status ≡ statuses.Config → ⊥
-  never_config h e = subst (Ends batch limit input output noted reported run_moments input_moments) e (h (λ k. absurd (let x : statuses.Config ≡ statuses.OpenFault = sym e ∙ k in cc)))
-
-  -- where memory was short nothing is promised
-  pub short_ends : status ≡ statuses.OutOfMemory → Ends batch limit input output noted reported run_moments input_moments status
-  short_ends e = rw e tt
+-- a run that no fault and no limit ended
+pub completes : (config : Config) (old new : WorldView) (status : Status) → 1 ≤ config.agent.final_tries → (status ≡ statuses.OpenFault → IsRefusedBy config old new) → ((status ≢ statuses.OpenFault) → Ends config (world_change config old new) status) →
+    NothingRose old new → (status ≢ statuses.Limit) → (status ≡ statuses.Done) ⊎ (status ≡ statuses.OutOfMemory)
+completes config old new status some refused ends nothing l =
+    done_or_short config (world_change config old new) some (none_rose config old new nothing) status (ends (λ e. not_refused config old new nothing (refused e))) l

@@ -2,3 +2,9 @@ pub mod NumberWords
 pub mod PlaceLemmas
 pub mod HeadlineLemmas
 pub mod CheckLemmas
+pub mod PartLemmas
+pub mod SideLemmas
+pub mod ClockListLemmas
+pub mod ZipLemmas
+pub mod RunningLemmas
+pub mod PipeLemmas

@@ -4,7 +4,7 @@ use Rattle.std.specs.Fmt.{decimal}
 use Rattle.std.specs.Io.KnownBytes.{Consumes, IsAtEnd}
 use Rattle.agent_base.specs.Counts.{Rose}
 use Rattle.agent_base.specs.Moments.{Moments}
-use Rattle.agent_base.specs.Places.{Place, Rest, SameBut, SameAtAll}
+use Rattle.agent_base.specs.Places.{Place, Rest, FailsToOpen, SameBut, SameAtAll}
 use Rattle.agent_config.specs.Faults.{first, text_faults}
 use Rattle.agent_config.specs.declared.fault.Class.{Class}
 use Rattle.agent_config.specs.declared.fault.Class.TheVariants as classes
@@ -13,7 +13,9 @@ use Rattle.agent_config.specs.declared.fault.ConfigKind.{ConfigKind}
 use Rattle.agent_config.specs.declared.fault.ConfigKind.TheVariants as kinds
 use Rattle.agent_run.specs.Headline.{report_change}
 use Rattle.agent_workers.specs.Run.{IsPutSo}
-use Rattle.agent_run.specs.Places.{IsUnopened, ReportsLine, open_fault_line, read_fault_line}
+use Rattle.agent_run.specs.Places.{IsUnopened, ReportsLine, RoseToUse, open_fault_line, read_fault_line}
+use Rattle.agent_run.specs.declared.checking.Unread.{Unread}
+use Rattle.agent_run.specs.declared.checking.Unread.TheVariants as unreads
 use Rattle.agent_run.specs.declared.status.Status.{Status}
 use Rattle.agent_run.specs.declared.status.Status.TheVariants as statuses
 
@@ -36,6 +38,12 @@ pub record TakesText (old new : Option (List ℕ)) (text : List ℕ) : Type 0 wh
   pub taken : Consumes old new text
   pub most : length text ≤ most_taken
   pub whole : length text < most_taken → IsAtEnd new
+
+-- why a text wasn't read, by its place: opening it failed, or a read; nothing is promised where memory was short
+abbrev pub IsUnread : Unread → Place → Place → Type 0
+IsUnread unreads.Unopened old new = FailsToOpen old new
+IsUnread unreads.Failed old new = RoseToUse old new
+IsUnread unreads.OutOfMemory old new = Unit {0}
 
 -- how a line names a class, and what is wrong
 abbrev pub class_word : Class → List ℕ

@@ -1,8 +1,12 @@
 -- The words that are a command.
-use Rattle.std.specs.Prelude.{◌≡◌, ◌≢◌, ◌≤◌, ℕ, List, [], ◌∷◌, map, codes, String}
+use Rattle.std.specs.Prelude.{◌≡◌, ◌≢◌, ◌≤◌, ℕ, pos, true, false, List, [], ◌∷◌, map, codes, String}
 use Rattle.std.specs.Str.Parse.{IsNumeral, digits_value}
 use Rattle.std.specs.declared.alloc.Global.{Global}
 use Rattle.std.specs.String.{string_bytes}
+use Rattle.agent_config.specs.declared.config.Config.{Config}
+use Rattle.agent_config.specs.declared.config.InFormat.TheVariants as read
+use Rattle.agent_config.specs.declared.config.OutFormat.TheVariants as written
+use Rattle.metric_filter.specs.Filter.{no_rules}
 use Rattle.agent_run.specs.declared.command.Command.{Command}
 use Rattle.agent_run.specs.declared.command.Command.TheVariants.{Check, Pipe}
 
@@ -47,3 +51,20 @@ pub record IsNoCommand (words : List (String Global)) : Type 0 where
 abbrev pub IsCommand : List (String Global) → Command → Type 0
 IsCommand words (Pipe pipe) = IsPipe words pipe.input.now pipe.output.now pipe.batch pipe.limit
 IsCommand words (Check place) = IsCheck words place.now
+
+-- the configuration that a pipe is: one line protocol input and one line protocol output with these sizes, no
+-- filter, no global tag, and what an agent has where nothing is said
+abbrev pub pipe_config : List ℕ → List ℕ → ℕ → ℕ → Config
+pipe_config input output batch limit = record {
+  agent = record {
+    gather_pieces = 1000;
+    final_tries = 3;
+    flush_interval = pos 10000000000;
+    skip_second = false;
+    workers = true;
+    journal = journal_place;
+  };
+  globals = [];
+  inputs = record { place = input; format = read.Influx; tracked = false; max_undelivered = 1000; filter = no_rules } ∷ [];
+  outputs = record { place = output; format = written.Influx; batch = batch; limit = limit; filter = no_rules } ∷ [];
+}

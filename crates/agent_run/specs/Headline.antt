@@ -1,23 +1,28 @@
--- What a run says: a legal journal of what was read and sent, with its text and the account of its totals.
-use Rattle.std.specs.Prelude.{◌≡◌, ◌≢◌, ◌<◌, ◌⊎◌, ◌^◌, ℕ, ℤ, if◌then◌else◌, Bool, true, false, List, []}
-use Rattle.std.specs.Prelude.{◌∷◌, String}
-use Rattle.std.specs.declared.option.Option.{Option}
-use Rattle.std.specs.Io.KnownBytes.{Appends}
+-- What a run of a configuration says: a legal journal of what was read and sent, with its text and the account of
+-- its totals.
+use Rattle.std.specs.Prelude.{◌≡◌, ◌≢◌, ◌<◌, ◌≤◌, ◌⊎◌, ◌+◌, ◌^◌, ℕ, ℤ, if◌then◌else◌, Bool, true, false, List, []}
+use Rattle.std.specs.Prelude.{◌∷◌, length, String}
+use Rattle.account.specs.Setup.{Setup}
 use Rattle.account.specs.declared.entry.Entry.{Entry}
-use Rattle.agent_base.specs.Counts.{Rose}
+use Rattle.std.specs.declared.alloc.Global.{Global}
+use Rattle.std.specs.declared.option.Option.{Option}
 use Rattle.agent_base.specs.Moments.{Moments}
 use Rattle.agent_base.specs.Places.{Place, Rest}
+use Rattle.agent_base.specs.Views.{WorldView}
+use Rattle.agent_config.specs.declared.config.Config.{Config}
+use Rattle.agent_config.specs.declared.config.InputConf.{InputConf}
+use Rattle.agent_config.specs.declared.config.OutputConf.{OutputConf}
 use Rattle.pipeline_core.specs.Legal.{has_ended}
-use Rattle.agent_workers.specs.Input.{IsFull}
-use Rattle.std.specs.declared.alloc.Global.{Global}
-use Rattle.agent_run.specs.Command.{journal_place, IsPipe}
+use Rattle.agent_workers.specs.Opened.{rule_by, sizes_of}
+use Rattle.agent_workers.specs.PipeSetup.{run_setup}
+use Rattle.agent_workers.specs.Reader.{views_by}
+use Rattle.agent_workers.specs.Run.{Change, change, InRun, OutRun, run_at, buffered_at_end, account_of, text_of}
+use Rattle.agent_workers.specs.Run.{IsRun, IsPutSo, IsCutShort, SomeIsFull}
+use Rattle.agent_base.specs.Counts.{Rose}
+use Rattle.agent_run.specs.Command.{IsPipe, pipe_config}
 use Rattle.agent_run.specs.Places.{AreOpensSame, RoseToOpen, RoseToUse}
 use Rattle.agent_run.specs.declared.status.Status.{Status}
 use Rattle.agent_run.specs.declared.status.Status.TheVariants as statuses
-use Rattle.agent_workers.specs.PipeSetup.{pipe_setup}
-use Rattle.agent_workers.specs.Reader.{plain_rule, plain_view}
-use Rattle.agent_workers.specs.Run.{Change, change, InRun, buffered_at_end, account_of, text_of, IsCutShort}
-use Rattle.agent_workers.specs.Run.{IsRun, IsPutSo}
 
 -- the status by whether a limit was reached, whether a read failed, whether the put of the journal or of the
 -- report failed, and whether a metric is left
@@ -27,77 +32,129 @@ status_of false true failed left = if failed then statuses.ReportFault else stat
 status_of false false failed left = if failed then statuses.ReportFault else
     (if left then statuses.Left else statuses.Done)
 
--- how many pieces a gather has at most
-abbrev pub gather_pieces : ℕ
-gather_pieces = 1000
+-- the change of a place, and of the report
+abbrev pub place_change : Place → Place → Change
+place_change old new = change old.bytes new.bytes old.part_faults new.part_faults
 
--- the one input of a pipe: line protocol, of which each metric is kept as it is
-abbrev pub pipe_input : Change → Option Moments → InRun
-pipe_input place moments = record { rule = plain_rule gather_pieces; place = place; moments = moments }
+abbrev pub report_change : Rest → Rest → Change
+report_change old new = change old.reported new.reported old.report_faults new.report_faults
 
--- how often in succession a repeat without an accepted batch is tried at the end
-abbrev pub final_tries : ℕ
-final_tries = 3
+-- the number of the run's clock, and of that of an input: those of the processors and of the journal stand between
+abbrev pub run_clock : ℕ
+run_clock = 0
 
--- The headline of a run: the journal is a legal history of what the input said and the output was sent, its
--- text stands at the journal's place, and the account that was reported is its totals.
-pub record Headline (batch limit : ℕ) (input output note report : Change)
-    (run_moments input_moments : Option Moments) : Type 0 where
+abbrev pub input_clock : ℕ → ℕ
+input_clock number = 3 + number
+
+-- the inputs of a configuration, numbered from a number on: by what rule each is read, the change of its place,
+-- and the moments of its clock
+unfoldable pub world_ins : Config → ℕ → List InputConf → WorldView → WorldView → List InRun
+world_ins config number [] old new = []
+world_ins config number (conf ∷ confs) old new = record {
+  rule = rule_by config conf;
+  place = place_change (old.ins conf.place) (new.ins conf.place);
+  moments = old.clocks (input_clock number);
+} ∷ world_ins config (number + 1) confs old new
+
+-- its outputs: the format of each, and the change of its place
+unfoldable pub world_outs : List OutputConf → WorldView → WorldView → List OutRun
+world_outs [] old new = []
+world_outs (conf ∷ confs) old new = record {
+  format = conf.format;
+  place = place_change (old.outs conf.place) (new.outs conf.place);
+} ∷ world_outs confs old new
+
+-- what a run of a configuration is about
+abbrev pub config_setup : Config → ℤ → Setup
+config_setup config start = run_setup (length config.inputs) (sizes_of config) start
+
+-- what a run left: the change of the place of each input and of each output, by their numbers, of the journal's
+-- place, and of the report; and the moments of the run's clock
+pub record RunChange : Type 0 where
+  pub ins : List InRun
+  pub outs : List OutRun
+  pub journal : Change
+  pub report : Change
+  pub moments : Option Moments
+
+-- so it is in a world that was so before and is so now
+abbrev pub world_change : Config → WorldView → WorldView → RunChange
+world_change config old new = record {
+  ins = world_ins config 0 config.inputs old new;
+  outs = world_outs config.outputs old new;
+  journal = place_change (old.outs config.agent.journal) (new.outs config.agent.journal);
+  report = report_change old.report new.report;
+  moments = old.clocks run_clock;
+}
+
+-- a journal is that of a run of the configuration
+abbrev pub IsRunOf : Config → RunChange → ℤ → List Entry → Type 0
+IsRunOf config x start journal = IsRun (views_by config.outputs) config.agent.final_tries
+    (config_setup config start) x.ins x.outs x.moments journal
+
+-- The headline of a run: the journal is a legal history of what the inputs said and the outputs were sent, its
+-- text stands at the journal's place, and the account that was reported is its totals; where the put of the
+-- journal or of the report failed, a prefix of the text.
+pub record Headline (config : Config) (x : RunChange) (journal_failed report_failed : Bool) : Type 0 where
   pub start : ℤ
   pub journal : List Entry
-  pub run : IsRun plain_view final_tries (pipe_setup batch limit start) (pipe_input input input_moments ∷ [])
-      (output ∷ []) run_moments journal
-  pub noted : Appends note.before note.after (text_of (pipe_setup batch limit start) journal)
-  pub reported : Appends report.before report.after (account_of (pipe_setup batch limit start) journal)
+  pub run : IsRunOf config x start journal
+  pub noted : IsPutSo journal_failed x.journal (text_of (config_setup config start) journal)
+  pub reported : IsPutSo report_failed x.report (account_of (config_setup config start) journal)
 
--- the same, where the put of the journal or of the report may have failed, and then a part of the text went
--- out
-pub record TornHeadline (batch limit : ℕ) (input output note report : Change)
-    (run_moments input_moments : Option Moments) : Type 0 where
-  pub start : ℤ
-  pub journal : List Entry
-  pub run : IsRun plain_view final_tries (pipe_setup batch limit start) (pipe_input input input_moments ∷ [])
-      (output ∷ []) run_moments journal
-  pub journal_failed : Bool
-  pub report_failed : Bool
-  pub noted : IsPutSo journal_failed note (text_of (pipe_setup batch limit start) journal)
-  pub reported : IsPutSo report_failed report (account_of (pipe_setup batch limit start) journal)
+module _ (config : Config) (x : RunChange) where
+  -- an input was read to its end
+  pub record IsWhole (taken : ℕ → ℕ) (journal : List Entry) (number : ℕ) : Type 0 where
+    pub few : taken number < 2 ^ 40
+    pub ended : has_ended number journal ≡ true
 
-module _ (batch limit : ℕ) (input output note report : Change)
-    (run_moments input_moments : Option Moments) where
-  -- the input was read to its end, and nothing is buffered
+  -- a read of an input failed, and it wasn't read to its end
+  pub record IsBroken (taken : ℕ → ℕ) (journal : List Entry) (number : ℕ) : Type 0 where
+    pub few : taken number < 2 ^ 40
+    pub unended : has_ended number journal ≡ false
+    pub cut_short : IsCutShort number (run_at x.ins number) journal
+
+  -- each input was read to its end, and nothing is buffered
   pub record IsDone : Type 0 where
-    pub headline : Headline batch limit input output note report run_moments input_moments
-    pub few : headline.run.has.taken 0 < 2 ^ 40
-    pub ended : has_ended 0 headline.journal ≡ true
-    pub none_left : buffered_at_end (pipe_setup batch limit headline.start) headline.journal 0 ≡ 0
+    pub headline : Headline config x false false
+    pub whole : (number : ℕ) → number < length config.inputs → IsWhole headline.run.has.taken headline.journal number
+    pub none_left : (output : ℕ) → output < length config.outputs →
+        buffered_at_end (config_setup config headline.start) headline.journal output ≡ 0
 
-  -- the input was read to its end, and a metric is buffered
+  -- each input was read to its end, and a metric is buffered at some output
   pub record IsLeftOver : Type 0 where
-    pub headline : Headline batch limit input output note report run_moments input_moments
-    pub few : headline.run.has.taken 0 < 2 ^ 40
-    pub ended : has_ended 0 headline.journal ≡ true
-    pub some_left : buffered_at_end (pipe_setup batch limit headline.start) headline.journal 0 ≢ 0
+    pub headline : Headline config x false false
+    pub whole : (number : ℕ) → number < length config.inputs → IsWhole headline.run.has.taken headline.journal number
+    pub output : ℕ
+    pub known : output < length config.outputs
+    pub some_left : buffered_at_end (config_setup config headline.start) headline.journal output ≢ 0
 
-  -- a read of the input failed, and it wasn't read to its end
+  -- a read of some input failed, and it wasn't read to its end; so it is with each that wasn't
   pub record IsReadFault : Type 0 where
-    pub headline : Headline batch limit input output note report run_moments input_moments
-    pub few : headline.run.has.taken 0 < 2 ^ 40
-    pub unended : has_ended 0 headline.journal ≡ false
-    pub cut_short : IsCutShort 0 (pipe_input input input_moments) headline.journal
+    pub headline : Headline config x false false
+    pub each : (number : ℕ) → number < length config.inputs →
+        IsWhole headline.run.has.taken headline.journal number ⊎ IsBroken headline.run.has.taken headline.journal number
+    pub number : ℕ
+    pub known : number < length config.inputs
+    pub broken : IsBroken headline.run.has.taken headline.journal number
 
   -- the put of the journal or of the report failed
   pub record IsReportFault : Type 0 where
-    pub headline : TornHeadline batch limit input output note report run_moments input_moments
-    pub few : headline.run.has.taken 0 < 2 ^ 40
-    pub failed : (headline.journal_failed ≡ true) ⊎ (headline.report_failed ≡ true)
+    pub journal_failed : Bool
+    pub report_failed : Bool
+    pub headline : Headline config x journal_failed report_failed
+    pub few : (number : ℕ) → number < length config.inputs → headline.run.has.taken number < 2 ^ 40
+    pub failed : (journal_failed ≡ true) ⊎ (report_failed ≡ true)
 
-  -- 2^40 bytes of the input were taken, or the run is full
+  -- 2^40 bytes of some input were taken, or the run is full
   pub record IsLimit : Type 0 where
-    pub headline : TornHeadline batch limit input output note report run_moments input_moments
-    pub unended : has_ended 0 headline.journal ≡ false
-    pub reached : (headline.run.has.taken 0 ≡ 2 ^ 40)
-        ⊎ IsFull (plain_rule gather_pieces) headline.journal 0 input.before input.after
+    pub journal_failed : Bool
+    pub report_failed : Bool
+    pub headline : Headline config x journal_failed report_failed
+    pub number : ℕ
+    pub known : number < length config.inputs
+    pub unended : has_ended number headline.journal ≡ false
+    pub reached : (headline.run.has.taken number ≡ 2 ^ 40) ⊎ SomeIsFull x.ins headline.journal
 
   -- what each status of a run says; nothing is promised where memory was short
   abbrev pub Ends : Status → Type 0
@@ -111,33 +168,22 @@ module _ (batch limit : ℕ) (input output note report : Change)
   Ends statuses.Config = ⊥
   Ends statuses.OpenFault = ⊥
 
--- the change of a place, and of the report
-abbrev pub place_change : Place → Place → Change
-place_change old new = change old.bytes new.bytes old.part_faults new.part_faults
-
-abbrev pub report_change : Rest → Rest → Change
-report_change old new = change old.reported new.reported old.report_faults new.report_faults
-
--- the words are a command, and its run ended with this status
-pub record PipeEnds (status : Status) (words : List (String Global)) (ins new_ins outs new_outs : List ℕ
-    → Place) (rest new_rest : Rest) (moments : ℕ → Option Moments) : Type 0 where
+-- the words are a pipe, and its run ended with this status: no count of failed opens changed, and it left what the
+-- status says
+pub record PipeEnds (status : Status) (words : List (String Global)) (old new : WorldView) : Type 0 where
   pub input : List ℕ
   pub output : List ℕ
   pub batch : ℕ
   pub limit : ℕ
   pub command : IsPipe words input output batch limit
-  -- no count of failed opens changed
-  pub ins_opened : AreOpensSame ins new_ins
-  pub outs_opened : AreOpensSame outs new_outs
-  pub ends : Ends batch limit (place_change (ins input) (new_ins input))
-      (place_change (outs output) (new_outs output))
-      (place_change (outs journal_place) (new_outs journal_place)) (report_change rest new_rest) (moments 0)
-      (moments 3) status
+  pub ins_opened : AreOpensSame old.ins new.ins
+  pub outs_opened : AreOpensSame old.outs new.outs
+  pub ends : Ends (pipe_config input output batch limit) (world_change (pipe_config input output batch limit) old new) status
 
 -- no count of the world rose
-pub record NothingRose (ins new_ins outs new_outs : List ℕ → Place) (rest new_rest : Rest) : Type 0 where
-  pub ins_opened : (place : List ℕ) → RoseToOpen (ins place) (new_ins place) → ⊥
-  pub ins_used : (place : List ℕ) → RoseToUse (ins place) (new_ins place) → ⊥
-  pub outs_opened : (place : List ℕ) → RoseToOpen (outs place) (new_outs place) → ⊥
-  pub outs_used : (place : List ℕ) → RoseToUse (outs place) (new_outs place) → ⊥
-  pub reported : Rose rest.report_faults new_rest.report_faults → ⊥
+pub record NothingRose (old new : WorldView) : Type 0 where
+  pub ins_opened : (place : List ℕ) → RoseToOpen (old.ins place) (new.ins place) → ⊥
+  pub ins_used : (place : List ℕ) → RoseToUse (old.ins place) (new.ins place) → ⊥
+  pub outs_opened : (place : List ℕ) → RoseToOpen (old.outs place) (new.outs place) → ⊥
+  pub outs_used : (place : List ℕ) → RoseToUse (old.outs place) (new.outs place) → ⊥
+  pub reported : Rose old.report.report_faults new.report.report_faults → ⊥

@@ -3,11 +3,6 @@ use Rattle.std.specs.Prelude.{◌≡◌, ◌≢◌, ◌≤◌, ℕ, List, take, 
 use Rattle.std.specs.Io.KnownBytes.{Appends}
 use Rattle.agent_base.specs.Counts.{Rose}
 use Rattle.agent_base.specs.Places.{Place, Rest, FailsToOpen, SameBut, SameAtAll}
-use Rattle.agent_run.specs.Command.{journal_place}
-
--- all is the same but at two places
-abbrev pub SameButTwo : {K X : Type 0} → K → K → (K → X) → (K → X) → Type 0
-SameButTwo {K} place second old new = (other : K) → other ≢ place → other ≢ second → new other ≡ old other
 
 -- opening a place failed, which was counted; it has its bytes again, and every other place is as before
 pub record IsUnopened (place : List ℕ) (old new : List ℕ → Place) : Type 0 where
@@ -44,22 +39,6 @@ open_fault_line place = codes "fault: open " ++ place ++ codes "\n"
 -- the line that says which place wasn't read
 abbrev pub read_fault_line : List ℕ → List ℕ
 read_fault_line place = codes "fault: read " ++ place ++ codes "\n"
-
--- a place that wasn't opened: that of the input, or one of the two output places; every other place is as
--- before
-abbrev pub IsUnopenedOf : List ℕ → List ℕ → List ℕ → (List ℕ → Place) → (List ℕ → Place) → (List ℕ → Place)
-    → (List ℕ → Place) → Type 0
-IsUnopenedOf place input output ins new_ins outs new_outs =
-    ((place ≡ input) × IsUnopened place ins new_ins × SameAtAll outs new_outs)
-    ⊎ (((place ≡ output) ⊎ (place ≡ journal_place)) × SameAtAll ins new_ins
-    × IsUnopened place outs new_outs)
-
--- one of the three places of a pipe wasn't opened, and the line that names it was reported
-pub record IsRefused (ins new_ins outs new_outs : List ℕ
-    → Place) (rest new_rest : Rest) (input output : List ℕ) : Type 0 where
-  pub place : List ℕ
-  pub unopened : IsUnopenedOf place input output ins new_ins outs new_outs
-  pub told : ReportsLine rest new_rest (open_fault_line place)
 
 -- the words were no command: every place is as before, and the line of usage was reported
 pub record IsUnused (ins new_ins outs new_outs : List ℕ → Place) (rest new_rest : Rest) : Type 0 where

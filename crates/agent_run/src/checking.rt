@@ -1,10 +1,11 @@
 //! Checking a configuration.
-ghost use Rattle.std.specs.Prelude.{◌≡◌, ◌≤◌, ◌+◌, ◌⊎◌, IfOk, OnErr, length, take, drop, string_bytes, vec_len};
+ghost use Rattle.std.specs.Prelude.{◌≡◌, ◌≢◌, ◌≤◌, ◌+◌, ◌⊎◌, IfOk, IfErr, OnErr, length, take, drop, string_bytes, vec_len};
 ghost use Rattle.std.specs.Io.KnownBytes.{ReadConsumes};
 ghost use Rattle.agent_base.specs.Counts.{HasCause, Rose};
 ghost use Rattle.agent_base.specs.Places.{AreHome, SameAtAll};
+ghost use Rattle.agent_base.specs.Views.{OnlyIn};
 ghost use Rattle.agent_config.specs.Faults.{first, text_faults};
-ghost use Rattle.agent_run.specs.Checking.{Approves, Fills, HasChecked, Judges, TakesAtMost, TakesText};
+ghost use Rattle.agent_run.specs.Checking.{Approves, Fills, HasChecked, IsUnread, Judges, TakesAtMost, TakesText};
 ghost use Rattle.agent_run.specs.Checking.{class_word, config_fault_line, kind_word, most_taken};
 ghost use Rattle.agent_run.specs.Places.{ReportsLine};
 
@@ -24,6 +25,17 @@ enum TextFault {
     /// A read failed.
     Failed,
     /// No memory was left, and nothing was read.
+    OutOfMemory,
+}
+
+/// Why the text at a place wasn't read.
+#[derive(Clone, Copy, Debug, PartialEq, Eq)]
+pub(crate) enum Unread {
+    /// The place wasn't opened.
+    Unopened,
+    /// A read failed.
+    Failed,
+    /// No memory was left.
     OutOfMemory,
 }
 
@@ -156,11 +168,11 @@ fn first_fault(alloc: Global, text: &[u8]) -> Result<Option<ConfigFault>, OutOfM
 /// Reports the fault of a configuration.
 fn report_config_fault<W: World>(alloc: Global, world: &mut W, fault: ConfigFault) -> Status
     ensures answer { ((result ≡ Status.Config)
-        × ReportsLine (W.rest world.old) (W.rest world.new) (config_fault_line fault))
+        × ReportsLine (W.view world.old).report (W.view world.new).report (config_fault_line fault))
         ⊎ (result ≡ Status.OutOfMemory) }
-    ensures ins { SameAtAll (W.in_at world.old) (W.in_at world.new) }
-    ensures outs { SameAtAll (W.out_at world.old) (W.out_at world.new) }
-    ensures moments { SameAtAll (W.moments world.old) (W.moments world.new) }
+    ensures ins { SameAtAll (W.view world.old).ins (W.view world.new).ins }
+    ensures outs { SameAtAll (W.view world.old).outs (W.view world.new).outs }
+    ensures moments { SameAtAll (W.view world.old).clocks (W.view world.new).clocks }
 {
     match config_fault_line(alloc, fault) {
         Ok(line) => report_line(world, line.as_bytes(), Status::Config),
@@ -170,10 +182,10 @@ fn report_config_fault<W: World>(alloc: Global, world: &mut W, fault: ConfigFaul
 
 /// Reports that a configuration has no fault.
 fn report_ok<W: World>(world: &mut W) -> Status
-    ensures answer { Approves result (W.rest world.old) (W.rest world.new) }
-    ensures ins { SameAtAll (W.in_at world.old) (W.in_at world.new) }
-    ensures outs { SameAtAll (W.out_at world.old) (W.out_at world.new) }
-    ensures moments { SameAtAll (W.moments world.old) (W.moments world.new) }
+    ensures answer { Approves result (W.view world.old).report (W.view world.new).report }
+    ensures ins { SameAtAll (W.view world.old).ins (W.view world.new).ins }
+    ensures outs { SameAtAll (W.view world.old).outs (W.view world.new).outs }
+    ensures moments { SameAtAll (W.view world.old).clocks (W.view world.new).clocks }
 {
     match world.report(b"ok\n") {
         Ok(()) => Status::Done,
@@ -184,10 +196,10 @@ fn report_ok<W: World>(world: &mut W) -> Status
 
 /// Reports what a text is as a configuration: `ok`, or its first fault.
 fn judge<W: World>(alloc: Global, world: &mut W, text: &[u8]) -> Status
-    ensures answer { Judges result text.now (W.rest world.old) (W.rest world.new) }
-    ensures ins { SameAtAll (W.in_at world.old) (W.in_at world.new) }
-    ensures outs { SameAtAll (W.out_at world.old) (W.out_at world.new) }
-    ensures moments { SameAtAll (W.moments world.old) (W.moments world.new) }
+    ensures answer { Judges result text.now (W.view world.old).report (W.view world.new).report }
+    ensures ins { SameAtAll (W.view world.old).ins (W.view world.new).ins }
+    ensures outs { SameAtAll (W.view world.old).outs (W.view world.new).outs }
+    ensures moments { SameAtAll (W.view world.old).clocks (W.view world.new).clocks }
 {
     match first_fault(alloc, text) {
         Ok(None) => report_ok(world),
@@ -196,26 +208,53 @@ fn judge<W: World>(alloc: Global, world: &mut W, text: &[u8]) -> Status
     }
 }
 
-/// Checks the configuration at a place, and reports `ok` or its first fault, as `config: KIND CLASS NUMBER`.
-///
-/// The place is read to its end, or to one byte above 1 MiB, and given back.
-pub(crate) fn check_call<W: World>(alloc: Global, world: &mut W, place: &str) -> Status
-    requires ins { AreHome (W.in_at world.old) }
-    ensures checked { HasChecked result place.now (W.in_at world.old) (W.in_at world.new) (W.out_at world.old)
-        (W.out_at world.new) (W.rest world.old) (W.rest world.new) (W.moments world.old)
-        (W.moments world.new) }
-    ensures home { AreHome (W.in_at world.new) }
+/// Reads the text at a place to its end, or to one byte above 1 MiB, and gives the part of the place back.
+pub(crate) fn read_place<W: World>(
+    alloc: Global,
+    world: &mut W,
+    place: &str,
+) -> Result<Vec<u8>, Unread>
+    requires ins { AreHome (W.view world.old).ins }
+    ensures text { IfOk result
+        (λ text. TakesText ((W.view world.old).ins place.now).bytes ((W.view world.new).ins place.now).bytes
+        text.items) }
+    ensures unread { IfErr result
+        (λ unread. IsUnread unread ((W.view world.old).ins place.now) ((W.view world.new).ins place.now)) }
+    ensures taken { TakesAtMost most_taken ((W.view world.old).ins place.now).bytes
+        ((W.view world.new).ins place.now).bytes }
+    ensures opens { (result ≢ Err Unread.Unopened)
+        → ((W.view world.new).ins place.now).open_faults ≡ ((W.view world.old).ins place.now).open_faults }
+    ensures only { OnlyIn place.now (W.view world.old) (W.view world.new) }
+    ensures home { AreHome (W.view world.new).ins }
 {
     let mut source = match world.open_in(place) {
         Ok(source) => source,
-        Err(OpenFault::Failed) => return report_open_fault(alloc, world, place),
-        Err(OpenFault::OutOfMemory) => return Status::OutOfMemory,
+        Err(OpenFault::Failed) => return Err(Unread::Unopened),
+        Err(OpenFault::OutOfMemory) => return Err(Unread::OutOfMemory),
     };
     let read = read_text(alloc, &mut source);
     world.give_in(place, source);
     match read {
+        Ok(text) => Ok(text),
+        Err(TextFault::Failed) => Err(Unread::Failed),
+        Err(TextFault::OutOfMemory) => Err(Unread::OutOfMemory),
+    }
+}
+
+/// Checks the configuration at a place, and reports `ok` or its first fault, as `config: KIND CLASS NUMBER`.
+///
+/// The place is read to its end, or to one byte above 1 MiB, and given back.
+pub(crate) fn check_call<W: World>(alloc: Global, world: &mut W, place: &str) -> Status
+    requires ins { AreHome (W.view world.old).ins }
+    ensures checked { HasChecked result place.now (W.view world.old).ins (W.view world.new).ins (W.view world.old).outs
+        (W.view world.new).outs (W.view world.old).report (W.view world.new).report (W.view world.old).clocks
+        (W.view world.new).clocks }
+    ensures home { AreHome (W.view world.new).ins }
+{
+    match read_place(alloc, world, place) {
         Ok(text) => judge(alloc, world, text.as_slice()),
-        Err(TextFault::Failed) => report_read_fault(alloc, world, place),
-        Err(TextFault::OutOfMemory) => Status::OutOfMemory,
+        Err(Unread::Unopened) => report_open_fault(alloc, world, place),
+        Err(Unread::Failed) => report_read_fault(alloc, world, place),
+        Err(Unread::OutOfMemory) => Status::OutOfMemory,
     }
 }

@@ -3,9 +3,12 @@
 #![tactic(auto)]
 
 mod checking;
+mod clocks;
 mod command;
-mod opening;
+mod pipe;
+mod places;
 mod reporting;
+mod running;
 mod status;
 mod top;
 

@@ -9,11 +9,11 @@ use std::alloc::{AllocError, Global};
 
 /// Reports a line, and answers the status, unless memory was short.
 pub(crate) fn report_line<W: World>(world: &mut W, line: &[u8], status: Status) -> Status
-    ensures answer { ((result ≡ status) × ReportsLine (W.rest world.old) (W.rest world.new) line.now)
+    ensures answer { ((result ≡ status) × ReportsLine (W.view world.old).report (W.view world.new).report line.now)
         ⊎ (result ≡ Status.OutOfMemory) }
-    ensures ins { SameAtAll (W.in_at world.old) (W.in_at world.new) }
-    ensures outs { SameAtAll (W.out_at world.old) (W.out_at world.new) }
-    ensures moments { SameAtAll (W.moments world.old) (W.moments world.new) }
+    ensures ins { SameAtAll (W.view world.old).ins (W.view world.new).ins }
+    ensures outs { SameAtAll (W.view world.old).outs (W.view world.new).outs }
+    ensures moments { SameAtAll (W.view world.old).clocks (W.view world.new).clocks }
 {
     match world.report(line) {
         Err(PutFault::OutOfMemory) => Status::OutOfMemory,
@@ -31,11 +31,11 @@ fn open_fault_line(alloc: Global, place: &str) -> Result<String, AllocError>
 /// Reports which place wasn't opened.
 pub(crate) fn report_open_fault<W: World>(alloc: Global, world: &mut W, place: &str) -> Status
     ensures answer { ((result ≡ Status.OpenFault)
-        × ReportsLine (W.rest world.old) (W.rest world.new) (open_fault_line place.now))
+        × ReportsLine (W.view world.old).report (W.view world.new).report (open_fault_line place.now))
         ⊎ (result ≡ Status.OutOfMemory) }
-    ensures ins { SameAtAll (W.in_at world.old) (W.in_at world.new) }
-    ensures outs { SameAtAll (W.out_at world.old) (W.out_at world.new) }
-    ensures moments { SameAtAll (W.moments world.old) (W.moments world.new) }
+    ensures ins { SameAtAll (W.view world.old).ins (W.view world.new).ins }
+    ensures outs { SameAtAll (W.view world.old).outs (W.view world.new).outs }
+    ensures moments { SameAtAll (W.view world.old).clocks (W.view world.new).clocks }
 {
     match open_fault_line(alloc, place) {
         Ok(line) => report_line(world, line.as_bytes(), Status::OpenFault),
@@ -53,11 +53,11 @@ fn read_fault_line(alloc: Global, place: &str) -> Result<String, AllocError>
 /// Reports which place wasn't read.
 pub(crate) fn report_read_fault<W: World>(alloc: Global, world: &mut W, place: &str) -> Status
     ensures answer { ((result ≡ Status.ReadFault)
-        × ReportsLine (W.rest world.old) (W.rest world.new) (read_fault_line place.now))
+        × ReportsLine (W.view world.old).report (W.view world.new).report (read_fault_line place.now))
         ⊎ (result ≡ Status.OutOfMemory) }
-    ensures ins { SameAtAll (W.in_at world.old) (W.in_at world.new) }
-    ensures outs { SameAtAll (W.out_at world.old) (W.out_at world.new) }
-    ensures moments { SameAtAll (W.moments world.old) (W.moments world.new) }
+    ensures ins { SameAtAll (W.view world.old).ins (W.view world.new).ins }
+    ensures outs { SameAtAll (W.view world.old).outs (W.view world.new).outs }
+    ensures moments { SameAtAll (W.view world.old).clocks (W.view world.new).clocks }
 {
     match read_fault_line(alloc, place) {
         Ok(line) => report_line(world, line.as_bytes(), Status::ReadFault),

@@ -180,8 +180,8 @@ fn world_with(
     source: MemSource,
     reports: &[(u64, usize)],
 ) -> Result<ToldWorld, OutOfMemory>
-    ensures ins { IfOk result (λ world. AreHome (⟦<ToldWorld as World>⟧.in_at world)) }
-    ensures outs { IfOk result (λ world. AreHome (⟦<ToldWorld as World>⟧.out_at world)) }
+    ensures ins { IfOk result (λ world. AreHome (⟦<ToldWorld as World>⟧.view world).ins) }
+    ensures outs { IfOk result (λ world. AreHome (⟦<ToldWorld as World>⟧.view world).outs) }
 {
     let places = ("c", "b", "agent.journal");
     let parts = world_at(

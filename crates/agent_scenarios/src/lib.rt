@@ -2,8 +2,6 @@
 #![tactic(auto)]
 
 #[cfg(test)]
-mod agent_workers_tests;
-#[cfg(test)]
 mod check_tests;
 #[cfg(test)]
 mod fault_tests;
@@ -14,6 +12,6 @@ mod journal_tests;
 #[cfg(test)]
 mod report_tests;
 #[cfg(test)]
-mod tests;
+mod runs_tests;
 #[cfg(test)]
-mod two_inputs_tests;
+mod tests;

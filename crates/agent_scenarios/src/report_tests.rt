@@ -24,14 +24,13 @@ impl World for ToldWorld {
 
     type Clk = MemClock;
 
-    ghost in_at = { λ w place. ⟦<MemWorld as World>⟧.in_at w.parts place };
-
-    ghost out_at = { λ w place. ⟦<MemWorld as World>⟧.out_at w.parts place };
-
-    ghost rest = { λ w. record
-        { reported = ⟦<MemSink as Sink>⟧.held w.report; report_faults = ⟦<MemSink as Sink>⟧.faults w.report } };
-
-    ghost moments = { λ w who. ⟦<MemWorld as World>⟧.moments w.parts who };
+    ghost view = { λ w. record {
+      ins = (⟦<MemWorld as World>⟧.view w.parts).ins;
+      outs = (⟦<MemWorld as World>⟧.view w.parts).outs;
+      clocks = (⟦<MemWorld as World>⟧.view w.parts).clocks;
+      report = record
+          { reported = ⟦<MemSink as Sink>⟧.held w.report; report_faults = ⟦<MemSink as Sink>⟧.faults w.report };
+    } };
 
     fn open_in(&mut self, place: &str) -> Result<MemSource, OpenFault> {
         self.parts.open_in(place)
@@ -60,8 +59,8 @@ impl World for ToldWorld {
 
 /// Two lines at `a`, and a report that fails after so many bytes.
 fn told_world(alloc: Global, count: usize) -> Result<ToldWorld, OutOfMemory>
-    ensures ins { IfOk result (λ world. AreHome (⟦<ToldWorld as World>⟧.in_at world)) }
-    ensures outs { IfOk result (λ world. AreHome (⟦<ToldWorld as World>⟧.out_at world)) }
+    ensures ins { IfOk result (λ world. AreHome (⟦<ToldWorld as World>⟧.view world).ins) }
+    ensures outs { IfOk result (λ world. AreHome (⟦<ToldWorld as World>⟧.view world).outs) }
 {
     let parts = world_of(
         alloc,

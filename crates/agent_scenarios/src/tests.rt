@@ -17,8 +17,8 @@ pub fn world_at(
     sink: MemSink,
     journal: MemSink,
 ) -> Result<MemWorld, OutOfMemory>
-    ensures ins { IfOk result (λ world. AreHome (⟦<MemWorld as World>⟧.in_at world)) }
-    ensures outs { IfOk result (λ world. AreHome (⟦<MemWorld as World>⟧.out_at world)) }
+    ensures ins { IfOk result (λ world. AreHome (⟦<MemWorld as World>⟧.view world).ins) }
+    ensures outs { IfOk result (λ world. AreHome (⟦<MemWorld as World>⟧.view world).outs) }
 {
     let mut world = MemWorld::new(alloc);
     world.add_in(places.0, source)?;
@@ -34,8 +34,8 @@ pub fn world_of(
     sink: MemSink,
     journal: MemSink,
 ) -> Result<MemWorld, OutOfMemory>
-    ensures ins { IfOk result (λ world. AreHome (⟦<MemWorld as World>⟧.in_at world)) }
-    ensures outs { IfOk result (λ world. AreHome (⟦<MemWorld as World>⟧.out_at world)) }
+    ensures ins { IfOk result (λ world. AreHome (⟦<MemWorld as World>⟧.view world).ins) }
+    ensures outs { IfOk result (λ world. AreHome (⟦<MemWorld as World>⟧.view world).outs) }
 {
     world_at(alloc, ("a", "b", "agent.journal"), source, sink, journal)
 }
@@ -75,8 +75,8 @@ pub struct Outcome {
 
 /// Runs a line of words in a world of which no part is out.
 pub fn outcome_in(alloc: Global, line: &str, mut world: MemWorld) -> Result<Outcome, OutOfMemory>
-    requires ins { AreHome (⟦<MemWorld as World>⟧.in_at world) }
-    requires outs { AreHome (⟦<MemWorld as World>⟧.out_at world) }
+    requires ins { AreHome (⟦<MemWorld as World>⟧.view world).ins }
+    requires outs { AreHome (⟦<MemWorld as World>⟧.view world).outs }
 {
     let words = words_of(alloc, line)?;
     let status = agent(alloc, words.as_slice(), &mut world);

@@ -25,19 +25,20 @@ use Rattle.pipeline_core.specs.Stopped.{behind_stop}
 use Rattle.account.specs.EntryMoments.{counted_moments}
 use Rattle.account.specs.Items.{raw_items, items, taken}
 use Rattle.agent_workers.specs.Input.{IsFull}
-use Rattle.agent_workers.specs.Inputs.{InPart, in_at, HoldsTooMany, AreInputs, AreOut, OneIsFull, IsOneOf, IsOneIn, IsFresh, AreFresh}
-use Rattle.agent_workers.specs.Run.{change, InRun, in_run, in_runs, run_at, change_at, out_changes, SomeIsFull, RunsFull, IsUnread, IsReadFrom, IsSentTo, HasRun, EndsSo, IsPutSo, IsLeft, Ran, buffered_at_end, account_of}
+use Rattle.agent_workers.specs.Inputs.{InPart, in_at, AreSameInputs, HoldsTooMany, AreInputs, AreOut, OneIsFull, IsOneOf, IsOneIn, IsFresh, AreFresh}
+use Rattle.agent_workers.specs.Run.{change, InRun, in_run, in_runs, run_at, OutRun, out_run, out_run_at, out_runs, SomeIsFull, RunsFull, IsUnread, IsReadFrom, IsSentTo, HasRun, EndsSo, IsPutSo, IsLeft, Ran, buffered_at_end, account_of}
 use Rattle.agent_workers.specs.Finished.{ClockRun, IsCounted, Finished, FinishesSo, begun, IsSetUp}
 use Rattle.agent_workers.specs.Noted.{JournalPart, Notes}
 use Rattle.agent_workers.specs.PipeSetup.{run_setup, journal_setup_of}
 use Rattle.agent_workers.specs.Progress.{Beginning, Surroundings, HasText, Heard, Said, AllSaid, Progress, GoesOn, SendsOn, GathersOn, RunsOn, NotesRun}
 use Rattle.agent_workers.specs.Running.{IsReady, AreSettled, AreLeft, IsLeftOver, buffered_at}
-use Rattle.agent_workers.specs.Output.{OutPart, out_at, anew, AreAnew, AreOutputs}
+use Rattle.agent_workers.specs.Output.{OutPart, out_at, anew, AreAnew, AreOutputs, IsUnfailed, AreUnfailed, batch_text}
 use Rattle.agent_workers.specs.declared.input.InState.{InState}
 use Rattle.agent_workers.specs.declared.input.InState.TheVariants as states
 use Rattle.agent_workers.specs.declared.serial.Ending.{Ending}
 use Rattle.account.proofs.DoneLemmas.{dones_none, last_none, last_fewer}
 use Rattle.account.proofs.MomentLemmas.{counted_none}
+use Rattle.agent_workers.proofs.FailedLemmas.{failed_first}
 use Rattle.pipeline_core.proofs.OrderLemmas.{in_order_first}
 use Rattle.pipeline_core.proofs.StandsCuts.{cut_stands}
 use Rattle.pipeline_core.proofs.RawLemmas.{raw_of-none}
@@ -53,33 +54,34 @@ use Rattle.agent_workers.proofs.SentLemmas.{sent_first}
 -- ---- the beginning
 
 -- nothing was put yet
-abbrev pub first_surroundings : Beginning → List OutPart → JournalPart → Surroundings
-first_surroundings start outs part = record { ins = start.ins; next = 0; outs = outs; journal = part; counted_at = [] }
+abbrev pub first_surroundings : Beginning → JournalPart → Surroundings
+first_surroundings start part = record { ins = start.ins; next = 0; outs = start.outs; journal = part; counted_at = [] }
 
 none_raw_first : raw_items [] ≡ []
 unfolding items taken
 none_raw_first = refl
 
 -- nothing was put
-said_first : (start : OutPart) (output : ℕ) → Said start (anew start) output []
-said_first start output = record {
-  sent = sent_first output start.held;
+said_first : (start : OutPart) (output : ℕ) → IsUnfailed start → Said start start output []
+said_first start output none = record {
+  format = refl;
+  sent = sent_first (batch_text start.format) output start.held;
   put_faults = subst (λ (bs : List Bool). RoseBy (count_by not bs) start.put_faults start.put_faults) (sym (dones_none output)) (rose_none start.put_faults);
-  stuck = λ some. absurd (omega (arith, some));
-  last = λ stopped. last_none (dones output (behind_stop []));
+  failed = failed_first start.failed (dones output []) none.failed (dones_none output);
+  stuck = λ some. absurd (omega (arith, some, none.failed_since));
+  last = λ stopped. rw none.failed_since (last_none (dones output (behind_stop [])));
 }
 
 -- nothing happened
-pub went_first : (start : Beginning) (core : CoreState) (outs : List OutPart) (part : JournalPart) → Stands core [] → core.setup ≡ start.setup → core.stored ≡ [] → Notes (journal_setup_of start.setup) start.noted start.note_faults [] part → start.front ≡ [] →
-    length start.ins ≡ length start.setup.inputs → ((k : ℕ) → k < length start.ins → IsFresh (in_at start.ins k)) → outs ≡ map anew start.outs → length start.outs ≡ length start.setup.outputs → Progress start core (first_surroundings start outs part)
-went_first start core outs part stands setup stored notes front in_count fresh are count = record {
+pub went_first : (start : Beginning) (core : CoreState) (part : JournalPart) → Stands core [] → core.setup ≡ start.setup → core.stored ≡ [] → Notes (journal_setup_of start.setup) start.noted start.note_faults [] part → start.front ≡ [] →
+    length start.ins ≡ length start.setup.inputs → ((k : ℕ) → k < length start.ins → IsFresh (in_at start.ins k)) → AreUnfailed start.outs → length start.outs ≡ length start.setup.outputs → Progress start core (first_surroundings start part)
+went_first start core part stands setup stored notes front in_count fresh unfailed count = record {
   journal = [];
   text = record { stands = stands; setup_is = setup; more = []; goes_on = ap (λ (es : List Entry). es ++ []) (sym front); written = []; split = sym stored; notes = notes };
   in_count = in_count;
   heard = λ k l. heard_first (in_at start.ins k) k (fresh k l);
-  out_count = ap length are ∙ length-map start.outs anew ∙ count;
-  said = subst (λ (all : List OutPart). AllSaid start.outs all []) (sym are)
-      (λ o l. subst (λ (out : OutPart). Said (out_at start.outs o) out o []) (sym (at_anew start.outs o (omega (arith, l, length-map start.outs anew)))) (said_first (out_at start.outs o) o));
+  out_count = count;
+  said = λ o l. said_first (out_at start.outs o) o (unfailed o l);
   worked = worked_first start.views;
   order = record { in_order = λ f. in_order_first start.setup; none_raw = λ f k l. raw_of-none k [] none_raw_first };
   counted_at = counted_none;
@@ -89,17 +91,10 @@ went_first start core outs part stands setup stored notes front in_count fresh a
 pub none_buffered : (core : CoreState) (outs : List OutPart) → ((o : ℕ) → buffered_at core o ≡ 0) → AreSettled core outs
 none_buffered core outs none = λ o l. inl (none o)
 
--- outputs at which no batch failed are as when they begin anew
-anew_same : (outs : List OutPart) → AreAnew outs → outs ≡ map anew outs
-anew_same [] h = refl
-anew_same (x ∷ outs) h =
-    let first : x ≡ anew x = ap (λ (n : ℕ). record x { failed = n }) (h 0 (omega arith)) in
-    ap (λ (y : OutPart). y ∷ outs) first ∙ ap (λ (ys : List OutPart). anew x ∷ ys) (anew_same outs (λ o l. h (suc o) (omega (arith, l))))
-
 -- a run is set up
 pub is_set_up : (sizes : List (ℕ × ℕ)) (start : ℤ) (n : ℕ) (core : CoreState) (ins : List InPart) (outs : List OutPart) (part : JournalPart) → n ≡ length ins → length sizes ≤ 16 → IsReady core → core.stopped ≡ false → Stands core [] → core.setup ≡ run_setup n sizes start → core.stored ≡ [] →
-    core.ended ≡ replicate n false → ((o : ℕ) → buffered_at core o ≡ 0) → AreFresh ins → AreOutputs (length sizes) outs → AreAnew outs → part.setup ≡ journal_setup_of (run_setup n sizes start) → part.kept ≡ [] → part.entries ≡ 0 → part.failed ≡ false → IsSetUp sizes start core ins outs part
-is_set_up sizes start n core ins outs part number few ready going stands setup stored ended none fresh are zeros about kept entries unfailed =
+    core.ended ≡ replicate n false → ((o : ℕ) → buffered_at core o ≡ 0) → AreFresh ins → AreOutputs (length sizes) outs → AreUnfailed outs → part.setup ≡ journal_setup_of (run_setup n sizes start) → part.kept ≡ [] → part.entries ≡ 0 → part.failed ≡ false → IsSetUp sizes start core ins outs part
+is_set_up sizes start n core ins outs part number few ready going stands setup stored ended none fresh are none_failed about kept entries unfailed =
     let setup_is : core.setup ≡ run_setup (length ins) sizes start = setup ∙ ap (λ (k : ℕ). run_setup k sizes start) number in
     let about_is : part.setup ≡ journal_setup_of (run_setup (length ins) sizes start) = about ∙ ap (λ (k : ℕ). journal_setup_of (run_setup k sizes start)) number in
     let outputs_are : length core.setup.outputs ≡ length sizes = ap (λ (s : Setup). length s.outputs) setup in
@@ -113,8 +108,8 @@ is_set_up sizes start n core ins outs part number few ready going stands setup s
       inputs = fit_first n (length core.setup.inputs) core.ended ins inputs_are (sym number) ended fresh;
       outputs = subst (λ (k : ℕ). AreOutputs k outs) (sym outputs_are) are;
       settled = none_buffered core outs none;
-      agrees = λ views. went_first (begun sizes start views ins outs part) core outs part stands setup_is stored (notes_none (journal_setup_of (run_setup (length ins) sizes start)) part about_is kept entries unfailed) refl
-          (sym (length-replicate {A = Option ℕ} (length ins) None)) fresh.fresh (anew_same outs zeros) are.count_is;
+      agrees = λ views. went_first (begun sizes start views ins outs part) core part stands setup_is stored (notes_none (journal_setup_of (run_setup (length ins) sizes start)) part about_is kept entries unfailed) refl
+          (sym (length-replicate {A = Option ℕ} (length ins) None)) fresh.fresh none_failed are.count_is;
     }
 
 -- ---- the end
@@ -131,13 +126,12 @@ runs_at (old ∷ olds) [] k same l = absurd (omega (arith, same))
 runs_at (old ∷ olds) (new ∷ news) zero same l = refl
 runs_at (old ∷ olds) (new ∷ news) (suc k) same l = runs_at olds news k (omega (arith, same)) (omega (arith, l))
 
--- the change of an output's place
-changes_at : (olds news : List OutPart) (o : ℕ) → length news ≡ length olds → o < length olds →
-    change_at (out_changes olds news) o ≡ change (out_at olds o).held (out_at news o).held (out_at olds o).put_faults (out_at news o).put_faults
-changes_at [] news o same l = absurd (omega (arith, l))
-changes_at (old ∷ olds) [] o same l = absurd (omega (arith, same))
-changes_at (old ∷ olds) (new ∷ news) zero same l = refl
-changes_at (old ∷ olds) (new ∷ news) (suc o) same l = changes_at olds news o (omega (arith, same)) (omega (arith, l))
+-- an output at its place
+out_runs_at : (olds news : List OutPart) (o : ℕ) → length news ≡ length olds → o < length olds → out_run_at (out_runs olds news) o ≡ out_run (out_at olds o) (out_at news o)
+out_runs_at [] news o same l = absurd (omega (arith, l))
+out_runs_at (old ∷ olds) [] o same l = absurd (omega (arith, same))
+out_runs_at (old ∷ olds) (new ∷ news) zero same l = refl
+out_runs_at (old ∷ olds) (new ∷ news) (suc o) same l = out_runs_at olds news o (omega (arith, same)) (omega (arith, l))
 
 start_at : (all : Option Moments) (place : ℕ) (start : ℤ) → Gives all 0 place start → IfSome all (λ moments. start ≡ moments.at 0)
 start_at None place start g = tt
@@ -205,18 +199,18 @@ limit_by false gathered ins none full = absurd (none full.0 full.1 full.2.limit)
 
 module _ (start : Beginning) (tries : ℕ) (core : CoreState) (now : Surroundings) where
   module _ (w : Progress start core now) (stopped : core.stopped ≡ true) (raw : core.raw ≡ []) (none_held : core.held ≡ None) (starts_count : length start.ins ≡ length start.setup.inputs) (outs_count : length start.outs ≡ length start.setup.outputs) (rest : AreLeft tries core now.outs)
-      (ended : List Bool) (fit : AreInputs (length start.setup.inputs) ended now.ins) (why : OneIsFull core.gathered now.ins ⊎ AreOut now.ins) where
-    left_failed : (o : ℕ) → o < length now.outs → (buffered_at core o ≡ 0) ⊎ (tries ≤ (out_at now.outs o).failed) → buffered_at_end start.setup w.journal o ≢ 0 → LastFailed tries (dones o (behind_stop w.journal))
+      (ended : List Bool) (fit : AreInputs (length start.setup.inputs) ended now.ins) (outputs_fit : AreOutputs (length start.setup.outputs) now.outs) (why : OneIsFull core.gathered now.ins ⊎ AreOut now.ins) where
+    left_failed : (o : ℕ) → o < length now.outs → (buffered_at core o ≡ 0) ⊎ (tries ≤ (out_at now.outs o).failed_since) → buffered_at_end start.setup w.journal o ≢ 0 → LastFailed tries (dones o (behind_stop w.journal))
     left_failed o l (inl none) some = absurd (some (sym (buffered_is start core now.journal w.journal w.text o) ∙ none))
-    left_failed o l (inr many) some = last_fewer tries (out_at now.outs o).failed (dones o (behind_stop w.journal)) many ((w.said o l).last (sym w.text.stands.stopped ∙ stopped))
+    left_failed o l (inr many) some = last_fewer tries (out_at now.outs o).failed_since (dones o (behind_stop w.journal)) many ((w.said o l).last (sym w.text.stands.stopped ∙ stopped))
 
-    sent_to : (o : ℕ) → o < length start.setup.outputs → IsSentTo tries start.setup w.journal o (change_at (out_changes start.outs now.outs) o)
+    sent_to : (o : ℕ) → o < length start.setup.outputs → IsSentTo tries start.setup w.journal o (out_run_at (out_runs start.outs now.outs) o)
     sent_to o within =
         let l : o < length now.outs = omega (arith, within, w.out_count) in
         let said = w.said o l in
-        let is : IsSentTo tries start.setup w.journal o (change (out_at start.outs o).held (out_at now.outs o).held (out_at start.outs o).put_faults (out_at now.outs o).put_faults) =
+        let is : IsSentTo tries start.setup w.journal o (out_run (out_at start.outs o) (out_at now.outs o)) =
         record { sent = said.sent; put_faults = said.put_faults; left = left_failed o l (rest o l) } in
-        subst (IsSentTo tries start.setup w.journal o) (sym (changes_at start.outs now.outs o (omega (arith, w.out_count, outs_count)) (omega (arith, within, outs_count)))) is
+        subst (IsSentTo tries start.setup w.journal o) (sym (out_runs_at start.outs now.outs o (omega (arith, w.out_count, outs_count)) (omega (arith, within, outs_count)))) is
 
     same_count : length now.ins ≡ length start.ins
     same_count = fit.count_is ∙ sym starts_count
@@ -271,7 +265,7 @@ module _ (start : Beginning) (tries : ℕ) (core : CoreState) (now : Surrounding
           unread = unread k l;
         }
 
-    pub has_run : HasRun start.views tries start.setup (in_runs start.ins now.ins) (out_changes start.outs now.outs) w.journal
+    pub has_run : HasRun start.views tries start.setup (in_runs start.ins now.ins) (out_runs start.outs now.outs) w.journal
     has_run = record {
       legal = subst (λ (s : Setup). IsLegal s w.journal) w.text.setup_is w.text.stands.legal;
       taken = λ k. (in_at now.ins k).hand.taken;
@@ -313,6 +307,7 @@ module _ (start : Beginning) (tries : ℕ) (core : CoreState) (now : Surrounding
           goes_on = w.text.goes_on;
           run = has_run;
           fit = subst (λ (s : CoreState). AreInputs (length start.setup.inputs) s.ended now.ins) (sym cut) fit_still;
+          outputs_fit = outputs_fit;
           heard = w.heard;
           said = w.said;
           counted = λ first. counted_on timer.moments first timer.before timer.after start.setup.start moment olds (counted_moments w.journal) gives (w.counted_at ∙ counts);
@@ -334,10 +329,14 @@ taken_front zero (x ∷ news) rest e = absurd (omega (arith, e))
 taken_front {X} (suc n) (x ∷ news) rest e = ap (λ (xs : List X). x ∷ xs) (taken_front n news rest (omega (arith, e)))
 
 -- a run ends, by other terms
-pub finishes_by : (views other : List (Content → Option Content)) (tries : ℕ) (ending : Ending) (old new : CoreState) (ins last_ins ins_by last_ins_by : List InPart) (outs last_outs outs_by last_outs_by : List OutPart) (part last_part : JournalPart) (timer : ClockRun) →
-    other ≡ views → ins_by ≡ ins → last_ins_by ≡ last_ins → outs_by ≡ outs → last_outs_by ≡ last_outs → FinishesSo views tries ending old new ins last_ins outs last_outs part last_part timer
-    → FinishesSo other tries ending old new ins_by last_ins_by outs_by last_outs_by part last_part timer
-finishes_by views other tries ending old new ins last_ins ins_by last_ins_by outs last_outs outs_by last_outs_by part last_part timer v a b d e h = rw (v, a, b, d, e) h
+pub finishes_by : (views : List (Content → Option Content)) (tries : ℕ) (ending : Ending) (old new : CoreState) (ins last_ins ins_by last_ins_by : List InPart) (outs last_outs outs_by last_outs_by : List OutPart) (part last_part : JournalPart) (timer : ClockRun) →
+    ins_by ≡ ins → last_ins_by ≡ last_ins → outs_by ≡ outs → last_outs_by ≡ last_outs → FinishesSo views tries ending old new ins last_ins outs last_outs part last_part timer
+    → FinishesSo views tries ending old new ins_by last_ins_by outs_by last_outs_by part last_part timer
+finishes_by views tries ending old new ins last_ins ins_by last_ins_by outs last_outs outs_by last_outs_by part last_part timer a b d e h = rw (a, b, d, e) h
+
+-- its inputs are the same, by other terms
+pub same_by : (ins last_ins ins_by last_ins_by : List InPart) → ins_by ≡ ins → last_ins_by ≡ last_ins → AreSameInputs ins last_ins → AreSameInputs ins_by last_ins_by
+same_by ins last_ins ins_by last_ins_by a b h = rw (a, b) h
 
 -- a run that began with nothing
 module _ (views : List (Content → Option Content)) (tries count : ℕ) (sizes : List (ℕ × ℕ)) (start : ℤ) (starts : List InPart) (outs : List OutPart) (noted : Option (List ℕ)) (note_faults : ℕ) where
@@ -346,7 +345,7 @@ module _ (views : List (Content → Option Content)) (tries count : ℕ) (sizes 
   beginning = record { setup = run_setup count sizes start; views = views; ins = starts; outs = outs; noted = noted; note_faults = note_faults; front = [] }
 
   pub ran : (ending : Ending) (core : CoreState) (ins : List InPart) (new_outs : List OutPart) (part : JournalPart) (timer : ClockRun) → Gives timer.moments 0 timer.before start → length ins ≡ count → Finished beginning tries ending core ins new_outs part [] timer
-      → Ran views tries count sizes ending (in_runs starts ins) (out_changes outs new_outs) (change noted part.held note_faults part.faults) timer.moments
+      → Ran views tries count sizes ending (in_runs starts ins) (out_runs outs new_outs) (change noted part.held note_faults part.faults) timer.moments
   ran ending core ins new_outs part timer gives number f = record {
     start = start;
     journal = f.journal;

@@ -1,9 +1,9 @@
 -- Inputs by their places: one changes, and the others stay.
-use Rattle.std.proofs.Common.{◌≡◌, ◌≢◌, ◌≤◌, ◌<◌, ◌+◌, ℕ, zero, suc, Bool, true, false, List, [], ◌∷◌, ◌++◌, length, length-append, get_or, set, take, drop, replicate, refl, sym, ap, ◌∙◌, subst, inl, inr, arith}
+use Rattle.std.proofs.Common.{◌≡◌, ◌≢◌, ◌≤◌, ◌<◌, ◌+◌, ℕ, zero, suc, Bool, true, false, List, [], ◌∷◌, ◌++◌, length, length-append, get_or, set, take, drop, replicate, refl, sym, ap, ◌∙◌, subst, inl, inr, arith, below_more}
 use Rattle.std.specs.Prelude.{slice_get, is_some, ◌⊎◌, IfSome, IfOk, OnOk, All, Result, Ok, Err}
 use Rattle.fixed_num.specs.declared.memory.OutOfMemory.{OutOfMemory}
 use Rattle.agent_workers.specs.declared.serial.Ending.{Ending}
-use Rattle.std.proofs.lemmas.List.{length-map, length-set, get_or-map, get_or-set_same}
+use Rattle.std.proofs.lemmas.List.{length-map, length-set, get_or-map, get_or-set_same, get_or-set_other}
 use Rattle.std.specs.declared.option.Option.{Option}
 use Rattle.std.specs.declared.option.Option.TheVariants.{Some, None}
 use Rattle.account.specs.Numbers.{unreached_output}
@@ -16,16 +16,14 @@ use Rattle.pipeline_core.specs.declared.gathering.Gathered.{Gathered}
 use Rattle.agent_workers.specs.declared.input.InState.{InState}
 use Rattle.agent_workers.specs.declared.input.InState.TheVariants as states
 use Rattle.agent_workers.specs.declared.input.InJob.{InJob}
-use Rattle.agent_workers.specs.Inputs.{InPart, in_of, ins_of, in_at, no_in, is_ended, IsSameInput, AreSameInputs, FitsInput, AreInputs, HoldsNoEnd, HoldsOwn, IsReadable, IsMoved, IsOut, IsFullOf, OneIsFull, AreFresh, IsFresh, IsPlain, IsOneInput}
+use Rattle.agent_workers.specs.Inputs.{InPart, in_of, ins_of, in_at, no_in, is_ended, IsSameInput, AreSameInputs, FitsInput, AreInputs, HoldsNoEnd, HoldsOwn, IsReadable, IsMoved, IsOut, IsFullOf, OneIsFull, AreFresh, IsFresh}
 use Rattle.agent_workers.specs.Reader.{InRule, plain_rule}
-use Rattle.agent_workers.specs.Run.{Change, change, InRun, in_run, in_runs, out_changes, Ran}
-use Rattle.agent_workers.proofs.RanLemmas.{change_is}
 use Rattle.metric.specs.Metric.{IsFilledTag}
 use Rattle.metric.specs.declared.metric.Content.{Content}
 use Rattle.agent_workers.specs.Output.{OutPart, AreOutputs, out_at, out_of, outs_of}
 use Rattle.agent_workers.specs.declared.output.OutJob.{OutJob}
 use Rattle.agent_workers.specs.Progress.{Progress, GathersAt, GathersTo}
-use Rattle.agent_workers.specs.Running.{IsReady, AreSettled, IsGathered, IsGatheredAt, HasMoved, buffered_at}
+use Rattle.agent_workers.specs.Running.{IsReady, AreSettled, IsGathered, IsGatheredAt, HasMoved, HasGone, IdlesOut, buffered_at}
 use Rattle.agent_workers.proofs.HeardLemmas.{not_ended, holds_no_end}
 use Rattle.agent_workers.proofs.OutLemmas.{each_set, ready_same}
 use Rattle.agent_workers.proofs.ProgressLemmas.{went_behind}
@@ -65,10 +63,10 @@ inputs_still count old new ins same h = subst (λ (ended : List Bool). AreInputs
 -- ---- cores that gather
 
 pub gathered_none : (core : CoreState) → IsGathered core core
-gathered_none core = record { setup = refl; held = refl; stopped = refl; lanes = refl; numbers = refl; stored = omega arith }
+gathered_none core = record { setup = refl; held = refl; stopped = refl; lanes = refl; numbers = refl; stored = omega arith; raw = omega arith }
 
 pub gathered_then : (old mid new : CoreState) → IsGathered old mid → IsGathered mid new → IsGathered old new
-gathered_then old mid new h k = record { setup = k.setup ∙ h.setup; held = k.held ∙ h.held; stopped = k.stopped ∙ h.stopped; lanes = k.lanes ∙ h.lanes; numbers = k.numbers ∙ h.numbers; stored = omega (arith, h.stored, k.stored) }
+gathered_then old mid new h k = record { setup = k.setup ∙ h.setup; held = k.held ∙ h.held; stopped = k.stopped ∙ h.stopped; lanes = k.lanes ∙ h.lanes; numbers = k.numbers ∙ h.numbers; stored = omega (arith, h.stored, k.stored); raw = omega (arith, h.raw, k.raw) }
 
 pub gathered_at_then : (n : ℕ) (old mid new : CoreState) → IsGatheredAt n old mid → IsGatheredAt n mid new → IsGatheredAt n old new
 gathered_at_then n old mid new h k = record { kept = gathered_then old mid new h.kept k.kept; others = λ i ne. k.others i ne ∙ h.others i ne }
@@ -142,6 +140,7 @@ gathered_core i core next g is = record {
     lanes = ap (λ (s : CoreState). s.lanes) is;
     numbers = ap (λ (s : CoreState). s.numbers.outputs) is;
     stored = omega (arith, ap (λ (s : CoreState). length s.stored) is, length-append core.stored (gather_entry core g ∷ []));
+    raw = omega (arith, ap (λ (s : CoreState). length s.raw) is, length-append core.raw g.metrics);
   };
   others = λ k ne. ap (λ (s : CoreState). slice_get s.ended k) is;
 }
@@ -159,6 +158,7 @@ ended_core i core next is = record {
     lanes = ap (λ (s : CoreState). s.lanes) is;
     numbers = ap (λ (s : CoreState). s.numbers.outputs) is;
     stored = omega (arith, ap (λ (s : CoreState). length s.stored) is, length-append core.stored (Ended i ∷ []));
+    raw = omega (arith, ap (λ (s : CoreState). length s.raw) is);
   };
   others = λ k ne. ap (λ (s : CoreState). slice_get s.ended k) is ∙ get_other core.ended i k true ne;
 }
@@ -253,89 +253,38 @@ turn_moved false None old offered new read part last is reading moved gathered n
       | inr stopped ↦ inl (record { read = λ e. stopped (sym room ∙ sym (unmet refl) ∙ e); none_held = held ∙ none is })
     ]
 
--- ---- one input
-
-only_first : (P : ℕ → Type 0) → P 0 → (k : ℕ) → k < 1 → P k
-only_first P h zero l = h
-only_first P h (suc k) l = absurd (omega (arith, l))
-
-none_of_tags : (tags : List (List ℕ × List ℕ)) → tags ≡ [] → All IsFilledTag tags
-none_of_tags tags e = subst (All IsFilledTag) (sym e) (λ k d l. absurd (omega (arith, l)))
-
--- nothing was read of the one
-pub fresh_one : {S C : Type 0} (left : S → Option (List ℕ)) (faults : S → ℕ) (moments : C → Option Moments) (place : C → ℕ) (most : ℕ) (from : S) (by : C) (jobs : List (InJob S C)) → IsOneInput most from by jobs → place by ≡ 0 → 1 ≤ most → AreFresh (ins_of left faults moments place jobs)
-fresh_one {S} {C} left faults moments place most from by jobs h first some =
-    let job : InJob S C = h.0 in
-    let plain : IsPlain most from by job = h.2 in
-    let part : InPart = in_of left faults moments place job in
-    let rule_is : part.rule ≡ plain_rule most = plain.rule in
-    subst (λ (all : List (InJob S C)). AreFresh (ins_of left faults moments place all)) (sym h.1) (record {
-      readable = only_first (λ (k : ℕ). IsReadable (in_at (part ∷ []) k).rule)
-          (record { some = subst (λ (r : InRule). 1 ≤ r.most) (sym rule_is) some; filled = none_of_tags part.rule.globals (ap (λ (r : InRule). r.globals) rule_is) });
-      numbered = only_first (λ (k : ℕ). (in_at (part ∷ []) k).input ≡ k) plain.number;
-      fresh = only_first (λ (k : ℕ). IsFresh (in_at (part ∷ []) k)) (record { hand = plain.hand; place = ap place plain.clock ∙ first; none_held = plain.none_held; reading = plain.reading });
-    })
-
--- the one at its beginning and now
-pub in_runs_one : (olds news : List InPart) (old new : InPart) → olds ≡ old ∷ [] → news ≡ new ∷ [] → in_runs olds news ≡ in_run old new ∷ []
-in_runs_one olds news old new e f = rw (e, f) refl
-
-pub input_as : (old new : InPart) (most : ℕ) (left new_left : Option (List ℕ)) (faults new_faults : ℕ) (moments : Option Moments) → new.rule ≡ plain_rule most → old.left ≡ left → new.left ≡ new_left → old.read_faults ≡ faults → new.read_faults ≡ new_faults → new.moments ≡ moments →
-    in_run old new ≡ record { rule = plain_rule most; place = change left new_left faults new_faults; moments = moments }
-input_as old new most left new_left faults new_faults moments r l n f g m =
-    ap (λ (x : InRule). let run : InRun = record { rule = x; place = change old.left new.left old.read_faults new.read_faults; moments = new.moments } in run) r
-    ∙ ap (λ (x : Change). let run : InRun = record { rule = plain_rule most; place = x; moments = new.moments } in run) (change_is old.left left new.left new_left old.read_faults faults new.read_faults new_faults l n f g)
-    ∙ ap (λ (x : Option Moments). let run : InRun = record { rule = plain_rule most; place = change left new_left faults new_faults; moments = x } in run) m
-
--- the list of one output
-pub one_output : {K : Type 0} (held : K → Option (List ℕ)) (faults : K → ℕ) (jobs : List (OutJob K)) (job : OutJob K) → jobs ≡ job ∷ [] → job.output ≡ 0 → AreOutputs 1 (outs_of held faults jobs)
-one_output {K} held faults jobs job e first =
-    subst (λ (all : List (OutJob K)). AreOutputs 1 (outs_of held faults all)) (sym e) (record { count_is = refl; numbered = only_first (λ (k : ℕ). (out_at (out_of held faults job ∷ []) k).output ≡ k) first })
-
-one_of : {X : Type 0} (xs : List X) → length xs ≡ 1 → (x : X) × (xs ≡ x ∷ [])
-one_of [] e = absurd (omega (arith, e))
-one_of (x ∷ []) e = (x, refl)
-one_of (x ∷ y ∷ xs) e = absurd (omega (arith, e))
-
--- the one input, at the beginning and at the end
-pub run_of_one : {S C : Type 0} (left : S → Option (List ℕ)) (faults : S → ℕ) (moments : C → Option Moments) (place : C → ℕ) (most : ℕ) (from last : S) (by : C) (olds news : List (InJob S C)) → IsOneInput most from by olds → length news ≡ 1 → ((job : InJob S C) → news ≡ job ∷ [] → last ≡ job.source) →
-    AreSameInputs (ins_of left faults moments place olds) (ins_of left faults moments place news)
-    → in_runs (ins_of left faults moments place olds) (ins_of left faults moments place news) ≡ record { rule = plain_rule most; place = change (left from) (left last) (faults from) (faults last); moments = moments by } ∷ []
-run_of_one {S} {C} left faults moments place most from last by olds news h long last_is k =
-    let job : InJob S C = h.0 in
-    let plain : IsPlain most from by job = h.2 in
-    let n = one_of news long in
-    let old : InPart = in_of left faults moments place job in
-    let new : InPart = in_of left faults moments place n.0 in
-    let is : last ≡ n.0.source = last_is n.0 n.1 in
-    let both : AreSameInputs (old ∷ []) (new ∷ []) =
-    subst (λ (all : List (InJob S C)). AreSameInputs (ins_of left faults moments place all) (new ∷ [])) h.1 (subst (λ (all : List (InJob S C)). AreSameInputs (ins_of left faults moments place olds) (ins_of left faults moments place all)) n.1 k) in
-    let same : IsSameInput old new = both.each 0 (omega arith) in
-    in_runs_one (ins_of left faults moments place olds) (ins_of left faults moments place news) old new (ap (λ (all : List (InJob S C)). ins_of left faults moments place all) h.1) (ap (λ (all : List (InJob S C)). ins_of left faults moments place all) n.1)
-    ∙ ap (λ (x : InRun). x ∷ []) (input_as old new most (left from) (left last) (faults from) (faults last) (moments by) (same.rule ∙ plain.rule) (ap left plain.source) (ap left (sym is)) (ap faults plain.source) (ap faults (sym is)) (same.moments ∙ ap moments plain.clock))
-
--- the one output, at the beginning and at the end
-pub outs_of_one : {K : Type 0} (held : K → Option (List ℕ)) (faults : K → ℕ) (olds news : List (OutJob K)) (old last : OutJob K) → olds ≡ old ∷ [] → length news ≡ 1 → last ≡ get_or news 0 last → out_changes (outs_of held faults olds) (outs_of held faults news) ≡ change (held old.sink) (held last.sink) (faults old.sink) (faults last.sink) ∷ []
-outs_of_one held faults olds [] old last e long v = absurd (omega (arith, long))
-outs_of_one {K} held faults olds (x ∷ []) old last e long v =
-    ap (λ (all : List (OutJob K)). out_changes (outs_of held faults all) (outs_of held faults (x ∷ []))) e ∙ ap (λ (y : OutJob K). change (held old.sink) (held y.sink) (faults old.sink) (faults y.sink) ∷ []) (sym v)
-outs_of_one held faults olds (x ∷ y ∷ news) old last e long v = absurd (omega (arith, long))
-
--- what was left, of one input and one output
-pub ran_one : (views : List (Content → Option Content)) (tries count : ℕ) (sizes : List (ℕ × ℕ)) (r : Result Ending OutOfMemory) (firsts lasts : List InPart) (ins : List InRun) (outs others : List Change) (noted : Change) (run_moments : Option Moments) → count ≡ 1 → outs ≡ others → (AreSameInputs firsts lasts → in_runs firsts lasts ≡ ins) → OnOk r (AreSameInputs firsts lasts)
-    → IfOk r (λ ending. Ran views tries count sizes ending (in_runs firsts lasts) outs noted run_moments) → IfOk r (λ ending. Ran views tries 1 sizes ending ins others noted run_moments)
-ran_one views tries count sizes (Ok ending) firsts lasts ins outs others noted run_moments one same is k h =
-    subst (λ (n : ℕ). Ran views tries n sizes ending ins others noted run_moments) one
-    (subst (λ (x : List Change). Ran views tries count sizes ending ins x noted run_moments) same
-    (subst (λ (x : List InRun). Ran views tries count sizes ending x outs noted run_moments) (is k) h))
-ran_one views tries count sizes (Err fault) firsts lasts ins outs others noted run_moments one same is k h = tt
-
 pub none_held : (held : Option Gathered) → is_some held ≡ false → held ≡ None
 none_held None e = refl
 none_held (Some g) e = absurd (let x : true ≡ false = e in cc)
 
--- a list of one that was written over another one
-pub wrote_one : {X : Type 0} (n : ℕ) (news olds : List X) → n ≡ 1 → length news ≡ 1 → take n (news ++ drop (length news) olds) ≡ news
-wrote_one n [] olds e l = absurd (omega (arith, l))
-wrote_one {X} n (x ∷ []) olds e l = ap (λ (k : ℕ). take k (x ∷ drop 1 olds)) e
-wrote_one n (x ∷ y ∷ news) olds e l = absurd (omega (arith, l))
+-- ---- a round in which nothing goes on
+
+none_of : {X : Type 0} (xs : List X) → length xs ≡ 0 → xs ≡ []
+none_of [] e = refl
+none_of (x ∷ xs) e = absurd (omega (arith, e))
+
+-- raw items stay raw
+raw_still : (old new : CoreState) → IsGathered old new → old.raw ≢ [] → new.raw ≢ []
+raw_still old new h some = λ e. some (none_of old.raw (omega (arith, h.raw, ap length e)))
+
+-- the first so many inputs are out, or something has gone on
+abbrev pub HasTurned : ℕ → CoreState → CoreState → List InPart → Type 0
+HasTurned n old new ins = ((k : ℕ) → k < n → IsOut (in_at ins k)) ⊎ HasGone old new
+
+pub turned_none : (core : CoreState) (ins : List InPart) → HasTurned 0 core core ins
+turned_none core ins = inl (λ k l. absurd (omega (arith, l)))
+
+-- one input more had its turn
+pub turned_more : (n : ℕ) (old mid new : CoreState) (ins : List InPart) (part : InPart) → n < length ins → IsGathered old mid → IsGathered mid new → IsOut part ⊎ HasMoved mid new → HasTurned n old mid ins → HasTurned (n + 1) old new (set ins n part)
+turned_more n old mid new ins part b before kept turn (inr (inl raw)) = inr (inl (raw_still mid new kept raw))
+turned_more n old mid new ins part b before kept turn (inr (inr more)) = inr (inr (omega (arith, more, kept.stored)))
+turned_more n old mid new ins part b before kept (inr (inl raw)) (inl outs) = inr (inl (raw_still mid new kept raw))
+turned_more n old mid new ins part b before kept (inr (inr more)) (inl outs) = inr (inr (omega (arith, more, before.stored)))
+turned_more n old mid new ins part b before kept (inl out) (inl outs) =
+    inl (below_more _ _ (λ k l. subst IsOut (sym (get_or-set_other ins n k part no_in (λ (q : k ≡ n). absurd (omega (arith, l, q))))) (outs k l)) (subst IsOut (sym (get_or-set_same ins n part no_in b)) out))
+
+-- where nothing has gone on all are out
+pub idles_out : (n : ℕ) (old new : CoreState) (ins : List InPart) → length ins ≤ n → HasTurned n old new ins → IdlesOut old new ins
+idles_out n old new ins all (inl outs) = λ none same. λ k l. outs k (omega (arith, l, all))
+idles_out n old new ins all (inr (inl raw)) = λ none same. absurd (raw none)
+idles_out n old new ins all (inr (inr more)) = λ none same. absurd (omega (arith, more, same))

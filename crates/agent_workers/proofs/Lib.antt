@@ -1,3 +1,4 @@
+pub mod FailedLemmas
 pub mod FinishSteps
 pub mod GatherLemmas
 pub mod GatherSteps
@@ -6,9 +7,9 @@ pub mod HeardLemmas
 pub mod InLemmas
 pub mod MomentLemmas
 pub mod NotedLemmas
+pub mod OpenedLemmas
 pub mod OutLemmas
 pub mod ProgressLemmas
-pub mod RanLemmas
 pub mod RoseLemmas
 pub mod SendSteps
 pub mod SentLemmas

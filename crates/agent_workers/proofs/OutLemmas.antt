@@ -169,7 +169,7 @@ pub at_anew : (outs : List OutPart) (k : ℕ) → k < length outs → out_at (ma
 at_anew outs k l = get_or-map anew outs k no_out no_out l
 
 pub are_anew : (outs : List OutPart) → AreAnew (map anew outs)
-are_anew outs = λ k l. ap (λ (x : OutPart). x.failed) (at_anew outs k (omega (arith, l, length-map outs anew)))
+are_anew outs = λ k l. ap (λ (x : OutPart). x.failed_since) (at_anew outs k (omega (arith, l, length-map outs anew)))
 
 pub outputs_anew : (count : ℕ) (outs : List OutPart) → AreOutputs count outs → AreOutputs count (map anew outs)
 outputs_anew count outs h = record {
@@ -196,22 +196,22 @@ ready_first setup outputs core is same sizes_fit = record {
 }
 
 -- the part of a job is the one at its place
-pub part_here : {K : Type 0} (held : K → Option (List ℕ)) (faults : K → ℕ) (jobs : List (OutJob K)) (i : ℕ) (d : OutJob K) → i < length jobs → out_at (outs_of held faults jobs) i ≡ out_of held faults (get_or jobs i d)
+pub part_here : {K C : Type 0} (held : K → Option (List ℕ)) (faults : K → ℕ) (jobs : List (OutJob K C)) (i : ℕ) (d : OutJob K C) → i < length jobs → out_at (outs_of held faults jobs) i ≡ out_of held faults (get_or jobs i d)
 part_here held faults jobs i d b = get_or-map (out_of held faults) jobs i d no_out b
 
 -- and it has the number of its place
-pub part_number : {K : Type 0} (held : K → Option (List ℕ)) (faults : K → ℕ) (jobs : List (OutJob K)) (i : ℕ) (d : OutJob K) (count : ℕ) → i < length jobs → AreOutputs count (outs_of held faults jobs) → (get_or jobs i d).output ≡ i
+pub part_number : {K C : Type 0} (held : K → Option (List ℕ)) (faults : K → ℕ) (jobs : List (OutJob K C)) (i : ℕ) (d : OutJob K C) (count : ℕ) → i < length jobs → AreOutputs count (outs_of held faults jobs) → (get_or jobs i d).output ≡ i
 part_number held faults jobs i d count b h =
     ap (λ (x : OutPart). x.output) (sym (part_here held faults jobs i d b)) ∙ h.numbered i (omega (arith, b, h.count_is, length-map jobs (out_of held faults)))
 
 -- a job was set, whose number is that of its place
-pub part_set : {K : Type 0} (held : K → Option (List ℕ)) (faults : K → ℕ) (jobs : List (OutJob K)) (i : ℕ) (job : OutJob K) (count : ℕ) → i < length jobs → job.output ≡ i → AreOutputs count (outs_of held faults jobs) → AreOutputs count (outs_of held faults (set jobs i job))
+pub part_set : {K C : Type 0} (held : K → Option (List ℕ)) (faults : K → ℕ) (jobs : List (OutJob K C)) (i : ℕ) (job : OutJob K C) (count : ℕ) → i < length jobs → job.output ≡ i → AreOutputs count (outs_of held faults jobs) → AreOutputs count (outs_of held faults (set jobs i job))
 part_set held faults jobs i job count b number h =
     subst (AreOutputs count) (sym (map-set (out_of held faults) jobs i job)) (outputs_set count (outs_of held faults jobs) i (out_of held faults job) (omega (arith, b, h.count_is, length-map jobs (out_of held faults))) number h)
 
 -- one count more begins anew
-pub anew_more : {K : Type 0} (held : K → Option (List ℕ)) (faults : K → ℕ) (jobs : List (OutJob K)) (i : ℕ) (d : OutJob K) (olds : List OutPart) → i < length jobs → outs_of held faults jobs ≡ map anew (take i olds) ++ drop i olds → i < length olds →
-    outs_of held faults (set jobs i (record (get_or jobs i d) { failed = 0 })) ≡ map anew (take (i + 1) olds) ++ drop (i + 1) olds
+pub anew_more : {K C : Type 0} (held : K → Option (List ℕ)) (faults : K → ℕ) (jobs : List (OutJob K C)) (i : ℕ) (d : OutJob K C) (olds : List OutPart) → i < length jobs → outs_of held faults jobs ≡ map anew (take i olds) ++ drop i olds → i < length olds →
+    outs_of held faults (set jobs i (record (get_or jobs i d) { failed_since = 0 })) ≡ map anew (take (i + 1) olds) ++ drop (i + 1) olds
 anew_more held faults jobs i d olds b h l =
-    map-set (out_of held faults) jobs i (record (get_or jobs i d) { failed = 0 })
+    map-set (out_of held faults) jobs i (record (get_or jobs i d) { failed_since = 0 })
     ∙ map_over_more anew olds (outs_of held faults jobs) i (out_of held faults (get_or jobs i d)) l h (sym (get_or-map (out_of held faults) jobs i d (out_of held faults (get_or jobs i d)) b))

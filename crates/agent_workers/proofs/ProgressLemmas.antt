@@ -35,11 +35,12 @@ use Rattle.agent_workers.specs.PipeSetup.{journal_setup_of}
 use Rattle.account.specs.Routes.{RouteOnInOrder}
 use Rattle.agent_workers.specs.Inputs.{InPart, in_at, no_in}
 use Rattle.agent_workers.specs.Progress.{Beginning, Surroundings, HasText, Heard, AllHeard, Said, AllSaid, HasOrder, Progress}
-use Rattle.agent_workers.specs.Output.{OutPart, out_at, anew, AreAnew}
+use Rattle.agent_workers.specs.Output.{OutPart, out_at, anew, AreAnew, batch_text}
 use Rattle.pipeline_core.specs.Totals.{totals}
 use Rattle.agent_workers.specs.Run.{buffered_at_end}
 use Rattle.agent_workers.specs.Running.{routed_by, buffered_at}
 use Rattle.agent_workers.proofs.OutLemmas.{each_set, at_anew}
+use Rattle.agent_workers.proofs.FailedLemmas.{failed_same}
 use Rattle.agent_workers.proofs.HeardLemmas.{IsNotOf, heard_push}
 use Rattle.std.proofs.lemmas.List.{length-map}
 use Rattle.account.proofs.DoneLemmas.{dones-same, last_none, last_same}
@@ -148,27 +149,31 @@ pub said_push : (start now : OutPart) (output : ℕ) (journal : List Entry) (e :
 said_push start now output journal e q going h =
     let same : dones output (journal ++ e ∷ []) ≡ dones output journal = dones-same output journal e q.none in
     record {
-      sent = sent_same output journal e start.held now.held q.ends h.sent;
+      format = h.format;
+      sent = sent_same (batch_text start.format) output journal e start.held now.held q.ends h.sent;
       put_faults = subst (λ (bs : List Bool). RoseBy (count_by not bs) start.put_faults now.put_faults) (sym same) h.put_faults;
+      failed = failed_same now.failed (dones output journal) (dones output (journal ++ e ∷ [])) same h.failed;
       stuck = λ some. subst EndsFailed (sym (lane_events-push output journal e ∙ ap (λ (es : List LaneEvent). lane_events output journal ++ es) q.quiet ∙ append-nil (lane_events output journal))) (h.stuck some);
       last = λ stopped.
           let before : has_stop journal ≡ true = stop_before journal e going stopped in
-          last_same now.failed (dones output (behind_stop journal)) (dones output (behind_stop (journal ++ e ∷ [])))
+          last_same now.failed_since (dones output (behind_stop journal)) (dones output (behind_stop (journal ++ e ∷ [])))
           (ap (dones output) (behind_stop-push journal e before) ∙ dones-same output (behind_stop journal) e q.none) (h.last before);
     }
 
 -- the same where no put failed in succession, whatever came to the output
-pub said_anew : (start now : OutPart) (output : ℕ) (journal : List Entry) (e : Entry) → now.failed ≡ 0 → EndsNone output e → dones_by output e ≡ [] → Said start now output journal → Said start now output (journal ++ e ∷ [])
+pub said_anew : (start now : OutPart) (output : ℕ) (journal : List Entry) (e : Entry) → now.failed_since ≡ 0 → EndsNone output e → dones_by output e ≡ [] → Said start now output journal → Said start now output (journal ++ e ∷ [])
 said_anew start now output journal e nil ends none h = record {
-  sent = sent_same output journal e start.held now.held ends h.sent;
+  format = h.format;
+  sent = sent_same (batch_text start.format) output journal e start.held now.held ends h.sent;
   put_faults = subst (λ (bs : List Bool). RoseBy (count_by not bs) start.put_faults now.put_faults) (sym (dones-same output journal e none)) h.put_faults;
+  failed = failed_same now.failed (dones output journal) (dones output (journal ++ e ∷ [])) (dones-same output journal e none) h.failed;
   stuck = λ some. absurd (omega (arith, some, nil));
   last = λ stopped. rw nil (last_none (dones output (behind_stop (journal ++ e ∷ []))));
 }
 
 -- the counts of failed batches begin anew
 said_fresh : (start now : OutPart) (output : ℕ) (journal : List Entry) → Said start now output journal → Said start (anew now) output journal
-said_fresh start now output journal h = record { sent = h.sent; put_faults = h.put_faults; stuck = λ some. absurd (omega (arith, some)); last = λ stopped. last_none (dones output (behind_stop journal)) }
+said_fresh start now output journal h = record { format = h.format; sent = h.sent; put_faults = h.put_faults; failed = h.failed; stuck = λ some. absurd (omega (arith, some)); last = λ stopped. last_none (dones output (behind_stop journal)) }
 
 -- an entry that says nothing of any output
 pub all_said_push : (starts outs : List OutPart) (journal : List Entry) (e : Entry) → ((output : ℕ) → IsQuietAt output e) → is_stop e ≡ false → AllSaid starts outs journal → AllSaid starts outs (journal ++ e ∷ [])

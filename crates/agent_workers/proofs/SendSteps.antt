@@ -1,5 +1,5 @@
 -- How far a run has come once a batch was sent.
-use Rattle.std.proofs.Common.{◌≢◌, ◌==◌, set, if◌then◌else◌, ◌≡◌, ◌≤◌, ◌<◌, ℕ, ◌+◌, Bool, true, false, List, [], ◌∷◌, ◌++◌, length, refl, sym, ap, ◌∙◌, subst, arith, Err}
+use Rattle.std.proofs.Common.{◌≢◌, ◌==◌, set, if◌then◌else◌, ◌≡◌, ◌≤◌, ◌<◌, ℕ, ◌+◌, ◌-◌, ◌^◌, min, Bool, true, false, List, [], ◌∷◌, ◌++◌, length, refl, sym, ap, ◌∙◌, subst, arith, Err}
 use Rattle.std.specs.Prelude.{not, count_by}
 use Rattle.std.specs.Io.KnownBytes.{Appends}
 use Rattle.account.specs.declared.entry.Entry.{Entry}
@@ -21,7 +21,9 @@ use Rattle.pipeline_core.specs.declared.batches.Batch.{Batch}
 use Rattle.account.specs.Dones.{dones}
 use Rattle.pipeline_core.specs.Stopped.{behind_stop}
 use Rattle.agent_workers.specs.Progress.{Beginning, Surroundings, Said, AllSaid, SendsOn, SendsAt, Progress}
+use Rattle.agent_config.specs.declared.config.OutFormat.{OutFormat}
 use Rattle.agent_workers.specs.Output.{batch_text, OutPart, out_at, no_out}
+use Rattle.agent_workers.proofs.FailedLemmas.{failed_accepted, failed_once}
 use Rattle.agent_workers.proofs.OutLemmas.{each_set}
 use Rattle.agent_workers.proofs.ProgressLemmas.{IsQuietAt, said_push}
 use Rattle.out_lane.specs.LaneEvents as events
@@ -49,7 +51,7 @@ done_quiet reports output other ok ne =
     record { ends = apart; none = ap (λ (here : Bool). if here then ok ∷ [] else []) apart; quiet = ap (λ (here : Bool). if here then events.Done ok ∷ [] else []) apart }
 
 module _ (start : Beginning) (core mid next : CoreState) (now : Surroundings) (old new : OutPart) (batch : Batch) (text : List ℕ)
-    (within : old.output < length core.setup.outputs) (routed : core.raw ≡ []) (is : IsBatchOf (lane_at core.lanes old.output) batch) (spelled : text ≡ batch_text batch.metrics) (later : old.put_faults ≤ new.put_faults)
+    (within : old.output < length core.setup.outputs) (routed : core.raw ≡ []) (is : IsBatchOf (lane_at core.lanes old.output) batch) (spelled : text ≡ batch_text old.format batch.metrics) (kept_format : new.format ≡ old.format) (later : old.put_faults ≤ new.put_faults)
     (began : mid ≡ after_begin core old.output batch.from batch.to) (begins : Continues core mid (Begin old.output batch.from batch.to))
     (b : old.output < length now.outs) (at : out_at now.outs old.output ≡ old) where
   -- what is said of the outputs, where it is said of the one
@@ -88,8 +90,8 @@ module _ (start : Beginning) (core mid next : CoreState) (now : Surroundings) (o
   said_before w = subst (λ (out : OutPart). Said (out_at start.outs old.output) out old.output w.journal) at (w.said old.output b)
 
   -- the batch was accepted
-  pub went_accepted : new.failed ≡ 0 → next ≡ after_done mid old.output true → Continues mid next (done_entry mid old.output true) → Appends old.held new.held text → Progress start core now → Progress start next (record now { outs = set now.outs old.output new })
-  went_accepted nil done ends put w =
+  pub went_accepted : new.failed ≡ 0 → new.failed_since ≡ 0 → next ≡ after_done mid old.output true → Continues mid next (done_entry mid old.output true) → Appends old.held new.held text → Progress start core now → Progress start next (record now { outs = set now.outs old.output new })
+  went_accepted none nil done ends put w =
       let o : ℕ = old.output in
       let shape : IsDoneEntry o true (done_entry mid o true) = entries-have-shape.dones mid o true in
       let reports : List Report = shape.0 in
@@ -98,18 +100,20 @@ module _ (start : Beginning) (core mid next : CoreState) (now : Surroundings) (o
       let said = said_before w in
       let first : OutPart = out_at start.outs o in
       went_done reports true w stored (ap (λ (s : CoreState). s.setup) done) (subst (Continues mid next) shape.1 ends) (record {
-        sent = sent_accepted reports core w.journal o batch first.held old.held new.held text w.text.stands within is spelled said.sent put;
+        format = kept_format ∙ said.format;
+        sent = sent_accepted (batch_text first.format) reports core w.journal o batch first.held old.held new.held text w.text.stands within is (spelled ∙ ap (λ (f : OutFormat). batch_text f batch.metrics) said.format) said.sent put;
         put_faults = subst (λ (bs : List Bool). RoseBy (count_by not bs) first.put_faults new.put_faults) (sym same)
             (let n : count_by not (dones o w.journal ++ true ∷ []) ≡ count_by not (dones o w.journal) = omega (arith, failed-more (dones o w.journal) true) in
             subst (λ (k : ℕ). RoseBy k first.put_faults new.put_faults) (sym n) (rose_later (count_by not (dones o w.journal)) first.put_faults old.put_faults new.put_faults said.put_faults later));
+        failed = failed_accepted new.failed (dones o w.journal) (dones o ((w.journal ++ Begin o batch.from batch.to ∷ []) ++ Done o true reports ∷ [])) none same;
         stuck = λ some. absurd (omega (arith, some, nil));
         last = λ stopped. rw nil (last_none (dones o (behind_stop ((w.journal ++ Begin o batch.from batch.to ∷ []) ++ Done o true reports ∷ []))));
       })
 
   -- its put failed
-  pub went_failed : (fault : PutFault) → fault ≡ Failed → new.failed ≤ old.failed + 1 → next ≡ after_done mid old.output false → Continues mid next (done_entry mid old.output false) → PutAppends old.held new.held text (Err fault) → Rose old.put_faults new.put_faults
+  pub went_failed : (fault : PutFault) → fault ≡ Failed → new.failed ≡ min (old.failed + 1) (2 ^ 32 - 1) → new.failed_since ≤ old.failed_since + 1 → next ≡ after_done mid old.output false → Continues mid next (done_entry mid old.output false) → PutAppends old.held new.held text (Err fault) → Rose old.put_faults new.put_faults
       → Progress start core now → Progress start next (record now { outs = set now.outs old.output new })
-  went_failed fault f few done ends put rose w =
+  went_failed fault f one few done ends put rose w =
       let o : ℕ = old.output in
       let shape : IsDoneEntry o false (done_entry mid o false) = entries-have-shape.dones mid o false in
       let reports : List Report = shape.0 in
@@ -120,10 +124,12 @@ module _ (start : Beginning) (core mid next : CoreState) (now : Surroundings) (o
       let begin : Entry = Begin o batch.from batch.to in
       let end : Entry = Done o false reports in
       went_done reports false w stored (ap (λ (s : CoreState). s.setup) done) (subst (Continues mid next) shape.1 ends) (record {
-        sent = sent_failed reports core w.journal o batch first.held old.held new.held text fault f w.text.stands within is spelled said.sent put;
+        format = kept_format ∙ said.format;
+        sent = sent_failed (batch_text first.format) reports core w.journal o batch first.held old.held new.held text fault f w.text.stands within is (spelled ∙ ap (λ (f : OutFormat). batch_text f batch.metrics) said.format) said.sent put;
         put_faults = subst (λ (bs : List Bool). RoseBy (count_by not bs) first.put_faults new.put_faults) (sym same)
             (let n : count_by not (dones o w.journal ++ false ∷ []) ≡ count_by not (dones o w.journal) + 1 = omega (arith, failed-more (dones o w.journal) false) in
             subst (λ (k : ℕ). RoseBy k first.put_faults new.put_faults) (sym n) (rose_more (count_by not (dones o w.journal)) first.put_faults old.put_faults new.put_faults said.put_faults rose));
+        failed = failed_once old.failed new.failed (dones o w.journal) (dones o ((w.journal ++ begin ∷ []) ++ end ∷ [])) one same said.failed;
         stuck = λ some. record {
           front = lane_events o (w.journal ++ begin ∷ []);
           is = lane_events-push o (w.journal ++ begin ∷ []) end ∙ ap (λ (here : Bool). lane_events o (w.journal ++ begin ∷ []) ++ (if here then events.Done false ∷ [] else [])) (same_number o);
@@ -133,9 +139,9 @@ module _ (start : Beginning) (core mid next : CoreState) (now : Surroundings) (o
             let before : has_stop w.journal ≡ true = stop_before w.journal begin refl mid_stopped in
             let behind : behind_stop ((w.journal ++ begin ∷ []) ++ end ∷ []) ≡ (behind_stop w.journal ++ begin ∷ []) ++ end ∷ [] =
             behind_stop-push (w.journal ++ begin ∷ []) end mid_stopped ∙ ap (λ (es : List Entry). es ++ end ∷ []) (behind_stop-push w.journal begin before) in
-            last_fewer new.failed (old.failed + 1) (dones o (behind_stop ((w.journal ++ begin ∷ []) ++ end ∷ []))) few
-            (last_same (old.failed + 1) (dones o (behind_stop w.journal) ++ false ∷ []) (dones o (behind_stop ((w.journal ++ begin ∷ []) ++ end ∷ [])))
-            (ap (dones o) behind ∙ dones_of reports o (behind_stop w.journal) batch.from batch.to false) (last_more old.failed (dones o (behind_stop w.journal)) (said.last before)));
+            last_fewer new.failed_since (old.failed_since + 1) (dones o (behind_stop ((w.journal ++ begin ∷ []) ++ end ∷ []))) few
+            (last_same (old.failed_since + 1) (dones o (behind_stop w.journal) ++ false ∷ []) (dones o (behind_stop ((w.journal ++ begin ∷ []) ++ end ∷ [])))
+            (ap (dones o) behind ∙ dones_of reports o (behind_stop w.journal) batch.from batch.to false) (last_more old.failed_since (dones o (behind_stop w.journal)) (said.last before)));
       })
 
 -- nothing was put

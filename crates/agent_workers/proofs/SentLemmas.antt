@@ -8,13 +8,14 @@ use Rattle.account.specs.declared.entry.Entry.TheVariants.{Begin, Done}
 use Rattle.agent_base.specs.Puts.{PutAppends}
 use Rattle.agent_base.specs.declared.outside.PutFault.{PutFault}
 use Rattle.agent_base.specs.declared.outside.PutFault.TheVariants.{Failed, OutOfMemory}
+use Rattle.metric.specs.declared.metric.Content.{Content}
 use Rattle.pipeline_core.specs.CoreState.{CoreState, lane_at}
 use Rattle.account.specs.declared.entry.Report.{Report}
 use Rattle.pipeline_core.specs.Stands.{Stands}
 use Rattle.pipeline_core.specs.Steps.{IsBatchOf}
 use Rattle.pipeline_core.specs.declared.batches.Batch.{Batch}
 use Rattle.pipeline_core.specs.Sent.{batches_from, IsPart, Sent}
-use Rattle.agent_workers.specs.Output.{batch_text, AppendsSo}
+use Rattle.agent_workers.specs.Output.{AppendsSo}
 use Rattle.pipeline_core.proofs.SentLemmas.{EndsNone, Sent-same, AreSent-none, Sent-more}
 
 -- nothing is appended
@@ -55,36 +56,36 @@ AppendsSo-put P Q old mid new text (Err Failed) n f h a = AppendsSo-trans P Q ol
 AppendsSo-put P Q old mid new text (Err OutOfMemory) n f h a = absurd (n refl)
 
 -- the same with an entry that isn't the end of the output's batch
-pub sent_same : (output : ℕ) (journal : List Entry) (e : Entry) (held new : Option (List ℕ)) → EndsNone output e → AppendsSo held new (Sent batch_text journal output) → AppendsSo held new (Sent batch_text (journal ++ e ∷ []) output)
-sent_same output journal e held new h a =
-    AppendsSo-map (Sent batch_text journal output) (Sent batch_text (journal ++ e ∷ []) output) held new (λ bytes s. Sent-same batch_text output journal e bytes h s) a
+pub sent_same : (written : List Content → List ℕ) (output : ℕ) (journal : List Entry) (e : Entry) (held new : Option (List ℕ)) → EndsNone output e → AppendsSo held new (Sent written journal output) → AppendsSo held new (Sent written (journal ++ e ∷ []) output)
+sent_same written output journal e held new h a =
+    AppendsSo-map (Sent written journal output) (Sent written (journal ++ e ∷ []) output) held new (λ bytes s. Sent-same written output journal e bytes h s) a
 
 -- nothing happened, and nothing was sent
-pub sent_first : (output : ℕ) (held : Option (List ℕ)) → AppendsSo held held (Sent batch_text [] output)
+pub sent_first : (written : List Content → List ℕ) (output : ℕ) (held : Option (List ℕ)) → AppendsSo held held (Sent written [] output)
 unfolding batches_from
-sent_first output held = AppendsSo-nil (Sent batch_text [] output) held (AreSent-none batch_text)
+sent_first written output held = AppendsSo-nil (Sent written [] output) held (AreSent-none written)
 
 -- what was sent, once a batch was begun, put and done
-pub sent_more : (reports : List Report) (core : CoreState) (journal : List Entry) (output : ℕ) (batch : Batch) (held mid new : Option (List ℕ)) (text : List ℕ) (result : Result (Unit {0}) PutFault) →
-    Stands core journal → output < length core.setup.outputs → IsBatchOf (lane_at core.lanes output) batch → text ≡ batch_text batch.metrics → (result ≡ Err OutOfMemory → ⊥) →
-    AppendsSo held mid (Sent batch_text journal output) → PutAppends mid new text result →
-    AppendsSo held new (Sent batch_text ((journal ++ Begin output batch.from batch.to ∷ []) ++ Done output (accepted result) reports ∷ []) output)
-sent_more reports core journal output batch held mid new text result h b is t n a put =
-    AppendsSo-put (Sent batch_text journal output) (Sent batch_text ((journal ++ Begin output batch.from batch.to ∷ []) ++ Done output (accepted result) reports ∷ []) output) held mid new text result n
-    (λ bytes part p s. Sent-more batch_text reports core journal output batch (accepted result) bytes part h b is (subst (λ (xs : List ℕ). IsPart (accepted result) xs part) t p) s) a put
+pub sent_more : (written : List Content → List ℕ) (reports : List Report) (core : CoreState) (journal : List Entry) (output : ℕ) (batch : Batch) (held mid new : Option (List ℕ)) (text : List ℕ) (result : Result (Unit {0}) PutFault) →
+    Stands core journal → output < length core.setup.outputs → IsBatchOf (lane_at core.lanes output) batch → text ≡ written batch.metrics → (result ≡ Err OutOfMemory → ⊥) →
+    AppendsSo held mid (Sent written journal output) → PutAppends mid new text result →
+    AppendsSo held new (Sent written ((journal ++ Begin output batch.from batch.to ∷ []) ++ Done output (accepted result) reports ∷ []) output)
+sent_more written reports core journal output batch held mid new text result h b is t n a put =
+    AppendsSo-put (Sent written journal output) (Sent written ((journal ++ Begin output batch.from batch.to ∷ []) ++ Done output (accepted result) reports ∷ []) output) held mid new text result n
+    (λ bytes part p s. Sent-more written reports core journal output batch (accepted result) bytes part h b is (subst (λ (xs : List ℕ). IsPart (accepted result) xs part) t p) s) a put
 
 -- the same where the put was accepted
-pub sent_accepted : (reports : List Report) (core : CoreState) (journal : List Entry) (output : ℕ) (batch : Batch) (held mid new : Option (List ℕ)) (text : List ℕ) →
-    Stands core journal → output < length core.setup.outputs → IsBatchOf (lane_at core.lanes output) batch → text ≡ batch_text batch.metrics →
-    AppendsSo held mid (Sent batch_text journal output) → Appends mid new text →
-    AppendsSo held new (Sent batch_text ((journal ++ Begin output batch.from batch.to ∷ []) ++ Done output true reports ∷ []) output)
-sent_accepted reports core journal output batch held mid new text h b is t a put =
-    sent_more reports core journal output batch held mid new text (Ok tt) h b is t (λ e. absurd (let x : Ok tt ≡ Err OutOfMemory = e in cc)) a put
+pub sent_accepted : (written : List Content → List ℕ) (reports : List Report) (core : CoreState) (journal : List Entry) (output : ℕ) (batch : Batch) (held mid new : Option (List ℕ)) (text : List ℕ) →
+    Stands core journal → output < length core.setup.outputs → IsBatchOf (lane_at core.lanes output) batch → text ≡ written batch.metrics →
+    AppendsSo held mid (Sent written journal output) → Appends mid new text →
+    AppendsSo held new (Sent written ((journal ++ Begin output batch.from batch.to ∷ []) ++ Done output true reports ∷ []) output)
+sent_accepted written reports core journal output batch held mid new text h b is t a put =
+    sent_more written reports core journal output batch held mid new text (Ok tt) h b is t (λ e. absurd (let x : Ok tt ≡ Err OutOfMemory = e in cc)) a put
 
 -- and where it failed
-pub sent_failed : (reports : List Report) (core : CoreState) (journal : List Entry) (output : ℕ) (batch : Batch) (held mid new : Option (List ℕ)) (text : List ℕ) (fault : PutFault) → fault ≡ Failed →
-    Stands core journal → output < length core.setup.outputs → IsBatchOf (lane_at core.lanes output) batch → text ≡ batch_text batch.metrics →
-    AppendsSo held mid (Sent batch_text journal output) → PutAppends mid new text (Err fault) →
-    AppendsSo held new (Sent batch_text ((journal ++ Begin output batch.from batch.to ∷ []) ++ Done output false reports ∷ []) output)
-sent_failed reports core journal output batch held mid new text fault f h b is t a put =
-    sent_more reports core journal output batch held mid new text (Err fault) h b is t (λ e. absurd (let x : Err Failed ≡ Err OutOfMemory = ap (λ (k : PutFault). let r : Result (Unit {0}) PutFault = Err k in r) (sym f) ∙ e in cc)) a put
+pub sent_failed : (written : List Content → List ℕ) (reports : List Report) (core : CoreState) (journal : List Entry) (output : ℕ) (batch : Batch) (held mid new : Option (List ℕ)) (text : List ℕ) (fault : PutFault) → fault ≡ Failed →
+    Stands core journal → output < length core.setup.outputs → IsBatchOf (lane_at core.lanes output) batch → text ≡ written batch.metrics →
+    AppendsSo held mid (Sent written journal output) → PutAppends mid new text (Err fault) →
+    AppendsSo held new (Sent written ((journal ++ Begin output batch.from batch.to ∷ []) ++ Done output false reports ∷ []) output)
+sent_failed written reports core journal output batch held mid new text fault f h b is t a put =
+    sent_more written reports core journal output batch held mid new text (Err fault) h b is t (λ e. absurd (let x : Err Failed ≡ Err OutOfMemory = ap (λ (k : PutFault). let r : Result (Unit {0}) PutFault = Err k in r) (sym f) ∙ e in cc)) a put

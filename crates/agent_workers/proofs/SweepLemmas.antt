@@ -26,8 +26,8 @@ both_true false y e = absurd (never e)
 -- the first so many outputs were swept, and the others are as before
 pub record Sweeping (n : ℕ) (emptied accepted : Bool) (old new : CoreState) (outs new_outs : List OutPart) : Type 0 where
   pub emptied_are : emptied ≡ true → (o : ℕ) → o < n → buffered_at new o ≡ 0
-  pub settled : (o : ℕ) → o < n → (buffered_at new o ≡ 0) ⊎ (1 ≤ (out_at new_outs o).failed)
-  pub stuck : accepted ≡ false → (o : ℕ) → o < n → WasTried o old new (out_at outs o).failed (out_at new_outs o).failed
+  pub settled : (o : ℕ) → o < n → (buffered_at new o ≡ 0) ⊎ (1 ≤ (out_at new_outs o).failed_since)
+  pub stuck : accepted ≡ false → (o : ℕ) → o < n → WasTried o old new (out_at outs o).failed_since (out_at new_outs o).failed_since
   pub rest : (o : ℕ) → n ≤ o → (lane_at new.lanes o ≡ lane_at old.lanes o) × (out_at new_outs o ≡ out_at outs o)
 
 pub sweeps_none : (core : CoreState) (outs : List OutPart) → Sweeping 0 true false core core outs outs
@@ -75,7 +75,7 @@ tried_still o old mid new failed new_failed last lane buffered g (inl h) = inl (
 tried_still o old mid new failed new_failed last lane buffered g (inr h) = inr (h.0, sym g ∙ h.1)
 
 -- one output more was swept
-pub sweeps_more : (n : ℕ) (emptied accepted : Bool) (flush : Flush) (old mid new : CoreState) (outs mid_outs : List OutPart) (out : OutPart) → n < length mid_outs → IsSentAt n mid new → HasFlushed flush n mid new (out_at mid_outs n).failed out.failed → Sweeping n emptied accepted old mid outs mid_outs
+pub sweeps_more : (n : ℕ) (emptied accepted : Bool) (flush : Flush) (old mid new : CoreState) (outs mid_outs : List OutPart) (out : OutPart) → n < length mid_outs → IsSentAt n mid new → HasFlushed flush n mid new (out_at mid_outs n).failed_since out.failed_since → Sweeping n emptied accepted old mid outs mid_outs
     → Sweeping (n + 1) (emptied && flush.emptied) (accepted || flush.accepted) old new outs (set mid_outs n out)
 sweeps_more n emptied accepted flush old mid new outs mid_outs out b sent flushed h =
     let here : out_at (set mid_outs n out) n ≡ out = get_or-set_same mid_outs n out no_out b in
@@ -90,25 +90,25 @@ sweeps_more n emptied accepted flush old mid new outs mid_outs out b sent flushe
           (λ o l. let ne : o ≢ n = λ (q : o ≡ n). absurd (omega (arith, l, q)) in
           elim (h.settled o l) [
             | inl none ↦ inl (still o ne ∙ none)
-            | inr some ↦ inr (subst (λ (x : OutPart). 1 ≤ x.failed) (sym (kept o ne)) some)
+            | inr some ↦ inr (subst (λ (x : OutPart). 1 ≤ x.failed_since) (sym (kept o ne)) some)
           ])
-          (subst (λ (x : OutPart). (buffered_at new n ≡ 0) ⊎ (1 ≤ x.failed)) (sym here) (settled_by flush.emptied flush n mid new (out_at mid_outs n).failed out.failed refl flushed));
+          (subst (λ (x : OutPart). (buffered_at new n ≡ 0) ⊎ (1 ≤ x.failed_since)) (sym here) (settled_by flush.emptied flush n mid new (out_at mid_outs n).failed_since out.failed_since refl flushed));
       stuck = λ e. let both = both_false accepted flush.accepted e in
           below_more _ _
           (λ o l. let ne : o ≢ n = λ (q : o ≡ n). absurd (omega (arith, l, q)) in
-          tried_still o old mid new (out_at outs o).failed (out_at mid_outs o).failed (out_at (set mid_outs n out) o).failed (sent.others o ne).lane (still o ne) (ap (λ (x : OutPart). x.failed) (sym (kept o ne))) (h.stuck both.0 o l))
-          (tried_as n old mid new (out_at mid_outs n).failed (out_at outs n).failed out.failed (out_at (set mid_outs n out) n).failed (h.rest n (omega arith)).0 (ap (λ (x : OutPart). x.failed) (h.rest n (omega arith)).1) (ap (λ (x : OutPart). x.failed) (sym here))
-          (tried_by flush.emptied flush n mid new (out_at mid_outs n).failed out.failed refl both.1 flushed));
+          tried_still o old mid new (out_at outs o).failed_since (out_at mid_outs o).failed_since (out_at (set mid_outs n out) o).failed_since (sent.others o ne).lane (still o ne) (ap (λ (x : OutPart). x.failed_since) (sym (kept o ne))) (h.stuck both.0 o l))
+          (tried_as n old mid new (out_at mid_outs n).failed_since (out_at outs n).failed_since out.failed_since (out_at (set mid_outs n out) n).failed_since (h.rest n (omega arith)).0 (ap (λ (x : OutPart). x.failed_since) (h.rest n (omega arith)).1) (ap (λ (x : OutPart). x.failed_since) (sym here))
+          (tried_by flush.emptied flush n mid new (out_at mid_outs n).failed_since out.failed_since refl both.1 flushed));
       rest = λ o l. let ne : o ≢ n = λ (q : o ≡ n). absurd (omega (arith, l, q)) in
           let before = h.rest o (omega (arith, l)) in ((sent.others o ne).lane ∙ before.0, kept o ne ∙ before.1);
     }
 
 -- the same, by the part of the output
-pub sweeps_part : (n : ℕ) (emptied accepted : Bool) (flush : Flush) (old mid new : CoreState) (outs mid_outs : List OutPart) (part out : OutPart) → n < length mid_outs → out_at mid_outs n ≡ part → part.output ≡ n → IsSentAt part.output mid new → HasFlushed flush part.output mid new part.failed out.failed
+pub sweeps_part : (n : ℕ) (emptied accepted : Bool) (flush : Flush) (old mid new : CoreState) (outs mid_outs : List OutPart) (part out : OutPart) → n < length mid_outs → out_at mid_outs n ≡ part → part.output ≡ n → IsSentAt part.output mid new → HasFlushed flush part.output mid new part.failed_since out.failed_since
     → Sweeping n emptied accepted old mid outs mid_outs → Sweeping (n + 1) (emptied && flush.emptied) (accepted || flush.accepted) old new outs (set mid_outs n out)
 sweeps_part n emptied accepted flush old mid new outs mid_outs part out b at number sent flushed h =
     sweeps_more n emptied accepted flush old mid new outs mid_outs out b (subst (λ (o : ℕ). IsSentAt o mid new) number sent)
-    (subst (λ (o : ℕ). HasFlushed flush o mid new (out_at mid_outs n).failed out.failed) number (subst (λ (x : OutPart). HasFlushed flush part.output mid new x.failed out.failed) (sym at) flushed)) h
+    (subst (λ (o : ℕ). HasFlushed flush o mid new (out_at mid_outs n).failed_since out.failed_since) number (subst (λ (x : OutPart). HasFlushed flush part.output mid new x.failed_since out.failed_since) (sym at) flushed)) h
 
 -- all outputs were swept
 pub swept : (n : ℕ) (sweep : Flush) (old new : CoreState) (outs new_outs : List OutPart) → length outs ≤ n → length new_outs ≡ length outs → Sweeping n sweep.emptied sweep.accepted old new outs new_outs → HasSwept sweep old new outs new_outs
@@ -127,11 +127,11 @@ one_more : (tries failed new_failed : ℕ) → tries < 2 ^ 32 - 1 → tries ≤ 
 one_more tries failed new_failed few l e = omega (arith, few, l, e)
 
 module _ (tries : ℕ) (sweep : Flush) (old new : CoreState) (outs new_outs : List OutPart) (few : tries < 2 ^ 32 - 1) (same : length new_outs ≡ length outs) (h : HaveFailed tries old outs) (s : HasSwept sweep old new outs new_outs) (stuck : sweep.accepted ≡ false) where
-  counted : (o : ℕ) → o < length outs → waiting_at old o ≢ 0 → (out_at new_outs o).failed ≡ min ((out_at outs o).failed + 1) (2 ^ 32 - 1) → tries + 1 ≤ (out_at new_outs o).failed
+  counted : (o : ℕ) → o < length outs → waiting_at old o ≢ 0 → (out_at new_outs o).failed_since ≡ min ((out_at outs o).failed_since + 1) (2 ^ 32 - 1) → tries + 1 ≤ (out_at new_outs o).failed_since
   counted o l some e =
       elim (h o l) [
         | inl none ↦ absurd (some none)
-        | inr many ↦ one_more tries (out_at outs o).failed (out_at new_outs o).failed few many e
+        | inr many ↦ one_more tries (out_at outs o).failed_since (out_at new_outs o).failed_since few many e
       ]
 
   failed_more : HaveFailed (tries + 1) new new_outs

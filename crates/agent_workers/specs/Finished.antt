@@ -14,7 +14,7 @@ use Rattle.agent_workers.specs.Noted.{JournalPart}
 use Rattle.agent_workers.specs.Output.{OutPart, AreOutputs}
 use Rattle.agent_workers.specs.PipeSetup.{run_setup}
 use Rattle.agent_workers.specs.Progress.{Beginning, Surroundings, Progress, AllHeard, AllSaid, SettlesFirst}
-use Rattle.agent_workers.specs.Run.{change, in_runs, out_changes, run_at, HasRun, EndsSo, IsPutSo, IsLeft}
+use Rattle.agent_workers.specs.Run.{change, in_runs, out_runs, run_at, HasRun, EndsSo, IsPutSo, IsLeft}
 use Rattle.agent_workers.specs.Run.{account_of, text_of}
 use Rattle.agent_workers.specs.Running.{IsReady, HasJournal, AreSettled}
 use Rattle.agent_workers.specs.declared.input.InState.TheVariants as states
@@ -44,9 +44,10 @@ pub record Finished (start : Beginning) (tries : ℕ) (ending : Ending) (core : 
   pub stands : Stands core journal
   pub more : List Entry
   pub goes_on : journal ≡ start.front ++ more
-  pub run : HasRun start.views tries start.setup (in_runs start.ins ins) (out_changes start.outs outs) journal
+  pub run : HasRun start.views tries start.setup (in_runs start.ins ins) (out_runs start.outs outs) journal
   -- what the parts were read, were sent and keep
   pub fit : AreInputs (length start.setup.inputs) core.ended ins
+  pub outputs_fit : AreOutputs (length start.setup.outputs) outs
   pub heard : AllHeard start.ins ins journal
   pub said : AllSaid start.outs outs journal
   -- the moments that count go on by one of the timer's

@@ -186,17 +186,3 @@ pub record AreFresh (ins : List InPart) : Type 0 where
   pub readable : (input : ℕ) → input < length ins → IsReadable (in_at ins input).rule
   pub numbered : (input : ℕ) → input < length ins → (in_at ins input).input ≡ input
   pub fresh : (input : ℕ) → input < length ins → IsFresh (in_at ins input)
-
--- a line protocol input of which nothing was read, and each metric is kept as it is
-pub record IsPlain {S C : Type 0} (most : ℕ) (from : S) (by : C) (job : InJob S C) : Type 0 where
-  pub number : job.input ≡ 0
-  pub source : job.source ≡ from
-  pub clock : job.clock ≡ by
-  pub rule : rule_of job ≡ plain_rule most
-  pub hand : job.pieces ≡ empty_hand Lines
-  pub none_held : job.held ≡ None
-  pub reading : job.state ≡ states.Reading
-
--- the list of the one
-abbrev pub IsOneInput : {S C : Type 0} → ℕ → S → C → List (InJob S C) → Type 0
-IsOneInput {S} {C} most from by jobs = (job : InJob S C) × (jobs ≡ job ∷ []) × IsPlain most from by job

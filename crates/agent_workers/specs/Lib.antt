@@ -3,6 +3,7 @@ pub mod Groups
 pub mod Input
 pub mod Inputs
 pub mod Noted
+pub mod Opened
 pub mod Output
 pub mod PipeSetup
 pub mod Progress

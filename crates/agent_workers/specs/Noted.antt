@@ -24,7 +24,7 @@ pub record JournalPart : Type 0 where
   pub faults : ℕ
 
 -- the part, given what the sink tells
-abbrev pub part_of : {K : Type 0} → (K → Option (List ℕ)) → (K → ℕ) → JournalJob K → JournalPart
+abbrev pub part_of : {K C : Type 0} → (K → Option (List ℕ)) → (K → ℕ) → JournalJob K C → JournalPart
 part_of held faults job = record {
   setup = job.setup;
   kept = job.kept.items;

@@ -1,15 +1,18 @@
 -- What a run puts to its outputs.
-use Rattle.std.specs.Prelude.{◌≡◌, ◌<◌, ℕ, List, ◌++◌, ⊤, map, length, slice_index_or}
+use Rattle.std.specs.Prelude.{◌≡◌, ◌<◌, ◌⊎◌, ℕ, min, Bool, true, false, List, ◌∷◌, ◌++◌, ⊤, map, length}
+use Rattle.std.specs.Prelude.{replicate, slice_index_or}
 use Rattle.std.specs.List.{flat_map}
 use Rattle.std.specs.declared.option.Option.{Option}
 use Rattle.std.specs.declared.option.Option.TheVariants.{Some, None}
+use Rattle.agent_config.specs.declared.config.OutFormat.{OutFormat}
+use Rattle.agent_config.specs.declared.config.OutFormat.TheVariants.{Influx}
 use Rattle.metric.specs.declared.metric.Content.{Content}
 use Rattle.line_proto.specs.LineText.{line_text}
 use Rattle.agent_workers.specs.declared.output.OutJob.{OutJob}
 
--- the lines of the views, in order
-abbrev pub batch_text : List Content → List ℕ
-batch_text views = flat_map line_text views
+-- the text of a batch in a format: in line protocol the lines of its views, in order
+abbrev pub batch_text : OutFormat → List Content → List ℕ
+batch_text Influx views = flat_map line_text views
 
 -- known bytes grow by some of which a fact holds
 abbrev pub AppendsSo : Option (List ℕ) → Option (List ℕ) → (List ℕ → Type 0) → Type 0
@@ -17,30 +20,34 @@ AppendsSo None new P = ⊤
 AppendsSo (Some xs) None P = ⊥
 AppendsSo (Some xs) (Some ys) P = (bytes : List ℕ) × (ys ≡ xs ++ bytes) × P bytes
 
--- an output of a run: its number, the bytes that it holds, its count of failed puts, and how many of its last
--- batches failed
+-- an output of a run: its number, its format, the bytes that it holds, its count of failed puts, how many of its
+-- last batches failed, and how many of those since items were routed, or the run was stopped
 pub record OutPart : Type 0 where
   pub output : ℕ
+  pub format : OutFormat
   pub held : Option (List ℕ)
   pub put_faults : ℕ
   pub failed : ℕ
+  pub failed_since : ℕ
 
 -- the part of an output, given what its sink tells
-abbrev pub out_of : {K : Type 0} → (K → Option (List ℕ)) → (K → ℕ) → OutJob K → OutPart
+abbrev pub out_of : {K C : Type 0} → (K → Option (List ℕ)) → (K → ℕ) → OutJob K C → OutPart
 out_of held faults job = record {
   output = job.output;
+  format = job.format;
   held = held job.sink;
   put_faults = faults job.sink;
   failed = job.failed;
+  failed_since = job.failed_since;
 }
 
 -- the parts of the outputs, in order
-abbrev pub outs_of : {K : Type 0} → (K → Option (List ℕ)) → (K → ℕ) → List (OutJob K) → List OutPart
+abbrev pub outs_of : {K C : Type 0} → (K → Option (List ℕ)) → (K → ℕ) → List (OutJob K C) → List OutPart
 outs_of held faults jobs = map (out_of held faults) jobs
 
 -- an output of which nothing is told
 abbrev pub no_out : OutPart
-no_out = record { output = 0; held = None; put_faults = 0; failed = 0 }
+no_out = record { output = 0; format = Influx; held = None; put_faults = 0; failed = 0; failed_since = 0 }
 
 -- the part at a place
 abbrev pub out_at : List OutPart → ℕ → OutPart
@@ -53,7 +60,26 @@ pub record AreOutputs (count : ℕ) (outs : List OutPart) : Type 0 where
 
 -- no batch failed since the last item was routed, or the run was stopped
 abbrev pub anew : OutPart → OutPart
-anew out = record out { failed = 0 }
+anew out = record out { failed_since = 0 }
 
 abbrev pub AreAnew : List OutPart → Type 0
-AreAnew outs = (output : ℕ) → output < length outs → (out_at outs output).failed ≡ 0
+AreAnew outs = (output : ℕ) → output < length outs → (out_at outs output).failed_since ≡ 0
+
+-- no batch failed yet
+pub record IsUnfailed (out : OutPart) : Type 0 where
+  pub failed : out.failed ≡ 0
+  pub failed_since : out.failed_since ≡ 0
+
+abbrev pub AreUnfailed : List OutPart → Type 0
+AreUnfailed outs = (output : ℕ) → output < length outs → IsUnfailed (out_at outs output)
+
+-- exactly so many of the last batches failed
+abbrev pub IsFailedRow : ℕ → List Bool → Type 0
+IsFailedRow count all = (all ≡ replicate count false)
+    ⊎ ((front : List Bool) × (all ≡ front ++ true ∷ replicate count false))
+
+-- so many of them, as far as they are counted: up to 4,294,967,295
+pub record FailedLast (n : ℕ) (all : List Bool) : Type 0 where
+  pub count : ℕ
+  pub row : IsFailedRow count all
+  pub counted : n ≡ min count 4294967295

@@ -29,7 +29,7 @@ use Rattle.agent_workers.specs.Noted.{JournalPart, Notes}
 use Rattle.pipeline_core.specs.Order.{EndsFailed, InOrder}
 use Rattle.agent_workers.specs.PipeSetup.{journal_setup_of}
 use Rattle.pipeline_core.specs.Sent.{Sent}
-use Rattle.agent_workers.specs.Output.{AppendsSo, batch_text, OutPart, out_at, AreAnew}
+use Rattle.agent_workers.specs.Output.{AppendsSo, batch_text, OutPart, out_at, AreAnew, FailedLast}
 use Rattle.agent_workers.specs.Running.{AreSettled}
 use Rattle.pipeline_core.specs.Worked.{Worked}
 
@@ -116,12 +116,15 @@ AllHeard starts ins journal =
 
 -- what the journal says of an output
 pub record Said (start now : OutPart) (output : ℕ) (journal : List Entry) : Type 0 where
-  pub sent : AppendsSo start.held now.held (Sent batch_text journal output)
+  pub format : now.format ≡ start.format
+  pub sent : AppendsSo start.held now.held (Sent (batch_text start.format) journal output)
   pub put_faults : RoseBy (failed_count output journal) start.put_faults now.put_faults
-  -- where puts failed in succession, the last event at the output is that a batch failed
-  pub stuck : 1 ≤ now.failed → EndsFailed (lane_events output journal)
+  -- so many of its last batches failed
+  pub failed : FailedLast now.failed (dones output journal)
+  -- where some failed since items were routed, the last event at the output is that a batch failed
+  pub stuck : 1 ≤ now.failed_since → EndsFailed (lane_events output journal)
   -- and behind the Stop so many of the last batches failed
-  pub last : has_stop journal ≡ true → LastFailed now.failed (dones output (behind_stop journal))
+  pub last : has_stop journal ≡ true → LastFailed now.failed_since (dones output (behind_stop journal))
 
 -- what it says of each output
 abbrev pub AllSaid : List OutPart → List OutPart → List Entry → Type 0

@@ -8,6 +8,7 @@ use Rattle.agent_base.specs.Cut as lines
 use Rattle.agent_base.specs.declared.piece.CutKind.TheVariants.{Lines}
 use Rattle.agent_config.specs.declared.config.InFormat.{InFormat}
 use Rattle.agent_config.specs.declared.config.InFormat.TheVariants.{Influx}
+use Rattle.agent_config.specs.declared.config.OutputConf.{OutputConf}
 use Rattle.line_proto.specs.declared.fault.LineFault.{LineFault}
 use Rattle.line_proto.specs.Reading.{reading}
 use Rattle.metric.specs.Pairs.{with_all_missing}
@@ -59,7 +60,7 @@ plain_rule most = record { format = Influx; globals = []; keep = λ metric. Some
 
 -- the rule of a job, and of what is handed down of it
 abbrev pub rule_of : {S C : Type 0} → InJob S C → InRule
-rule_of job = in_rule job.format job.globals job.filter job.gather_pieces
+rule_of job = in_rule job.format job.globals.now job.filter.now job.gather_pieces
 
 abbrev pub rule_view : ReadRule → InRule
 rule_view rule = in_rule rule.format rule.globals.now rule.filter.now rule.most
@@ -116,9 +117,5 @@ abbrev pub capped : ℕ → ℕ
 capped n = min n 4294967295
 
 -- what the filters of outputs give
-abbrev pub views_by : List FilterRules → List (Content → Option Content)
-views_by filters = map filtered filters
-
--- one output to which each metric goes as it is
-abbrev pub plain_view : List (Content → Option Content)
-plain_view = (λ metric. Some metric) ∷ []
+abbrev pub views_by : List OutputConf → List (Content → Option Content)
+views_by outputs = map (λ (output : OutputConf). filtered output.filter) outputs

@@ -25,7 +25,8 @@ use Rattle.account.specs.EntryMoments.{gather_moments, counted_moments}
 use Rattle.pipeline_core.specs.Order.{InOrder}
 use Rattle.agent_workers.specs.PipeSetup.{run_setup, journal_setup_of}
 use Rattle.pipeline_core.specs.Sent.{Sent}
-use Rattle.agent_workers.specs.Output.{AppendsSo, batch_text, OutPart}
+use Rattle.agent_config.specs.declared.config.OutFormat.{OutFormat}
+use Rattle.agent_workers.specs.Output.{AppendsSo, batch_text, OutPart, no_out}
 use Rattle.agent_workers.specs.Inputs.{InPart, no_in, IsOneOf}
 use Rattle.agent_workers.specs.Reader.{InRule}
 use Rattle.pipeline_core.specs.Worked.{Worked}
@@ -69,16 +70,27 @@ in_runs (old ∷ olds) (new ∷ news) = in_run old new ∷ in_runs olds news
 abbrev pub run_at : List InRun → ℕ → InRun
 run_at ins input = slice_index_or ins input (in_run no_in no_in)
 
--- the change of the place of an output
-abbrev pub change_at : List Change → ℕ → Change
-change_at changes output = slice_index_or changes output (change None None 0 0)
+-- an output of a run, seen from outside: its format, and the change of its place
+pub record OutRun : Type 0 where
+  pub format : OutFormat
+  pub place : Change
 
--- the changes of the places of the outputs
-abbrev pub out_changes : List OutPart → List OutPart → List Change
-out_changes [] news = []
-out_changes (old ∷ olds) [] = []
-out_changes (old ∷ olds) (new ∷ news) =
-    change old.held new.held old.put_faults new.put_faults ∷ out_changes olds news
+-- an output at its beginning and now
+abbrev pub out_run : OutPart → OutPart → OutRun
+out_run old new = record {
+  format = old.format;
+  place = change old.held new.held old.put_faults new.put_faults;
+}
+
+-- the outputs at their beginning and now
+abbrev pub out_runs : List OutPart → List OutPart → List OutRun
+out_runs [] news = []
+out_runs (old ∷ olds) [] = []
+out_runs (old ∷ olds) (new ∷ news) = out_run old new ∷ out_runs olds news
+
+-- the output at a place
+abbrev pub out_run_at : List OutRun → ℕ → OutRun
+out_run_at outs output = slice_index_or outs output (out_run no_out no_out)
 
 -- how many metrics are buffered at an output at the end of a journal
 abbrev pub buffered_at_end : Setup → List Entry → ℕ → ℕ
@@ -121,12 +133,12 @@ pub record IsReadFrom (ins : List InRun) (journal : List Entry) (number : ℕ) (
   pub unread : has_ended number journal ≡ false → IsUnread ins number input taken journal
 
 -- what a journal says of an output
-pub record IsSentTo (tries : ℕ) (setup : Setup) (journal : List Entry) (output : ℕ) (place : Change)
+pub record IsSentTo (tries : ℕ) (setup : Setup) (journal : List Entry) (output : ℕ) (out : OutRun)
     : Type 0 where
   -- the output was sent the batches
-  pub sent : AppendsSo place.before place.after (Sent batch_text journal output)
+  pub sent : AppendsSo out.place.before out.place.after (Sent (batch_text out.format) journal output)
   -- the output's count of failed puts rose by the failed batches
-  pub put_faults : RoseBy (failed_count output journal) place.faults_before place.faults_after
+  pub put_faults : RoseBy (failed_count output journal) out.place.faults_before out.place.faults_after
   -- where a metric is left at the output, so many of its last batches behind the Stop failed
   pub left : buffered_at_end setup journal output ≢ 0
       → LastFailed tries (dones output (behind_stop journal))
@@ -134,7 +146,7 @@ pub record IsSentTo (tries : ℕ) (setup : Setup) (journal : List Entry) (output
 -- A legal journal of a run that came to its end, given what its outputs' filters give, how often in succession a
 -- repeat without an accepted batch is tried at the end, its inputs and its outputs.
 pub record HasRun (views : List (Content → Option Content)) (tries : ℕ) (setup : Setup) (ins : List InRun)
-    (outputs : List Change) (journal : List Entry) : Type 0 where
+    (outputs : List OutRun) (journal : List Entry) : Type 0 where
   pub legal : IsLegal setup journal
   -- what each input gave was gathered, so many bytes of it
   pub taken : ℕ → ℕ
@@ -142,7 +154,7 @@ pub record HasRun (views : List (Content → Option Content)) (tries : ℕ) (set
       IsReadFrom ins journal number (run_at ins number) (taken number)
   -- each output was sent its batches
   pub sent_to : (output : ℕ) → output < length setup.outputs →
-      IsSentTo tries setup journal output (change_at outputs output)
+      IsSentTo tries setup journal output (out_run_at outputs output)
   -- each item was routed by the outputs' filters
   pub worked : Worked views journal
   -- gathering was stopped, and no item is raw or in hand
@@ -152,7 +164,7 @@ pub record HasRun (views : List (Content → Option Content)) (tries : ℕ) (set
 
 -- The same of a run that began with nothing, given the moments of its clock.
 pub record IsRun (views : List (Content → Option Content)) (tries : ℕ) (setup : Setup) (ins : List InRun)
-    (outputs : List Change) (run_moments : Option Moments) (journal : List Entry) : Type 0 where
+    (outputs : List OutRun) (run_moments : Option Moments) (journal : List Entry) : Type 0 where
   pub has : HasRun views tries setup ins outputs journal
   -- the moments are those of the run's clock
   pub start : IfSome run_moments (λ moments. setup.start ≡ moments.at 0)
@@ -190,7 +202,7 @@ IsLeft true setup journal =
 
 -- what a run leaves, before its account is reported, given how many inputs it has, and the sizes of its outputs
 pub record Ran (views : List (Content → Option Content)) (tries count : ℕ) (sizes : List (ℕ × ℕ)) (ending : Ending) (ins : List InRun)
-    (outputs : List Change) (note : Change) (run_moments : Option Moments) : Type 0 where
+    (outputs : List OutRun) (note : Change) (run_moments : Option Moments) : Type 0 where
   pub start : ℤ
   pub journal : List Entry
   pub run : IsRun views tries (run_setup count sizes start) ins outputs run_moments journal

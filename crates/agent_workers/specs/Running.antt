@@ -13,6 +13,7 @@ use Rattle.pipeline_core.specs.Worked.{views_of}
 use Rattle.pipeline_core.specs.declared.output.Offer.{Offer}
 use Rattle.metric.specs.declared.metric.Content.{Content}
 use Rattle.pipeline_core.specs.declared.routing.Routed.{Routed}
+use Rattle.agent_workers.specs.Inputs.{InPart, AreOut}
 use Rattle.agent_workers.specs.Output.{OutPart, out_at}
 use Rattle.agent_workers.specs.declared.output.Flush.{Flush}
 
@@ -29,7 +30,7 @@ pub record IsReady (core : CoreState) : Type 0 where
   pub empty_handed : core.held ≡ None
 
 -- inputs were gathered or ended: the set-up, what is in hand and stopped, what waits at the outputs and their
--- numbers are as before, and no entry that was stored is lost
+-- numbers are as before, and no entry that was stored and no raw item is lost
 pub record IsGathered (old new : CoreState) : Type 0 where
   pub setup : new.setup ≡ old.setup
   pub held : new.held ≡ old.held
@@ -37,6 +38,7 @@ pub record IsGathered (old new : CoreState) : Type 0 where
   pub lanes : new.lanes ≡ old.lanes
   pub numbers : new.numbers.outputs ≡ old.numbers.outputs
   pub stored : length old.stored ≤ length new.stored
+  pub raw : length old.raw ≤ length new.raw
 
 -- one input was gathered or ended: the others have ended where they had
 pub record IsGatheredAt (input : ℕ) (old new : CoreState) : Type 0 where
@@ -46,6 +48,14 @@ pub record IsGatheredAt (input : ℕ) (old new : CoreState) : Type 0 where
 -- a gather was accepted, or items were raw
 abbrev pub HasMoved : CoreState → CoreState → Type 0
 HasMoved old new = (old.raw ≢ []) ⊎ (length old.stored < length new.stored)
+
+-- items are raw, or an entry was made
+abbrev pub HasGone : CoreState → CoreState → Type 0
+HasGone old new = (new.raw ≢ []) ⊎ (length old.stored < length new.stored)
+
+-- the turns of a round that made no entry, and leave no raw item, leave each input out
+abbrev pub IdlesOut : CoreState → CoreState → List InPart → Type 0
+IdlesOut old new ins = new.raw ≡ [] → length new.stored ≡ length old.stored → AreOut ins
 
 -- a lane was offered an item at most: its batch size and its batch in flight are as before
 pub record IsLaneKept (old new : LaneState Offer) : Type 0 where
@@ -111,7 +121,7 @@ pub record HasFlushed (flush : Flush) (output : ℕ) (old new : CoreState) (fail
 -- at each output nothing is buffered, or its last put failed
 abbrev pub AreSettled : CoreState → List OutPart → Type 0
 AreSettled core outs = (output : ℕ) → output < length outs →
-    (buffered_at core output ≡ 0) ⊎ (1 ≤ (out_at outs output).failed)
+    (buffered_at core output ≡ 0) ⊎ (1 ≤ (out_at outs output).failed_since)
 
 -- where no batch was accepted at any output: nothing is left of an output, or metrics had waited there and
 -- one put more failed
@@ -126,17 +136,17 @@ pub record HasSwept (sweep : Flush) (old new : CoreState) (outs new_outs : List 
       (output : ℕ) → output < length outs → buffered_at new output ≡ 0
   pub settled : AreSettled new new_outs
   pub stuck : sweep.accepted ≡ false → (output : ℕ) → output < length outs →
-      WasTried output old new (out_at outs output).failed (out_at new_outs output).failed
+      WasTried output old new (out_at outs output).failed_since (out_at new_outs output).failed_since
 
 -- at each output nothing waits, or so many puts failed in succession
 abbrev pub HaveFailed : ℕ → CoreState → List OutPart → Type 0
 HaveFailed tries core outs = (output : ℕ) → output < length outs →
-    (waiting_at core output ≡ 0) ⊎ (tries ≤ (out_at outs output).failed)
+    (waiting_at core output ≡ 0) ⊎ (tries ≤ (out_at outs output).failed_since)
 
 -- at each output nothing is buffered, or so many puts failed in succession
 abbrev pub AreLeft : ℕ → CoreState → List OutPart → Type 0
 AreLeft tries core outs = (output : ℕ) → output < length outs →
-    (buffered_at core output ≡ 0) ⊎ (tries ≤ (out_at outs output).failed)
+    (buffered_at core output ≡ 0) ⊎ (tries ≤ (out_at outs output).failed_since)
 
 -- whether a metric is buffered at an output
 abbrev pub IsLeftOver : Bool → CoreState → Type 0

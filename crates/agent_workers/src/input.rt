@@ -13,7 +13,7 @@ ghost use Rattle.agent_workers.specs.Inputs.{IsOffered, IsFullOf, OneIsFull, IsO
 ghost use Rattle.agent_workers.specs.Progress.{ReadsAt, GathersAt, EndsAt, GathersOn};
 ghost use Rattle.agent_workers.specs.Reader.{rule_view};
 ghost use Rattle.agent_workers.specs.Running.{IsReady, HasJournal, StillStands, IsGathered, IsGatheredAt};
-ghost use Rattle.agent_workers.specs.Running.{HasMoved};
+ghost use Rattle.agent_workers.specs.Running.{HasMoved, IdlesOut};
 
 use crate::reading::{Group, ReadRule};
 use agent_base::{Clock, PieceFault, Pieces, Source};
@@ -157,7 +157,7 @@ fn read_state(state: InState) -> InState
 
 /// An input of a run.
 #[derive(Drop)]
-pub struct InJob<S: Drop, C: Drop> {
+pub struct InJob<'a, S: Drop, C: Drop> {
     /// Its number: its place among the inputs.
     pub input: u32,
     /// What is read.
@@ -167,11 +167,11 @@ pub struct InJob<S: Drop, C: Drop> {
     /// Its format.
     pub format: InFormat,
     /// The tags that each metric gets that lacks them.
-    pub globals: Seq<(Text, Text)>,
+    pub globals: &'a [(Text, Text)],
     /// How many pieces one gather has at most.
     pub gather_pieces: u32,
     /// What is kept of its metrics, once they have these tags.
-    pub filter: Filter,
+    pub filter: &'a Filter,
     /// What gives the moments of its gathers.
     pub clock: C,
     /// The most groups that it has undelivered; none, since no input is tracked.
@@ -186,10 +186,10 @@ pub struct InJob<S: Drop, C: Drop> {
 /// end was met.
 fn read_on<S: Source + Drop, C: Clock + Drop>(
     alloc: Global,
-    job: &mut InJob<S, C>,
+    job: &mut InJob<'_, S, C>,
 ) -> Result<bool, OutOfMemory>
     requires some { 1 ≤ job.old.gather_pieces }
-    requires filled { All IsFilledTag job.old.globals }
+    requires filled { All IsFilledTag job.old.globals.now }
     requires reading { job.old.state ≡ InState.Reading }
     requires free { job.old.held ≡ None }
     ensures reads { OnOk result ((core : CoreState) → ReadsAt core core (in_of S.left S.faults C.moments C.place job.old) (in_of S.left S.faults C.moments C.place job.new)) }
@@ -200,7 +200,7 @@ fn read_on<S: Source + Drop, C: Clock + Drop>(
     ensures same { IsSameInput (in_of S.left S.faults C.moments C.place job.old) (in_of S.left S.faults C.moments C.place job.new) }
 {
     let moment = job.clock.now();
-    let rule = ReadRule::new(job.format, &job.globals, &job.filter, job.gather_pieces);
+    let rule = ReadRule::new(job.format, job.globals, job.filter, job.gather_pieces);
     let (group, state) = read_group(alloc, &rule, &mut job.pieces, &mut job.source, moment)?;
     job.held = gathered_of(job.input, moment, group);
     job.state = read_state(state);
@@ -210,10 +210,10 @@ fn read_on<S: Source + Drop, C: Clock + Drop>(
 /// Reads the next group of an input that is read on and holds nothing, and says whether the end was met.
 fn read_where_free<S: Source + Drop, C: Clock + Drop>(
     alloc: Global,
-    job: &mut InJob<S, C>,
+    job: &mut InJob<'_, S, C>,
 ) -> Result<bool, OutOfMemory>
     requires some { 1 ≤ job.old.gather_pieces }
-    requires filled { All IsFilledTag job.old.globals }
+    requires filled { All IsFilledTag job.old.globals.now }
     requires own { HoldsOwn (in_of S.left S.faults C.moments C.place job.old) }
     requires none_held { HoldsNoEnd job.old.state job.old.held }
     ensures reads { OnOk result ((core : CoreState) → ReadsAt core core (in_of S.left S.faults C.moments C.place job.old) (in_of S.left S.faults C.moments C.place job.new)) }
@@ -234,7 +234,7 @@ fn read_where_free<S: Source + Drop, C: Clock + Drop>(
 /// accepted; and where the run is full it is read no more.
 fn offer<S: Source + Drop, C: Clock + Drop>(
     core: &mut Core,
-    job: &mut InJob<S, C>,
+    job: &mut InJob<'_, S, C>,
 ) -> Result<bool, OutOfMemory>
     requires ready { IsReady core.old }
     requires fits { FitsInput job.old.input core.old.ended (in_of S.left S.faults C.moments C.place job.old) }
@@ -281,7 +281,7 @@ fn offer<S: Source + Drop, C: Clock + Drop>(
 /// Notes the end of an input, where it was met and nothing is held.
 fn end_where_met<S: Source + Drop, C: Clock + Drop>(
     core: &mut Core,
-    job: &mut InJob<S, C>,
+    job: &mut InJob<'_, S, C>,
     met: bool,
 ) -> Result<(), OutOfMemory>
     requires ready { IsReady core.old }
@@ -312,7 +312,7 @@ fn end_where_met<S: Source + Drop, C: Clock + Drop>(
 fn turn<S: Source + Drop, C: Clock + Drop>(
     alloc: Global,
     core: &mut Core,
-    job: &mut InJob<S, C>,
+    job: &mut InJob<'_, S, C>,
 ) -> Result<bool, OutOfMemory>
     requires ready { IsReady core.old }
     requires fits { FitsInput job.old.input core.old.ended (in_of S.left S.faults C.moments C.place job.old) }
@@ -337,11 +337,12 @@ fn turn<S: Source + Drop, C: Clock + Drop>(
     Ok(false)
 }
 
-/// One turn of each input in order, until the run is full; says whether it is.
+/// One turn of each input in order, until the run is full; says whether it is. Turns that make no entry and leave
+/// no raw item leave each input out: so a round that gets nowhere is the last one.
 pub fn gather_each<S: Source + Drop, C: Clock + Drop>(
     alloc: Global,
     core: &mut Core,
-    inputs: &mut [InJob<S, C>],
+    inputs: &mut [InJob<'_, S, C>],
 ) -> Result<bool, OutOfMemory>
     requires ready { IsReady core.old }
     requires inputs { AreInputs (length core.old.setup.inputs) core.old.ended
@@ -358,6 +359,8 @@ pub fn gather_each<S: Source + Drop, C: Clock + Drop>(
     ensures gathers { OnOk result (GathersOn core.old core.new
         (ins_of S.left S.faults C.moments C.place inputs.old)
         (ins_of S.left S.faults C.moments C.place inputs.new)) }
+    ensures idle { IfOk result (λ full. full ≡ false → IdlesOut core.old core.new
+        (ins_of S.left S.faults C.moments C.place inputs.new)) }
     ensures same { OnOk result (AreSameInputs (ins_of S.left S.faults C.moments C.place inputs.old)
         (ins_of S.left S.faults C.moments C.place inputs.new)) }
     ensures count { length inputs.new ≡ length inputs.old }
@@ -371,7 +374,7 @@ pub fn gather_each<S: Source + Drop, C: Clock + Drop>(
 }
 
 /// Whether each input is read no more and holds nothing.
-pub fn are_out<S: Source + Drop, C: Clock + Drop>(inputs: &[InJob<S, C>]) -> bool
+pub fn are_out<S: Source + Drop, C: Clock + Drop>(inputs: &[InJob<'_, S, C>]) -> bool
     ensures { result ≡ true → AreOut (ins_of S.left S.faults C.moments C.place inputs.now) }
 {
     for job in inputs {
@@ -383,7 +386,7 @@ pub fn are_out<S: Source + Drop, C: Clock + Drop>(inputs: &[InJob<S, C>]) -> boo
 }
 
 /// Whether a limit was reached at an input.
-pub fn has_limit<S: Source + Drop, C: Clock + Drop>(inputs: &[InJob<S, C>]) -> bool
+pub fn has_limit<S: Source + Drop, C: Clock + Drop>(inputs: &[InJob<'_, S, C>]) -> bool
     ensures { IsOneIn InState.LimitReached (ins_of S.left S.faults C.moments C.place inputs.now) result }
 {
     for job in inputs {
@@ -395,7 +398,7 @@ pub fn has_limit<S: Source + Drop, C: Clock + Drop>(inputs: &[InJob<S, C>]) -> b
 }
 
 /// Whether a read of an input failed.
-pub fn has_fault<S: Source + Drop, C: Clock + Drop>(inputs: &[InJob<S, C>]) -> bool
+pub fn has_fault<S: Source + Drop, C: Clock + Drop>(inputs: &[InJob<'_, S, C>]) -> bool
     ensures { IsOneIn InState.Faulted (ins_of S.left S.faults C.moments C.place inputs.now) result }
 {
     for job in inputs {

@@ -26,9 +26,11 @@ use std::collections::VecDeque;
 /// with the account and the number of entries. After a put that failed nothing more is put; the entries are
 /// still counted.
 #[derive(Drop)]
-pub struct JournalJob<K: Drop> {
+pub struct JournalJob<K: Drop, C: Drop> {
     pub setup: JournalSetup,
     pub sink: K,
+    /// Its clock, which is asked for no moment yet.
+    pub clock: C,
     /// The items that have no Route yet, oldest first.
     pub kept: VecDeque<Metric>,
     /// How many entries there were.
@@ -37,9 +39,9 @@ pub struct JournalJob<K: Drop> {
     pub failed: bool,
 }
 
-impl<K: Sink + Drop> JournalJob<K> {
+impl<K: Sink + Drop, C: Drop> JournalJob<K, C> {
     /// The part of a journal without an entry: nothing is put.
-    pub fn new(alloc: Global, setup: JournalSetup, sink: K) -> JournalJob<K>
+    pub fn new(alloc: Global, setup: JournalSetup, sink: K, clock: C) -> JournalJob<K, C>
         ensures setup { result.setup ≡ setup }
         ensures sink { result.sink ≡ sink }
         ensures kept { result.kept.items ≡ [] }
@@ -49,6 +51,7 @@ impl<K: Sink + Drop> JournalJob<K> {
         JournalJob {
             setup,
             sink,
+            clock,
             kept: VecDeque::new(alloc),
             entries: 0,
             failed: false,
@@ -232,11 +235,11 @@ fn keep(unrouted_items: &mut VecDeque<Metric>, metrics: &[Metric]) -> Result<(),
 }
 
 /// Puts the text of the entries since the last cut, where there are any.
-pub fn note<K: Sink + Drop>(
+pub fn note<K: Sink + Drop, C: Drop>(
     alloc: Global,
     core: &mut Core,
     text: &mut Vec<u8>,
-    journal: &mut JournalJob<K>,
+    journal: &mut JournalJob<K, C>,
 ) -> Result<(), OutOfMemory>
     requires ready { IsReady core.old }
     requires stands { HasJournal core.old }

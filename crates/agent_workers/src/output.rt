@@ -2,6 +2,8 @@
 ghost use Rattle.std.specs.Prelude.{◌&&◌, ◌||◌, true, false};
 ghost use Rattle.std.specs.Prelude.{◌≡◌, ◌≢◌, ◌<◌, ◌≤◌, ◌+◌, ◌-◌, ◌^◌, ℕ, [], Ok, IfOk, OnOk, length, map};
 ghost use Rattle.std.specs.Prelude.{min};
+ghost use Rattle.std.specs.List.{flat_map};
+ghost use Rattle.line_proto.specs.LineText.{line_text};
 ghost use Rattle.pipeline_core.specs.CoreState.{CoreState, lane_at};
 ghost use Rattle.agent_workers.specs.Output.{batch_text, out_of, outs_of, anew, AreOutputs};
 ghost use Rattle.agent_workers.specs.Progress.{SendsAt, SendsOn};
@@ -10,6 +12,7 @@ ghost use Rattle.agent_workers.specs.Running.{HasFlushed, HasSwept, HaveFailed, 
 ghost use Rattle.agent_workers.specs.Running.{buffered_at};
 
 use agent_base::{PutFault, Sink};
+use agent_config::OutFormat;
 use fixed_num::OutOfMemory;
 use line_proto::write_line;
 use metric::Metric;
@@ -18,25 +21,44 @@ use std::alloc::Global;
 
 /// An output of a run.
 #[derive(Drop)]
-pub struct OutJob<K: Drop> {
+pub struct OutJob<K: Drop, C: Drop> {
     /// Its number: its place among the outputs.
     pub output: u32,
     /// Where its batches are put.
     pub sink: K,
-    /// How many of its batches failed in succession since the items of this round were routed, or the run was
-    /// stopped.
+    /// The format of its batches.
+    pub format: OutFormat,
+    /// Its clock, which is asked for no moment yet.
+    pub clock: C,
+    /// How many of its last batches failed; it stands still at its highest number.
     pub failed: u32,
+    /// How many of them failed since the items of this round were routed, or the run was stopped.
+    pub failed_since: u32,
 }
 
-/// The text of a batch, in place of what `out` held: the lines of its metrics, in order.
-pub fn write_batch(alloc: Global, metrics: &[Metric], out: &mut Vec<u8>) -> Result<(), OutOfMemory>
-    ensures ok { OnOk result (out.new.items ≡ batch_text metrics.now) }
+/// Writes the lines of metrics, in order, in place of what `out` held.
+fn write_lines(alloc: Global, metrics: &[Metric], out: &mut Vec<u8>) -> Result<(), OutOfMemory>
+    ensures ok { OnOk result (out.new.items ≡ flat_map line_text metrics.now) }
 {
     out.clear();
     for metric in metrics {
         write_line(alloc, metric, out)?;
     }
     Ok(())
+}
+
+/// The text of a batch in a format, in place of what `out` held.
+pub fn write_batch(
+    alloc: Global,
+    format: OutFormat,
+    metrics: &[Metric],
+    out: &mut Vec<u8>,
+) -> Result<(), OutOfMemory>
+    ensures ok { OnOk result (out.new.items ≡ batch_text format metrics.now) }
+{
+    match format {
+        OutFormat::Influx => write_lines(alloc, metrics, out),
+    }
 }
 
 /// What came of a batch.
@@ -72,22 +94,22 @@ impl Flush {
     }
 }
 
-/// Begins to count anew how many batches of each output failed in succession.
-pub fn begin_anew<K: Sink + Drop>(outputs: &mut [OutJob<K>])
+/// Begins to count anew how many batches of each output failed.
+pub fn begin_anew<K: Sink + Drop, C: Drop>(outputs: &mut [OutJob<K, C>])
     ensures fresh { outs_of K.held K.faults outputs.new ≡ map anew (outs_of K.held K.faults outputs.old) }
     ensures count { length outputs.new ≡ length outputs.old }
 {
     for job in outputs.iter_mut() {
-        job.failed = 0;
+        job.failed_since = 0;
     }
 }
 
 /// Sends the next batch of an output.
-fn send_next<K: Sink + Drop>(
+fn send_next<K: Sink + Drop, C: Drop>(
     alloc: Global,
     core: &mut Core,
     text: &mut Vec<u8>,
-    job: &mut OutJob<K>,
+    job: &mut OutJob<K, C>,
 ) -> Result<Sending, OutOfMemory>
     requires ready { IsReady core.old }
     requires known { job.old.output < length core.old.setup.outputs }
@@ -101,7 +123,7 @@ fn send_next<K: Sink + Drop>(
     ensures fewer { result ≡ Ok Sending.Accepted
         → waiting_at core.new job.old.output < waiting_at core.old job.old.output }
     ensures failed { result ≡ Ok Sending.Failed → (waiting_at core.old job.old.output ≢ 0)
-        × (job.new.failed ≡ min (job.old.failed + 1) (2 ^ 32 - 1)) }
+        × (job.new.failed_since ≡ min (job.old.failed_since + 1) (2 ^ 32 - 1)) }
     ensures number { job.new.output ≡ job.old.output }
     ensures sends { OnOk result
         (SendsAt core.old core.new (out_of K.held K.faults job.old) (out_of K.held K.faults job.new)) }
@@ -112,16 +134,18 @@ fn send_next<K: Sink + Drop>(
         Err(BeginAnswer::InFlight) => return Ok(Sending::Nothing),
         Err(BeginAnswer::NothingWaiting) => return Ok(Sending::Nothing),
     };
-    write_batch(alloc, batch.metrics.as_slice(), text)?;
+    write_batch(alloc, job.format, batch.metrics.as_slice(), text)?;
     match job.sink.put(text) {
         Ok(()) => {
             core.done(job.output, true);
             job.failed = 0;
+            job.failed_since = 0;
             Ok(Sending::Accepted)
         }
         Err(PutFault::Failed) => {
             core.done(job.output, false);
             job.failed = job.failed.saturating_add(1);
+            job.failed_since = job.failed_since.saturating_add(1);
             Ok(Sending::Failed)
         }
         Err(PutFault::OutOfMemory) => Err(OutOfMemory),
@@ -129,11 +153,11 @@ fn send_next<K: Sink + Drop>(
 }
 
 /// Sends batches of an output until nothing waits or a put fails.
-pub fn send_all<K: Sink + Drop>(
+pub fn send_all<K: Sink + Drop, C: Drop>(
     alloc: Global,
     core: &mut Core,
     text: &mut Vec<u8>,
-    job: &mut OutJob<K>,
+    job: &mut OutJob<K, C>,
 ) -> Result<Flush, OutOfMemory>
     requires ready { IsReady core.old }
     requires known { job.old.output < length core.old.setup.outputs }
@@ -143,7 +167,7 @@ pub fn send_all<K: Sink + Drop>(
     ensures kept { OnOk result (IsSentAt job.old.output core.old core.new) }
     ensures stands { StillStands result core.new }
     ensures flushed { IfOk result (λ flush. HasFlushed flush job.old.output core.old core.new
-        job.old.failed job.new.failed) }
+        job.old.failed_since job.new.failed_since) }
     ensures number { job.new.output ≡ job.old.output }
     ensures sends { OnOk result
         (SendsAt core.old core.new (out_of K.held K.faults job.old) (out_of K.held K.faults job.new)) }
@@ -170,11 +194,11 @@ pub fn send_all<K: Sink + Drop>(
 
 /// Sends batches of each output in order, until nothing waits there or a put fails. A failed put of one
 /// output keeps no other from its batches.
-pub fn send_each<K: Sink + Drop>(
+pub fn send_each<K: Sink + Drop, C: Drop>(
     alloc: Global,
     core: &mut Core,
     text: &mut Vec<u8>,
-    outputs: &mut [OutJob<K>],
+    outputs: &mut [OutJob<K, C>],
 ) -> Result<Flush, OutOfMemory>
     requires ready { IsReady core.old }
     requires outputs { AreOutputs (length core.old.setup.outputs) (outs_of K.held K.faults outputs.old) }
@@ -215,11 +239,11 @@ fn tries_after(tries: u32, sweep: Flush, final_tries: u32) -> u32
 /// Sends what is buffered at the end of a run: batches of each output until nothing waits there or a put
 /// fails, again and again until nothing is buffered anywhere, or so many repeats in succession had no batch
 /// accepted at any output.
-pub fn send_rest<K: Sink + Drop>(
+pub fn send_rest<K: Sink + Drop, C: Drop>(
     alloc: Global,
     core: &mut Core,
     text: &mut Vec<u8>,
-    outputs: &mut [OutJob<K>],
+    outputs: &mut [OutJob<K, C>],
     final_tries: u32,
 ) -> Result<(), OutOfMemory>
     requires ready { IsReady core.old }

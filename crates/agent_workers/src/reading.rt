@@ -8,7 +8,7 @@ ghost use Rattle.agent_workers.specs.Reader.{InRule, Says, in_rule, line_says, r
 
 use agent_base::Piece;
 use agent_config::InFormat;
-use fixed_num::{Moment, OutOfMemory, Seq};
+use fixed_num::{Moment, OutOfMemory};
 use line_proto::{LineKind, read_line};
 use metric::{Metric, Text};
 use metric_filter::Filter;
@@ -34,7 +34,7 @@ impl<'a> ReadRule<'a> {
     /// The rule of these parts.
     pub fn new(
         format: InFormat,
-        globals: &'a Seq<(Text, Text)>,
+        globals: &'a [(Text, Text)],
         filter: &'a Filter,
         most: u32,
     ) -> ReadRule<'a>
@@ -44,7 +44,7 @@ impl<'a> ReadRule<'a> {
     {
         ReadRule {
             format,
-            globals: globals.as_slice(),
+            globals,
             filter,
             most,
         }

@@ -1,18 +1,22 @@
 //! What a run and its journal are about.
-ghost use Rattle.std.specs.Prelude.{◌≡◌, ◌≤◌, ℕ, [], false, All, length, map, replicate, IfOk};
-ghost use Rattle.pipeline_core.specs.CoreState.{CoreState, setup_of, sizes};
+ghost use Rattle.std.specs.Prelude.{◌≡◌, ◌≤◌, ℕ, [], false, length, map, replicate, IfOk};
+ghost use Rattle.std.specs.List.{All};
+ghost use Rattle.agent_config.specs.Sound.{HasSizes};
+ghost use Rattle.pipeline_core.specs.CoreState.{CoreState, setup_of};
 ghost use Rattle.pipeline_core.specs.Stands.{Stands};
+ghost use Rattle.agent_workers.specs.Opened.{conf_setup, conf_sizes};
 ghost use Rattle.agent_workers.specs.PipeSetup.{run_setup, journal_setup_of};
 ghost use Rattle.agent_workers.specs.Running.{IsReady, buffered_at};
 
+use agent_config::OutputConf;
 use fixed_num::{Moment, OutOfMemory, Seq};
 use journal_text::JournalSetup;
 use pipeline_core::{Core, CoreSetup, InSetup, OutSetup};
 use std::alloc::Global;
 
 /// The sizes of each output: its batch size and its buffer limit.
-fn sizes_of(alloc: Global, outputs: &[OutSetup]) -> Result<Vec<(u32, u32)>, OutOfMemory>
-    ensures { IfOk result (λ pairs. pairs.items ≡ map sizes outputs.now) }
+fn sizes_of(alloc: Global, outputs: &[OutputConf]) -> Result<Vec<(u32, u32)>, OutOfMemory>
+    ensures { IfOk result (λ pairs. pairs.items ≡ map conf_sizes outputs.now) }
 {
     let mut pairs = Vec::with_capacity(alloc, outputs.len())?;
     for output in outputs {
@@ -21,26 +25,29 @@ fn sizes_of(alloc: Global, outputs: &[OutSetup]) -> Result<Vec<(u32, u32)>, OutO
     Ok(pairs)
 }
 
-/// The same outputs.
-fn copies_of(alloc: Global, outputs: &[OutSetup]) -> Result<Vec<OutSetup>, OutOfMemory>
-    ensures { IfOk result (λ copies. copies.items ≡ outputs.now) }
+/// The set-up of each output.
+fn setups_of(alloc: Global, outputs: &[OutputConf]) -> Result<Vec<OutSetup>, OutOfMemory>
+    ensures { IfOk result (λ setups. setups.items ≡ map conf_setup outputs.now) }
 {
-    let mut copies = Vec::with_capacity(alloc, outputs.len())?;
+    let mut setups = Vec::with_capacity(alloc, outputs.len())?;
     for output in outputs {
-        copies.push(*output)?;
+        setups.push(OutSetup {
+            batch: output.batch,
+            limit: output.limit,
+        })?;
     }
-    Ok(copies)
+    Ok(setups)
 }
 
 /// What the journal is about.
 pub fn journal_setup(
     alloc: Global,
     inputs: usize,
-    outputs: &[OutSetup],
+    outputs: &[OutputConf],
     start: Moment,
 ) -> Result<JournalSetup, OutOfMemory>
     ensures { IfOk result
-        (λ setup. setup ≡ journal_setup_of (run_setup inputs (map sizes outputs.now) start)) }
+        (λ setup. setup ≡ journal_setup_of (run_setup inputs (map conf_sizes outputs.now) start)) }
 {
     Ok(JournalSetup {
         start,
@@ -54,14 +61,14 @@ pub fn journal_setup(
 fn core_setup(
     alloc: Global,
     inputs: usize,
-    outputs: &[OutSetup],
+    outputs: &[OutputConf],
     start: Moment,
 ) -> Result<CoreSetup, OutOfMemory>
     ensures setup { IfOk result
-        (λ setup. setup_of setup ≡ run_setup inputs (map sizes outputs.now) start) }
+        (λ setup. setup_of setup ≡ run_setup inputs (map conf_sizes outputs.now) start) }
     ensures inputs { IfOk result
         (λ setup. setup.inputs ≡ replicate inputs (record { tracked = false; max_undelivered = 0 })) }
-    ensures outputs { IfOk result (λ setup. setup.outputs ≡ outputs.now) }
+    ensures outputs { IfOk result (λ setup. setup.outputs ≡ map conf_setup outputs.now) }
 {
     let plain = InSetup {
         tracked: false,
@@ -69,7 +76,7 @@ fn core_setup(
     };
     Ok(CoreSetup {
         inputs: Seq::of(vec![in alloc; plain; inputs]?),
-        outputs: Seq::of(copies_of(alloc, outputs)?),
+        outputs: Seq::of(setups_of(alloc, outputs)?),
         start,
     })
 }
@@ -78,19 +85,19 @@ fn core_setup(
 pub fn new_core(
     alloc: Global,
     inputs: usize,
-    outputs: &[OutSetup],
+    outputs: &[OutputConf],
     start: Moment,
 ) -> Result<Core, OutOfMemory>
     requires few_inputs { inputs ≤ 16 }
     requires few { length outputs.now ≤ 16 }
-    requires sizes { All (λ x. (1 ≤ x.batch) × (x.batch ≤ x.limit)) outputs.now }
+    requires sizes { All HasSizes outputs.now }
     ensures ready { IfOk result (λ core. IsReady core) }
     ensures reading { IfOk result (λ core. core.ended ≡ replicate inputs false) }
     ensures going { IfOk result (λ core. core.stopped ≡ false) }
     ensures none_raw { IfOk result (λ core. core.raw ≡ []) }
     ensures none_buffered { IfOk result (λ core. (output : ℕ) → buffered_at core output ≡ 0) }
     ensures stands { IfOk result (λ core. Stands core []) }
-    ensures setup { IfOk result (λ core. core.setup ≡ run_setup inputs (map sizes outputs.now) start) }
+    ensures setup { IfOk result (λ core. core.setup ≡ run_setup inputs (map conf_sizes outputs.now) start) }
     ensures stored { IfOk result (λ core. core.stored ≡ []) }
 {
     let setup = core_setup(alloc, inputs, outputs, start)?;

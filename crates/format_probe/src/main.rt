@@ -1,10 +1,12 @@
 //! Shows what texts of a format read as: `format_probe IN OUT` cuts standard input into pieces, reads each in
 //! the format IN at the moment 7, and writes what OUT asks for. `influx` writes the line of each metric,
-//! `graphite` its lines of Graphite, `KIND PLACE` for a piece that is refused, and `TooLong` for one that is
-//! too long; `count` writes nothing of them. The last line says how many pieces, refusals, passed samples and
-//! metrics there were. IN is `influx`, `statsd` or `graphite`; for `graphite` a separator and templates may
-//! follow OUT, without which the separator is `.` and there is no template. The status is 2 where the words
-//! are others or a template is none, and 1 where standard input or output failed or memory was wanting.
+//! `graphite` its lines of Graphite, `openmetrics` an exposition of each 1,000 metrics and of those that are left
+//! at the end, `KIND PLACE` for a piece that is refused, and `TooLong` for one that is too long; `count` writes
+//! nothing of them. The last line says how many pieces, refusals, passed samples and
+//! metrics there were. IN is `influx`, `statsd`, `graphite` or `openmetrics`; for `graphite` a separator and
+//! templates may follow OUT, without which the separator is `.` and there is no template; for `openmetrics`,
+//! whose pieces are expositions, `type_tag` may follow OUT. The status is 2 where the words are others or a
+//! template is none, and 1 where standard input or output failed or memory was wanting.
 #![tactic(auto)]
 
 use agent_base::{CutKind, Piece, PieceFault, Pieces, Sink, Source, StdSink, StdSource};
@@ -12,6 +14,7 @@ use fixed_num::{Moment, OutOfMemory};
 use graphite_text::{GraphiteKind, Template, TemplateFault, write_metric};
 use line_proto::{LineKind, read_line, write_line};
 use metric::Metric;
+use openmetrics_text::{ExpositionKind, read_exposition, write_batch};
 use statsd_text::{StatsdKind, read_packet_line};
 use std::alloc::{AllocError, AllocFailed, Global};
 use std::process::ExitCode;
@@ -23,12 +26,16 @@ const MOMENT: Moment = 7;
 /// The text is put once it has so many bytes.
 const FULL: usize = 65_536;
 
+/// So many metrics make an exposition.
+const BATCH: usize = 1_000;
+
 /// The format of the pieces.
 #[derive(Clone, Copy, Debug, PartialEq, Eq)]
 enum Format {
     Influx,
     Statsd,
     Graphite,
+    Openmetrics,
 }
 
 /// What is written of the pieces.
@@ -36,6 +43,7 @@ enum Format {
 enum Shown {
     Influx,
     Graphite,
+    Openmetrics,
     Nothing,
 }
 
@@ -47,9 +55,12 @@ struct Probe {
     shown: Shown,
     separator: String,
     templates: Vec<Template>,
+    type_tag: bool,
     pieces: u64,
     refused: u64,
+    passed: u64,
     metrics: u64,
+    batch: Vec<Metric>,
     out: Vec<u8>,
 }
 
@@ -71,12 +82,31 @@ impl Probe {
         Ok(())
     }
 
+    /// Writes the exposition of the batch, where there is one.
+    fn write_batch(&mut self) -> Result<(), OutOfMemory> {
+        if !self.batch.is_empty() {
+            write_batch(self.alloc, self.batch.as_slice(), &mut self.out)?;
+            self.batch.clear();
+        }
+        Ok(())
+    }
+
+    /// One more metric for an exposition.
+    fn gather(&mut self, metric: &Metric) -> Result<(), OutOfMemory> {
+        self.batch.push(metric.copy()?)?;
+        if self.batch.len() < BATCH {
+            return Ok(());
+        }
+        self.write_batch()
+    }
+
     /// A piece is a metric.
     fn read(&mut self, metric: &Metric) -> Result<(), OutOfMemory> {
         self.metrics = self.metrics.saturating_add(1);
         match self.shown {
             Shown::Influx => write_line(self.alloc, metric, &mut self.out),
             Shown::Graphite => write_metric(self.alloc, metric, &mut self.out),
+            Shown::Openmetrics => self.gather(metric),
             Shown::Nothing => Ok(()),
         }
     }
@@ -143,6 +173,23 @@ impl Probe {
         }
     }
 
+    /// Reads a piece as an exposition.
+    fn openmetrics(&mut self, piece: &Piece) -> Result<(), OutOfMemory> {
+        match read_exposition(self.alloc, piece.bytes(), MOMENT, self.type_tag) {
+            Ok(exposition) => {
+                self.passed = self.passed.saturating_add(u64::from(exposition.passed));
+                for metric in exposition.metrics.as_slice() {
+                    self.read(metric)?;
+                }
+                Ok(())
+            }
+            Err(fault) => match fault.kind {
+                ExpositionKind::OutOfMemory => Err(OutOfMemory),
+                kind => self.refuse(kind, fault.place),
+            },
+        }
+    }
+
     /// Reads a piece.
     fn piece(&mut self, piece: &Piece) -> Result<(), OutOfMemory> {
         self.pieces = self.pieces.saturating_add(1);
@@ -150,14 +197,16 @@ impl Probe {
             Format::Influx => self.influx(piece),
             Format::Statsd => self.statsd(piece),
             Format::Graphite => self.graphite(piece),
+            Format::Openmetrics => self.openmetrics(piece),
         }
     }
 
-    /// The line of numbers.
+    /// What is left of a batch, and the line of numbers.
     fn finish(&mut self) -> Result<(), OutOfMemory> {
+        self.write_batch()?;
         let words = format!(in self.alloc;
-            "pieces {} refused {} passed 0 metrics {}",
-            self.pieces, self.refused, self.metrics
+            "pieces {} refused {} passed {} metrics {}",
+            self.pieces, self.refused, self.passed, self.metrics
         )?;
         self.line(words.as_str())
     }
@@ -201,7 +250,16 @@ fn format_of(word: &str) -> Option<Format> {
         "influx" => Some(Format::Influx),
         "statsd" => Some(Format::Statsd),
         "graphite" => Some(Format::Graphite),
+        "openmetrics" => Some(Format::Openmetrics),
         _ => None,
+    }
+}
+
+/// How the pieces of a format are cut.
+fn cut_of(format: Format) -> CutKind {
+    match format {
+        Format::Openmetrics => CutKind::Expositions,
+        _ => CutKind::Lines,
     }
 }
 
@@ -210,6 +268,7 @@ fn shown_of(word: &str) -> Option<Shown> {
     match word {
         "influx" => Some(Shown::Influx),
         "graphite" => Some(Shown::Graphite),
+        "openmetrics" => Some(Shown::Openmetrics),
         "count" => Some(Shown::Nothing),
         _ => None,
     }
@@ -276,24 +335,41 @@ fn probe_of(
         shown,
         separator: String::from_str(alloc, separator)?,
         templates,
+        type_tag: false,
         pieces: 0,
         refused: 0,
+        passed: 0,
         metrics: 0,
+        batch: Vec::new(alloc),
         out: Vec::new(alloc),
     })
 }
 
-/// The probe that the words of the command ask for. A separator and templates are words of `graphite` alone.
+/// The probe of expositions, whose metrics have the tag of their type.
+fn typed_probe(alloc: Global, shown: &str) -> Result<Probe, Unmade> {
+    let mut probe = probe_of(alloc, "openmetrics", shown, ".", &[])?;
+    probe.type_tag = true;
+    Ok(probe)
+}
+
+/// The probe that the words of the command ask for. A separator and templates are words of `graphite` alone, and
+/// `type_tag` is one of `openmetrics`.
 fn asked(alloc: Global, words: &[String]) -> Result<Probe, Unmade> {
     match words {
         [format, shown] => probe_of(alloc, format.as_str(), shown.as_str(), ".", &[]),
-        [format, shown, separator, templates @ ..] => {
-            if format.as_str() != "graphite" {
-                return Err(Unmade::Words);
+        [format, shown, word, templates @ ..] => match format.as_str() {
+            "graphite" => {
+                let separator = word.as_str();
+                probe_of(alloc, "graphite", shown.as_str(), separator, templates)
             }
-            let separator = separator.as_str();
-            probe_of(alloc, format.as_str(), shown.as_str(), separator, templates)
-        }
+            "openmetrics" => {
+                if word.as_str() != "type_tag" || !templates.is_empty() {
+                    return Err(Unmade::Words);
+                }
+                typed_probe(alloc, shown.as_str())
+            }
+            _ => Err(Unmade::Words),
+        },
         _ => Err(Unmade::Words),
     }
 }
@@ -313,7 +389,7 @@ fn main(rt: HostRuntime) -> ExitCode {
         Err(Unmade::Words) => return ExitCode::from(2),
         Err(Unmade::OutOfMemory) => return ExitCode::from(1),
     };
-    let Ok(mut pieces) = Pieces::new(alloc, CutKind::Lines) else {
+    let Ok(mut pieces) = Pieces::new(alloc, cut_of(probe.format)) else {
         return ExitCode::from(1);
     };
     let mut source = StdSource::new(rt.stdin());

@@ -18,6 +18,10 @@ mod metric_glob_tests;
 #[cfg(test)]
 mod metric_tests;
 #[cfg(test)]
+mod openmetrics_text_tests;
+#[cfg(test)]
+mod openmetrics_text_write_tests;
+#[cfg(test)]
 mod statsd_text_tests;
 #[cfg(test)]
 mod text_parts_tests;

@@ -3,7 +3,7 @@ use Rattle.std.proofs.lemmas.List.{length-map, map-set}
 use Rattle.agent_workers.specs.Inputs.{InPart, FitsInput, in_of, ins_of, AreInputs, AreSameInputs, OneIsFull, IsSameInput}
 use Rattle.agent_workers.specs.Progress.{GathersTo}
 use Rattle.agent_workers.specs.Running.{IsGatheredAt}
-use Rattle.agent_workers.proofs.InLemmas.{fits_here, input_number, input_here, inputs_set, inputs_themselves, same_set, gathered_none, gathered_then, gathers_then, gathers_on, gathers_nothing, one_is_full}
+use Rattle.agent_workers.proofs.InLemmas.{fits_here, input_number, input_here, inputs_set, inputs_themselves, same_set, gathered_none, gathered_then, gathers_then, gathers_on, gathers_nothing, one_is_full, HasTurned, turned_none, turned_more, idles_out}
 use Rattle.agent_workers.proofs.input.gather_each.Goals as goal
 
 pub turn-requires-clause-fits : goal.turn-requires-clause-fits
@@ -21,6 +21,7 @@ loop-job-init g c = record {
   kept = gathered_none c.args.core.now;
   inputs = c.requires.inputs;
   same = inputs_themselves (ins_of g.S.Source.left g.S.Source.faults g.C.Clock.moments g.C.Clock.place c.args.inputs.now);
+  turned = turned_none c.args.core.now (ins_of g.S.Source.left g.S.Source.faults g.C.Clock.moments g.C.Clock.place c.args.inputs.now);
   gathers = gathers_nothing c.args.core.now (ins_of g.S.Source.left g.S.Source.faults g.C.Clock.moments g.C.Clock.place c.args.inputs.now);
 }
 
@@ -52,6 +53,7 @@ loop-job-preserved g c =
       kept = gathered_then c.args.core.now c.loop-job.core c.turn.new.core c.loop-job.invariant.kept kept.kept;
       inputs = inputs;
       same = same;
+      turned = subst (HasTurned (i + 1) c.args.core.now c.turn.new.core) (sym are) (turned_more i c.args.core.now c.loop-job.core c.turn.new.core ins new l c.loop-job.invariant.kept kept.kept (turned.moved c.if-branch.false) c.loop-job.invariant.turned);
       gathers = gathers;
     }
 
@@ -154,3 +156,8 @@ returns-clause-gathers g c =
     let ins : List InPart = ins_of g.S.Source.left g.S.Source.faults g.C.Clock.moments g.C.Clock.place c.loop-job.inputs in
     let all : length firsts ≡ c.loop-job.job-index = omega (arith, length-map c.args.inputs.now (in_of g.S.Source.left g.S.Source.faults g.C.Clock.moments g.C.Clock.place), c.loop-job-test.false, c.loop-job.auto.job-index-end, c.loop-job.auto.inputs) in
     subst (λ (n : ℕ). GathersTo n c.args.core.now c.loop-job.core firsts ins) (sym all) c.loop-job.invariant.gathers
+
+pub returns-clause-idle : goal.returns-clause-idle
+returns-clause-idle g c = λ not_full.
+    let ins : List InPart = ins_of g.S.Source.left g.S.Source.faults g.C.Clock.moments g.C.Clock.place c.loop-job.inputs in
+    idles_out c.loop-job.job-index c.args.core.now c.loop-job.core ins (omega (arith, length-map c.loop-job.inputs (in_of g.S.Source.left g.S.Source.faults g.C.Clock.moments g.C.Clock.place), c.loop-job-test.false, c.loop-job.auto.inputs, c.loop-job.auto.job-index-end)) c.loop-job.invariant.turned

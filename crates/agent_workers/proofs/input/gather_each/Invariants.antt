@@ -2,6 +2,7 @@ use Rattle.std.proofs.Common.{◌≡◌, false, length}
 use Rattle.agent_workers.specs.Inputs.{ins_of, AreInputs, AreSameInputs}
 use Rattle.agent_workers.specs.Progress.{GathersTo}
 use Rattle.agent_workers.specs.Running.{IsReady, HasJournal, IsGathered}
+use Rattle.agent_workers.proofs.InLemmas.{HasTurned}
 use Rattle.agent_workers.proofs.input.gather_each.Given as goal
 
 abbrev pub invariant-loop-job : goal.invariant-loop-job
@@ -12,5 +13,6 @@ invariant-loop-job g l = record {
   kept : IsGathered l.fn.core l.core;
   inputs : AreInputs (length l.fn.core.setup.inputs) l.core.ended (ins_of g.S.Source.left g.S.Source.faults g.C.Clock.moments g.C.Clock.place l.inputs);
   same : AreSameInputs (ins_of g.S.Source.left g.S.Source.faults g.C.Clock.moments g.C.Clock.place l.fn.inputs) (ins_of g.S.Source.left g.S.Source.faults g.C.Clock.moments g.C.Clock.place l.inputs);
+  turned : HasTurned l.job-index l.fn.core l.core (ins_of g.S.Source.left g.S.Source.faults g.C.Clock.moments g.C.Clock.place l.inputs);
   gathers : GathersTo l.job-index l.fn.core l.core (ins_of g.S.Source.left g.S.Source.faults g.C.Clock.moments g.C.Clock.place l.fn.inputs) (ins_of g.S.Source.left g.S.Source.faults g.C.Clock.moments g.C.Clock.place l.inputs);
 }

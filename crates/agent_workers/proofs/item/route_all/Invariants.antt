@@ -4,4 +4,4 @@ use Rattle.agent_workers.specs.Running.{IsReady, IsRoutable, HasJournal}
 use Rattle.agent_workers.proofs.item.route_all.Given as goal
 
 abbrev pub invariant-loop-taken : goal.invariant-loop-taken
-invariant-loop-taken l = record { ready : IsReady l.core; kept : IsRoutable l.fn.core l.core; stands : HasJournal l.core; goes : GoesOn (views_by l.filters) l.fn.core l.core }
+invariant-loop-taken l = record { ready : IsReady l.core; kept : IsRoutable l.fn.core l.core; stands : HasJournal l.core; goes : GoesOn (views_by l.confs) l.fn.core l.core }

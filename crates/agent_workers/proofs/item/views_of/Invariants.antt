@@ -3,5 +3,5 @@ use Rattle.pipeline_core.specs.Worked.{views_of}
 use Rattle.agent_workers.specs.Reader.{views_by}
 use Rattle.agent_workers.proofs.item.views_of.Given as goal
 
-abbrev pub invariant-loop-filter : goal.invariant-loop-filter
-invariant-loop-filter l = l.views.items ≡ views_of (views_by (take l.filter-index l.filters)) l.metric
+abbrev pub invariant-loop-conf : goal.invariant-loop-conf
+invariant-loop-conf l = l.views.items ≡ views_of (views_by (take l.conf-index l.confs)) l.metric

@@ -39,5 +39,5 @@ pub returns-in-Failed-clause-flushed : goal.returns-in-Failed-clause-flushed
 returns-in-Failed-clause-flushed g c =
     let is : c.send_next.result ≡ Ok sendings.Failed = search rules in
     let came = c.send_next.ensures.failed is in
-    flushed_failed c.loop-batch.batch c.args.job.now.output c.args.core.now c.loop-batch.core c.send_next.new.core c.args.job.now.failed c.loop-batch.job.failed c.send_next.new.job.failed
+    flushed_failed c.loop-batch.batch c.args.job.now.output c.args.core.now c.loop-batch.core c.send_next.new.core c.args.job.now.failed_since c.loop-batch.job.failed_since c.send_next.new.job.failed_since
     (subst (λ (o : ℕ). waiting_at c.loop-batch.core o ≢ 0) c.loop-batch.invariant.number came.0) came.1 c.loop-batch.invariant.first c.loop-batch.invariant.waits

@@ -9,7 +9,7 @@ invariant-loop-batch g l = record {
   ready : IsReady l.core;
   kept : IsSentAt l.fn.job.output l.fn.core l.core;
   stands : HasJournal l.core;
-  first : l.batch ≡ 0 → l.job.failed ≡ l.fn.job.failed;
+  first : l.batch ≡ 0 → l.job.failed_since ≡ l.fn.job.failed_since;
   waits : l.batch ≡ 0 → waiting_at l.core l.fn.job.output ≡ waiting_at l.fn.core l.fn.job.output;
   number : l.job.output ≡ l.fn.job.output;
   sends : SendsAt l.fn.core l.core (out_of g.K.Sink.held g.K.Sink.faults l.fn.job) (out_of g.K.Sink.held g.K.Sink.faults l.job);

@@ -4,7 +4,7 @@ use Rattle.account.specs.Setup.{Setup}
 use Rattle.agent_workers.specs.Output.{outs_of, out_of, AreOutputs}
 use Rattle.agent_workers.proofs.OutLemmas.{sent_on}
 use Rattle.agent_workers.proofs.SendSteps.{sends_then}
-use Rattle.agent_workers.proofs.SweepLemmas.{failed_next}
+use Rattle.agent_workers.proofs.SweepLemmas.{failed_next, left_none}
 use Rattle.agent_workers.proofs.output.send_rest.Goals as goal
 
 pub returns-then-sweep-clause-sends : goal.returns-then-sweep-clause-sends
@@ -41,3 +41,9 @@ loop-repeat-preserved g c =
       failed = next.0;
       sends = sends_then c.args.core.now c.loop-repeat.core c.send_each.new.core (outs_of g.K.Sink.held g.K.Sink.faults c.args.outputs.now) (outs_of g.K.Sink.held g.K.Sink.faults c.loop-repeat.outputs) (outs_of g.K.Sink.held g.K.Sink.faults c.send_each.new.outputs) c.loop-repeat.invariant.sends c.in_ok-sweep.ensures.sends;
     }
+
+pub returns-then-sweep-clause-rest : goal.returns-then-sweep-clause-rest
+returns-then-sweep-clause-rest g c =
+    let same : length (outs_of g.K.Sink.held g.K.Sink.faults c.send_each.new.outputs) ≡ length (outs_of g.K.Sink.held g.K.Sink.faults c.loop-repeat.outputs) =
+    length-map c.send_each.new.outputs (out_of g.K.Sink.held g.K.Sink.faults) ∙ c.send_each.ensures.count ∙ omega (arith, length-map c.loop-repeat.outputs (out_of g.K.Sink.held g.K.Sink.faults)) in
+    left_none c.args.final_tries c.in_ok-sweep.sweep c.loop-repeat.core c.send_each.new.core (outs_of g.K.Sink.held g.K.Sink.faults c.loop-repeat.outputs) (outs_of g.K.Sink.held g.K.Sink.faults c.send_each.new.outputs) same c.if-sweep.true c.in_ok-sweep.ensures.swept

@@ -8,7 +8,7 @@ use Rattle.account.specs.Setup.{Setup}
 use Rattle.agent_base.specs.Clocked.{last_of}
 use Rattle.agent_workers.specs.Finished.{ClockRun}
 use Rattle.agent_workers.specs.Inputs.{InPart, ins_of, AreInputs, AreOut, OneIsFull}
-use Rattle.agent_workers.specs.Output.{OutPart, outs_of}
+use Rattle.agent_workers.specs.Output.{OutPart, outs_of, AreOutputs}
 use Rattle.agent_workers.specs.Noted.{JournalPart, part_of}
 use Rattle.agent_workers.specs.PipeSetup.{journal_setup_of}
 use Rattle.agent_workers.specs.Progress.{Beginning, Surroundings}
@@ -19,7 +19,7 @@ use Rattle.agent_workers.proofs.serial.finish_jobs.Goals as goal
 
 pub returns-clause-finished : goal.returns-clause-finished
 returns-clause-finished g c = λ start now starts_count outs_count settled w.
-    let begun : Beginning = record start { views = views_by c.args.filters.now } in
+    let begun : Beginning = record start { views = views_by c.args.confs.now } in
     let moment = to_z w64 (of_z w64 c.now-moment.result) in
     let same_moment : moment ≡ c.now-moment.result = to_z-of_z w64 c.now-moment.result (search rules) in
     let ins : List InPart = ins_of g.S.Source.left g.S.Source.faults g.C.Clock.moments g.C.Clock.place c.rounds.new.inputs in
@@ -41,6 +41,7 @@ returns-clause-finished g c = λ start now starts_count outs_count settled w.
     finished begun c.args.final_tries last (record here { counted_at = counted }) stopped
     c.in_ok-stop_run.ensures.stopped c.in_ok-stop_run.ensures.none_raw c.in_ok-stop_run.ensures.ready.empty_handed
     (starts_count ∙ w.in_count) (outs_count ∙ w.out_count) c.in_ok-stop_run.ensures.rest
-    c.rounds.new.core.ended (subst (λ (k : ℕ). AreInputs k c.rounds.new.core.ended ins) number c.in_ok-rounds.ensures.inputs) over
+    c.rounds.new.core.ended (subst (λ (k : ℕ). AreInputs k c.rounds.new.core.ended ins) number c.in_ok-rounds.ensures.inputs)
+    (subst (λ (k : ℕ). AreOutputs k outs) (ap (λ (s : Setup). length s.outputs) (c.in_ok-rounds.ensures.setup ∙ w.text.setup_is)) c.in_ok-stop_run.ensures.outputs) over
     _ c.end_journal.new.core after now.counted_at timer moment c.in_ok-account.ensures.cut (rw same_moment c.now-moment.ensures.gives) refl
     c.has_limit.ensures c.has_fault.ensures c.in_ok-account.ensures.left c.in_ok-account.ensures.account put_so

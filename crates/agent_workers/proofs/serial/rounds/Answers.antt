@@ -44,7 +44,7 @@ loop-round-preserved g c =
     let same = same_inputs (ins_of g.S.Source.left g.S.Source.faults g.C.Clock.moments g.C.Clock.place c.args.inputs.now) (ins_of g.S.Source.left g.S.Source.faults g.C.Clock.moments g.C.Clock.place c.loop-round.inputs) (ins_of g.S.Source.left g.S.Source.faults g.C.Clock.moments g.C.Clock.place c.gather_each.new.inputs) c.loop-round.invariant.same c.in_ok-full.ensures.same in
     let outputs = subst (λ (n : ℕ). AreOutputs n (outs_of g.K.Sink.held g.K.Sink.faults c.send_each.new.outputs)) (ap (λ (s : Setup). length s.outputs) (routed.setup ∙ gathered.setup ∙ c.loop-round.invariant.setup)) c.in_ok-send_each.ensures.outputs in
     let runs =
-    runs_more (views_by c.args.filters.now) c.args.core.now c.loop-round.core c.gather_each.new.core c.route_all.new.core c.send_each.new.core c.note.new.core
+    runs_more (views_by c.args.confs.now) c.args.core.now c.loop-round.core c.gather_each.new.core c.route_all.new.core c.send_each.new.core c.note.new.core
     (ins_of g.S.Source.left g.S.Source.faults g.C.Clock.moments g.C.Clock.place c.args.inputs.now) (ins_of g.S.Source.left g.S.Source.faults g.C.Clock.moments g.C.Clock.place c.loop-round.inputs) (ins_of g.S.Source.left g.S.Source.faults g.C.Clock.moments g.C.Clock.place c.gather_each.new.inputs)
     (outs_of g.K.Sink.held g.K.Sink.faults c.args.outputs.now) (outs_of g.K.Sink.held g.K.Sink.faults c.loop-round.outputs) (outs_of g.K.Sink.held g.K.Sink.faults c.begin_anew.new.outputs) (outs_of g.K.Sink.held g.K.Sink.faults c.send_each.new.outputs)
     (part_of g.K.Sink.held g.K.Sink.faults c.args.journal.now) (part_of g.K.Sink.held g.K.Sink.faults c.loop-round.journal) (part_of g.K.Sink.held g.K.Sink.faults c.note.new.journal)
@@ -78,7 +78,7 @@ returns-then-is_over-clause-inputs g c =
     let same = same_inputs (ins_of g.S.Source.left g.S.Source.faults g.C.Clock.moments g.C.Clock.place c.args.inputs.now) (ins_of g.S.Source.left g.S.Source.faults g.C.Clock.moments g.C.Clock.place c.loop-round.inputs) (ins_of g.S.Source.left g.S.Source.faults g.C.Clock.moments g.C.Clock.place c.gather_each.new.inputs) c.loop-round.invariant.same c.in_ok-full.ensures.same in
     let outputs = subst (λ (n : ℕ). AreOutputs n (outs_of g.K.Sink.held g.K.Sink.faults c.send_each.new.outputs)) (ap (λ (s : Setup). length s.outputs) (routed.setup ∙ gathered.setup ∙ c.loop-round.invariant.setup)) c.in_ok-send_each.ensures.outputs in
     let runs =
-    runs_more (views_by c.args.filters.now) c.args.core.now c.loop-round.core c.gather_each.new.core c.route_all.new.core c.send_each.new.core c.note.new.core
+    runs_more (views_by c.args.confs.now) c.args.core.now c.loop-round.core c.gather_each.new.core c.route_all.new.core c.send_each.new.core c.note.new.core
     (ins_of g.S.Source.left g.S.Source.faults g.C.Clock.moments g.C.Clock.place c.args.inputs.now) (ins_of g.S.Source.left g.S.Source.faults g.C.Clock.moments g.C.Clock.place c.loop-round.inputs) (ins_of g.S.Source.left g.S.Source.faults g.C.Clock.moments g.C.Clock.place c.gather_each.new.inputs)
     (outs_of g.K.Sink.held g.K.Sink.faults c.args.outputs.now) (outs_of g.K.Sink.held g.K.Sink.faults c.loop-round.outputs) (outs_of g.K.Sink.held g.K.Sink.faults c.begin_anew.new.outputs) (outs_of g.K.Sink.held g.K.Sink.faults c.send_each.new.outputs)
     (part_of g.K.Sink.held g.K.Sink.faults c.args.journal.now) (part_of g.K.Sink.held g.K.Sink.faults c.loop-round.journal) (part_of g.K.Sink.held g.K.Sink.faults c.note.new.journal)
@@ -100,7 +100,7 @@ returns-then-is_over-clause-same g c =
     let same = same_inputs (ins_of g.S.Source.left g.S.Source.faults g.C.Clock.moments g.C.Clock.place c.args.inputs.now) (ins_of g.S.Source.left g.S.Source.faults g.C.Clock.moments g.C.Clock.place c.loop-round.inputs) (ins_of g.S.Source.left g.S.Source.faults g.C.Clock.moments g.C.Clock.place c.gather_each.new.inputs) c.loop-round.invariant.same c.in_ok-full.ensures.same in
     let outputs = subst (λ (n : ℕ). AreOutputs n (outs_of g.K.Sink.held g.K.Sink.faults c.send_each.new.outputs)) (ap (λ (s : Setup). length s.outputs) (routed.setup ∙ gathered.setup ∙ c.loop-round.invariant.setup)) c.in_ok-send_each.ensures.outputs in
     let runs =
-    runs_more (views_by c.args.filters.now) c.args.core.now c.loop-round.core c.gather_each.new.core c.route_all.new.core c.send_each.new.core c.note.new.core
+    runs_more (views_by c.args.confs.now) c.args.core.now c.loop-round.core c.gather_each.new.core c.route_all.new.core c.send_each.new.core c.note.new.core
     (ins_of g.S.Source.left g.S.Source.faults g.C.Clock.moments g.C.Clock.place c.args.inputs.now) (ins_of g.S.Source.left g.S.Source.faults g.C.Clock.moments g.C.Clock.place c.loop-round.inputs) (ins_of g.S.Source.left g.S.Source.faults g.C.Clock.moments g.C.Clock.place c.gather_each.new.inputs)
     (outs_of g.K.Sink.held g.K.Sink.faults c.args.outputs.now) (outs_of g.K.Sink.held g.K.Sink.faults c.loop-round.outputs) (outs_of g.K.Sink.held g.K.Sink.faults c.begin_anew.new.outputs) (outs_of g.K.Sink.held g.K.Sink.faults c.send_each.new.outputs)
     (part_of g.K.Sink.held g.K.Sink.faults c.args.journal.now) (part_of g.K.Sink.held g.K.Sink.faults c.loop-round.journal) (part_of g.K.Sink.held g.K.Sink.faults c.note.new.journal)
@@ -122,7 +122,7 @@ returns-then-is_over-clause-outputs g c =
     let same = same_inputs (ins_of g.S.Source.left g.S.Source.faults g.C.Clock.moments g.C.Clock.place c.args.inputs.now) (ins_of g.S.Source.left g.S.Source.faults g.C.Clock.moments g.C.Clock.place c.loop-round.inputs) (ins_of g.S.Source.left g.S.Source.faults g.C.Clock.moments g.C.Clock.place c.gather_each.new.inputs) c.loop-round.invariant.same c.in_ok-full.ensures.same in
     let outputs = subst (λ (n : ℕ). AreOutputs n (outs_of g.K.Sink.held g.K.Sink.faults c.send_each.new.outputs)) (ap (λ (s : Setup). length s.outputs) (routed.setup ∙ gathered.setup ∙ c.loop-round.invariant.setup)) c.in_ok-send_each.ensures.outputs in
     let runs =
-    runs_more (views_by c.args.filters.now) c.args.core.now c.loop-round.core c.gather_each.new.core c.route_all.new.core c.send_each.new.core c.note.new.core
+    runs_more (views_by c.args.confs.now) c.args.core.now c.loop-round.core c.gather_each.new.core c.route_all.new.core c.send_each.new.core c.note.new.core
     (ins_of g.S.Source.left g.S.Source.faults g.C.Clock.moments g.C.Clock.place c.args.inputs.now) (ins_of g.S.Source.left g.S.Source.faults g.C.Clock.moments g.C.Clock.place c.loop-round.inputs) (ins_of g.S.Source.left g.S.Source.faults g.C.Clock.moments g.C.Clock.place c.gather_each.new.inputs)
     (outs_of g.K.Sink.held g.K.Sink.faults c.args.outputs.now) (outs_of g.K.Sink.held g.K.Sink.faults c.loop-round.outputs) (outs_of g.K.Sink.held g.K.Sink.faults c.begin_anew.new.outputs) (outs_of g.K.Sink.held g.K.Sink.faults c.send_each.new.outputs)
     (part_of g.K.Sink.held g.K.Sink.faults c.args.journal.now) (part_of g.K.Sink.held g.K.Sink.faults c.loop-round.journal) (part_of g.K.Sink.held g.K.Sink.faults c.note.new.journal)
@@ -144,7 +144,7 @@ returns-then-is_over-clause-runs g c =
     let same = same_inputs (ins_of g.S.Source.left g.S.Source.faults g.C.Clock.moments g.C.Clock.place c.args.inputs.now) (ins_of g.S.Source.left g.S.Source.faults g.C.Clock.moments g.C.Clock.place c.loop-round.inputs) (ins_of g.S.Source.left g.S.Source.faults g.C.Clock.moments g.C.Clock.place c.gather_each.new.inputs) c.loop-round.invariant.same c.in_ok-full.ensures.same in
     let outputs = subst (λ (n : ℕ). AreOutputs n (outs_of g.K.Sink.held g.K.Sink.faults c.send_each.new.outputs)) (ap (λ (s : Setup). length s.outputs) (routed.setup ∙ gathered.setup ∙ c.loop-round.invariant.setup)) c.in_ok-send_each.ensures.outputs in
     let runs =
-    runs_more (views_by c.args.filters.now) c.args.core.now c.loop-round.core c.gather_each.new.core c.route_all.new.core c.send_each.new.core c.note.new.core
+    runs_more (views_by c.args.confs.now) c.args.core.now c.loop-round.core c.gather_each.new.core c.route_all.new.core c.send_each.new.core c.note.new.core
     (ins_of g.S.Source.left g.S.Source.faults g.C.Clock.moments g.C.Clock.place c.args.inputs.now) (ins_of g.S.Source.left g.S.Source.faults g.C.Clock.moments g.C.Clock.place c.loop-round.inputs) (ins_of g.S.Source.left g.S.Source.faults g.C.Clock.moments g.C.Clock.place c.gather_each.new.inputs)
     (outs_of g.K.Sink.held g.K.Sink.faults c.args.outputs.now) (outs_of g.K.Sink.held g.K.Sink.faults c.loop-round.outputs) (outs_of g.K.Sink.held g.K.Sink.faults c.begin_anew.new.outputs) (outs_of g.K.Sink.held g.K.Sink.faults c.send_each.new.outputs)
     (part_of g.K.Sink.held g.K.Sink.faults c.args.journal.now) (part_of g.K.Sink.held g.K.Sink.faults c.loop-round.journal) (part_of g.K.Sink.held g.K.Sink.faults c.note.new.journal)
@@ -166,7 +166,7 @@ returns-then-is_over-clause-setup g c =
     let same = same_inputs (ins_of g.S.Source.left g.S.Source.faults g.C.Clock.moments g.C.Clock.place c.args.inputs.now) (ins_of g.S.Source.left g.S.Source.faults g.C.Clock.moments g.C.Clock.place c.loop-round.inputs) (ins_of g.S.Source.left g.S.Source.faults g.C.Clock.moments g.C.Clock.place c.gather_each.new.inputs) c.loop-round.invariant.same c.in_ok-full.ensures.same in
     let outputs = subst (λ (n : ℕ). AreOutputs n (outs_of g.K.Sink.held g.K.Sink.faults c.send_each.new.outputs)) (ap (λ (s : Setup). length s.outputs) (routed.setup ∙ gathered.setup ∙ c.loop-round.invariant.setup)) c.in_ok-send_each.ensures.outputs in
     let runs =
-    runs_more (views_by c.args.filters.now) c.args.core.now c.loop-round.core c.gather_each.new.core c.route_all.new.core c.send_each.new.core c.note.new.core
+    runs_more (views_by c.args.confs.now) c.args.core.now c.loop-round.core c.gather_each.new.core c.route_all.new.core c.send_each.new.core c.note.new.core
     (ins_of g.S.Source.left g.S.Source.faults g.C.Clock.moments g.C.Clock.place c.args.inputs.now) (ins_of g.S.Source.left g.S.Source.faults g.C.Clock.moments g.C.Clock.place c.loop-round.inputs) (ins_of g.S.Source.left g.S.Source.faults g.C.Clock.moments g.C.Clock.place c.gather_each.new.inputs)
     (outs_of g.K.Sink.held g.K.Sink.faults c.args.outputs.now) (outs_of g.K.Sink.held g.K.Sink.faults c.loop-round.outputs) (outs_of g.K.Sink.held g.K.Sink.faults c.begin_anew.new.outputs) (outs_of g.K.Sink.held g.K.Sink.faults c.send_each.new.outputs)
     (part_of g.K.Sink.held g.K.Sink.faults c.args.journal.now) (part_of g.K.Sink.held g.K.Sink.faults c.loop-round.journal) (part_of g.K.Sink.held g.K.Sink.faults c.note.new.journal)
@@ -188,7 +188,7 @@ returns-then-is_over-clause-over g c =
     let same = same_inputs (ins_of g.S.Source.left g.S.Source.faults g.C.Clock.moments g.C.Clock.place c.args.inputs.now) (ins_of g.S.Source.left g.S.Source.faults g.C.Clock.moments g.C.Clock.place c.loop-round.inputs) (ins_of g.S.Source.left g.S.Source.faults g.C.Clock.moments g.C.Clock.place c.gather_each.new.inputs) c.loop-round.invariant.same c.in_ok-full.ensures.same in
     let outputs = subst (λ (n : ℕ). AreOutputs n (outs_of g.K.Sink.held g.K.Sink.faults c.send_each.new.outputs)) (ap (λ (s : Setup). length s.outputs) (routed.setup ∙ gathered.setup ∙ c.loop-round.invariant.setup)) c.in_ok-send_each.ensures.outputs in
     let runs =
-    runs_more (views_by c.args.filters.now) c.args.core.now c.loop-round.core c.gather_each.new.core c.route_all.new.core c.send_each.new.core c.note.new.core
+    runs_more (views_by c.args.confs.now) c.args.core.now c.loop-round.core c.gather_each.new.core c.route_all.new.core c.send_each.new.core c.note.new.core
     (ins_of g.S.Source.left g.S.Source.faults g.C.Clock.moments g.C.Clock.place c.args.inputs.now) (ins_of g.S.Source.left g.S.Source.faults g.C.Clock.moments g.C.Clock.place c.loop-round.inputs) (ins_of g.S.Source.left g.S.Source.faults g.C.Clock.moments g.C.Clock.place c.gather_each.new.inputs)
     (outs_of g.K.Sink.held g.K.Sink.faults c.args.outputs.now) (outs_of g.K.Sink.held g.K.Sink.faults c.loop-round.outputs) (outs_of g.K.Sink.held g.K.Sink.faults c.begin_anew.new.outputs) (outs_of g.K.Sink.held g.K.Sink.faults c.send_each.new.outputs)
     (part_of g.K.Sink.held g.K.Sink.faults c.args.journal.now) (part_of g.K.Sink.held g.K.Sink.faults c.loop-round.journal) (part_of g.K.Sink.held g.K.Sink.faults c.note.new.journal)

@@ -19,5 +19,5 @@ invariant-loop-round g l = record {
   in_count : length l.inputs ≡ length l.fn.inputs;
   count : length l.outputs ≡ length l.fn.outputs;
   same : AreSameInputs (ins_of g.S.Source.left g.S.Source.faults g.C.Clock.moments g.C.Clock.place l.fn.inputs) (ins_of g.S.Source.left g.S.Source.faults g.C.Clock.moments g.C.Clock.place l.inputs);
-  runs : RunsOn (views_by l.filters) l.fn.core l.core (ins_of g.S.Source.left g.S.Source.faults g.C.Clock.moments g.C.Clock.place l.fn.inputs) (ins_of g.S.Source.left g.S.Source.faults g.C.Clock.moments g.C.Clock.place l.inputs) (outs_of g.K.Sink.held g.K.Sink.faults l.fn.outputs) (outs_of g.K.Sink.held g.K.Sink.faults l.outputs) (part_of g.K.Sink.held g.K.Sink.faults l.fn.journal) (part_of g.K.Sink.held g.K.Sink.faults l.journal);
+  runs : RunsOn (views_by l.confs) l.fn.core l.core (ins_of g.S.Source.left g.S.Source.faults g.C.Clock.moments g.C.Clock.place l.fn.inputs) (ins_of g.S.Source.left g.S.Source.faults g.C.Clock.moments g.C.Clock.place l.inputs) (outs_of g.K.Sink.held g.K.Sink.faults l.fn.outputs) (outs_of g.K.Sink.held g.K.Sink.faults l.outputs) (part_of g.K.Sink.held g.K.Sink.faults l.fn.journal) (part_of g.K.Sink.held g.K.Sink.faults l.journal);
 }

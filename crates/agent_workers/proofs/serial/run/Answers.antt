@@ -1,22 +1,87 @@
-use Rattle.std.proofs.Common.{◌≡◌, ℕ, ap, subst, length, rules}
-use Rattle.std.specs.Prelude.{map}
-use Rattle.pipeline_core.specs.CoreState.{sizes}
+use Rattle.std.proofs.Common.{◌≡◌, ◌≤◌, ◌∙◌, ℕ, List, length, sym, ap, subst, arith, rules}
 use Rattle.std.proofs.lemmas.Int.{to_z-of_z}
+use Rattle.std.proofs.lemmas.List.{length-map}
 use mir.Syntax.{w64}
 use mir.Val.{of_z, to_z}
+use Rattle.std.specs.Prelude.{map}
 use Rattle.agent_base.specs.Moments.{Gives}
-use Rattle.agent_workers.specs.Run.{change}
-use Rattle.agent_workers.specs.Reader.{views_by}
-use Rattle.agent_workers.proofs.RanLemmas.{ran_as}
+use Rattle.agent_workers.specs.Finished.{ClockRun}
+use Rattle.agent_workers.specs.Inputs.{InPart, in_of, ins_of}
+use Rattle.agent_workers.specs.Noted.{part_of}
+use Rattle.agent_workers.specs.Output.{OutPart, out_of, outs_of}
+use Rattle.agent_workers.specs.Opened.{Carried, all_carried, all_timed, carried_of, timed_of, in_carried, out_carried}
+use Rattle.agent_workers.proofs.OpenedLemmas.{ins_count, outs_count, ran_with, sinks_change}
 use Rattle.agent_workers.proofs.serial.run.Goals as goal
 
-pub run_from-ran-requires-clause-first : goal.run_from-ran-requires-clause-first
-run_from-ran-requires-clause-first g c =
-    let same : to_z w64 (of_z w64 c.now-start.result) ≡ c.now-start.result = to_z-of_z w64 c.now-start.result (search rules) in
-    rw (same, c.now-start.ensures.list) (subst (λ (p : ℕ). Gives (g.C.Clock.moments c.args.clock.now) p (g.C.Clock.place c.now-start.new.self) c.now-start.result) c.requires.first c.now-start.ensures.gives)
+pub take_apart-journal-requires-clause-source_room : goal.take_apart-journal-requires-clause-source_room
+take_apart-journal-requires-clause-source_room g c =
+    let sources : length (all_carried g.S.Source.left g.S.Source.faults c.args.opened.inputs.items) ≡ length c.args.config.now.inputs = omega (arith, length-map c.args.opened.inputs.items (carried_of g.S.Source.left g.S.Source.faults), c.requires.sources, c.args.opened.inputs.ok) in
+    let clocks : length (all_timed g.C.Clock.moments g.C.Clock.place c.args.clocks.inputs.items) ≡ length c.args.config.now.inputs = omega (arith, length-map c.args.clocks.inputs.items (timed_of g.C.Clock.moments g.C.Clock.place), c.requires.in_clocks, c.args.clocks.inputs.ok) in
+    let count = ins_count c.args.config.now _ _ _ _ _ _ _ _ c.in-Ok.ensures.made sources clocks in
+    let jobs = length-map c.in-Ok.made.1.inputs.items (in_of g.S.Source.left g.S.Source.faults g.C.Clock.moments g.C.Clock.place) in
+    omega (arith, count, jobs, c.in-Ok.made.1.inputs.ok, c.finish-ending.ensures.in_count, c.set_up.ensures.source_room, c.requires.sources, c.args.opened.inputs.ok)
+
+pub take_apart-journal-requires-clause-sink_room : goal.take_apart-journal-requires-clause-sink_room
+take_apart-journal-requires-clause-sink_room g c =
+    let sinks : length (all_carried g.K.Sink.held g.K.Sink.faults c.args.opened.outputs.items) ≡ length c.args.config.now.outputs = omega (arith, length-map c.args.opened.outputs.items (carried_of g.K.Sink.held g.K.Sink.faults), c.requires.sinks, c.args.opened.outputs.ok) in
+    let count = outs_count c.args.config.now _ _ _ _ _ _ _ _ c.in-Ok.ensures.made sinks in
+    let jobs = length-map c.in-Ok.made.1.outputs.items (out_of g.K.Sink.held g.K.Sink.faults) in
+    omega (arith, count, jobs, c.in-Ok.made.1.outputs.ok, c.finish-ending.ensures.count, c.set_up.ensures.sink_room, c.requires.sinks, c.args.opened.outputs.ok)
+
+pub returns-clause-in_count : goal.returns-clause-in_count
+returns-clause-in_count g c =
+    let sources : length (all_carried g.S.Source.left g.S.Source.faults c.args.opened.inputs.items) ≡ length c.args.config.now.inputs = omega (arith, length-map c.args.opened.inputs.items (carried_of g.S.Source.left g.S.Source.faults), c.requires.sources, c.args.opened.inputs.ok) in
+    let clocks : length (all_timed g.C.Clock.moments g.C.Clock.place c.args.clocks.inputs.items) ≡ length c.args.config.now.inputs = omega (arith, length-map c.args.clocks.inputs.items (timed_of g.C.Clock.moments g.C.Clock.place), c.requires.in_clocks, c.args.clocks.inputs.ok) in
+    let count = ins_count c.args.config.now _ _ _ _ _ _ _ _ c.in-Ok.ensures.made sources clocks in
+    let jobs = length-map c.in-Ok.made.1.inputs.items (in_of g.S.Source.left g.S.Source.faults g.C.Clock.moments g.C.Clock.place) in
+    let last = length-map c.finish-ending.new.parts.inputs.items (in_of g.S.Source.left g.S.Source.faults g.C.Clock.moments g.C.Clock.place) in
+    let given : length (all_carried g.S.Source.left g.S.Source.faults c.take_apart-journal.new.sources.items) ≡ length (map in_carried (ins_of g.S.Source.left g.S.Source.faults g.C.Clock.moments g.C.Clock.place c.finish-ending.new.parts.inputs.items)) = ap (λ (xs : List Carried). length xs) c.take_apart-journal.ensures.sources in
+    omega (
+      arith,
+      sources,
+      count,
+      jobs,
+      last,
+      given,
+      c.in-Ok.made.1.inputs.ok,
+      c.finish-ending.new.parts.inputs.ok,
+      c.finish-ending.ensures.in_count,
+      length-map c.args.opened.inputs.items (carried_of g.S.Source.left g.S.Source.faults),
+      length-map c.take_apart-journal.new.sources.items (carried_of g.S.Source.left g.S.Source.faults),
+      length-map (ins_of g.S.Source.left g.S.Source.faults g.C.Clock.moments g.C.Clock.place c.finish-ending.new.parts.inputs.items) in_carried,
+    )
+
+pub returns-clause-count : goal.returns-clause-count
+returns-clause-count g c =
+    let sinks : length (all_carried g.K.Sink.held g.K.Sink.faults c.args.opened.outputs.items) ≡ length c.args.config.now.outputs = omega (arith, length-map c.args.opened.outputs.items (carried_of g.K.Sink.held g.K.Sink.faults), c.requires.sinks, c.args.opened.outputs.ok) in
+    let count = outs_count c.args.config.now _ _ _ _ _ _ _ _ c.in-Ok.ensures.made sinks in
+    let jobs = length-map c.in-Ok.made.1.outputs.items (out_of g.K.Sink.held g.K.Sink.faults) in
+    let last = length-map c.finish-ending.new.parts.outputs.items (out_of g.K.Sink.held g.K.Sink.faults) in
+    let given : length (all_carried g.K.Sink.held g.K.Sink.faults c.take_apart-journal.new.sinks.items) ≡ length (map out_carried (outs_of g.K.Sink.held g.K.Sink.faults c.finish-ending.new.parts.outputs.items)) = ap (λ (xs : List Carried). length xs) c.take_apart-journal.ensures.sinks in
+    omega (
+      arith,
+      sinks,
+      count,
+      jobs,
+      last,
+      given,
+      c.in-Ok.made.1.outputs.ok,
+      c.finish-ending.new.parts.outputs.ok,
+      c.finish-ending.ensures.count,
+      length-map c.args.opened.outputs.items (carried_of g.K.Sink.held g.K.Sink.faults),
+      length-map c.take_apart-journal.new.sinks.items (carried_of g.K.Sink.held g.K.Sink.faults),
+      length-map (outs_of g.K.Sink.held g.K.Sink.faults c.finish-ending.new.parts.outputs.items) out_carried,
+    )
 
 pub returns-clause-ran : goal.returns-clause-ran
 returns-clause-ran g c =
-    ran_as (views_by c.args.filters.now) c.args.setup.now.final_tries (length c.args.inputs.now) (map sizes c.args.setup.now.outputs) c.run_from-ran.result _ _ _ _ _ _
-    (ap (λ (sink : g.row.K.Denot). change (g.K.Sink.held sink) (g.K.Sink.held c.run_from-ran.new.journal.sink) (g.K.Sink.faults sink) (g.K.Sink.faults c.run_from-ran.new.journal.sink)) c.new-job.ensures.sink)
-    c.now-start.ensures.list c.run_from-ran.ensures.ran
+    let sources : length (all_carried g.S.Source.left g.S.Source.faults c.args.opened.inputs.items) ≡ length c.args.config.now.inputs = omega (arith, length-map c.args.opened.inputs.items (carried_of g.S.Source.left g.S.Source.faults), c.requires.sources, c.args.opened.inputs.ok) in
+    let clocks : length (all_timed g.C.Clock.moments g.C.Clock.place c.args.clocks.inputs.items) ≡ length c.args.config.now.inputs = omega (arith, length-map c.args.clocks.inputs.items (timed_of g.C.Clock.moments g.C.Clock.place), c.requires.in_clocks, c.args.clocks.inputs.ok) in
+    let same : to_z w64 (of_z w64 c.now-start.result) ≡ c.now-start.result = to_z-of_z w64 c.now-start.result (search rules) in
+    let timer : ClockRun = record { moments = g.C.Clock.moments c.in-Ok.made.1.timer; before = g.C.Clock.place c.in-Ok.made.1.timer; after = g.C.Clock.place c.finish-ending.new.parts.timer } in
+    let gives : Gives timer.moments 0 timer.before (to_z w64 (of_z w64 c.now-start.result)) =
+    rw (same, c.in-Ok.ensures.timer, c.now-start.ensures.list) (subst (λ (p : ℕ). Gives (g.C.Clock.moments c.args.clocks.timer) p (g.C.Clock.place c.now-start.new.self) c.now-start.result) c.requires.timer_first c.now-start.ensures.gives) in
+    ran_with c.args.config.now _ _ _ _ _ _ _ _ c.in-Ok.ensures.made sources clocks _ _ _ (part_of g.K.Sink.held g.K.Sink.faults c.finish-ending.new.parts.journal) timer gives
+    c.in-Ok.made.1.proc.outs.now c.in-Ok.made.1.final_tries c.in-Ok.ensures.outs c.in-Ok.ensures.tries c.finish-ending.result _ _ c.take_apart-journal.ensures.sources c.take_apart-journal.ensures.sinks c.finish-ending.ensures.same c.finish-ending.ensures.finished
+    _ _ (sinks_change g.K.Sink.held g.K.Sink.faults c.in-Ok.made.1.journal.sink c.finish-ending.new.parts.journal.sink c.args.opened.journal c.take_apart-journal.result c.in-Ok.ensures.journal (sym c.take_apart-journal.ensures.journal))
+    (ap g.C.Clock.moments c.in-Ok.ensures.timer ∙ c.now-start.ensures.list)

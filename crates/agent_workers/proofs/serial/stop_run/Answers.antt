@@ -1,4 +1,4 @@
-use Rattle.std.proofs.Common.{◌≡◌, ℤ, List, [], ◌∷◌, ◌++◌, length, ap, ◌∙◌, sym, subst}
+use Rattle.std.proofs.Common.{◌≡◌, ℕ, ℤ, List, [], ◌∷◌, ◌++◌, length, ap, ◌∙◌, sym, subst}
 use Rattle.std.proofs.lemmas.Int.{to_z-of_z}
 use mir.Syntax.{w64}
 use mir.Val.{of_z, to_z}
@@ -12,7 +12,7 @@ use Rattle.agent_workers.proofs.ProgressLemmas.{went_stop, went_anew}
 use Rattle.agent_workers.proofs.OutLemmas.{are_anew, outputs_still}
 use Rattle.account.specs.Setup.{Setup}
 use Rattle.pipeline_core.specs.CoreState.{CoreState}
-use Rattle.agent_workers.specs.Output.{OutPart, outs_of, AreAnew}
+use Rattle.agent_workers.specs.Output.{OutPart, outs_of, AreAnew, AreOutputs}
 use Rattle.agent_workers.proofs.StandingLemmas.{continues}
 use Rattle.agent_workers.proofs.serial.stop_run.Goals as goal
 
@@ -24,12 +24,17 @@ send_rest-requires-clause-outputs g c =
     outputs_still (length c.args.core.now.setup.outputs) (length c.route_all.new.core.setup.outputs) (outs_of g.K.Sink.held g.K.Sink.faults c.args.outputs.now) (outs_of g.K.Sink.held g.K.Sink.faults c.begin_anew.new.outputs) c.begin_anew.ensures.fresh
     (ap (λ (s : Setup). length s.outputs) (c.in_ok-route_all.ensures.kept.setup ∙ ap (λ (s : CoreState). s.setup) c.in_ok-stop.ensures.ok)) c.requires.outputs
 
+pub returns-clause-outputs : goal.returns-clause-outputs
+returns-clause-outputs g c =
+    subst (λ (n : ℕ). AreOutputs n (outs_of g.K.Sink.held g.K.Sink.faults c.send_rest.new.outputs))
+    (ap (λ (s : Setup). length s.outputs) (c.in_ok-route_all.ensures.kept.setup ∙ ap (λ (s : CoreState). s.setup) c.in_ok-stop.ensures.ok)) c.in_ok-send_rest.ensures.outputs
+
 pub returns-clause-gathered : goal.returns-clause-gathered
 returns-clause-gathered g c = c.in_ok-send_rest.ensures.kept.gathered ∙ c.in_ok-route_all.ensures.kept.gathered ∙ ap (λ (s : CoreState). s.gathered) c.in_ok-stop.ensures.ok
 
 pub returns-clause-goes : goal.returns-clause-goes
 returns-clause-goes g c = λ start now w.
-    let s : Beginning = record start { views = views_by c.args.filters.now } in
+    let s : Beginning = record start { views = views_by c.args.confs.now } in
     let outs : List OutPart = outs_of g.K.Sink.held g.K.Sink.faults c.args.outputs.now in
     let fresh : List OutPart = outs_of g.K.Sink.held g.K.Sink.faults c.begin_anew.new.outputs in
     let zero : AreAnew fresh = subst AreAnew (sym c.begin_anew.ensures.fresh) (are_anew outs) in

@@ -1,0 +1,46 @@
+//! A pipe as a configuration.
+ghost use Rattle.std.specs.Prelude.{◌≡◌, IfOk};
+ghost use Rattle.agent_run.specs.Command.{pipe_config};
+
+use crate::command::{JOURNAL, Pipe};
+use agent_config::{AgentConf, Config, InFormat, InputConf, OutFormat, OutputConf};
+use fixed_num::{OutOfMemory, Seq};
+use metric::Text;
+use metric_filter::Filter;
+use std::alloc::Global;
+
+/// The configuration that a pipe is: one line protocol input and one line protocol output with its sizes, no
+/// filter, no global tag, and what an agent has where nothing is said.
+pub(crate) fn pipe_config(alloc: Global, pipe: &Pipe<'_>) -> Result<Config, OutOfMemory>
+    ensures { IfOk result
+        (λ config. config ≡ pipe_config pipe.now.input.now pipe.now.output.now pipe.now.batch pipe.now.limit) }
+{
+    let agent = AgentConf {
+        gather_pieces: 1_000,
+        final_tries: 3,
+        flush_interval: 10_000_000_000,
+        skip_second: false,
+        workers: true,
+        journal: Text::of(alloc, JOURNAL)?,
+    };
+    let input = InputConf {
+        place: Text::of(alloc, pipe.input)?,
+        format: InFormat::Influx,
+        tracked: false,
+        max_undelivered: 1_000,
+        filter: Filter::without_rules(alloc),
+    };
+    let output = OutputConf {
+        place: Text::of(alloc, pipe.output)?,
+        format: OutFormat::Influx,
+        batch: pipe.batch,
+        limit: pipe.limit,
+        filter: Filter::without_rules(alloc),
+    };
+    Ok(Config {
+        agent,
+        globals: Seq::of(Vec::new(alloc)),
+        inputs: Seq::of_one(input),
+        outputs: Seq::of_one(output),
+    })
+}

@@ -1,0 +1,109 @@
+//! Running a configuration over a world.
+ghost use Rattle.std.specs.Prelude.{◌≡◌, ◌≢◌, ◌⊎◌, ◌||◌, Bool, All, length, vec_len};
+ghost use Rattle.agent_base.specs.Places.{AreHome, SameAtAll};
+ghost use Rattle.agent_base.specs.Views.{SameButAt};
+ghost use Rattle.agent_config.specs.Sound.{IsSound};
+ghost use Rattle.agent_run.specs.Headline.{Ends, report_change, status_of, world_change};
+ghost use Rattle.agent_run.specs.PlaceLists.{AreHomeBut, AreOut, in_places, out_places, places_out, read_parts};
+ghost use Rattle.agent_run.specs.Places.{AreOpensSame};
+ghost use Rattle.agent_run.specs.Running.{IsOpenedSame, IsRefusedBy, OnlyNamed, told_at};
+ghost use Rattle.agent_workers.specs.Opened.{all_carried, all_timed, config_ins, config_outs, Timed};
+ghost use Rattle.agent_workers.specs.Run.{IsPutSo, change};
+
+use crate::clocks::{clock_room, clocks_of};
+use crate::places::{Unopened, give_back, open_places};
+use crate::reporting::report_open_fault;
+use crate::status::{Status, run_status};
+use agent_base::{PutFault, World};
+use agent_config::Config;
+use agent_workers::{Clocks, Ending, Opened, run};
+use std::alloc::Global;
+
+/// Reports the account, and says how the run ended.
+fn report_account<W: World>(ending: &Ending, world: &mut W) -> Status
+    ensures answer { (result ≡ Status.OutOfMemory)
+        ⊎ ((failed : Bool)
+        × (result ≡ status_of ending.now.limit ending.now.read_fault (ending.now.journal_fault || failed)
+        ending.now.left)
+        × IsPutSo failed (report_change (W.view world.old).report (W.view world.new).report) ending.now.account.items) }
+    ensures ins { SameAtAll (W.view world.old).ins (W.view world.new).ins }
+    ensures outs { SameAtAll (W.view world.old).outs (W.view world.new).outs }
+    ensures clocks { SameAtAll (W.view world.old).clocks (W.view world.new).clocks }
+{
+    match world.report(&ending.account) {
+        Ok(()) => run_status(ending, false),
+        Err(PutFault::Failed) => run_status(ending, true),
+        Err(PutFault::OutOfMemory) => Status::OutOfMemory,
+    }
+}
+
+/// Runs a configuration over its opened parts, gives them back, and reports the account.
+fn run_opened<W: World>(
+    alloc: Global,
+    config: &Config,
+    opened: Opened<W::In, W::Out>,
+    clocks: Clocks<W::Clk>,
+    world: &mut W,
+) -> Status
+    requires sound { IsSound config.now }
+    requires inputs { vec_len opened.inputs ≡ length config.now.inputs }
+    requires in_clocks { vec_len clocks.inputs ≡ length config.now.inputs }
+    requires outputs { vec_len opened.outputs ≡ length config.now.outputs }
+    requires out_clocks { vec_len clocks.outputs ≡ length config.now.outputs }
+    requires first { All (λ (clock : Timed). clock.place ≡ 0) (all_timed W.Clk.moments W.Clk.place clocks.inputs.items) }
+    requires timer_first { W.Clk.place clocks.timer ≡ 0 }
+    requires inputs_out { AreOut (in_places config.now) (W.view world.old).ins }
+    requires outputs_out { AreOut (out_places config.now) (W.view world.old).outs }
+    ensures ends { Ends config.now (record {
+      ins = config_ins config.now config.now.inputs (read_parts W.In.left W.In.faults opened)
+          (told_at (in_places config.now) (W.view world.new).ins) (all_timed W.Clk.moments W.Clk.place clocks.inputs.items);
+      outs = config_outs config.now.outputs (all_carried W.Out.held W.Out.faults opened.outputs.items)
+          (told_at (places_out config.now.outputs) (W.view world.new).outs);
+      journal = change (W.Out.held opened.journal) ((W.view world.new).outs config.now.agent.journal).bytes
+          (W.Out.faults opened.journal) ((W.view world.new).outs config.now.agent.journal).part_faults;
+      report = report_change (W.view world.old).report (W.view world.new).report;
+      moments = W.Clk.moments clocks.timer;
+    }) result }
+    ensures ins { SameButAt (in_places config.now) (W.view world.old).ins (W.view world.new).ins }
+    ensures outs { SameButAt (out_places config.now) (W.view world.old).outs (W.view world.new).outs }
+    ensures clocks { SameAtAll (W.view world.old).clocks (W.view world.new).clocks }
+    ensures ins_opened { AreOpensSame (W.view world.old).ins (W.view world.new).ins }
+    ensures outs_opened { AreOpensSame (W.view world.old).outs (W.view world.new).outs }
+    ensures ins_home { AreHomeBut (in_places config.now) (W.view world.old).ins → AreHome (W.view world.new).ins }
+    ensures outs_home { AreHomeBut (out_places config.now) (W.view world.old).outs → AreHome (W.view world.new).outs }
+{
+    let (left, ran) = run(alloc, config, opened, clocks);
+    give_back(world, config, left);
+    match ran {
+        Ok(ending) => report_account(&ending, world),
+        Err(_) => Status::OutOfMemory,
+    }
+}
+
+/// Runs a configuration: opens its places, takes its clocks, and runs it over them. Where a place isn't opened it
+/// is named in the report, and nothing is run. All parts are given back.
+pub(crate) fn run_config<W: World>(alloc: Global, config: &Config, world: &mut W) -> Status
+    requires sound { IsSound config.now }
+    requires ins { AreHome (W.view world.old).ins }
+    requires outs { AreHome (W.view world.old).outs }
+    ensures open { result ≡ Status.OpenFault → IsRefusedBy config.now (W.view world.old) (W.view world.new) }
+    ensures ends { (result ≢ Status.OpenFault)
+        → Ends config.now (world_change config.now (W.view world.old) (W.view world.new)) result }
+    ensures only { OnlyNamed config.now (W.view world.old) (W.view world.new) }
+    ensures opened { (result ≢ Status.OpenFault) → (result ≢ Status.OutOfMemory)
+        → IsOpenedSame (W.view world.old) (W.view world.new) }
+    ensures ins_home { AreHome (W.view world.new).ins }
+    ensures outs_home { AreHome (W.view world.new).outs }
+{
+    let Ok(room) = clock_room(alloc, config) else {
+        return Status::OutOfMemory;
+    };
+    match open_places(alloc, world, config) {
+        Ok(opened) => {
+            let clocks = clocks_of(world, config, room);
+            run_opened(alloc, config, opened, clocks, world)
+        }
+        Err(Unopened::Failed(place)) => report_open_fault(alloc, world, place),
+        Err(Unopened::OutOfMemory) => Status::OutOfMemory,
+    }
+}

@@ -1,0 +1,275 @@
+-- What a run of a configuration begins with, and what it leaves.
+use Rattle.std.proofs.Common.{◌≡◌, ◌<◌, ◌≤◌, ◌+◌, ℕ, zero, suc, ℤ, false, List, [], ◌∷◌, ◌++◌, length, get_or, drop, replicate, refl, sym, ap, ◌∙◌, subst, arith, append_assoc, append-nil}
+use Rattle.std.specs.Prelude.{map, All, IfOk, OnOk, Result, Ok, Err}
+use Rattle.std.specs.List.{remove}
+use Rattle.std.specs.declared.option.Option.{Option}
+use Rattle.std.proofs.lemmas.List.{length-map, map-append, drop_more, drop_all}
+use Rattle.fixed_num.specs.declared.memory.OutOfMemory.{OutOfMemory}
+use Rattle.agent_base.specs.Moments.{Moments, Gives}
+use Rattle.agent_config.specs.Sound.{IsSound}
+use Rattle.agent_config.specs.declared.config.Config.{Config}
+use Rattle.agent_config.specs.declared.config.InputConf.{InputConf}
+use Rattle.agent_config.specs.declared.config.OutputConf.{OutputConf}
+use Rattle.metric.specs.Metric.{IsFilledTag}
+use Rattle.pipeline_core.specs.CoreState.{CoreState}
+use Rattle.agent_workers.specs.Finished.{ClockRun, Finished, FinishesSo, IsSetUp, begun, around}
+use Rattle.agent_workers.specs.Inputs.{InPart, in_of, ins_of, in_at, IsSameInput, AreSameInputs, AreFresh, IsFresh, IsReadable}
+use Rattle.agent_workers.specs.Noted.{JournalPart}
+use Rattle.agent_workers.specs.Opened.{Carried, Timed, all_carried, all_timed, carried_of, timed_of, fresh_in, fresh_ins, fresh_out, fresh_outs, config_ins, config_outs, in_carried, out_carried, rule_by, sizes_of, conf_sizes, IsMadeOf, IsNewCore, RanBy}
+use Rattle.agent_workers.specs.Output.{OutPart, out_of, outs_of, out_at, AreOutputs, AreUnfailed, IsUnfailed}
+use Rattle.agent_workers.specs.PipeSetup.{run_setup, journal_setup_of}
+use Rattle.agent_workers.specs.Reader.{views_by}
+use Rattle.agent_workers.specs.Running.{IsReady, buffered_at}
+use Rattle.pipeline_core.specs.Stands.{Stands}
+use Rattle.agent_workers.specs.Run.{Change, change, InRun, in_run, in_runs, OutRun, out_run, out_runs, Ran}
+use Rattle.agent_workers.specs.declared.input.InJob.{InJob}
+use Rattle.agent_workers.specs.declared.output.OutJob.{OutJob}
+use Rattle.agent_workers.specs.declared.serial.Ending.{Ending}
+use Rattle.agent_workers.proofs.FinishSteps.{ran, is_set_up}
+
+-- ---- what a run begins with
+
+pub length-fresh_ins : (config : Config) (n : ℕ) (confs : List InputConf) (sources : List Carried) (clocks : List Timed) → length sources ≡ length confs → length clocks ≡ length confs → length (fresh_ins config n confs sources clocks) ≡ length confs
+unfolding fresh_ins
+length-fresh_ins config n [] sources clocks s c = refl
+length-fresh_ins config n (conf ∷ confs) [] clocks s c = absurd (omega (arith, s))
+length-fresh_ins config n (conf ∷ confs) (source ∷ sources) [] s c = absurd (omega (arith, c))
+length-fresh_ins config n (conf ∷ confs) (source ∷ sources) (clock ∷ clocks) s c = omega (arith, length-fresh_ins config (n + 1) confs sources clocks (omega (arith, s)) (omega (arith, c)))
+
+-- an input that can be read, of which nothing was read, with its number
+record IsFreshAt (number : ℕ) (part : InPart) : Type 0 where
+  readable : IsReadable part.rule
+  numbered : part.input ≡ number
+  fresh : IsFresh part
+
+fresh_at : (config : Config) (some : 1 ≤ config.agent.gather_pieces) (filled : All IsFilledTag config.globals) (n : ℕ) (confs : List InputConf) (sources : List Carried) (clocks : List Timed) → All (λ (clock : Timed). clock.place ≡ 0) clocks → (k : ℕ) → k < length (fresh_ins config n confs sources clocks) → IsFreshAt (n + k) (in_at (fresh_ins config n confs sources clocks) k)
+unfolding fresh_ins
+fresh_at config some filled n [] sources clocks first k l = absurd (omega (arith, l))
+fresh_at config some filled n (conf ∷ confs) [] clocks first k l = absurd (omega (arith, l))
+fresh_at config some filled n (conf ∷ confs) (source ∷ sources) [] first k l = absurd (omega (arith, l))
+fresh_at config some filled n (conf ∷ confs) (source ∷ sources) (clock ∷ clocks) first zero l =
+    record { readable = record { some = some; filled = filled }; numbered = omega arith; fresh = record { hand = refl; place = first 0 clock (omega arith); none_held = refl; reading = refl } }
+fresh_at config some filled n (conf ∷ confs) (source ∷ sources) (clock ∷ clocks) first (suc k) l =
+    subst (λ (i : ℕ). IsFreshAt i (in_at (fresh_ins config (n + 1) confs sources clocks) k)) (omega arith)
+    (fresh_at config some filled (n + 1) confs sources clocks (λ j d b. first (suc j) d (omega (arith, b))) k (omega (arith, l)))
+
+pub are_fresh : (config : Config) (sources : List Carried) (clocks : List Timed) → IsSound config → All (λ (clock : Timed). clock.place ≡ 0) clocks → AreFresh (fresh_ins config 0 config.inputs sources clocks)
+are_fresh config sources clocks sound first =
+    let at = fresh_at config sound.gather_pieces.0 sound.globals 0 config.inputs sources clocks first in
+    record { readable = λ k l. (at k l).readable; numbered = λ k l. (at k l).numbered ∙ omega arith; fresh = λ k l. (at k l).fresh }
+
+pub length-fresh_outs : (n : ℕ) (confs : List OutputConf) (sinks : List Carried) → length sinks ≡ length confs → length (fresh_outs n confs sinks) ≡ length confs
+unfolding fresh_outs
+length-fresh_outs n [] sinks s = refl
+length-fresh_outs n (conf ∷ confs) [] s = absurd (omega (arith, s))
+length-fresh_outs n (conf ∷ confs) (sink ∷ sinks) s = omega (arith, length-fresh_outs (n + 1) confs sinks (omega (arith, s)))
+
+-- an output to which nothing was put, with its number
+record IsUnputAt (number : ℕ) (part : OutPart) : Type 0 where
+  numbered : part.output ≡ number
+  unfailed : IsUnfailed part
+
+unput_at : (n : ℕ) (confs : List OutputConf) (sinks : List Carried) (k : ℕ) → k < length (fresh_outs n confs sinks) → IsUnputAt (n + k) (out_at (fresh_outs n confs sinks) k)
+unfolding fresh_outs
+unput_at n [] sinks k l = absurd (omega (arith, l))
+unput_at n (conf ∷ confs) [] k l = absurd (omega (arith, l))
+unput_at n (conf ∷ confs) (sink ∷ sinks) zero l = record { numbered = omega arith; unfailed = record { failed = refl; failed_since = refl } }
+unput_at n (conf ∷ confs) (sink ∷ sinks) (suc k) l =
+    subst (λ (i : ℕ). IsUnputAt i (out_at (fresh_outs (n + 1) confs sinks) k)) (omega arith) (unput_at (n + 1) confs sinks k (omega (arith, l)))
+
+pub are_outputs : (confs : List OutputConf) (sinks : List Carried) → length sinks ≡ length confs → AreOutputs (length (map conf_sizes confs)) (fresh_outs 0 confs sinks)
+are_outputs confs sinks s =
+    let count = length-fresh_outs 0 confs sinks s in
+    record { count_is = count ∙ sym (length-map confs conf_sizes); numbered = λ k l. (unput_at 0 confs sinks k (omega (arith, l, count, length-map confs conf_sizes))).numbered ∙ omega arith }
+
+pub are_unfailed : (confs : List OutputConf) (sinks : List Carried) → AreUnfailed (fresh_outs 0 confs sinks)
+are_unfailed confs sinks = λ k l. (unput_at 0 confs sinks k l).unfailed
+
+-- a run is set up
+pub is_made : (config : Config) (start : ℤ) (sources : List Carried) (clocks : List Timed) (sinks : List Carried) (core : CoreState) (ins : List InPart) (outs : List OutPart) (part : JournalPart) → IsSound config → length sources ≡ length config.inputs → length clocks ≡ length config.inputs → length sinks ≡ length config.outputs →
+    All (λ (clock : Timed). clock.place ≡ 0) clocks → IsNewCore config start core → ins ≡ fresh_ins config 0 config.inputs sources clocks → outs ≡ fresh_outs 0 config.outputs sinks → part.setup ≡ journal_setup_of (run_setup (length config.inputs) (map conf_sizes config.outputs) start) → part.kept ≡ [] → part.entries ≡ 0 → part.failed ≡ false →
+    IsMadeOf config start sources clocks sinks core ins outs part
+is_made config start sources clocks sinks core ins outs part sound s c k first new ins_are outs_are about kept entries going =
+    let count : length ins ≡ length config.inputs = ap (λ (xs : List InPart). length xs) ins_are ∙ length-fresh_ins config 0 config.inputs sources clocks s c in
+    record {
+      set_up = is_set_up (sizes_of config) start (length config.inputs) core ins outs part (sym count) (omega (arith, length-map config.outputs conf_sizes, sound.outputs.1)) new.ready new.going new.stands new.setup new.stored new.reading new.none_buffered
+          (subst AreFresh (sym ins_are) (are_fresh config sources clocks sound first)) (subst (AreOutputs (length (map conf_sizes config.outputs))) (sym outs_are) (are_outputs config.outputs sinks k)) (subst AreUnfailed (sym outs_are) (are_unfailed config.outputs sinks))
+          about kept entries going;
+      ins_are = ins_are;
+      outs_are = outs_are;
+    }
+
+-- ---- its jobs, one by one
+
+-- one job more, of the first source and the first clock that are left
+module _ {S C : Type 0} (left : S → Option (List ℕ)) (faults : S → ℕ) (moments : C → Option Moments) (place : C → ℕ) (config : Config) where
+  in_step : (n : ℕ) (conf : InputConf) (confs : List InputConf) (sources : List S) (clocks : List C) (d : S) (e : C) → 1 ≤ length sources → 1 ≤ length clocks →
+      fresh_ins config n (conf ∷ confs) (all_carried left faults sources) (all_timed moments place clocks)
+      ≡ fresh_in config n conf (carried_of left faults (get_or sources 0 d)) (timed_of moments place (get_or clocks 0 e)) ∷ fresh_ins config (n + 1) confs (all_carried left faults (remove sources 0)) (all_timed moments place (remove clocks 0))
+  unfolding fresh_ins
+  in_step n conf confs [] clocks d e a b = absurd (omega (arith, a))
+  in_step n conf confs (source ∷ sources) [] d e a b = absurd (omega (arith, b))
+  in_step n conf confs (source ∷ sources) (clock ∷ clocks) d e a b = refl
+
+  pub in_filled : (n : ℕ) (confs : List InputConf) (jobs : List (InJob S C)) (job : InJob S C) (sources : List S) (clocks : List C) (conf : InputConf) (d : S) (e : C) (all : List InPart) → n < length confs → 1 ≤ length sources → 1 ≤ length clocks →
+      in_of left faults moments place job ≡ fresh_in config n (get_or confs n conf) (carried_of left faults (get_or sources 0 d)) (timed_of moments place (get_or clocks 0 e)) →
+      ins_of left faults moments place jobs ++ fresh_ins config n (drop n confs) (all_carried left faults sources) (all_timed moments place clocks) ≡ all →
+      ins_of left faults moments place (jobs ++ job ∷ []) ++ fresh_ins config (n + 1) (drop (n + 1) confs) (all_carried left faults (remove sources 0)) (all_timed moments place (remove clocks 0)) ≡ all
+  in_filled n confs jobs job sources clocks conf d e all b s c is h =
+      let rest : List InPart = fresh_ins config (n + 1) (drop (n + 1) confs) (all_carried left faults (remove sources 0)) (all_timed moments place (remove clocks 0)) in
+      ap (λ (xs : List InPart). xs ++ rest) (map-append (in_of left faults moments place) jobs (job ∷ []))
+      ∙ append_assoc (ins_of left faults moments place jobs) (in_of left faults moments place job ∷ []) rest
+      ∙ ap (λ (x : InPart). ins_of left faults moments place jobs ++ x ∷ rest) is
+      ∙ ap (λ (xs : List InPart). ins_of left faults moments place jobs ++ xs)
+      (sym (ap (λ (xs : List InputConf). fresh_ins config n xs (all_carried left faults sources) (all_timed moments place clocks)) (drop_more confs n conf b) ∙ in_step n (get_or confs n conf) (drop (n + 1) confs) sources clocks d e s c))
+      ∙ h
+
+-- all are filled
+pub in_filled_all : (config : Config) (n : ℕ) (confs : List InputConf) (sources : List Carried) (clocks : List Timed) (ins all : List InPart) → length confs ≤ n → ins ++ fresh_ins config n (drop n confs) sources clocks ≡ all → ins ≡ all
+unfolding fresh_ins
+in_filled_all config n confs sources clocks ins all b h = sym (append-nil ins) ∙ ap (λ (xs : List InputConf). ins ++ fresh_ins config n xs sources clocks) (sym (drop_all n confs b)) ∙ h
+
+module _ {K : Type 0} (held : K → Option (List ℕ)) (faults : K → ℕ) where
+  out_step : (n : ℕ) (conf : OutputConf) (confs : List OutputConf) (sinks : List K) (d : K) → 1 ≤ length sinks →
+      fresh_outs n (conf ∷ confs) (all_carried held faults sinks) ≡ fresh_out n conf (carried_of held faults (get_or sinks 0 d)) ∷ fresh_outs (n + 1) confs (all_carried held faults (remove sinks 0))
+  unfolding fresh_outs
+  out_step n conf confs [] d a = absurd (omega (arith, a))
+  out_step n conf confs (sink ∷ sinks) d a = refl
+
+  pub out_filled : {C : Type 0} (n : ℕ) (confs : List OutputConf) (jobs : List (OutJob K C)) (job : OutJob K C) (sinks : List K) (conf : OutputConf) (d : K) (all : List OutPart) → n < length confs → 1 ≤ length sinks →
+      out_of held faults job ≡ fresh_out n (get_or confs n conf) (carried_of held faults (get_or sinks 0 d)) →
+      outs_of held faults jobs ++ fresh_outs n (drop n confs) (all_carried held faults sinks) ≡ all →
+      outs_of held faults (jobs ++ job ∷ []) ++ fresh_outs (n + 1) (drop (n + 1) confs) (all_carried held faults (remove sinks 0)) ≡ all
+  out_filled n confs jobs job sinks conf d all b s is h =
+      let rest : List OutPart = fresh_outs (n + 1) (drop (n + 1) confs) (all_carried held faults (remove sinks 0)) in
+      ap (λ (xs : List OutPart). xs ++ rest) (map-append (out_of held faults) jobs (job ∷ []))
+      ∙ append_assoc (outs_of held faults jobs) (out_of held faults job ∷ []) rest
+      ∙ ap (λ (x : OutPart). outs_of held faults jobs ++ x ∷ rest) is
+      ∙ ap (λ (xs : List OutPart). outs_of held faults jobs ++ xs)
+      (sym (ap (λ (xs : List OutputConf). fresh_outs n xs (all_carried held faults sinks)) (drop_more confs n conf b) ∙ out_step n (get_or confs n conf) (drop (n + 1) confs) sinks d s))
+      ∙ h
+
+pub out_filled_all : (n : ℕ) (confs : List OutputConf) (sinks : List Carried) (outs all : List OutPart) → length confs ≤ n → outs ++ fresh_outs n (drop n confs) sinks ≡ all → outs ≡ all
+unfolding fresh_outs
+out_filled_all n confs sinks outs all b h = sym (append-nil outs) ∙ ap (λ (xs : List OutputConf). outs ++ fresh_outs n xs sinks) (sym (drop_all n confs b)) ∙ h
+
+-- a job by other terms
+pub in_is : {S C : Type 0} (left : S → Option (List ℕ)) (faults : S → ℕ) (moments : C → Option Moments) (place : C → ℕ) (config : Config) (n : ℕ) (confs : List InputConf) (job : InJob S C) (number : ℕ) (conf : InputConf) (source : S) (clock : C) (sources : List S) (clocks : List C) →
+    in_of left faults moments place job ≡ fresh_in config number conf (carried_of left faults source) (timed_of moments place clock) → number ≡ n → conf ≡ get_or confs n conf → source ≡ get_or sources 0 source → clock ≡ get_or clocks 0 clock →
+    in_of left faults moments place job ≡ fresh_in config n (get_or confs n conf) (carried_of left faults (get_or sources 0 source)) (timed_of moments place (get_or clocks 0 clock))
+in_is {S} {C} left faults moments place config n confs job number conf source clock sources clocks h a b c d =
+    h ∙ ap (λ (k : ℕ). fresh_in config k conf (carried_of left faults source) (timed_of moments place clock)) a
+    ∙ ap (λ (x : InputConf). fresh_in config n x (carried_of left faults source) (timed_of moments place clock)) b
+    ∙ ap (λ (x : S). fresh_in config n (get_or confs n conf) (carried_of left faults x) (timed_of moments place clock)) c
+    ∙ ap (λ (x : C). fresh_in config n (get_or confs n conf) (carried_of left faults (get_or sources 0 source)) (timed_of moments place x)) d
+
+pub out_is : {K C : Type 0} (held : K → Option (List ℕ)) (faults : K → ℕ) (n : ℕ) (confs : List OutputConf) (job : OutJob K C) (number : ℕ) (conf : OutputConf) (sink : K) (sinks : List K) →
+    out_of held faults job ≡ fresh_out number conf (carried_of held faults sink) → number ≡ n → conf ≡ get_or confs n conf → sink ≡ get_or sinks 0 sink → out_of held faults job ≡ fresh_out n (get_or confs n conf) (carried_of held faults (get_or sinks 0 sink))
+out_is {K} held faults n confs job number conf sink sinks h a b c =
+    h ∙ ap (λ (k : ℕ). fresh_out k conf (carried_of held faults sink)) a
+    ∙ ap (λ (x : OutputConf). fresh_out n x (carried_of held faults sink)) b
+    ∙ ap (λ (x : K). fresh_out n (get_or confs n conf) (carried_of held faults x)) c
+
+-- the first of equal elements, and the others
+pub replicate_first : {X : Type 0} (n : ℕ) (x : X) (xs : List X) (d : X) → 1 ≤ n → xs ≡ replicate n x → get_or xs 0 d ≡ x
+replicate_first zero x xs d some e = absurd (omega (arith, some))
+replicate_first {X} (suc n) x xs d some e = ap (λ (ys : List X). get_or ys 0 d) e
+
+pub replicate_one_less : {X : Type 0} (n m : ℕ) (x : X) (xs : List X) → n ≡ m + 1 → xs ≡ replicate n x → remove xs 0 ≡ replicate m x
+replicate_one_less zero m x xs same e = absurd (omega (arith, same))
+replicate_one_less {X} (suc n) m x xs same e = ap (λ (ys : List X). remove ys 0) e ∙ ap (λ (k : ℕ). replicate k x) (omega (arith, same))
+
+-- ---- a core in which nothing happened
+
+setup_same : (n m : ℕ) (confs others : List OutputConf) (first start : ℤ) → n ≡ m → confs ≡ others → first ≡ start → run_setup n (map conf_sizes confs) first ≡ run_setup m (map conf_sizes others) start
+setup_same n m confs others first start a b c = rw (a, b, c) refl
+
+pub is_new_core : (config : Config) (n : ℕ) (confs : List OutputConf) (start first : ℤ) (core : CoreState) → n ≡ length config.inputs → confs ≡ config.outputs → first ≡ start → IsReady core → core.ended ≡ replicate n false → core.stopped ≡ false → ((o : ℕ) → buffered_at core o ≡ 0) → Stands core [] → core.setup ≡ run_setup n (map conf_sizes confs) first → core.stored ≡ [] → IsNewCore config start core
+is_new_core config n confs start first core same are begin ready ended going none stands setup stored = record {
+  ready = ready;
+  reading = ended ∙ ap (λ (k : ℕ). replicate k false) same;
+  going = going;
+  none_buffered = none;
+  stands = stands;
+  setup = setup ∙ setup_same n (length config.inputs) confs config.outputs first start same are begin;
+  stored = stored;
+}
+
+pub about_same : (n m : ℕ) (confs others : List OutputConf) (first start : ℤ) → n ≡ m → confs ≡ others → first ≡ start → journal_setup_of (run_setup n (map conf_sizes confs) first) ≡ journal_setup_of (run_setup m (map conf_sizes others) start)
+about_same n m confs others first start a b c = rw (a, b, c) refl
+
+-- ---- what it leaves
+
+-- a change by other sinks that are the same
+pub sinks_change : {K : Type 0} (held : K → Option (List ℕ)) (faults : K → ℕ) (a b x y : K) → a ≡ x → b ≡ y → change (held a) (held b) (faults a) (faults b) ≡ change (held x) (held y) (faults x) (faults y)
+sinks_change held faults a b x y e f = rw (e, f) refl
+
+same_tail : (old new : InPart) (olds news : List InPart) → AreSameInputs (old ∷ olds) (new ∷ news) → AreSameInputs olds news
+same_tail old new olds news h = record { count = omega (arith, h.count); each = λ k l. h.each (suc k) (omega (arith, l)) }
+
+input_run : (config : Config) (n : ℕ) (conf : InputConf) (source : Carried) (clock : Timed) (last : InPart) → IsSameInput (fresh_in config n conf source clock) last →
+    in_run (fresh_in config n conf source clock) last ≡ record { rule = rule_by config conf; place = change source.bytes last.left source.faults last.read_faults; moments = clock.moments }
+input_run config n conf source clock last same = rw (same.rule, same.moments) refl
+
+pub ins_left : (config : Config) (n : ℕ) (confs : List InputConf) (sources : List Carried) (clocks : List Timed) (lasts : List InPart) → AreSameInputs (fresh_ins config n confs sources clocks) lasts → in_runs (fresh_ins config n confs sources clocks) lasts ≡ config_ins config confs sources (map in_carried lasts) clocks
+unfolding fresh_ins config_ins
+ins_left config n [] sources clocks lasts same = refl
+ins_left config n (conf ∷ confs) [] clocks lasts same = refl
+ins_left config n (conf ∷ confs) (source ∷ sources) [] [] same = refl
+ins_left config n (conf ∷ confs) (source ∷ sources) [] (last ∷ lasts) same = refl
+ins_left config n (conf ∷ confs) (source ∷ sources) (clock ∷ clocks) [] same = absurd (omega (arith, same.count))
+ins_left config n (conf ∷ confs) (source ∷ sources) (clock ∷ clocks) (last ∷ lasts) same =
+    ap (λ (x : InRun). x ∷ in_runs (fresh_ins config (n + 1) confs sources clocks) lasts) (input_run config n conf source clock last (same.each 0 (omega arith)))
+    ∙ ap (λ (xs : List InRun). let first : InRun = record { rule = rule_by config conf; place = change source.bytes last.left source.faults last.read_faults; moments = clock.moments } in first ∷ xs)
+    (ins_left config (n + 1) confs sources clocks lasts (same_tail (fresh_in config n conf source clock) last (fresh_ins config (n + 1) confs sources clocks) lasts same))
+
+pub outs_left : (n : ℕ) (confs : List OutputConf) (sinks : List Carried) (lasts : List OutPart) → out_runs (fresh_outs n confs sinks) lasts ≡ config_outs confs sinks (map out_carried lasts)
+unfolding fresh_outs config_outs
+outs_left n [] sinks lasts = refl
+outs_left n (conf ∷ confs) [] lasts = refl
+outs_left n (conf ∷ confs) (sink ∷ sinks) [] = refl
+outs_left n (conf ∷ confs) (sink ∷ sinks) (last ∷ lasts) = ap (λ (xs : List OutRun). out_run (fresh_out n conf sink) last ∷ xs) (outs_left (n + 1) confs sinks lasts)
+
+-- there are as many inputs and outputs as the configuration has
+pub ins_count : (config : Config) (start : ℤ) (sources : List Carried) (clocks : List Timed) (sinks : List Carried) (core : CoreState) (ins : List InPart) (outs : List OutPart) (part : JournalPart) → IsMadeOf config start sources clocks sinks core ins outs part → length sources ≡ length config.inputs → length clocks ≡ length config.inputs → length ins ≡ length config.inputs
+ins_count config start sources clocks sinks core ins outs part made s c = ap (λ (xs : List InPart). length xs) made.ins_are ∙ length-fresh_ins config 0 config.inputs sources clocks s c
+
+pub outs_count : (config : Config) (start : ℤ) (sources : List Carried) (clocks : List Timed) (sinks : List Carried) (core : CoreState) (ins : List InPart) (outs : List OutPart) (part : JournalPart) → IsMadeOf config start sources clocks sinks core ins outs part → length sinks ≡ length config.outputs → length outs ≡ length config.outputs
+outs_count config start sources clocks sinks core ins outs part made k = ap (λ (xs : List OutPart). length xs) made.outs_are ∙ length-fresh_outs 0 config.outputs sinks k
+
+module _ (config : Config) (start : ℤ) (sources : List Carried) (clocks : List Timed) (sinks : List Carried) (core : CoreState) (ins : List InPart) (outs : List OutPart) (part : JournalPart)
+    (made : IsMadeOf config start sources clocks sinks core ins outs part) (s : length sources ≡ length config.inputs) (c : length clocks ≡ length config.inputs)
+    (last : CoreState) (last_ins : List InPart) (last_outs : List OutPart) (last_part : JournalPart) (timer : ClockRun) (gives : Gives timer.moments 0 timer.before start) where
+  count_is : length ins ≡ length config.inputs
+  count_is = ins_count config start sources clocks sinks core ins outs part made s c
+
+  left_by : (ending : Ending) → AreSameInputs ins last_ins → FinishesSo (views_by config.outputs) config.agent.final_tries ending core last ins last_ins outs last_outs part last_part timer →
+      RanBy config ending (config_ins config config.inputs sources (map in_carried last_ins) clocks) (config_outs config.outputs sinks (map out_carried last_outs)) (change part.held last_part.held part.faults last_part.faults) timer.moments
+  left_by ending same ends =
+      let views = views_by config.outputs in
+      let finished = ends (begun (sizes_of config) start views ins outs part) (around ins outs part) refl refl (λ f. made.set_up.settled) (made.set_up.agrees views) in
+      let all = ran views config.agent.final_tries (length ins) (sizes_of config) start ins outs part.held part.faults ending last last_ins last_outs last_part timer gives same.count finished in
+      let ins_are : in_runs ins last_ins ≡ config_ins config config.inputs sources (map in_carried last_ins) clocks =
+      ap (λ (xs : List InPart). in_runs xs last_ins) made.ins_are ∙ ins_left config 0 config.inputs sources clocks last_ins (subst (λ (xs : List InPart). AreSameInputs xs last_ins) made.ins_are same) in
+      let outs_are : out_runs outs last_outs ≡ config_outs config.outputs sinks (map out_carried last_outs) =
+      ap (λ (xs : List OutPart). out_runs xs last_outs) made.outs_are ∙ outs_left 0 config.outputs sinks last_outs in
+      let noted = change part.held last_part.held part.faults last_part.faults in
+      subst (λ (n : ℕ). Ran views config.agent.final_tries n (sizes_of config) ending (config_ins config config.inputs sources (map in_carried last_ins) clocks) (config_outs config.outputs sinks (map out_carried last_outs)) noted timer.moments) count_is
+      (subst (λ (xs : List OutRun). Ran views config.agent.final_tries (length ins) (sizes_of config) ending (config_ins config config.inputs sources (map in_carried last_ins) clocks) xs noted timer.moments) outs_are
+      (subst (λ (xs : List InRun). Ran views config.agent.final_tries (length ins) (sizes_of config) ending xs (out_runs outs last_outs) noted timer.moments) ins_are all))
+
+  pub ran_by : (r : Result Ending OutOfMemory) (news new_sinks : List Carried) → news ≡ map in_carried last_ins → new_sinks ≡ map out_carried last_outs → OnOk r (AreSameInputs ins last_ins) → IfOk r (λ ending. FinishesSo (views_by config.outputs) config.agent.final_tries ending core last ins last_ins outs last_outs part last_part timer) →
+      IfOk r (λ ending. RanBy config ending (config_ins config config.inputs sources news clocks) (config_outs config.outputs sinks new_sinks) (change part.held last_part.held part.faults last_part.faults) timer.moments)
+  ran_by (Err fault) news new_sinks n k same ends = tt
+  ran_by (Ok ending) news new_sinks n k same ends = rw (n, k) (left_by ending same ends)
+
+  -- the same by other terms
+  pub ran_with : (confs : List OutputConf) (tries : ℕ) → confs ≡ config.outputs → tries ≡ config.agent.final_tries → (r : Result Ending OutOfMemory) (news new_sinks : List Carried) → news ≡ map in_carried last_ins → new_sinks ≡ map out_carried last_outs → OnOk r (AreSameInputs ins last_ins) →
+      IfOk r (λ ending. FinishesSo (views_by confs) tries ending core last ins last_ins outs last_outs part last_part timer) → (noted : Change) (moments : Option Moments) → change part.held last_part.held part.faults last_part.faults ≡ noted → timer.moments ≡ moments →
+      IfOk r (λ ending. RanBy config ending (config_ins config config.inputs sources news clocks) (config_outs config.outputs sinks new_sinks) noted moments)
+  ran_with confs tries o t r news new_sinks n k same ends noted moments w m =
+      subst (λ (x : Option Moments). IfOk r (λ ending. RanBy config ending (config_ins config config.inputs sources news clocks) (config_outs config.outputs sinks new_sinks) noted x)) m
+      (subst (λ (x : Change). IfOk r (λ ending. RanBy config ending (config_ins config config.inputs sources news clocks) (config_outs config.outputs sinks new_sinks) x timer.moments)) w
+      (ran_by r news new_sinks n k same
+      (subst (λ (x : ℕ). IfOk r (λ ending. FinishesSo (views_by config.outputs) x ending core last ins last_ins outs last_outs part last_part timer)) t
+      (subst (λ (xs : List OutputConf). IfOk r (λ ending. FinishesSo (views_by xs) tries ending core last ins last_ins outs last_outs part last_part timer)) o ends))))

@@ -1,0 +1,121 @@
+-- What lines have said, line by line.
+use Rattle.std.proofs.Common.{◌≡◌, ◌+◌, ◌-◌, ◌^◌, ℕ, ℤ, Bool, true, false, List, [], ◌∷◌, ◌++◌, min, Some, None, refl, sym, ap, ◌∙◌, append_assoc, append-nil, arith}
+use Rattle.metric.specs.declared.metric.Content.{Content}
+use Rattle.metric.specs.Draft.{Tag}
+use Rattle.openmetrics_text.specs.declared.collected.Collected.{Collected}
+use Rattle.openmetrics_text.specs.Collecting.{HaveSaid}
+use Rattle.openmetrics_text.specs.Lines.{LineSays, Typed, Nothing, Sampled}
+use Rattle.openmetrics_text.specs.Reading.{content_of, contents_by, contents_of, exposition_of, metrics_from, passed_by, passed_in}
+use Rattle.openmetrics_text.specs.Sample.{Said}
+use Rattle.openmetrics_text.specs.Views.{said_view}
+use Rattle.openmetrics_text.specs.TypeViews.{HaveTypes}
+use Rattle.openmetrics_text.specs.Types.{types_in, type_of}
+
+-- what a line says behind TYPE lines
+abbrev pub says_metrics : ℤ → Bool → List Tag → LineSays → List Content
+says_metrics moment typed types (Typed name kind) = []
+says_metrics moment typed types Nothing = []
+says_metrics moment typed types (Sampled said) = contents_of moment typed (type_of said.name types) said
+
+abbrev pub says_passed : LineSays → ℕ
+says_passed (Typed name kind) = 0
+says_passed Nothing = 0
+says_passed (Sampled said) = passed_by said.value
+
+abbrev pub says_types : LineSays → List Tag
+says_types (Typed name kind) = (name, kind) ∷ []
+says_types Nothing = []
+says_types (Sampled said) = []
+
+pub types_in-push : (lines : List LineSays) (line : LineSays) → types_in (lines ++ line ∷ []) ≡ types_in lines ++ says_types line
+unfolding types_in
+types_in-push [] (Typed name kind) = refl
+types_in-push [] Nothing = refl
+types_in-push [] (Sampled said) = refl
+types_in-push (Typed name kind ∷ lines) line = ap (λ (ts : List Tag). (name, kind) ∷ ts) (types_in-push lines line)
+types_in-push (Nothing ∷ lines) line = types_in-push lines line
+types_in-push (Sampled said ∷ lines) line = types_in-push lines line
+
+pub passed_in-push : (lines : List LineSays) (line : LineSays) → passed_in (lines ++ line ∷ []) ≡ passed_in lines + says_passed line
+unfolding passed_in
+passed_in-push [] (Typed name kind) = refl
+passed_in-push [] Nothing = refl
+passed_in-push [] (Sampled said) = omega arith
+passed_in-push (Typed name kind ∷ lines) line = passed_in-push lines line
+passed_in-push (Nothing ∷ lines) line = passed_in-push lines line
+passed_in-push (Sampled said ∷ lines) line = ap (λ (n : ℕ). passed_by said.value + n) (passed_in-push lines line) ∙ omega arith
+
+pub metrics_from-push : (moment : ℤ) (typed : Bool) (types : List Tag) (lines : List LineSays) (line : LineSays)
+    → metrics_from moment typed types (lines ++ line ∷ []) ≡ metrics_from moment typed types lines ++ says_metrics moment typed (types ++ types_in lines) line
+unfolding metrics_from types_in
+metrics_from-push moment typed types [] (Typed name kind) = refl
+metrics_from-push moment typed types [] Nothing = refl
+metrics_from-push moment typed types [] (Sampled said) = append-nil (contents_of moment typed (type_of said.name types) said) ∙ ap (λ (ts : List Tag). contents_of moment typed (type_of said.name ts) said) (sym (append-nil types))
+metrics_from-push moment typed types (Typed name kind ∷ lines) line =
+    metrics_from-push moment typed (types ++ (name, kind) ∷ []) lines line ∙ ap (λ (ts : List Tag). metrics_from moment typed (types ++ (name, kind) ∷ []) lines ++ says_metrics moment typed ts line) (append_assoc types ((name, kind) ∷ []) (types_in lines))
+metrics_from-push moment typed types (Nothing ∷ lines) line = metrics_from-push moment typed types lines line
+metrics_from-push moment typed types (Sampled said ∷ lines) line =
+    ap (λ (ms : List Content). contents_of moment typed (type_of said.name types) said ++ ms) (metrics_from-push moment typed types lines line)
+    ∙ sym (append_assoc (contents_of moment typed (type_of said.name types) said) (metrics_from moment typed types lines) (says_metrics moment typed (types ++ types_in lines) line))
+
+-- one line more
+pub said_more : (moment : ℤ) (typed : Bool) (old new : Collected) (lines : List LineSays) (line : LineSays) → HaveSaid moment typed old lines
+    → new.metrics.items ≡ old.metrics.items ++ says_metrics moment typed (types_in lines) line
+    → new.passed ≡ min (old.passed + says_passed line) (2 ^ 32 - 1)
+    → (typed ≡ true → HaveTypes new.types (types_in lines ++ says_types line))
+    → HaveSaid moment typed new (lines ++ line ∷ [])
+said_more moment typed old new lines line h metrics passed types = record {
+  metrics = metrics ∙ ap (λ (ms : List Content). ms ++ says_metrics moment typed (types_in lines) line) h.metrics ∙ sym (metrics_from-push moment typed [] lines line);
+  passed = passed ∙ counts old.passed (passed_in lines) (passed_in (lines ++ line ∷ [])) (says_passed line) h.passed (passed_in-push lines line);
+  types = λ e. rw (types_in-push lines line) (types e);
+}
+  where
+    counts : (a n m k : ℕ) → a ≡ min n (2 ^ 32 - 1) → m ≡ n + k → min (a + k) (2 ^ 32 - 1) ≡ min m (2 ^ 32 - 1)
+    counts a n m k e f = omega arith
+
+-- a line that says nothing
+pub said_nothing : (moment : ℤ) (typed : Bool) (old : Collected) (lines : List LineSays) → HaveSaid moment typed old lines → HaveSaid moment typed old (lines ++ Nothing ∷ [])
+said_nothing moment typed old lines h = said_more moment typed old old lines Nothing h (sym (append-nil old.metrics.items)) (still old.passed (passed_in lines) h.passed) (λ e. rw append-nil (h.types e))
+  where
+    still : (a n : ℕ) → a ≡ min n (2 ^ 32 - 1) → a ≡ min (a + 0) (2 ^ 32 - 1)
+    still a n e = omega arith
+
+-- a TYPE line
+pub said_type : (moment : ℤ) (typed : Bool) (old new : Collected) (lines : List LineSays) (name kind : List ℕ) → HaveSaid moment typed old lines
+    → new.metrics.items ≡ old.metrics.items → new.passed ≡ old.passed → (typed ≡ true → HaveTypes new.types (types_in lines ++ (name, kind) ∷ []))
+    → HaveSaid moment typed new (lines ++ Typed name kind ∷ [])
+said_type moment typed old new lines name kind h metrics passed types =
+    said_more moment typed old new lines (Typed name kind) h (metrics ∙ sym (append-nil old.metrics.items)) (still new.passed old.passed (passed_in lines) passed h.passed) types
+  where
+    still : (b a n : ℕ) → b ≡ a → a ≡ min n (2 ^ 32 - 1) → b ≡ min (a + 0) (2 ^ 32 - 1)
+    still b a n f e = omega arith
+
+-- a sample
+full : (a n k : ℕ) → a ≡ min n (2 ^ 32 - 1) → k ≡ 0 → a ≡ min (a + k) (2 ^ 32 - 1)
+full a n k e z = omega arith
+
+-- where no type is asked for, it doesn't count
+kept_kind : (moment : ℤ) (typed : Bool) (kind other : List ℕ) (said : Said) (number : ℤ) → (typed ≡ true → kind ≡ other) → content_of moment typed kind said number ≡ content_of moment typed other said number
+kept_kind moment true kind other said number h = ap (λ (k : List ℕ). content_of moment true k said number) (h refl)
+kept_kind moment false kind other said number h = refl
+
+pub said_metric : (moment : ℤ) (typed : Bool) (old new : Collected) (lines : List LineSays) (said : Said) (number : ℤ) (metric : Content) (kind : List ℕ) → HaveSaid moment typed old lines → said.value ≡ Some number
+    → (typed ≡ true → kind ≡ type_of said.name (types_in lines)) → metric ≡ content_of moment typed kind said number
+    → new.metrics.items ≡ old.metrics.items ++ metric ∷ [] → new.passed ≡ old.passed → (typed ≡ true → HaveTypes new.types (types_in lines))
+    → HaveSaid moment typed new (lines ++ Sampled said ∷ [])
+said_metric moment typed old new lines said number metric kind h value kind_is made metrics passed types =
+    let one : metric ∷ [] ≡ contents_of moment typed (type_of said.name (types_in lines)) said =
+    ap (λ (m : Content). m ∷ []) (made ∙ kept_kind moment typed kind (type_of said.name (types_in lines)) said number kind_is) ∙ sym (ap (contents_by moment typed (type_of said.name (types_in lines)) said) value) in
+    said_more moment typed old new lines (Sampled said) h (metrics ∙ ap (λ (ms : List Content). old.metrics.items ++ ms) one) (passed ∙ full old.passed (passed_in lines) (passed_by said.value) h.passed (ap passed_by value)) (λ e. rw append-nil (types e))
+
+pub said_passed : (moment : ℤ) (typed : Bool) (old new : Collected) (lines : List LineSays) (said : Said) → HaveSaid moment typed old lines → said.value ≡ None
+    → new.metrics.items ≡ old.metrics.items → new.passed ≡ min (old.passed + 1) (2 ^ 32 - 1) → (typed ≡ true → HaveTypes new.types (types_in lines))
+    → HaveSaid moment typed new (lines ++ Sampled said ∷ [])
+said_passed moment typed old new lines said h value metrics passed types =
+    let none : [] ≡ contents_of moment typed (type_of said.name (types_in lines)) said = sym (ap (contents_by moment typed (type_of said.name (types_in lines)) said) value) in
+    let one : 1 ≡ passed_by said.value = sym (ap passed_by value) in
+    said_more moment typed old new lines (Sampled said) h (metrics ∙ sym (append-nil old.metrics.items) ∙ ap (λ (ms : List Content). old.metrics.items ++ ms) none) (passed ∙ ap (λ (n : ℕ). min (old.passed + n) (2 ^ 32 - 1)) one) (λ e. rw append-nil (types e))
+
+-- all lines
+pub said_is : (moment : ℤ) (typed : Bool) (collected : Collected) (lines : List LineSays) → HaveSaid moment typed collected lines → exposition_of moment typed lines ≡ said_view collected
+said_is moment typed collected lines h = rw (h.metrics, h.passed) refl

@@ -1,0 +1,16 @@
+pub mod Bytes
+pub mod Names
+pub mod Faults
+pub mod Labels
+pub mod Sample
+pub mod Lines
+pub mod Types
+pub mod TypeViews
+pub mod Reading
+pub mod Views
+pub mod Collecting
+pub mod Grammar
+pub mod Writing
+pub mod Groups
+pub mod WriteViews
+pub mod RoundTrip

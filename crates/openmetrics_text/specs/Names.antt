@@ -1,0 +1,29 @@
+-- Names of samples and of labels.
+use Rattle.std.specs.Prelude.{ℕ, ◌==◌, ◌&&◌, ◌||◌, not, Bool, List, length, slice_index, if◌then◌else◌}
+use Rattle.std.specs.Char.{is_ascii_alphabetic, is_ascii_digit}
+use Rattle.std.specs.List.{position_or_len}
+use Rattle.text_parts.specs.Bytes.{underscore}
+use Rattle.openmetrics_text.specs.Bytes.{colon}
+
+-- letters, digits and underscores are of the alphabet of labels; a colon is of that of samples too
+abbrev pub is_label_byte : ℕ → Bool
+is_label_byte b = is_ascii_alphabetic b || is_ascii_digit b || b == underscore
+
+abbrev pub is_name_byte : ℕ → Bool
+is_name_byte b = is_label_byte b || b == colon
+
+-- what ends the name of a label, and of a sample
+abbrev pub ends_label : ℕ → Bool
+ends_label b = not (is_label_byte b)
+
+abbrev pub ends_name : ℕ → Bool
+ends_name b = not (is_name_byte b)
+
+-- how many bytes the name has that a text begins with: all before the first one that isn't of the alphabet,
+-- and none where the first is a digit
+unfoldable pub name_len : (ℕ → Bool) → List ℕ → ℕ
+name_len ends text = if is_ascii_digit (slice_index text 0) then 0 else position_or_len ends text
+
+-- a whole text is the name of a sample
+abbrev pub is_name : List ℕ → Bool
+is_name text = name_len ends_name text == length text && not (length text == 0)

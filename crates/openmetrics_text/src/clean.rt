@@ -1,0 +1,123 @@
+//! Names as they are written: a byte outside of their alphabet is `_`, and `_` stands before a digit at the
+//! front.
+ghost use Rattle.std.specs.Prelude.{◌≡◌, IfOk, map};
+ghost use Rattle.text_parts.specs.Adds.{Adds};
+ghost use Rattle.openmetrics_text.specs.Names.{ends_label, ends_name};
+ghost use Rattle.openmetrics_text.specs.Writing.{clean_byte, digit_mark, cleaned, family_words, family_of};
+
+use crate::names::begins_with_digit;
+use fixed_num::OutOfMemory;
+use std::alloc::Global;
+use text_parts::append_words;
+
+/// Each byte as it stands in the name of a label: a letter, a digit or `_`, or `_` for another.
+static LABEL_BYTES: [u8; 256] = *b"\
+    ________________________________\
+    ________________0123456789______\
+    _ABCDEFGHIJKLMNOPQRSTUVWXYZ_____\
+    _abcdefghijklmnopqrstuvwxyz_____\
+    ________________________________\
+    ________________________________\
+    ________________________________\
+    ________________________________";
+
+/// Each byte as it stands in the name of a sample: the same, and the colon.
+static NAME_BYTES: [u8; 256] = *b"\
+    ________________________________\
+    ________________0123456789:_____\
+    _ABCDEFGHIJKLMNOPQRSTUVWXYZ_____\
+    _abcdefghijklmnopqrstuvwxyz_____\
+    ________________________________\
+    ________________________________\
+    ________________________________\
+    ________________________________";
+
+/// A byte as it stands in the name of a label.
+#[inline(always)]
+fn label_byte(byte: u8) -> u8
+    ensures { result ≡ clean_byte ends_label byte }
+{
+    LABEL_BYTES[byte as usize]
+}
+
+/// A byte as it stands in the name of a sample.
+#[inline(always)]
+fn name_byte(byte: u8) -> u8
+    ensures { result ≡ clean_byte ends_name byte }
+{
+    NAME_BYTES[byte as usize]
+}
+
+/// Puts each byte as it stands in the name of a label.
+fn clean_label(bytes: &mut [u8])
+    ensures { bytes.new ≡ map (clean_byte ends_label) bytes.old }
+{
+    for byte in bytes.iter_mut() {
+        *byte = label_byte(*byte);
+    }
+}
+
+/// Puts each byte as it stands in the name of a sample.
+fn clean_name(bytes: &mut [u8])
+    ensures { bytes.new ≡ map (clean_byte ends_name) bytes.old }
+{
+    for byte in bytes.iter_mut() {
+        *byte = name_byte(*byte);
+    }
+}
+
+/// Appends the `_` that stands before a digit at the front of a text.
+fn append_mark(out: &mut Vec<u8>, text: &str) -> Result<(), OutOfMemory>
+    ensures { Adds result out.old.items out.new.items (digit_mark text.now) }
+{
+    if begins_with_digit(text.as_bytes()) {
+        out.push(b'_')?;
+        return Ok(());
+    }
+    Ok(())
+}
+
+/// Appends a measurement and the key of a field that isn't `value`.
+fn append_family_words(out: &mut Vec<u8>, name: &str, key: &str) -> Result<(), OutOfMemory>
+    ensures { Adds result out.old.items out.new.items (family_words name.now key.now) }
+{
+    append_words(out, name)?;
+    if key == "value" {
+        return Ok(());
+    }
+    out.push(b'_')?;
+    append_words(out, key)?;
+    Ok(())
+}
+
+/// The name of a label.
+pub(crate) fn label_name(alloc: Global, key: &str) -> Result<Vec<u8>, OutOfMemory>
+    ensures { IfOk result (λ name. name.items ≡ cleaned ends_label key.now) }
+{
+    let mut name = Vec::with_capacity(alloc, key.len().saturating_add(1))?;
+    append_mark(&mut name, key)?;
+    append_words(&mut name, key)?;
+    clean_label(&mut name);
+    Ok(name)
+}
+
+/// Puts each byte of a family as it stands in the name of a sample.
+fn clean(family: &mut Vec<u8>)
+    ensures { family.new.items ≡ map (clean_byte ends_name) family.old.items }
+{
+    clean_name(family);
+}
+
+/// The family of a field.
+pub(crate) fn family_of(alloc: Global, name: &str, key: &str) -> Result<Vec<u8>, OutOfMemory>
+    ensures { IfOk result (λ family. family.items ≡ family_of name.now key.now) }
+{
+    let mut family = Vec::with_capacity(
+        alloc,
+        name.len().saturating_add(key.len()).saturating_add(2),
+    )?;
+    append_mark(&mut family, name)?;
+    append_family_words(&mut family, name, key)?;
+    clean(&mut family);
+    Ok(family)
+}

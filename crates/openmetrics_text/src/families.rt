@@ -1,0 +1,165 @@
+//! Lines of samples, gathered by family, series and time.
+ghost use Rattle.std.specs.Prelude.{◌≡◌, ◌++◌, IfOk, OnOk, []};
+ghost use Rattle.text_parts.specs.Adds.{Adds};
+ghost use Rattle.openmetrics_text.specs.Groups.{put_line, put_series, put_family};
+ghost use Rattle.openmetrics_text.specs.Groups.{lines_text, series_text, families_text};
+ghost use Rattle.openmetrics_text.specs.Writing.{type_text};
+ghost use Rattle.openmetrics_text.specs.WriteViews.{lines_view, family_view, families_view};
+
+use fixed_num::{Moment, OutOfMemory};
+use indexmap::IndexMap;
+use std::alloc::Global;
+use std::collections::BTreeMap;
+use text_parts::{append_bytes, append_words};
+
+/// The line of a sample.
+#[derive(Debug, Drop)]
+pub(crate) struct SampleLine {
+    /// The sample's time.
+    pub(crate) time: Moment,
+    /// The line, with its newline.
+    pub(crate) text: Vec<u8>,
+}
+
+/// The lines of a series, by their times.
+pub(crate) type Series = BTreeMap<Moment, Vec<u8>>;
+
+/// The series of a family, by what stands for their labels.
+pub(crate) type Family = IndexMap<Vec<u8>, Series>;
+
+/// Families by their names.
+pub(crate) type Families = IndexMap<Vec<u8>, Family>;
+
+/// Puts a line into a series, in place of one of its time.
+fn put_line(series: &mut Series, line: SampleLine) -> Result<(), OutOfMemory>
+    ensures { OnOk result
+        (lines_view series.new ≡ put_line line.time line.text.items (lines_view series.old)) }
+{
+    series.insert(line.time, line.text)?;
+    Ok(())
+}
+
+/// A copy of bytes.
+fn copy(alloc: Global, bytes: &[u8]) -> Result<Vec<u8>, OutOfMemory>
+    ensures { IfOk result (λ copy. copy.items ≡ bytes.now) }
+{
+    let mut copy = Vec::with_capacity(alloc, bytes.len())?;
+    copy.extend_from_slice(bytes)?;
+    Ok(copy)
+}
+
+/// A series of one line.
+fn series_of(alloc: Global, line: SampleLine) -> Result<Series, OutOfMemory>
+    ensures { IfOk result (λ series. lines_view series ≡ put_line line.time line.text.items []) }
+{
+    let mut series = BTreeMap::new(alloc);
+    put_line(&mut series, line)?;
+    Ok(series)
+}
+
+/// Puts a line into its series of a family.
+fn put_series(
+    alloc: Global,
+    family: &mut Family,
+    key: &[u8],
+    line: SampleLine,
+) -> Result<(), OutOfMemory>
+    ensures { OnOk result (family_view family.new
+        ≡ put_series key.now line.time line.text.items (family_view family.old)) }
+{
+    match family.get_mut(key) {
+        Some(series) => {
+            put_line(series, line)?;
+            Ok(())
+        }
+        None => {
+            let series = series_of(alloc, line)?;
+            family.insert(copy(alloc, key)?, series)?;
+            Ok(())
+        }
+    }
+}
+
+/// A family of one line.
+fn family_of(alloc: Global, key: &[u8], line: SampleLine) -> Result<Family, OutOfMemory>
+    ensures { IfOk result
+        (λ family. family_view family ≡ put_series key.now line.time line.text.items []) }
+{
+    let mut family = IndexMap::new(alloc);
+    put_series(alloc, &mut family, key, line)?;
+    Ok(family)
+}
+
+/// Puts a line into its series of its family.
+pub(crate) fn put_family(
+    alloc: Global,
+    families: &mut Families,
+    name: Vec<u8>,
+    key: &[u8],
+    line: SampleLine,
+) -> Result<(), OutOfMemory>
+    ensures { OnOk result (families_view families.new
+        ≡ put_family name.items key.now line.time line.text.items (families_view families.old)) }
+{
+    match families.get_mut(name.as_slice()) {
+        Some(family) => {
+            put_series(alloc, family, key, line)?;
+            Ok(())
+        }
+        None => {
+            let family = family_of(alloc, key, line)?;
+            families.insert(name, family)?;
+            Ok(())
+        }
+    }
+}
+
+/// Appends the lines of a series.
+fn append_lines(out: &mut Vec<u8>, series: &Series) -> Result<(), OutOfMemory>
+    ensures { Adds result out.old.items out.new.items (lines_text (lines_view series.now)) }
+{
+    for (_time, line) in series.iter() {
+        append_bytes(out, line.as_slice())?;
+    }
+    Ok(())
+}
+
+/// Appends the lines of a family.
+fn append_series(out: &mut Vec<u8>, family: &Family) -> Result<(), OutOfMemory>
+    ensures { Adds result out.old.items out.new.items (series_text (family_view family.now)) }
+{
+    for (_key, series) in family.iter() {
+        append_lines(out, series)?;
+    }
+    Ok(())
+}
+
+/// Appends the line of a family's type.
+fn append_type(out: &mut Vec<u8>, name: &[u8]) -> Result<(), OutOfMemory>
+    ensures { Adds result out.old.items out.new.items (type_text name.now) }
+{
+    append_words(out, "# TYPE ")?;
+    append_bytes(out, name)?;
+    append_words(out, " unknown\n")?;
+    Ok(())
+}
+
+/// Appends a family.
+fn append_family(out: &mut Vec<u8>, name: &[u8], family: &Family) -> Result<(), OutOfMemory>
+    ensures { Adds result out.old.items out.new.items
+        (type_text name.now ++ series_text (family_view family.now)) }
+{
+    append_type(out, name)?;
+    append_series(out, family)?;
+    Ok(())
+}
+
+/// Appends families.
+pub(crate) fn append_families(out: &mut Vec<u8>, families: &Families) -> Result<(), OutOfMemory>
+    ensures { Adds result out.old.items out.new.items (families_text (families_view families.now)) }
+{
+    for (name, family) in families.iter() {
+        append_family(out, name.as_slice(), family)?;
+    }
+    Ok(())
+}

@@ -1,0 +1,19 @@
+//! Laws of readings.
+ghost use Rattle.openmetrics_text.specs.Grammar.{WrittenIsRead, ReadIsWritten};
+ghost use Rattle.openmetrics_text.specs.RoundTrip.{WrittenIsReadBack};
+
+/// An exposition that is written is read as what its lines say.
+pub fn written_is_read()
+    ensures { WrittenIsRead }
+{}
+
+/// What is read is an exposition that is written.
+pub fn read_is_written()
+    ensures { ReadIsWritten }
+{}
+
+/// What is written of a batch of metrics is read as its samples in the order in which they are written, and none
+/// is passed over: each with its family, its labels as tags, its number and its time.
+pub fn written_is_read_back()
+    ensures { WrittenIsReadBack }
+{}

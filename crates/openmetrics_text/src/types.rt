@@ -1,0 +1,108 @@
+//! The types of samples.
+ghost use Rattle.std.specs.Prelude.{◌≡◌, ◌++◌, [], ◌∷◌, codes, OnOk, List, map, slice_index_or};
+ghost use Rattle.std.specs.Str.{bytes_eq};
+ghost use Rattle.metric.specs.Draft.{Tag};
+ghost use Rattle.openmetrics_text.specs.Types.{last_of, later, type_of, is_family_of};
+ghost use Rattle.openmetrics_text.specs.TypeViews.{HaveTypes};
+
+use fixed_num::OutOfMemory;
+use std::alloc::Global;
+use std::collections::BTreeMap;
+
+/// The types of the TYPE lines that were read, and for each of their names the place of its last one.
+#[derive(Drop)]
+pub(crate) struct Types<'a> {
+    kinds: Vec<&'a str>,
+    last: BTreeMap<&'a [u8], usize>,
+}
+
+/// The later of two places.
+fn later(one: Option<usize>, other: Option<usize>) -> Option<usize>
+    ensures { result ≡ later one other }
+{
+    match one {
+        Some(place) => match other {
+            Some(another) => Some(place.max(another)),
+            None => Some(place),
+        },
+        None => other,
+    }
+}
+
+impl<'a> Types<'a> {
+    /// No TYPE line was read.
+    pub(crate) fn new(alloc: Global) -> Types<'a>
+        ensures { HaveTypes result [] }
+    {
+        Types {
+            kinds: Vec::new(alloc),
+            last: BTreeMap::new(alloc),
+        }
+    }
+
+    /// One more TYPE line.
+    pub(crate) fn add(&mut self, name: &'a str, kind: &'a str) -> Result<(), OutOfMemory>
+        ensures { OnOk result ((pairs : List Tag) → HaveTypes self.old pairs
+            → HaveTypes self.new (pairs ++ (name.now, kind.now) ∷ [])) }
+    {
+        self.last.insert(name.as_bytes(), self.kinds.len())?;
+        self.kinds.push(kind)?;
+        Ok(())
+    }
+
+    // The place of the last TYPE line of a name.
+    fn last_of(&self, name: &[u8]) -> Option<usize>
+        ensures { (pairs : List Tag) → HaveTypes self.now pairs
+            → result ≡ last_of (λ other. bytes_eq other name.now) pairs }
+    {
+        self.last.get(name).copied()
+    }
+
+    // The place of the last TYPE line of a sample's name without a suffix, where it has that.
+    fn last_without(&self, name: &[u8], suffix: &[u8]) -> Option<usize>
+        ensures { (pairs : List Tag) → HaveTypes self.now pairs
+            → result ≡ last_of (λ other. bytes_eq (other ++ suffix.now) name.now) pairs }
+    {
+        match name.strip_suffix(suffix) {
+            Some(front) => self.last_of(front),
+            None => None,
+        }
+    }
+
+    // The place of the last TYPE line of a sample's name, or that without one suffix.
+    fn last_for(&self, name: &[u8]) -> Option<usize>
+        ensures { (pairs : List Tag) → HaveTypes self.now pairs
+            → result ≡ last_of (is_family_of name.now) pairs }
+    {
+        let info = self.last_without(name, b"_info");
+        let gsum = later(self.last_without(name, b"_gsum"), info);
+        let gcount = later(self.last_without(name, b"_gcount"), gsum);
+        let sum = later(self.last_without(name, b"_sum"), gcount);
+        let count = later(self.last_without(name, b"_count"), sum);
+        let bucket = later(self.last_without(name, b"_bucket"), count);
+        let created = later(self.last_without(name, b"_created"), bucket);
+        let total = later(self.last_without(name, b"_total"), created);
+        later(self.last_of(name), total)
+    }
+
+    // The type at a place.
+    fn kind_at(&self, place: usize) -> &'a str
+        ensures { result.now
+            ≡ slice_index_or (map (λ kind. kind.now) self.now.kinds.items) place (codes "unknown") }
+    {
+        if place < self.kinds.len() {
+            return self.kinds[place];
+        }
+        "unknown"
+    }
+
+    /// The type of a sample's name.
+    pub(crate) fn type_of(&self, name: &str) -> &'a str
+        ensures { (pairs : List Tag) → HaveTypes self.now pairs → result.now ≡ type_of name.now pairs }
+    {
+        match self.last_for(name.as_bytes()) {
+            Some(place) => self.kind_at(place),
+            None => "unknown",
+        }
+    }
+}

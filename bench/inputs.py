@@ -1,9 +1,9 @@
 """Writes an input of line protocol, of lines of StatsD or Graphite, or of expositions: inputs.py KIND LINES FILE.
 
-KIND is telegraf, small, escaped, statsd, graphite or openmetrics; of the last LINES are its samples, 1,000 an exposition.
-The same words give the same bytes, and a shorter input begins a longer one. Each line of line protocol is as Hogzent writes it (tags sorted by key, canonical numbers with at
-most nine decimals, a time), so that an output must equal its input. Only escaped has backslashes and double
-quotes.
+KIND is telegraf, small, escaped, statsd, graphite or openmetrics; of the last LINES are its samples, 1,000 an
+exposition. The same words give the same bytes, and a shorter input begins a longer one. Each line of line protocol is
+as Hogzent writes it (tags sorted by key, canonical numbers with at most nine decimals, a time), so that an output must
+equal its input. Only escaped has backslashes and double quotes.
 """
 
 import random

@@ -1,9 +1,10 @@
 -- What is wrong with a configuration: a list, of which the first counts.
 use Rattle.std.specs.Prelude.{◌==◌, ◌&&◌, ◌||◌, ◌+◌, ℕ, ℤ, pos, negsuc, Bool, true, false, not}
 use Rattle.std.specs.Prelude.{List, [], ◌∷◌, ◌++◌, length, map, chars, codes, nat_le}
-use Rattle.std.specs.Prelude.{Option, Some, None, is_ok, is_some, option_and_then, option_map, unwrap_or}
+use Rattle.std.specs.Prelude.{Option, Some, None, is_some, option_and_then, option_map, unwrap_or}
 use Rattle.std.specs.Prelude.{if◌then◌else◌}
 use Rattle.std.specs.List.{list_any}
+use Rattle.std.specs.Result.{result_ok}
 use Rattle.std.specs.Str.{bytes_eq, is_utf8}
 use Rattle.toml.specs.Data.{Data, Items, no_items, item}
 use Rattle.toml.specs.Data.{Members, no_members, member, get_member, as_table, as_array, as_str, as_integer}
@@ -11,6 +12,7 @@ use Rattle.toml.specs.Data.{as_bool}
 use Rattle.toml.specs.Parse.{parse_document}
 use Rattle.metric.specs.Glob.{glob_of}
 use Rattle.graphite_text.specs.Template.{template_of}
+use Rattle.graphite_text.specs.Template.{Shape as Template}
 use Rattle.agent_config.specs.Durations.{time_of_text, time_of_seconds}
 use Rattle.agent_config.specs.Keys.{is_one_of, is_root_key, shape_of}
 use Rattle.agent_config.specs.declared.keys.Keys.{Keys}
@@ -114,9 +116,13 @@ abbrev pub list_faults : Option (List (List ℕ)) → List ConfigKind
 list_faults None = WrongType ∷ []
 list_faults (Some texts) = glob_faults texts
 
+-- the template that a text spells; None where it spells none
+unfoldable pub template_in : List ℕ → Option Template
+template_in text = result_ok (template_of text)
+
 -- is the text a template
 abbrev pub is_template : List ℕ → Bool
-is_template text = is_ok (template_of text)
+is_template text = is_some (template_in text)
 
 -- the texts that are no templates, each BadTemplate
 abbrev pub template_faults : List (List ℕ) → List ConfigKind

@@ -2,16 +2,15 @@
 use Rattle.std.specs.Prelude.{◌==◌, ◌++◌, ℕ, pos, Bool, true, false, List, [], ◌∷◌, length, map, chars}
 use Rattle.std.specs.Prelude.{codes, Option, Some, None, option_and_then, option_to_list, if◌then◌else◌}
 use Rattle.std.specs.Prelude.{unwrap_or}
-use Rattle.std.specs.Result.{result_ok}
 use Rattle.std.specs.Str.{bytes_eq}
 use Rattle.toml.specs.Data.{Members, no_members, member, get_member, as_bool, as_str, as_table}
 use Rattle.metric.specs.Glob.{glob_of}
 use Rattle.metric.specs.declared.glob.Element.{Element}
 use Rattle.metric_filter.specs.declared.rules.FilterRules.{FilterRules}
-use Rattle.graphite_text.specs.Template.{Shape, template_of}
+use Rattle.graphite_text.specs.Template.{Shape as Template}
 use Rattle.agent_config.specs.Faults.{texts_in, count_at, agent_limits, own_limits, members_in, time_in}
 use Rattle.agent_config.specs.Faults.{Plugin, place_of, journal_of, table_at, plugins_at, most_counted}
-use Rattle.agent_config.specs.Faults.{text_at, truth_at}
+use Rattle.agent_config.specs.Faults.{template_in, text_at, truth_at}
 use Rattle.agent_config.specs.declared.tables.Limits.{Limits}
 use Rattle.agent_config.specs.declared.config.AgentConf.{AgentConf}
 use Rattle.agent_config.specs.declared.config.Config.{Config}
@@ -97,17 +96,17 @@ filter_of members = record {
 -- ---- formats
 
 -- the templates that texts spell, in order; a text that spells none is left out
-abbrev pub templates_of : List (List ℕ) → List Shape
+abbrev pub templates_of : List (List ℕ) → List Template
 templates_of [] = []
-templates_of (text ∷ texts) = option_to_list (result_ok (template_of text)) ++ templates_of texts
+templates_of (text ∷ texts) = option_to_list (template_in text) ++ templates_of texts
 
 -- the templates of a value that is a list of texts; another has none
-abbrev pub templates_in : Option (List (List ℕ)) → List Shape
+abbrev pub templates_in : Option (List (List ℕ)) → List Template
 templates_in None = []
 templates_in (Some texts) = templates_of texts
 
 -- the templates of an input
-abbrev pub templates_at : Members → List Shape
+abbrev pub templates_at : Members → List Template
 templates_at members = templates_in (option_and_then texts_in (get_member (codes "templates") members))
 
 -- the name of a plugin's format

@@ -1,9 +1,7 @@
 //! The templates that texts spell.
 ghost use Rattle.std.specs.Prelude.{◌≡◌, ◌++◌, IfOk, option_to_list};
-ghost use Rattle.std.specs.Result.{result_ok};
 ghost use Rattle.toml.specs.View.{table_view, view};
-ghost use Rattle.graphite_text.specs.Template.{template_of};
-ghost use Rattle.agent_config.specs.Faults.{first, template_faults, texts_in};
+ghost use Rattle.agent_config.specs.Faults.{first, template_faults, template_in, texts_in};
 ghost use Rattle.agent_config.specs.Seen.{now_of};
 ghost use Rattle.agent_config.specs.Values.{templates_at, templates_in, templates_of};
 
@@ -16,8 +14,9 @@ use std::alloc::Global;
 use toml::{Table, Value};
 
 /// The template that a text spells; None where it spells none.
+#[tactic(auto, unfolding(crate::specs::Faults::template_in))]
 fn read_template(alloc: Global, text: &str) -> Result<Option<Template>, OutOfMemory>
-    ensures { IfOk result (λ template. template ≡ result_ok (template_of text.now)) }
+    ensures { IfOk result (λ template. template ≡ template_in text.now) }
 {
     match Template::read(alloc, text) {
         Ok(template) => Ok(Some(template)),
@@ -75,7 +74,7 @@ fn templates_of(alloc: Global, texts: &[&str]) -> Result<Seq<Template>, OutOfMem
 /// Adds the template that a text spells, if it spells one.
 fn add_template(alloc: Global, templates: &mut Vec<Template>, text: &str) -> Result<(), OutOfMemory>
     ensures { IfOk result (λ _. templates.new.items
-        ≡ templates.old.items ++ option_to_list (result_ok (template_of text.now))) }
+        ≡ templates.old.items ++ option_to_list (template_in text.now)) }
 {
     match read_template(alloc, text)? {
         Some(template) => Ok(templates.push(template)?),

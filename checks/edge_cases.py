@@ -15,7 +15,7 @@ import termios
 import time
 from functools import partial
 
-from edge_configurations import CHECKS, CONFIGURED
+from edge_configurations import CHECKS, CONFIGURED, CONFIGURED_RUNS
 from edge_kit import (
     ACCOUNT,
     DROPPED,
@@ -530,7 +530,7 @@ RUNS = [
 
 def main(program):
     """Runs each case in a folder of its own, and prints a line for each and one for all."""
-    runs = [(case.name, partial(run_case, case)) for case in CASES + CHECKS + CONFIGURED] + RUNS
+    runs = [(case.name, partial(run_case, case)) for case in CASES + CHECKS + CONFIGURED] + CONFIGURED_RUNS + RUNS
     failed = 0
     for name, run in runs:
         with tempfile.TemporaryDirectory() as folder:

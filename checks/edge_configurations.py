@@ -1,5 +1,10 @@
 """Cases of edge_cases.py in which a configuration is checked, or run, over real files, links and devices."""
 
+import os
+import re
+import shutil
+import subprocess
+
 from edge_kit import (
     ACCOUNT,
     JOURNAL,
@@ -8,9 +13,11 @@ from edge_kit import (
     OLD,
     OPEN_FAULT,
     REFUSED,
+    SECONDS,
     Case,
     Folder,
     Link,
+    differences,
     open_fault,
     refused,
 )
@@ -267,3 +274,67 @@ FAULTS = [
 ]
 
 CONFIGURED = [*RUNS_WELL, *REFUSED_BY_PLACES, *FAULTS]
+
+# The example of docs/configuration.md with all four formats, and its inputs.
+DATA = os.path.join(os.path.dirname(os.path.realpath(__file__)), "..", "crates", "agent_main", "data")
+FORMAT_FILES = ["formats.toml", "cpu.lp", "counts.statsd", "paths.graphite", "node.om"]
+FORMATS_WRITTEN = {
+    "metrics.lp": b"""cpu,host=a v=1i 5
+hits,metric_type=counter value=30 NOW
+cpu_load,host=h1,region=eu-east value=42 1000000000
+mem_free value=7 2000000000
+up,job=node,om_type=gauge value=1 3000000000
+""",
+    "metrics.graphite": b"""a.cpu.v 1 0
+counter.hits 30 NOW
+h1.eu-east.cpu_load 42 1
+mem_free 7 2
+node.gauge.up 1 3
+""",
+    "metrics.om": b"""# TYPE cpu_v unknown
+cpu_v{host="a"} 1 0.000000005
+# TYPE hits unknown
+hits{metric_type="counter"} 30 NOW
+# TYPE cpu_load unknown
+cpu_load{host="h1",region="eu-east"} 42 1
+# TYPE mem_free unknown
+mem_free 7 2
+# TYPE up unknown
+up{job="node",om_type="gauge"} 1 3
+# EOF
+""",
+}
+FORMATS_ACCOUNT = b"".join(
+    b"input %d pieces %d refused 0 passed 0 filtered 0 gathered %d ended\n" % (number, count, count)
+    for number, count in enumerate([1, 1, 2, 1])
+) + b"items made 0 removed 0 routed 5\n" + b"".join(
+    b"output %d filtered 0 late 0 consumed 0 written 5 buffered 0 dropped 0\n" % number for number in range(3)
+)
+
+
+def formats_of_the_page(folder, program):
+    """Each format is read and written; what has no time gets that of the run, as seconds or nanoseconds since 1970."""
+    for name in FORMAT_FILES:
+        shutil.copy(os.path.join(DATA, name), folder)
+    with open(os.path.join(folder, "paths.graphite"), "rb") as paths:
+        ran = subprocess.run(
+            [program, "run", "formats.toml"],
+            cwd=folder,
+            stdin=paths,
+            capture_output=True,
+            timeout=SECONDS,
+            check=False,
+        )
+    written = {}
+    for name in FORMATS_WRITTEN:
+        with open(os.path.join(folder, name), "rb") as file:
+            written[name] = re.sub(rb"\b1[1-9][0-9]{8}(\.[0-9]+|[0-9]{9})?$", b"NOW", file.read(), flags=re.M)
+    return differences(
+        ("status", ran.returncode, 0),
+        ("standard output", ran.stdout, FORMATS_ACCOUNT),
+        ("standard error", ran.stderr, b""),
+        ("outputs", written, FORMATS_WRITTEN),
+    )
+
+
+CONFIGURED_RUNS = [("the example with all four formats", formats_of_the_page)]

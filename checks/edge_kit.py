@@ -60,7 +60,7 @@ LEFT = (
     b" the account says how many metrics are still buffered\n"
 )
 REPORT_FAULT = b"hogzent: the journal or the report could not be written whole\n"
-REFUSED = b"input 0: pieces refused: %d (no line protocol, or longer than 65536 bytes)"
+REFUSED = b"input 0: pieces refused: %d (not of the format of the input, or too long)"
 DROPPED = b"output 0: metrics dropped: %d (more waited than the buffer limit)"
 
 

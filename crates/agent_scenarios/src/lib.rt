@@ -8,6 +8,8 @@ mod command_tests;
 #[cfg(test)]
 mod fault_tests;
 #[cfg(test)]
+mod format_tests;
+#[cfg(test)]
 mod input_tests;
 #[cfg(test)]
 mod journal_tests;

@@ -3,7 +3,7 @@ use Rattle.std.specs.Prelude.{◌==◌, ◌++◌, ℕ, pos, Bool, true, false, L
 use Rattle.std.specs.Prelude.{codes, Option, Some, None, option_and_then, option_to_list, if◌then◌else◌}
 use Rattle.std.specs.Prelude.{unwrap_or}
 use Rattle.std.specs.Str.{bytes_eq}
-use Rattle.toml.specs.Data.{Members, no_members, member, get_member, as_bool, as_str, as_table}
+use Rattle.toml.specs.Data.{Members, no_members, member, get_member, as_str, as_table}
 use Rattle.metric.specs.Glob.{glob_of}
 use Rattle.metric.specs.declared.glob.Element.{Element}
 use Rattle.metric_filter.specs.declared.rules.FilterRules.{FilterRules}

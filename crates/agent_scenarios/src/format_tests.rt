@@ -13,7 +13,8 @@ use std::test::Fail;
 
 /// A StatsD input whose filter keeps out `a`, a Graphite input with templates, an OpenMetrics input whose metrics get
 /// their types; outputs of line protocol, of Graphite, and of OpenMetrics in batches of three.
-const EACH_FORMAT: &[u8] = b"[[inputs.file]]\nfiles = [\"s\"]\ndata_format = \"statsd\"\nnamedrop = [\"a\"]\n\
+const EACH_FORMAT: &[u8] =
+    b"[[inputs.file]]\nfiles = [\"s\"]\ndata_format = \"statsd\"\nnamedrop = [\"a\"]\n\
     [[inputs.file]]\nfiles = [\"g\"]\ndata_format = \"graphite\"\n\
     templates = [\"*.app env.service.resource.measurement\", \".measurement.field\"]\n\
     [[inputs.file]]\nfiles = [\"o\"]\ndata_format = \"openmetrics\"\ntype_tag = true\n\
@@ -28,7 +29,8 @@ const STATSD: &[u8] = b"hits:3|c|@0.1\nbad\na:1|c:2|c\nu:ann|s\n";
 const GRAPHITE: &[u8] = b"prod.app.cpu.load 42 1\nx.cpu.load 1 2\na..b 1 1\n";
 
 /// The first exposition has a sample that is passed over, and the second is refused.
-const OPENMETRICS: &[u8] = b"# TYPE http counter\nhttp_total{path=\"a\\\"b\"} 5 1.5 # {id=\"x\"} 1\n\
+const OPENMETRICS: &[u8] =
+    b"# TYPE http counter\nhttp_total{path=\"a\\\"b\"} 5 1.5 # {id=\"x\"} 1\n\
     http_total{path=\"c\"} NaN\n# EOF\nx y\n# EOF\nup 1 3\n# EOF\n";
 
 const LINES_SENT: &[u8] = b"hits,metric_type=counter value=30 0\n\
@@ -79,8 +81,18 @@ fn world_with(
 
 /// Runs all formats, with so many bytes a read.
 fn run_each(rt: &impl Abort, alloc: Global, read_size: usize) -> Result<(), Fail> {
-    let inputs = [("c", EACH_FORMAT), ("s", STATSD), ("g", GRAPHITE), ("o", OPENMETRICS)];
-    let mut world = world_with(alloc, &inputs, read_size, &["b", "b2", "b3", "agent.journal"])?;
+    let inputs = [
+        ("c", EACH_FORMAT),
+        ("s", STATSD),
+        ("g", GRAPHITE),
+        ("o", OPENMETRICS),
+    ];
+    let mut world = world_with(
+        alloc,
+        &inputs,
+        read_size,
+        &["b", "b2", "b3", "agent.journal"],
+    )?;
     let words = words_of(alloc, "run c")?;
     let status = agent(alloc, words.as_slice(), &mut world);
     assert_eq!(rt; status.code(), 0);

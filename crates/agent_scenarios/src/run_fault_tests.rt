@@ -227,7 +227,11 @@ fn run_case(rt: &impl Abort, alloc: Global, case: &FaultCase) -> Result<(), Fail
     assert_eq!(rt; world.report.bytes(), case.report, "{row:?}");
     assert_eq!(rt; held(&world.parts, "b"), output, "{row:?}");
     assert_eq!(rt; held(&world.parts, "b2"), second, "{row:?}");
-    assert_eq!(rt; held(&world.parts, "agent.journal").len(), case.journal, "{row:?}");
+    assert_eq!(rt;
+        held(&world.parts, "agent.journal").len(),
+        case.journal,
+        "{row:?}"
+    );
     Ok(())
 }
 

@@ -60,7 +60,8 @@ const ONE_TRY: &[u8] = b"[agent]\nfinal_tries = 1\ngather_pieces = 1\njournal = 
     [[outputs.file]]\nfiles = [\"b\"]\n";
 
 /// Its journal: the batch fails in each of two rounds, and once behind the stop.
-const ONE_TRY_JOURNAL: &[u8] = b"journal 1\nstart 0\ninput 0 plain\ninput 1 plain\noutput 0 1000 10000\n\
+const ONE_TRY_JOURNAL: &[u8] =
+    b"journal 1\nstart 0\ninput 0 plain\ninput 1 plain\noutput 0 1000 10000\n\
     gather 0 0 1 0 0 0 1 -\nm c|v=i1|1\nended 1\ntake 0\nroute 0 = passes / =\n\
     begin 0 0 1\ndone 0 failed\nended 0\nbegin 0 0 1\ndone 0 failed\n\
     stop 0 0\nbegin 0 0 1\ndone 0 failed\n\
@@ -124,7 +125,10 @@ fn clocks_by_number(rt: HostRuntime) -> Result<(), Fail> {
     let words = words_of(alloc, "run c")?;
     let status = agent(alloc, words.as_slice(), &mut world);
     assert_eq!(rt; status.code(), 0);
-    assert_eq!(rt; held(&world, "b"), b"c v=1i 100\nd v=3i 200\nc v=2i 101\n".as_slice());
+    assert_eq!(rt;
+        held(&world, "b"),
+        b"c v=1i 100\nd v=3i 200\nc v=2i 101\n".as_slice()
+    );
     assert_eq!(rt; held(&world, "agent.journal"), TIMED_JOURNAL);
     Ok(())
 }

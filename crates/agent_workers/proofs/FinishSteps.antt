@@ -288,6 +288,7 @@ module _ (start : Beginning) (tries : ℕ) (core : CoreState) (now : Surrounding
           record {
             number = f.number;
             readable = f.readable;
+            cut_by = f.cut_by;
             ended_is = w.text.stands.ended k within ∙ ap Some (w.heard k (within_ins k l)).ended;
             own = f.own;
             none_held = f.none_held;

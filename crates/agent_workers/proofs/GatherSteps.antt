@@ -27,6 +27,7 @@ use Rattle.agent_workers.specs.declared.input.InState.{InState}
 use Rattle.agent_workers.specs.declared.input.InState.TheVariants as states
 use Rattle.agent_workers.specs.declared.reading.Group.{Group}
 use Rattle.agent_workers.specs.Groups.{ReadsGroup, gathered_of}
+use Rattle.agent_workers.specs.Reader.{FitsGather}
 use Rattle.agent_workers.specs.Inputs.{InPart, in_at, no_in, HoldsNoEnd, HoldsOwn, IsOffered, HasMetEnd}
 use Rattle.agent_workers.specs.Progress.{Beginning, Surroundings, Heard, Progress, SettlesFirst, ReadsAt, GathersAt, EndsAt}
 use Rattle.agent_workers.specs.Running.{AreSettled}
@@ -224,7 +225,7 @@ pub held_as : (part : InPart) (g : Gathered) → part.held ≡ Some g → part �
 held_as part g e = ap (λ (x : Option Gathered). let p : InPart = record part { held = x } in p) e
 
 own_of : (part : InPart) (g : Gathered) → part.held ≡ Some g → HoldsOwn part → g.input ≡ part.input
-own_of part g e own = (subst (λ (x : Option Gathered). IfSome x (λ y. (y.input ≡ part.input) × (length y.metrics ≤ part.rule.most))) e own).0
+own_of part g e own = (subst (λ (x : Option Gathered). IfSome x (λ y. (y.input ≡ part.input) × FitsGather part.rule (length y.metrics))) e own).0
 
 -- it was accepted
 pub offer_accepted : (core next : CoreState) (part : InPart) (g : Gathered) → part.held ≡ Some g → HoldsOwn part → core.gathered + length g.metrics < 2 ^ 32 → next ≡ after_gather core g → Continues core next (gather_entry core g) → GathersAt core next part (record part { held = None })

@@ -1,5 +1,5 @@
 -- How many metrics a piece says at most.
-use Rattle.std.proofs.Common.{◌≡◌, ◌≤◌, ◌*◌, ℕ, ℤ, Bool, true, false, cond, List, [], ◌∷◌, ◌++◌, length, map, refl, sym, ap, ◌∙◌, arith, length-append, Result, Ok, Err, Option, Some, None}
+use Rattle.std.proofs.Common.{◌≡◌, ◌≤◌, ◌+◌, ◌*◌, ℕ, ℤ, Bool, true, false, cond, List, [], ◌∷◌, ◌++◌, length, map, refl, sym, ap, ◌∙◌, arith, length-append, Result, Ok, Err, Option, Some, None}
 use Rattle.std.specs.Prelude.{codes}
 use Rattle.std.specs.List.{flat_map, join_with_byte}
 use Rattle.std.specs.Str.{is_utf8}
@@ -7,10 +7,8 @@ use Rattle.std.specs.Str.Lossy.{utf8_valid_len}
 use Rattle.std.proofs.lemmas.List.{length-map}
 use Rattle.std.proofs.lemmas.List.Concat.{flat_map-cons}
 use Rattle.fixed_num.specs.Decimal.{decimal_of}
-use Rattle.fixed_num.specs.Fixed.{read_as}
 use Rattle.metric.specs.Draft.{Tag}
 use Rattle.metric.specs.declared.metric.Content.{Content}
-use Rattle.metric.specs.declared.value.Value.{Value}
 use Rattle.agent_base.specs.Cut.{most_bytes}
 use Rattle.agent_config.specs.declared.config.InFormat.{InFormat}
 use Rattle.agent_config.specs.declared.config.InFormat.TheVariants.{Influx, Statsd, Graphite, Openmetrics}
@@ -18,13 +16,10 @@ use Rattle.graphite_text.specs.Reading as graphite
 use Rattle.line_proto.specs.Reading as influx
 use Rattle.statsd_text.specs.Grammar as written
 use Rattle.statsd_text.specs.Reading as statsd
-use Rattle.statsd_text.specs.Said.{type_of, value_of, number_value}
+use Rattle.statsd_text.specs.Said.{type_of}
 use Rattle.statsd_text.specs.Sections.{fault}
 use Rattle.statsd_text.specs.declared.fault.StatsdFault.{StatsdFault}
 use Rattle.statsd_text.specs.declared.fault.StatsdKind.TheVariants.{NotUtf8}
-use Rattle.statsd_text.specs.declared.said.MetricType.{MetricType}
-use Rattle.statsd_text.specs.declared.said.MetricType.TheVariants.{Counter, Gauge, Timing, Set}
-use Rattle.statsd_text.specs.declared.said.Said.{Said}
 use Rattle.statsd_text.proofs.Founds as founds
 use Rattle.openmetrics_text.specs.Grammar.{WrittenLine, WrittenSample, TypeLine, HelpLine, UnitLine, OtherLine, SampleLine, line_text, with_newline, end_text, braces_text, time_text, exemplar_text, IsLine, AreLines}
 use Rattle.openmetrics_text.specs.Lines.{LineSays, Typed, Nothing, Sampled}
@@ -32,7 +27,6 @@ use Rattle.openmetrics_text.specs.Reading as openmetrics
 use Rattle.openmetrics_text.specs.Sample as samples
 use Rattle.openmetrics_text.specs.declared.exposition.Exposition.{Exposition}
 use Rattle.openmetrics_text.specs.declared.fault.ExpositionFault.{ExpositionFault}
-use Rattle.openmetrics_text.specs.declared.number.Number.{Number}
 use Rattle.openmetrics_text.specs.Types.{type_of as kind_at}
 use Rattle.openmetrics_text.proofs.Wholes as wholes
 use Rattle.agent_workers.specs.Reader.{metrics_of, line_says, parts_say, exposition_says, say_in, kind_of, most_said}
@@ -44,35 +38,23 @@ line_most (Ok None) = omega arith
 line_most (Ok (Some metric)) = omega arith
 line_most (Err f) = omega arith
 
--- ---- a line of StatsD: a part has three bytes
+-- ---- a line of StatsD: a part has a bar and a type
 
-no_number : (v : Value) → number_value (read_as []) ≡ Ok v → ⊥
-unfolding decimal_of
-no_number v e = cc
-
-value_filled : (kind : MetricType) (text : List ℕ) (v : Value) → value_of kind text ≡ Ok v → 1 ≤ length text
-value_filled kind (b ∷ text) v e = omega arith
-value_filled Counter [] v e = absurd (no_number v e)
-value_filled Gauge [] v e = absurd (no_number v e)
-value_filled Timing [] v e = absurd (no_number v e)
-value_filled Set [] v e = absurd cc
-
-type_filled : (text : List ℕ) (kind : MetricType) → type_of text ≡ Some kind → 1 ≤ length text
+type_filled : (text : List ℕ) (kind : _) → type_of text ≡ Some kind → 1 ≤ length text
 unfolding type_of
 type_filled [] kind e = absurd cc
 type_filled (b ∷ text) kind e = omega arith
 
-part_long : (w : written.WrittenPart) (said : Said) → written.IsPart w said → 3 ≤ length (written.part_spelling w)
+part_long : (w : written.WrittenPart) (said : _) → written.IsPart w said → 2 ≤ length (written.part_spelling w)
 part_long w said h =
     omega (
       arith,
       length-append w.value (124 ∷ (w.type_text ++ written.rate_spelling w.rate)),
       length-append w.type_text (written.rate_spelling w.rate),
-      value_filled said.metric_type w.value h.number h.is_value,
       type_filled w.type_text said.metric_type h.named,
     )
 
-parts_long : (ws : List written.WrittenPart) (said : List Said) → written.AreParts ws said → 4 * length said ≤ length (join_with_byte 58 (map written.part_spelling ws)) + 1
+parts_long : (ws : List written.WrittenPart) (said : _) → written.AreParts ws said → 3 * length said ≤ length (join_with_byte 58 (map written.part_spelling ws)) + 1
 parts_long [] [] h = omega arith
 parts_long [] (x ∷ said) h = absurd h
 parts_long (w ∷ ws) [] h = absurd h
@@ -82,7 +64,7 @@ parts_long (w ∷ v ∷ ws) (x ∷ []) h = absurd h.1
 parts_long (w ∷ v ∷ ws) (x ∷ y ∷ said) h =
     omega (arith, part_long w x h.0, parts_long (v ∷ ws) (y ∷ said) h.1, length-append (written.part_spelling w) (58 ∷ join_with_byte 58 (map written.part_spelling (v ∷ ws))))
 
-spelled_long : (w : written.Written) (said : List Said) → written.IsLine w said → 4 * length said ≤ length (written.line_spelling w)
+spelled_long : (w : written.Written) (said : _) → written.IsLine w said → 3 * length said ≤ length (written.line_spelling w)
 spelled_long w said h =
     omega (
       arith,
@@ -91,33 +73,33 @@ spelled_long w said h =
       parts_long (w.first ∷ w.others) said h.parts,
     )
 
-none_long : (piece : List ℕ) (metrics : List Content) → (let r : Result (List Content) StatsdFault = Ok [] in r) ≡ Ok metrics → 4 * length metrics ≤ length piece
+none_long : (piece : List ℕ) (metrics : List Content) → (let r : Result (List Content) StatsdFault = Ok [] in r) ≡ Ok metrics → 3 * length metrics ≤ length piece
 none_long piece metrics e = let none : [] ≡ metrics = cc in omega (arith, ap (λ (ms : List Content). length ms) none)
 
-blank_none : (piece : List ℕ) (moment : ℤ) (metrics : List Content) → statsd.is_blank piece ≡ true → statsd.reading piece moment ≡ Ok metrics → 4 * length metrics ≤ length piece
+blank_none : (piece : List ℕ) (moment : ℤ) (metrics : List Content) → statsd.is_blank piece ≡ true → statsd.reading piece moment ≡ Ok metrics → 3 * length metrics ≤ length piece
 unfolding statsd.reading statsd.text_reading
 blank_none piece moment metrics b e =
-    elim (is_utf8 piece) as (λ t. cond t (cond (statsd.is_blank piece) (Ok []) (statsd.line_reading piece moment)) (fault NotUtf8 (utf8_valid_len piece)) ≡ Ok metrics → 4 * length metrics ≤ length piece) [
+    elim (is_utf8 piece) as (λ t. cond t (cond (statsd.is_blank piece) (Ok []) (statsd.line_reading piece moment)) (fault NotUtf8 (utf8_valid_len piece)) ≡ Ok metrics → 3 * length metrics ≤ length piece) [
       | true ↦ λ k. none_long piece metrics (rw b at k)
       | false ↦ λ k. absurd cc
     ] e
 
-statsd_long : (piece : List ℕ) (moment : ℤ) (metrics : List Content) → statsd.reading piece moment ≡ Ok metrics → 4 * length metrics ≤ length piece
+statsd_long : (piece : List ℕ) (moment : ℤ) (metrics : List Content) → statsd.reading piece moment ≡ Ok metrics → 3 * length metrics ≤ length piece
 statsd_long piece moment metrics e = go (statsd.is_blank piece) refl
   where
-    go : (b : Bool) → statsd.is_blank piece ≡ b → 4 * length metrics ≤ length piece
+    go : (b : Bool) → statsd.is_blank piece ≡ b → 3 * length metrics ≤ length piece
     go true blank = blank_none piece moment metrics blank e
     go false some =
         let w = founds.read_is_written piece moment metrics some e in
         omega (arith, ap length w.2, ap (λ (ms : List Content). length ms) w.6, length-map w.1 (statsd.content_of w.0.name (w.0.tags ++ written.given_end w.0.later) moment), spelled_long w.0 w.1 w.4)
 
-parts_most : (piece : List ℕ) (moment : ℤ) → length piece ≤ 65536 → (r : Result (List Content) StatsdFault) → statsd.reading piece moment ≡ r → length (metrics_of (parts_say r)) ≤ 16384
+parts_most : (piece : List ℕ) (moment : ℤ) → length piece ≤ 65536 → (r : Result (List Content) StatsdFault) → statsd.reading piece moment ≡ r → length (metrics_of (parts_say r)) ≤ 21845
 parts_most piece moment short (Ok metrics) e = omega (arith, short, statsd_long piece moment metrics e)
 parts_most piece moment short (Err f) e = omega arith
 
 -- ---- an exposition: a sample has four bytes with its newline
 
-number_filled : (text : List ℕ) (n : Number) → samples.number_of text ≡ Ok n → 1 ≤ length text
+number_filled : (text : List ℕ) (n : _) → samples.number_of text ≡ Ok n → 1 ≤ length text
 unfolding samples.number_of decimal_of
 number_filled (b ∷ text) n e = omega arith
 number_filled [] n e = absurd cc

@@ -66,11 +66,12 @@ kind_of (Openmetrics type_tag) = Expositions
 abbrev pub reader_of : InFormat → Reader
 reader_of format = record { cut = lines.cut (kind_of format); say = say_in format }
 
--- how many metrics a piece says at most: one, but in StatsD and OpenMetrics one for each 4 bytes of the longest
--- piece, since a part with its colon, and a sample with its newline, has no fewer
+-- how many metrics a piece says at most: one; but in StatsD one for each 3 bytes of the longest line, since a part
+-- has its colon, a bar and a type; and in OpenMetrics one for each 4 bytes of the longest exposition, since a sample
+-- has a name, a space, a number and its newline
 abbrev pub most_said : InFormat → ℕ
 most_said Influx = 1
-most_said Statsd = 16384
+most_said Statsd = 21845
 most_said (Graphite templates separator) = 1
 most_said (Openmetrics type_tag) = 1048576
 

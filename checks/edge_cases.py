@@ -1,8 +1,5 @@
-"""Runs the program in a temporary folder of files, links and devices, and compares what it left.
-
-A case is a shell line, in which `hogzent` is the program, with the files that lie there before. What is
-expected is written out: all files that lie there afterwards, the status, the report on standard output where
-that is no file, and the line on standard error. In a journal the moments count as 0.
+"""Runs the program in a temporary folder of files, links and devices, and compares what it left: pipes here,
+configurations by edge_configurations.py, what a case is by edge_kit.py.
 """
 
 import array
@@ -16,99 +13,36 @@ import sys
 import tempfile
 import termios
 import time
-from dataclasses import dataclass, field
 from functools import partial
 
-SECONDS = 20
-
-LINES = b"cpu,host=a v=1i 5\ncpu v=2.5 6\n"
-OLD = b"what was here before, and is longer than the two lines together\n"
-ACCOUNT = b"""input 0 pieces 2 refused 0 passed 0 filtered 0 gathered 2 ended
-items made 0 removed 0 routed 2
-output 0 filtered 0 late 0 consumed 0 written 2 buffered 0 dropped 0
-"""
-JOURNAL = b"""journal 1
-start 0
-input 0 plain
-output 0 10 100
-gather 0 0 2 0 0 0 2 -
-m cpu;host=a|v=i1|5
-m cpu|v=f2.5|6
-ended 0
-take 0
-route 0 = passes / =
-take 1
-route 1 = passes / =
-begin 0 0 2
-done 0 ok
-stop 0 0
-""" + ACCOUNT + b"end 9\n"
-NOTHING = b"""input 0 pieces 0 refused 0 passed 0 filtered 0 gathered 0 ended
-items made 0 removed 0 routed 0
-output 0 filtered 0 late 0 consumed 0 written 0 buffered 0 dropped 0
-"""
-SET_UP = b"journal 1\nstart 0\ninput 0 plain\noutput 0 10 100\n"
-NOTHING_JOURNAL = SET_UP + b"ended 0\nstop 0 0\n" + NOTHING + b"end 2\n"
-UNREAD = NOTHING.replace(b"ended", b"unread")
-UNREAD_JOURNAL = SET_UP + b"stop 0 0\n" + UNREAD + b"end 1\n"
-
-USAGE = (
-    b"hogzent: usage: hogzent pipe IN OUT BATCH LIMIT, with 1 <= BATCH <= LIMIT <= 10000,"
-    b" and OUT not agent.journal; or hogzent check CONFIG\n"
+from edge_configurations import CHECKS, CONFIGURED, CONFIGURED_RUNS
+from edge_kit import (
+    ACCOUNT,
+    DROPPED,
+    JOURNAL,
+    LEFT,
+    LINES,
+    NOTHING,
+    NOTHING_JOURNAL,
+    OLD,
+    OPEN_FAULT,
+    READ_FAULT,
+    REFUSED,
+    REPORT_FAULT,
+    SECONDS,
+    UNREAD,
+    UNREAD_JOURNAL,
+    USAGE,
+    Case,
+    Folder,
+    Link,
+    differences,
+    found_in,
+    lay,
+    open_fault,
+    refused,
+    run_case,
 )
-READ_FAULT = (
-    b"hogzent: a read of the input failed;"
-    b" what was read before was sent, buffered or dropped, as the account says\n"
-)
-OPEN_FAULT = (
-    b"hogzent: a place could not be opened; no line was read or written"
-    b" (an output may not be a file that is open already)\n"
-)
-LEFT = (
-    b"hogzent: the last three puts to the output failed;"
-    b" the account says how many metrics are still buffered\n"
-)
-REPORT_FAULT = b"hogzent: the journal or the report could not be written whole\n"
-REFUSED = b"input 0: pieces refused: %d (no line protocol, or longer than 65536 bytes)"
-DROPPED = b"output 0: metrics dropped: %d (more waited than the buffer limit)"
-
-
-@dataclass(frozen=True)
-class Link:
-    """A second name of a file: a symbolic link, or a hard one."""
-
-    to: str
-    is_hard: bool = False
-
-
-class Folder:
-    """A folder with nothing in it."""
-
-
-@dataclass
-class Case:
-    """A shell line, what lies in its folder before, and what is expected of it."""
-
-    name: str
-    line: str
-    before: dict = field(default_factory=lambda: {"in": LINES})
-    # What lies there afterwards, beside what is expected to be as before.
-    after: dict = field(default_factory=dict)
-    status: int = 0
-    report: bytes = ACCOUNT
-    told: bytes = b""
-
-
-def refused(name, line, place, before, **others):
-    """A case in which a place isn't opened: each file is as before, but where the report or the line goes."""
-    others = {"report": open_fault(place), "told": OPEN_FAULT, **others}
-    return Case(name, line, before, status=5, **others)
-
-
-def open_fault(place):
-    """The report of a start that is refused."""
-    return b"fault: open %b\n" % place.encode()
-
 
 WHOLE = {"out": LINES, "agent.journal": JOURNAL}
 OLD_OUT = {"in": LINES, "out": OLD}
@@ -393,76 +327,6 @@ CLOSED = [
 CASES = [*RUNS_WELL, *REFUSED_BY_PLACES, *REFUSED_BY_STREAMS, *NO_FILES, *CLOSED]
 
 
-def lay(folder, files):
-    """Lays files, links and folders into a folder; links last."""
-    for name, what in sorted(files.items(), key=lambda it: isinstance(it[1], Link)):
-        path = os.path.join(folder, name)
-        if isinstance(what, Folder):
-            os.mkdir(path)
-        elif isinstance(what, Link) and what.is_hard:
-            os.link(os.path.join(folder, what.to), path)
-        elif isinstance(what, Link):
-            os.symlink(what.to, path)
-        else:
-            with open(path, "wb") as file:
-                file.write(what)
-
-
-def found_in(folder):
-    """What lies in a folder: the bytes of files, a journal's moments as 0, and None for what is no file."""
-    found = {}
-    for name in sorted(os.listdir(folder)):
-        path = os.path.join(folder, name)
-        found[name] = None
-        if os.path.isfile(path):
-            with open(path, "rb") as file:
-                found[name] = re.sub(rb"^(start|stop|gather 0) \d+", rb"\1 0", file.read(), flags=re.M)
-    return found
-
-
-def expected_in(case):
-    """What is to lie in the folder of a case afterwards."""
-    expected = {**case.before, **case.after}
-    for name, what in expected.items():
-        if isinstance(what, Link):
-            expected[name] = expected.get(what.to)
-        elif isinstance(what, Folder):
-            expected[name] = None
-    return expected
-
-
-def shown(what):
-    """A value as it is printed, without its middle where it is long."""
-    text = repr(what)
-    return text if len(text) < 1_000 else f"{text[:400]} .. {text[-400:]}"
-
-
-def differences(*compared):
-    """A text for each of the compared (name, found, expected) that differ."""
-    return [f"{name}: {shown(it)}, and not {shown(wanted)}" for name, it, wanted in compared if it != wanted]
-
-
-def run_case(case, folder, program):
-    """What differs from what a case expects."""
-    lay(folder, case.before)
-    words = {**os.environ, "PATH": f"{os.path.dirname(program)}:{os.environ['PATH']}"}
-    ran = subprocess.run(
-        ["bash", "-c", "set -o pipefail; " + case.line],
-        cwd=folder,
-        env=words,
-        stdin=subprocess.DEVNULL,
-        capture_output=True,
-        timeout=SECONDS,
-        check=False,
-    )
-    return differences(
-        ("status", ran.returncode, case.status),
-        ("standard output", ran.stdout, case.report),
-        ("standard error", ran.stderr, case.told),
-        ("files", found_in(folder), expected_in(case)),
-    )
-
-
 def numbered_lines(begin, end):
     """Lines of 16 bytes each, with so many numbers."""
     return b"".join(b"m v=%07di %03d\n" % (number, number % 1000) for number in range(begin, end))
@@ -664,69 +528,9 @@ RUNS = [
 ]
 
 
-SOUND = b"[[inputs.file]]\nfiles = [\"a\"]\n[[outputs.file]]\nfiles = [\"b\"]\n"
-MISSPELLED = b"[agent]\nmetric_bufer_limit = 5\n"
-
-
-def checked(name, line, before=None, **others):
-    """A case in which a configuration is checked: no file changes."""
-    return Case(name, line, {"c": SOUND} if before is None else before, **{"report": b"ok\n", **others})
-
-
-CHECKS = [
-    checked("a configuration is checked", "hogzent check c"),
-    checked("a configuration at standard input", "hogzent check stdin < c"),
-    checked(
-        "a configuration with a fault",
-        "hogzent check c",
-        {"c": MISSPELLED},
-        status=3,
-        report=b"config: UnknownKey agent 0\n",
-        told=b'hogzent: the configuration c was refused: [agent], "metric_bufer_limit": there is no such key\n',
-    ),
-    checked(
-        "a configuration through a pipe can't be read again",
-        "cat c | hogzent check /dev/stdin",
-        {"c": MISSPELLED},
-        status=3,
-        report=b"config: UnknownKey agent 0\n",
-        told=b"hogzent: the configuration was refused\n",
-    ),
-    checked(
-        "a configuration without an end",
-        "hogzent check /dev/zero",
-        status=3,
-        report=b"config: NotToml root 0\n",
-        told=b"hogzent: the configuration was refused\n",
-    ),
-    checked(
-        "a configuration that is a folder",
-        "hogzent check c",
-        {"c": Folder()},
-        status=4,
-        report=b"fault: read c\n",
-        told=b"hogzent: the configuration could not be read\n",
-    ),
-    checked(
-        "a configuration that isn't there",
-        "hogzent check nowhere",
-        status=5,
-        report=b"fault: open nowhere\n",
-        told=b"hogzent: the configuration could not be opened\n",
-    ),
-    checked(
-        "a check whose report can't be written",
-        "hogzent check c > /dev/full",
-        status=7,
-        report=b"",
-        told=b"hogzent: the report could not be written whole\n",
-    ),
-]
-
-
 def main(program):
     """Runs each case in a folder of its own, and prints a line for each and one for all."""
-    runs = [(case.name, partial(run_case, case)) for case in CASES + CHECKS] + RUNS
+    runs = [(case.name, partial(run_case, case)) for case in CASES + CHECKS + CONFIGURED] + CONFIGURED_RUNS + RUNS
     failed = 0
     for name, run in runs:
         with tempfile.TemporaryDirectory() as folder:

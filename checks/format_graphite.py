@@ -10,8 +10,8 @@ from collections import namedtuple
 from format_influx import Refused, written_value
 from format_statsd import billionths, changed, in_range, number
 
-__all__ = ["EXAMPLES", "BadTemplate", "Refused", "lines", "read", "read_template", "setups", "template_lists",
-           "write", "written_lines"]
+__all__ = ["EXAMPLES", "TEMPLATES", "BadTemplate", "Refused", "is_template", "lines", "read", "read_template", "setups",
+           "template_lists", "write", "written_lines"]
 
 MOST_TAGS = 64
 BILLION = 10**9

@@ -8,6 +8,7 @@ report will do, since TOML 1.1 takes more than 1.0, which is what Python reads. 
 printed, and how many texts had which answer.
 """
 
+import json
 import os
 import random
 import re
@@ -16,6 +17,7 @@ import sys
 import tempfile
 from collections import Counter
 
+import format_graphite
 import plain_configuration as plain
 
 SHOWN = 10
@@ -24,6 +26,10 @@ GLOBS = ['"cpu*"', '"m?m"', '"[a-c]"', '"[a"', '"{a}"', '"[!x]"', '"[b-a]"', '"a
 TIMES = ['"10s"', "10", '"1h30m.5s"', '"0.5ns0.5ns"', '"0.5ns"', "0", "9223372036", "9223372037", '"10"', "1.5",
          '""', '"1 s"', '"5.s"', '"1e3s"', "-1", "true"]
 COUNTS = ["1", "10", "1000", "10000", "10001", "0", "-1", "1.0", '"1"', "true", "[]"]
+FORMATS = ['"influx"', '"influx"', '"graphite"', '"openmetrics"', '"statsd"', '"json"', '"Influx"', '""', "1"]
+TEMPLATES = ["1"] + [json.dumps(it.decode(), ensure_ascii=False) for it in format_graphite.TEMPLATES]
+GOOD_TEMPLATES = [json.dumps(it.decode(), ensure_ascii=False) for it in format_graphite.TEMPLATES
+                  if format_graphite.is_template(it)]
 PLACES = ['"a"', '"b"', '"c"', '"agent.journal"', '""', "1", '"stdin"']
 
 
@@ -33,7 +39,7 @@ def a_list(chance, of):
 
 def key_of(chance, output):
     """A key of an input or output, with a value that mostly fits."""
-    kind = chance.randrange(7 if output else 5)
+    kind = chance.randrange(8)
     if kind <= 1:
         return chance.choice(sorted(plain.LISTS)), a_list(chance, GLOBS[:3] if chance.random() < 0.7 else GLOBS)
     if kind == 2:
@@ -43,8 +49,20 @@ def key_of(chance, output):
     if kind == 3:
         return "alias", chance.choice(["1", '"x"', "[]"])
     if kind == 4:
-        return "data_format", chance.choice(['"influx"', '"influx"', '"statsd"', "1"])
-    return chance.choice(["metric_batch_size", "metric_buffer_limit"]), chance.choice(COUNTS)
+        return "data_format", chance.choice(FORMATS[:4] if chance.random() < 0.7 else FORMATS)
+    if output and chance.random() < 0.95:
+        return chance.choice(["metric_batch_size", "metric_buffer_limit"]), chance.choice(COUNTS)
+    return key_of_format(chance)
+
+
+def key_of_format(chance):
+    """A key of an input for its format, with a value that mostly fits."""
+    kind = chance.randrange(4)
+    if kind <= 1:
+        return "templates", a_list(chance, GOOD_TEMPLATES if chance.random() < 0.7 else TEMPLATES)
+    if kind == 2:
+        return "separator", chance.choice(['"."', '"_"', '""', '"::"', "1"])
+    return "type_tag", chance.choice(["true", "false", "true", "false", '"true"'])
 
 
 def plugin(chance, word):

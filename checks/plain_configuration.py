@@ -1,8 +1,10 @@
-"""A plain reading of configurations, by docs/configuration.md alone: the first fault of a text."""
+"""A plain reading of configurations, by docs/configuration.md and docs/formats.md alone: the first fault of a text."""
 
 import re
 import tomllib
 from fractions import Fraction
+
+from format_graphite import is_template
 
 LONGEST = 1_048_576
 LEAST_INT, GREATEST_INT = -(2**63), 2**63 - 1
@@ -15,6 +17,8 @@ LISTS = {
     "namepass", "namedrop", "fieldinclude", "fieldexclude", "fieldpass", "fielddrop", "taginclude",
     "tagexclude",
 }
+IN_FORMATS = {"influx", "statsd", "graphite", "openmetrics"}
+OUT_FORMATS = {"influx", "graphite", "openmetrics"}
 UNITS = {"ns": 1, "us": 10**3, "ms": 10**6, "s": 10**9, "m": 60 * 10**9, "h": 3_600 * 10**9}
 PAIR = re.compile(r"([0-9]+\.?[0-9]*|\.[0-9]+)(ns|us|ms|s|m|h)")
 
@@ -99,8 +103,12 @@ def place(value):
     return "WrongType" if not isinstance(value, str) else None if value else "OutOfRange"
 
 
-def form(value):
-    return "WrongType" if not isinstance(value, str) else None if value == "influx" else "OutOfRange"
+def format_name(names):
+    return lambda value: ("WrongType" if not isinstance(value, str) else None if value in names else "OutOfRange")
+
+
+def any_text(value):
+    return None if isinstance(value, str) else "WrongType"
 
 
 def are_texts(value):
@@ -117,6 +125,12 @@ def globs(value):
     if not are_texts(value):
         return "WrongType"
     return next(("BadGlob" for it in value if not is_glob(it)), None)
+
+
+def templates(value):
+    if not are_texts(value):
+        return "WrongType"
+    return next(("BadTemplate" for it in value if not is_template(it.encode())), None)
 
 
 def tag_globs(value):
@@ -168,14 +182,23 @@ AGENT = {
     "workers": truth,
     "journal": place,
 } | {key: lambda value: None for key in ANY}
-INPUT = {
+PLUGIN = {
     "files": files,
-    "data_format": form,
     "alias": lambda value: None,
     "tagpass": tag_globs,
     "tagdrop": tag_globs,
 } | {key: globs for key in LISTS}
-OUTPUT = INPUT | {"metric_batch_size": count(10_000), "metric_buffer_limit": count(10_000)}
+INPUT = PLUGIN | {
+    "data_format": format_name(IN_FORMATS),
+    "templates": templates,
+    "separator": any_text,
+    "type_tag": truth,
+}
+OUTPUT = PLUGIN | {
+    "data_format": format_name(OUT_FORMATS),
+    "metric_batch_size": count(10_000),
+    "metric_buffer_limit": count(10_000),
+}
 
 
 def key_fault(keys, table):

@@ -30,14 +30,14 @@ others_scanned : (others : List (List ℕ)) (last : List ℕ) → AllByRecursion
 others_scanned [] last h k = record { clean = none_in_line Expositions [] last k; begun = line_in_line [] last k }
 others_scanned (line ∷ others) last h k = rw (text_of-cons line others last) (line_first Expositions line (text_of others last) last h.0.clean (other_ends line h.0.other) (others_scanned others last h.1 k))
 
-scanned_behind : (text last : List ℕ) → NoNewline last → IsBehindOthers text last → Scanned Expositions text last
+pub scanned_behind : (text last : List ℕ) → NoNewline last → IsBehindOthers text last → Scanned Expositions text last
 scanned_behind text last k h = rw (h.is) (others_scanned h.others last h.are_others k)
 
 last_ends : ends_piece Expositions (codes "# EOF") ≡ true
 unfolding ends_piece
 last_ends = refl
 
-fronts_are : (fronts : List (List ℕ)) → AllByRecursion IsExposition fronts → AllByRecursion (IsFront Expositions) fronts
+pub fronts_are : (fronts : List (List ℕ)) → AllByRecursion IsExposition fronts → AllByRecursion (IsFront Expositions) fronts
 fronts_are [] h = tt
 fronts_are (front ∷ fronts) h =
     let s = scanned_behind front (codes "# EOF") refl h.0 in

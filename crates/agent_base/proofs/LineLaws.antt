@@ -26,7 +26,7 @@ pub lines_end : (kind : CutKind) (line : List ℕ) → kind ≡ Lines → ends_p
 unfolding ends_piece
 lines_end kind line is = ap (λ (k : CutKind). ends_piece k line) is
 
-lines_are : (lines : List (List ℕ)) → AllByRecursion NoNewline lines → AllByRecursion (IsFront Lines) lines
+pub lines_are : (lines : List (List ℕ)) → AllByRecursion NoNewline lines → AllByRecursion (IsFront Lines) lines
 lines_are [] h = tt
 lines_are (line ∷ lines) h = (record { clean = none_in_line Lines [] line h.0; ends = lines_end Lines (last_line [] line) refl }, lines_are lines h.1)
 

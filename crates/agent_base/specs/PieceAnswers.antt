@@ -1,11 +1,12 @@
 -- What an answer says of the pieces to come, and why it comes.
-use Rattle.std.specs.Prelude.{◌≡◌, ◌<◌, ℕ, ◌^◌, List, [], ◌∷◌, Option, Some, None, Result, Ok, Err, ⊤}
+use Rattle.std.specs.Prelude.{◌≡◌, ◌<◌, ◌≤◌, ℕ, ◌^◌, List, [], ◌∷◌, length, Option, Some, None, Result, Ok, Err, ⊤}
 use Rattle.std.specs.Io.KnownBytes.{IsAtEnd}
 use Rattle.agent_base.specs.declared.piece.Piece.{Piece}
 use Rattle.agent_base.specs.declared.piece.PieceFault.{PieceFault}
 use Rattle.agent_base.specs.declared.piece.PieceFault.TheVariants as faults
 use Rattle.agent_base.specs.Counts.{Rose}
-use Rattle.agent_base.specs.Cut.{Cut, TooLong, Whole, NoEnd}
+use Rattle.agent_base.specs.declared.piece.CutKind.{CutKind}
+use Rattle.agent_base.specs.Cut.{Cut, TooLong, Whole, NoEnd, most_bytes}
 use Rattle.agent_base.specs.Hand.{Hand}
 
 -- a piece or a too long one is the first to come, and the others are to come then; at the end none is; else
@@ -17,6 +18,12 @@ Answers (Err faults.TooLong) before after = before ≡ TooLong ∷ after
 Answers (Err faults.OutOfMemory) before after = before ≡ after
 Answers (Err faults.ReadFault) before after = before ≡ after
 Answers (Err faults.ByteLimit) before after = before ≡ after
+
+-- a piece that is given has at most as many bytes as its kind allows
+abbrev pub IsShort : CutKind → Result (Option Piece) PieceFault → Type 0
+IsShort kind (Ok (Some p)) = length p ≤ most_bytes kind
+IsShort kind (Ok None) = ⊤
+IsShort kind (Err fault) = ⊤
 
 -- the byte limit is answered exactly where 2^40 bytes were taken
 abbrev pub IsLimited : Result (Option Piece) PieceFault → ℕ → Type 0

@@ -122,7 +122,7 @@ pub(crate) struct Buffer {
 
 impl Buffer {
     ghost use Rattle.agent_base.specs.Buffered.{bytes_of, hand_of};
-    ghost use Rattle.agent_base.specs.PieceAnswers.{Answers, IsLimited, HasReason, IsGiven};
+    ghost use Rattle.agent_base.specs.PieceAnswers.{Answers, IsLimited, HasReason, IsGiven, IsShort};
     ghost use Rattle.agent_base.specs.PieceAnswers.{IsGivenOrUnchanged, IsLast};
 
     /// Nothing is in hand.
@@ -233,6 +233,7 @@ impl Buffer {
         ensures pieces { (left : List ℕ)
             → Answers result (to_come (hand_of self.old) left) (to_come (hand_of self.new) left) }
         ensures given { IsGiven result }
+        ensures short { IsShort self.old.kind result }
         ensures kind { self.new.kind ≡ self.old.kind }
         ensures counted { self.new.taken ≡ self.old.taken }
     {
@@ -371,6 +372,7 @@ impl Buffer {
         requires fits { most_bytes self.old.kind ≤ vec_capacity room }
         ensures pieces { Answers result (to_come (hand_of self.old) []) (to_come (hand_of self.new) []) }
         ensures last { IsLast result }
+        ensures short { IsShort self.old.kind result }
         ensures empty { bytes_of self.new ≡ [] }
         ensures spent { to_come (hand_of self.new) [] ≡ [] }
         ensures kind { self.new.kind ≡ self.old.kind }
@@ -395,6 +397,7 @@ impl Buffer {
         ensures pieces { (left : List ℕ)
             → Answers result (to_come (hand_of self.old) left) (to_come (hand_of self.new) left) }
         ensures given { IsGivenOrUnchanged result (hand_of self.old) (hand_of self.new) }
+        ensures short { IsShort self.old.kind result }
         ensures kind { self.new.kind ≡ self.old.kind }
         ensures counted { self.new.taken ≡ self.old.taken }
     {
@@ -419,6 +422,7 @@ impl Buffer {
             (λ xs ys. self.old.taken + length xs ≡ self.new.taken + length ys) }
         ensures grows { self.old.taken ≤ self.new.taken }
         ensures kind { self.new.kind ≡ self.old.kind }
+        ensures short { IsShort self.old.kind result }
         ensures limited { IsLimited result self.new.taken }
         ensures reason { HasReason result (hand_of self.old) (hand_of self.new) (S.left src.new)
             (S.faults src.old) (S.faults src.new) }
@@ -454,6 +458,7 @@ impl Buffer {
             (λ xs ys. self.old.taken + length xs ≡ self.new.taken + length ys) }
         ensures grows { self.old.taken ≤ self.new.taken }
         ensures kind { self.new.kind ≡ self.old.kind }
+        ensures short { IsShort self.old.kind result }
         ensures limited { IsLimited result self.new.taken }
         ensures reason { HasReason result (hand_of self.old) (hand_of self.new) (S.left src.new)
             (S.faults src.old) (S.faults src.new) }

@@ -3,7 +3,7 @@ ghost use Rattle.std.specs.Prelude.{◌≡◌, ◌+◌, ◌≤◌, ℕ, List, le
 ghost use Rattle.agent_base.specs.Cut.{HasEnd};
 ghost use Rattle.agent_base.specs.Hand.{empty_hand, to_come};
 ghost use Rattle.agent_base.specs.Lines.{CutsLines, CutsExpositions, EachHasExpositions};
-ghost use Rattle.agent_base.specs.PieceAnswers.{Answers, IsLimited, HasReason};
+ghost use Rattle.agent_base.specs.PieceAnswers.{Answers, IsLimited, HasReason, IsShort};
 ghost use Rattle.agent_base.specs.Taken.{TakesFor};
 ghost use Rattle.agent_base.specs.Told.{Told};
 
@@ -51,6 +51,7 @@ impl Pieces {
             (λ xs ys. Answers result (to_come self.old xs) (to_come self.new ys)) }
         ensures reason { HasReason result self.old self.new (S.left src.new) (S.faults src.old)
             (S.faults src.new) }
+        ensures short { IsShort self.old.kind result }
         ensures limited { IsLimited result self.new.taken }
 
         // The bytes that are no longer left were taken.

@@ -11,7 +11,9 @@ use Rattle.agent_config.specs.Faults.{Classes, Plugin, agent_faults, agent_limit
 use Rattle.agent_config.specs.Faults.{class_faults}
 use Rattle.agent_config.specs.Faults.{classes_faults, classes_of, entry_faults, faults_in, faults_of}
 use Rattle.agent_config.specs.Faults.{file_faults}
-use Rattle.agent_config.specs.Faults.{file_faults_of, first, format_faults, glob_faults, global_faults}
+use Rattle.agent_config.specs.Faults.{file_faults_of, first, glob_faults, global_faults, is_in_name}
+use Rattle.agent_config.specs.Faults.{is_out_name, is_template, name_faults, template_faults}
+use Rattle.agent_config.specs.Faults.{templates_faults}
 use Rattle.agent_config.specs.Faults.{is_counted}
 use Rattle.agent_config.specs.Faults.{global_tag_faults, input_faults, is_glob, is_known, journal_of}
 use Rattle.agent_config.specs.Faults.{key_faults}
@@ -30,14 +32,15 @@ use Rattle.agent_config.specs.declared.fault.Class.TheVariants as class
 use Rattle.agent_config.specs.declared.fault.ConfigFault.{ConfigFault}
 use Rattle.agent_config.specs.declared.fault.ConfigKind.{ConfigKind}
 use Rattle.agent_config.specs.declared.fault.ConfigKind.TheVariants.{OutOfMemory, UnknownKind, UnknownKey}
-use Rattle.agent_config.specs.declared.fault.ConfigKind.TheVariants.{WrongType, Missing, OutOfRange, BadGlob}
+use Rattle.agent_config.specs.declared.fault.ConfigKind.TheVariants.{WrongType, Missing, OutOfRange, BadGlob, BadTemplate}
 use Rattle.agent_config.specs.declared.fault.ConfigKind.TheVariants.{NoInput}
 use Rattle.agent_config.specs.declared.fault.ConfigKind.TheVariants.{TooManyPlugins, NoOutput}
 use Rattle.agent_config.specs.declared.fault.ConfigKind.TheVariants.{BatchAboveLimit}
 use Rattle.agent_config.specs.declared.fault.ConfigKind.TheVariants.{SamePlace}
 use Rattle.agent_config.specs.declared.keys.Keys.{Keys}
 use Rattle.agent_config.specs.declared.keys.Shape.{Shape}
-use Rattle.agent_config.specs.declared.keys.Shape.TheVariants.{Anything, Count, Truth, Place, Format, Files}
+use Rattle.agent_config.specs.declared.keys.Shape.TheVariants.{Anything, Count, Truth, Place, AnyText, Files}
+use Rattle.agent_config.specs.declared.keys.Shape.TheVariants.{InName, OutName, Templates}
 use Rattle.agent_config.specs.declared.keys.Shape.TheVariants.{Duration}
 use Rattle.agent_config.specs.declared.keys.Shape.TheVariants.{Globs, TagGlobs}
 use Rattle.agent_config.specs.declared.tables.Limits.{Limits}
@@ -76,9 +79,9 @@ place_kinds : (text : Option (List ℕ)) → Kinds (place_faults text)
 place_kinds None = (tt, tt)
 place_kinds (Some text) = unless_kinds (not (length text == 0)) OutOfRange tt
 
-format_kinds : (text : Option (List ℕ)) → Kinds (format_faults text)
-format_kinds None = (tt, tt)
-format_kinds (Some text) = unless_kinds (bytes_eq text (codes "influx")) OutOfRange tt
+name_kinds : (is_name : List ℕ → Bool) (text : Option (List ℕ)) → Kinds (name_faults is_name text)
+name_kinds is_name None = (tt, tt)
+name_kinds is_name (Some text) = unless_kinds (is_name text) OutOfRange tt
 
 file_kinds : (texts : Option (List (List ℕ))) → Kinds (file_faults texts)
 file_kinds None = (tt, tt)
@@ -106,6 +109,16 @@ list_kinds : (texts : Option (List (List ℕ))) → Kinds (list_faults texts)
 list_kinds None = (tt, tt)
 list_kinds (Some texts) = glob_kinds texts
 
+template_kinds : (texts : List (List ℕ)) → Kinds (template_faults texts)
+template_kinds [] = tt
+template_kinds (text ∷ texts) =
+    both (unless (is_template text) BadTemplate) (template_faults texts)
+    (unless_kinds (is_template text) BadTemplate tt) (template_kinds texts)
+
+templates_kinds : (texts : Option (List (List ℕ))) → Kinds (templates_faults texts)
+templates_kinds None = (tt, tt)
+templates_kinds (Some texts) = template_kinds texts
+
 listed_kinds : (key : List ℕ) (texts : Option (List (List ℕ))) → Kinds (listed_faults key texts)
 listed_kinds key None = (tt, tt)
 listed_kinds key (Some texts) =
@@ -127,7 +140,10 @@ value_kinds Anything value = tt
 value_kinds (Count most) value = number_kinds most (as_integer value)
 value_kinds Truth value = unless_kinds (is_some (as_bool value)) WrongType tt
 value_kinds Place value = place_kinds (as_str value)
-value_kinds Format value = format_kinds (as_str value)
+value_kinds AnyText value = unless_kinds (is_some (as_str value)) WrongType tt
+value_kinds InName value = name_kinds is_in_name (as_str value)
+value_kinds OutName value = name_kinds is_out_name (as_str value)
+value_kinds Templates value = templates_kinds (texts_in value)
 value_kinds Files value = file_kinds (texts_in value)
 value_kinds Duration value = time_kinds value
 value_kinds Globs value = list_kinds (texts_in value)

@@ -6,14 +6,14 @@ use Rattle.std.proofs.lemmas.Bool.{leb-true, eqb-false}
 use Rattle.std.proofs.lemmas.List.{length-map}
 use Rattle.std.proofs.lemmas.List.Elements.{All-from_recursion, All-map}
 use Rattle.std.proofs.lemmas.List.Folds.{list_any-append}
-use Rattle.std.specs.List.{All, AllByRecursion, IsDistinct, list_any}
+use Rattle.std.specs.List.{AllByRecursion, IsDistinct, list_any}
 use Rattle.std.specs.Prelude.{◌&&◌, ◌||◌, codes, if◌then◌else◌, nat_le, option_and_then}
 use Rattle.std.specs.Str.{bytes_eq}
 use Rattle.toml.specs.Data.{Members, no_members, member, as_integer, as_str, as_table, get_member}
-use Rattle.agent_config.specs.Faults.{Plugin, agent_faults, agent_limits, at, batch_in, beside_faults}
+use Rattle.agent_config.specs.Faults.{Plugin, agent_faults, agent_limits, at, beside_faults}
 use Rattle.agent_config.specs.Faults.{class_faults, classes_faults, classes_of, count_at, counted_or, faults_in}
-use Rattle.agent_config.specs.Faults.{faults_of, file_faults_of, global_faults, global_tag_faults, is_counted}
-use Rattle.agent_config.specs.Faults.{is_known, journal_of, keys_faults, limit_in, limits_faults, members_in}
+use Rattle.agent_config.specs.Faults.{faults_of, global_faults, global_tag_faults}
+use Rattle.agent_config.specs.Faults.{is_known, journal_of, keys_faults, limits_faults, members_in}
 use Rattle.agent_config.specs.Faults.{most_counted, needed, none_faults, numbered, own_limits, place_of}
 use Rattle.agent_config.specs.Faults.{plugin_faults, plugins_at, root_key_faults, root_value_faults}
 use Rattle.agent_config.specs.Faults.{same_faults, table_at, table_faults, tabled_faults, text_faults, tree_of}
@@ -25,7 +25,6 @@ use Rattle.agent_config.specs.declared.config.InputConf.{InputConf}
 use Rattle.agent_config.specs.declared.config.OutputConf.{OutputConf}
 use Rattle.agent_config.specs.declared.fault.Class.{Class}
 use Rattle.agent_config.specs.declared.fault.Class.TheVariants as class
-use Rattle.agent_config.specs.declared.fault.ConfigFault.{ConfigFault}
 use Rattle.agent_config.specs.declared.fault.ConfigKind.{ConfigKind}
 use Rattle.agent_config.specs.declared.fault.ConfigKind.TheVariants as kinds
 use Rattle.agent_config.specs.declared.keys.Keys.TheVariants as keys_of

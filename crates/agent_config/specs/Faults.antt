@@ -4,25 +4,29 @@ use Rattle.std.specs.Prelude.{List, [], ◌∷◌, ◌++◌, length, map, chars,
 use Rattle.std.specs.Prelude.{Option, Some, None, is_some, option_and_then, option_map, unwrap_or}
 use Rattle.std.specs.Prelude.{if◌then◌else◌}
 use Rattle.std.specs.List.{list_any}
+use Rattle.std.specs.Result.{result_ok}
 use Rattle.std.specs.Str.{bytes_eq, is_utf8}
 use Rattle.toml.specs.Data.{Data, Items, no_items, item}
 use Rattle.toml.specs.Data.{Members, no_members, member, get_member, as_table, as_array, as_str, as_integer}
 use Rattle.toml.specs.Data.{as_bool}
 use Rattle.toml.specs.Parse.{parse_document}
 use Rattle.metric.specs.Glob.{glob_of}
+use Rattle.graphite_text.specs.Template.{template_of}
+use Rattle.graphite_text.specs.Template.{Shape as Template}
 use Rattle.agent_config.specs.Durations.{time_of_text, time_of_seconds}
-use Rattle.agent_config.specs.Keys.{is_root_key, shape_of}
+use Rattle.agent_config.specs.Keys.{is_one_of, is_root_key, shape_of}
 use Rattle.agent_config.specs.declared.keys.Keys.{Keys}
 use Rattle.agent_config.specs.declared.keys.Keys.TheVariants as keys_of
 use Rattle.agent_config.specs.declared.keys.Shape.{Shape}
-use Rattle.agent_config.specs.declared.keys.Shape.TheVariants.{Anything, Count, Truth, Place, Format, Files}
+use Rattle.agent_config.specs.declared.keys.Shape.TheVariants.{Anything, Count, Truth, Place, AnyText, Files}
+use Rattle.agent_config.specs.declared.keys.Shape.TheVariants.{InName, OutName, Templates}
 use Rattle.agent_config.specs.declared.keys.Shape.TheVariants.{Duration}
 use Rattle.agent_config.specs.declared.keys.Shape.TheVariants.{Globs, TagGlobs}
 use Rattle.agent_config.specs.declared.fault.ConfigFault.{ConfigFault}
 use Rattle.agent_config.specs.declared.fault.ConfigKind.{ConfigKind}
 use Rattle.agent_config.specs.declared.fault.ConfigKind.TheVariants.{NotToml, UnknownKind, UnknownKey}
 use Rattle.agent_config.specs.declared.fault.ConfigKind.TheVariants.{WrongType}
-use Rattle.agent_config.specs.declared.fault.ConfigKind.TheVariants.{Missing, OutOfRange, BadGlob}
+use Rattle.agent_config.specs.declared.fault.ConfigKind.TheVariants.{Missing, OutOfRange, BadGlob, BadTemplate}
 use Rattle.agent_config.specs.declared.fault.ConfigKind.TheVariants.{TooManyPlugins}
 use Rattle.agent_config.specs.declared.fault.ConfigKind.TheVariants.{NoInput, NoOutput, BatchAboveLimit}
 use Rattle.agent_config.specs.declared.fault.ConfigKind.TheVariants.{SamePlace}
@@ -67,9 +71,19 @@ abbrev pub place_faults : Option (List ℕ) → List ConfigKind
 place_faults None = WrongType ∷ []
 place_faults (Some text) = unless (not (length text == 0)) OutOfRange
 
-abbrev pub format_faults : Option (List ℕ) → List ConfigKind
-format_faults None = WrongType ∷ []
-format_faults (Some text) = unless (bytes_eq text (codes "influx")) OutOfRange
+-- is it the name of a format that is read
+abbrev pub is_in_name : List ℕ → Bool
+is_in_name =
+    is_one_of (codes "influx" ∷ codes "statsd" ∷ codes "graphite" ∷ codes "openmetrics" ∷ [])
+
+-- is it the name of a format that is written
+abbrev pub is_out_name : List ℕ → Bool
+is_out_name = is_one_of (codes "influx" ∷ codes "graphite" ∷ codes "openmetrics" ∷ [])
+
+-- a text that is the name of a format
+abbrev pub name_faults : (List ℕ → Bool) → Option (List ℕ) → List ConfigKind
+name_faults is_name None = WrongType ∷ []
+name_faults is_name (Some text) = unless (is_name text) OutOfRange
 
 -- a list of exactly one text, which isn't empty
 abbrev pub file_faults : Option (List (List ℕ)) → List ConfigKind
@@ -102,6 +116,24 @@ abbrev pub list_faults : Option (List (List ℕ)) → List ConfigKind
 list_faults None = WrongType ∷ []
 list_faults (Some texts) = glob_faults texts
 
+-- the template that a text spells; None where it spells none
+unfoldable pub template_in : List ℕ → Option Template
+template_in text = result_ok (template_of text)
+
+-- is the text a template
+abbrev pub is_template : List ℕ → Bool
+is_template text = is_some (template_in text)
+
+-- the texts that are no templates, each BadTemplate
+abbrev pub template_faults : List (List ℕ) → List ConfigKind
+template_faults [] = []
+template_faults (text ∷ texts) = unless (is_template text) BadTemplate ++ template_faults texts
+
+-- the faults of a list of templates: WrongType where it is no list of texts, before all else in it
+abbrev pub templates_faults : Option (List (List ℕ)) → List ConfigKind
+templates_faults None = WrongType ∷ []
+templates_faults (Some texts) = template_faults texts
+
 -- the faults of a key with a list of globs
 abbrev pub listed_faults : List ℕ → Option (List (List ℕ)) → List ConfigKind
 listed_faults key None = WrongType ∷ []
@@ -122,7 +154,10 @@ value_faults Anything value = []
 value_faults (Count most) value = number_faults most (as_integer value)
 value_faults Truth value = unless (is_some (as_bool value)) WrongType
 value_faults Place value = place_faults (as_str value)
-value_faults Format value = format_faults (as_str value)
+value_faults AnyText value = unless (is_some (as_str value)) WrongType
+value_faults InName value = name_faults is_in_name (as_str value)
+value_faults OutName value = name_faults is_out_name (as_str value)
+value_faults Templates value = templates_faults (texts_in value)
 value_faults Files value = file_faults (texts_in value)
 value_faults Duration value = time_faults value
 value_faults Globs value = list_faults (texts_in value)
@@ -157,6 +192,14 @@ counted_or most other number = other
 abbrev pub count_at : List ℕ → ℕ → ℕ → Members → ℕ
 count_at key most other members =
     counted_or most other (option_and_then as_integer (get_member key members))
+
+-- the truth value at a key, or another where there is none
+abbrev pub truth_at : List ℕ → Bool → Members → Bool
+truth_at key other members = unwrap_or (option_and_then as_bool (get_member key members)) other
+
+-- the text at a key, or another where there is none
+abbrev pub text_at : List ℕ → List ℕ → Members → List ℕ
+text_at key other members = unwrap_or (option_and_then as_str (get_member key members)) other
 
 abbrev pub batch_in : ℕ → Members → ℕ
 batch_in other members = count_at (codes "metric_batch_size") most_counted other members
@@ -302,8 +345,7 @@ same_faults class number before (place ∷ places) =
 
 -- the place of the journal
 abbrev pub journal_of : Members → List ℕ
-journal_of agent =
-    unwrap_or (option_and_then as_str (get_member (codes "journal") agent)) (codes "agent.journal")
+journal_of agent = text_at (codes "journal") (codes "agent.journal") agent
 
 -- ---- the whole
 

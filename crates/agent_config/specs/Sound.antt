@@ -1,5 +1,5 @@
 -- What holds of the values of every configuration without faults.
-use Rattle.std.specs.Prelude.{◌≡◌, ◌≤◌, ℕ, List, ◌∷◌, length, map}
+use Rattle.std.specs.Prelude.{◌≤◌, ℕ, List, ◌∷◌, length, map}
 use Rattle.std.specs.List.{All, IsDistinct}
 use Rattle.std.specs.Str.{bytes_eq}
 use Rattle.agent_config.specs.declared.config.Config.{Config}

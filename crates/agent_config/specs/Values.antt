@@ -2,17 +2,22 @@
 use Rattle.std.specs.Prelude.{◌==◌, ◌++◌, ℕ, pos, Bool, true, false, List, [], ◌∷◌, length, map, chars}
 use Rattle.std.specs.Prelude.{codes, Option, Some, None, option_and_then, option_to_list, if◌then◌else◌}
 use Rattle.std.specs.Prelude.{unwrap_or}
-use Rattle.toml.specs.Data.{Members, no_members, member, get_member, as_bool, as_str, as_table}
+use Rattle.std.specs.Str.{bytes_eq}
+use Rattle.toml.specs.Data.{Members, no_members, member, get_member, as_str, as_table}
 use Rattle.metric.specs.Glob.{glob_of}
 use Rattle.metric.specs.declared.glob.Element.{Element}
 use Rattle.metric_filter.specs.declared.rules.FilterRules.{FilterRules}
+use Rattle.graphite_text.specs.Template.{Shape as Template}
 use Rattle.agent_config.specs.Faults.{texts_in, count_at, agent_limits, own_limits, members_in, time_in}
 use Rattle.agent_config.specs.Faults.{Plugin, place_of, journal_of, table_at, plugins_at, most_counted}
+use Rattle.agent_config.specs.Faults.{template_in, text_at, truth_at}
 use Rattle.agent_config.specs.declared.tables.Limits.{Limits}
 use Rattle.agent_config.specs.declared.config.AgentConf.{AgentConf}
 use Rattle.agent_config.specs.declared.config.Config.{Config}
+use Rattle.agent_config.specs.declared.config.InFormat.{InFormat}
 use Rattle.agent_config.specs.declared.config.InFormat.TheVariants as read
 use Rattle.agent_config.specs.declared.config.InputConf.{InputConf}
+use Rattle.agent_config.specs.declared.config.OutFormat.{OutFormat}
 use Rattle.agent_config.specs.declared.config.OutFormat.TheVariants as written
 use Rattle.agent_config.specs.declared.config.OutputConf.{OutputConf}
 
@@ -29,7 +34,7 @@ interval_of agent =
 
 -- may inputs be read side by side
 abbrev pub workers_of : Members → Bool
-workers_of agent = unwrap_or (option_and_then as_bool (get_member (codes "workers") agent)) true
+workers_of agent = truth_at (codes "workers") true agent
 
 abbrev pub agent_of : Members → AgentConf
 agent_of agent = record {
@@ -88,6 +93,45 @@ filter_of members = record {
   tagdrop = tag_globs_at (codes "tagdrop") members;
 }
 
+-- ---- formats
+
+-- the templates that texts spell, in order; a text that spells none is left out
+abbrev pub templates_of : List (List ℕ) → List Template
+templates_of [] = []
+templates_of (text ∷ texts) = option_to_list (template_in text) ++ templates_of texts
+
+-- the templates of a value that is a list of texts; another has none
+abbrev pub templates_in : Option (List (List ℕ)) → List Template
+templates_in None = []
+templates_in (Some texts) = templates_of texts
+
+-- the templates of an input
+abbrev pub templates_at : Members → List Template
+templates_at members = templates_in (option_and_then texts_in (get_member (codes "templates") members))
+
+-- the name of a plugin's format
+abbrev pub format_name : Members → List ℕ
+format_name members = text_at (codes "data_format") (codes "influx") members
+
+-- Graphite's lines with the templates and the separator of an input
+abbrev pub graphite_at : Members → InFormat
+graphite_at members = read.Graphite (templates_at members) (text_at (codes "separator") (codes ".") members)
+
+-- the format of this name that is read; Influx where no other has the name
+abbrev pub in_format : List ℕ → Members → InFormat
+in_format name members =
+    if bytes_eq name (codes "statsd") then read.Statsd
+    else if bytes_eq name (codes "graphite") then graphite_at members
+    else if bytes_eq name (codes "openmetrics") then read.Openmetrics (truth_at (codes "type_tag") false members)
+    else read.Influx
+
+-- the format of this name that is written; Influx where no other has the name
+abbrev pub out_format : List ℕ → OutFormat
+out_format name =
+    if bytes_eq name (codes "graphite") then written.Graphite
+    else if bytes_eq name (codes "openmetrics") then written.Openmetrics
+    else written.Influx
+
 -- ---- inputs and outputs
 
 abbrev pub plugin_members : Plugin → Members
@@ -96,7 +140,7 @@ plugin_members plugin = members_in (as_table plugin.value)
 abbrev pub input_of : Plugin → InputConf
 input_of plugin = record {
   place = place_of plugin;
-  format = read.Influx;
+  format = in_format (format_name (plugin_members plugin)) (plugin_members plugin);
   tracked = false;
   max_undelivered = 1000;
   filter = filter_of (plugin_members plugin);
@@ -106,7 +150,7 @@ input_of plugin = record {
 abbrev pub output_of : Limits → Plugin → OutputConf
 output_of limits plugin = record {
   place = place_of plugin;
-  format = written.Influx;
+  format = out_format (format_name (plugin_members plugin));
   batch = (own_limits limits (plugin_members plugin)).batch;
   limit = (own_limits limits (plugin_members plugin)).limit;
   filter = filter_of (plugin_members plugin);

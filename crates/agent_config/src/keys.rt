@@ -1,6 +1,7 @@
 //! The keys of the tables of a configuration.
 ghost use Rattle.std.specs.Prelude.{◌≡◌};
-ghost use Rattle.agent_config.specs.Keys.{agent_key, is_root_key, output_key, plugin_key, shape_of};
+ghost use Rattle.agent_config.specs.Keys.{agent_key, input_key, is_root_key, output_key, plugin_key};
+ghost use Rattle.agent_config.specs.Keys.{shape_of};
 
 /// What a key takes.
 #[derive(Clone, Copy, Debug, PartialEq, Eq)]
@@ -13,8 +14,14 @@ pub(crate) enum Shape {
     Truth,
     /// A text that isn't empty.
     Place,
-    /// The name of a format.
-    Format,
+    /// Any text, the empty one too.
+    AnyText,
+    /// The name of a format that is read.
+    InName,
+    /// The name of a format that is written.
+    OutName,
+    /// A list of templates.
+    Templates,
     /// A list of one place.
     Files,
     /// A time above 0.
@@ -43,7 +50,7 @@ impl Keys {
     {
         match self {
             Keys::Agent => agent_key(key),
-            Keys::Input => plugin_key(key),
+            Keys::Input => input_key(key),
             Keys::Output => output_key(key),
         }
     }
@@ -83,7 +90,6 @@ fn plugin_key(key: &str) -> Option<Shape>
 {
     match key {
         "files" => Some(Shape::Files),
-        "data_format" => Some(Shape::Format),
         "alias" => Some(Shape::Anything),
         "namepass" | "namedrop" | "taginclude" | "tagexclude" => Some(Shape::Globs),
         "fieldinclude" | "fieldexclude" | "fieldpass" | "fielddrop" => Some(Shape::Globs),
@@ -92,11 +98,25 @@ fn plugin_key(key: &str) -> Option<Shape>
     }
 }
 
+/// What a key of an input takes; None where it isn't known.
+fn input_key(key: &str) -> Option<Shape>
+    ensures { result ≡ input_key key.now }
+{
+    match key {
+        "data_format" => Some(Shape::InName),
+        "templates" => Some(Shape::Templates),
+        "separator" => Some(Shape::AnyText),
+        "type_tag" => Some(Shape::Truth),
+        _ => plugin_key(key),
+    }
+}
+
 /// What a key of an output takes; None where it isn't known.
 fn output_key(key: &str) -> Option<Shape>
     ensures { result ≡ output_key key.now }
 {
     match key {
+        "data_format" => Some(Shape::OutName),
         "metric_batch_size" | "metric_buffer_limit" => Some(Shape::Count(10_000)),
         _ => plugin_key(key),
     }

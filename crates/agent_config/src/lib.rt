@@ -8,6 +8,7 @@ mod fault;
 mod faulty;
 mod filters;
 mod first;
+mod formats;
 mod keys;
 mod places;
 mod plugins;
@@ -16,6 +17,7 @@ mod settings;
 mod sums;
 mod table_faults;
 mod tables;
+mod templates;
 mod texts;
 mod times;
 mod values;
@@ -25,5 +27,7 @@ pub use fault::{Class, ConfigFault, ConfigKind};
 pub use faulty::faulty_key;
 pub use read::read_config;
 
+#[cfg(test)]
+mod format_tests;
 #[cfg(test)]
 mod tests;

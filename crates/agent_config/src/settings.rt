@@ -7,13 +7,14 @@ ghost use Rattle.agent_config.specs.Values.{agent_of, config_of, global_tag, glo
 ghost use Rattle.agent_config.specs.Values.{interval_of};
 ghost use Rattle.agent_config.specs.Values.{output_of, workers_of};
 
-use crate::config::{AgentConf, Config, InFormat, InputConf, OutFormat, OutputConf};
+use crate::config::{AgentConf, Config, InputConf, OutputConf};
 use crate::filters::filter_of;
+use crate::formats::{in_format_at, out_format_at};
 use crate::places::place_of;
 use crate::plugins::{Plugin, classes_of};
 use crate::tables::{
     Limits, MOST_COUNTED, agent_limits, count_at, journal_of, members_in, own_limits, table_at,
-    value_at,
+    truth_at, value_at,
 };
 use crate::times::time_in;
 use fixed_num::{OutOfMemory, Seq};
@@ -78,10 +79,7 @@ fn interval_of(alloc: Global, agent: &Table) -> Result<i64, OutOfMemory>
 fn workers_of(agent: &Table) -> bool
     ensures { result ≡ workers_of (table_view agent.now) }
 {
-    match value_at(agent, "workers") {
-        Some(value) => value.as_bool().unwrap_or(true),
-        None => true,
-    }
+    truth_at(agent, "workers", true)
 }
 
 /// The global tags that have a value, in the order of their keys.
@@ -140,12 +138,13 @@ fn input_of<'a>(
     requires { table_view empty.now ≡ no_members }
     ensures { IfOk result (λ input. input ≡ input_of (plugin_view plugin.now)) }
 {
+    let table = members_in(plugin.value, empty);
     Ok(InputConf {
         place: Text::of(alloc, place_of(plugin, empty))?,
-        format: InFormat::Influx,
+        format: in_format_at(alloc, table)?,
         tracked: false,
         max_undelivered: UNDELIVERED,
-        filter: filter_of(alloc, members_in(plugin.value, empty))?,
+        filter: filter_of(alloc, table)?,
     })
 }
 
@@ -180,7 +179,7 @@ fn output_of<'a>(
     let limits = own_limits(limits, table);
     Ok(OutputConf {
         place: Text::of(alloc, place_of(plugin, empty))?,
-        format: OutFormat::Influx,
+        format: out_format_at(table),
         batch: limits.batch,
         limit: limits.limit,
         filter: filter_of(alloc, table)?,

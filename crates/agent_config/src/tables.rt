@@ -1,9 +1,9 @@
 //! What stands in tables.
 ghost use Rattle.std.specs.Prelude.{◌≡◌, ◌≤◌, option_map, option_and_then, codes};
-ghost use Rattle.toml.specs.Data.{as_array, as_integer, as_str, as_table, get_member, no_members};
+ghost use Rattle.toml.specs.Data.{as_array, as_bool, as_integer, as_str, as_table, get_member, no_members};
 ghost use Rattle.toml.specs.View.{items_view, table_view, view};
 ghost use Rattle.agent_config.specs.Faults.{agent_limits, count_at, counted_or, journal_of, members_in};
-ghost use Rattle.agent_config.specs.Faults.{only_item, own_limits, place_in, table_at};
+ghost use Rattle.agent_config.specs.Faults.{only_item, own_limits, place_in, table_at, text_at, truth_at};
 
 use toml::{Table, Value};
 
@@ -26,14 +26,23 @@ pub(crate) fn value_at<'a>(table: &'a Table, key: &str) -> Option<&'a Value>
     table.get(key)
 }
 
-/// The text at a key; None where there is none.
-pub(crate) fn text_at<'a>(table: &'a Table, key: &str) -> Option<&'a str>
-    ensures { option_map (λ text. text.now) result
-        ≡ option_and_then as_str (get_member key.now (table_view table.now)) }
+/// The text at a key, or another where there is none.
+pub(crate) fn text_at<'a>(table: &'a Table, key: &str, other: &'a str) -> &'a str
+    ensures { result.now ≡ text_at key.now other.now (table_view table.now) }
 {
     match value_at(table, key) {
-        Some(value) => value.as_str(),
-        None => None,
+        Some(value) => value.as_str().unwrap_or(other),
+        None => other,
+    }
+}
+
+/// The truth value at a key, or another where there is none.
+pub(crate) fn truth_at(table: &Table, key: &str, other: bool) -> bool
+    ensures { result ≡ truth_at key.now other (table_view table.now) }
+{
+    match value_at(table, key) {
+        Some(value) => value.as_bool().unwrap_or(other),
+        None => other,
     }
 }
 
@@ -112,10 +121,7 @@ pub(crate) fn own_limits(limits: &Limits, table: &Table) -> Limits
 pub(crate) fn journal_of(agent: &Table) -> &str
     ensures { result.now ≡ journal_of (table_view agent.now) }
 {
-    match text_at(agent, "journal") {
-        Some(place) => place,
-        None => "agent.journal",
-    }
+    text_at(agent, "journal", "agent.journal")
 }
 
 /// The only item of a list.

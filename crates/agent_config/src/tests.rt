@@ -21,7 +21,7 @@ struct Case {
     want: Option<(ConfigKind, Class, u32)>,
 }
 /// Texts, and what is answered of each.
-static CASES: [Case; 78] = [
+static CASES: [Case; 98] = [
     Case {
         parts: [I, O, "", ""],
         want: None,
@@ -183,7 +183,7 @@ static CASES: [Case; 78] = [
         want: Some((ConfigKind::WrongType, Class::Inputs, 1)),
     },
     Case {
-        parts: ["[[inputs.file]]\ndata_format = \"statsd\"\n", O, "", ""],
+        parts: ["[[inputs.file]]\ndata_format = \"json\"\n", O, "", ""],
         want: Some((ConfigKind::OutOfRange, Class::Inputs, 0)),
     },
     Case {
@@ -383,6 +383,91 @@ static CASES: [Case; 78] = [
     Case {
         parts: [I, I, "", ""],
         want: Some((ConfigKind::NoOutput, Class::Root, 0)),
+    },
+    Case {
+        parts: [I, "templates = [\" m\"]\n", O, ""],
+        want: Some((ConfigKind::BadTemplate, Class::Inputs, 0)),
+    },
+    Case {
+        parts: [I, "templates = [\"m\", \"a*\"]\n", O, ""],
+        want: Some((ConfigKind::BadTemplate, Class::Inputs, 0)),
+    },
+    Case {
+        parts: [I, "templates = [\"a*\", 1]\n", O, ""],
+        want: Some((ConfigKind::WrongType, Class::Inputs, 0)),
+    },
+    Case {
+        parts: [I, "templates = \"m\"\n", O, ""],
+        want: Some((ConfigKind::WrongType, Class::Inputs, 0)),
+    },
+    Case {
+        parts: [I, "separator = 1\n", O, ""],
+        want: Some((ConfigKind::WrongType, Class::Inputs, 0)),
+    },
+    Case {
+        parts: [I, "type_tag = \"x\"\n", O, ""],
+        want: Some((ConfigKind::WrongType, Class::Inputs, 0)),
+    },
+    Case {
+        parts: [I, "data_format = 1\n", O, ""],
+        want: Some((ConfigKind::WrongType, Class::Inputs, 0)),
+    },
+    Case {
+        parts: [I, "data_format = \"Graphite\"\n", O, ""],
+        want: Some((ConfigKind::OutOfRange, Class::Inputs, 0)),
+    },
+    Case {
+        parts: [I, "templates = [\" m\"]\nnamepass = [\"[\"]\n", O, ""],
+        want: Some((ConfigKind::BadGlob, Class::Inputs, 0)),
+    },
+    Case {
+        parts: [I, "tagpass = {a = [\"[\"]}\ntemplates = [\" m\"]\n", O, ""],
+        want: Some((ConfigKind::BadGlob, Class::Inputs, 0)),
+    },
+    Case {
+        parts: [I, "type_tag = 1\ntemplates = [\" m\"]\n", O, ""],
+        want: Some((ConfigKind::BadTemplate, Class::Inputs, 0)),
+    },
+    Case {
+        parts: [I, "tagpass = {a = [\"[\"]}\nseparator = 1\n", O, ""],
+        want: Some((ConfigKind::WrongType, Class::Inputs, 0)),
+    },
+    Case {
+        parts: [I, "templates = [\" m\"]\ndata_format = \"json\"\n", O, ""],
+        want: Some((ConfigKind::OutOfRange, Class::Inputs, 0)),
+    },
+    Case {
+        parts: [
+            I,
+            "data_format = \"statsd\"\nseparator = \"\"\ntemplates = [\"m\", \"a=b c\"]\ntype_tag = true\n",
+            O,
+            "",
+        ],
+        want: None,
+    },
+    Case {
+        parts: [I, O, "data_format = \"statsd\"\n", ""],
+        want: Some((ConfigKind::OutOfRange, Class::Outputs, 0)),
+    },
+    Case {
+        parts: [I, O, "data_format = true\n", ""],
+        want: Some((ConfigKind::WrongType, Class::Outputs, 0)),
+    },
+    Case {
+        parts: [I, O, "templates = []\n", ""],
+        want: Some((ConfigKind::UnknownKey, Class::Outputs, 0)),
+    },
+    Case {
+        parts: [I, O, "separator = \".\"\n", ""],
+        want: Some((ConfigKind::UnknownKey, Class::Outputs, 0)),
+    },
+    Case {
+        parts: [I, O, "type_tag = false\n", ""],
+        want: Some((ConfigKind::UnknownKey, Class::Outputs, 0)),
+    },
+    Case {
+        parts: [I, O, "data_format = \"openmetrics\"\n", ""],
+        want: None,
     },
 ];
 

@@ -2,13 +2,15 @@
 ghost use Rattle.std.specs.Prelude.{◌≡◌, Some, IfOk, option_copied, option_map};
 ghost use Rattle.toml.specs.Data.{as_str, as_table};
 ghost use Rattle.toml.specs.View.{table_view, view};
-ghost use Rattle.agent_config.specs.Faults.{file_faults, first, format_faults, is_counted, list_faults};
-ghost use Rattle.agent_config.specs.Faults.{listed_faults, number_faults, place_faults, tag_faults};
-ghost use Rattle.agent_config.specs.Faults.{tagged_faults};
+ghost use Rattle.agent_config.specs.Faults.{file_faults, first, is_counted, is_in_name, is_out_name};
+ghost use Rattle.agent_config.specs.Faults.{list_faults, listed_faults, name_faults, number_faults};
+ghost use Rattle.agent_config.specs.Faults.{place_faults, tag_faults, tagged_faults, templates_faults};
 ghost use Rattle.agent_config.specs.Faults.{texts_in, time_faults, unless, value_faults};
 
 use crate::fault::ConfigKind;
+use crate::formats::{is_in_name, is_out_name};
 use crate::keys::Shape;
+use crate::templates::template_fault;
 use crate::texts::{glob_fault, texts_in};
 use crate::times::time_in;
 use fixed_num::OutOfMemory;
@@ -35,7 +37,10 @@ pub(crate) fn value_fault(
         Shape::Count(most) => Ok(number_fault(*most, value.as_integer())),
         Shape::Truth => Ok(unless(value.is_bool(), ConfigKind::WrongType)),
         Shape::Place => Ok(place_fault(value)),
-        Shape::Format => Ok(format_fault(value)),
+        Shape::AnyText => Ok(unless(value.is_str(), ConfigKind::WrongType)),
+        Shape::InName => Ok(in_name_fault(value)),
+        Shape::OutName => Ok(out_name_fault(value)),
+        Shape::Templates => templates_fault(alloc, value),
         Shape::Files => file_fault(alloc, value),
         Shape::Duration => time_fault(alloc, value),
         Shape::Globs => list_fault(alloc, value),
@@ -70,12 +75,22 @@ fn place_fault(value: &Value) -> Option<ConfigKind>
     }
 }
 
-/// The first fault of the name of a format.
-fn format_fault(value: &Value) -> Option<ConfigKind>
-    ensures { result ≡ first (format_faults (as_str (view value.now))) }
+/// The first fault of the name of a format that is read.
+fn in_name_fault(value: &Value) -> Option<ConfigKind>
+    ensures { result ≡ first (name_faults is_in_name (as_str (view value.now))) }
 {
     match value.as_str() {
-        Some(text) => unless(text == "influx", ConfigKind::OutOfRange),
+        Some(name) => unless(is_in_name(name), ConfigKind::OutOfRange),
+        None => Some(ConfigKind::WrongType),
+    }
+}
+
+/// The first fault of the name of a format that is written.
+fn out_name_fault(value: &Value) -> Option<ConfigKind>
+    ensures { result ≡ first (name_faults is_out_name (as_str (view value.now))) }
+{
+    match value.as_str() {
+        Some(name) => unless(is_out_name(name), ConfigKind::OutOfRange),
         None => Some(ConfigKind::WrongType),
     }
 }
@@ -110,6 +125,16 @@ fn list_fault(alloc: Global, value: &Value) -> Result<Option<ConfigKind>, OutOfM
 {
     match texts_in(alloc, value)? {
         Some(texts) => glob_fault(alloc, texts.as_slice()),
+        None => Ok(Some(ConfigKind::WrongType)),
+    }
+}
+
+/// The first fault of a list of templates.
+fn templates_fault(alloc: Global, value: &Value) -> Result<Option<ConfigKind>, OutOfMemory>
+    ensures { IfOk result (λ fault. fault ≡ first (templates_faults (texts_in (view value.now)))) }
+{
+    match texts_in(alloc, value)? {
+        Some(texts) => template_fault(alloc, texts.as_slice()),
         None => Ok(Some(ConfigKind::WrongType)),
     }
 }

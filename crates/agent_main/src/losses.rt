@@ -17,7 +17,7 @@ fn loss_of(alloc: Global, line: &str) -> Result<Option<String>, AllocError> {
     let (kind, number) = (words.next().unwrap_or(""), words.next().unwrap_or(""));
     match (kind, count_of(line, "refused"), count_of(line, "dropped")) {
         ("input", Some(count), _) => Ok(Some(format!(in alloc;
-            "input {number}: pieces refused: {count} (no line protocol, or longer than 65536 bytes)"
+            "input {number}: pieces refused: {count} (not of the format of the input, or too long)"
         )?)),
         ("output", _, Some(count)) => Ok(Some(format!(in alloc;
             "output {number}: metrics dropped: {count} (more waited than the buffer limit)"

@@ -33,7 +33,7 @@ const CASES: [Case; 4] = [
             output 0 filtered 0 late 0 consumed 0 written 6 buffered 0 dropped 0\n\
             output 1 filtered 0 late 0 consumed 0 written 4 buffered 0 dropped 2\n",
         told: Some(
-            "hogzent: input 0: pieces refused: 1 (no line protocol, or longer than 65536 bytes); \
+            "hogzent: input 0: pieces refused: 1 (not of the format of the input, or too long); \
             output 1: metrics dropped: 2 (more waited than the buffer limit)",
         ),
     },

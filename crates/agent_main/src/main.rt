@@ -1,4 +1,5 @@
-//! A metric agent: one line protocol input to one line protocol output, with a journal of every event.
+//! A metric agent: the inputs and outputs of a configuration, or one input and one output, with a journal of every
+//! event.
 #![tactic(auto)]
 
 mod losses;
@@ -20,8 +21,8 @@ fn advice(status: Status) -> &'static str {
     match status {
         Status::Done => "",
         Status::Usage => {
-            "hogzent: usage: hogzent pipe IN OUT BATCH LIMIT, with 1 <= BATCH <= LIMIT <= 10000, \
-            and OUT not agent.journal; or hogzent check CONFIG"
+            "hogzent: usage: hogzent run CONFIG; or hogzent check CONFIG; or hogzent pipe IN OUT BATCH LIMIT, \
+            with 1 <= BATCH <= LIMIT <= 10000, and OUT not agent.journal"
         }
         Status::Config => "hogzent: the configuration was refused",
         Status::ReadFault => {
@@ -69,9 +70,32 @@ fn check_advice(status: Status) -> &'static str {
     }
 }
 
-/// What standard error is told of an end that isn't Done.
-fn tell(rt: &HostRuntime, alloc: Global, words: &[String], status: Status) {
-    let [_, place] = words else {
+/// What standard error is told of a run of a configuration that ended so, where it isn't what it is told of a pipe.
+/// The report says which read failed.
+fn run_advice(status: Status, report: &[u8]) -> &'static str {
+    match status {
+        Status::ReadFault => {
+            if report.starts_with(b"fault: read ") {
+                "hogzent: the configuration could not be read"
+            } else {
+                "hogzent: a read failed; what was read before was sent, buffered or dropped, \
+                as the account says"
+            }
+        }
+        Status::Left => {
+            "hogzent: the last puts to an output failed, as many in succession as final_tries says; \
+            the account says how many metrics are still buffered"
+        }
+        Status::Limit => {
+            "hogzent: a limit of the run was reached, and an input was not read to its end"
+        }
+        _ => advice(status),
+    }
+}
+
+/// What standard error is told of an end that isn't Done, given what was reported.
+fn tell(rt: &HostRuntime, alloc: Global, words: &[String], status: Status, report: &[u8]) {
+    let [command, place] = words else {
         let _ = rt.eprintln(advice(status));
         return;
     };
@@ -81,7 +105,10 @@ fn tell(rt: &HostRuntime, alloc: Global, words: &[String], status: Status) {
             return;
         }
     }
-    let _ = rt.eprintln(check_advice(status));
+    let _ = rt.eprintln(match command.as_str() {
+        "run" => run_advice(status, report),
+        _ => check_advice(status),
+    });
 }
 
 /// The words, without the program's name; none where a word isn't UTF-8, which makes them no command.
@@ -111,7 +138,7 @@ fn run_words(rt: &HostRuntime, standard: StandardStreams) -> Status {
         );
     }
     if status != Status::Done {
-        tell(rt, alloc, words.as_slice(), status);
+        tell(rt, alloc, words.as_slice(), status, world.reported());
     } else if let Some(text) = losses_in(alloc, world.reported()) {
         let _ = rt.eprintln(text);
     }

@@ -30,7 +30,7 @@ none_first [] e = refl
 none_first (x ∷ xs) e = cc
 
 -- a text that is too long has no tree
-too_long : (text : List ℕ) → 1048576 < length text → tree_of text ≡ None
+pub too_long : (text : List ℕ) → 1048576 < length text → tree_of text ≡ None
 too_long text h = rw (lt-leb (length text) 1048576 h) refl
 
 -- a text of which no more is left than what was taken, or of which more than the longest was taken, has the

@@ -1,11 +1,10 @@
 -- Clocks that are taken one after the other.
-use Rattle.std.proofs.Common.{◌≡◌, ◌≢◌, ◌≤◌, ◌<◌, ◌+◌, ◌++◌, ℕ, List, [], ◌∷◌, length, map, refl, sym, ap, ◌∙◌, subst, inl, inr, arith, Option, None}
-use Rattle.std.specs.Prelude.{◌⊎◌}
+use Rattle.std.proofs.Common.{◌≡◌, ◌+◌, ◌++◌, ℕ, List, [], ◌∷◌, refl, ap, ◌∙◌, inl, inr, arith, Option, None}
 use Rattle.std.proofs.lemmas.Bool.{cases_lt}
 use Rattle.std.proofs.lemmas.List.{length_push, get_or_append_left, get_or_push, map-append}
 use Rattle.agent_base.specs.Moments.{Moments}
 use Rattle.agent_base.specs.Places.{SameBut}
-use Rattle.agent_run.specs.ClockLists.{AreTaken, from_first, timed_at}
+use Rattle.agent_run.specs.ClockLists.{AreTaken, from_first}
 use Rattle.agent_workers.specs.Opened.{Timed, all_timed, timed_of}
 
 -- no clock was taken yet

@@ -1,5 +1,5 @@
 -- What each status of a run says.
-use Rattle.std.proofs.Common.{◌≡◌, ◌≤◌, ◌<◌, ◌+◌, ℕ, zero, suc, ℤ, ◌^◌, Bool, true, false, List, [], ◌∷◌, length, refl, sym, ap, ◌∙◌, subst, inl, inr, arith, cond, replicate}
+use Rattle.std.proofs.Common.{◌≡◌, ◌≤◌, ◌<◌, ◌+◌, ℕ, zero, suc, ℤ, ◌^◌, Bool, true, false, List, [], ◌∷◌, length, refl, ap, subst, inl, inr, arith, cond, replicate}
 use Rattle.std.specs.Prelude.{◌≢◌, not, ◌⊎◌, ◌||◌, count_by, IfOk, Ok, Result}
 use Rattle.fixed_num.specs.declared.memory.OutOfMemory.{OutOfMemory}
 use Rattle.std.proofs.lemmas.List.Sums.{sum_by-append}

@@ -8,3 +8,4 @@ pub mod ClockListLemmas
 pub mod ZipLemmas
 pub mod RunningLemmas
 pub mod PipeLemmas
+pub mod RunCallLemmas

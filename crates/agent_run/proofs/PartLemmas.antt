@@ -6,11 +6,11 @@ use Rattle.std.specs.declared.result.Result.TheVariants.{Ok, Err}
 use Rattle.std.specs.List.{IsDistinct}
 use Rattle.std.specs.Str.{bytes_eq}
 use Rattle.std.proofs.lemmas.Bool.{cases_lt}
-use Rattle.std.proofs.lemmas.List.{length_push, length-take, length-map, get_or_append_left, get_or_push, get_or-take, get_or_default, get_or-map, map-append, take-map, take_more, take_all}
+use Rattle.std.proofs.lemmas.List.{length_push, length-take, get_or_append_left, get_or_push, get_or-take, get_or_default, get_or-map, map-append, take-map, take_more, take_all}
 use Rattle.std.proofs.lemmas.List.Elements.{Contains-append_left, Contains-append_right, Contains-append_cases}
 use Rattle.std.proofs.lemmas.Map.Made.{AllPairs-from_IsDistinct, IsDistinct-from_AllPairs}
 use Rattle.std.proofs.lemmas.Slice.Eq.{bytes_eq-Decides}
-use Rattle.agent_base.specs.Places.{Place, Opens, Refuses, TakesIn, SameBut, SameAtAll, AreHome}
+use Rattle.agent_base.specs.Places.{Place, Refuses, SameBut, SameAtAll, AreHome}
 use Rattle.agent_base.specs.declared.world.OpenFault.{OpenFault}
 use Rattle.agent_base.specs.declared.world.OpenFault.TheVariants as faults
 use Rattle.agent_run.specs.PlaceLists.{GoEach, AreOpened, AreGiven, AreHomeBut, AreOut, AreRefused, IsRefusedAt, IsUnopenedBy, StopsAt, carried_at, no_part, place_at}

@@ -1,5 +1,5 @@
 -- What running a configuration leaves of a world.
-use Rattle.std.proofs.Common.{◌≡◌, ◌≢◌, ◌<◌, ◌≤◌, ◌+◌, ℕ, zero, suc, Bool, List, [], ◌∷◌, length, get_or, map, refl, sym, ap, ◌∙◌, subst, inl, inr, arith, Option}
+use Rattle.std.proofs.Common.{◌≡◌, ◌<◌, ◌≤◌, ◌+◌, ℕ, suc, Bool, List, [], ◌∷◌, length, get_or, refl, sym, ap, ◌∙◌, subst, inl, inr, arith, Option}
 use Rattle.std.specs.Prelude.{◌⊎◌, ◌||◌, All, Contains, None}
 use Rattle.std.proofs.lemmas.List.{length-map, get_or-map, get_or_default}
 use Rattle.agent_base.specs.Moments.{Moments}
@@ -12,7 +12,7 @@ use Rattle.agent_workers.specs.Opened.{Carried, Timed, RanBy, config_ins, config
 use Rattle.agent_workers.specs.Run.{Change, change, InRun, OutRun, IsPutSo}
 use Rattle.agent_workers.specs.declared.serial.Ending.{Ending}
 use Rattle.agent_run.specs.ClockLists.{HasInputClocks, clock_count, from_first, timed_at}
-use Rattle.agent_run.specs.Headline.{RunChange, Ends, place_change, report_change, status_of, world_change, world_ins, world_outs, input_clock, run_clock}
+use Rattle.agent_run.specs.Headline.{Ends, place_change, report_change, status_of, world_change, world_ins, world_outs, input_clock, run_clock}
 use Rattle.agent_run.specs.PlaceLists.{GoEach, OpensPart, TakesPart, AreOpened, AreGiven, AreHomeBut, AreOut, IsInUnopened, IsOutUnopened, OpensAll, carried_at, in_places, out_places, no_part, place_at, places_in, places_out}
 use Rattle.agent_run.specs.Places.{AreOpensSame, ReportsLine, open_fault_line}
 use Rattle.agent_run.specs.Running.{IsOpenedSame, IsRefusedBy, OnlyNamed, told, told_at}

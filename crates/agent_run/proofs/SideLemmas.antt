@@ -1,13 +1,13 @@
 -- The places of both sides: what is left where they are opened, or one isn't, or they are given back.
-use Rattle.std.proofs.Common.{◌≡◌, ◌≢◌, ℕ, false, List, ◌∷◌, refl, ap, ◌∙◌, inl, inr}
-use Rattle.agent_base.specs.Places.{Place, SameBut, SameAtAll, AreHome}
-use Rattle.agent_base.specs.Views.{WorldView, OnlyOut}
+use Rattle.std.proofs.Common.{◌≡◌, ℕ, List, refl, ◌∙◌, inl, inr}
+use Rattle.agent_base.specs.Places.{Place, SameAtAll, AreHome}
+use Rattle.agent_base.specs.Views.{WorldView}
 use Rattle.agent_config.specs.declared.config.Config.{Config}
-use Rattle.agent_run.specs.PlaceLists.{GoEach, AreOpened, AreGiven, AreRefused, GivesAll, IsLeftUnopened, OnlyIns, OnlyOuts, OpensAll, OpensPart, TakesPart, in_places, out_places}
+use Rattle.agent_run.specs.PlaceLists.{AreOpened, AreGiven, AreRefused, GivesAll, IsLeftUnopened, OnlyIns, OnlyOuts, OpensAll, OpensPart, TakesPart, in_places, out_places}
 use Rattle.agent_workers.specs.Opened.{Carried}
 use Rattle.agent_run.specs.declared.places.Unopened.{Unopened}
 use Rattle.agent_run.specs.declared.places.Unopened.TheVariants.{Failed, OutOfMemory}
-use Rattle.agent_run.proofs.PartLemmas.{go_along, refused_home, unused_same}
+use Rattle.agent_run.proofs.PartLemmas.{go_along, unused_same}
 use Rattle.agent_run.proofs.PlaceLemmas.{same_home, unopened_along, unopened_home}
 
 module _ (unopened : Unopened) (ins outs : List (List ℕ)) (old new : WorldView) where

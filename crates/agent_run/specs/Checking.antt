@@ -14,8 +14,8 @@ use Rattle.agent_config.specs.declared.fault.ConfigKind.TheVariants as kinds
 use Rattle.agent_run.specs.Headline.{report_change}
 use Rattle.agent_workers.specs.Run.{IsPutSo}
 use Rattle.agent_run.specs.Places.{IsUnopened, ReportsLine, RoseToUse, open_fault_line, read_fault_line}
-use Rattle.agent_run.specs.declared.checking.Unread.{Unread}
-use Rattle.agent_run.specs.declared.checking.Unread.TheVariants as unreads
+use Rattle.agent_run.specs.declared.reading.Unread.{Unread}
+use Rattle.agent_run.specs.declared.reading.Unread.TheVariants as unreads
 use Rattle.agent_run.specs.declared.status.Status.{Status}
 use Rattle.agent_run.specs.declared.status.Status.TheVariants as statuses
 
@@ -44,6 +44,7 @@ abbrev pub IsUnread : Unread → Place → Place → Type 0
 IsUnread unreads.Unopened old new = FailsToOpen old new
 IsUnread unreads.Failed old new = RoseToUse old new
 IsUnread unreads.OutOfMemory old new = Unit {0}
+IsUnread (unreads.Faulty fault) old new = ⊥
 
 -- how a line names a class, and what is wrong
 abbrev pub class_word : Class → List ℕ

@@ -8,7 +8,7 @@ use Rattle.agent_config.specs.declared.config.InFormat.TheVariants as read
 use Rattle.agent_config.specs.declared.config.OutFormat.TheVariants as written
 use Rattle.metric_filter.specs.Filter.{no_rules}
 use Rattle.agent_run.specs.declared.command.Command.{Command}
-use Rattle.agent_run.specs.declared.command.Command.TheVariants.{Check, Pipe}
+use Rattle.agent_run.specs.declared.command.Command.TheVariants.{Check, Pipe, Run}
 
 -- the output place of the journal
 abbrev pub journal_place : List ℕ
@@ -42,15 +42,25 @@ pub record IsPipe (words : List (String Global)) (input output : List ℕ) (batc
 abbrev pub IsCheck : List (String Global) → List ℕ → Type 0
 IsCheck words place = map string_bytes words ≡ codes "check" ∷ place ∷ []
 
+-- the words are `run CONFIG`
+abbrev pub IsRunAt : List (String Global) → List ℕ → Type 0
+IsRunAt words place = map string_bytes words ≡ codes "run" ∷ place ∷ []
+
+-- the words name no configuration that is to be checked or run
+pub record NamesNoConfig (words : List (String Global)) : Type 0 where
+  pub no_check : (place : List ℕ) → IsCheck words place → ⊥
+  pub no_run : (place : List ℕ) → IsRunAt words place → ⊥
+
 -- the words are no command
 pub record IsNoCommand (words : List (String Global)) : Type 0 where
   pub no_pipe : (input output : List ℕ) (batch limit : ℕ) → IsPipe words input output batch limit → ⊥
-  pub no_check : (place : List ℕ) → IsCheck words place → ⊥
+  pub no_config : NamesNoConfig words
 
 -- the words are this command
 abbrev pub IsCommand : List (String Global) → Command → Type 0
 IsCommand words (Pipe pipe) = IsPipe words pipe.input.now pipe.output.now pipe.batch pipe.limit
 IsCommand words (Check place) = IsCheck words place.now
+IsCommand words (Run place) = IsRunAt words place.now
 
 -- the configuration that a pipe is: one line protocol input and one line protocol output with these sizes, no
 -- filter, no global tag, and what an agent has where nothing is said

@@ -1,5 +1,6 @@
 pub mod Status
 pub mod Command
+pub mod Configured
 pub mod Places
 pub mod Headline
 pub mod Checking

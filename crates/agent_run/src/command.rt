@@ -1,7 +1,7 @@
 //! The words of a command.
 ghost use Rattle.std.specs.Prelude.{◌≡◌, ◌≢◌, ◌==◌, ◌<◌, ◌≤◌, ℕ, List, [], ◌∷◌, length, map, string_bytes};
 ghost use Rattle.std.specs.Prelude.{MatchOption, slice_index};
-ghost use Rattle.agent_run.specs.Command.{IsCheck, IsCommand, IsNoCommand, IsNumber, IsPipe, IsPipeOf};
+ghost use Rattle.agent_run.specs.Command.{IsCommand, IsNoCommand, IsNumber, IsPipe, IsPipeOf, NamesNoConfig};
 
 use fixed_num::read_uint;
 
@@ -31,6 +31,8 @@ pub enum Command<'a> {
     Pipe(Pipe<'a>),
     /// Checks the configuration at a place.
     Check(&'a str),
+    /// Runs the configuration at a place.
+    Run(&'a str),
 }
 
 fn begins_with_plus(bytes: &[u8]) -> bool
@@ -132,16 +134,15 @@ fn two_of(words: &[String]) -> Option<(&str, &str)>
     Some((command.as_str(), place.as_str()))
 }
 
-/// The place that the words want to be checked.
-fn check_in(words: &[String]) -> Option<&str>
-    ensures { MatchOption result ((place : List ℕ) → IsCheck words.now place → ⊥)
-        (λ place. IsCheck words.now place.now) }
+/// The place whose configuration the words want to be checked, or run.
+fn config_command(words: &[String]) -> Option<Command<'_>>
+    ensures { MatchOption result (NamesNoConfig words.now) (IsCommand words.now) }
 {
     let (command, place) = two_of(words)?;
-    if command == "check" {
-        Some(place)
-    } else {
-        None
+    match command {
+        "check" => Some(Command::Check(place)),
+        "run" => Some(Command::Run(place)),
+        _ => None,
     }
 }
 
@@ -149,11 +150,8 @@ fn check_in(words: &[String]) -> Option<&str>
 pub fn read_command(words: &[String]) -> Option<Command<'_>>
     ensures { MatchOption result (IsNoCommand words.now) (IsCommand words.now) }
 {
-    if let Some(place) = check_in(words) {
-        return Some(Command::Check(place));
-    }
-    match pipe_in(words) {
-        Some(pipe) => Some(Command::Pipe(pipe)),
-        None => None,
+    match config_command(words) {
+        Some(command) => Some(command),
+        None => Some(Command::Pipe(pipe_in(words)?)),
     }
 }

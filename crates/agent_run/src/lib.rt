@@ -1,5 +1,4 @@
-//! Runs a command over a world: one line protocol input to one line protocol output, with a journal of
-//! every event.
+//! Runs a command over a world: a configuration of inputs and outputs, with a journal of every event.
 #![tactic(auto)]
 
 mod checking;
@@ -7,6 +6,7 @@ mod clocks;
 mod command;
 mod pipe;
 mod places;
+mod reading;
 mod reporting;
 mod running;
 mod status;

@@ -3,15 +3,18 @@ ghost use Rattle.std.specs.Prelude.{◌≡◌, ◌≢◌, ◌⊎◌, ◌||◌, B
 ghost use Rattle.agent_base.specs.Places.{AreHome, SameAtAll};
 ghost use Rattle.agent_base.specs.Views.{SameButAt};
 ghost use Rattle.agent_config.specs.Sound.{IsSound};
-ghost use Rattle.agent_run.specs.Headline.{Ends, report_change, status_of, world_change};
+ghost use Rattle.agent_run.specs.Configured.{HasRun};
+ghost use Rattle.agent_run.specs.Headline.{Ends, NothingRose, report_change, status_of, world_change};
 ghost use Rattle.agent_run.specs.PlaceLists.{AreHomeBut, AreOut, in_places, out_places, places_out, read_parts};
 ghost use Rattle.agent_run.specs.Places.{AreOpensSame};
 ghost use Rattle.agent_run.specs.Running.{IsOpenedSame, IsRefusedBy, OnlyNamed, told_at};
 ghost use Rattle.agent_workers.specs.Opened.{all_carried, all_timed, config_ins, config_outs, Timed};
 ghost use Rattle.agent_workers.specs.Run.{IsPutSo, change};
 
+use crate::checking::report_unread;
 use crate::clocks::{clock_room, clocks_of};
 use crate::places::{Unopened, give_back, open_places};
+use crate::reading::config_at;
 use crate::reporting::report_open_fault;
 use crate::status::{Status, run_status};
 use agent_base::{PutFault, World};
@@ -105,5 +108,22 @@ pub(crate) fn run_config<W: World>(alloc: Global, config: &Config, world: &mut W
         }
         Err(Unopened::Failed(place)) => report_open_fault(alloc, world, place),
         Err(Unopened::OutOfMemory) => Status::OutOfMemory,
+    }
+}
+
+/// Runs the configuration at a place: reads it, gives its part back, and runs it. Where it isn't read the report
+/// says why, as it does of a check.
+pub(crate) fn run_call<W: World>(alloc: Global, world: &mut W, place: &str) -> Status
+    requires ins { AreHome (W.view world.old).ins }
+    requires outs { AreHome (W.view world.old).outs }
+    ensures ran { HasRun result place.now (W.view world.old) (W.view world.new) }
+    ensures complete { NothingRose (W.view world.old) (W.view world.new) → (result ≢ Status.Limit)
+        → (result ≢ Status.Config) → (result ≡ Status.Done) ⊎ (result ≡ Status.OutOfMemory) }
+    ensures ins_home { AreHome (W.view world.new).ins }
+    ensures outs_home { AreHome (W.view world.new).outs }
+{
+    match config_at(alloc, world, place) {
+        Ok(config) => run_config(alloc, &config, world),
+        Err(unread) => report_unread(alloc, world, place, unread),
     }
 }

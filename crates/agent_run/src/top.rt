@@ -1,8 +1,10 @@
 //! The top call.
-ghost use Rattle.std.specs.Prelude.{◌≡◌, ◌≢◌, ◌≤◌, ◌⊎◌, ℕ, List};
+ghost use Rattle.std.specs.Prelude.{◌≡◌, ◌≢◌, ◌≤◌, ◌⊎◌, ℕ, List, [], Some};
 ghost use Rattle.agent_base.specs.Places.{AreHome, SameAtAll};
 ghost use Rattle.agent_run.specs.Checking.{HasChecked};
-ghost use Rattle.agent_run.specs.Command.{IsCheck, IsNoCommand, IsPipe, journal_place, pipe_config};
+ghost use Rattle.agent_config.specs.Faults.{text_faults};
+ghost use Rattle.agent_run.specs.Command.{IsCheck, IsNoCommand, IsPipe, IsRunAt, journal_place, pipe_config};
+ghost use Rattle.agent_run.specs.Configured.{HasRun, IsRunUnread, IsUnfailed, RunEnds};
 ghost use Rattle.agent_run.specs.Headline.{Ends, NothingRose, PipeEnds, world_change};
 ghost use Rattle.agent_run.specs.Places.{IsUnused};
 ghost use Rattle.agent_run.specs.Running.{IsOpenedSame, IsRefusedBy, OnlyNamed};
@@ -11,7 +13,7 @@ use crate::checking::check_call;
 use crate::command::{Command, Pipe, read_command};
 use crate::pipe::pipe_config;
 use crate::reporting::report_line;
-use crate::running::run_config;
+use crate::running::{run_call, run_config};
 use crate::status::Status;
 use agent_base::World;
 use std::alloc::Global;
@@ -48,6 +50,8 @@ fn run_pipe<W: World>(alloc: Global, pipe: &Pipe<'_>, world: &mut W) -> Status
 ///
 /// `pipe IN OUT BATCH LIMIT` reads line protocol at IN and writes it to OUT in batches of at most BATCH
 /// metrics, of which at most LIMIT wait; it writes the journal to `agent.journal`, and reports the account.
+/// `run CONFIG` reads a configuration at CONFIG, gives that place back, and runs it: it reads its inputs, writes
+/// its outputs and the journal at `agent.journal`'s value, and reports the account.
 /// `check CONFIG` reads a configuration at CONFIG, and reports `ok`, or its first fault as
 /// `config: KIND CLASS NUMBER`. It always returns.
 pub fn agent<W: World>(alloc: Global, words: &[String], world: &mut W) -> Status
@@ -67,20 +71,32 @@ pub fn agent<W: World>(alloc: Global, words: &[String], world: &mut W) -> Status
         (W.view world.new).outs (W.view world.old).report (W.view world.new).report (W.view world.old).clocks
         (W.view world.new).clocks }
 
-    // Config comes only of a check.
-    ensures config { result ≡ Status.Config → (place : List ℕ) × IsCheck words.now place }
+    // A run of a configuration: each status says what it says, and no place changed that the configuration
+    // doesn't name, and no clock that it doesn't take.
+    ensures run { (place : List ℕ) → IsRunAt words.now place → HasRun result place (W.view world.old) (W.view world.new) }
+
+    // Config comes only of a check or a run, where the configuration has a fault. A command on a configuration with a
+    // fault comes to it, where neither opening nor reading its place failed.
+    ensures config { result ≡ Status.Config → (place : List ℕ) × (IsCheck words.now place ⊎ IsRunAt words.now place) }
+    ensures faulty { (place bytes : List ℕ) → (IsCheck words.now place ⊎ IsRunAt words.now place)
+        → ((W.view world.old).ins place).bytes ≡ Some bytes → (text_faults bytes ≢ [])
+        → IsUnfailed ((W.view world.old).ins place) ((W.view world.new).ins place)
+        → (result ≡ Status.Config) ⊎ (result ≡ Status.OutOfMemory) }
 
     // OpenFault of a pipe comes only where one of its three places wasn't opened: that is counted there, and
-    // all else is as before.
-    ensures open { result ≡ Status.OpenFault → ((place : List ℕ) × IsCheck words.now place)
+    // all else is as before. What it says of a check and of a run stands there.
+    ensures open { result ≡ Status.OpenFault → ((place : List ℕ) × (IsCheck words.now place ⊎ IsRunAt words.now place))
         ⊎ ((input output : List ℕ) × (batch limit : ℕ)
         × IsPipe words.now input output batch limit
         × IsRefusedBy (pipe_config input output batch limit) (W.view world.old) (W.view world.new)) }
 
     // The headline: what a run that ended with one of the other statuses left behind.
     ensures headline { ((place : List ℕ) → IsCheck words.now place → ⊥)
-        → (result ≢ Status.Usage) → (result ≢ Status.OpenFault) → (result ≢ Status.OutOfMemory)
-        → PipeEnds result words.now (W.view world.old) (W.view world.new) }
+        → (result ≢ Status.Usage) → (result ≢ Status.Config) → (result ≢ Status.OpenFault)
+        → (result ≢ Status.OutOfMemory)
+        → PipeEnds result words.now (W.view world.old) (W.view world.new)
+        ⊎ RunEnds result words.now (W.view world.old) (W.view world.new)
+        ⊎ IsRunUnread result words.now (W.view world.old) (W.view world.new) }
 
     // A command, no count of the world that rose, no fault of a configuration, and no limit that was reached:
     // Done, or out of memory.
@@ -103,6 +119,7 @@ pub fn agent<W: World>(alloc: Global, words: &[String], world: &mut W) -> Status
     match read_command(words) {
         Some(Command::Pipe(pipe)) => run_pipe(alloc, &pipe, world),
         Some(Command::Check(place)) => check_call(alloc, world, place),
+        Some(Command::Run(place)) => run_call(alloc, world, place),
         None => report_line(world, b"usage\n", Status::Usage),
     }
 }

@@ -10,7 +10,7 @@ use std::alloc::{AllocError, Global};
 use std::test::Fail;
 
 /// A clock of these moments.
-fn clock_of(alloc: Global, moments: &[i64]) -> Result<MemClock, AllocError>
+pub fn clock_of(alloc: Global, moments: &[i64]) -> Result<MemClock, AllocError>
     ensures first { IfOk result (λ clock. ⟦<MemClock as Clock>⟧.place clock ≡ 0) }
     ensures unstopped { IfOk result (λ clock. ⟦<MemClock as Clock>⟧.stopped clock ≡ false) }
 {

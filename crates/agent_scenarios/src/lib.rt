@@ -4,7 +4,11 @@
 #[cfg(test)]
 mod check_tests;
 #[cfg(test)]
+mod command_tests;
+#[cfg(test)]
 mod fault_tests;
+#[cfg(test)]
+mod format_tests;
 #[cfg(test)]
 mod input_tests;
 #[cfg(test)]
@@ -12,6 +16,10 @@ mod journal_tests;
 #[cfg(test)]
 mod report_tests;
 #[cfg(test)]
+mod run_fault_tests;
+#[cfg(test)]
 mod runs_tests;
+#[cfg(test)]
+mod setting_tests;
 #[cfg(test)]
 mod tests;

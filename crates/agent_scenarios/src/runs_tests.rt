@@ -60,13 +60,13 @@ const TRIED_FIVE_TIMES: &[u8] = b"journal 1\nstart 0\ninput 0 plain\n\
     output 1 filtered 0 late 0 consumed 0 written 2 buffered 0 dropped 0\n\
     end 25\n";
 
-const SECOND: &[u8] = b"mem u=1u 7\ndisk,dc=y f=2 8\n";
+pub const SECOND: &[u8] = b"mem u=1u 7\ndisk,dc=y f=2 8\n";
 
-const ALL_SENT: &[u8] = b"cpu,dc=x,host=a v=1i 5\ncpu,dc=x v=2.5 6\ndisk,dc=y f=2 8\n";
+pub const ALL_SENT: &[u8] = b"cpu,dc=x,host=a v=1i 5\ncpu,dc=x v=2.5 6\ndisk,dc=y f=2 8\n";
 
-const CPU_SENT: &[u8] = b"cpu,dc=x v=1i 5\ncpu,dc=x v=2.5 6\n";
+pub const CPU_SENT: &[u8] = b"cpu,dc=x v=1i 5\ncpu,dc=x v=2.5 6\n";
 
-const TWO_AND_TWO: &[u8] = b"journal 1\nstart 0\ninput 0 plain\ninput 1 plain\n\
+pub const TWO_AND_TWO: &[u8] = b"journal 1\nstart 0\ninput 0 plain\ninput 1 plain\n\
     output 0 1000 10000\noutput 1 1000 10000\n\
     gather 0 0 2 0 0 0 2 -\nm cpu;dc=x;host=a|v=i1|5\nm cpu;dc=x|v=f2.5|6\nended 0\n\
     gather 1 0 2 0 0 1 1 -\nm disk;dc=y|f=f2|8\nended 1\n\
@@ -93,7 +93,7 @@ const DEAD_OUTPUT: &[u8] = b"journal 1\nstart 0\ninput 0 plain\ninput 1 plain\n\
     output 1 filtered 0 late 0 consumed 0 written 2 buffered 0 dropped 0\n\
     end 18\n";
 
-const FAILED_READ: &[u8] = b"journal 1\nstart 0\ninput 0 plain\ninput 1 plain\n\
+pub const FAILED_READ: &[u8] = b"journal 1\nstart 0\ninput 0 plain\ninput 1 plain\n\
     output 0 1000 10000\n\
     gather 1 0 2 0 0 0 2 -\nm cpu;host=a|v=i1|5\nm cpu|v=f2.5|6\nended 1\n\
     take 0\nroute 0 = passes / =\ntake 1\nroute 1 = passes / =\n\

@@ -236,6 +236,8 @@ fn no_commands(rt: HostRuntime) -> Result<(), Fail> {
         "pipe a b +1 1",
         "check",
         "check a b",
+        "run",
+        "run a b",
         "checks a",
     ];
     for line in lines {

@@ -25,6 +25,7 @@ use Rattle.pipeline_core.specs.Stopped.{behind_stop}
 use Rattle.account.specs.EntryMoments.{counted_moments}
 use Rattle.account.specs.Items.{raw_items, items, taken}
 use Rattle.agent_workers.specs.Input.{IsFull}
+use Rattle.agent_workers.specs.Reader.{InRule, FitsGather}
 use Rattle.agent_workers.specs.Inputs.{InPart, in_at, AreSameInputs, HoldsTooMany, AreInputs, AreOut, OneIsFull, IsOneOf, IsOneIn, IsFresh, AreFresh}
 use Rattle.agent_workers.specs.Run.{change, InRun, in_run, in_runs, run_at, OutRun, out_run, out_run_at, out_runs, SomeIsFull, RunsFull, IsUnread, IsReadFrom, IsSentTo, HasRun, EndsSo, IsPutSo, IsLeft, Ran, buffered_at_end, account_of}
 use Rattle.agent_workers.specs.Finished.{ClockRun, IsCounted, Finished, FinishesSo, begun, IsSetUp}
@@ -188,9 +189,9 @@ unread_by limit ins states.Ended input taken k journal h e = absurd (let x : tru
 unread_by limit ins states.Faulted input taken k journal h e = elim h.2 [ inl short ↦ inl short | inr full ↦ inr (inr full.1) ]
 unread_by limit ins states.LimitReached input taken k journal h e = elim h.1 [ inl many ↦ inr (inl many) | inr full ↦ inr (inr full.1) ]
 
-few_of : (held : Option Gathered) (i most : ℕ) → IfSome held (λ g. (g.input ≡ i) × (length g.metrics ≤ most)) → IfSome held (λ g. length g.metrics ≤ most)
-few_of None i most h = tt
-few_of (Some g) i most h = h.1
+few_of : (held : Option Gathered) (i : ℕ) (rule : InRule) → IfSome held (λ g. (g.input ≡ i) × FitsGather rule (length g.metrics)) → IfSome held (λ g. FitsGather rule (length g.metrics))
+few_of None i rule h = tt
+few_of (Some g) i rule h = h.1
 
 -- a full run has an input that reached a limit
 limit_by : (limit : Bool) (gathered : ℕ) (ins : List InPart) → IsOneIn states.LimitReached ins limit → OneIsFull gathered ins → limit ≡ true
@@ -228,7 +229,7 @@ module _ (start : Beginning) (tries : ℕ) (core : CoreState) (now : Surrounding
         let part : InPart = in_at now.ins k in
         let f = fit.each k l in
         let many : HoldsTooMany part.held (gathered_count w.journal) = subst (HoldsTooMany part.held) w.text.stands.gathered full.2.many in
-        let is : IsFull part.rule w.journal k (in_at start.ins k).left part.left = full_at_end (in_at start.ins k) part part.held k w.journal f.readable.some f.none_held many (w.heard k full.1) (few_of part.held part.input part.rule.most f.own) in (
+        let is : IsFull part.rule w.journal k (in_at start.ins k).left part.left = full_at_end (in_at start.ins k) part part.held k w.journal f.readable.some f.none_held many (w.heard k full.1) (few_of part.held part.input part.rule f.own) in (
           k,
           omega (arith, l, starts_count, length-in_runs start.ins now.ins same_count),
           subst (λ (x : InRun). IsFull x.rule w.journal k x.place.before x.place.after) (sym (at_place k l)) is,

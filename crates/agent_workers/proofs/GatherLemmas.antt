@@ -8,13 +8,12 @@ use Rattle.account.specs.declared.entry.Entry.TheVariants.{Gather}
 use Rattle.account.specs.declared.entry.Report.{Report}
 use Rattle.agent_base.specs.Cut.{Cut}
 use Rattle.agent_base.specs.Hand.{to_come, empty_hand}
-use Rattle.agent_base.specs.declared.piece.CutKind.TheVariants.{Lines}
 use Rattle.pipeline_core.specs.Legal.{has_ended, is_ended_of}
 use Rattle.pipeline_core.proofs.JournalPush.{has_ended-push}
 use Rattle.pipeline_core.specs.declared.gathering.Gathered.{Gathered}
 use Rattle.account.specs.Says.{GatherSays}
 use Rattle.account.specs.Gathers.{gathers_by, gathers}
-use Rattle.agent_workers.specs.Reader.{InRule}
+use Rattle.agent_workers.specs.Reader.{InRule, kind_of}
 use Rattle.agent_workers.specs.Inputs.{says_of}
 use Rattle.agent_workers.specs.Input.{IsGroup, AreGroups, AreFull, AllFull, joined, Naming, Gathering, GatheredTo}
 
@@ -109,11 +108,11 @@ group_said rule g number reports group h = record { pieces = h.pieces; refused =
 -- ---- what Gathers name
 
 -- nothing was gathered
-pub naming_starts : (rule : InRule) (input : ℕ) (text : List ℕ) → Naming rule (gathers input []) text (to_come (empty_hand Lines) text)
+pub naming_starts : (rule : InRule) (input : ℕ) (text : List ℕ) → Naming rule (gathers input []) text (to_come (empty_hand (kind_of rule.format)) text)
 unfolding gathers AreGroups joined
 naming_starts rule input text = record { groups = []; consecutive = refl; named = tt }
 
-pub gathering_starts : (rule : InRule) (input : ℕ) (text : List ℕ) → Gathering rule (gathers input []) text (to_come (empty_hand Lines) text)
+pub gathering_starts : (rule : InRule) (input : ℕ) (text : List ℕ) → Gathering rule (gathers input []) text (to_come (empty_hand (kind_of rule.format)) text)
 unfolding gathers AreGroups joined AllFull naming_starts
 gathering_starts rule input text = record { naming = naming_starts rule input text; full = inl tt }
 

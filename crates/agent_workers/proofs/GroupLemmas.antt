@@ -1,7 +1,8 @@
 -- Groups with one piece more.
 use Rattle.std.proofs.Common.{◌≡◌, ◌<◌, ◌+◌, ◌⊎◌, ℕ, suc, ℤ, cond, List, [], ◌∷◌, ◌++◌, refl, sym, ap, subst, inl, inr, ◌∙◌, arith, append_assoc, append-nil, length-append}
-use Rattle.std.specs.Prelude.{count_by, ◌≤◌, length, Result, Ok, Err}
-use Rattle.std.specs.List.{flat_map, sum_by, cons_option}
+use Rattle.std.specs.Prelude.{count_by, ◌≤◌, ◌*◌, length}
+use Rattle.std.specs.List.{flat_map, sum_by, cons_option, AllByRecursion}
+use Rattle.std.proofs.Math.Nat.{suc-mul}
 use Rattle.std.specs.declared.option.Option.{Option}
 use Rattle.std.specs.declared.option.Option.TheVariants.{Some, None}
 use Rattle.std.proofs.lemmas.Int.{to_z-of_z}
@@ -17,13 +18,10 @@ use Rattle.agent_base.specs.Told.{Told}
 use Rattle.agent_workers.specs.declared.reading.Group.{Group}
 use Rattle.agent_workers.specs.declared.input.InState.{InState}
 use Rattle.agent_workers.specs.declared.input.InState.TheVariants as states
-use Rattle.agent_config.specs.declared.config.InFormat.{InFormat}
-use Rattle.agent_config.specs.declared.config.InFormat.TheVariants.{Influx}
-use Rattle.agent_workers.specs.Reader.{InRule, is_refused, passed_over, filtered_of, kept_of, kept, keeps, capped, metrics_of, line_says, say_in}
-use Rattle.line_proto.specs.Reading.{reading}
-use Rattle.line_proto.specs.declared.fault.LineFault.{LineFault}
+use Rattle.agent_workers.specs.Reader.{InRule, is_refused, passed_over, filtered_of, kept_of, kept, keeps, capped, metrics_of, say_in, most_said}
+use Rattle.agent_workers.proofs.MostLemmas.{says_most}
 use Rattle.std.proofs.lemmas.List.Concat.{flat_map-cons, length-flat_map}
-use Rattle.agent_workers.specs.Groups.{TakesPieces, ReadsPiece, ReadsNone, ReadsNext, IsAllRead, Reads, ReadsGroup}
+use Rattle.agent_workers.specs.Groups.{IsShort, TakesPieces, ReadsPiece, ReadsNone, ReadsNext, IsAllRead, Reads, ReadsGroup}
 
 -- what is told of two steps holds of both
 pub told_then : (first second third : Option (List ℕ)) (P Q R : List ℕ → List ℕ → Type 0) → Told first second P → Told second third Q → ((xs ys zs : List ℕ) → P xs ys → Q ys zs → R xs zs) → Told first third R
@@ -110,23 +108,26 @@ kept_fewer : (rule : InRule) (metrics : List Content) → length (kept rule metr
 kept_fewer rule [] = omega arith
 kept_fewer rule (metric ∷ metrics) = one_more (keeps rule metric) (kept rule metrics) (length metrics) (kept_fewer rule metrics)
 
-line_says_few : (reading : Result (Option Content) LineFault) → length (metrics_of (line_says reading)) ≤ 1
-line_says_few (Ok None) = omega arith
-line_says_few (Ok (Some metric)) = omega arith
-line_says_few (Err fault) = omega arith
+few_of : (rule : InRule) (moment : ℤ) (piece : Cut) → IsShort rule piece → length (kept_of rule moment piece) ≤ most_said rule.format
+few_of rule moment TooLong short = omega arith
+few_of rule moment (Whole piece) short = omega (arith, kept_fewer rule (metrics_of (say_in rule.format moment piece)), says_most rule.format moment piece short)
 
-says_few : (format : InFormat) (moment : ℤ) (piece : List ℕ) → length (metrics_of (say_in format moment piece)) ≤ 1
-says_few Influx moment piece = line_says_few (reading piece moment)
+-- at most as many metrics are kept of pieces as they may say
+pub few_kept : (rule : InRule) (moment : ℤ) (pieces : List Cut) → AllByRecursion (IsShort rule) pieces → length (flat_map (kept_of rule moment) pieces) ≤ length pieces * most_said rule.format
+few_kept rule moment [] short = omega (arith, length-flat_map (kept_of rule moment) [])
+few_kept rule moment (piece ∷ pieces) short =
+    omega (
+      arith,
+      ap (λ (ms : List Content). length ms) (flat_map-cons (kept_of rule moment) piece pieces),
+      length-append (kept_of rule moment piece) (flat_map (kept_of rule moment) pieces),
+      few_of rule moment piece short.0,
+      few_kept rule moment pieces short.1,
+      suc-mul (length pieces) (most_said rule.format),
+    )
 
-few_of : (rule : InRule) (moment : ℤ) (piece : Cut) → length (kept_of rule moment piece) ≤ 1
-few_of rule moment TooLong = omega arith
-few_of rule moment (Whole piece) = omega (arith, kept_fewer rule (metrics_of (say_in rule.format moment piece)), says_few rule.format moment piece)
-
--- at most as many metrics are kept of pieces as they are
-pub few_kept : (rule : InRule) (moment : ℤ) (pieces : List Cut) → length (flat_map (kept_of rule moment) pieces) ≤ length pieces
-few_kept rule moment [] = omega (arith, length-flat_map (kept_of rule moment) [])
-few_kept rule moment (piece ∷ pieces) =
-    omega (arith, ap (λ (ms : List Content). length ms) (flat_map-cons (kept_of rule moment) piece pieces), length-append (kept_of rule moment piece) (flat_map (kept_of rule moment) pieces), few_of rule moment piece, few_kept rule moment pieces)
+short_more : (rule : InRule) (read : List Cut) (piece : Cut) → AllByRecursion (IsShort rule) read → IsShort rule piece → AllByRecursion (IsShort rule) (read ++ piece ∷ [])
+short_more rule [] piece all last = (last, tt)
+short_more rule (x ∷ read) piece all last = (all.0, short_more rule read piece all.1 last)
 
 read_more : (rule : InRule) (moment : ℤ) (read : List Cut) (piece : Cut) → flat_map (kept_of rule moment) (read ++ piece ∷ []) ≡ flat_map (kept_of rule moment) read ++ kept_of rule moment piece
 read_more rule moment read piece = flat_map-append (kept_of rule moment) read (piece ∷ []) ∙ ap (λ (ms : List Content). flat_map (kept_of rule moment) read ++ ms) (append-nil (kept_of rule moment piece))
@@ -135,6 +136,7 @@ read_more rule moment read piece = flat_map-append (kept_of rule moment) read (p
 pub reads_nothing : (rule : InRule) (moment : ℤ) (group : Group) (hand : Hand) (text : Option (List ℕ)) → group.pieces ≡ 0 → group.refused ≡ 0 → group.passed ≡ 0 → group.filtered ≡ 0 → group.metrics.items ≡ [] → Reads rule moment group hand hand text text
 reads_nothing rule moment group hand text pieces refused passed filtered metrics = record {
   read = [];
+  short = tt;
   pieces = pieces;
   refused = refused;
   passed = passed;
@@ -148,6 +150,7 @@ pub reads_piece : (rule : InRule) (moment : ℤ) (old new : Group) (before betwe
     → Reads rule moment new before after left_before left_after
 reads_piece rule moment old new before between after left_before left_between left_after r p = record {
   read = r.read ++ p.piece ∷ [];
+  short = short_more rule r.read p.piece r.short p.short;
   pieces = omega (arith, r.pieces, p.counted.pieces, length-append r.read (p.piece ∷ []));
   refused = omega (arith, r.refused, p.counted.said.refused, counted_more rule moment r.read p.piece);
   passed = p.counted.said.passed ∙ capped_more (sum_by (passed_over rule moment) r.read) old.passed (passed_over rule moment p.piece) r.passed ∙ sym (ap capped (sum_more (passed_over rule moment) r.read p.piece));
@@ -164,6 +167,7 @@ pub reads_none : (rule : InRule) (moment : ℤ) (old new : Group) (before betwee
     → Reads rule moment new before after left_before left_after
 reads_none rule moment old new before between after left_before left_between left_after r n = record {
   read = r.read;
+  short = r.short;
   pieces = ap (λ (g : Group). g.pieces) n.same ∙ r.pieces;
   refused = ap (λ (g : Group). g.refused) n.same ∙ r.refused;
   passed = ap (λ (g : Group). g.passed) n.same ∙ r.passed;

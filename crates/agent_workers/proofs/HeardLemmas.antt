@@ -4,6 +4,7 @@ use Rattle.std.specs.Prelude.{IfSome, map, ◌⊎◌, ◌||◌}
 use Rattle.std.specs.declared.option.Option.{Option}
 use Rattle.std.specs.declared.option.Option.TheVariants.{Some, None}
 use Rattle.std.proofs.lemmas.Bool.{cases_eq}
+use Rattle.std.proofs.Math.Nat.{mul-le-mul_right}
 use Rattle.std.proofs.Math.Bool.{or-true}
 use Rattle.metric.specs.declared.metric.Content.{Content}
 use Rattle.account.specs.declared.entry.Entry.{Entry}
@@ -19,7 +20,6 @@ use Rattle.agent_base.specs.Cut.{Cut}
 use Rattle.agent_base.specs.Hand.{Hand, to_come, empty_hand}
 use Rattle.agent_base.specs.Moments.{Moments, Gives}
 use Rattle.agent_base.specs.Told.{Told}
-use Rattle.agent_base.specs.declared.piece.CutKind.TheVariants.{Lines}
 use Rattle.agent_base.proofs.ClockLemmas.{clocked_none, clocked_one, clocked_joined, clocked_wider}
 use Rattle.pipeline_core.specs.Legal.{has_ended, is_ended_of, gathered_count}
 use Rattle.pipeline_core.proofs.JournalPush.{has_ended-push, gathered_count-push}
@@ -28,7 +28,7 @@ use Rattle.pipeline_core.specs.declared.gathering.Gathered.{Gathered}
 use Rattle.agent_workers.specs.declared.reading.Group.{Group}
 use Rattle.agent_workers.specs.declared.input.InState.{InState}
 use Rattle.agent_workers.specs.declared.input.InState.TheVariants as states
-use Rattle.agent_workers.specs.Reader.{InRule}
+use Rattle.agent_workers.specs.Reader.{InRule, kind_of, most_said, FitsGather}
 use Rattle.agent_workers.specs.Input.{IsGroup, AreGroups, Naming, Gathering, GatheredTo, Gathered as AreGathered, IsNextGroup, IsFull}
 use Rattle.agent_workers.specs.Inputs.{InPart, IsFresh, says_of, heard_of, is_ended, HoldsTooMany, HoldsNoEnd}
 use Rattle.agent_workers.specs.Groups.{ReadsGroup, gathered_of, read_state}
@@ -351,7 +351,7 @@ none_gathered : (input : ℕ) → moments_of (gathers input []) ≡ []
 unfolding gathers
 none_gathered input = refl
 
-heard_new : (part : InPart) (input : ℕ) → part.hand ≡ empty_hand Lines → part.place ≡ 0 → Heard part (record part { state = states.Reading; held = None }) input []
+heard_new : (part : InPart) (input : ℕ) → part.hand ≡ empty_hand (kind_of part.rule.format) → part.place ≡ 0 → Heard part (record part { state = states.Reading; held = None }) input []
 heard_new part input empty place = record {
   named = told_self part.left (λ xs ys. Gathering part.rule (gathers input []) xs (to_come part.hand ys)) (λ xs. rw empty (gathering_starts part.rule input xs));
   of_taken = told_names_start part.rule input part.hand part.left empty;
@@ -404,7 +404,7 @@ clocked_at_end start part (Some g) input journal h =
 
 -- what is held would fill the run
 pub full_at_end : (start part : InPart) (held : Option Gathered) (input : ℕ) (journal : List Entry) → 1 ≤ part.rule.most → HoldsNoEnd part.state held → HoldsTooMany held (gathered_count journal) → Heard start (record part { held = held }) input journal
-    → IfSome held (λ g. length g.metrics ≤ part.rule.most) → IsFull part.rule journal input start.left part.left
+    → IfSome held (λ g. FitsGather part.rule (length g.metrics)) → IsFull part.rule journal input start.left part.left
 full_at_end start part None input journal some no_end many h few = absurd many
 full_at_end start part (Some g) input journal some no_end many h few =
     let ne : part.state ≡ states.Ended → ⊥ = holds_no_end part.state g no_end in
@@ -430,13 +430,13 @@ full_at_end start part (Some g) input journal some no_end many h few =
 
 -- what is held of a group that was read
 pub held_own : (rule : InRule) (input : ℕ) (moment : ℤ) (group : Group) (state : InState) (before after : Hand) (left new_left : Option (List ℕ)) (held : Option Gathered) → ReadsGroup rule moment group state before after left new_left → (group.pieces ≡ 0 → held ≡ None) → (0 < group.pieces → held ≡ Some (gathered_of input moment group))
-    → IfSome held (λ g. (g.input ≡ input) × (length g.metrics ≤ rule.most))
+    → IfSome held (λ g. (g.input ≡ input) × FitsGather rule (length g.metrics))
 held_own rule input moment group state before after left new_left held r none some =
     elim (cases_eq group.pieces 0) [
-      | inl e ↦ subst (λ (x : Option Gathered). IfSome x (λ g. (g.input ≡ input) × (length g.metrics ≤ rule.most))) (sym (none e)) tt
-      | inr ne ↦ subst (λ (x : Option Gathered). IfSome x (λ g. (g.input ≡ input) × (length g.metrics ≤ rule.most))) (sym (some (omega (arith, ne)))) (
+      | inl e ↦ subst (λ (x : Option Gathered). IfSome x (λ g. (g.input ≡ input) × FitsGather rule (length g.metrics))) (sym (none e)) tt
+      | inr ne ↦ subst (λ (x : Option Gathered). IfSome x (λ g. (g.input ≡ input) × FitsGather rule (length g.metrics))) (sym (some (omega (arith, ne)))) (
         refl,
-        omega (arith, r.most, ap (λ (ms : List Content). length ms) r.reads.metrics, few_kept rule moment r.reads.read),
+        omega (arith, mul-le-mul_right (most_said rule.format) r.most, ap (λ (ms : List Content). length ms) r.reads.metrics, few_kept rule moment r.reads.read r.reads.short),
       )
     ]
 

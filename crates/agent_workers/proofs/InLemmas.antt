@@ -8,6 +8,7 @@ use Rattle.std.specs.declared.option.Option.{Option}
 use Rattle.std.specs.declared.option.Option.TheVariants.{Some, None}
 use Rattle.account.specs.Numbers.{unreached_output}
 use Rattle.account.specs.declared.numbers.OutputNumbers.{OutputNumbers}
+use Rattle.agent_base.specs.Hand.{Hand}
 use Rattle.agent_base.specs.Moments.{Moments}
 use Rattle.account.specs.declared.entry.Entry.TheVariants.{Ended}
 use Rattle.pipeline_core.specs.CoreState.{CoreState}
@@ -16,8 +17,8 @@ use Rattle.pipeline_core.specs.declared.gathering.Gathered.{Gathered}
 use Rattle.agent_workers.specs.declared.input.InState.{InState}
 use Rattle.agent_workers.specs.declared.input.InState.TheVariants as states
 use Rattle.agent_workers.specs.declared.input.InJob.{InJob}
-use Rattle.agent_workers.specs.Inputs.{InPart, in_of, ins_of, in_at, no_in, is_ended, IsSameInput, AreSameInputs, FitsInput, AreInputs, HoldsNoEnd, HoldsOwn, IsReadable, IsMoved, IsOut, IsFullOf, OneIsFull, AreFresh, IsFresh}
-use Rattle.agent_workers.specs.Reader.{InRule, plain_rule}
+use Rattle.agent_workers.specs.Inputs.{InPart, in_of, ins_of, in_at, no_in, is_ended, IsSameInput, AreSameInputs, FitsInput, AreInputs, IsCutBy, HoldsNoEnd, HoldsOwn, IsReadable, IsMoved, IsOut, IsFullOf, OneIsFull, AreFresh, IsFresh}
+use Rattle.agent_workers.specs.Reader.{InRule, plain_rule, FitsGather}
 use Rattle.metric.specs.Metric.{IsFilledTag}
 use Rattle.metric.specs.declared.metric.Content.{Content}
 use Rattle.agent_workers.specs.Output.{OutPart, AreOutputs, out_at, out_of, outs_of}
@@ -48,7 +49,7 @@ same_set firsts ins n part b h k =
 -- ---- inputs that fit a core
 
 pub fits_still : (place : ℕ) (old new : List Bool) (part : InPart) → slice_get new place ≡ slice_get old place → FitsInput place old part → FitsInput place new part
-fits_still place old new part same h = record { number = h.number; readable = h.readable; ended_is = same ∙ h.ended_is; own = h.own; none_held = h.none_held }
+fits_still place old new part same h = record { number = h.number; readable = h.readable; cut_by = h.cut_by; ended_is = same ∙ h.ended_is; own = h.own; none_held = h.none_held }
 
 pub inputs_set : (count n : ℕ) (old new : CoreState) (ins : List InPart) (part : InPart) → n < count → IsGatheredAt n old new → FitsInput n new.ended part → AreInputs count old.ended ins → AreInputs count new.ended (set ins n part)
 inputs_set count n old new ins part b at fits h =
@@ -178,14 +179,15 @@ no_end_none states.LimitReached = tt
 
 -- an input that fits, once what it held was gathered, or was too much
 pub fits_gathered : (place : ℕ) (old new : List Bool) (part : InPart) → new ≡ old → FitsInput place old part → FitsInput place new (record part { held = None })
-fits_gathered place old new part same h = record { number = h.number; readable = h.readable; ended_is = ap (λ (ended : List Bool). slice_get ended place) same ∙ h.ended_is; own = tt; none_held = no_end_none part.state }
+fits_gathered place old new part same h = record { number = h.number; readable = h.readable; cut_by = h.cut_by; ended_is = ap (λ (ended : List Bool). slice_get ended place) same ∙ h.ended_is; own = tt; none_held = no_end_none part.state }
 
 pub fits_full : (place : ℕ) (old new : List Bool) (part : InPart) (g : Gathered) → new ≡ old → part.held ≡ Some g → FitsInput place old part → FitsInput place new (record part { held = Some g; state = states.LimitReached })
 fits_full place old new part g same held h = record {
   number = h.number;
   readable = h.readable;
+  cut_by = h.cut_by;
   ended_is = ap (λ (ended : List Bool). slice_get ended place) same ∙ h.ended_is ∙ ap Some (not_ended part.state (holds_no_end part.state g (subst (HoldsNoEnd part.state) held h.none_held)));
-  own = subst (λ (x : Option Gathered). IfSome x (λ y. (y.input ≡ part.input) × (length y.metrics ≤ part.rule.most))) held h.own;
+  own = subst (λ (x : Option Gathered). IfSome x (λ y. (y.input ≡ part.input) × FitsGather part.rule (length y.metrics))) held h.own;
   none_held = tt;
 }
 
@@ -194,8 +196,9 @@ pub fits_ended : (core next : CoreState) (part : InPart) → next ≡ after_ende
 fits_ended core next part is free reading h = record {
   number = h.number;
   readable = h.readable;
+  cut_by = h.cut_by;
   ended_is = ap (λ (s : CoreState). slice_get s.ended part.input) is ∙ get_same core.ended part.input true (is_ended part.state) h.ended_is;
-  own = subst (λ (x : Option Gathered). IfSome x (λ y. (y.input ≡ part.input) × (length y.metrics ≤ part.rule.most))) (sym free) tt;
+  own = subst (λ (x : Option Gathered). IfSome x (λ y. (y.input ≡ part.input) × FitsGather part.rule (length y.metrics))) (sym free) tt;
   none_held = free;
 }
 
@@ -214,8 +217,9 @@ fit_first n count ended ins same long none h = record {
       record {
         number = h.numbered k b;
         readable = h.readable k b;
+        cut_by = ap (λ (hand : Hand). hand.kind) fresh.hand;
         ended_is = ap (λ (xs : List Bool). slice_get xs k) none ∙ get_replicate n k (omega (arith, l, same)) ∙ sym (ap (λ (s : InState). Some (is_ended s)) fresh.reading);
-        own = subst (λ (x : Option Gathered). IfSome x (λ g. (g.input ≡ (in_at ins k).input) × (length g.metrics ≤ (in_at ins k).rule.most))) (sym fresh.none_held) tt;
+        own = subst (λ (x : Option Gathered). IfSome x (λ g. (g.input ≡ (in_at ins k).input) × FitsGather (in_at ins k).rule (length g.metrics))) (sym fresh.none_held) tt;
         none_held = subst (HoldsNoEnd (in_at ins k).state) (sym fresh.none_held) (no_end_none (in_at ins k).state);
       };
 }
@@ -223,10 +227,11 @@ fit_first n count ended ins same long none h = record {
 -- ---- the turn of an input
 
 -- an input that fits, once it was read
-pub fits_read : (ended : List Bool) (old new : InPart) → FitsInput old.input ended old → IsSameInput old new → is_ended new.state ≡ is_ended old.state → HoldsOwn new → HoldsNoEnd new.state new.held → FitsInput new.input ended new
-fits_read ended old new h same state own none = record {
+pub fits_read : (ended : List Bool) (old new : InPart) → FitsInput old.input ended old → IsSameInput old new → is_ended new.state ≡ is_ended old.state → IsCutBy new → HoldsOwn new → HoldsNoEnd new.state new.held → FitsInput new.input ended new
+fits_read ended old new h same state cut own none = record {
   number = refl;
   readable = subst IsReadable (sym same.rule) h.readable;
+  cut_by = cut;
   ended_is = ap (slice_get ended) same.input ∙ h.ended_is ∙ ap Some (sym state);
   own = own;
   none_held = none;

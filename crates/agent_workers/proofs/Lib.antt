@@ -1,3 +1,4 @@
+pub mod CountLemmas
 pub mod FailedLemmas
 pub mod FinishSteps
 pub mod GatherLemmas
@@ -6,6 +7,7 @@ pub mod GroupLemmas
 pub mod HeardLemmas
 pub mod InLemmas
 pub mod MomentLemmas
+pub mod MostLemmas
 pub mod NotedLemmas
 pub mod OpenedLemmas
 pub mod OutLemmas

@@ -5,6 +5,7 @@ use Rattle.std.specs.List.{remove}
 use Rattle.std.specs.declared.option.Option.{Option}
 use Rattle.std.proofs.lemmas.List.{length-map, map-append, drop_more, drop_all}
 use Rattle.fixed_num.specs.declared.memory.OutOfMemory.{OutOfMemory}
+use Rattle.agent_base.specs.Hand.{Hand, empty_hand}
 use Rattle.agent_base.specs.Moments.{Moments, Gives}
 use Rattle.agent_config.specs.Sound.{IsSound}
 use Rattle.agent_config.specs.declared.config.Config.{Config}
@@ -15,10 +16,10 @@ use Rattle.pipeline_core.specs.CoreState.{CoreState}
 use Rattle.agent_workers.specs.Finished.{ClockRun, Finished, FinishesSo, IsSetUp, begun, around}
 use Rattle.agent_workers.specs.Inputs.{InPart, in_of, ins_of, in_at, IsSameInput, AreSameInputs, AreFresh, IsFresh, IsReadable}
 use Rattle.agent_workers.specs.Noted.{JournalPart}
-use Rattle.agent_workers.specs.Opened.{Carried, Timed, all_carried, all_timed, carried_of, timed_of, fresh_in, fresh_ins, fresh_out, fresh_outs, config_ins, config_outs, in_carried, out_carried, rule_by, sizes_of, conf_sizes, IsMadeOf, IsNewCore, RanBy}
+use Rattle.agent_workers.specs.Opened.{Carried, Timed, all_carried, all_timed, carried_of, timed_of, fresh_in, fresh_ins, fresh_out, fresh_outs, empty_hands, config_ins, config_outs, in_carried, out_carried, rule_by, sizes_of, conf_sizes, IsMadeOf, IsNewCore, RanBy}
 use Rattle.agent_workers.specs.Output.{OutPart, out_of, outs_of, out_at, AreOutputs, AreUnfailed, IsUnfailed}
 use Rattle.agent_workers.specs.PipeSetup.{run_setup, journal_setup_of}
-use Rattle.agent_workers.specs.Reader.{views_by}
+use Rattle.agent_workers.specs.Reader.{kind_of, views_by}
 use Rattle.agent_workers.specs.Running.{IsReady, buffered_at}
 use Rattle.pipeline_core.specs.Stands.{Stands}
 use Rattle.agent_workers.specs.Run.{Change, change, InRun, in_run, in_runs, OutRun, out_run, out_runs, Ran}
@@ -170,14 +171,12 @@ out_is {K} held faults n confs job number conf sink sinks h a b c =
     ∙ ap (λ (x : OutputConf). fresh_out n x (carried_of held faults sink)) b
     ∙ ap (λ (x : K). fresh_out n (get_or confs n conf) (carried_of held faults x)) c
 
--- the first of equal elements, and the others
-pub replicate_first : {X : Type 0} (n : ℕ) (x : X) (xs : List X) (d : X) → 1 ≤ n → xs ≡ replicate n x → get_or xs 0 d ≡ x
-replicate_first zero x xs d some e = absurd (omega (arith, some))
-replicate_first {X} (suc n) x xs d some e = ap (λ (ys : List X). get_or ys 0 d) e
+-- what is in hand of the first input that is left, and of the others
+pub hands_first : (n : ℕ) (confs : List InputConf) (hands : List Hand) (conf : InputConf) (d : Hand) → n < length confs → conf ≡ get_or confs n conf → hands ≡ empty_hands (drop n confs) → get_or hands 0 d ≡ empty_hand (kind_of conf.format)
+hands_first n confs hands conf d b at e = ap (λ (hs : List Hand). get_or hs 0 d) (e ∙ ap empty_hands (drop_more confs n conf b)) ∙ ap (λ (x : InputConf). empty_hand (kind_of x.format)) (sym at)
 
-pub replicate_one_less : {X : Type 0} (n m : ℕ) (x : X) (xs : List X) → n ≡ m + 1 → xs ≡ replicate n x → remove xs 0 ≡ replicate m x
-replicate_one_less zero m x xs same e = absurd (omega (arith, same))
-replicate_one_less {X} (suc n) m x xs same e = ap (λ (ys : List X). remove ys 0) e ∙ ap (λ (k : ℕ). replicate k x) (omega (arith, same))
+pub hands_left : (n : ℕ) (confs : List InputConf) (hands : List Hand) (conf : InputConf) → n < length confs → hands ≡ empty_hands (drop n confs) → remove hands 0 ≡ empty_hands (drop (n + 1) confs)
+hands_left n confs hands conf b e = ap (λ (hs : List Hand). remove hs 0) (e ∙ ap empty_hands (drop_more confs n conf b))
 
 -- ---- a core in which nothing happened
 

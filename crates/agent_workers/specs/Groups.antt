@@ -1,16 +1,16 @@
 -- What the next pieces of an input say, and which pieces of its text they are.
 use Rattle.std.specs.Prelude.{◌≡◌, ◌≤◌, ◌⊎◌, ℕ, ℤ, ◌+◌, List, [], ◌∷◌, ◌++◌}
 use Rattle.std.specs.Prelude.{length, count_by, if◌then◌else◌}
-use Rattle.std.specs.List.{flat_map, sum_by}
+use Rattle.std.specs.List.{flat_map, sum_by, AllByRecursion}
 use Rattle.std.specs.declared.option.Option.{Option}
-use Rattle.agent_base.specs.Cut.{Cut}
+use Rattle.agent_base.specs.Cut.{Cut, TooLong, Whole, most_bytes}
 use Rattle.agent_base.specs.Hand.{Hand, to_come}
 use Rattle.agent_base.specs.Taken.{IsSpent}
 use Rattle.agent_base.specs.Told.{Told}
 use Rattle.agent_workers.specs.declared.reading.Group.{Group}
 use Rattle.agent_workers.specs.declared.input.InState.{InState}
 use Rattle.agent_workers.specs.declared.input.InState.TheVariants as states
-use Rattle.agent_workers.specs.Reader.{InRule, PieceSays, says, is_refusal, metrics_of, passed_of, kept}
+use Rattle.agent_workers.specs.Reader.{InRule, PieceSays, says, kind_of, is_refusal, metrics_of, passed_of, kept}
 use Rattle.agent_workers.specs.Reader.{filtered_out, is_refused, passed_over, filtered_of, kept_of, capped}
 use Rattle.pipeline_core.specs.declared.gathering.Gathered.{Gathered}
 
@@ -27,6 +27,11 @@ pub record CountsPiece (rule : InRule) (moment : ℤ) (piece : Cut) (old new : G
   pub pieces : new.pieces ≡ old.pieces + 1
   pub said : Counts rule (says rule moment piece) old new
 
+-- a piece that isn't too long has at most as many bytes as its kind allows
+abbrev pub IsShort : InRule → Cut → Type 0
+IsShort rule TooLong = Unit {0}
+IsShort rule (Whole piece) = length piece ≤ most_bytes (kind_of rule.format)
+
 -- bytes were taken of those that were left, and these pieces are the first to come whatever stands behind the
 -- bytes taken; or nothing is left and no piece is to come
 pub record TakesPieces (read : List Cut) (before after : Hand) (xs ys : List ℕ) : Type 0 where
@@ -39,6 +44,7 @@ pub record TakesPieces (read : List Cut) (before after : Hand) (xs ys : List ℕ
 pub record ReadsPiece (rule : InRule) (moment : ℤ) (old new : Group) (before after : Hand)
     (left_before left_after : Option (List ℕ)) : Type 0 where
   pub piece : Cut
+  pub short : IsShort rule piece
   pub counted : CountsPiece rule moment piece old new
   pub first : Told left_before left_after (λ xs ys. to_come before xs ≡ piece ∷ to_come after ys)
   pub whatever_follows : Told left_before left_after (TakesPieces (piece ∷ []) before after)
@@ -70,6 +76,7 @@ IsAllRead left_before left_after after = Told left_before left_after (λ xs ys. 
 pub record Reads (rule : InRule) (moment : ℤ) (group : Group) (before after : Hand)
     (left_before left_after : Option (List ℕ)) : Type 0 where
   pub read : List Cut
+  pub short : AllByRecursion (IsShort rule) read
   pub pieces : group.pieces ≡ length read
   pub refused : group.refused ≡ count_by (is_refused rule moment) read
   pub passed : group.passed ≡ capped (sum_by (passed_over rule moment) read)

@@ -5,14 +5,14 @@ use Rattle.std.specs.declared.option.Option.{Option}
 use Rattle.agent_base.specs.Cut.{Cut}
 use Rattle.agent_base.specs.Hand.{Hand, to_come}
 use Rattle.agent_base.specs.Lines.{AreAllButRest}
-use Rattle.agent_base.specs.declared.piece.CutKind.TheVariants.{Lines}
 use Rattle.agent_base.specs.Taken.{IsSpent}
 use Rattle.account.specs.declared.entry.Entry.{Entry}
 use Rattle.account.specs.Says.{GatherSays}
 use Rattle.pipeline_core.specs.Legal.{has_ended, gathered_count}
 use Rattle.account.specs.Gathers.{gathers}
 use Rattle.agent_base.specs.Told.{Told}
-use Rattle.agent_workers.specs.Reader.{InRule, reader_of, is_refused, passed_over, filtered_of, kept_of, capped}
+use Rattle.agent_workers.specs.Reader.{InRule, reader_of, kind_of, is_refused, passed_over, filtered_of, kept_of}
+use Rattle.agent_workers.specs.Reader.{capped, FitsGather}
 
 -- a Gather names a group of pieces: how many they are, how many of them are refused, how many samples of the
 -- others are passed over, of how many of their metrics nothing is kept, and what is kept of the others in
@@ -73,14 +73,14 @@ pub record GatheredTo (rule : InRule) (all : List GatherSays) (text : List ℕ) 
   pub naming : Naming rule all text rest
   pub full : AreFull rule.most naming.groups
 
--- so many bytes being left, Gathers name all pieces of the bytes that were taken of a text, but perhaps that of
--- the last line: what they don't name holds no newline
+-- so many bytes being left, Gathers name all pieces of the bytes that were taken of a text, but perhaps the last
+-- one: in what they don't name no piece ends
 pub record NamesTaken (rule : InRule) (all : List GatherSays) (text left : List ℕ) : Type 0 where
   pub taken : List ℕ
   pub split : text ≡ taken ++ left
   pub groups : List (List Cut)
   pub named : AreGroups rule groups all
-  pub rest : AreAllButRest Lines taken (joined groups)
+  pub rest : AreAllButRest (kind_of rule.format) taken (joined groups)
 
 -- so far Gathers name groups of the bytes that were taken of a text, whatever follows them; or nothing is left
 -- and no piece is to come
@@ -103,10 +103,10 @@ pub record IsNextGroup (rule : InRule) (all : List GatherSays) (text : List ℕ)
   pub few : length group ≤ rule.most
   pub metrics : count ≡ length (flat_map (kept_of rule moment) group)
 
--- the gathered metrics with those of the next group, which are at most as many as its pieces, would reach
+-- the gathered metrics with those of the next group, which are at most as many as its pieces say, would reach
 -- 2^32
 pub record IsFull (rule : InRule) (journal : List Entry) (input : ℕ) (text left : Option (List ℕ)) : Type 0 where
   pub count : ℕ
-  pub few : count ≤ rule.most
+  pub few : FitsGather rule count
   pub many : 2 ^ 32 ≤ gathered_count journal + count
   pub next : Told text left (λ xs ys. IsNextGroup rule (gathers input journal) xs count)

@@ -12,7 +12,7 @@ use Rattle.agent_base.specs.Told.{Told}
 use Rattle.agent_base.specs.declared.piece.CutKind.TheVariants.{Lines}
 use Rattle.metric.specs.Metric.{IsFilledTag}
 use Rattle.pipeline_core.specs.declared.gathering.Gathered.{Gathered}
-use Rattle.agent_workers.specs.Reader.{InRule, plain_rule, rule_of}
+use Rattle.agent_workers.specs.Reader.{InRule, plain_rule, rule_of, kind_of, FitsGather}
 use Rattle.agent_workers.specs.declared.input.InJob.{InJob}
 use Rattle.agent_workers.specs.declared.input.InState.{InState}
 use Rattle.agent_workers.specs.declared.input.InState.TheVariants as states
@@ -114,20 +114,25 @@ abbrev pub HoldsNoEnd : InState → Option Gathered → Type 0
 HoldsNoEnd states.Ended held = held ≡ None
 HoldsNoEnd _ held = Unit {0}
 
--- what an input holds is its own, and has at most as many metrics as a gather has pieces
+-- what an input holds is its own, and has no more metrics than the pieces of a gather say at most
 abbrev pub HoldsOwn : InPart → Type 0
-HoldsOwn part = IfSome part.held (λ g. (g.input ≡ part.input) × (length g.metrics ≤ part.rule.most))
+HoldsOwn part = IfSome part.held (λ g. (g.input ≡ part.input) × FitsGather part.rule (length g.metrics))
+
+-- the bytes in hand of an input are cut as its format is
+abbrev pub IsCutBy : InPart → Type 0
+IsCutBy part = part.hand.kind ≡ kind_of part.rule.format
 
 -- an input can be read: a gather has a piece, and no tag that is added is empty
 pub record IsReadable (rule : InRule) : Type 0 where
   pub some : 1 ≤ rule.most
   pub filled : All IsFilledTag rule.globals
 
--- an input fits a core: it has the number of its place, and has ended where it has for the core; what it holds
--- is its own, and it holds nothing once it has ended
+-- an input fits a core: it has the number of its place, is cut as its format is, and has ended where it has for the
+-- core; what it holds is its own, and it holds nothing once it has ended
 pub record FitsInput (place : ℕ) (ended : List Bool) (part : InPart) : Type 0 where
   pub number : part.input ≡ place
   pub readable : IsReadable part.rule
+  pub cut_by : IsCutBy part
   pub ended_is : slice_get ended place ≡ Some (is_ended part.state)
   pub own : HoldsOwn part
   pub none_held : HoldsNoEnd part.state part.held
@@ -176,7 +181,7 @@ IsOneIn state ins is = IsOneOf state (length ins) (λ input. (in_at ins input).s
 
 -- nothing was read of an input, which can be read
 pub record IsFresh (part : InPart) : Type 0 where
-  pub hand : part.hand ≡ empty_hand Lines
+  pub hand : part.hand ≡ empty_hand (kind_of part.rule.format)
   pub place : part.place ≡ 0
   pub none_held : part.held ≡ None
   pub reading : part.state ≡ states.Reading

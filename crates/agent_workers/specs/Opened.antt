@@ -2,9 +2,8 @@
 use Rattle.std.specs.Prelude.{◌≡◌, ◌+◌, ℕ, ℤ, false, List, [], ◌∷◌, length, map, replicate}
 use Rattle.std.specs.declared.option.Option.{Option}
 use Rattle.std.specs.declared.option.Option.TheVariants.{None}
-use Rattle.agent_base.specs.Hand.{empty_hand}
+use Rattle.agent_base.specs.Hand.{Hand, empty_hand}
 use Rattle.agent_base.specs.Moments.{Moments}
-use Rattle.agent_base.specs.declared.piece.CutKind.TheVariants.{Lines}
 use Rattle.agent_config.specs.declared.config.Config.{Config}
 use Rattle.agent_config.specs.declared.config.InputConf.{InputConf}
 use Rattle.agent_config.specs.declared.config.OutputConf.{OutputConf}
@@ -16,7 +15,7 @@ use Rattle.agent_workers.specs.Inputs.{InPart}
 use Rattle.agent_workers.specs.Noted.{JournalPart}
 use Rattle.agent_workers.specs.Output.{OutPart}
 use Rattle.agent_workers.specs.PipeSetup.{run_setup}
-use Rattle.agent_workers.specs.Reader.{InRule, in_rule, views_by}
+use Rattle.agent_workers.specs.Reader.{InRule, in_rule, kind_of, views_by}
 use Rattle.agent_workers.specs.Run.{Change, change, InRun, OutRun, Ran}
 use Rattle.agent_workers.specs.Running.{IsReady, buffered_at}
 use Rattle.agent_workers.specs.declared.input.InState.TheVariants as states
@@ -59,12 +58,16 @@ sizes_of config = map conf_sizes config.outputs
 abbrev pub rule_by : Config → InputConf → InRule
 rule_by config conf = in_rule conf.format config.globals conf.filter config.agent.gather_pieces
 
+-- what is in hand of inputs of which nothing was read
+abbrev pub empty_hands : List InputConf → List Hand
+empty_hands confs = map (λ (conf : InputConf). empty_hand (kind_of conf.format)) confs
+
 -- an input of which nothing was read, with its number, its source and its clock
 abbrev pub fresh_in : Config → ℕ → InputConf → Carried → Timed → InPart
 fresh_in config number conf source clock = record {
   input = number;
   rule = rule_by config conf;
-  hand = empty_hand Lines;
+  hand = empty_hand (kind_of conf.format);
   left = source.bytes;
   read_faults = source.faults;
   moments = clock.moments;

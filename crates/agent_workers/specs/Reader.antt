@@ -1,16 +1,20 @@
 -- How the pieces of an input are read, and what is kept of them.
-use Rattle.std.specs.Prelude.{ℕ, ℤ, min, Bool, true, false, List, [], ◌∷◌, Result, Ok, Err, count_by, map}
+use Rattle.std.specs.Prelude.{ℕ, ℤ, ◌*◌, ◌≤◌, min, Bool, true, false, List, [], ◌∷◌, Result, Ok, Err, count_by, map}
 use Rattle.std.specs.List.{filter_map}
 use Rattle.std.specs.declared.option.Option.{Option}
 use Rattle.std.specs.declared.option.Option.TheVariants.{Some, None}
 use Rattle.agent_base.specs.Cut.{Cut, TooLong, Whole}
 use Rattle.agent_base.specs.Cut as lines
-use Rattle.agent_base.specs.declared.piece.CutKind.TheVariants.{Lines}
+use Rattle.agent_base.specs.declared.piece.CutKind.{CutKind}
+use Rattle.agent_base.specs.declared.piece.CutKind.TheVariants.{Lines, Expositions}
 use Rattle.agent_config.specs.declared.config.InFormat.{InFormat}
-use Rattle.agent_config.specs.declared.config.InFormat.TheVariants.{Influx}
+use Rattle.agent_config.specs.declared.config.InFormat.TheVariants.{Influx, Statsd, Graphite, Openmetrics}
 use Rattle.agent_config.specs.declared.config.OutputConf.{OutputConf}
-use Rattle.line_proto.specs.declared.fault.LineFault.{LineFault}
+use Rattle.graphite_text.specs.Reading as graphite
 use Rattle.line_proto.specs.Reading.{reading}
+use Rattle.openmetrics_text.specs.Reading as openmetrics
+use Rattle.openmetrics_text.specs.declared.exposition.Exposition.{Exposition}
+use Rattle.statsd_text.specs.Reading as statsd
 use Rattle.metric.specs.Pairs.{with_all_missing}
 use Rattle.metric.specs.declared.metric.Content.{Content}
 use Rattle.metric_filter.specs.Filter.{filtered}
@@ -28,19 +32,47 @@ pub record Reader : Type 0 where
   pub cut : List ℕ → List Cut
   pub say : ℤ → List ℕ → PieceSays
 
--- a line says its metric, and one that is blank or a comment none; no sample is passed over
-abbrev pub line_says : Result (Option Content) LineFault → PieceSays
+-- a line says its metric, and one that has none, as a blank one, none; no sample is passed over
+abbrev pub line_says : {F : Type 0} → Result (Option Content) F → PieceSays
 line_says (Ok None) = Says [] 0
 line_says (Ok (Some metric)) = Says (metric ∷ []) 0
 line_says (Err fault) = Refused
 
+-- a line of several parts says a metric for each of them; no sample is passed over
+abbrev pub parts_say : {F : Type 0} → Result (List Content) F → PieceSays
+parts_say (Ok metrics) = Says metrics 0
+parts_say (Err fault) = Refused
+
+-- an exposition says a metric for each sample whose number is a decimal; the others are passed over
+abbrev pub exposition_says : {F : Type 0} → Result Exposition F → PieceSays
+exposition_says (Ok exposition) = Says exposition.metrics exposition.passed
+exposition_says (Err fault) = Refused
+
 -- what a piece says in a format
 abbrev pub say_in : InFormat → ℤ → List ℕ → PieceSays
 say_in Influx moment piece = line_says (reading piece moment)
+say_in Statsd moment piece = parts_say (statsd.reading piece moment)
+say_in (Graphite templates separator) moment piece = line_says (graphite.reading templates separator piece moment)
+say_in (Openmetrics type_tag) moment piece = exposition_says (openmetrics.reading piece moment type_tag)
 
--- the reader of a format; each is read in lines
+-- how the text of an input is cut: into expositions in OpenMetrics, else into lines
+abbrev pub kind_of : InFormat → CutKind
+kind_of Influx = Lines
+kind_of Statsd = Lines
+kind_of (Graphite templates separator) = Lines
+kind_of (Openmetrics type_tag) = Expositions
+
+-- the reader of a format
 abbrev pub reader_of : InFormat → Reader
-reader_of format = record { cut = lines.cut Lines; say = say_in format }
+reader_of format = record { cut = lines.cut (kind_of format); say = say_in format }
+
+-- how many metrics a piece says at most: one, but in StatsD and OpenMetrics one for each 4 bytes of the longest
+-- piece, since a part with its colon, and a sample with its newline, has no fewer
+abbrev pub most_said : InFormat → ℕ
+most_said Influx = 1
+most_said Statsd = 16384
+most_said (Graphite templates separator) = 1
+most_said (Openmetrics type_tag) = 1048576
 
 -- by what rule an input is read: its format, the tags that each metric gets that lacks them, what is kept of a
 -- metric, and how many pieces a gather has at most
@@ -49,6 +81,10 @@ pub record InRule : Type 0 where
   pub globals : List (List ℕ × List ℕ)
   pub keep : Content → Option Content
   pub most : ℕ
+
+-- so many metrics are no more than the pieces of a gather say at most
+abbrev pub FitsGather : InRule → ℕ → Type 0
+FitsGather rule count = count ≤ rule.most * most_said rule.format
 
 -- a filter keeps its result for a metric
 abbrev pub in_rule : InFormat → List (List ℕ × List ℕ) → FilterRules → ℕ → InRule
@@ -60,10 +96,10 @@ plain_rule most = record { format = Influx; globals = []; keep = λ metric. Some
 
 -- the rule of a job, and of what is handed down of it
 abbrev pub rule_of : {S C : Type 0} → InJob S C → InRule
-rule_of job = in_rule job.format job.globals.now job.filter.now job.gather_pieces
+rule_of job = in_rule job.format.now job.globals.now job.filter.now job.gather_pieces
 
 abbrev pub rule_view : ReadRule → InRule
-rule_view rule = in_rule rule.format rule.globals.now rule.filter.now rule.most
+rule_view rule = in_rule rule.format.now rule.globals.now rule.filter.now rule.most
 
 -- what a piece says: one that is too long is refused
 abbrev pub says : InRule → ℤ → Cut → PieceSays

@@ -8,10 +8,10 @@ ghost use Rattle.metric.specs.Metric.{IsFilledTag};
 ghost use Rattle.pipeline_core.specs.CoreState.{CoreState};
 ghost use Rattle.agent_workers.specs.Groups.{IsAllRead, ReadsGroup, ReadsNext, gathered_of, read_state};
 ghost use Rattle.agent_workers.specs.Inputs.{in_of, ins_of, is_ended, IsSameInput, AreSameInputs, HoldsOwn, HoldsNoEnd};
-ghost use Rattle.agent_workers.specs.Inputs.{FitsInput, AreInputs, IsOut, AreOut, IsMoved, HasMetEnd};
+ghost use Rattle.agent_workers.specs.Inputs.{FitsInput, AreInputs, IsCutBy, IsOut, AreOut, IsMoved, HasMetEnd};
 ghost use Rattle.agent_workers.specs.Inputs.{IsOffered, IsFullOf, OneIsFull, IsOneIn};
 ghost use Rattle.agent_workers.specs.Progress.{ReadsAt, GathersAt, EndsAt, GathersOn};
-ghost use Rattle.agent_workers.specs.Reader.{rule_view};
+ghost use Rattle.agent_workers.specs.Reader.{kind_of, rule_view};
 ghost use Rattle.agent_workers.specs.Running.{IsReady, HasJournal, StillStands, IsGathered, IsGatheredAt};
 ghost use Rattle.agent_workers.specs.Running.{HasMoved, IdlesOut};
 
@@ -50,6 +50,7 @@ fn read_next<S: Source>(
     requires few { group.old.pieces < 2 ^ 32 - 1 }
     requires some { group.old.refused ≤ group.old.pieces }
     requires filled { All IsFilledTag rule.now.globals.now }
+    requires cut_by { pieces.old.kind ≡ kind_of rule.now.format.now }
     ensures next { IfOk result
         (λ state. ReadsNext (rule_view rule.now) state moment group.old group.new pieces.old pieces.new
         (S.left source.old) (S.left source.new)) }
@@ -65,6 +66,7 @@ fn read_next<S: Source>(
     ensures counted { Told (S.left source.old) (S.left source.new)
         (λ xs ys. pieces.old.taken + length xs ≡ pieces.new.taken + length ys) }
     ensures faults { S.faults source.old ≤ S.faults source.new }
+    ensures kind { pieces.new.kind ≡ pieces.old.kind }
 {
     match pieces.next(source) {
         Ok(Some(piece)) => {
@@ -98,6 +100,7 @@ pub fn read_group<S: Source>(
 ) -> Result<(Group, InState), OutOfMemory>
     requires some { 1 ≤ rule.now.most }
     requires filled { All IsFilledTag rule.now.globals.now }
+    requires cut_by { pieces.old.kind ≡ kind_of rule.now.format.now }
     ensures reads { IfOk result
         (λ answer. ReadsGroup (rule_view rule.now) moment answer.0 answer.1 pieces.old pieces.new (S.left source.old)
         (S.left source.new)) }
@@ -112,6 +115,7 @@ pub fn read_group<S: Source>(
     ensures counted { Told (S.left source.old) (S.left source.new)
         (λ xs ys. pieces.old.taken + length xs ≡ pieces.new.taken + length ys) }
     ensures faults { S.faults source.old ≤ S.faults source.new }
+    ensures kind { OnOk result (pieces.new.kind ≡ pieces.old.kind) }
 {
     let mut group = Group::new(alloc, rule.most)?;
     for _piece in 0..rule.most {
@@ -165,7 +169,7 @@ pub struct InJob<'a, S: Drop, C: Drop> {
     /// What was taken of it and isn't given yet.
     pub pieces: Pieces,
     /// Its format.
-    pub format: InFormat,
+    pub format: &'a InFormat,
     /// The tags that each metric gets that lacks them.
     pub globals: &'a [(Text, Text)],
     /// How many pieces one gather has at most.
@@ -190,12 +194,14 @@ fn read_on<S: Source + Drop, C: Clock + Drop>(
 ) -> Result<bool, OutOfMemory>
     requires some { 1 ≤ job.old.gather_pieces }
     requires filled { All IsFilledTag job.old.globals.now }
+    requires cut_by { IsCutBy (in_of S.left S.faults C.moments C.place job.old) }
     requires reading { job.old.state ≡ InState.Reading }
     requires free { job.old.held ≡ None }
     ensures reads { OnOk result ((core : CoreState) → ReadsAt core core (in_of S.left S.faults C.moments C.place job.old) (in_of S.left S.faults C.moments C.place job.new)) }
     ensures met { IfOk result (λ met. met ≡ true → HasMetEnd (in_of S.left S.faults C.moments C.place job.old) (in_of S.left S.faults C.moments C.place job.new)) }
     ensures moved { IfOk result (λ met. met ≡ false → IsMoved (in_of S.left S.faults C.moments C.place job.new)) }
     ensures own { OnOk result (HoldsOwn (in_of S.left S.faults C.moments C.place job.new)) }
+    ensures cut_by { OnOk result (IsCutBy (in_of S.left S.faults C.moments C.place job.new)) }
     ensures unended { OnOk result (job.new.state ≢ InState.Ended) }
     ensures same { IsSameInput (in_of S.left S.faults C.moments C.place job.old) (in_of S.left S.faults C.moments C.place job.new) }
 {
@@ -214,12 +220,14 @@ fn read_where_free<S: Source + Drop, C: Clock + Drop>(
 ) -> Result<bool, OutOfMemory>
     requires some { 1 ≤ job.old.gather_pieces }
     requires filled { All IsFilledTag job.old.globals.now }
+    requires cut_by { IsCutBy (in_of S.left S.faults C.moments C.place job.old) }
     requires own { HoldsOwn (in_of S.left S.faults C.moments C.place job.old) }
     requires none_held { HoldsNoEnd job.old.state job.old.held }
     ensures reads { OnOk result ((core : CoreState) → ReadsAt core core (in_of S.left S.faults C.moments C.place job.old) (in_of S.left S.faults C.moments C.place job.new)) }
     ensures met { IfOk result (λ met. met ≡ true → HasMetEnd (in_of S.left S.faults C.moments C.place job.old) (in_of S.left S.faults C.moments C.place job.new)) }
     ensures moved { IfOk result (λ met. met ≡ false → IsMoved (in_of S.left S.faults C.moments C.place job.new)) }
     ensures own { OnOk result (HoldsOwn (in_of S.left S.faults C.moments C.place job.new)) }
+    ensures cut_by { OnOk result (IsCutBy (in_of S.left S.faults C.moments C.place job.new)) }
     ensures none_held { OnOk result (HoldsNoEnd job.new.state job.new.held) }
     ensures ended { OnOk result (is_ended job.new.state ≡ is_ended job.old.state) }
     ensures same { IsSameInput (in_of S.left S.faults C.moments C.place job.old) (in_of S.left S.faults C.moments C.place job.new) }

@@ -1,13 +1,14 @@
 //! The jobs of a run: what they are made of, and what they leave.
-ghost use Rattle.std.specs.Prelude.{◌≡◌, ◌≤◌, ◌<◌, ◌^◌, [], length, map, replicate, All, IfOk, IfErr, OnErr, vec_len, vec_capacity};
+ghost use Rattle.std.specs.Prelude.{◌≡◌, ◌≤◌, ◌<◌, ◌^◌, [], length, map, All, IfOk, IfErr, OnErr, vec_len, vec_capacity};
 ghost use Rattle.agent_base.specs.Hand.{empty_hand};
 ghost use Rattle.agent_config.specs.Sound.{IsSound};
 ghost use Rattle.agent_workers.specs.Inputs.{in_of, ins_of};
 ghost use Rattle.agent_workers.specs.Noted.{part_of};
 ghost use Rattle.agent_workers.specs.Opened.{all_carried, all_timed, carried_of, timed_of};
 ghost use Rattle.agent_workers.specs.Opened.{fresh_in, fresh_ins, fresh_out, fresh_outs};
-ghost use Rattle.agent_workers.specs.Opened.{conf_sizes, in_carried, out_carried, IsMadeOf, IsNewCore, Timed};
+ghost use Rattle.agent_workers.specs.Opened.{conf_sizes, empty_hands, in_carried, out_carried, IsMadeOf, IsNewCore, Timed};
 ghost use Rattle.agent_workers.specs.Output.{out_of, outs_of};
+ghost use Rattle.agent_workers.specs.Reader.{kind_of};
 ghost use Rattle.agent_workers.specs.PipeSetup.{run_setup, journal_setup_of};
 
 use crate::input::{InJob, InState};
@@ -16,7 +17,7 @@ use crate::journal::JournalJob;
 use crate::output::OutJob;
 use crate::setup::{journal_setup, new_core};
 use agent_base::{Clock, CutKind, Pieces, Sink, Source};
-use agent_config::{Config, InputConf, OutputConf};
+use agent_config::{Config, InFormat, InputConf, OutputConf};
 use fixed_num::{Moment, OutOfMemory};
 use journal_text::JournalSetup;
 use pipeline_core::Core;
@@ -73,13 +74,25 @@ struct Room<'a, S: Drop, K: Drop, C: Drop> {
     outputs: Vec<OutJob<K, C>>,
 }
 
-/// What was taken of so many inputs of which nothing was read.
-fn empty_pieces(alloc: Global, count: usize) -> Result<Vec<Pieces>, OutOfMemory>
-    ensures { IfOk result (λ pieces. pieces.items ≡ replicate count (empty_hand CutKind.Lines)) }
+/// How the text of an input is cut.
+fn kind_of(format: &InFormat) -> CutKind
+    ensures { result ≡ kind_of format.now }
 {
-    let mut pieces = Vec::with_capacity(alloc, count)?;
-    for _input in 0..count {
-        pieces.push(Pieces::new(alloc, CutKind::Lines)?)?;
+    match format {
+        InFormat::Influx => CutKind::Lines,
+        InFormat::Statsd => CutKind::Lines,
+        InFormat::Graphite { .. } => CutKind::Lines,
+        InFormat::Openmetrics { .. } => CutKind::Expositions,
+    }
+}
+
+/// What was taken of inputs of which nothing was read.
+fn empty_pieces(alloc: Global, confs: &[InputConf]) -> Result<Vec<Pieces>, OutOfMemory>
+    ensures { IfOk result (λ pieces. pieces.items ≡ empty_hands confs.now) }
+{
+    let mut pieces = Vec::with_capacity(alloc, confs.len())?;
+    for conf in confs {
+        pieces.push(Pieces::new(alloc, kind_of(&conf.format))?)?;
     }
     Ok(pieces)
 }
@@ -94,7 +107,7 @@ fn make_room<'a, S: Source + Drop, K: Sink + Drop, C: Clock + Drop>(
     ensures core { IfOk result (λ room. IsNewCore config.now start room.core) }
     ensures about { IfOk result (λ room. room.about
         ≡ journal_setup_of (run_setup (length config.now.inputs) (map conf_sizes config.now.outputs) start)) }
-    ensures pieces { IfOk result (λ room. room.pieces.items ≡ replicate (length config.now.inputs) (empty_hand CutKind.Lines)) }
+    ensures pieces { IfOk result (λ room. room.pieces.items ≡ empty_hands config.now.inputs) }
     ensures inputs { IfOk result (λ room. room.inputs.items ≡ []) }
     ensures in_room { IfOk result (λ room. length config.now.inputs ≤ vec_capacity room.inputs) }
     ensures outputs { IfOk result (λ room. room.outputs.items ≡ []) }
@@ -104,7 +117,7 @@ fn make_room<'a, S: Source + Drop, K: Sink + Drop, C: Clock + Drop>(
     let count = config.inputs.as_slice().len();
     let core = new_core(alloc, count, confs, start)?;
     let about = journal_setup(alloc, count, confs, start)?;
-    let pieces = empty_pieces(alloc, count)?;
+    let pieces = empty_pieces(alloc, config.inputs.as_slice())?;
     Ok(Room {
         core,
         about,
@@ -124,7 +137,7 @@ fn in_job<'a, S: Source + Drop, C: Clock + Drop>(
     clock: C,
 ) -> InJob<'a, S, C>
     requires few { input < 2 ^ 32 }
-    requires none_read { pieces ≡ empty_hand CutKind.Lines }
+    requires none_read { pieces ≡ empty_hand (kind_of conf.now.format) }
     ensures { in_of S.left S.faults C.moments C.place result
         ≡ fresh_in config.now input conf.now (carried_of S.left S.faults source) (timed_of C.moments C.place clock) }
 {
@@ -132,7 +145,7 @@ fn in_job<'a, S: Source + Drop, C: Clock + Drop>(
         input: input as u32,
         source,
         pieces,
-        format: conf.format,
+        format: &conf.format,
         globals: config.globals.as_slice(),
         gather_pieces: config.agent.gather_pieces,
         filter: &conf.filter,
@@ -152,7 +165,7 @@ fn fill_inputs<'a, S: Source + Drop, C: Clock + Drop>(
     jobs: &mut Vec<InJob<'a, S, C>>,
 )
     requires sound { IsSound config.now }
-    requires pieces { pieces.old.items ≡ replicate (length config.now.inputs) (empty_hand CutKind.Lines) }
+    requires pieces { pieces.old.items ≡ empty_hands config.now.inputs }
     requires sources { vec_len sources.old ≡ length config.now.inputs }
     requires clocks { vec_len clocks.old ≡ length config.now.inputs }
     requires none { jobs.old.items ≡ [] }

@@ -1,17 +1,24 @@
 //! What the pieces of an input say, and what is kept of it.
 ghost use Rattle.std.specs.Prelude.{◌≡◌, ◌<◌, ◌≤◌, ◌^◌, ◌∷◌, ◌-◌, ℤ, [], All, IfOk, OnOk};
 ghost use Rattle.agent_base.specs.Cut.{TooLong, Whole};
+ghost use Rattle.graphite_text.specs.Reading as graphite;
 ghost use Rattle.line_proto.specs.Reading.{reading};
+ghost use Rattle.openmetrics_text.specs.Reading as openmetrics;
+ghost use Rattle.statsd_text.specs.Reading as statsd;
 ghost use Rattle.metric.specs.Metric.{IsFilledTag};
 ghost use Rattle.agent_workers.specs.Groups.{Counts, CountsPiece};
 ghost use Rattle.agent_workers.specs.Reader.{InRule, Says, in_rule, line_says, rule_view};
+ghost use Rattle.agent_workers.specs.Reader.{exposition_says, parts_say, say_in};
 
 use agent_base::Piece;
 use agent_config::InFormat;
 use fixed_num::{Moment, OutOfMemory};
+use graphite_text::{GraphiteKind, Template};
 use line_proto::{LineKind, read_line};
 use metric::{Metric, Text};
 use metric_filter::Filter;
+use openmetrics_text::{ExpositionKind, read_exposition};
+use statsd_text::{StatsdKind, read_packet_line};
 use std::alloc::Global;
 
 /// How many metrics a gather has room for from its start.
@@ -21,7 +28,7 @@ const GATHER_ROOM: u32 = 1_000;
 #[derive(Drop)]
 pub struct ReadRule<'a> {
     /// The format of the input.
-    pub format: InFormat,
+    pub format: &'a InFormat,
     /// The tags that each metric gets that lacks them.
     pub globals: &'a [(Text, Text)],
     /// What is kept of the metrics, once they have these tags.
@@ -33,13 +40,14 @@ pub struct ReadRule<'a> {
 impl<'a> ReadRule<'a> {
     /// The rule of these parts.
     pub fn new(
-        format: InFormat,
+        format: &'a InFormat,
         globals: &'a [(Text, Text)],
         filter: &'a Filter,
         most: u32,
     ) -> ReadRule<'a>
-        ensures rule { rule_view result ≡ in_rule format globals.now filter.now most }
+        ensures rule { rule_view result ≡ in_rule format.now globals.now filter.now most }
         ensures globals { result.globals.now ≡ globals.now }
+        ensures format { result.format.now ≡ format.now }
         ensures most { result.most ≡ most }
     {
         ReadRule {
@@ -108,14 +116,46 @@ impl Group {
         ensures counted { OnOk result
             (CountsPiece (rule_view rule.now) moment (Whole piece.now) self.old self.new) }
     {
-        match rule.format {
-            InFormat::Influx => self.read_line(alloc, rule, piece, moment)?,
-        }
+        self.read_in_format(alloc, rule, piece, moment)?;
         self.pieces += 1;
         Ok(())
     }
 
-    /// Keeps what is kept of a line, or counts it as refused.
+    /// Keeps what is kept of a piece in the format of the input, or counts it as refused.
+    fn read_in_format(
+        &mut self,
+        alloc: Global,
+        rule: &ReadRule,
+        piece: &Piece,
+        moment: Moment,
+    ) -> Result<(), OutOfMemory>
+        requires few { self.old.refused < 2 ^ 32 - 1 }
+        requires filled { All IsFilledTag rule.now.globals.now }
+        ensures pieces { OnOk result (self.new.pieces ≡ self.old.pieces) }
+        ensures said { OnOk result
+            (Counts (rule_view rule.now) (say_in rule.now.format.now moment piece.now) self.old self.new) }
+    {
+        match rule.format {
+            InFormat::Influx => self.read_line(alloc, rule, piece, moment),
+            InFormat::Statsd => self.read_packet(alloc, rule, piece, moment),
+            InFormat::Graphite {
+                templates,
+                separator,
+            } => self.read_path(
+                alloc,
+                rule,
+                templates.as_slice(),
+                separator.as_str(),
+                piece,
+                moment,
+            ),
+            InFormat::Openmetrics { type_tag } => {
+                self.read_samples(alloc, rule, *type_tag, piece, moment)
+            }
+        }
+    }
+
+    /// Keeps what is kept of a line of line protocol, or counts it as refused.
     fn read_line(
         &mut self,
         alloc: Global,
@@ -139,6 +179,132 @@ impl Group {
                 }
                 self.refused += 1;
             }
+        }
+        Ok(())
+    }
+
+    /// Keeps what is kept of a StatsD line, or counts it as refused.
+    fn read_packet(
+        &mut self,
+        alloc: Global,
+        rule: &ReadRule,
+        piece: &Piece,
+        moment: Moment,
+    ) -> Result<(), OutOfMemory>
+        requires few { self.old.refused < 2 ^ 32 - 1 }
+        requires filled { All IsFilledTag rule.now.globals.now }
+        ensures pieces { OnOk result (self.new.pieces ≡ self.old.pieces) }
+        ensures said { OnOk result
+            (Counts (rule_view rule.now) (parts_say (statsd.reading piece.now moment)) self.old self.new) }
+    {
+        let (_passed, _filtered) = (self.passed, self.filtered);
+        match read_packet_line(alloc, piece.bytes(), moment) {
+            Ok(metrics) => self.keep_all(alloc, rule, metrics)?,
+            Err(fault) => {
+                if fault.kind == StatsdKind::OutOfMemory {
+                    return Err(OutOfMemory);
+                }
+                self.refused += 1;
+            }
+        }
+        Ok(())
+    }
+
+    /// Keeps what is kept of a line of Graphite, or counts it as refused.
+    fn read_path(
+        &mut self,
+        alloc: Global,
+        rule: &ReadRule,
+        templates: &[Template],
+        separator: &str,
+        piece: &Piece,
+        moment: Moment,
+    ) -> Result<(), OutOfMemory>
+        requires few { self.old.refused < 2 ^ 32 - 1 }
+        requires filled { All IsFilledTag rule.now.globals.now }
+        ensures pieces { OnOk result (self.new.pieces ≡ self.old.pieces) }
+        ensures said { OnOk result (Counts (rule_view rule.now)
+            (line_says (graphite.reading templates.now separator.now piece.now moment)) self.old self.new) }
+    {
+        let (_passed, _filtered) = (self.passed, self.filtered);
+        match graphite_text::read_line(alloc, templates, separator, piece.bytes(), moment) {
+            Ok(Some(metric)) => self.keep(alloc, rule, metric)?,
+            Ok(None) => {}
+            Err(fault) => {
+                if fault.kind == GraphiteKind::OutOfMemory {
+                    return Err(OutOfMemory);
+                }
+                self.refused += 1;
+            }
+        }
+        Ok(())
+    }
+
+    /// Keeps what is kept of an exposition and counts the samples that are passed over, or counts it as refused.
+    fn read_samples(
+        &mut self,
+        alloc: Global,
+        rule: &ReadRule,
+        type_tag: bool,
+        piece: &Piece,
+        moment: Moment,
+    ) -> Result<(), OutOfMemory>
+        requires few { self.old.refused < 2 ^ 32 - 1 }
+        requires filled { All IsFilledTag rule.now.globals.now }
+        ensures pieces { OnOk result (self.new.pieces ≡ self.old.pieces) }
+        ensures said { OnOk result (Counts (rule_view rule.now)
+            (exposition_says (openmetrics.reading piece.now moment type_tag)) self.old self.new) }
+    {
+        let (_passed, _filtered) = (self.passed, self.filtered);
+        match read_exposition(alloc, piece.bytes(), moment, type_tag) {
+            Ok(exposition) => {
+                self.keep_each(alloc, rule, exposition.metrics.as_slice())?;
+                self.passed = self.passed.saturating_add(exposition.passed);
+            }
+            Err(fault) => {
+                if fault.kind == ExpositionKind::OutOfMemory {
+                    return Err(OutOfMemory);
+                }
+                self.refused += 1;
+            }
+        }
+        Ok(())
+    }
+
+    /// Keeps what is kept of metrics, in order.
+    fn keep_all(
+        &mut self,
+        alloc: Global,
+        rule: &ReadRule,
+        metrics: Vec<Metric>,
+    ) -> Result<(), OutOfMemory>
+        requires filled { All IsFilledTag rule.now.globals.now }
+        ensures pieces { OnOk result (self.new.pieces ≡ self.old.pieces) }
+        ensures said { OnOk result
+            (Counts (rule_view rule.now) (Says metrics.items 0) self.old self.new) }
+    {
+        let (_passed, _filtered) = (self.passed, self.filtered);
+        for metric in metrics {
+            self.keep(alloc, rule, metric)?;
+        }
+        Ok(())
+    }
+
+    /// Keeps what is kept of copies of metrics, in order.
+    fn keep_each(
+        &mut self,
+        alloc: Global,
+        rule: &ReadRule,
+        metrics: &[Metric],
+    ) -> Result<(), OutOfMemory>
+        requires filled { All IsFilledTag rule.now.globals.now }
+        ensures pieces { OnOk result (self.new.pieces ≡ self.old.pieces) }
+        ensures said { OnOk result
+            (Counts (rule_view rule.now) (Says metrics.now 0) self.old self.new) }
+    {
+        let (_passed, _filtered) = (self.passed, self.filtered);
+        for metric in metrics {
+            self.keep(alloc, rule, metric.copy()?)?;
         }
         Ok(())
     }

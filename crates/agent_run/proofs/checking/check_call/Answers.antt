@@ -1,22 +1,36 @@
-use Rattle.std.proofs.Common.{◌∙◌, List, ℕ, sym, subst}
-use Rattle.agent_base.specs.Places.{Place, Rest}
-use Rattle.agent_run.specs.Checking.{Judges, TakesAtMost, TakesText, most_taken}
-use Rattle.agent_run.proofs.CheckLemmas.{checks_as}
+use Rattle.std.proofs.Common.{◌∙◌, sym, subst}
+use Rattle.agent_base.specs.Places.{Place, Rest, SameBut}
+use Rattle.agent_run.specs.Checking.{TakesAtMost, most_taken}
+use Rattle.agent_run.specs.Configured.{IsUnready}
+use Rattle.agent_run.proofs.RunCallLemmas.{Tells, read_checks, unread_checks}
 use Rattle.agent_run.proofs.checking.check_call.Goals as goal
 
 pub returns-in-Ok-clause-checked : goal.returns-in-Ok-clause-checked
 returns-in-Ok-clause-checked g c =
     let place = c.args.place.now in
     let old = g.W.World.view c.args.world.now in
-    let last = g.W.World.view c.judge.new.world in
-    let text = c.in-Ok.text.items in
+    let last = g.W.World.view c.report_ok.new.world in
     record {
-      answer = checks_as c.judge.result place old.ins last.ins old.report last.report text
-          (subst (λ (p : Place). TakesText (old.ins place).bytes p.bytes text) (sym (c.judge.ensures.ins place)) c.in-Ok.ensures.text)
-          (subst (λ (t : List ℕ). Judges c.judge.result t old.report last.report) c.as_slice.ensures.value
-          (subst (λ (r : Rest). Judges c.judge.result c.as_slice.result.now r last.report) c.read_place.ensures.only.report c.judge.ensures.answer));
-      taken = subst (λ (p : Place). TakesAtMost most_taken (old.ins place).bytes p.bytes) (sym (c.judge.ensures.ins place)) c.read_place.ensures.taken;
-      other_ins = λ q ne. c.judge.ensures.ins q ∙ c.read_place.ensures.only.others q ne;
-      outs_same = λ q. c.judge.ensures.outs q ∙ c.read_place.ensures.only.outs q;
-      clocks = λ who. c.judge.ensures.moments who ∙ c.read_place.ensures.only.clocks who;
+      answer = read_checks c.report_ok.result place c.in-Ok._config old (g.W.World.view c.config_at.new.world) last c.in-Ok.ensures.read c.report_ok.ensures.ins c.report_ok.ensures.answer;
+      taken = subst (λ (p : Place). TakesAtMost most_taken (old.ins place).bytes p.bytes) (sym (c.report_ok.ensures.ins place)) c.config_at.ensures.taken;
+      other_ins = λ q ne. c.report_ok.ensures.ins q ∙ c.config_at.ensures.only.others q ne;
+      outs_same = λ q. c.report_ok.ensures.outs q ∙ c.config_at.ensures.only.outs q;
+      clocks = λ who. c.report_ok.ensures.moments who ∙ c.config_at.ensures.only.clocks who;
+    }
+
+pub returns-in-Err-clause-checked : goal.returns-in-Err-clause-checked
+returns-in-Err-clause-checked g c =
+    let place = c.args.place.now in
+    let old = g.W.World.view c.args.world.now in
+    let last = g.W.World.view c.report_unread.new.world in
+    let unread = c.in-Err.unread in
+    let but : SameBut place old.ins last.ins = λ q ne. c.report_unread.ensures.ins q ∙ c.config_at.ensures.only.others q ne in
+    record {
+      answer = unread_checks c.report_unread.result unread place old.ins last.ins old.report last.report
+          (subst (λ (p : Place). IsUnready unread (old.ins place) p) (sym (c.report_unread.ensures.ins place)) c.in-Err.ensures.unread)
+          but (subst (λ (r : Rest). Tells c.report_unread.result unread place r last.report) c.config_at.ensures.only.report c.report_unread.ensures.answer);
+      taken = subst (λ (p : Place). TakesAtMost most_taken (old.ins place).bytes p.bytes) (sym (c.report_unread.ensures.ins place)) c.config_at.ensures.taken;
+      other_ins = but;
+      outs_same = λ q. c.report_unread.ensures.outs q ∙ c.config_at.ensures.only.outs q;
+      clocks = λ who. c.report_unread.ensures.moments who ∙ c.config_at.ensures.only.clocks who;
     }

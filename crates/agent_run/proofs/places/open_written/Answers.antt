@@ -1,9 +1,9 @@
-use Rattle.std.proofs.Common.{◌≡◌, ◌∙◌, List, ℕ, ap, subst, sym}
+use Rattle.std.proofs.Common.{◌∙◌, ap, subst, sym}
 use Rattle.std.proofs.lemmas.Map.Keys.{IsDistinct-tail}
 use Rattle.std.specs.List.{IsDistinct}
 use Rattle.std.specs.Str.{bytes_eq}
 use Rattle.agent_base.specs.Places.{Place}
-use Rattle.agent_run.specs.PlaceLists.{AreOut, OpensPart, places_out}
+use Rattle.agent_run.specs.PlaceLists.{OpensPart, places_out}
 use Rattle.agent_workers.specs.Opened.{all_carried, carried_of}
 use Rattle.agent_run.proofs.PartLemmas.{before_same, err_behind, first_refused, go_before, opened_out_still}
 use Rattle.agent_run.proofs.places.open_written.Goals as goal

@@ -1,4 +1,4 @@
-use Rattle.std.proofs.Common.{◌≡◌, ◌∙◌, List, subst}
+use Rattle.std.proofs.Common.{subst}
 use Rattle.agent_workers.specs.Opened.{all_carried, all_timed, carried_of}
 use Rattle.agent_run.specs.PlaceLists.{IsLeftUnopened, in_places, out_places, read_parts}
 use Rattle.agent_run.specs.declared.places.Unopened.{Unopened}

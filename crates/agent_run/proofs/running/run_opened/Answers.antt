@@ -1,10 +1,7 @@
-use Rattle.std.proofs.Common.{◌≡◌, ◌∙◌, List, ap, subst, sym}
-use Rattle.std.specs.Prelude.{IfOk, Result}
-use Rattle.fixed_num.specs.declared.memory.OutOfMemory.{OutOfMemory}
+use Rattle.std.proofs.Common.{◌∙◌, ap}
 use Rattle.agent_base.specs.Places.{Place}
-use Rattle.agent_workers.specs.Opened.{RanBy, all_carried, all_timed, carried_of}
-use Rattle.agent_workers.specs.declared.serial.Ending.{Ending}
-use Rattle.agent_run.specs.PlaceLists.{in_places, out_places, read_parts, written_parts}
+use Rattle.agent_workers.specs.Opened.{all_carried, all_timed, carried_of}
+use Rattle.agent_run.specs.PlaceLists.{in_places, out_places, read_parts}
 use Rattle.agent_run.proofs.RunningLemmas.{given_opens, leaves, opens_along}
 use Rattle.agent_run.proofs.HeadlineLemmas.{ran_ok}
 use Rattle.agent_run.proofs.running.run_opened.Goals as goal

@@ -1,4 +1,4 @@
-use Rattle.std.proofs.Common.{◌≡◌, sym, subst}
+use Rattle.std.proofs.Common.{sym, subst}
 use Rattle.agent_config.specs.Sound.{IsSound}
 use Rattle.agent_config.specs.declared.config.Config.{Config}
 use Rattle.agent_run.specs.Headline.{Ends, world_change}

@@ -4,7 +4,7 @@ use Rattle.agent_workers.proofs.GroupLemmas.{reads_nothing, reads_next, next_pie
 use Rattle.agent_workers.proofs.input.read_group.Goals as goal
 
 pub loop-piece-init : goal.loop-piece-init
-loop-piece-init g c = record { reads = reads_nothing _ _ _ _ _ (search rules) (search rules) (search rules) (search rules) (search rules); count = search rules; counted = search rules; below = inl refl; faults = search rules }
+loop-piece-init g c = record { reads = reads_nothing _ _ _ _ _ (search rules) (search rules) (search rules) (search rules) (search rules); count = search rules; counted = search rules; below = inl refl; faults = search rules; kind = refl }
 
 pub returns-then-ne-clause-reads : goal.returns-then-ne-clause-reads
 returns-then-ne-clause-reads g c =
@@ -20,6 +20,7 @@ loop-piece-preserved g c =
       counted = search rules;
       below = inr (c.in_ok-state.ensures.below (reading_on c.in_ok-state.state same));
       faults = search rules;
+      kind = c.read_next.ensures.kind ∙ c.loop-piece.invariant.kind;
     }
 
 pub returns-clause-reads : goal.returns-clause-reads

@@ -12,4 +12,5 @@ invariant-loop-piece g l = record {
   counted : Told (g.S.Source.left l.fn.source) (g.S.Source.left l.source) (λ xs ys. l.fn.pieces.taken + length xs ≡ l.pieces.taken + length ys);
   below : (l._piece ≡ 0) ⊎ (l.pieces.taken < 2 ^ 40);
   faults : g.S.Source.faults l.fn.source ≤ g.S.Source.faults l.source;
+  kind : l.pieces.kind ≡ l.fn.pieces.kind;
 }

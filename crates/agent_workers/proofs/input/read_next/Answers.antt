@@ -5,7 +5,7 @@ use Rattle.agent_workers.proofs.input.read_next.Goals as goal
 
 pub returns-in-Err-TooLong-clause-next : goal.returns-in-Err-TooLong-clause-next
 returns-in-Err-TooLong-clause-next g c =
-    record { piece = TooLong; counted = c.refuse.ensures.counted _ c.args.moment; first = rw c.in-Err-TooLong.field-0-is at c.in-Err-TooLong.ensures.pieces; whatever_follows = search rules }
+    record { piece = TooLong; short = tt; counted = c.refuse.ensures.counted _ c.args.moment; first = rw c.in-Err-TooLong.field-0-is at c.in-Err-TooLong.ensures.pieces; whatever_follows = search rules }
 
 pub returns-in-Err-ReadFault-clause-one : goal.returns-in-Err-ReadFault-clause-one
 returns-in-Err-ReadFault-clause-one g c = λ e. one_to_come c.next.new.self (rw c.in-Err-ReadFault.field-0-is at c.in-Err-ReadFault.ensures.reason).1

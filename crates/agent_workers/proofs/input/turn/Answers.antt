@@ -6,7 +6,7 @@ use Rattle.agent_workers.proofs.InLemmas.{same_input, gathered_at_then, fits_rea
 use Rattle.agent_workers.proofs.input.turn.Goals as goal
 
 pub offer-requires-clause-fits : goal.offer-requires-clause-fits
-offer-requires-clause-fits g c = fits_read c.args.core.now.ended (in_of g.S.Source.left g.S.Source.faults g.C.Clock.moments g.C.Clock.place c.args.job.now) (in_of g.S.Source.left g.S.Source.faults g.C.Clock.moments g.C.Clock.place c.read_where_free.new.job) c.requires.fits c.read_where_free.ensures.same c.in_ok-met.ensures.ended c.in_ok-met.ensures.own c.in_ok-met.ensures.none_held
+offer-requires-clause-fits g c = fits_read c.args.core.now.ended (in_of g.S.Source.left g.S.Source.faults g.C.Clock.moments g.C.Clock.place c.args.job.now) (in_of g.S.Source.left g.S.Source.faults g.C.Clock.moments g.C.Clock.place c.read_where_free.new.job) c.requires.fits c.read_where_free.ensures.same c.in_ok-met.ensures.ended c.in_ok-met.ensures.cut_by c.in_ok-met.ensures.own c.in_ok-met.ensures.none_held
 
 pub end_where_met-requires-clause-fits : goal.end_where_met-requires-clause-fits
 end_where_met-requires-clause-fits g c = fits_own c.read_where_free.new.job.input c.offer.new.core.ended (in_of g.S.Source.left g.S.Source.faults g.C.Clock.moments g.C.Clock.place c.offer.new.job) c.in_ok-offer.ensures.fits

@@ -1,7 +1,6 @@
-use Rattle.std.proofs.Common.{◌≡◌, replicate}
-use Rattle.agent_base.specs.Hand.{empty_hand}
-use Rattle.agent_base.specs.declared.piece.CutKind.TheVariants.{Lines}
+use Rattle.std.proofs.Common.{◌≡◌, take}
+use Rattle.agent_workers.specs.Opened.{empty_hands}
 use Rattle.agent_workers.proofs.parts.empty_pieces.Given as goal
 
-abbrev pub invariant-loop-input : goal.invariant-loop-input
-invariant-loop-input l = l.pieces.items ≡ replicate l._input (empty_hand Lines)
+abbrev pub invariant-loop-conf : goal.invariant-loop-conf
+invariant-loop-conf l = l.pieces.items ≡ empty_hands (take l.conf-index l.confs)

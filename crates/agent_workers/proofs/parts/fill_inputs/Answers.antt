@@ -1,15 +1,15 @@
 use Rattle.std.proofs.Common.{◌≡◌, ◌≤◌, ◌<◌, ◌+◌, ◌-◌, ◌∙◌, ℕ, List, length, get_or, replicate, sym, ap, arith, rules}
 use Rattle.std.specs.List.{remove}
-use Rattle.agent_base.specs.Hand.{Hand, empty_hand}
-use Rattle.agent_base.specs.declared.piece.CutKind.TheVariants.{Lines}
+use Rattle.agent_base.specs.Hand.{Hand}
 use Rattle.agent_config.specs.declared.config.InputConf.{InputConf}
-use Rattle.agent_workers.proofs.OpenedLemmas.{in_filled, in_filled_all, in_is, replicate_one_less, replicate_first}
+use Rattle.agent_workers.proofs.OpenedLemmas.{in_filled, in_filled_all, in_is, hands_first, hands_left}
 use Rattle.agent_workers.proofs.parts.fill_inputs.Goals as goal
 
 pub in_job-requires-clause-none_read : goal.in_job-requires-clause-none_read
 in_job-requires-clause-none_read g c =
     let within : c.loop-conf.conf-index < length c.args.config.now.inputs = omega (arith, c.loop-conf-test.true, ap (λ (xs : List InputConf). length xs) c.as_slice-conf-items.ensures) in
-    c.remove-taken.ensures.value ∙ replicate_first (length c.args.config.now.inputs - c.loop-conf.conf-index) (empty_hand Lines) c.loop-conf.pieces.items c.remove-taken.result (omega (arith, within)) c.loop-conf.invariant.pieces
+    let conf_is : c.conf-item.result ≡ get_or c.args.config.now.inputs c.loop-conf.conf-index c.conf-item.result = search rules in
+    c.remove-taken.ensures.value ∙ hands_first c.loop-conf.conf-index c.args.config.now.inputs c.loop-conf.pieces.items c.conf-item.result c.remove-taken.result within conf_is c.loop-conf.invariant.pieces
 
 pub loop-conf-preserved : goal.loop-conf-preserved
 loop-conf-preserved g c =
@@ -24,7 +24,7 @@ loop-conf-preserved g c =
           (in_is g.S.Source.left g.S.Source.faults g.C.Clock.moments g.C.Clock.place c.args.config.now n confs c.in_job.result c.len-input.result c.conf-item.result c.remove-source.result c.remove-clock.result c.loop-conf.sources.items c.loop-conf.clocks.items
           c.in_job.ensures (omega (arith, c.len-input.ensures, c.loop-conf.invariant.jobs)) conf_is c.remove-source.ensures.value c.remove-clock.ensures.value)
           c.loop-conf.invariant.made);
-      pieces = c.remove-taken.ensures.items ∙ replicate_one_less (length confs - n) (length confs - (n + 1)) (empty_hand Lines) c.loop-conf.pieces.items (omega (arith, within)) c.loop-conf.invariant.pieces;
+      pieces = c.remove-taken.ensures.items ∙ hands_left n confs c.loop-conf.pieces.items c.conf-item.result within c.loop-conf.invariant.pieces;
       sources = omega (arith, within, c.remove-source.ensures.len, c.loop-conf.invariant.sources);
       clocks = omega (arith, within, c.remove-clock.ensures.len, c.loop-conf.invariant.clocks);
       jobs = omega (arith, c.push_reserved.ensures.len, c.loop-conf.invariant.jobs);

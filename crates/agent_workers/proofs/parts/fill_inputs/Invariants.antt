@@ -1,9 +1,7 @@
-use Rattle.std.proofs.Common.{◌≡◌, ◌≤◌, ◌+◌, ◌-◌, ◌++◌, length, drop, replicate}
+use Rattle.std.proofs.Common.{◌≡◌, ◌≤◌, ◌+◌, ◌++◌, length, drop}
 use Rattle.std.specs.Prelude.{vec_len, vec_capacity}
-use Rattle.agent_base.specs.Hand.{empty_hand}
-use Rattle.agent_base.specs.declared.piece.CutKind.TheVariants.{Lines}
 use Rattle.agent_workers.specs.Inputs.{ins_of}
-use Rattle.agent_workers.specs.Opened.{all_carried, all_timed, fresh_ins}
+use Rattle.agent_workers.specs.Opened.{all_carried, all_timed, empty_hands, fresh_ins}
 use Rattle.agent_workers.proofs.parts.fill_inputs.Given as goal
 
 abbrev pub invariant-loop-conf : goal.invariant-loop-conf
@@ -11,7 +9,7 @@ invariant-loop-conf g l = record {
   made : ins_of g.S.Source.left g.S.Source.faults g.C.Clock.moments g.C.Clock.place l.jobs.items
       ++ fresh_ins l.config l.conf-index (drop l.conf-index l.config.inputs) (all_carried g.S.Source.left g.S.Source.faults l.sources.items) (all_timed g.C.Clock.moments g.C.Clock.place l.clocks.items)
       ≡ fresh_ins l.config 0 l.config.inputs (all_carried g.S.Source.left g.S.Source.faults l.fn.sources.items) (all_timed g.C.Clock.moments g.C.Clock.place l.fn.clocks.items);
-  pieces : l.pieces.items ≡ replicate (length l.config.inputs - l.conf-index) (empty_hand Lines);
+  pieces : l.pieces.items ≡ empty_hands (drop l.conf-index l.config.inputs);
   sources : vec_len l.sources + l.conf-index ≡ length l.config.inputs;
   clocks : vec_len l.clocks + l.conf-index ≡ length l.config.inputs;
   jobs : vec_len l.jobs ≡ l.conf-index;

@@ -1,7 +1,7 @@
 use Rattle.std.proofs.Common.{ℕ, ◌∙◌, subst}
 use Rattle.agent_run.specs.Checking.{TakesAtMost}
 use Rattle.agent_run.proofs.CheckLemmas.{takes_text}
-use Rattle.agent_run.proofs.checking.read_text.Goals as goal
+use Rattle.agent_run.proofs.reading.read_text.Goals as goal
 
 pub returns-in-Ok-fill_text-clause-text : goal.returns-in-Ok-fill_text-clause-text
 returns-in-Ok-fill_text-clause-text g c =

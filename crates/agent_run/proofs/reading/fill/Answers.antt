@@ -1,6 +1,6 @@
 use Rattle.std.proofs.Common.{◌∙◌, rules}
 use Rattle.agent_run.proofs.CheckLemmas.{taken_more}
-use Rattle.agent_run.proofs.checking.fill.Goals as goal
+use Rattle.agent_run.proofs.reading.fill.Goals as goal
 
 pub loop-len-preserved : goal.loop-len-preserved
 loop-len-preserved g c =

@@ -1,0 +1,340 @@
+"""Cases of edge_cases.py in which a configuration is checked, or run, over real files, links and devices."""
+
+import os
+import re
+import shutil
+import subprocess
+
+from edge_kit import (
+    ACCOUNT,
+    JOURNAL,
+    LINES,
+    NOTHING,
+    OLD,
+    OPEN_FAULT,
+    REFUSED,
+    SECONDS,
+    Case,
+    Folder,
+    Link,
+    differences,
+    open_fault,
+    refused,
+)
+
+SOUND = b"[[inputs.file]]\nfiles = [\"a\"]\n[[outputs.file]]\nfiles = [\"b\"]\n"
+MISSPELLED = b"[agent]\nmetric_bufer_limit = 5\n"
+
+
+def checked(name, line, before=None, **others):
+    """A case in which a configuration is checked: no file changes."""
+    return Case(name, line, {"c": SOUND} if before is None else before, **{"report": b"ok\n", **others})
+
+
+CHECKS = [
+    checked("a configuration is checked", "hogzent check c"),
+    checked("a configuration at standard input", "hogzent check stdin < c"),
+    checked(
+        "a configuration with a fault",
+        "hogzent check c",
+        {"c": MISSPELLED},
+        status=3,
+        report=b"config: UnknownKey agent 0\n",
+        told=b'hogzent: the configuration c was refused: [agent], "metric_bufer_limit": there is no such key\n',
+    ),
+    checked(
+        "a configuration through a pipe can't be read again",
+        "cat c | hogzent check /dev/stdin",
+        {"c": MISSPELLED},
+        status=3,
+        report=b"config: UnknownKey agent 0\n",
+        told=b"hogzent: the configuration was refused\n",
+    ),
+    checked(
+        "a configuration without an end",
+        "hogzent check /dev/zero",
+        status=3,
+        report=b"config: NotToml root 0\n",
+        told=b"hogzent: the configuration was refused\n",
+    ),
+    checked(
+        "a configuration that is a folder",
+        "hogzent check c",
+        {"c": Folder()},
+        status=4,
+        report=b"fault: read c\n",
+        told=b"hogzent: the configuration could not be read\n",
+    ),
+    checked(
+        "a configuration that isn't there",
+        "hogzent check nowhere",
+        status=5,
+        report=b"fault: open nowhere\n",
+        told=b"hogzent: the configuration could not be opened\n",
+    ),
+    checked(
+        "a check whose report can't be written",
+        "hogzent check c > /dev/full",
+        status=7,
+        report=b"",
+        told=b"hogzent: the report could not be written whole\n",
+    ),
+]
+
+
+def configured(inputs=("in",), outputs=("out",), agent=""):
+    """A configuration of these places, with these lines of `agent`."""
+    text = f"[agent]\n{agent}\n"
+    text += "".join(f'[[inputs.file]]\nfiles = ["{place}"]\n' for place in inputs)
+    text += "".join(f'[[outputs.file]]\nfiles = ["{place}"]\n' for place in outputs)
+    return text.encode()
+
+
+def laid(config, **others):
+    """What lies in a folder: the configuration, an input, and other files."""
+    return {"c": config, "in": LINES, **others}
+
+
+OWN_SIZES = (b"output 0 10 100\n", b"output 0 1000 10000\n")
+RUN_JOURNAL = JOURNAL.replace(*OWN_SIZES)
+TWO_JOURNAL = (
+    RUN_JOURNAL.replace(OWN_SIZES[1], OWN_SIZES[1] + b"output 1 1000 10000\n")
+    .replace(b"passes / =\n", b"passes / = =\n")
+    .replace(b"done 0 ok\n", b"done 0 ok\nbegin 1 0 2\ndone 1 ok\n")
+    .replace(b"dropped 0\n", b"dropped 0\noutput 1 filtered 0 late 0 consumed 0 written 2 buffered 0 dropped 0\n")
+    .replace(b"end 9\n", b"end 11\n")
+)
+TWO_ACCOUNT = ACCOUNT + b"output 1 filtered 0 late 0 consumed 0 written 2 buffered 0 dropped 0\n"
+OWN_LINES = NOTHING.replace(b"pieces 0 refused 0", b"pieces 6 refused 5")
+LEFT_AT_ONE = (
+    b"hogzent: the last puts to an output failed, as many in succession as final_tries says;"
+    b" the account says how many metrics are still buffered\n"
+)
+RUN_READ_FAULT = (
+    b"hogzent: a read failed; what was read before was sent, buffered or dropped, as the account says\n"
+)
+INPUT_UNREAD = NOTHING.replace(b"ended", b"unread")
+
+RUNS_WELL = [
+    Case(
+        "a configuration is run",
+        "hogzent run c",
+        laid(configured()),
+        {"out": LINES, "agent.journal": RUN_JOURNAL},
+    ),
+    Case(
+        "a configuration at standard input is run",
+        "hogzent run stdin < c",
+        laid(configured()),
+        {"out": LINES, "agent.journal": RUN_JOURNAL},
+    ),
+    Case(
+        "two outputs, and files that were there are made new",
+        "hogzent run c",
+        laid(configured(outputs=("out", "out2")), out=OLD, **{"agent.journal": OLD}),
+        {"out": LINES, "out2": LINES, "agent.journal": TWO_JOURNAL},
+        report=TWO_ACCOUNT,
+    ),
+    Case(
+        "the journal goes to standard output",
+        "hogzent run c",
+        laid(configured(agent='journal = "stdout"')),
+        {"out": LINES},
+        report=RUN_JOURNAL + ACCOUNT,
+    ),
+    Case(
+        "an input that is the configuration has nothing left",
+        "hogzent run c && rm agent.journal",
+        laid(configured(inputs=("c",))),
+        {"out": b""},
+        report=NOTHING,
+    ),
+    Case(
+        "an input that is the configuration, by another name, has all its bytes",
+        "hogzent run c && rm agent.journal",
+        laid(configured(inputs=("./c",))),
+        {"out": b""},
+        report=OWN_LINES,
+        told=b"hogzent: " + REFUSED % 5 + b"\n",
+    ),
+]
+
+# An output or the journal that is a file which is open already, the configuration's among them: each file is as it was.
+REFUSED_BY_PLACES = [
+    refused("the configuration as an output", "hogzent run c", "c", laid(configured(outputs=("c",)))),
+    refused(
+        "the configuration as an output, by a hard link",
+        "hogzent run c",
+        "d",
+        laid(configured(outputs=("d",)), d=Link("c", is_hard=True)),
+    ),
+    refused(
+        "the configuration as an output, by a symbolic link",
+        "hogzent run c",
+        "d",
+        laid(configured(outputs=("d",)), d=Link("c")),
+    ),
+    refused("the configuration as the journal", "hogzent run c", "c", laid(configured(agent='journal = "c"'), out=OLD)),
+    refused("an input as an output", "hogzent run c", "in", laid(configured(outputs=("in",)))),
+    refused(
+        "an input as an output, by a hard link",
+        "hogzent run c",
+        "out",
+        laid(configured(), out=Link("in", is_hard=True)),
+    ),
+    refused("an input as an output, by a symbolic link", "hogzent run c", "out", laid(configured(), out=Link("in"))),
+    refused(
+        "an input as the journal",
+        "hogzent run c",
+        "in",
+        laid(configured(agent='journal = "in"'), out=OLD),
+    ),
+    refused(
+        "an output as the journal, by a hard link",
+        "hogzent run c",
+        "agent.journal",
+        laid(configured(), out=OLD, **{"agent.journal": Link("out", is_hard=True)}),
+    ),
+    refused(
+        "an output as the journal, by a symbolic link",
+        "hogzent run c",
+        "agent.journal",
+        laid(configured(), out=OLD, **{"agent.journal": Link("out")}),
+    ),
+    refused(
+        "an output as another, by a symbolic link",
+        "hogzent run c",
+        "out2",
+        laid(configured(outputs=("out", "out2")), out=OLD, out2=Link("out")),
+    ),
+    refused(
+        "an output that can't be opened, behind one that can",
+        "hogzent run c",
+        ".",
+        laid(configured(outputs=("out", ".")), out=OLD),
+    ),
+    refused(
+        "an input that isn't there, behind one that is",
+        "hogzent run c",
+        "nowhere",
+        laid(configured(inputs=("in", "nowhere")), out=OLD),
+    ),
+    Case(
+        "an output as the journal, by its name",
+        "hogzent run c",
+        laid(configured(agent='journal = "out"'), out=OLD),
+        status=3,
+        report=b"config: SamePlace outputs 0\n",
+        told=b"hogzent: the configuration c was refused: plugin 0 of outputs, counted from 0:"
+        b" an earlier plugin, or the journal, has this place\n",
+    ),
+]
+
+FAULTS = [
+    Case(
+        "a configuration with a fault isn't run",
+        "hogzent run c",
+        laid(MISSPELLED, out=OLD),
+        status=3,
+        report=b"config: UnknownKey agent 0\n",
+        told=b'hogzent: the configuration c was refused: [agent], "metric_bufer_limit": there is no such key\n',
+    ),
+    Case(
+        "a configuration that is a folder isn't run",
+        "hogzent run c",
+        {"c": Folder()},
+        status=4,
+        report=b"fault: read c\n",
+        told=b"hogzent: the configuration could not be read\n",
+    ),
+    Case(
+        "a configuration that isn't there isn't run",
+        "hogzent run nowhere",
+        status=5,
+        report=open_fault("nowhere"),
+        told=OPEN_FAULT,
+    ),
+    Case(
+        "a folder as an input of a run",
+        "hogzent run c; status=$?; rm agent.journal; exit $status",
+        laid(configured(inputs=(".",)), out=OLD),
+        {"out": b""},
+        status=4,
+        report=INPUT_UNREAD,
+        told=RUN_READ_FAULT,
+    ),
+    Case(
+        "an output of a run that takes nothing",
+        "hogzent run c; status=$?; rm agent.journal; exit $status",
+        laid(configured(outputs=("/dev/full",), agent="final_tries = 1")),
+        status=6,
+        report=ACCOUNT.replace(b"written 2 buffered 0", b"written 0 buffered 2"),
+        told=LEFT_AT_ONE,
+    ),
+]
+
+CONFIGURED = [*RUNS_WELL, *REFUSED_BY_PLACES, *FAULTS]
+
+# The example of docs/configuration.md with all four formats, and its inputs.
+DATA = os.path.join(os.path.dirname(os.path.realpath(__file__)), "..", "crates", "agent_main", "data")
+FORMAT_FILES = ["formats.toml", "cpu.lp", "counts.statsd", "paths.graphite", "node.om"]
+FORMATS_WRITTEN = {
+    "metrics.lp": b"""cpu,host=a v=1i 5
+hits,metric_type=counter value=30 NOW
+cpu_load,host=h1,region=eu-east value=42 1000000000
+mem_free value=7 2000000000
+up,job=node,om_type=gauge value=1 3000000000
+""",
+    "metrics.graphite": b"""a.cpu.v 1 0
+counter.hits 30 NOW
+h1.eu-east.cpu_load 42 1
+mem_free 7 2
+node.gauge.up 1 3
+""",
+    "metrics.om": b"""# TYPE cpu_v unknown
+cpu_v{host="a"} 1 0.000000005
+# TYPE hits unknown
+hits{metric_type="counter"} 30 NOW
+# TYPE cpu_load unknown
+cpu_load{host="h1",region="eu-east"} 42 1
+# TYPE mem_free unknown
+mem_free 7 2
+# TYPE up unknown
+up{job="node",om_type="gauge"} 1 3
+# EOF
+""",
+}
+FORMATS_ACCOUNT = b"".join(
+    b"input %d pieces %d refused 0 passed 0 filtered 0 gathered %d ended\n" % (number, count, count)
+    for number, count in enumerate([1, 1, 2, 1])
+) + b"items made 0 removed 0 routed 5\n" + b"".join(
+    b"output %d filtered 0 late 0 consumed 0 written 5 buffered 0 dropped 0\n" % number for number in range(3)
+)
+
+
+def formats_of_the_page(folder, program):
+    """Each format is read and written; what has no time gets that of the run, as seconds or nanoseconds since 1970."""
+    for name in FORMAT_FILES:
+        shutil.copy(os.path.join(DATA, name), folder)
+    with open(os.path.join(folder, "paths.graphite"), "rb") as paths:
+        ran = subprocess.run(
+            [program, "run", "formats.toml"],
+            cwd=folder,
+            stdin=paths,
+            capture_output=True,
+            timeout=SECONDS,
+            check=False,
+        )
+    written = {}
+    for name in FORMATS_WRITTEN:
+        with open(os.path.join(folder, name), "rb") as file:
+            written[name] = re.sub(rb"\b1[1-9][0-9]{8}(\.[0-9]+|[0-9]{9})?$", b"NOW", file.read(), flags=re.M)
+    return differences(
+        ("status", ran.returncode, 0),
+        ("standard output", ran.stdout, FORMATS_ACCOUNT),
+        ("standard error", ran.stderr, b""),
+        ("outputs", written, FORMATS_WRITTEN),
+    )
+
+
+CONFIGURED_RUNS = [("the example with all four formats", formats_of_the_page)]

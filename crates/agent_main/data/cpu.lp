@@ -1,0 +1,1 @@
+cpu,host=a v=1i 5

@@ -1,5 +1,5 @@
 """Measures how fast each format goes through `run`, beside a plain program in Rust, and the peak memory of a long input
-of expositions: formats.py WORK PROGRAM PEER.
+of expositions: formats.py WORK PROGRAM PEER [KIND..], without a KIND of all.
 
 Each format is written as it was read, StatsD as line protocol; files stand on both sides, and both write a journal.
 Before they are timed what both wrote is compared: they must have written all metrics, and how many lines of the two
@@ -134,17 +134,19 @@ def check_memory(bounds, work, program, peer, folder):
     bounds.say(text, megabytes(used.kilobytes), used.kilobytes * 1024 / 1e6 <= MEGABYTES)
 
 
-def main(work, program, peer):
+def main(work, program, peer, *kinds):
     folder = os.path.join(work, "runs")
     os.makedirs(folder, exist_ok=True)
     print(measure.machine(), flush=True)
     bounds, rows = measure.Bounds(), []
     for way in WAYS:
-        rows += check_way(bounds, work, program, peer, way, folder)
+        if not kinds or way.kind in kinds:
+            rows += check_way(bounds, work, program, peer, way, folder)
     print()
     measure.print_table(
         ["program", "input", "seconds", "processor s", "lines/processor s", "peak MB", "ratio to ours"], rows)
-    check_memory(bounds, work, program, peer, folder)
+    if not kinds or "openmetrics" in kinds:
+        check_memory(bounds, work, program, peer, folder)
     return 0 if bounds.all_met else 1
 
 

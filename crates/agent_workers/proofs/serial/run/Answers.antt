@@ -1,4 +1,4 @@
-use Rattle.std.proofs.Common.{◌≡◌, ◌∙◌, ℕ, List, length, sym, ap, subst, arith, rules}
+use Rattle.std.proofs.Common.{◌≡◌, ◌≤◌, ◌∙◌, ℕ, List, length, sym, ap, subst, arith, rules}
 use Rattle.std.proofs.lemmas.Int.{to_z-of_z}
 use Rattle.std.proofs.lemmas.List.{length-map}
 use mir.Syntax.{w64}
@@ -6,9 +6,9 @@ use mir.Val.{of_z, to_z}
 use Rattle.std.specs.Prelude.{map}
 use Rattle.agent_base.specs.Moments.{Gives}
 use Rattle.agent_workers.specs.Finished.{ClockRun}
-use Rattle.agent_workers.specs.Inputs.{in_of, ins_of}
+use Rattle.agent_workers.specs.Inputs.{InPart, in_of, ins_of}
 use Rattle.agent_workers.specs.Noted.{part_of}
-use Rattle.agent_workers.specs.Output.{out_of, outs_of}
+use Rattle.agent_workers.specs.Output.{OutPart, out_of, outs_of}
 use Rattle.agent_workers.specs.Opened.{Carried, all_carried, all_timed, carried_of, timed_of, in_carried, out_carried}
 use Rattle.agent_workers.proofs.OpenedLemmas.{ins_count, outs_count, ran_with, sinks_change}
 use Rattle.agent_workers.proofs.serial.run.Goals as goal

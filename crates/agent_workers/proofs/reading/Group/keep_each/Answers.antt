@@ -1,4 +1,4 @@
-use Rattle.std.proofs.Common.{rules}
+use Rattle.std.proofs.Common.{rules, arith}
 use Rattle.agent_workers.specs.Reader.{rule_view}
 use Rattle.agent_workers.proofs.CountLemmas.{counts_next}
 use Rattle.agent_workers.proofs.reading.Group.keep_each.Goals as goal

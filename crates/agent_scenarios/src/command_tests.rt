@@ -3,7 +3,7 @@ ghost use Rattle.std.specs.Prelude.{IfOk};
 ghost use Rattle.agent_base.specs.Places.{AreHome};
 
 use crate::runs_tests::{ALL_SENT, CPU_SENT, FAILED_READ, SECOND, TWO_AND_TWO};
-use crate::tests::{TWO_LINES, sink_of, words_of};
+use crate::tests::{TWO_LINES, sink_of, with_inputs, with_outputs, words_of};
 use agent_base::{MemSource, MemWorld, World};
 use agent_run::agent;
 use fixed_num::OutOfMemory;
@@ -195,14 +195,18 @@ fn world_with(alloc: Global, case: &RunCase) -> Result<MemWorld, OutOfMemory>
     let [puts, second_puts, notes] = case.puts;
     let [input, second] = case.inputs;
     let most = case.read_size;
-    let mut world = MemWorld::new(alloc);
-    world.add_in("c", source(alloc, case.config, config_reads, most)?)?;
-    world.add_in("a", source(alloc, input, reads, most)?)?;
-    world.add_in("a2", source(alloc, second, second_reads, most)?)?;
-    world.add_out("b", sink_of(alloc, puts)?)?;
-    world.add_out("b2", sink_of(alloc, second_puts)?)?;
-    world.add_out("agent.journal", sink_of(alloc, notes)?)?;
-    Ok(world)
+    let sources = (
+        source(alloc, case.config, config_reads, most)?,
+        source(alloc, input, reads, most)?,
+        source(alloc, second, second_reads, most)?,
+    );
+    let sinks = (
+        sink_of(alloc, puts)?,
+        sink_of(alloc, second_puts)?,
+        sink_of(alloc, notes)?,
+    );
+    let world = with_inputs(alloc, ("c", "a", "a2"), sources)?;
+    with_outputs(world, ("b", "b2", "agent.journal"), sinks)
 }
 
 /// Each place that was opened is home again.

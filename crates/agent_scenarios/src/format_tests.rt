@@ -3,7 +3,7 @@ ghost use Rattle.std.specs.Prelude.{IfOk};
 ghost use Rattle.agent_base.specs.Places.{AreHome};
 
 use crate::command_tests::{held, source};
-use crate::tests::{sink_of, words_of};
+use crate::tests::{sink_of, with_inputs, with_outputs, words_of};
 use agent_base::{MemWorld, World};
 use agent_run::agent;
 use fixed_num::OutOfMemory;
@@ -59,40 +59,40 @@ const EACH_REPORT: &[u8] = b"input 0 pieces 4 refused 1 passed 0 filtered 2 gath
     output 1 filtered 0 late 0 consumed 0 written 6 buffered 0 dropped 0\n\
     output 2 filtered 0 late 0 consumed 0 written 6 buffered 0 dropped 0\n";
 
-/// A world with these texts at input places, of which a read gives so many bytes, and with these output places.
-fn world_with(
-    alloc: Global,
-    inputs: &[(&str, &[u8])],
-    read_size: usize,
-    outputs: &[&str],
-) -> Result<MemWorld, OutOfMemory>
+/// A world with inputs of each format, of which a read gives so many bytes.
+fn each_input(alloc: Global, read_size: usize) -> Result<MemWorld, OutOfMemory>
     ensures ins { IfOk result (λ world. AreHome (⟦<MemWorld as World>⟧.view world).ins) }
     ensures outs { IfOk result (λ world. AreHome (⟦<MemWorld as World>⟧.view world).outs) }
 {
-    let mut world = MemWorld::new(alloc);
-    for (place, text) in inputs {
-        world.add_in(place, source(alloc, text, &[], read_size)?)?;
-    }
-    for place in outputs {
-        world.add_out(place, sink_of(alloc, &[])?)?;
-    }
+    let sources = (
+        source(alloc, STATSD, &[], read_size)?,
+        source(alloc, GRAPHITE, &[], read_size)?,
+        source(alloc, OPENMETRICS, &[], read_size)?,
+    );
+    let mut world = with_inputs(alloc, ("s", "g", "o"), sources)?;
+    world.add_in("c", source(alloc, EACH_FORMAT, &[], read_size)?)?;
+    Ok(world)
+}
+
+/// The world of all formats.
+fn each_world(alloc: Global, read_size: usize) -> Result<MemWorld, OutOfMemory>
+    ensures ins { IfOk result (λ world. AreHome (⟦<MemWorld as World>⟧.view world).ins) }
+    ensures outs { IfOk result (λ world. AreHome (⟦<MemWorld as World>⟧.view world).outs) }
+{
+    let sinks = (
+        sink_of(alloc, &[])?,
+        sink_of(alloc, &[])?,
+        sink_of(alloc, &[])?,
+    );
+    let world = each_input(alloc, read_size)?;
+    let mut world = with_outputs(world, ("b", "b2", "b3"), sinks)?;
+    world.add_out("agent.journal", sink_of(alloc, &[])?)?;
     Ok(world)
 }
 
 /// Runs all formats, with so many bytes a read.
 fn run_each(rt: &impl Abort, alloc: Global, read_size: usize) -> Result<(), Fail> {
-    let inputs = [
-        ("c", EACH_FORMAT),
-        ("s", STATSD),
-        ("g", GRAPHITE),
-        ("o", OPENMETRICS),
-    ];
-    let mut world = world_with(
-        alloc,
-        &inputs,
-        read_size,
-        &["b", "b2", "b3", "agent.journal"],
-    )?;
+    let mut world = each_world(alloc, read_size)?;
     let words = words_of(alloc, "run c")?;
     let status = agent(alloc, words.as_slice(), &mut world);
     assert_eq!(rt; status.code(), 0);
@@ -123,6 +123,22 @@ fn too_long(alloc: Global) -> Result<Vec<u8>, AllocError> {
     Ok(text)
 }
 
+/// A world with an input of expositions, and the places that its run writes.
+fn one_world(alloc: Global, text: &[u8]) -> Result<MemWorld, OutOfMemory>
+    ensures ins { IfOk result (λ world. AreHome (⟦<MemWorld as World>⟧.view world).ins) }
+    ensures outs { IfOk result (λ world. AreHome (⟦<MemWorld as World>⟧.view world).outs) }
+{
+    let mut world = MemWorld::new(alloc);
+    world.add_in("c", source(alloc, ONE_INPUT, &[], 1 << 20)?)?;
+    world.add_in("o", source(alloc, text, &[], 1 << 20)?)?;
+    let sinks = (
+        sink_of(alloc, &[])?,
+        sink_of(alloc, &[])?,
+        sink_of(alloc, &[])?,
+    );
+    with_outputs(world, ("b", "b2", "agent.journal"), sinks)
+}
+
 /// An exposition of more than 4 MiB is one piece, which is refused, and the next is read: its three metrics are one
 /// gather.
 #[test]
@@ -131,8 +147,7 @@ fn a_long_exposition(rt: HostRuntime) -> Result<(), Fail> {
     let mut text = too_long(alloc)?;
     assert_eq!(rt; text.len(), 4_194_305);
     text.extend_from_slice(b"a 1 1\na 2 2\nb 3 3\n# EOF\n")?;
-    let inputs = [("c", ONE_INPUT), ("o", text.as_slice())];
-    let mut world = world_with(alloc, &inputs, 1 << 20, &["b", "agent.journal"])?;
+    let mut world = one_world(alloc, text.as_slice())?;
     let words = words_of(alloc, "run c")?;
     let status = agent(alloc, words.as_slice(), &mut world);
     let report = b"input 0 pieces 2 refused 1 passed 0 filtered 0 gathered 3 ended\n\

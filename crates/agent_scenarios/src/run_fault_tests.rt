@@ -5,7 +5,7 @@ ghost use Rattle.agent_base.specs.Places.{AreHome};
 use crate::command_tests::{TWO_AND_TWO_REPORT, TWO_INPUTS, held, source};
 use crate::report_tests::ToldWorld;
 use crate::runs_tests::{ALL_SENT, CPU_SENT, SECOND};
-use crate::tests::{TWO_LINES, sink_of, words_of};
+use crate::tests::{TWO_LINES, sink_of, with_inputs, with_outputs, words_of};
 use agent_base::{MemWorld, World};
 use agent_run::agent;
 use fixed_num::OutOfMemory;
@@ -193,23 +193,48 @@ static PUT_CASES: [FaultCase; 7] = [
     },
 ];
 
+/// The place, or another where it isn't to be there.
+fn there(place: &'static str, missing: &str) -> &'static str {
+    if place == missing { "elsewhere" } else { place }
+}
+
+/// The inputs of a case.
+fn inputs_of(alloc: Global, case: &FaultCase) -> Result<MemWorld, OutOfMemory>
+    ensures ins { IfOk result (λ world. AreHome (⟦<MemWorld as World>⟧.view world).ins) }
+    ensures outs { IfOk result (λ world. AreHome (⟦<MemWorld as World>⟧.view world).outs) }
+{
+    let [config_reads, reads, second_reads] = case.reads;
+    let sources = (
+        source(alloc, TWO_INPUTS, config_reads, 1 << 20)?,
+        source(alloc, TWO_LINES, reads, 1 << 20)?,
+        source(alloc, SECOND, second_reads, 1 << 20)?,
+    );
+    let places = (
+        there("c", case.missing),
+        there("a", case.missing),
+        there("a2", case.missing),
+    );
+    with_inputs(alloc, places, sources)
+}
+
 /// The world of a case.
 fn world_with(alloc: Global, case: &FaultCase) -> Result<ToldWorld, OutOfMemory>
     ensures ins { IfOk result (λ world. AreHome (⟦<ToldWorld as World>⟧.view world).ins) }
     ensures outs { IfOk result (λ world. AreHome (⟦<ToldWorld as World>⟧.view world).outs) }
 {
-    let texts = [("c", TWO_INPUTS), ("a", TWO_LINES), ("a2", SECOND)];
-    let mut parts = MemWorld::new(alloc);
-    for ((place, text), fails) in texts.iter().zip(case.reads.iter()) {
-        if *place != case.missing {
-            parts.add_in(place, source(alloc, text, fails, 1 << 20)?)?;
-        }
-    }
-    for (place, fails) in ["b", "b2", "agent.journal"].iter().zip(case.puts.iter()) {
-        if *place != case.missing {
-            parts.add_out(place, sink_of(alloc, fails)?)?;
-        }
-    }
+    let [puts, second_puts, notes] = case.puts;
+    let sinks = (
+        sink_of(alloc, puts)?,
+        sink_of(alloc, second_puts)?,
+        sink_of(alloc, notes)?,
+    );
+    let places = (
+        there("b", case.missing),
+        there("b2", case.missing),
+        there("agent.journal", case.missing),
+    );
+    let world = inputs_of(alloc, case)?;
+    let parts = with_outputs(world, places, sinks)?;
     Ok(ToldWorld {
         parts,
         report: sink_of(alloc, case.reports)?,

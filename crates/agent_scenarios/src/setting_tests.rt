@@ -4,7 +4,7 @@ ghost use Rattle.agent_base.specs.Places.{AreHome};
 
 use crate::command_tests::{held, source};
 use crate::input_tests::clock_of;
-use crate::tests::{TWO_LINES, sink_of, words_of};
+use crate::tests::{TWO_LINES, sink_of, with_inputs, with_outputs, words_of};
 use agent_base::{MemWorld, World};
 use agent_run::agent;
 use fixed_num::OutOfMemory;
@@ -26,14 +26,19 @@ fn world_with(alloc: Global, setting: &Setting) -> Result<MemWorld, OutOfMemory>
     ensures outs { IfOk result (λ world. AreHome (⟦<MemWorld as World>⟧.view world).outs) }
 {
     let [input, second] = setting.inputs;
-    let mut world = MemWorld::new(alloc);
-    for (place, text) in [("c", setting.config), ("a", input), ("a2", second)] {
-        world.add_in(place, source(alloc, text, &[], 1 << 20)?)?;
-    }
-    world.add_out("b", sink_of(alloc, setting.puts)?)?;
-    for place in ["c", "j", "agent.journal"] {
-        world.add_out(place, sink_of(alloc, &[])?)?;
-    }
+    let sources = (
+        source(alloc, setting.config, &[], 1 << 20)?,
+        source(alloc, input, &[], 1 << 20)?,
+        source(alloc, second, &[], 1 << 20)?,
+    );
+    let sinks = (
+        sink_of(alloc, setting.puts)?,
+        sink_of(alloc, &[])?,
+        sink_of(alloc, &[])?,
+    );
+    let world = with_inputs(alloc, ("c", "a", "a2"), sources)?;
+    let mut world = with_outputs(world, ("b", "c", "agent.journal"), sinks)?;
+    world.add_out("j", sink_of(alloc, &[])?)?;
     Ok(world)
 }
 

@@ -40,6 +40,41 @@ pub fn world_of(
     world_at(alloc, ("a", "b", "agent.journal"), source, sink, journal)
 }
 
+/// A world with a source at each of three places.
+pub fn with_inputs(
+    alloc: Global,
+    places: (&str, &str, &str),
+    sources: (MemSource, MemSource, MemSource),
+) -> Result<MemWorld, OutOfMemory>
+    ensures ins { IfOk result (λ world. AreHome (⟦<MemWorld as World>⟧.view world).ins) }
+    ensures outs { IfOk result (λ world. AreHome (⟦<MemWorld as World>⟧.view world).outs) }
+{
+    let (first, second, third) = sources;
+    let mut world = MemWorld::new(alloc);
+    world.add_in(places.0, first)?;
+    world.add_in(places.1, second)?;
+    world.add_in(places.2, third)?;
+    Ok(world)
+}
+
+/// The world with a sink at each of three more places.
+pub fn with_outputs(
+    mut world: MemWorld,
+    places: (&str, &str, &str),
+    sinks: (MemSink, MemSink, MemSink),
+) -> Result<MemWorld, OutOfMemory>
+    requires ins { AreHome (⟦<MemWorld as World>⟧.view world).ins }
+    requires outs { AreHome (⟦<MemWorld as World>⟧.view world).outs }
+    ensures ins { IfOk result (λ world. AreHome (⟦<MemWorld as World>⟧.view world).ins) }
+    ensures outs { IfOk result (λ world. AreHome (⟦<MemWorld as World>⟧.view world).outs) }
+{
+    let (first, second, third) = sinks;
+    world.add_out(places.0, first)?;
+    world.add_out(places.1, second)?;
+    world.add_out(places.2, third)?;
+    Ok(world)
+}
+
 /// The words of a line.
 pub fn words_of(alloc: Global, line: &str) -> Result<Vec<String>, AllocError> {
     let mut words = Vec::new(alloc);

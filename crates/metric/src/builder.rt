@@ -154,8 +154,8 @@ impl Builder {
             alloc,
             Content {
                 name,
-                tags: Seq::of(tags),
-                fields: Seq::of(fields),
+                tags: list_of(tags),
+                fields: list_of(fields),
                 time,
             },
         )?)
@@ -262,6 +262,19 @@ fn field_without_key(fields: &[(Text, Value)]) -> bool
     ensures { result ≡ has_empty_key fields.now }
 {
     fields.iter().any(|field| field.0.as_str().is_empty())
+}
+
+/// The list of some items. A single one stands in place, so that a metric takes memory for more than one alone.
+fn list_of<T: Drop>(mut items: Vec<T>) -> Seq<T>
+    ensures { result ≡ items.items }
+{
+    if items.len() != 1 {
+        return Seq::of(items);
+    }
+    match items.pop() {
+        Some(item) => Seq::of_one(item),
+        None => Seq::of(items),
+    }
 }
 
 /// Leaves out the tags whose value is empty.

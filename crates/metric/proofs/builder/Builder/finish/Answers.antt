@@ -8,10 +8,10 @@ use Rattle.metric.specs.Pairs.{has_empty_key}
 use Rattle.metric.proofs.MetricLemmas.{is_metric}
 use Rattle.metric.proofs.builder.Builder.finish.Goals as goal
 
-pub of-requires-3 : goal.of-requires-3
-of-requires-3 c =
+pub of-requires : goal.of-requires
+of-requires c =
     let some : vec_len c.self.inside.fields ≡ 0 → ⊥ = eqb-false (vec_len c.self.inside.fields) 0 (sym c.is_empty-2.ensures ∙ c.if-is_empty-2.false) in
-    rw (c.of.ensures, c.keep_valued.ensures, c.of-2.ensures, to_z-of_z w64 c.args.time c.ranges.time)
+    rw (c.list_of.ensures, c.keep_valued.ensures, c.list_of-2.ensures, to_z-of_z w64 c.args.time c.ranges.time)
     (is_metric _ _ c.self.invariant c.ranges.time
     (ap (λ (t : List ℕ). length t == 0) (sym c.as_str.ensures) ∙ sym c.is_empty.ensures ∙ c.if-is_empty.false)
     (ap has_empty_key (sym c.as_slice.ensures.value) ∙ sym c.tag_without_key.ensures ∙ c.if-tag_without_key.false)

@@ -14,14 +14,34 @@ use std::marker::Model;
 pub struct Filter {
     alloc: Global,
     rules: FilterRules,
+    // Whether there is no rule, which is asked for each metric.
+    no_rule: bool,
 }
 
 impl Model for Filter {
     ghost use Rattle.metric_filter.specs.declared.rules.FilterRules.{FilterRules};
+    ghost use Rattle.std.specs.Prelude.{◌≡◌};
+    ghost use Rattle.metric_filter.specs.Filter.{has_no_rule};
 
     ghost Value = { FilterRules };
 
     ghost view = { λ f. f.rules };
+
+    ghost invariant = { λ f. f.no_rule ≡ has_no_rule f.rules };
+}
+
+/// Is there no rule?
+fn are_none(rules: &FilterRules) -> bool
+    ensures { result ≡ has_no_rule rules.now }
+{
+    rules.namepass.as_slice().is_empty()
+        && rules.namedrop.as_slice().is_empty()
+        && rules.tagpass.as_slice().is_empty()
+        && rules.tagdrop.as_slice().is_empty()
+        && rules.fieldinclude.as_slice().is_empty()
+        && rules.fieldexclude.as_slice().is_empty()
+        && rules.taginclude.as_slice().is_empty()
+        && rules.tagexclude.as_slice().is_empty()
 }
 
 impl Filter {
@@ -29,7 +49,12 @@ impl Filter {
     pub fn new(alloc: Global, rules: FilterRules) -> Filter
         ensures { result ≡ rules }
     {
-        Filter { alloc, rules }
+        let no_rule = are_none(&rules);
+        Filter {
+            alloc,
+            rules,
+            no_rule,
+        }
     }
 
     /// The filter without rules.
@@ -84,15 +109,7 @@ impl Filter {
     pub fn has_no_rule(&self) -> bool
         ensures { result ≡ has_no_rule self.now }
     {
-        let rules = &self.rules;
-        rules.namepass.as_slice().is_empty()
-            && rules.namedrop.as_slice().is_empty()
-            && rules.tagpass.as_slice().is_empty()
-            && rules.tagdrop.as_slice().is_empty()
-            && rules.fieldinclude.as_slice().is_empty()
-            && rules.fieldexclude.as_slice().is_empty()
-            && rules.taginclude.as_slice().is_empty()
-            && rules.tagexclude.as_slice().is_empty()
+        self.no_rule
     }
 
     /// What `apply` gives for the metric, which is given up; where the filter has no rule that is the metric itself.

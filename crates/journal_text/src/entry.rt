@@ -1,5 +1,5 @@
 //! The entries of a journal, and its end.
-ghost use Rattle.std.specs.Prelude.{◌≡◌, ◌++◌, OnOk, OnErr, length, codes, decimal, if◌then◌else◌};
+ghost use Rattle.std.specs.Prelude.{◌≡◌, ◌++◌, OnOk, OnErr, Some, true, length, codes, decimal, if◌then◌else◌};
 ghost use Rattle.text_parts.specs.Adds.{Adds};
 ghost use Rattle.std.specs.Fmt.{signed_decimal};
 ghost use Rattle.account.specs.Says.{gather_of};
@@ -112,6 +112,46 @@ fn append_outs(
     Ok(())
 }
 
+// Whether the whole of a Route equals its item.
+#[tactic(auto, unfolding(crate::specs::JournalText::whole_text, crate::specs::JournalText::beside_text))]
+fn equals_item(item: &[Metric], whole: &Metric) -> bool
+    ensures { result ≡ true → whole_text item.now whole.now ≡ codes "=" }
+{
+    match item {
+        [item, ..] => whole == item,
+        [] => false,
+    }
+}
+
+// Whether there is one view, which equals the whole.
+#[tactic(auto, unfolding(crate::specs::JournalText::view_text, crate::specs::JournalText::beside_text))]
+fn is_one_equal(whole: &Metric, views: &[Option<Metric>]) -> bool
+    ensures { result ≡ true → views_text whole.now views.now ≡ codes " =" }
+{
+    match views {
+        [Some(view)] => view == whole,
+        _ => false,
+    }
+}
+
+// Whether an item went on as it was, to one output and no aggregator: most do.
+#[tactic(auto, unfolding(crate::specs::JournalText::routed_text))]
+fn is_as_it_was(
+    item: &[Metric],
+    whole: &Metric,
+    verdict: Verdict,
+    aggs: &[Option<Metric>],
+    outs: &[Option<Metric>],
+) -> bool
+    ensures { result ≡ true
+        → routed_text item.now (Some whole.now) verdict aggs.now outs.now ≡ codes " = passes / =\n" }
+{
+    verdict == Verdict::Passes
+        && aggs.is_empty()
+        && equals_item(item, whole)
+        && is_one_equal(whole, outs)
+}
+
 // Appends what a Route says behind its item.
 #[tactic(auto, unfolding(crate::specs::JournalText::routed_text))]
 fn append_routed(
@@ -130,6 +170,10 @@ fn append_routed(
         append_words(out, " - removed\n")?;
         return Ok(());
     };
+    if is_as_it_was(item, whole, verdict, aggs, outs) {
+        append_words(out, " = passes / =\n")?;
+        return Ok(());
+    }
     append_words(out, " ")?;
     append_whole(alloc, out, item, whole)?;
     append_words(out, word_of(verdict))?;

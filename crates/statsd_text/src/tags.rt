@@ -157,6 +157,10 @@ fn keep(tags: &mut Vec<(Text, Text)>, key: Text, value: Text) -> Result<(), OutO
 pub(crate) fn with_values(alloc: Global, tags: Tags) -> Result<Vec<(Text, Text)>, OutOfMemory>
     ensures { IfOk result (λ kept. kept.items ≡ with_values tags.entries) }
 {
+    // Most lines have no tags.
+    if tags.is_empty() {
+        return Ok(Vec::new(alloc));
+    }
     let mut kept = Vec::with_capacity(alloc, tags.len())?;
     for (key, value) in tags {
         keep(&mut kept, key, value)?;

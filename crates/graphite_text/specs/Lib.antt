@@ -5,7 +5,9 @@ pub mod Applied
 pub mod Reading
 pub mod Views
 pub mod TemplateViews
+pub mod Taken
 pub mod Wanted
+pub mod Numbers
 pub mod Writing
 pub mod Pieces
 pub mod Grammar

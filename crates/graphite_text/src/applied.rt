@@ -33,6 +33,7 @@ fn put_own(draft: &mut Draft, tags: &[(Text, Text)]) -> Result<(), OutOfMemory>
 }
 
 /// Puts the tags of a path into a draft.
+#[inline(always)]
 fn put_given(draft: &mut Draft, tags: &[(&str, &str)]) -> Result<(), OutOfMemory>
     requires keyed { AreKeyed (map tag_view tags.now) }
     ensures name { draft.new.parts.name ≡ draft.old.parts.name }
@@ -68,6 +69,7 @@ fn put_part(
 }
 
 /// Puts the tags that are collected into a draft.
+#[inline(always)]
 fn put_collected(
     alloc: Global,
     draft: &mut Draft,
@@ -90,6 +92,7 @@ fn put_collected(
 }
 
 /// The metric of a draft at a time, unless it has too many tags.
+#[inline(always)]
 fn finish(draft: Draft, time: Moment) -> Result<Option<Metric>, ReadError<GraphiteFault>>
     requires { IsReady draft }
     ensures { (tags : List Tag) (key : List ℕ) (value : ℤ)

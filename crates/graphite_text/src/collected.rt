@@ -1,11 +1,13 @@
 //! What the parts of a template take from the segments of a path.
-ghost use Rattle.std.specs.Prelude.{◌≡◌, ◌<◌, length, map, flat_map, IfOk, OnOk};
+ghost use Rattle.std.specs.Prelude.{◌≡◌, ◌<◌, ℕ, List, [], ◌∷◌, length, map, flat_map, IfOk, OnOk};
+ghost use Rattle.std.specs.Prelude.{MatchOption};
 ghost use Rattle.std.specs.Prelude.{◌++◌, if◌then◌else◌};
 ghost use Rattle.std.specs.List.{AllByRecursion};
 ghost use Rattle.std.specs.Str.{bytes_eq};
 ghost use Rattle.std.specs.String.{string_bytes};
 ghost use Rattle.graphite_text.specs.Applied.{collected, joined, name_of, key_of, tag_share};
 ghost use Rattle.graphite_text.specs.Path.{AreFilled};
+ghost use Rattle.graphite_text.specs.Taken.{joined_view, AreJoined, Takes};
 ghost use Rattle.graphite_text.specs.Views.{now_of, texts_view};
 ghost use Rattle.graphite_text.specs.Wanted.{share_of};
 
@@ -35,7 +37,42 @@ pub(crate) enum Wanted<'a> {
     TagOf(&'a str),
 }
 
+/// The segments that a thing takes.
+#[derive(Clone, Copy)]
+enum Taken<'a, 'b> {
+    /// None.
+    Nothing,
+    /// This one.
+    One(&'a str),
+    /// These, of which each stands behind the one before.
+    Row(&'b [&'a str]),
+    /// At least one.
+    Some,
+}
+
+/// A text that segments make.
+#[derive(Drop)]
+pub(crate) enum JoinedText<'a> {
+    /// It stands somewhere as it is.
+    Whole(&'a str),
+    /// It was joined of more than one.
+    Joined(String),
+}
+
+impl<'a> JoinedText<'a> {
+    /// The text.
+    pub(crate) fn as_str(&self) -> &str
+        ensures value { result.now ≡ joined_view self.now }
+    {
+        match self {
+            JoinedText::Whole(text) => text,
+            JoinedText::Joined(text) => text.as_str(),
+        }
+    }
+}
+
 /// A segment, where it is wanted.
+#[inline(always)]
 fn one_if(wanted: bool) -> Share
     ensures { result ≡ (if wanted then Share.One else Share.Nothing) }
 {
@@ -43,6 +80,7 @@ fn one_if(wanted: bool) -> Share
 }
 
 /// What a part gives to a tag.
+#[inline(always)]
 fn tag_share(wanted: &str, part: &TemplatePart) -> Share
     ensures { result ≡ tag_share wanted.now part.now }
 {
@@ -53,6 +91,7 @@ fn tag_share(wanted: &str, part: &TemplatePart) -> Share
 }
 
 /// What a part gives to a thing.
+#[inline(always)]
 fn share_of(wanted: &Wanted, part: &TemplatePart) -> Share
     ensures { result ≡ share_of wanted.now part.now }
 {
@@ -99,6 +138,54 @@ fn collected<'a>(
     Ok(texts)
 }
 
+/// What is taken with one segment more.
+#[inline(always)]
+fn with_one<'a, 'b>(taken: Taken<'a, 'b>, text: &'a str) -> Taken<'a, 'b>
+    ensures { (texts : List (List ℕ)) → Takes taken.entry texts → Takes result (texts ++ text.now ∷ []) }
+{
+    match taken {
+        Taken::Nothing => Taken::One(text),
+        _ => Taken::Some,
+    }
+}
+
+/// What is taken with the rest of the segments.
+#[inline(always)]
+fn with_rest<'a, 'b>(taken: Taken<'a, 'b>, rest: &'b [&'a str]) -> Taken<'a, 'b>
+    requires some { 0 < length rest.now }
+    ensures { (texts : List (List ℕ)) → Takes taken.entry texts
+        → Takes result (texts ++ map now_of rest.now) }
+{
+    match taken {
+        Taken::Nothing => Taken::Row(rest),
+        _ => Taken::Some,
+    }
+}
+
+/// What the parts give to a thing.
+#[inline(always)]
+fn taken_of<'a, 'b>(
+    wanted: &Wanted,
+    parts: &[TemplatePart],
+    segments: &'b [&'a str],
+) -> Taken<'a, 'b>
+    ensures { Takes result (collected (share_of wanted.now) parts.now (map now_of segments.now)) }
+{
+    let mut taken = Taken::Nothing;
+    let mut i = 0;
+    while i < parts.len() && i < segments.len() {
+        match share_of(wanted, &parts[i]) {
+            Share::Nothing => i += 1,
+            Share::One => {
+                taken = with_one(taken, segments[i]);
+                i += 1;
+            }
+            Share::Rest => return with_rest(taken, &segments[i..]),
+        }
+    }
+    taken
+}
+
 /// Appends texts, each behind the separator.
 fn push_others(text: &mut String, separator: &str, others: &[&str]) -> Result<(), OutOfMemory>
     ensures { OnOk result (string_bytes text.new
@@ -111,12 +198,15 @@ fn push_others(text: &mut String, separator: &str, others: &[&str]) -> Result<()
     Ok(())
 }
 
-/// Texts joined by the separator.
+/// Bytes for which a joined text has room before memory is asked for again.
+const ROOM: usize = 64;
+
+/// Texts joined by the separator, in memory of their own.
 #[tactic(auto, unfolding(crate::specs::Applied::joined))]
-fn joined(alloc: Global, separator: &str, texts: &[&str]) -> Result<String, OutOfMemory>
+fn joined_string(alloc: Global, separator: &str, texts: &[&str]) -> Result<String, OutOfMemory>
     ensures { IfOk result (λ text. string_bytes text ≡ joined separator.now (map now_of texts.now)) }
 {
-    let mut text = String::new(alloc);
+    let mut text = String::with_capacity(alloc, ROOM)?;
     if let [first, others @ ..] = texts {
         text.push_str(first)?;
         push_others(&mut text, separator, others)?;
@@ -124,53 +214,89 @@ fn joined(alloc: Global, separator: &str, texts: &[&str]) -> Result<String, OutO
     Ok(text)
 }
 
+/// Texts joined by the separator. One alone takes no memory.
+fn joined<'a>(
+    alloc: Global,
+    separator: &str,
+    texts: &[&'a str],
+) -> Result<JoinedText<'a>, OutOfMemory>
+    ensures { IfOk result (λ text. joined_view text ≡ joined separator.now (map now_of texts.now)) }
+{
+    if texts.len() == 1 {
+        return Ok(JoinedText::Whole(texts[0]));
+    }
+    Ok(JoinedText::Joined(joined_string(alloc, separator, texts)?))
+}
+
+/// The segments that the parts give to a thing, joined by the separator, where there are some.
+#[inline(always)]
+fn joined_taken<'a>(
+    alloc: Global,
+    separator: &str,
+    wanted: &Wanted,
+    parts: &[TemplatePart],
+    segments: &[&'a str],
+) -> Result<Option<JoinedText<'a>>, OutOfMemory>
+    ensures { let texts = collected (share_of wanted.now) parts.now (map now_of segments.now) in
+        IfOk result (λ found. MatchOption found (texts ≡ [])
+        (λ text. AreJoined separator.now texts (joined_view text))) }
+{
+    match taken_of(wanted, parts, segments) {
+        Taken::Nothing => Ok(None),
+        Taken::One(text) => Ok(Some(JoinedText::Whole(text))),
+        Taken::Row(texts) => Ok(Some(joined(alloc, separator, texts)?)),
+        Taken::Some => {
+            let texts = collected(alloc, wanted, parts, segments)?;
+            Ok(Some(joined(alloc, separator, texts.as_slice())?))
+        }
+    }
+}
+
 /// The name of a path's metric.
-#[tactic(auto, unfolding(crate::specs::Applied::name_of))]
-pub(crate) fn name_of(
+pub(crate) fn name_of<'a>(
     alloc: Global,
     separator: &str,
     parts: &[TemplatePart],
-    segments: &[&str],
-) -> Result<String, OutOfMemory>
-    ensures { IfOk result (λ name. string_bytes name
+    segments: &[&'a str],
+) -> Result<JoinedText<'a>, OutOfMemory>
+    ensures { IfOk result (λ name. joined_view name
         ≡ name_of separator.now parts.now (map now_of segments.now)) }
 {
-    let texts = collected(alloc, &Wanted::Name, parts, segments)?;
-    if texts.is_empty() {
-        return joined(alloc, separator, segments);
+    match joined_taken(alloc, separator, &Wanted::Name, parts, segments)? {
+        Some(text) => Ok(text),
+        None => joined(alloc, separator, segments),
     }
-    joined(alloc, separator, texts.as_slice())
 }
 
 /// The key of its field.
-#[tactic(auto, unfolding(crate::specs::Applied::key_of))]
-pub(crate) fn key_of(
+pub(crate) fn key_of<'a>(
     alloc: Global,
     separator: &str,
     parts: &[TemplatePart],
-    segments: &[&str],
-) -> Result<String, OutOfMemory>
-    ensures { IfOk result (λ key. string_bytes key
+    segments: &[&'a str],
+) -> Result<JoinedText<'a>, OutOfMemory>
+    ensures { IfOk result (λ key. joined_view key
         ≡ key_of separator.now parts.now (map now_of segments.now)) }
 {
-    let texts = collected(alloc, &Wanted::Key, parts, segments)?;
-    if texts.is_empty() {
-        return Ok(String::from_str(alloc, "value")?);
+    match joined_taken(alloc, separator, &Wanted::Key, parts, segments)? {
+        Some(text) => Ok(text),
+        None => Ok(JoinedText::Whole("value")),
     }
-    joined(alloc, separator, texts.as_slice())
 }
 
 /// The value of the tag of a key.
-pub(crate) fn tag_value(
+pub(crate) fn tag_value<'a>(
     alloc: Global,
     separator: &str,
     key: &str,
     parts: &[TemplatePart],
-    segments: &[&str],
-) -> Result<String, OutOfMemory>
-    ensures { IfOk result (λ value. string_bytes value
+    segments: &[&'a str],
+) -> Result<JoinedText<'a>, OutOfMemory>
+    ensures { IfOk result (λ value. joined_view value
         ≡ joined separator.now (collected (tag_share key.now) parts.now (map now_of segments.now))) }
 {
-    let texts = collected(alloc, &Wanted::TagOf(key), parts, segments)?;
-    joined(alloc, separator, texts.as_slice())
+    match joined_taken(alloc, separator, &Wanted::TagOf(key), parts, segments)? {
+        Some(text) => Ok(text),
+        None => Ok(JoinedText::Whole("")),
+    }
 }

@@ -30,6 +30,7 @@ fn segment<'a>(part: &Placed<'a>) -> Result<&'a str, ReadError<ShapeFault>>
 }
 
 /// The segments of a text between its dots.
+#[inline(always)]
 pub(crate) fn segments_of(alloc: Global, text: &str) -> Result<Vec<&str>, ReadError<ShapeFault>>
     ensures { Gives texts_view result (segments_of text.now) }
 {
@@ -76,6 +77,7 @@ fn read_pairs(
 }
 
 /// The pairs of a text between its separators; of no text there are none.
+#[inline(always)]
 pub(crate) fn pairs_of<'a>(
     alloc: Global,
     separator: u8,

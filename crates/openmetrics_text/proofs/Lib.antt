@@ -15,6 +15,7 @@ pub mod GatherLemmas
 pub mod MapLemmas
 pub mod NameTexts
 pub mod NumberTexts
+pub mod PlainTexts
 pub mod PointLemmas
 pub mod WrittenLines
 pub mod WrittenUtf8
@@ -22,3 +23,4 @@ pub mod WrittenBack
 pub mod Sweeping
 pub mod MarkTexts
 pub mod PutLemmas
+pub mod StayLemmas

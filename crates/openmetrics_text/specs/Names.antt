@@ -1,8 +1,9 @@
 -- Names of samples and of labels.
 use Rattle.std.specs.Prelude.{ℕ, ◌==◌, ◌&&◌, ◌||◌, not, Bool, List, length, slice_index, if◌then◌else◌}
 use Rattle.std.specs.Char.{is_ascii_alphabetic, is_ascii_digit}
-use Rattle.std.specs.List.{position_or_len}
+use Rattle.std.specs.List.{position_or_len, list_all}
 use Rattle.text_parts.specs.Bytes.{underscore}
+use Rattle.metric.specs.Draft.{Tag}
 use Rattle.openmetrics_text.specs.Bytes.{colon}
 
 -- letters, digits and underscores are of the alphabet of labels; a colon is of that of samples too
@@ -23,6 +24,13 @@ ends_name b = not (is_name_byte b)
 -- and none where the first is a digit
 unfoldable pub name_len : (ℕ → Bool) → List ℕ → ℕ
 name_len ends text = if is_ascii_digit (slice_index text 0) then 0 else position_or_len ends text
+
+-- a whole text is the name of a label, or empty
+abbrev pub is_label : List ℕ → Bool
+is_label text = name_len ends_label text == length text
+
+abbrev pub are_labels : List Tag → Bool
+are_labels tags = list_all (λ (tag : Tag). is_label tag.0) tags
 
 -- a whole text is the name of a sample
 abbrev pub is_name : List ℕ → Bool

@@ -7,6 +7,8 @@ use Rattle.metric.specs.Draft.{Tag}
 use Rattle.indexmap.specs.IndexMap.{IndexMap}
 use Rattle.openmetrics_text.specs.Bytes.{left_brace, right_brace}
 use Rattle.openmetrics_text.specs.Groups.{Lines, SeriesLines, FamilyLines}
+use Rattle.openmetrics_text.specs.declared.families.Series.{Series}
+use Rattle.openmetrics_text.specs.declared.families.Series.TheVariants.{One, Many}
 
 -- ---- labels
 
@@ -32,19 +34,23 @@ braced (b ∷ text) = left_brace ∷ (text ++ right_brace ∷ [])
 abbrev pub line_entry : ℤ × Vec ℕ Global → ℤ × List ℕ
 line_entry line = (line.0, line.1.items)
 
-abbrev pub lines_view : BTreeMap ℤ (Vec ℕ Global) → Lines
-lines_view series = map line_entry series.entries
+abbrev pub many_view : BTreeMap ℤ (Vec ℕ Global) → Lines
+many_view lines = map line_entry lines.entries
 
-abbrev pub series_entry : Vec ℕ Global × BTreeMap ℤ (Vec ℕ Global) → List ℕ × Lines
+abbrev pub lines_view : Series → Lines
+lines_view (One line) = (line.time, line.text.items) ∷ []
+lines_view (Many lines) = many_view lines
+
+abbrev pub series_entry : Vec ℕ Global × Series → List ℕ × Lines
 series_entry series = (series.0.items, lines_view series.1)
 
-abbrev pub family_view : {S : Type 0} → IndexMap (Vec ℕ Global) (BTreeMap ℤ (Vec ℕ Global)) S → SeriesLines
+abbrev pub family_view : {S : Type 0} → IndexMap (Vec ℕ Global) Series S → SeriesLines
 family_view family = map series_entry family.entries
 
 abbrev pub family_entry : {S : Type 0}
-    → Vec ℕ Global × IndexMap (Vec ℕ Global) (BTreeMap ℤ (Vec ℕ Global)) S → List ℕ × SeriesLines
+    → Vec ℕ Global × IndexMap (Vec ℕ Global) Series S → List ℕ × SeriesLines
 family_entry family = (family.0.items, family_view family.1)
 
 abbrev pub families_view : {S R : Type 0}
-    → IndexMap (Vec ℕ Global) (IndexMap (Vec ℕ Global) (BTreeMap ℤ (Vec ℕ Global)) S) R → FamilyLines
+    → IndexMap (Vec ℕ Global) (IndexMap (Vec ℕ Global) Series S) R → FamilyLines
 families_view families = map family_entry families.entries

@@ -4,12 +4,13 @@ ghost use Rattle.text_parts.specs.Adds.{Adds};
 ghost use Rattle.openmetrics_text.specs.Groups.{put_line, put_series, put_family};
 ghost use Rattle.openmetrics_text.specs.Groups.{lines_text, series_text, families_text};
 ghost use Rattle.openmetrics_text.specs.Writing.{type_text};
-ghost use Rattle.openmetrics_text.specs.WriteViews.{lines_view, family_view, families_view};
+ghost use Rattle.openmetrics_text.specs.WriteViews.{lines_view, many_view, family_view, families_view};
 
 use fixed_num::{Moment, OutOfMemory};
 use indexmap::IndexMap;
 use std::alloc::Global;
 use std::collections::BTreeMap;
+use std::mem;
 use text_parts::{append_bytes, append_words};
 
 /// The line of a sample.
@@ -21,8 +22,17 @@ pub(crate) struct SampleLine {
     pub(crate) text: Vec<u8>,
 }
 
-/// The lines of a series, by their times.
-pub(crate) type Series = BTreeMap<Moment, Vec<u8>>;
+/// Lines by their times.
+type Lines = BTreeMap<Moment, Vec<u8>>;
+
+/// The lines of a series, by their times. Most series of a batch have one, which takes no memory but its own.
+#[derive(Debug, Drop)]
+pub(crate) enum Series {
+    /// One line.
+    One(SampleLine),
+    /// Any number of lines.
+    Many(Lines),
+}
 
 /// The series of a family, by what stands for their labels.
 pub(crate) type Family = IndexMap<Vec<u8>, Series>;
@@ -30,12 +40,38 @@ pub(crate) type Family = IndexMap<Vec<u8>, Series>;
 /// Families by their names.
 pub(crate) type Families = IndexMap<Vec<u8>, Family>;
 
+/// Puts a line among lines, in place of one of its time.
+fn add_line(lines: &mut Lines, line: SampleLine) -> Result<(), OutOfMemory>
+    ensures { OnOk result
+        (many_view lines.new ≡ put_line line.time line.text.items (many_view lines.old)) }
+{
+    lines.insert(line.time, line.text)?;
+    Ok(())
+}
+
+/// The lines of a series, among which there is room for any number.
+fn lines_of(alloc: Global, series: Series) -> Result<Lines, OutOfMemory>
+    ensures { IfOk result (λ lines. many_view lines ≡ lines_view series) }
+{
+    match series {
+        Series::One(line) => {
+            let mut lines = BTreeMap::new(alloc);
+            add_line(&mut lines, line)?;
+            Ok(lines)
+        }
+        Series::Many(lines) => Ok(lines),
+    }
+}
+
 /// Puts a line into a series, in place of one of its time.
-fn put_line(series: &mut Series, line: SampleLine) -> Result<(), OutOfMemory>
+fn put_line(alloc: Global, series: &mut Series, line: SampleLine) -> Result<(), OutOfMemory>
     ensures { OnOk result
         (lines_view series.new ≡ put_line line.time line.text.items (lines_view series.old)) }
 {
-    series.insert(line.time, line.text)?;
+    let old = mem::replace(series, Series::Many(BTreeMap::new(alloc)));
+    let mut lines = lines_of(alloc, old)?;
+    add_line(&mut lines, line)?;
+    *series = Series::Many(lines);
     Ok(())
 }
 
@@ -46,15 +82,6 @@ fn copy(alloc: Global, bytes: &[u8]) -> Result<Vec<u8>, OutOfMemory>
     let mut copy = Vec::with_capacity(alloc, bytes.len())?;
     copy.extend_from_slice(bytes)?;
     Ok(copy)
-}
-
-/// A series of one line.
-fn series_of(alloc: Global, line: SampleLine) -> Result<Series, OutOfMemory>
-    ensures { IfOk result (λ series. lines_view series ≡ put_line line.time line.text.items []) }
-{
-    let mut series = BTreeMap::new(alloc);
-    put_line(&mut series, line)?;
-    Ok(series)
 }
 
 /// Puts a line into its series of a family.
@@ -69,12 +96,11 @@ fn put_series(
 {
     match family.get_mut(key) {
         Some(series) => {
-            put_line(series, line)?;
+            put_line(alloc, series, line)?;
             Ok(())
         }
         None => {
-            let series = series_of(alloc, line)?;
-            family.insert(copy(alloc, key)?, series)?;
+            family.insert(copy(alloc, key)?, Series::One(line))?;
             Ok(())
         }
     }
@@ -114,14 +140,25 @@ pub(crate) fn put_family(
     }
 }
 
-/// Appends the lines of a series.
-fn append_lines(out: &mut Vec<u8>, series: &Series) -> Result<(), OutOfMemory>
-    ensures { Adds result out.old.items out.new.items (lines_text (lines_view series.now)) }
+/// Appends lines.
+fn append_all(out: &mut Vec<u8>, lines: &Lines) -> Result<(), OutOfMemory>
+    ensures { Adds result out.old.items out.new.items (lines_text (many_view lines.now)) }
 {
-    for (_time, line) in series.iter() {
+    for (_time, line) in lines.iter() {
         append_bytes(out, line.as_slice())?;
     }
     Ok(())
+}
+
+/// Appends the lines of a series.
+#[tactic(auto, unfolding(crate::specs::Groups::lines_text))]
+fn append_lines(out: &mut Vec<u8>, series: &Series) -> Result<(), OutOfMemory>
+    ensures { Adds result out.old.items out.new.items (lines_text (lines_view series.now)) }
+{
+    match series {
+        Series::One(line) => append_bytes(out, line.text.as_slice()),
+        Series::Many(lines) => append_all(out, lines),
+    }
 }
 
 /// Appends the lines of a family.

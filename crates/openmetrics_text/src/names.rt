@@ -3,7 +3,7 @@ ghost use Rattle.std.specs.Prelude.{◌≡◌, ◌≤◌, length, slice_index};
 ghost use Rattle.std.specs.Char.{is_ascii_digit};
 ghost use Rattle.std.specs.List.{position, position_or_len};
 ghost use Rattle.std.specs.Str.{IsUtf8, IsCharBoundary};
-ghost use Rattle.openmetrics_text.specs.Names.{is_label_byte, is_name_byte, ends_label, ends_name, name_len, is_name};
+ghost use Rattle.openmetrics_text.specs.Names.{is_label_byte, is_name_byte, ends_label, ends_name, name_len, is_label, is_name};
 
 /// Whether a byte is of the alphabet of labels.
 fn is_label_byte(byte: u8) -> bool
@@ -81,6 +81,13 @@ pub(crate) fn name_len(bytes: &[u8]) -> usize
         return 0;
     }
     name_end(bytes)
+}
+
+/// Whether a whole text is the name of a label, or empty.
+pub(crate) fn is_label(text: &str) -> bool
+    ensures { result ≡ is_label text.now }
+{
+    label_len(text.as_bytes()) == text.len()
 }
 
 /// Whether a whole text is the name of a sample.

@@ -183,7 +183,7 @@ fn put_metric(alloc: Global, families: &mut Families, metric: &Metric) -> Result
     ensures { OnOk result (families_view families.new
         ≡ put_points (families_view families.old) (points_of_metric metric.now)) }
 {
-    let texts = label_texts(alloc, metric.tags())?;
+    let texts = label_texts(alloc, metric)?;
     put_fields(alloc, families, &texts, metric, metric.fields())?;
     Ok(())
 }

@@ -1,6 +1,7 @@
-use Rattle.std.proofs.Common.{[], map, ap, sym, ◌∙◌}
+use Rattle.std.proofs.Common.{[], map, ap, sym, refl, ◌∙◌}
 use Rattle.openmetrics_text.specs.Groups.{put_line, put_series}
 use Rattle.openmetrics_text.specs.WriteViews.{lines_view, series_entry}
+use Rattle.openmetrics_text.specs.declared.families.Series.TheVariants.{One}
 use Rattle.openmetrics_text.proofs.MapLemmas.{put_there, put_copy, same_entries}
 use Rattle.openmetrics_text.proofs.families.put_series.Goals as goal
 
@@ -14,4 +15,4 @@ pub returns-in_ok-insert-in-None : goal.returns-in_ok-insert-in-None
 unfolding put_series
 returns-in_ok-insert-in-None c =
     ap (map series_entry) c.in_ok-insert-in-None.ensures.entries
-    ∙ put_copy lines_view (put_line c.args.line.time c.args.line.text.items) [] _ c.args.family.now.entries c.in_ok-copy-in-None.field-0 c.args.key.now c.in_ok-series-in-None.series (same_entries _ c.args.family.now c.get_mut.follows.holds-at-none) c.in_ok-copy-in-None.ensures (sym c.in-None.ensures.value) c.in_ok-series-in-None.ensures
+    ∙ put_copy lines_view (put_line c.args.line.time c.args.line.text.items) [] _ c.args.family.now.entries c.in_ok-copy-in-None.field-0 c.args.key.now (One c.args.line) (same_entries _ c.args.family.now c.get_mut.follows.holds-at-none) c.in_ok-copy-in-None.ensures (sym c.in-None.ensures.value) refl

@@ -4,7 +4,7 @@ use Rattle.text_parts.proofs.Adding.{fails}
 use Rattle.openmetrics_text.specs.Groups.{lines_text}
 use Rattle.openmetrics_text.specs.WriteViews.{line_entry}
 use Rattle.openmetrics_text.proofs.Sweeping.{sweeps_none, sweeps_more, sweeps_all, sweeps_failed}
-use Rattle.openmetrics_text.proofs.families.append_lines.Goals as goal
+use Rattle.openmetrics_text.proofs.families.append_all.Goals as goal
 
 pub loop-time-init : goal.loop-time-init
 loop-time-init c = sweeps_none _ _ _ _ _ refl (search rules)
@@ -19,4 +19,4 @@ pub returns : goal.returns
 unfolding lines_text
 returns c =
     sweeps_all _ _ _ _ _ c.loop-time.invariant c.in-None.ensures.steps.0
-    ∙ ap (λ (text : List ℕ). c.args.out.now.items ++ text) (sym (flat_map-map (λ (line : ℤ × List ℕ). line.1) line_entry c.args.series.now.entries))
+    ∙ ap (λ (text : List ℕ). c.args.out.now.items ++ text) (sym (flat_map-map (λ (line : ℤ × List ℕ). line.1) line_entry c.args.lines.now.entries))

@@ -383,7 +383,8 @@ pub fn gather_each<S: Source + Drop, C: Clock + Drop>(
 
 /// Whether each input is read no more and holds nothing.
 pub fn are_out<S: Source + Drop, C: Clock + Drop>(inputs: &[InJob<'_, S, C>]) -> bool
-    ensures { result ≡ true → AreOut (ins_of S.left S.faults C.moments C.place inputs.now) }
+    ensures out { result ≡ true → AreOut (ins_of S.left S.faults C.moments C.place inputs.now) }
+    ensures some { result ≡ false → AreOut (ins_of S.left S.faults C.moments C.place inputs.now) → ⊥ }
 {
     for job in inputs {
         if job.state == InState::Reading || job.held.is_some() {

@@ -1,5 +1,5 @@
 //! What the pieces of an input say, and what is kept of it.
-ghost use Rattle.std.specs.Prelude.{◌≡◌, ◌<◌, ◌≤◌, ◌^◌, ◌∷◌, ◌-◌, ℤ, [], All, IfOk, OnOk};
+ghost use Rattle.std.specs.Prelude.{◌≡◌, ◌<◌, ◌≤◌, ◌^◌, ◌∷◌, ◌+◌, ◌-◌, ℤ, [], false, All, IfOk, OnOk};
 ghost use Rattle.agent_base.specs.Cut.{TooLong, Whole};
 ghost use Rattle.graphite_text.specs.Reading as graphite;
 ghost use Rattle.line_proto.specs.Reading.{reading};
@@ -171,16 +171,10 @@ impl Group {
     {
         let (_passed, _filtered) = (self.passed, self.filtered);
         match read_line(alloc, piece.bytes(), moment) {
-            Ok(Some(metric)) => self.keep(alloc, rule, metric)?,
-            Ok(None) => {}
-            Err(fault) => {
-                if fault.kind == LineKind::OutOfMemory {
-                    return Err(OutOfMemory);
-                }
-                self.refused += 1;
-            }
+            Ok(Some(metric)) => self.keep(alloc, rule, metric),
+            Ok(None) => Ok(()),
+            Err(fault) => self.refuse_for(fault.kind == LineKind::OutOfMemory),
         }
-        Ok(())
     }
 
     /// Keeps what is kept of a StatsD line, or counts it as refused.
@@ -199,15 +193,9 @@ impl Group {
     {
         let (_passed, _filtered) = (self.passed, self.filtered);
         match read_packet_line(alloc, piece.bytes(), moment) {
-            Ok(metrics) => self.keep_all(alloc, rule, metrics)?,
-            Err(fault) => {
-                if fault.kind == StatsdKind::OutOfMemory {
-                    return Err(OutOfMemory);
-                }
-                self.refused += 1;
-            }
+            Ok(metrics) => self.keep_all(alloc, rule, metrics),
+            Err(fault) => self.refuse_for(fault.kind == StatsdKind::OutOfMemory),
         }
-        Ok(())
     }
 
     /// Keeps what is kept of a line of Graphite, or counts it as refused.
@@ -228,16 +216,10 @@ impl Group {
     {
         let (_passed, _filtered) = (self.passed, self.filtered);
         match graphite_text::read_line(alloc, templates, separator, piece.bytes(), moment) {
-            Ok(Some(metric)) => self.keep(alloc, rule, metric)?,
-            Ok(None) => {}
-            Err(fault) => {
-                if fault.kind == GraphiteKind::OutOfMemory {
-                    return Err(OutOfMemory);
-                }
-                self.refused += 1;
-            }
+            Ok(Some(metric)) => self.keep(alloc, rule, metric),
+            Ok(None) => Ok(()),
+            Err(fault) => self.refuse_for(fault.kind == GraphiteKind::OutOfMemory),
         }
-        Ok(())
     }
 
     /// Keeps what is kept of an exposition and counts the samples that are passed over, or counts it as refused.
@@ -260,14 +242,23 @@ impl Group {
             Ok(exposition) => {
                 self.keep_each(alloc, rule, exposition.metrics.as_slice())?;
                 self.passed = self.passed.saturating_add(exposition.passed);
+                Ok(())
             }
-            Err(fault) => {
-                if fault.kind == ExpositionKind::OutOfMemory {
-                    return Err(OutOfMemory);
-                }
-                self.refused += 1;
-            }
+            Err(fault) => self.refuse_for(fault.kind == ExpositionKind::OutOfMemory),
         }
+    }
+
+    /// Counts a piece as refused, unless memory was wanting.
+    fn refuse_for(&mut self, memory_wanting: bool) -> Result<(), OutOfMemory>
+        requires { self.old.refused < 2 ^ 32 - 1 }
+        ensures fault { OnOk result (memory_wanting ≡ false) }
+        ensures refused { OnOk result
+            (self.new ≡ record self.old { refused = self.old.refused + 1 }) }
+    {
+        if memory_wanting {
+            return Err(OutOfMemory);
+        }
+        self.refused += 1;
         Ok(())
     }
 

@@ -93,7 +93,8 @@ fn rounds<S: Source + Drop, K: Sink + Drop, C: Clock + Drop>(
 
 /// Whether no round follows: the run is full, or each input is read no more and holds nothing.
 fn is_over<S: Source + Drop, C: Clock + Drop>(full: bool, inputs: &[InJob<'_, S, C>]) -> bool
-    ensures { result ≡ true → (full ≡ true) ⊎ AreOut (ins_of S.left S.faults C.moments C.place inputs.now) }
+    ensures over { result ≡ true → (full ≡ true) ⊎ AreOut (ins_of S.left S.faults C.moments C.place inputs.now) }
+    ensures on { result ≡ false → (full ≡ true) ⊎ AreOut (ins_of S.left S.faults C.moments C.place inputs.now) → ⊥ }
 {
     full || are_out(inputs)
 }

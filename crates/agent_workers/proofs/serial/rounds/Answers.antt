@@ -194,7 +194,7 @@ returns-then-is_over-clause-over g c =
     (part_of g.K.Sink.held g.K.Sink.faults c.args.journal.now) (part_of g.K.Sink.held g.K.Sink.faults c.loop-round.journal) (part_of g.K.Sink.held g.K.Sink.faults c.note.new.journal)
     c.loop-round.invariant.runs c.loop-round.invariant.settled c.in_ok-full.ensures.gathers c.begin_anew.ensures.fresh c.in_ok-route_all.ensures.goes c.in_ok-route_all.ensures.none c.in_ok-send_each.ensures.sends c.in_ok-note.ensures.notes in
     let gathered_same : c.note.new.core.gathered ≡ c.gather_each.new.core.gathered = ap (λ (s : CoreState). s.gathered) noted ∙ sent.gathered ∙ routed.gathered in
-    elim (c.is_over.ensures c.if-is_over.true) [
+    elim (c.is_over.ensures.over c.if-is_over.true) [
       | inl full ↦ inl (subst (λ (n : ℕ). OneIsFull n (ins_of g.S.Source.left g.S.Source.faults g.C.Clock.moments g.C.Clock.place c.gather_each.new.inputs)) (sym gathered_same) (c.in_ok-full.ensures.full full))
       | inr out ↦ inr out
     ]

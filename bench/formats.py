@@ -32,8 +32,9 @@ WAYS = [
     Way("small", "influx", "influx"),
     Way("statsd", "statsd", "influx", at_moment=True),
     Way("graphite", "graphite", "graphite", input=f"templates = {TEMPLATES}\n"),
-    # Of expositions of 1,000 samples ten are as many metrics as may wait.
-    Way("openmetrics", "openmetrics", "openmetrics", agent="gather_pieces = 10\n"),
+    # One exposition has 1,000 samples: as many metrics a round as the lines of the other inputs are, and as the plain
+    # program takes at once.
+    Way("openmetrics", "openmetrics", "openmetrics", agent="gather_pieces = 1\n"),
 ]
 
 

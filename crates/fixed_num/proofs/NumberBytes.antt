@@ -27,9 +27,9 @@ pub digits_bytes : (ds : List ℕ) → AllDigits 10 ds → AllByRecursion IsNumb
 digits_bytes [] h = tt
 digits_bytes (d ∷ ds) h = let r = digit_from_value d h.0 in ((omega (arith, r), omega (arith, r)), digits_bytes ds h.1)
 
-pub bytes_append : (xs ys : List ℕ) → AllByRecursion IsNumberByte xs → AllByRecursion IsNumberByte ys → AllByRecursion IsNumberByte (xs ++ ys)
-bytes_append [] ys h k = k
-bytes_append (x ∷ xs) ys h k = (h.0, bytes_append xs ys h.1 k)
+pub all_append : {A : Type 0} (P : A → Type 0) (xs ys : List A) → AllByRecursion P xs → AllByRecursion P ys → AllByRecursion P (xs ++ ys)
+all_append P [] ys h k = k
+all_append P (x ∷ xs) ys h k = (h.0, all_append P xs ys h.1 k)
 
 pub decimal_bytes : (n : ℕ) → n < 2 ^ 64 → AllByRecursion IsNumberByte (decimal n)
 decimal_bytes n h = digits_bytes (decimal n) (decimal_is_IsNumeral n h).0.1
@@ -47,7 +47,7 @@ fraction_bytes n h =
 
 magnitude_bytes : (n : ℕ) → n < 2 ^ 64 * 10 ^ 9 → AllByRecursion IsNumberByte (decimal (n / 10 ^ 9) ++ fraction_text (n % 10 ^ 9))
 magnitude_bytes n h =
-    bytes_append (decimal (n / 10 ^ 9)) (fraction_text (n % 10 ^ 9))
+    all_append IsNumberByte (decimal (n / 10 ^ 9)) (fraction_text (n % 10 ^ 9))
     (decimal_bytes (n / 10 ^ 9) (div_below n (10 ^ 9) (2 ^ 64) (omega arith) (omega arith)))
     (fraction_bytes (n % 10 ^ 9) (mod-lt n {m = 10 ^ 9} (omega arith)))
 

@@ -10,7 +10,7 @@ use Rattle.fixed_num.specs.Grammar.{Sign, sign_text, is_minus}
 use Rattle.fixed_num.specs.Whole.{is_numeral, behind_sign, numeral_read_as, as_int, as_uint, int_read_as, uint_read_as}
 use Rattle.fixed_num.proofs.Spelling.{signed, unsigned_digits, all_digits_len, digits_whole, some_len, sign_split}
 
-numeral_is : (ds : List ℕ) → IsNumeral 10 ds → is_numeral ds ≡ true
+pub numeral_is : (ds : List ℕ) → IsNumeral 10 ds → is_numeral ds ≡ true
 numeral_is ds h =
     let some : eqb (length ds) 0 ≡ false = ne_eqb _ _ (λ e. absurd (omega (arith, h.0))) in
     rw (some, all_digits_len ds h.1) (eq-eqb _ _ refl)

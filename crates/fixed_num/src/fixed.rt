@@ -1,10 +1,12 @@
 //! Numbers with nine decimals.
 ghost use Rattle.std.specs.Prelude.{◌≡◌, ◌<◌, ◌+◌, ◌++◌, length, vec_len, vec_capacity, OnOk, OnErr, SomeIff};
+ghost use Rattle.std.specs.Prelude.{pos};
 ghost use Rattle.fixed_num.specs.Quotient.{is_negative, divided};
 ghost use Rattle.fixed_num.specs.Range.{InRange};
 
 use crate::grammar::parts_of;
 use crate::memory::OutOfMemory;
+use crate::plain::plain_number;
 use crate::quotient::quotient_magnitude;
 use crate::text::{LONGEST, split, write_number};
 use crate::value::magnitude;
@@ -57,6 +59,19 @@ impl Fixed {
         }
     }
 
+    /// The number of so many billionths, none of which is below 0; None where it is out of range.
+    pub(crate) fn of_magnitude(n: u128) -> Option<Fixed>
+        ensures { SomeIff result (InRange (pos n)) (pos n) }
+    {
+        if n < LIMIT {
+            Some(Fixed {
+                billionths: n as i128,
+            })
+        } else {
+            None
+        }
+    }
+
     /// How many billionths it is.
     pub fn billionths(self) -> i128
         ensures value { result ≡ self }
@@ -70,6 +85,16 @@ impl Fixed {
     /// optionally `e` or `E`, an optional sign and at least one digit.
     /// `NotANumber` where the text is no decimal, `NumberRange` where the rounded number is out of range.
     pub fn read(text: &[u8]) -> Result<Fixed, NumFault>
+        ensures { result ≡ read_as text.now }
+    {
+        match plain_number(text) {
+            Some(number) => Ok(number),
+            None => Fixed::read_parts(text),
+        }
+    }
+
+    // The same, for any text.
+    fn read_parts(text: &[u8]) -> Result<Fixed, NumFault>
         ensures { result ≡ read_as text.now }
     {
         let Some(parts) = parts_of(text) else {

@@ -5,6 +5,7 @@ mod fixed;
 mod grammar;
 mod laws;
 mod memory;
+mod plain;
 mod quotient;
 mod seq;
 mod text;

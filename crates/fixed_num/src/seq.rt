@@ -1,14 +1,22 @@
 //! A vector that contracts see as its list.
-ghost use Rattle.std.specs.Prelude.{◌≡◌, [], ◌∷◌};
+ghost use Rattle.std.specs.Prelude.{◌≡◌, ◌≤◌, ◌<◌, [], ◌∷◌, ◌++◌, length, insert, slice_set};
+ghost use Rattle.std.specs.Prelude.{IfOk, IsTrue, OnErr, OnOk, vec_capacity};
 ghost use Rattle.std.specs.Cmp.Lexicographic.{pointwise, lists_per, lists_equiv, slice_cmp};
 ghost use Rattle.std.specs.Cmp.Lexicographic.{slice_partial_cmp, lists_agrees, lists_total, lists_ties};
 ghost use Rattle.std.specs.Cmp.Lexicographic.{lists_po};
 ghost use Rattle.std.specs.Hash as fed;
 ghost use Rattle.std.specs.Hash.{items_Alike};
+ghost use Rattle.fixed_num.specs.Kept.{kept_items};
 
+use crate::OutOfMemory;
+use std::alloc::Global;
 use std::cmp::Ordering;
 use std::hash::{Hash, Hasher};
 use std::marker::Model;
+use std::mem;
+
+/// How many elements a list has room for once it has more than one.
+const ROOM: usize = 8;
 
 /// How a list is kept.
 #[derive(Drop, Debug)]
@@ -53,6 +61,64 @@ impl<T: Drop> Seq<T> {
         }
     }
 
+    /// The list without an element, with room for so many before memory is asked for. Room for one takes none.
+    pub fn with_room(alloc: Global, room: usize) -> Result<Seq<T>, OutOfMemory>
+        ensures { IfOk result (λ s. s ≡ []) }
+    {
+        if room < 2 {
+            return Ok(Seq::of(Vec::new(alloc)));
+        }
+        Ok(Seq::of(Vec::with_capacity(alloc, room)?))
+    }
+
+    /// One more element, at a place. After an error the list is as before.
+    pub fn insert(&mut self, alloc: Global, at: usize, item: T) -> Result<(), OutOfMemory>
+        requires { at ≤ length self.old }
+        ensures ok { OnOk result (self.new ≡ insert self.old at item) }
+        ensures err { OnErr result (self.new ≡ self.old) }
+    {
+        if let Kept::Many(items) = &mut self.kept {
+            if items.capacity() > 0 {
+                items.insert(at, item)?;
+                return Ok(());
+            }
+        }
+        insert_to_few(&mut self.kept, alloc, at, item)
+    }
+
+    /// One more element, behind the others. After an error the list is as before.
+    pub fn push(&mut self, alloc: Global, item: T) -> Result<(), OutOfMemory>
+        ensures ok { OnOk result (self.new ≡ self.old ++ item ∷ []) }
+        ensures err { OnErr result (self.new ≡ self.old) }
+    {
+        if let Kept::Many(items) = &mut self.kept {
+            if items.capacity() > 0 {
+                items.push(item)?;
+                return Ok(());
+            }
+        }
+        push_to_few(&mut self.kept, alloc, item)
+    }
+
+    /// Puts an element in the place of another.
+    pub fn set(&mut self, at: usize, item: T)
+        requires { at < length self.old }
+        ensures { self.new ≡ slice_set self.old at item }
+    {
+        match &mut self.kept {
+            Kept::One(one) => one[0] = item,
+            Kept::Many(items) => items[at] = item,
+        }
+    }
+
+    /// The elements, in order. A single one in place takes memory.
+    pub fn into_vec(self, alloc: Global) -> Result<Vec<T>, OutOfMemory>
+        ensures { IfOk result (λ items. items.items ≡ self) }
+    {
+        let Seq { mut kept } = self;
+        take_all(&mut kept, alloc)
+    }
+
     /// The elements, in order.
     pub fn as_slice(&self) -> &[T]
         ensures { result.now ≡ self.now }
@@ -62,6 +128,81 @@ impl<T: Drop> Seq<T> {
             Kept::Many(items) => items.as_slice(),
         }
     }
+}
+
+/// Whether a list has no element, and no memory for one.
+fn has_none<T: Drop>(kept: &Kept<T>) -> bool
+    ensures { IsTrue result → kept_items kept.now ≡ [] }
+{
+    match kept {
+        Kept::One(_) => false,
+        Kept::Many(items) => items.is_empty() && items.capacity() == 0,
+    }
+}
+
+/// Takes the elements out, in memory with room for more. After an error they are as before.
+fn take_all<T: Drop>(kept: &mut Kept<T>, alloc: Global) -> Result<Vec<T>, OutOfMemory>
+    ensures ok { IfOk result (λ items. items.items ≡ kept_items kept.old) }
+    ensures err { OnErr result (kept_items kept.new ≡ kept_items kept.old) }
+{
+    match mem::replace(kept, Kept::Many(Vec::new(alloc))) {
+        Kept::Many(items) => Ok(items),
+        Kept::One([first]) => match Vec::with_capacity(alloc, ROOM) {
+            Ok(room) => Ok(with_first(room, first)),
+            Err(_) => {
+                *kept = Kept::One([first]);
+                Err(OutOfMemory)
+            }
+        },
+    }
+}
+
+/// One more element, at a place, where there is none, or one that stands in place. After an error all is as before.
+fn insert_to_few<T: Drop>(
+    kept: &mut Kept<T>,
+    alloc: Global,
+    at: usize,
+    item: T,
+) -> Result<(), OutOfMemory>
+    requires { at ≤ length (kept_items kept.old) }
+    ensures ok { OnOk result (kept_items kept.new ≡ insert (kept_items kept.old) at item) }
+    ensures err { OnErr result (kept_items kept.new ≡ kept_items kept.old) }
+{
+    if has_none(kept) {
+        *kept = Kept::One([item]);
+        return Ok(());
+    }
+    let mut items = take_all(kept, alloc)?;
+    let done = items.insert(at, item);
+    *kept = Kept::Many(items);
+    done?;
+    Ok(())
+}
+
+/// One more element, behind none, or one that stands in place. After an error all is as before.
+fn push_to_few<T: Drop>(kept: &mut Kept<T>, alloc: Global, item: T) -> Result<(), OutOfMemory>
+    ensures ok { OnOk result (kept_items kept.new ≡ kept_items kept.old ++ item ∷ []) }
+    ensures err { OnErr result (kept_items kept.new ≡ kept_items kept.old) }
+{
+    if has_none(kept) {
+        *kept = Kept::One([item]);
+        return Ok(());
+    }
+    let mut items = take_all(kept, alloc)?;
+    let done = items.push(item);
+    *kept = Kept::Many(items);
+    done?;
+    Ok(())
+}
+
+/// The vector of one element, in room that was taken before.
+fn with_first<T: Drop>(mut room: Vec<T>, first: T) -> Vec<T>
+    requires empty { room.items ≡ [] }
+    requires fits { 1 ≤ vec_capacity room }
+    ensures { result.items ≡ first ∷ [] }
+{
+    room.push_reserved(first);
+    room
 }
 
 impl<T: PartialEq + Drop> PartialEq for Seq<T> {

@@ -206,7 +206,7 @@ static POWERS: [u64; 19] = [
 ];
 
 /// A power of ten.
-fn power_of_ten(exponent: usize) -> u64
+pub(crate) fn power_of_ten(exponent: usize) -> u64
     requires { exponent ≤ 18 }
     ensures { result ≡ 10 ^ exponent }
 {

@@ -5,6 +5,7 @@ ghost use Rattle.fixed_num.specs.Whole.{as_int, numeral_read_as, int_read_as, ui
 
 use crate::fixed::NumFault;
 use crate::grammar::{digits_at, sign_at};
+use crate::plain::plain_numeral;
 use crate::value::value_of_digits;
 
 /// The number that one digit or more spell.
@@ -12,6 +13,9 @@ use crate::value::value_of_digits;
 fn read_numeral(digits: &[u8]) -> Result<u64, NumFault>
     ensures { result ≡ numeral_read_as digits.now }
 {
+    if let Some(number) = plain_numeral(digits) {
+        return Ok(number);
+    }
     if digits.is_empty() || digits_at(digits) != digits.len() {
         return Err(NumFault::NotANumber);
     }

@@ -1,6 +1,6 @@
 -- Lines that are read back.
 use Rattle.std.proofs.Common.{◌≡◌, ℕ, ℤ, zero, suc, ◌+◌, ◌<◌, ◌≤◌, ◌*◌, ◌/◌, ◌^◌, Bool, true, false, cond, List, [], ◌∷◌, ◌++◌, length, take, map, Ok, Some, refl, sym, ap, subst, ◌∙◌, append_assoc, length-append, arith, inl, inr}
-use Rattle.std.specs.Prelude.{◌==◌, pos, negsuc, neg_ℤ, codes, filter, flat_map, FitsSigned}
+use Rattle.std.specs.Prelude.{◌==◌, pos, negsuc, neg_ℤ, unsigned_abs, codes, filter, flat_map, FitsSigned}
 use Rattle.std.specs.Int.{w64}
 use Rattle.std.specs.Fmt.{signed_decimal}
 use Rattle.std.specs.List.{AllByRecursion, slice_split, onto_first, join_with_byte}
@@ -25,9 +25,14 @@ use Rattle.graphite_text.specs.Path.{AreFilled}
 use Rattle.graphite_text.specs.Applied.{collected, joined, name_of, key_of, tags_at}
 use Rattle.graphite_text.specs.Reading.{is_minus_one, is_moment, content_of, reading}
 use Rattle.graphite_text.specs.Grammar.{Written, line_spelling, IsMoment, IsLine, said_in, has_too_many}
-use Rattle.graphite_text.specs.Writing.{value_byte, name_byte, value_part, name_part, is_host, is_no_host, values_of, key_parts, path_text, number_text, seconds_of, line_text, is_text}
-use Rattle.graphite_text.specs.RoundTrip.{IsDotted, IsDottedKey, scaled, billionths_of, IsSecond, time_behind, metric_behind, WrittenIsReadBack}
-use Rattle.graphite_text.proofs.Bytes.{AreClean, clean_append, clean_spaces, clean_semicolons, value_clean, value_no_dot, name_clean, name_dot, mapped_clean, clean_point, IsNumber, IsBelow, number_signed, signed_read, value_number, value_read}
+use Rattle.graphite_text.specs.Writing.{value_byte, name_byte, value_part, name_part, is_host, is_no_host, values_of, key_parts, path_text, seconds_of, line_text}
+use Rattle.graphite_text.specs.RoundTrip.{IsDotted, IsDottedKey, IsSecond, time_behind, metric_behind, WrittenIsReadBack}
+use Rattle.fixed_num.specs.Scaled.{scaled}
+use Rattle.fixed_num.proofs.NumberBytes.{all_append}
+use Rattle.fixed_num.proofs.NumberTexts.{IsNumberText, signed_number, signed_read}
+use Rattle.metric.specs.Numbers.{is_text, number_text, billionths_of}
+use Rattle.metric.proofs.NumberLemmas.{value_number, value_read}
+use Rattle.graphite_text.proofs.Bytes.{IsClean, AreClean, clean_spaces, clean_semicolons, value_clean, value_no_dot, name_clean, name_dot, mapped_clean, clean_point, clean_number}
 use Rattle.graphite_text.proofs.Spelling.{split_some}
 use Rattle.graphite_text.proofs.Writtens.{written_is_read}
 
@@ -58,10 +63,6 @@ split_map (b ∷ bs) =
       | true ↦ ap (λ (ps : List (List ℕ)). [] ∷ ps) (split_map bs)
       | false ↦ ap (onto_first (name_byte b)) (split_map bs) ∙ onto_map b (slice_split (is_byte 46) bs)
     ])
-
-all_append : {A : Type 0} (P : A → Type 0) (xs ys : List A) → AllByRecursion P xs → AllByRecursion P ys → AllByRecursion P (xs ++ ys)
-all_append P [] ys h k = k
-all_append P (x ∷ xs) ys h k = (h.0, all_append P xs ys h.1 k)
 
 map_some : (f : ℕ → ℕ) (bs : List ℕ) → 0 < length bs → 0 < length (map f bs)
 map_some f [] lt = lt
@@ -115,7 +116,7 @@ joined_is part (next ∷ others) h =
     let rest = joined_is next others h.1 in record {
       dotted = subst AreFilled (sym (split_append part (join_with_byte 46 (next ∷ others))))
           (all_append (λ (t : List ℕ). 0 < length t) (slice_split (is_byte 46) part) (slice_split (is_byte 46) (join_with_byte 46 (next ∷ others))) (h.0).dotted rest.dotted);
-      clean = clean_append part (46 ∷ join_with_byte 46 (next ∷ others)) (h.0).clean (clean_point, rest.clean);
+      clean = all_append IsClean part (46 ∷ join_with_byte 46 (next ∷ others)) (h.0).clean (clean_point, rest.clean);
     }
 
 all_joined : (texts : List (List ℕ)) → 0 < length texts → AllByRecursion IsPart texts → IsPart (join_with_byte 46 texts)
@@ -162,7 +163,7 @@ tags_none (suc n) segments = ap (flat_map (tags_at (codes ".") (parts.AllMeasure
 
 -- ---- times
 
-seconds_below : (time : ℤ) → FitsSigned w64 time → IsBelow (seconds_of time)
+seconds_below : (time : ℤ) → FitsSigned w64 time → unsigned_abs (seconds_of time) < 2 ^ 64
 seconds_below (pos n) h = div_below n 1000000000 (2 ^ 64) (omega arith) (omega (arith, h.sfits))
 seconds_below (negsuc n) h = let low : n / 1000000000 < 2 ^ 63 = div_below n 1000000000 (2 ^ 63) (omega arith) (omega (arith, h.sfits)) in omega arith
 
@@ -221,7 +222,7 @@ written_of path number seconds = record {
 word : (text : List ℕ) → 0 < length text → AreClean text → IsWord text
 word text some clean = record { filled = some; none = clean_spaces text clean }
 
-line_is : (path number seconds : List ℕ) (moment value time n : ℤ) → IsPart path → IsNumber number → IsNumber seconds → read_as number ≡ Ok value → read_as seconds ≡ Ok n → IsMoment moment n time
+line_is : (path number seconds : List ℕ) (moment value time n : ℤ) → IsPart path → IsNumberText number → IsNumberText seconds → read_as number ≡ Ok value → read_as seconds ≡ Ok n → IsMoment moment n time
     → IsLine (written_of path number seconds) moment value time
 unfolding written_of
 line_is path number seconds moment value time n p v t read_value read_time is =
@@ -229,7 +230,7 @@ line_is path number seconds moment value time n p v t read_value read_time is =
       words = (
         subst IsWord (sym (append-nil (join_with_byte 46 (slice_split (is_byte 46) path)) ∙ whole)) (word path (dotted_some path p.dotted) p.clean),
         omega arith,
-        (word number v.some v.clean, omega arith, (word seconds t.some t.clean, tt, tt)),
+        (word number v.some (clean_number number v.bytes), omega arith, (word seconds t.some (clean_number seconds t.bytes), tt, tt)),
       );
       path = record {
         segments = record { some = split_some 46 path; filled = p.dotted; dots = parts_none (is_byte 46) path };
@@ -262,12 +263,12 @@ field_back m moment is name second field h no_text key =
     let p = path_is m field.0 is.tags name key in
     let below = seconds_below m.time is.time in
     let v = value_number field.1 h.1 no_text in
-    let s = number_signed (seconds_of m.time) below in
+    let s = signed_number (seconds_of m.time) below in
     let w : Written = written_of (path_text m field.0) (number_text field.1) (signed_decimal (seconds_of m.time)) in
     let line = line_is (path_text m field.0) (number_text field.1) (signed_decimal (seconds_of m.time)) moment (billionths_of field.1) (time_behind moment (seconds_of m.time)) (scaled (seconds_of m.time)) p v s
     (value_read field.1 h.1 no_text) (signed_read (seconds_of m.time) below) (time_is moment (seconds_of m.time) (scaled_moment m.time is.time second)) in
     let text = spelled (path_text m field.0) (number_text field.1) (signed_decimal (seconds_of m.time)) in
-    let utf8 = IsUtf8-from_ascii _ (low_ascii _ (line_low (path_text m field.0) (number_text field.1) (signed_decimal (seconds_of m.time)) p.clean v.clean s.clean)) in
+    let utf8 = IsUtf8-from_ascii _ (low_ascii _ (line_low (path_text m field.0) (number_text field.1) (signed_decimal (seconds_of m.time)) p.clean (clean_number (number_text field.1) v.bytes) (clean_number (signed_decimal (seconds_of m.time)) s.bytes))) in
     ap (λ (t : List ℕ). reading [] (codes ".") t moment) text
     ∙ written_is_read [] (codes ".") w moment (billionths_of field.1) (time_behind moment (seconds_of m.time)) line (subst IsUtf8 text utf8)
     (few (path_text m field.0) (number_text field.1) (signed_decimal (seconds_of m.time)) (billionths_of field.1) (time_behind moment (seconds_of m.time)))

@@ -3,8 +3,8 @@ use Rattle.std.proofs.Common.{◌≡◌, ℕ, suc, ◌+◌, ◌<◌, Bool, true,
 use Rattle.std.specs.Prelude.{◌==◌, ◌||◌, codes}
 use Rattle.std.specs.List.{AllByRecursion, list_any, slice_split, onto_first}
 use Rattle.std.specs.Str.{bytes_eq}
-use Rattle.std.proofs.lemmas.Bool.{eqb-false}
-use Rattle.text_parts.specs.Chain.{◌>>=◌}
+use Rattle.std.proofs.lemmas.Bool.{or_parts}
+use Rattle.text_parts.proofs.Founds.{bind_ok, same_ok, some_of}
 use Rattle.text_parts.specs.Split.{PartAt, is_byte, first_part, placed, parts_of, each}
 use Rattle.metric.specs.Draft.{Tag}
 use Rattle.graphite_text.specs.declared.fault.ShapeFault.{ShapeFault}
@@ -16,29 +16,10 @@ use Rattle.graphite_text.specs.Template.{tag_part, template_part, each_part, tem
 
 -- ---- chains
 
-pub bind_ok : {A B F : Type 0} (r : Result A F) (next : A → Result B F) (y : B) → (r >>= next) ≡ Ok y → (x : A) × (r ≡ Ok x) × (next x ≡ Ok y)
-bind_ok (Ok x) next y e = (x, refl, e)
-bind_ok (Err f) next y e = absurd cc
-
-ok_or : {A F : Type 0} → A → Result A F → A
-ok_or other (Ok x) = x
-ok_or other (Err f) = other
-
-pub same_ok : {A F : Type 0} (x y : A) → (let r : Result A F = Ok x in r) ≡ Ok y → x ≡ y
-unfolding ok_or
-same_ok {A = A} {F = F} x y e = ap (ok_or {F = F} x) e
-
 -- a test that had to fail
 pub test_ok : {A : Type 0} (t : Bool) (r : Result A ShapeFault) (y : A) → cond t (Err Malformed) r ≡ Ok y → (t ≡ false) × (r ≡ Ok y)
 test_ok true r y e = absurd cc
 test_ok false r y e = (refl, e)
-
-pub or_false : (a b : Bool) → (a || b) ≡ false → (a ≡ false) × (b ≡ false)
-or_false true b e = absurd cc
-or_false false b e = (refl, e)
-
-pub some_of : {A : Type 0} (xs : List A) → (length xs == 0) ≡ false → 0 < length xs
-some_of xs e = let ne : length xs ≡ 0 → ⊥ = eqb-false (length xs) 0 e in omega arith
 
 -- what is true of all that a reader gives is true of all that it gives one by one
 pub each_all : {A : Type 0} (read : PartAt → Result A ShapeFault) (P : A → Type 0) → ((part : PartAt) (x : A) → read part ≡ Ok x → P x)
@@ -68,7 +49,7 @@ pair_some part tag e = at (first_part 61 part.1).0 (first_part 61 part.1).1 e
     at key None e = absurd cc
     at key (Some value) e =
         let test = test_ok (length key == 0 || length value == 0) (Ok (key, value)) tag e in
-        subst (λ (t : Tag). 0 < length t.0) (same_ok {F = ShapeFault} (key, value) tag test.1) (some_of key (or_false (length key == 0) (length value == 0) test.0).0)
+        subst (λ (t : Tag). 0 < length t.0) (same_ok {F = ShapeFault} (key, value) tag test.1) (some_of key (or_parts (length key == 0) (length value == 0) test.0).0)
 
 pub pairs_some : (separator : ℕ) (text : Option (List ℕ)) (tags : List Tag) → pairs_of separator text ≡ Ok tags → AreKeyed tags
 pairs_some separator None tags e = subst AreKeyed (same_ok {F = ShapeFault} [] tags e) tt

@@ -3,7 +3,6 @@ pub mod Lines
 pub mod Filled
 pub mod Collecting
 pub mod Taking
-pub mod Digits
 pub mod Paths
 pub mod Spelling
 pub mod Writtens

@@ -1,9 +1,6 @@
 -- A whole line.
 use Rattle.std.proofs.Common.{◌≡◌, ℕ, ℤ, ◌<◌, Bool, true, false, cond, ltb, List, [], ◌∷◌, length, Result, Ok, Err, Option, refl, sym, ap, subst, ◌∙◌, ◌++◌, arith, None}
 use Rattle.std.specs.Prelude.{◌||◌, Some, option_map}
-use Rattle.std.specs.Str.Lossy.{utf8_valid_len}
-use Rattle.std.specs.Str.{IsUtf8, is_utf8}
-use Rattle.std.proofs.lemmas.Str.{IsUtf8-from_is_utf8, is_utf8-from_IsUtf8}
 use Rattle.metric.specs.declared.metric.Content.{Content}
 use Rattle.metric.specs.declared.value.Value.TheVariants as values
 use Rattle.metric.specs.declared.draft.DraftFault.{DraftFault}
@@ -11,19 +8,12 @@ use Rattle.metric.specs.declared.draft.DraftFault.TheVariants as drafts
 use Rattle.metric.specs.Pairs.{with_pair, in_key_order, in_first_order, in_first_order_on}
 use Rattle.metric.specs.Draft.{Tag, Field, Drafted, StandsFor, IsReady, drafted, has_too_many}
 use Rattle.graphite_text.specs.declared.fault.GraphiteFault.{GraphiteFault}
-use Rattle.graphite_text.specs.declared.fault.GraphiteKind.TheVariants.{NotUtf8, TooMany}
+use Rattle.graphite_text.specs.declared.fault.GraphiteKind.TheVariants.{TooMany}
 use Rattle.graphite_text.specs.declared.template.TemplatePart.{TemplatePart}
 use Rattle.graphite_text.specs.Path.{segments_of, pairs_of, Path, path_of}
-use Rattle.graphite_text.specs.Template.{Shape}
 use Rattle.graphite_text.specs.Applied.{name_of, key_of, collected_tags}
-use Rattle.graphite_text.specs.Reading.{Said, content_of, limited, said_of, text_reading, reading}
+use Rattle.graphite_text.specs.Reading.{Said, content_of, limited, said_of}
 use Rattle.std.specs.Borrow.{Bor}
-use Rattle.std.proofs.lemmas.Int.{to_z-of_z}
-use mir.Val.{SFits, of_z, to_z}
-use mir.Syntax.{w64}
-use Rattle.text_parts.specs.declared.error.ReadError.{ReadError}
-use Rattle.text_parts.specs.declared.error.ReadError.TheVariants as errors
-use Rattle.text_parts.specs.Chain.{Fails}
 use Rattle.text_parts.specs.Split.{first_part}
 
 -- ---- finishing
@@ -96,23 +86,3 @@ ready draft tags key value name is filled s = record {
   field_keys = s.field_keys;
   some = λ few. subst (λ (fs : List Field). 0 < length fs) (sym (s.fields_kept few ∙ one_field key value)) (omega arith);
 }
-
--- ---- the piece
-
-pub not_utf8 : (templates : List Shape) (separator piece : List ℕ) (n : ℕ) (moment : ℤ) → ¬ (IsUtf8 piece) → utf8_valid_len piece ≡ n
-    → reading templates separator piece moment ≡ Err (record { kind = NotUtf8; place = n })
-unfolding reading
-not_utf8 templates separator piece n moment not len =
-    let none : is_utf8 piece ≡ false = elim (is_utf8 piece) as (λ t. is_utf8 piece ≡ t → t ≡ false) [ true ↦ λ e. absurd (not (IsUtf8-from_is_utf8 piece e)) | false ↦ λ e. refl ] refl in
-    rw (none, len) refl
-
-pub read_utf8 : (templates : List Shape) (separator piece : List ℕ) (moment : ℤ) → IsUtf8 piece → reading templates separator piece moment ≡ text_reading templates separator piece moment
-unfolding reading
-read_utf8 templates separator piece moment u = rw (is_utf8-from_IsUtf8 piece u) refl
-
-pub same_text : (templates : List Shape) (separator piece text : List ℕ) (moment : ℤ) → SFits w64 moment → text ≡ piece
-    → text_reading templates separator text (to_z w64 (of_z w64 moment)) ≡ text_reading templates separator piece moment
-same_text templates separator piece text moment fits same = rw (same, to_z-of_z w64 moment fits) refl
-
-pub fault_given : (e : ReadError GraphiteFault) (fault : GraphiteFault) (r : Result (Option Content) GraphiteFault) → e ≡ errors.Fault fault → Fails e r → r ≡ Err fault
-fault_given e fault r is h = subst (λ (x : ReadError GraphiteFault). Fails x r) is h

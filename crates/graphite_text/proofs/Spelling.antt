@@ -2,7 +2,7 @@
 use Rattle.std.proofs.Common.{◌≡◌, ℕ, suc, ◌+◌, ◌<◌, true, false, cond, List, [], ◌∷◌, ◌++◌, length, map, Result, Ok, Option, Some, None, refl, sym, ap, subst, ◌∙◌, arith}
 use Rattle.std.specs.Prelude.{◌==◌, ◌||◌, flat_map}
 use Rattle.std.specs.List.{AllByRecursion, join_with_byte, slice_split, onto_first}
-use Rattle.std.proofs.lemmas.Bool.{ne_eqb}
+use Rattle.std.proofs.lemmas.Bool.{ne_eqb, or_parts}
 use Rattle.std.proofs.lemmas.List.{append-nil}
 use Rattle.std.proofs.lemmas.List.Splits.{join_with_byte-slice_split}
 use Rattle.text_parts.specs.Chain.{◌>>=◌}
@@ -14,7 +14,8 @@ use Rattle.metric.specs.Draft.{Tag}
 use Rattle.graphite_text.specs.declared.fault.ShapeFault.{ShapeFault}
 use Rattle.graphite_text.specs.Path.{segment, segments_of, valued, pair, pairs_of, Path, path_of, AreFilled}
 use Rattle.graphite_text.specs.Grammar.{AreSegments, segments_text, IsPair, tag_text, path_spelling, IsPathText}
-use Rattle.graphite_text.proofs.Filled.{bind_ok, same_ok, test_ok, or_false, some_of}
+use Rattle.text_parts.proofs.Founds.{bind_ok, same_ok, some_of}
+use Rattle.graphite_text.proofs.Filled.{test_ok}
 
 -- ---- parts one by one
 
@@ -111,7 +112,7 @@ pair_written place text tag e = at (first_part 61 text).0 (first_part 61 text).1
     at key None is none e = absurd cc
     at key (Some value) is none e =
         let test = test_ok (length key == 0 || length value == 0) (Ok (key, value)) tag e in
-        let both = or_false (length key == 0) (length value == 0) test.0 in
+        let both = or_parts (length key == 0) (length value == 0) test.0 in
         subst (λ (t : Tag). (text ≡ pair_text t) × IsPair t) (same_ok {F = ShapeFault} (key, value) tag test.1)
         (is, record { key_filled = some_of key both.0; key = none; value_filled = some_of value both.1 })
 

@@ -3,7 +3,7 @@ use Rattle.std.proofs.Common.{◌≡◌, ℕ, ◌<◌, Bool, true, false, cond, 
 use Rattle.std.specs.Prelude.{◌==◌, ◌||◌, codes}
 use Rattle.std.specs.List.{AllByRecursion, join_with_byte, list_any, slice_split}
 use Rattle.std.specs.Str.{bytes_eq}
-use Rattle.std.proofs.lemmas.Bool.{ne_eqb, eqb-true}
+use Rattle.std.proofs.lemmas.Bool.{ne_eqb, eqb-true, or_parts}
 use Rattle.std.proofs.lemmas.List.{append-nil}
 use Rattle.std.proofs.lemmas.List.Splits.{join_with_byte-slice_split}
 use Rattle.std.proofs.lemmas.Slice.Eq.{bytes_eq-Decides}
@@ -19,7 +19,8 @@ use Rattle.graphite_text.specs.declared.template.TemplatePart.TheVariants as par
 use Rattle.graphite_text.specs.Path.{segments_of, pairs_of}
 use Rattle.graphite_text.specs.Template.{Shape, tag_part, template_part, has_early_star, template_parts, TemplateWords, has_equals, words_as, filter_of, shape_of, template_of}
 use Rattle.graphite_text.specs.Grammar.{AreSegments, segments_text, IsPair, part_text, is_word, IsPartText, parts_text, filter_text, pairs_line, tags_text, template_spelling, IsFilter, IsLast, IsTemplateText, SpelledIsTemplate, TemplateIsSpelled}
-use Rattle.graphite_text.proofs.Filled.{bind_ok, same_ok, test_ok, or_false, some_of}
+use Rattle.text_parts.proofs.Founds.{bind_ok, same_ok, some_of}
+use Rattle.graphite_text.proofs.Filled.{test_ok}
 use Rattle.graphite_text.proofs.Spelling.{each_read, each_written, segments_read, segments_written, pairs_read, ArePairs, pairs_written, split_some}
 
 -- ---- parts
@@ -32,9 +33,9 @@ part_read place parts.Field is = refl
 part_read place parts.AllField is = refl
 part_read place parts.Skipped is = refl
 part_read place (parts.Tag name) is =
-    let first = or_false (bytes_eq name (codes "measurement")) _ is.2 in
-    let second = or_false (bytes_eq name (codes "measurement*")) _ first.1 in
-    let third = or_false (bytes_eq name (codes "field")) (bytes_eq name (codes "field*")) second.1 in
+    let first = or_parts (bytes_eq name (codes "measurement")) _ is.2 in
+    let second = or_parts (bytes_eq name (codes "measurement*")) _ first.1 in
+    let third = or_parts (bytes_eq name (codes "field")) (bytes_eq name (codes "field*")) second.1 in
     let some : (length name == 0) ≡ false = ne_eqb (length name) 0 (λ e. absurd (omega (arith, is.0))) in
     rw (first.0, second.0, third.0, third.1, some, is.1) refl
 

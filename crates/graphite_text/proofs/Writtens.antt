@@ -23,7 +23,7 @@ use Rattle.graphite_text.specs.Applied.{used}
 use Rattle.graphite_text.specs.Reading.{Line, last_word, words_behind, line_of, or_bad_path, number_at, is_moment, is_minus_one, moment_of, time_of, Said, content_of, limited, said_of}
 use Rattle.graphite_text.specs.Reading.{metric_reading, line_reading, text_reading, reading}
 use Rattle.graphite_text.specs.Grammar.{path_spelling, Written, time_words, line_words, line_spelling, IsMoment, IsTime, IsLine, said_in, has_too_many, WrittenIsRead, ReadIsWritten}
-use Rattle.graphite_text.proofs.Filled.{bind_ok, same_ok}
+use Rattle.text_parts.proofs.Founds.{bind_ok, same_ok}
 use Rattle.graphite_text.proofs.Spelling.{path_read, path_written}
 
 -- ---- what is written is read

@@ -7,7 +7,6 @@ pub mod Views
 pub mod TemplateViews
 pub mod Taken
 pub mod Wanted
-pub mod Numbers
 pub mod Writing
 pub mod Pieces
 pub mod Grammar

@@ -1,18 +1,19 @@
 -- Lines that are read back.
-use Rattle.std.specs.Prelude.{◌≡◌, ◌+◌, ◌<◌, ◌*◌, ◌⊎◌, ℕ, ℤ, pos, negsuc, neg_ℤ, false, List, [], ◌∷◌, codes}
+use Rattle.std.specs.Prelude.{◌≡◌, ◌<◌, ◌⊎◌, ℕ, ℤ, pos, negsuc, false, List, [], ◌∷◌, codes}
 use Rattle.std.specs.Prelude.{Some, Ok}
 use Rattle.std.specs.Prelude.{if◌then◌else◌}
 use Rattle.std.specs.List.{AllByRecursion, slice_split}
 use Rattle.text_parts.specs.Split.{is_byte}
-use Rattle.metric.specs.declared.value.Value.{Value}
-use Rattle.metric.specs.declared.value.Value.TheVariants.{Int, Uint, Fixed, «Bool» as Truth, Text}
+use Rattle.fixed_num.specs.Scaled.{scaled}
+use Rattle.metric.specs.declared.value.Value.TheVariants.{Fixed}
 use Rattle.metric.specs.declared.metric.Content.{Content}
 use Rattle.metric.specs.Draft.{Field}
 use Rattle.metric.specs.Metric.{IsMetric}
+use Rattle.metric.specs.Numbers.{is_text, billionths_of}
 use Rattle.graphite_text.specs.Bytes.{dot}
 use Rattle.graphite_text.specs.Path.{AreFilled}
 use Rattle.graphite_text.specs.Reading.{is_minus_one, reading}
-use Rattle.graphite_text.specs.Writing.{path_text, line_text, is_text, seconds_of}
+use Rattle.graphite_text.specs.Writing.{path_text, line_text, seconds_of}
 
 -- no dot begins or ends the text, and no two stand in a row: no segment of it is empty
 abbrev pub IsDotted : List ℕ → Type 0
@@ -21,19 +22,6 @@ IsDotted text = AreFilled (slice_split (is_byte dot) text)
 -- a key is `value`, or dotted
 abbrev pub IsDottedKey : List ℕ → Type 0
 IsDottedKey key = (key ≡ codes "value") ⊎ IsDotted key
-
--- as many billionths as a whole number has
-abbrev pub scaled : ℤ → ℤ
-scaled (pos n) = pos (n * 1000000000)
-scaled (negsuc n) = neg_ℤ (pos ((1 + n) * 1000000000))
-
--- the billionths of a number; a truth value is 1 or 0
-abbrev pub billionths_of : Value → ℤ
-billionths_of (Int n) = scaled n
-billionths_of (Uint n) = scaled (pos n)
-billionths_of (Fixed n) = n
-billionths_of (Truth b) = scaled (pos (if b then 1 else 0))
-billionths_of (Text text) = pos 0
 
 -- the first second whose nanoseconds are a moment is -9,223,372,036
 abbrev pub IsSecond : ℤ → Type 0

@@ -1,18 +1,16 @@
 -- The lines of a metric.
-use Rattle.std.specs.Prelude.{◌==◌, ◌||◌, ℕ, ℤ, pos, Bool, true, false, not, List, [], ◌∷◌, ◌++◌, map, filter}
+use Rattle.std.specs.Prelude.{◌==◌, ◌||◌, ℕ, ℤ, pos, Bool, not, List, [], ◌∷◌, ◌++◌, map, filter}
 use Rattle.std.specs.Prelude.{flat_map, codes}
 use Rattle.std.specs.Prelude.{if◌then◌else◌}
 use Rattle.std.specs.Char.{is_ascii_alphanumeric}
-use Rattle.std.specs.Fmt.{decimal, signed_decimal}
+use Rattle.std.specs.Fmt.{signed_decimal}
 use Rattle.std.specs.Int.{int_div_euclid}
 use Rattle.std.specs.List.{join_with_byte}
 use Rattle.std.specs.Str.{bytes_eq}
 use Rattle.text_parts.specs.Bytes.{underscore}
-use Rattle.fixed_num.specs.Canonical.{canonical_text}
-use Rattle.metric.specs.declared.value.Value.{Value}
-use Rattle.metric.specs.declared.value.Value.TheVariants.{Int, Uint, Fixed, «Bool» as Truth, Text}
 use Rattle.metric.specs.declared.metric.Content.{Content}
 use Rattle.metric.specs.Draft.{Tag, Field}
+use Rattle.metric.specs.Numbers.{is_text, number_text}
 use Rattle.graphite_text.specs.Bytes.{minus, dot}
 
 -- ---- the path
@@ -58,14 +56,6 @@ path_text m key = join_with_byte dot (path_parts m key)
 
 -- ---- the lines
 
--- a number; a truth value is 1 or 0
-unfoldable pub number_text : Value → List ℕ
-number_text (Int n) = signed_decimal n
-number_text (Uint n) = decimal n
-number_text (Fixed n) = canonical_text n
-number_text (Truth b) = if b then codes "1" else codes "0"
-number_text (Text text) = []
-
 -- the seconds of nanoseconds, rounded down
 abbrev pub seconds_of : ℤ → ℤ
 seconds_of time = int_div_euclid time (pos 1000000000)
@@ -74,13 +64,6 @@ seconds_of time = int_div_euclid time (pos 1000000000)
 unfoldable pub line_text : Content → Field → List ℕ
 line_text m field =
     path_text m field.0 ++ codes " " ++ number_text field.1 ++ codes " " ++ signed_decimal (seconds_of m.time)
-
-abbrev pub is_text : Value → Bool
-is_text (Int n) = false
-is_text (Uint n) = false
-is_text (Fixed n) = false
-is_text (Truth b) = false
-is_text (Text text) = true
 
 -- the line of a field; a text has none
 abbrev pub field_text : Content → Field → List ℕ

@@ -6,7 +6,6 @@ mod collected;
 mod fault;
 mod laws;
 mod line;
-mod number;
 mod path;
 mod read;
 mod template;

@@ -10,7 +10,6 @@ ghost use Rattle.graphite_text.specs.Views.{part_at, path_view, line_view, Answe
 use crate::applied::templated;
 use crate::fault::{GraphiteFault, GraphiteKind, fault};
 use crate::line::{Line, line_of};
-use crate::number::read_number;
 use crate::path::{Path, path_of};
 use crate::template::Template;
 use fixed_num::{Fixed, Moment, NumFault};
@@ -34,7 +33,7 @@ fn read_path(alloc: Global, text: &str) -> Result<Path<'_>, ReadError<GraphiteFa
 fn number_at(kind: GraphiteKind, part: &Placed) -> Result<Fixed, ReadError<GraphiteFault>>
     ensures { Gives (λ x. x) result (number_at kind part.now.place (read_as part.now.text.now)) }
 {
-    match read_number(part.text.as_bytes()) {
+    match Fixed::read(part.text.as_bytes()) {
         Ok(number) => Ok(number),
         Err(NumFault::NotANumber) => Err(fault(kind, part.place)),
         Err(NumFault::NumberRange) => Err(fault(GraphiteKind::NumberRange, part.place)),

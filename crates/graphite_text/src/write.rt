@@ -4,9 +4,10 @@ ghost use Rattle.std.specs.Prelude.{OnErr};
 ghost use Rattle.std.specs.Prelude.{if◌then◌else◌};
 ghost use Rattle.text_parts.specs.Adds.{Adds};
 ghost use Rattle.metric.specs.Draft.{Tag, Field};
+ghost use Rattle.metric.specs.Numbers.{is_text, number_text};
 ghost use Rattle.graphite_text.specs.Writing.{value_byte, name_byte, value_part, name_part};
-ghost use Rattle.graphite_text.specs.Writing.{is_host, is_no_host, path_text, number_text, seconds_of};
-ghost use Rattle.graphite_text.specs.Writing.{line_text, is_text, field_text, metric_text};
+ghost use Rattle.graphite_text.specs.Writing.{is_host, is_no_host, path_text, seconds_of};
+ghost use Rattle.graphite_text.specs.Writing.{line_text, field_text, metric_text};
 ghost use Rattle.graphite_text.specs.Pieces.{key_text, host_text, other_text};
 
 use fixed_num::{Moment, OutOfMemory};
@@ -175,7 +176,7 @@ fn append_path(out: &mut Vec<u8>, metric: &Metric, key: &str) -> Result<(), OutO
 }
 
 /// Appends a number.
-#[tactic(auto, unfolding(crate::specs::Writing::number_text))]
+#[tactic(auto, unfolding(metric::specs::Numbers::number_text))]
 fn append_number(alloc: Global, out: &mut Vec<u8>, value: &Value) -> Result<(), OutOfMemory>
     ensures { Adds result out.old.items out.new.items (number_text value.now) }
 {

@@ -1,16 +1,16 @@
 -- What is read as a line is written as one.
-use Rattle.std.proofs.Common.{◌≡◌, ◌≢◌, ℕ, ℤ, zero, suc, ◌+◌, ◌<◌, ◌≤◌, Bool, true, false, cond, eqb, ltb, List, [], ◌∷◌, ◌++◌, length, get_or, take, drop, Result, Ok, Err, Option, Some, None, refl, sym, ap, subst, ◌∙◌, arith, add-zero, append_assoc, drop-cons, add-one, inl, inr}
+use Rattle.std.proofs.Common.{◌≡◌, ◌≢◌, ℕ, ℤ, zero, suc, ◌+◌, ◌<◌, ◌≤◌, Bool, true, false, cond, eqb, List, [], ◌∷◌, ◌++◌, length, get_or, take, drop, Result, Ok, Err, Option, Some, None, refl, sym, ap, subst, ◌∙◌, arith, add-zero, append_assoc, inl, inr}
 use Rattle.std.specs.Prelude.{◌||◌, ◌==◌, not}
 use Rattle.std.specs.List.{position_or_len}
 use Rattle.std.specs.Str.{IsUtf8, is_utf8}
 use Rattle.std.proofs.lemmas.Str.{IsUtf8-from_is_utf8}
-use Rattle.std.proofs.lemmas.Bool.{eqb-true, eqb-false, ltb-true, ltb-false}
+use Rattle.std.proofs.lemmas.Bool.{eqb-true, eqb-false, or_parts}
 use Rattle.std.proofs.lemmas.List.{drop-drop, get_or-drop, get_or_past, length-drop, length-take-le, append-nil, take-append-drop, drop_all}
-use Rattle.text_parts.specs.Part.{Kind, part_len, len_at, text_at, plain}
+use Rattle.text_parts.specs.Part.{Kind}
 use Rattle.text_parts.specs.Grammar.{Mark, Escaped, Bare, spelled, meant, IsPart, HasNone, IsWritten}
-use Rattle.text_parts.proofs.MarkLemmas.{found, part_is_read}
+use Rattle.text_parts.proofs.Founds.{bind_ok, chosen_ok, ok_pair, not_false, some_of}
+use Rattle.text_parts.proofs.Stands.{Spans, joins, none_spans, byte_at, byte_spans, Parted, part_again}
 use Rattle.text_parts.proofs.Spans.{unhidden_part}
-use Rattle.std.proofs.lemmas.List.{take_at, length-append}
 use Rattle.std.proofs.Common.{inl, inr, add-zero}
 use Rattle.std.specs.Prelude.{◌⊎◌}
 use Rattle.text_parts.specs.Chain.{◌>>=◌}
@@ -31,39 +31,11 @@ use Rattle.line_proto.specs.Grammar.{behind_name, line_spelling, IsTag, IsQuoted
 use Rattle.line_proto.specs.Grammar.{IsTime, NoHash, IsLine}
 use Rattle.line_proto.proofs.Takes.{Meets}
 
--- ---- chains that gave an answer
-
-pub bind_ok : {F A B : Type 0} (r : Result A F) (next : A → Result B F) (y : B) → (r >>= next) ≡ Ok y → (x : A) × (r ≡ Ok x) × (next x ≡ Ok y)
-bind_ok (Ok x) next y e = (x, refl, e)
-bind_ok (Err fault) next y e = absurd cc
-
-pub chosen_ok : {F A : Type 0} (t : Bool) (fault : F) (r : Result A F) (y : A) → cond t (Err fault) r ≡ Ok y → (t ≡ false) × (r ≡ Ok y)
-chosen_ok true fault r y e = absurd cc
-chosen_ok false fault r y e = (refl, e)
-
-first_or : {F A : Type 0} → A → Result (A × ℕ) F → A
-first_or a (Ok x) = x.0
-first_or a (Err fault) = a
-
-second_or : {F A : Type 0} → ℕ → Result (A × ℕ) F → ℕ
-second_or n (Ok x) = x.1
-second_or n (Err fault) = n
-
-pub ok_pair : {F A : Type 0} (a b : A) (m n : ℕ) → let l : Result (A × ℕ) F = Ok (a, m) in let r : Result (A × ℕ) F = Ok (b, n) in l ≡ r → (a ≡ b) × (m ≡ n)
-unfolding first_or second_or
-ok_pair {F} {A} a b m n e = (ap (first_or {F = F} a) e, ap (second_or {F = F} m) e)
+-- ---- readings and tests
 
 pub placed_ok : {A : Type 0} (i : ℕ) (r : Result A LineKind) (x : A) → placed i r ≡ Ok x → r ≡ Ok x
 placed_ok i (Ok y) x e = let same : y ≡ x = cc in ap Ok same
 placed_ok i (Err kind) x e = absurd cc
-
-or_false : (a b : Bool) → (a || b) ≡ false → (a ≡ false) × (b ≡ false)
-or_false true b e = absurd cc
-or_false false b e = (refl, e)
-
-not_false : (b : Bool) → not b ≡ false → b ≡ true
-not_false true e = refl
-not_false false e = absurd cc
 
 -- ---- parts
 
@@ -74,55 +46,11 @@ word_split p (b ∷ bs) = elim (p b) as (λ t. p b ≡ t → HasNone p (take (co
   | false ↦ λ e. let m : 1 + position_or_len p bs ≡ suc (position_or_len p bs) = omega arith in let behind = word_split p bs in rw m ((e, behind.0), behind.1)
 ] refl
 
--- the text stands between two places
-pub record Spans (piece : List ℕ) (i j : ℕ) (text : List ℕ) : Type 0 where
-  pub is : drop i piece ≡ text ++ drop j piece
-  pub more : i ≤ j
-  pub within : j ≤ length piece
-
-pub joins : (piece : List ℕ) (i j k : ℕ) (a b : List ℕ) → Spans piece i j a → Spans piece j k b → Spans piece i k (a ++ b)
-joins piece i j k a b x y = record { is = x.is ∙ ap (λ (t : List ℕ). a ++ t) y.is ∙ sym (append_assoc a b (drop k piece)); more = omega (arith, x.more, y.more); within = y.within }
-
 pub ends_meet : (k : Kind) (marks : List Mark) (rest : List ℕ) → IsPart k marks rest → Meets k.ends rest
 ends_meet k [] [] h = tt
 ends_meet k [] (b ∷ rest) h = h.0
 ends_meet k (Escaped c ∷ marks) rest h = ends_meet k marks rest h.1
 ends_meet k (Bare b ∷ marks) rest h = ends_meet k marks rest h.2
-
--- a part that is read stands there as marks
-pub record Parted (k : Kind) (piece : List ℕ) (i : ℕ) : Type 0 where
-  pub marks : List Mark
-  pub len : len_at k piece i ≡ length (spelled marks)
-  pub means : text_at k piece i ≡ meant k marks
-  pub part : IsPart k marks (drop (i + length (spelled marks)) piece)
-  pub spans : Spans piece i (i + length (spelled marks)) (spelled marks)
-
-pub part_again : (k : Kind) (piece : List ℕ) (i : ℕ) → i ≤ length piece → Parted k piece i
-part_again k piece i le =
-    let f = found k (drop i piece) in
-    let read = part_is_read k f.marks (drop (part_len k (drop i piece)) (drop i piece)) f.part in
-    let len : part_len k (drop i piece) ≡ length (spelled f.marks) = ap (part_len k) f.text ∙ read.0 in
-    let rest : drop (i + length (spelled f.marks)) piece ≡ drop (part_len k (drop i piece)) (drop i piece) =
-    ap (λ (m : ℕ). drop (i + m) piece) (sym len) ∙ sym (drop-drop (part_len k (drop i piece)) i piece) in
-    let cut : take (part_len k (drop i piece)) (drop i piece) ≡ spelled f.marks =
-    ap (λ (m : ℕ). take m (drop i piece)) len ∙ ap (take (length (spelled f.marks))) f.text ∙ take_at (spelled f.marks) _ (length (spelled f.marks)) refl in
-    let whole : length (drop i piece) ≡ length (spelled f.marks) + length (drop (part_len k (drop i piece)) (drop i piece)) =
-    ap length f.text ∙ length-append (spelled f.marks) (drop (part_len k (drop i piece)) (drop i piece)) in
-    record {
-      marks = f.marks;
-      len = len;
-      means = ap (plain k) cut ∙ read.1;
-      part = subst (IsPart k f.marks) (sym rest) f.part;
-      spans = record {
-        is = f.text ∙ ap (λ (t : List ℕ). spelled f.marks ++ t) (sym rest);
-        more = omega arith;
-        within = omega (arith, whole, length-drop i piece);
-      };
-    }
-
-some_of : (w : List ℕ) → (length w == 0) ≡ false → 0 < length w
-some_of [] e = absurd cc
-some_of (b ∷ w) e = omega arith
 
 -- a word that was read
 pub record WordRead (k : Kind) (piece : List ℕ) (i j : ℕ) (text : List ℕ) : Type 0 where
@@ -159,22 +87,6 @@ tag_value_again piece i j value le e =
     let pair = ok_pair _ _ _ _ ok.1 in
     word_read tag_value_part piece i j value part ok.0 pair.0 pair.1
 
-byte_at : (piece : List ℕ) (m b : ℕ) → 0 < b → get_or piece m 0 ≡ b → drop m piece ≡ b ∷ drop (m + 1) piece
-byte_at piece m b some e =
-    let within : m < length piece = is_within piece m (omega arith) in
-    rw add-one (drop-cons piece m 0 within ∙ ap (λ (x : ℕ). x ∷ drop (suc m) piece) e)
-  where
-    is_within : (piece : List ℕ) (m : ℕ) → 0 < get_or piece m 0 → m < length piece
-    is_within piece m some = elim (ltb m (length piece)) as (λ t. ltb m (length piece) ≡ t → m < length piece) [
-      | true ↦ λ lt. ltb-true m (length piece) lt
-      | false ↦ λ ge. absurd (omega (arith, get_or_past piece m 0 (ltb-false m (length piece) ge)))
-    ] refl
-
-pub byte_spans : (piece : List ℕ) (m b : ℕ) → 0 < b → get_or piece m 0 ≡ b → Spans piece m (m + 1) (b ∷ [])
-byte_spans piece m b some e =
-    let is = byte_at piece m b some e in
-    record { is = is; more = omega arith; within = omega (arith, ap length is, length-drop m piece, length-drop (m + 1) piece) }
-
 -- a key with its equals sign
 pub record KeyRead (piece : List ℕ) (i j : ℕ) (key : List ℕ) : Type 0 where
   pub word : List ℕ
@@ -205,7 +117,7 @@ key_again piece i j key le e =
     let part = part_again key_part piece i le in
     let read = rw (part.means, part.len) at e in
     let ok = chosen_ok (length (spelled part.marks) == 0 || not (get_or piece (i + length (spelled part.marks)) 0 == 61)) _ _ _ read in
-    let both = or_false (length (spelled part.marks) == 0) (not (get_or piece (i + length (spelled part.marks)) 0 == 61)) ok.0 in
+    let both = or_parts (length (spelled part.marks) == 0) (not (get_or piece (i + length (spelled part.marks)) 0 == 61)) ok.0 in
     let pair = ok_pair _ _ _ _ ok.1 in
     key_read piece i j key part both.0 (eqb-true (get_or piece (i + length (spelled part.marks)) 0) 61 (not_false (eqb (get_or piece (i + length (spelled part.marks)) 0) 61) both.1)) pair.0 pair.1
 
@@ -296,7 +208,7 @@ quoted_again piece i j value first e =
     let n = length (spelled part.marks) in
     let read = rw (part.means, part.len) at e in
     let ok = chosen_ok (not (get_or piece (i + 1 + length (spelled part.marks)) 0 == 34) || not (is_value_end piece (i + 1 + length (spelled part.marks) + 1))) _ _ _ read in
-    let both = or_false (not (get_or piece (i + 1 + length (spelled part.marks)) 0 == 34)) (not (is_value_end piece (i + 1 + length (spelled part.marks) + 1))) ok.0 in
+    let both = or_parts (not (get_or piece (i + 1 + length (spelled part.marks)) 0 == 34)) (not (is_value_end piece (i + 1 + length (spelled part.marks) + 1))) ok.0 in
     let close : get_or piece (i + 1 + length (spelled part.marks)) 0 ≡ 34 = eqb-true (get_or piece (i + 1 + length (spelled part.marks)) 0) 34 (not_false _ both.0) in
     let close_quote = byte_spans piece (i + 1 + length (spelled part.marks)) 34 (omega arith) close in
     let same = ok_pair _ _ _ _ ok.1 in
@@ -348,9 +260,6 @@ pub record PairsRead {X : Type 0} (Is : Meaning X) (piece : List ℕ) (i j : ℕ
   pub ends : Meets ends_word (drop j piece)
   pub spans : Spans piece i j (pairs_text pairs)
 
-none_spans : (piece : List ℕ) (i : ℕ) → i ≤ length piece → Spans piece i i []
-none_spans piece i le = record { is = refl; more = omega arith; within = le }
-
 no_more : {X : Type 0} (Is : Meaning X) (piece : List ℕ) (i j : ℕ) (xs : List X) → i ≤ length piece → get_or piece i 0 ≢ 44 → Meets ends_word (drop i piece) → let l : Result (List X × ℕ) LineFault = Ok ([], i) in l ≡ Ok (xs, j) → PairsRead Is piece i j xs
 no_more {X} Is piece i j xs le no_comma ends e =
     let same = ok_pair {F = LineFault} {A = List X} [] xs i j e in
@@ -387,14 +296,10 @@ many_again {X} item_at Is piece again (suc n) i j xs enough le ends e = elim (ge
 
 -- ---- spaces
 
-not_not : (b : Bool) → not b ≡ false → b ≡ true
-not_not true e = refl
-not_not false e = absurd cc
-
 all_spaces : (w : List ℕ) → HasNone (λ b. not (b == 32)) w → w ≡ spaces (length w)
 all_spaces [] none = refl
 all_spaces (b ∷ w) none =
-    let is : b ≡ 32 = eqb-true b 32 (not_not (b == 32) none.0) in
+    let is : b ≡ 32 = eqb-true b 32 (not_false (b == 32) none.0) in
     rw is (ap (λ (t : List ℕ). 32 ∷ t) (all_spaces w none.1))
 
 -- spaces that were passed
@@ -628,7 +533,7 @@ unfolding reading text_reading metric_at
 read_is_written piece moment content e =
     let whole = utf8_chosen (is_utf8 piece) _ _ (Some content) e in
     let text = not_none (is_blank_or_comment piece) _ content whole.1 in
-    let first = or_false (behind_spaces piece 0 == length piece) (get_or piece (behind_spaces piece 0) 0 == 35) text.0 in
+    let first = or_parts (behind_spaces piece 0 == length piece) (get_or piece (behind_spaces piece 0) 0 == 35) text.0 in
     let read = some_ok (line_at piece (behind_spaces piece 0) moment) content text.1 in
     let s = spaces_again piece 0 (omega arith) in
     let line = line_again piece (behind_spaces piece 0) s.count read.0 moment s.spans.within first.1 read.1 in (

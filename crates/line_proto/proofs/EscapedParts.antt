@@ -1,12 +1,10 @@
 -- An escaped text is a part that means the text.
-use Rattle.std.proofs.Common.{◌≡◌, ◌<◌, ℕ, Bool, true, false, cond, eqb, List, [], ◌∷◌, ◌++◌, length}
-use Rattle.std.proofs.Common.{refl, sym, subst, ◌∙◌, arith, append_assoc, inl, inr, get_or, rules}
+use Rattle.std.proofs.Common.{◌≡◌, ◌<◌, ℕ, Bool, true, false, eqb, List, [], ◌∷◌}
+use Rattle.std.proofs.Common.{refl, sym, ◌∙◌, arith, inl, inr}
 use Rattle.std.specs.Prelude.{◌==◌, ◌||◌, ◌⊎◌, codes}
 use Rattle.std.specs.List.{list_any}
 use Rattle.std.specs.Str.{IsUtf8}
 use Rattle.std.proofs.lemmas.Bool.{eqb-true, eqb-false, ne_eqb, eq-eqb}
-use Rattle.std.proofs.lemmas.List.{take_at, drop_at, get_or_at, length-append}
-use Rattle.std.proofs.lemmas.Str.{IsUtf8-append, IsUtf8-take, IsUtf8-drop, IsUtf8-encode, encode_ascii, IsCharBoundary-before_ascii}
 use Rattle.text_parts.specs.Part.{Kind, is_escape}
 use Rattle.text_parts.specs.Grammar.{Ends}
 use Rattle.line_proto.specs.Kinds.{name_part, key_part, tag_value_part, text_part}
@@ -15,6 +13,7 @@ use Rattle.text_parts.specs.Escaped.{escaped}
 use Rattle.text_parts.specs.Escaped.{Suits, NoBackslashEnd}
 use Rattle.text_parts.specs.Marks.{escapes_of, is_mark_of}
 use Rattle.text_parts.proofs.Escaping.{escaped-same, written_as_it_is}
+use Rattle.text_parts.proofs.EscapedUtf8.{escaped_utf8}
 use Rattle.line_proto.specs.declared.write.TheConstants.{NAME_MARKS, KEY_MARKS, TEXT_MARKS}
 
 -- a byte is one of the marks
@@ -31,38 +30,9 @@ ends_before k b rest e none = (e, no_escape k b rest none)
 
 -- ---- UTF-8
 
-pub one_ascii : (c : ℕ) → c < 128 → IsUtf8 (c ∷ [])
-one_ascii c low = subst IsUtf8 (encode_ascii c low) (IsUtf8-encode c (search rules))
-
--- an ASCII byte can be put before another
-with_ascii : (xs ys : List ℕ) (b c : ℕ) → b < 128 → c < 128 → IsUtf8 (xs ++ b ∷ ys) → IsUtf8 (xs ++ c ∷ b ∷ ys)
-with_ascii xs ys b c small low u =
-    let at : get_or (xs ++ b ∷ ys) (length xs) 0 ≡ b = get_or_at xs b ys 0 (length xs) refl in
-    let below : get_or (xs ++ b ∷ ys) (length xs) 0 < 128 = omega arith in
-    let within : length xs < length (xs ++ b ∷ ys) = omega (arith, length-append xs (b ∷ ys)) in
-    let boundary = IsCharBoundary-before_ascii (xs ++ b ∷ ys) (length xs) within below in
-    let front : IsUtf8 xs = subst IsUtf8 (take_at xs (b ∷ ys) (length xs) refl) (IsUtf8-take (xs ++ b ∷ ys) (length xs) u boundary) in
-    let back : IsUtf8 (b ∷ ys) = subst IsUtf8 (drop_at xs (b ∷ ys) (length xs) refl) (IsUtf8-drop (xs ++ b ∷ ys) (length xs) u boundary) in
-    IsUtf8-append xs (c ∷ b ∷ ys) front (IsUtf8-append (c ∷ []) (b ∷ ys) (one_ascii c low) back)
-
-escaped_more : (marks : List ℕ) → ((b : ℕ) → is_mark marks b ≡ true → b < 128) → (front text : List ℕ) → IsUtf8 (front ++ text)
-    → IsUtf8 (front ++ escaped (as_written marks) text)
-unfolding escaped
-escaped_more marks low front [] u = u
-escaped_more marks low front (b ∷ bs) u =
-    elim (is_mark marks b) as (λ t. is_mark marks b ≡ t → IsUtf8 (front ++ (cond t (92 ∷ b ∷ []) (b ∷ []) ++ escaped (as_written marks) bs))) [
-      | true ↦ λ e.
-          let more = with_ascii front bs b 92 (low b e) (omega arith) u in
-          subst IsUtf8 (append_assoc front (92 ∷ b ∷ []) (escaped (as_written marks) bs))
-          (escaped_more marks low (front ++ 92 ∷ b ∷ []) bs (subst IsUtf8 (sym (append_assoc front (92 ∷ b ∷ []) bs)) more))
-      | false ↦ λ e.
-          subst IsUtf8 (append_assoc front (b ∷ []) (escaped (as_written marks) bs))
-          (escaped_more marks low (front ++ b ∷ []) bs (subst IsUtf8 (sym (append_assoc front (b ∷ []) bs)) u))
-    ] refl
-
 pub escaped-IsUtf8 : (marks : List ℕ) → ((b : ℕ) → is_mark marks b ≡ true → b < 128) → (text : List ℕ) → IsUtf8 text
     → IsUtf8 (escaped (as_written marks) text)
-escaped-IsUtf8 marks low text u = escaped_more marks low [] text u
+escaped-IsUtf8 marks low text u = escaped_utf8 (as_written marks) (record { marks = low; written = λ b small. small }) text u
 
 -- ---- the kinds of a line's parts
 

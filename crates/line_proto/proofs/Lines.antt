@@ -1,9 +1,6 @@
 -- A whole line.
 use Rattle.std.proofs.Common.{◌≡◌, ℕ, ℤ, ◌<◌, true, false, cond, List, [], ◌∷◌, length, Result, Ok, Err, Option, refl, sym, ap, subst, arith}
 use Rattle.std.specs.Prelude.{◌==◌, Some}
-use Rattle.std.specs.Str.Lossy.{utf8_valid_len}
-use Rattle.std.specs.Str.{IsUtf8, is_utf8}
-use Rattle.std.proofs.lemmas.Str.{IsUtf8-from_is_utf8, is_utf8-from_IsUtf8}
 use Rattle.text_parts.specs.Many.{items_at}
 use Rattle.text_parts.specs.declared.error.ReadError.{ReadError}
 use Rattle.text_parts.specs.declared.error.ReadError.TheVariants as errors
@@ -15,8 +12,8 @@ use Rattle.metric.specs.Pairs.{with_pair, in_first_order, in_first_order_on}
 use Rattle.metric.specs.Draft.{Tag, Field, Drafted, StandsFor, IsReady, drafted, has_too_many}
 use Rattle.metric.proofs.DraftLemmas.{longer_pair}
 use Rattle.line_proto.specs.declared.fault.LineFault.{LineFault}
-use Rattle.line_proto.specs.declared.fault.LineKind.TheVariants.{NotUtf8, NoFields, TooMany}
-use Rattle.line_proto.specs.Reading.{fault, behind_spaces, field_at, fields_at, name_at, tags_at, spaced_fields_at, time_at, line_at, limited, content_of, metric_at, text_reading, reading}
+use Rattle.line_proto.specs.declared.fault.LineKind.TheVariants.{NoFields, TooMany}
+use Rattle.line_proto.specs.Reading.{behind_spaces, field_at, fields_at, name_at, tags_at, spaced_fields_at, time_at, line_at, limited, content_of, metric_at}
 use Rattle.std.proofs.lemmas.Int.{to_z-of_z}
 use mir.Val.{SFits, of_z, to_z}
 use mir.Syntax.{w64}
@@ -125,25 +122,7 @@ ready piece k l draft tags fields name is filled read s = record {
   some = λ few. subst (λ (fs : List Field). 0 < length fs) (sym (s.fields_kept few)) (first_some fields (some_spaced piece k l fields read));
 }
 
--- ---- the piece
-
-pub not_utf8 : (piece : List ℕ) (n : ℕ) (moment : ℤ) → ¬ (IsUtf8 piece) → utf8_valid_len piece ≡ n → reading piece moment ≡ Err (record { kind = NotUtf8; place = n })
-unfolding reading
-not_utf8 piece n moment not len =
-    let none : is_utf8 piece ≡ false = elim (is_utf8 piece) as (λ t. is_utf8 piece ≡ t → t ≡ false) [ true ↦ λ e. absurd (not (IsUtf8-from_is_utf8 piece e)) | false ↦ λ e. refl ] refl in
-    rw (none, len) refl
-
-pub read_utf8 : (piece : List ℕ) (moment : ℤ) → IsUtf8 piece → reading piece moment ≡ text_reading piece moment
-unfolding reading
-read_utf8 piece moment u = rw (is_utf8-from_IsUtf8 piece u) refl
-
 -- ---- a moment that was handed on
 
 pub same_time : (piece bytes : List ℕ) (i : ℕ) (moment : ℤ) → SFits w64 moment → bytes ≡ piece → time_at bytes i (to_z w64 (of_z w64 moment)) ≡ time_at piece i moment
 same_time piece bytes i moment fits same = rw (same, to_z-of_z w64 moment fits) refl
-
-pub same_text : (piece text : List ℕ) (moment : ℤ) → SFits w64 moment → text ≡ piece → text_reading text (to_z w64 (of_z w64 moment)) ≡ text_reading piece moment
-same_text piece text moment fits same = rw (same, to_z-of_z w64 moment fits) refl
-
-pub fault_given : (e : ReadError LineFault) (fault : LineFault) (r : Result (Option Content) LineFault) → e ≡ errors.Fault fault → Fails e r → r ≡ Err fault
-fault_given e fault r is h = subst (λ (x : ReadError LineFault). Fails x r) is h

@@ -7,36 +7,25 @@ use Rattle.std.proofs.lemmas.Bool.{or_parts, and_parts, ltb-true}
 use Rattle.std.proofs.lemmas.List.{reverse-append}
 use Rattle.std.proofs.lemmas.Str.{IsUtf8-append, IsUtf8-from_ascii}
 use Rattle.text_parts.specs.Grammar.{HasNone}
+use Rattle.text_parts.proofs.Lacking.{none_append}
 use Rattle.line_proto.specs.OneLine.{ends_line}
 use Rattle.metric.specs.declared.value.Value.{Value}
 use Rattle.metric.specs.declared.value.Value.TheVariants.{Int, Uint, Fixed, «Bool» as Truth, Text}
 
 -- ---- bytes that pass no test
 
-pub none-append : (p : ℕ → Bool) (xs ys : List ℕ) → HasNone p xs → HasNone p ys → HasNone p (xs ++ ys)
-none-append p [] ys h k = k
-none-append p (x ∷ xs) ys h k = (h.0, none-append p xs ys h.1 k)
+pub none_at : (p : ℕ → Bool) (xs : List ℕ) (k : ℕ) → p 0 ≡ false → HasNone p xs → p (get_or xs k 0) ≡ false
+none_at p [] k past h = past
+none_at p (x ∷ xs) zero past h = h.0
+none_at p (x ∷ xs) (suc k) past h = none_at p xs k past h.1
 
-pub none-weaken : (p q : ℕ → Bool) → ((b : ℕ) → p b ≡ false → q b ≡ false) → (xs : List ℕ) → HasNone p xs → HasNone q xs
-none-weaken p q weaker [] h = tt
-none-weaken p q weaker (x ∷ xs) h = (weaker x h.0, none-weaken p q weaker xs h.1)
+none_reverse : (p : ℕ → Bool) (xs : List ℕ) → HasNone p xs → HasNone p (reverse xs)
+none_reverse p [] h = tt
+none_reverse p (x ∷ xs) h = subst (HasNone p) (sym (reverse-append (x ∷ []) xs)) (none_append p (reverse xs) (x ∷ []) (none_reverse p xs h.1) (h.0, tt))
 
-pub none-at : (p : ℕ → Bool) (xs : List ℕ) (k : ℕ) → p 0 ≡ false → HasNone p xs → p (get_or xs k 0) ≡ false
-none-at p [] k past h = past
-none-at p (x ∷ xs) zero past h = h.0
-none-at p (x ∷ xs) (suc k) past h = none-at p xs k past h.1
-
-none-any : (p : ℕ → Bool) (xs : List ℕ) → HasNone p xs → list_any p xs ≡ false
-none-any p [] h = refl
-none-any p (x ∷ xs) h = rw h.0 (none-any p xs h.1)
-
-none-reverse : (p : ℕ → Bool) (xs : List ℕ) → HasNone p xs → HasNone p (reverse xs)
-none-reverse p [] h = tt
-none-reverse p (x ∷ xs) h = subst (HasNone p) (sym (reverse-append (x ∷ []) xs)) (none-append p (reverse xs) (x ∷ []) (none-reverse p xs h.1) (h.0, tt))
-
-none-front : (p : ℕ → Bool) (xs : List ℕ) → HasNone p xs → prefix_len p xs ≡ 0
-none-front p [] h = refl
-none-front p (x ∷ xs) h = rw h.0 refl
+none_front : (p : ℕ → Bool) (xs : List ℕ) → HasNone p xs → prefix_len p xs ≡ 0
+none_front p [] h = refl
+none_front p (x ∷ xs) h = rw h.0 refl
 
 -- ---- what a test is made of
 
@@ -82,7 +71,7 @@ pub record Clean (text : List ℕ) : Type 0 where
   pub none : HasNone is_unclean text
 
 pub clean-append : (xs ys : List ℕ) → Clean xs → Clean ys → Clean (xs ++ ys)
-clean-append xs ys x y = record { utf8 = IsUtf8-append xs ys x.utf8 y.utf8; none = none-append is_unclean xs ys x.none y.none }
+clean-append xs ys x y = record { utf8 = IsUtf8-append xs ys x.utf8 y.utf8; none = none_append is_unclean xs ys x.none y.none }
 
 pub clean_none : Clean []
 clean_none = record { utf8 = ([], (refl, refl)); none = tt }

@@ -26,11 +26,8 @@ use Rattle.line_proto.specs.Reading.{Line, content_of, reading}
 use Rattle.line_proto.specs.OneLine.{ends_line}
 use Rattle.text_parts.specs.Escaped.{NoBackslashEnd}
 use Rattle.line_proto.specs.RoundTrip.{IsPlainWord, IsPlainValue, IsPlain}
+use Rattle.text_parts.proofs.Lacking.{none_append, none_split}
 use Rattle.line_proto.proofs.Again.{read_is_written}
-
-none_split : (p : ℕ → Bool) (xs ys : List ℕ) → HasNone p (xs ++ ys) → HasNone p xs × HasNone p ys
-none_split p [] ys h = (tt, h)
-none_split p (x ∷ xs) ys h = let rest = none_split p xs ys h.1 in ((h.0, rest.0), rest.1)
 
 -- ---- marks
 
@@ -225,7 +222,7 @@ line_plain w line moment is none few =
     let spaced = none_split ends_line (spaces w.gap) (pair_text w.first ++ (pairs_text w.others ++ behind_fields w)) tagged.1 in
     let first = none_split ends_line (pair_text w.first) (pairs_text w.others ++ behind_fields w) spaced.1 in
     let others = none_split ends_line (pairs_text w.others) (behind_fields w) first.1 in
-    let pairs : HasNone ends_line (pairs_text (w.first ∷ w.others)) = (refl, joined (pair_text w.first) (pairs_text w.others) first.0 others.0) in
+    let pairs : HasNone ends_line (pairs_text (w.first ∷ w.others)) = (refl, none_append ends_line (pair_text w.first) (pairs_text w.others) first.0 others.0) in
     let gap : BeginsHidden tag_value_part (behind_tags w) = hidden_spaces tag_value_part refl w.gap _ is.gap in
     let name_gap : BeginsHidden name_part (behind_name w) = hidden_pairs name_part refl w.tags (behind_tags w) (hidden_spaces name_part refl w.gap _ is.gap) in
     let limits = or_parts _ _ few in
@@ -239,10 +236,6 @@ line_plain w line moment is none few =
       fields = kept_first PlainField [] line.fields tt (fields_plain (w.first ∷ w.others) (behind_fields w) line.fields is.fields pairs);
       few_fields = most_fields;
     }
-  where
-    joined : (xs ys : List ℕ) → HasNone ends_line xs → HasNone ends_line ys → HasNone ends_line (xs ++ ys)
-    joined [] ys h k = k
-    joined (x ∷ xs) ys h k = (h.0, joined xs ys h.1 k)
 
 pub read_is_plain : (piece : List ℕ) (moment : ℤ) (content : Content) → HasNone ends_line piece → reading piece moment ≡ Ok (Some content) → IsPlain content
 read_is_plain piece moment content none e =

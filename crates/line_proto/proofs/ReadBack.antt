@@ -28,7 +28,8 @@ use Rattle.line_proto.specs.Reading.{Line, content_of, reading}
 use Rattle.line_proto.specs.OneLine.{ends_line}
 use Rattle.text_parts.specs.Escaped.{Escapes, Suits, NoBackslashEnd}
 use Rattle.line_proto.specs.RoundTrip.{IsPlainWord, IsPlainValue, IsPlain}
-use Rattle.line_proto.proofs.EscapedParts.{ends_before, one_ascii, escaped-IsUtf8, suits_name, suits_key, suits_tag_value, suits_text, name_low, key_low, text_low}
+use Rattle.text_parts.proofs.Utf8.{one_ascii}
+use Rattle.line_proto.proofs.EscapedParts.{ends_before, escaped-IsUtf8, suits_name, suits_key, suits_tag_value, suits_text, name_low, key_low, text_low}
 use Rattle.text_parts.proofs.Escaping.{escaped_is_part}
 use Rattle.metric.proofs.KeptPairs.{sorted_stay, distinct_stay, filled_stay, few}
 use Rattle.line_proto.proofs.NumberTexts.{plain_value, plain_time}
@@ -138,9 +139,6 @@ value_written (Text text) rest is plain =
 utf8_none : IsUtf8 []
 utf8_none = ([], (refl, refl))
 
-ascii : (b : ℕ) → b < 128 → IsUtf8 (b ∷ [])
-ascii b low = one_ascii b low
-
 key_utf8 : (key : List ℕ) → IsWord key → IsPlainWord key → IsUtf8 (key_text key)
 key_utf8 key is plain = subst IsUtf8 (sym (key_is key is.filled plain)) (escaped-IsUtf8 (codes ",= ") key_low key is.utf8)
 
@@ -152,12 +150,12 @@ value_utf8 (Fixed n) is plain = (plain_value (Fixed n) is tt).clean.utf8
 value_utf8 (Truth b) is plain = (plain_value (Truth b) is tt).clean.utf8
 value_utf8 (Text text) is plain =
     IsUtf8-append (34 ∷ escaped text_escapes (on_one_line text)) (34 ∷ [])
-    (IsUtf8-append (34 ∷ []) (escaped text_escapes (on_one_line text)) (ascii 34 (omega arith))
+    (IsUtf8-append (34 ∷ []) (escaped text_escapes (on_one_line text)) (one_ascii 34 (omega arith))
     (subst (λ (t : List ℕ). IsUtf8 (escaped text_escapes t)) (sym (one_line_is text plain)) (escaped-IsUtf8 (codes "\"\\") text_low text is)))
-    (ascii 34 (omega arith))
+    (one_ascii 34 (omega arith))
 
 pair_utf8 : (pair : List ℕ × List ℕ) → IsUtf8 pair.0 → IsUtf8 pair.1 → IsUtf8 (pair_text pair)
-pair_utf8 pair a b = IsUtf8-append pair.0 (61 ∷ pair.1) a (IsUtf8-append (61 ∷ []) pair.1 (ascii 61 (omega arith)) b)
+pair_utf8 pair a b = IsUtf8-append pair.0 (61 ∷ pair.1) a (IsUtf8-append (61 ∷ []) pair.1 (one_ascii 61 (omega arith)) b)
 
 -- ---- tags and fields
 
@@ -214,7 +212,7 @@ fields_are (field ∷ fields) rest is plain = (
 tags_utf8 : (tags : List Tag) → AllByRecursion metrics.IsTag tags → ArePlainTags tags → IsUtf8 (pairs_text (map written_tag tags))
 tags_utf8 [] is plain = utf8_none
 tags_utf8 (tag ∷ tags) is plain =
-    IsUtf8-append (44 ∷ []) (pair_text (written_tag tag) ++ pairs_text (map written_tag tags)) (ascii 44 (omega arith))
+    IsUtf8-append (44 ∷ []) (pair_text (written_tag tag) ++ pairs_text (map written_tag tags)) (one_ascii 44 (omega arith))
     (IsUtf8-append (pair_text (written_tag tag)) (pairs_text (map written_tag tags)) (pair_utf8 (written_tag tag) (key_utf8 tag.0 (is.0).0 (plain.0).0) (key_utf8 tag.1 (is.0).1 (plain.0).1)) (tags_utf8 tags is.1 plain.1))
 
 field_utf8 : (field : Field) → metrics.IsField field → IsPlainWord field.0 × IsPlainValue field.1 → IsUtf8 (pair_text (written_field field))
@@ -223,7 +221,7 @@ field_utf8 field is plain = pair_utf8 (written_field field) (key_utf8 field.0 is
 fields_utf8 : (fields : List Field) → AllByRecursion metrics.IsField fields → ArePlainFields fields → IsUtf8 (pairs_text (map written_field fields))
 fields_utf8 [] is plain = utf8_none
 fields_utf8 (field ∷ fields) is plain =
-    IsUtf8-append (44 ∷ []) (pair_text (written_field field) ++ pairs_text (map written_field fields)) (ascii 44 (omega arith))
+    IsUtf8-append (44 ∷ []) (pair_text (written_field field) ++ pairs_text (map written_field fields)) (one_ascii 44 (omega arith))
     (IsUtf8-append (pair_text (written_field field)) (pairs_text (map written_field fields)) (field_utf8 field is.0 plain.0) (fields_utf8 fields is.1 plain.1))
 
 -- ---- the line
@@ -280,10 +278,10 @@ line_is_line name tags field fields time moment is plain =
 line_utf8 : (name : List ℕ) (tags : List Tag) (field : Field) (fields : List Field) (time : ℤ) → IsMetric (made name tags (field ∷ fields) time)
     → IsPlain (made name tags (field ∷ fields) time) → IsUtf8 (line_spelling (written name tags field fields time))
 line_utf8 name tags field fields time is plain =
-    let spaced_time : IsUtf8 ((32 ∷ signed_decimal time) ++ []) = IsUtf8-append (32 ∷ signed_decimal time) [] (IsUtf8-append (32 ∷ []) (signed_decimal time) (ascii 32 (omega arith)) (plain_time time is.time).clean.utf8) utf8_none in
+    let spaced_time : IsUtf8 ((32 ∷ signed_decimal time) ++ []) = IsUtf8-append (32 ∷ signed_decimal time) [] (IsUtf8-append (32 ∷ []) (signed_decimal time) (one_ascii 32 (omega arith)) (plain_time time is.time).clean.utf8) utf8_none in
     let others = IsUtf8-append (pairs_text (map written_field fields)) ((32 ∷ signed_decimal time) ++ []) (fields_utf8 fields (is.fields).1 (plain.fields).1) spaced_time in
     let first = IsUtf8-append (pair_text (written_field field)) _ (field_utf8 field (is.fields).0 (plain.fields).0) others in
-    let behind_tags = IsUtf8-append (32 ∷ []) _ (ascii 32 (omega arith)) first in
+    let behind_tags = IsUtf8-append (32 ∷ []) _ (one_ascii 32 (omega arith)) first in
     let behind_name = IsUtf8-append (pairs_text (map written_tag tags)) _ (tags_utf8 tags is.tags plain.tags) behind_tags in
     let front : IsUtf8 (name_text name) = subst IsUtf8 (sym (name_is name is.name.filled plain.no_comment plain.name)) (escaped-IsUtf8 (codes ", ") name_low name is.name.utf8) in
     IsUtf8-append (name_text name) _ front behind_name

@@ -1,15 +1,15 @@
 -- What is written as a line is read as it.
-use Rattle.std.proofs.Common.{◌≡◌, ◌≢◌, ℕ, ℤ, zero, suc, ◌+◌, ◌<◌, ◌≤◌, Bool, true, false, eqb, List, [], ◌∷◌, ◌++◌, length, get_or, take, drop, Result, Ok, Option, Some, None, refl, sym, ap, subst, ◌∙◌, arith, add-zero, append_assoc}
+use Rattle.std.proofs.Common.{◌≡◌, ◌≢◌, ℕ, ℤ, zero, suc, ◌+◌, ◌<◌, ◌≤◌, Bool, true, false, eqb, List, [], ◌∷◌, ◌++◌, length, get_or, take, drop, Ok, Option, Some, None, refl, sym, ap, subst, ◌∙◌, arith, append_assoc}
 use Rattle.std.specs.Prelude.{◌||◌, ◌==◌, not, ◌⊎◌}
 use Rattle.std.proofs.Common.{inl, inr}
 use Rattle.std.specs.List.{position_or_len}
 use Rattle.std.specs.Str.{IsUtf8, is_utf8}
 use Rattle.std.proofs.lemmas.Str.{is_utf8-from_IsUtf8}
 use Rattle.std.proofs.lemmas.Bool.{ne_eqb, eq-eqb}
-use Rattle.std.proofs.lemmas.List.{take_at, drop_at, drop-drop, get_or-drop, length-append, append-nil}
-use Rattle.text_parts.specs.Part.{Kind, part_len, len_at, text_at, plain}
-use Rattle.text_parts.specs.Grammar.{Mark, Escaped, Bare, spelled, meant, IsPart, HasNone, IsWritten}
-use Rattle.text_parts.proofs.MarkLemmas.{part_is_read}
+use Rattle.std.proofs.lemmas.List.{take_at, length-append, append-nil}
+use Rattle.text_parts.specs.Part.{Kind, text_at}
+use Rattle.text_parts.specs.Grammar.{Mark, Escaped, Bare, spelled, IsPart, HasNone, IsWritten}
+use Rattle.text_parts.proofs.Takes.{At, at_start, step, over, at_byte, part_takes, not_none, Took}
 use Rattle.text_parts.proofs.Spans.{unhidden_part}
 use Rattle.text_parts.specs.Many.{Reader, many_at}
 use Rattle.metric.specs.declared.value.Value.{Value}
@@ -29,48 +29,10 @@ abbrev pub Meets : (ℕ → Bool) → List ℕ → Type 0
 Meets p [] = Unit {0}
 Meets p (b ∷ bs) = p b ≡ true
 
--- this text stands at a place of a piece, up to its end
-pub record At (piece : List ℕ) (i : ℕ) (text : List ℕ) : Type 0 where
-  pub is : drop i piece ≡ text
-  pub within : i + length text ≡ length piece
-
-pub at_start : (piece : List ℕ) → At piece 0 piece
-at_start piece = record { is = refl; within = omega arith }
-
-pub step : (piece : List ℕ) (i : ℕ) (w rest : List ℕ) → At piece i (w ++ rest) → At piece (i + length w) rest
-step piece i w rest at = record {
-  is = sym (drop-drop (length w) i piece) ∙ ap (drop (length w)) at.is ∙ drop_at w rest (length w) refl;
-  within = omega (arith, at.within, length-append w rest);
-}
-
-pub over : (piece : List ℕ) (i b : ℕ) (rest : List ℕ) → At piece i (b ∷ rest) → At piece (i + 1) rest
-over piece i b rest at = step piece i (b ∷ []) rest at
-
-pub at_byte : (piece : List ℕ) (i : ℕ) (text : List ℕ) → At piece i text → get_or piece i 0 ≡ get_or text 0 0
-at_byte piece i text at = sym (get_or-drop i piece 0 0 ∙ rw add-zero refl) ∙ ap (λ (l : List ℕ). get_or l 0 0) at.is
-
 pub word_len : (p : ℕ → Bool) (w rest : List ℕ) → HasNone p w → Meets p rest → position_or_len p (w ++ rest) ≡ length w
 word_len p [] [] none ends = refl
 word_len p [] (b ∷ rest) none ends = rw ends refl
 word_len p (b ∷ w) rest none ends = rw none.0 (ap (λ (n : ℕ). 1 + n) (word_len p w rest none.1 ends) ∙ omega arith)
-
--- a part is read up to its end, as what it means
-pub part_takes : (k : Kind) (piece : List ℕ) (i : ℕ) (w rest : List ℕ) (marks : List Mark) → At piece i (w ++ rest)
-    → w ≡ spelled marks → IsPart k marks rest → (len_at k piece i ≡ length w) × (text_at k piece i ≡ meant k marks)
-part_takes k piece i w rest marks at is part =
-    let read = part_is_read k marks rest part in
-    let here : drop i piece ≡ spelled marks ++ rest = at.is ∙ ap (λ (t : List ℕ). t ++ rest) is in
-    let len : part_len k (drop i piece) ≡ length (spelled marks) = ap (part_len k) here ∙ read.0 in
-    let cut : take (part_len k (drop i piece)) (drop i piece) ≡ spelled marks =
-    ap (λ (n : ℕ). take n (drop i piece)) len ∙ ap (take (length (spelled marks))) here ∙ take_at (spelled marks) rest (length (spelled marks)) refl in
-    (len ∙ ap length (sym is), ap (plain k) cut ∙ read.1)
-
-not_none : (w : List ℕ) → 0 < length w → (length w == 0) ≡ false
-not_none w some = ne_eqb _ _ (λ e. absurd (omega arith))
-
--- what was read, and that the rest stands behind it
-abbrev pub Took : {A : Type 0} → Result (A × ℕ) LineFault → List ℕ → List ℕ → A → Type 0
-Took reading piece rest x = (behind : ℕ) × (reading ≡ Ok (x, behind)) × At piece behind rest
 
 name_takes : (piece : List ℕ) (i : ℕ) (w rest name : List ℕ) → At piece i (w ++ rest) → IsWritten name_part w rest name
     → Took (name_at piece i) piece rest name

@@ -22,7 +22,8 @@ use Rattle.line_proto.specs.Grammar.{IsTag, IsField, is_space}
 use Rattle.line_proto.specs.Reading.{fault, placed, name_at, key_at, tag_value_at, tag_at, text_value_at, plain_value_at, value_at}
 use Rattle.line_proto.specs.Reading.{field_at, tags_at, fields_at, behind_spaces, spaced_fields_at, time_len, written_time_at, time_at, line_at}
 use Rattle.line_proto.specs.Reading.{limited, content_of, metric_at, is_blank_or_comment, is_value_end, text_reading, reading}
-use Rattle.line_proto.proofs.Again.{PairRead, ends_meet, name_again, key_again, tag_again, field_again, many_again, byte_spans, spaces_again, spaced_fields_again}
+use Rattle.text_parts.proofs.Stands.{byte_spans}
+use Rattle.line_proto.proofs.Again.{PairRead, ends_meet, name_again, key_again, tag_again, field_again, many_again, spaces_again, spaced_fields_again}
 
 place_or : {A : Type 0} → Result A LineFault → ℕ
 place_or (Ok x) = 0

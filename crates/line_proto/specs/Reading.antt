@@ -1,5 +1,5 @@
 -- Reading a line from left to right, with the first fault that is met.
-use Rattle.std.specs.Prelude.{ℕ, ℤ, ◌+◌, ◌==◌, ◌||◌, not, Bool, List, ◌∷◌, length, take, drop, Option, Some}
+use Rattle.std.specs.Prelude.{ℕ, ℤ, ◌+◌, ◌==◌, ◌||◌, not, Bool, List, length, take, drop, Option, Some}
 use Rattle.std.specs.Prelude.{None, Result, Ok, Err, slice_index, if◌then◌else◌}
 use Rattle.std.specs.List.{position_or_len}
 use Rattle.std.specs.Str.{is_utf8}
@@ -7,7 +7,7 @@ use Rattle.std.specs.Str.Lossy.{utf8_valid_len}
 use Rattle.text_parts.specs.Bytes.{space, double_quote, hash, comma, equals_sign}
 use Rattle.text_parts.specs.Chain.{◌>>=◌}
 use Rattle.text_parts.specs.Part.{len_at, text_at}
-use Rattle.text_parts.specs.Many.{items_at}
+use Rattle.text_parts.specs.Many.{items_at, some_items_at}
 use Rattle.metric.specs.declared.value.Value.{Value}
 use Rattle.metric.specs.declared.value.Value.TheVariants as values
 use Rattle.metric.specs.declared.metric.Content.{Content}
@@ -95,10 +95,7 @@ tags_at piece i = items_at tag_at comma piece i
 
 -- the fields, with commas between them
 unfoldable pub fields_at : List ℕ → ℕ → Result (List Field × ℕ) LineFault
-fields_at piece i = do
-  first ← field_at piece i
-  others ← items_at field_at comma piece first.1
-  Ok (first.0 ∷ others.0, others.1)
+fields_at piece i = some_items_at field_at comma piece i
 
 -- the fields behind spaces; where nothing follows the spaces there are none
 unfoldable pub spaced_fields_at : List ℕ → ℕ → Result (List Field × ℕ) LineFault

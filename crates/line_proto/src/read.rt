@@ -38,6 +38,7 @@ fn read_spaced_fields(
 }
 
 /// The metric of a draft at a time, unless there are too many tags or fields.
+#[inline(always)]
 fn finish(draft: Draft, time: Moment) -> Result<Option<Metric>, ReadError<LineFault>>
     requires { IsReady draft }
     ensures { (tags : List Tag) (fields : List Field) → StandsFor draft tags fields

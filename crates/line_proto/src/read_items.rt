@@ -26,6 +26,7 @@ fn comma_at(piece: &str, at: usize) -> bool
 }
 
 /// A metric whose measurement stands there, with no tags and no fields yet.
+#[inline(always)]
 pub(crate) fn begin(alloc: Global, piece: &str, name: &Span) -> Result<Draft, ReadError<LineFault>>
     requires { IsSpan name_part piece.now name.now }
     ensures name { IfOk result (λ draft. draft.parts.name ≡ text_at name_part piece.now name.now.start) }

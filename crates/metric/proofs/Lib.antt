@@ -8,3 +8,4 @@ pub mod GlobTextLemmas
 pub mod KeptLemmas
 pub mod DraftLemmas
 pub mod KeptPairs
+pub mod NumberLemmas

@@ -1,5 +1,5 @@
 -- What is true of a metric in the making, and of one that is made.
-use Rattle.std.proofs.Common.{◌≡◌, ◌<◌, ℕ, ℤ, true, false, cond, not, List, [], ◌∷◌, length, refl, arith}
+use Rattle.std.proofs.Common.{◌≡◌, ◌<◌, ℕ, ℤ, true, false, cond, not, List, [], ◌∷◌, length, refl, ap, arith}
 use Rattle.std.specs.List.{AllByRecursion, IsDistinct}
 use Rattle.std.specs.List.Sorted.{IsStrictlySortedBy}
 use Rattle.std.specs.declared.cmp.Ordering.TheVariants.{Less, Equal, Greater}
@@ -8,7 +8,7 @@ use Rattle.std.specs.Str.{IsUtf8, bytes_eq}
 use Rattle.std.specs.Prelude.{◌==◌, FitsSigned, Result, Ok, Err, OnOk, OnErr}
 use Rattle.fixed_num.specs.declared.memory.OutOfMemory.{OutOfMemory}
 use Rattle.std.proofs.lemmas.Bool.{eqb-false, or_parts}
-use Rattle.metric.specs.Pairs.{with_pair, with_sorted, beside, with_values, has_empty_key, IsInKeyOrder}
+use Rattle.metric.specs.Pairs.{with_pair, with_sorted, beside, with_values, has_empty_key, has_empty_value, IsInKeyOrder}
 use Rattle.metric.specs.Building.{Parts, IsBuilt}
 use Rattle.metric.specs.Metric.{IsMetric, IsFilled, IsWord, IsValue, IsTag, IsField}
 use Rattle.metric.specs.declared.value.Value.{Value}
@@ -94,6 +94,14 @@ sorted_tags [] h = tt
 sorted_tags (tag ∷ tags) h =
     elim (length tag.1 == 0) as (λ t. IsInKeyOrder (cond (not t) (tag ∷ with_values tags) (with_values tags)))
     [ true ↦ sorted_tags tags h.1 | false ↦ (some_tags (λ k. key_cmp tag.0 k ≡ Less) tags h.0, sorted_tags tags h.1) ]
+
+-- where no value is empty, no tag is left out
+pub all_valued : (tags : List (List ℕ × List ℕ)) → has_empty_value tags ≡ false → tags ≡ with_values tags
+all_valued [] e = refl
+all_valued (tag ∷ tags) e =
+    let parts = or_parts _ _ e in
+    let first : (length tag.1 == 0) ≡ false = parts.0 in
+    rw first (ap (λ others. tag ∷ others) (all_valued tags parts.1))
 
 -- the parts make a metric, where nothing is wrong with them
 pub is_metric : (p : Parts) (time : ℤ) → IsBuilt p → FitsSigned w64 time

@@ -3,6 +3,7 @@ pub mod Draft
 pub mod Glob
 pub mod GlobScan
 pub mod Metric
+pub mod Numbers
 pub mod Pairs
 pub mod Plain
 pub mod Text

@@ -5,8 +5,8 @@ ghost use Rattle.std.specs.Str.{bytes_eq};
 ghost use Rattle.metric.specs.Building.{finished, Finishes};
 ghost use Rattle.metric.specs.Metric.{IsValue};
 ghost use Rattle.metric.specs.declared.builder.BuildFault.TheVariants.{OutOfMemory};
-ghost use Rattle.metric.specs.Pairs.{with_pair, with_sorted, has_empty_key, with_values, HasPlace};
-ghost use Rattle.metric.specs.Pairs.{IsInKeyOrder};
+ghost use Rattle.metric.specs.Pairs.{with_pair, with_sorted, has_empty_key, has_empty_value, HasPlace};
+ghost use Rattle.metric.specs.Pairs.{with_values, IsInKeyOrder};
 
 use crate::{Content, Metric, Text, Value};
 use fixed_num::{Moment, OutOfMemory, Seq};
@@ -52,8 +52,8 @@ impl fmt::Display for BuildFault {
 pub struct Builder {
     alloc: Global,
     name: Text,
-    tags: Vec<(Text, Text)>,
-    fields: Vec<(Text, Value)>,
+    tags: Seq<(Text, Text)>,
+    fields: Seq<(Text, Value)>,
 }
 
 impl Model for Builder {
@@ -61,24 +61,24 @@ impl Model for Builder {
 
     ghost Value = { Parts };
 
-    ghost view = { λ b. record { name = b.name; tags = b.tags.items; fields = b.fields.items } };
+    ghost view = { λ b. record { name = b.name; tags = b.tags; fields = b.fields } };
 
     ghost invariant = { λ b. IsBuilt
-        (record { name = b.name; tags = b.tags.items; fields = b.fields.items }) };
+        (record { name = b.name; tags = b.tags; fields = b.fields }) };
 }
-
-/// Tags and fields that find room before memory is asked for again.
-const ROOM: usize = 8;
 
 impl Builder {
     /// A metric of this name, with no tags and no fields yet.
+    #[inline(always)]
     pub fn new(alloc: Global, name: &str) -> Result<Builder, OutOfMemory>
         ensures { IfOk result (λ b. b ≡ record { name = name.now; tags = []; fields = [] }) }
     {
-        Builder::with_room(alloc, name, ROOM, ROOM)
+        Builder::with_room(alloc, name, 1, 1)
     }
 
-    /// The same, with room for so many tags and fields before memory is asked for again.
+    /// The same, with room for so many tags and fields before memory is asked for again. A single tag and a single
+    /// field take no memory but that of the builder.
+    #[inline(always)]
     pub fn with_room(
         alloc: Global,
         name: &str,
@@ -90,8 +90,8 @@ impl Builder {
         Ok(Builder {
             alloc,
             name: Text::of(alloc, name)?,
-            tags: Vec::with_capacity(alloc, tags)?,
-            fields: Vec::with_capacity(alloc, fields)?,
+            tags: Seq::with_room(alloc, tags)?,
+            fields: Seq::with_room(alloc, fields)?,
         })
     }
 
@@ -119,18 +119,19 @@ impl Builder {
     pub fn tag_count(&self) -> usize
         ensures { result ≡ length self.now.tags }
     {
-        self.tags.len()
+        self.tags.as_slice().len()
     }
 
     /// How many fields there are.
     pub fn field_count(&self) -> usize
         ensures { result ≡ length self.now.fields }
     {
-        self.fields.len()
+        self.fields.as_slice().len()
     }
 
     /// The metric at a time, without the tags whose value is empty. EmptyName exactly where the name is
     /// empty; else EmptyKey exactly where a key is; else NoFields exactly where there is no field.
+    #[inline(always)]
     pub fn finish(self, time: Moment) -> Result<Metric, BuildFault>
         ensures { Finishes result (finished self time) }
     {
@@ -140,22 +141,22 @@ impl Builder {
         if tag_without_key(self.tags.as_slice()) || field_without_key(self.fields.as_slice()) {
             return Err(BuildFault::EmptyKey);
         }
-        if self.fields.is_empty() {
+        if self.fields.as_slice().is_empty() {
             return Err(BuildFault::NoFields);
         }
         let Builder {
             alloc,
             name,
-            mut tags,
+            tags,
             fields,
         } = self;
-        keep_valued(&mut tags);
+        let tags = valued(alloc, tags)?;
         Ok(Metric::of(
             alloc,
             Content {
                 name,
-                tags: list_of(tags),
-                fields: list_of(fields),
+                tags,
+                fields,
                 time,
             },
         )?)
@@ -187,21 +188,18 @@ fn in_range(value: &Value)
 /// One more tag among tags sorted by key.
 pub(crate) fn put_tag(
     alloc: Global,
-    tags: &mut Vec<(Text, Text)>,
+    tags: &mut Seq<(Text, Text)>,
     key: &str,
     value: &str,
 ) -> Result<(), OutOfMemory>
-    requires { IsInKeyOrder tags.old.items }
-    ensures ok { OnOk result (tags.new.items ≡ with_sorted tags.old.items key.now value.now) }
-    ensures err { OnErr result (tags.new.items ≡ tags.old.items) }
+    requires { IsInKeyOrder tags.old }
+    ensures ok { OnOk result (tags.new ≡ with_sorted tags.old key.now value.now) }
+    ensures err { OnErr result (tags.new ≡ tags.old) }
 {
-    let value = Text::of(alloc, value)?;
+    let tag = (Text::of(alloc, key)?, Text::of(alloc, value)?);
     match place_of(tags.as_slice(), key) {
-        Ok(i) => tags[i].1 = value,
-        Err(i) => {
-            let key = Text::of(alloc, key)?;
-            tags.insert(i, (key, value))?;
-        }
+        Ok(i) => tags.set(i, tag),
+        Err(i) => tags.insert(alloc, i, tag)?,
     }
     Ok(())
 }
@@ -209,19 +207,17 @@ pub(crate) fn put_tag(
 /// One more field.
 fn put_field(
     alloc: Global,
-    fields: &mut Vec<(Text, Value)>,
+    fields: &mut Seq<(Text, Value)>,
     key: &str,
     value: Value,
 ) -> Result<(), OutOfMemory>
-    ensures ok { OnOk result (fields.new.items ≡ with_pair fields.old.items key.now value) }
-    ensures err { OnErr result (fields.new.items ≡ fields.old.items) }
+    ensures ok { OnOk result (fields.new ≡ with_pair fields.old key.now value) }
+    ensures err { OnErr result (fields.new ≡ fields.old) }
 {
+    let field = (Text::of(alloc, key)?, value);
     match field_at(fields.as_slice(), key) {
-        Some(i) => fields[i].1 = value,
-        None => {
-            let key = Text::of(alloc, key)?;
-            fields.push((key, value))?;
-        }
+        Some(i) => fields.set(i, field),
+        None => fields.push(alloc, field)?,
     }
     Ok(())
 }
@@ -264,17 +260,33 @@ fn field_without_key(fields: &[(Text, Value)]) -> bool
     fields.iter().any(|field| field.0.as_str().is_empty())
 }
 
-/// The list of some items. A single one stands in place, so that a metric takes memory for more than one alone.
-fn list_of<T: Drop>(mut items: Vec<T>) -> Seq<T>
-    ensures { result ≡ items.items }
+/// Has a tag an empty value?
+fn tag_without_value(tags: &[(Text, Text)]) -> bool
+    ensures { result ≡ has_empty_value tags.now }
 {
-    if items.len() != 1 {
-        return Seq::of(items);
+    tags.iter().any(|tag| tag.1.as_str().is_empty())
+}
+
+/// The tags whose value isn't empty.
+#[inline(always)]
+fn valued(alloc: Global, tags: Seq<(Text, Text)>) -> Result<Seq<(Text, Text)>, OutOfMemory>
+    ensures { IfOk result (λ kept. kept ≡ with_values tags) }
+{
+    if !tag_without_value(tags.as_slice()) {
+        return Ok(tags);
     }
-    match items.pop() {
-        Some(item) => Seq::of_one(item),
-        None => Seq::of(items),
-    }
+    valued_alone(alloc, tags)
+}
+
+/// The same, where there may be a tag whose value is empty.
+#[cold]
+#[inline(never)]
+fn valued_alone(alloc: Global, tags: Seq<(Text, Text)>) -> Result<Seq<(Text, Text)>, OutOfMemory>
+    ensures { IfOk result (λ kept. kept ≡ with_values tags) }
+{
+    let mut tags = tags.into_vec(alloc)?;
+    keep_valued(&mut tags);
+    Ok(Seq::of(tags))
 }
 
 /// Leaves out the tags whose value is empty.

@@ -40,6 +40,7 @@ impl Model for Draft {
 
 impl Draft {
     /// A metric of this name, with no tags and no fields yet.
+    #[inline(always)]
     pub fn new(alloc: Global, name: &str) -> Result<Draft, OutOfMemory>
         ensures name { IfOk result (λ draft. draft.parts.name ≡ name.now) }
         ensures none { IfOk result (λ draft. StandsFor draft [] []) }
@@ -86,6 +87,7 @@ impl Draft {
 
     /// The metric at a time, of a draft with a name and a field. TooMany exactly where there are too many tags or
     /// fields.
+    #[inline(always)]
     pub fn finish(self, time: Moment) -> Result<Metric, DraftFault>
         requires { IsReady self }
         ensures { (tags : List Tag) (fields : List Field) → StandsFor self tags fields

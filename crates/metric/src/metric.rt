@@ -1,5 +1,5 @@
 //! Metrics.
-ghost use Rattle.std.specs.Prelude.{◌≡◌, ◌↔◌, All, IfOk, IsTrue};
+ghost use Rattle.std.specs.Prelude.{◌≡◌, ◌≤◌, ◌↔◌, All, IfOk, IsTrue, drop, length};
 ghost use Rattle.std.proofs.Common.{rules};
 ghost use Rattle.std.specs.Cmp.Rules.{comparing};
 ghost use Rattle.std.specs.Option.{option_copied};
@@ -48,6 +48,7 @@ impl Metric {
     /// The metric of a content of which all holds that is true of each metric: its texts are UTF-8, its name,
     /// its keys and the values of its tags are filled, the keys of its tags rise, those of its fields are
     /// distinct, and it has a field.
+    #[inline(always)]
     pub fn of(alloc: Global, content: Content) -> Result<Metric, OutOfMemory>
         requires { IsMetric content }
         ensures { IfOk result (λ m. m ≡ content) }
@@ -102,12 +103,28 @@ impl Metric {
         if from == given.len() {
             return Ok(self);
         }
+        self.with_missing(alloc, given, from)
+    }
+
+    // The same, with the tags of the list from a place on, of which it lacks one.
+    #[inline(never)]
+    fn with_missing(
+        self,
+        alloc: Global,
+        given: &[(Text, Text)],
+        from: usize,
+    ) -> Result<Metric, OutOfMemory>
+        requires filled { All IsFilledTag given.now }
+        requires within { from ≤ length given.now }
+        ensures { IfOk result
+            (λ m. m ≡ record self { tags = with_all_missing self.tags (drop from given.now) }) }
+    {
         self.is_metric();
         let mut tags = tag_copies(alloc, self.tags(), given.len() - from)?;
         add_missing(alloc, &mut tags, given, from)?;
         let content = Content {
             name: Text::of(alloc, self.name().as_str())?,
-            tags: Seq::of(tags),
+            tags,
             fields: Seq::of(field_copies(alloc, self.fields())?),
             time: self.time(),
         };

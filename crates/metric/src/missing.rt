@@ -6,7 +6,7 @@ ghost use Rattle.metric.specs.Pairs.{has_key, with_missing, with_all_missing, Is
 
 use crate::builder::put_tag;
 use crate::{Text, Value};
-use fixed_num::OutOfMemory;
+use fixed_num::{OutOfMemory, Seq};
 use std::alloc::Global;
 
 /// Has a tag this key?
@@ -39,18 +39,18 @@ pub(crate) fn behind_known(tags: &[(Text, Text)], given: &[(Text, Text)]) -> usi
 /// Adds a tag at its place by key where no tag has its key.
 fn add_one(
     alloc: Global,
-    tags: &mut Vec<(Text, Text)>,
+    tags: &mut Seq<(Text, Text)>,
     key: &str,
     value: &str,
 ) -> Result<(), OutOfMemory>
-    requires sorted { IsInKeyOrder tags.old.items }
-    requires each { AllByRecursion IsTag tags.old.items }
+    requires sorted { IsInKeyOrder tags.old }
+    requires each { AllByRecursion IsTag tags.old }
     requires key { IsFilled key.now }
     requires value { IsFilled value.now }
     ensures added { OnOk result
-        (tags.new.items ≡ with_missing tags.old.items (record { 0 = key.now; 1 = value.now })) }
-    ensures sorted { OnOk result (IsInKeyOrder tags.new.items) }
-    ensures each { OnOk result (AllByRecursion IsTag tags.new.items) }
+        (tags.new ≡ with_missing tags.old (record { 0 = key.now; 1 = value.now })) }
+    ensures sorted { OnOk result (IsInKeyOrder tags.new) }
+    ensures each { OnOk result (AllByRecursion IsTag tags.new) }
 {
     if has_key(tags.as_slice(), key) {
         return Ok(());
@@ -62,18 +62,18 @@ fn add_one(
 /// Adds the tags of the list from a place on, each where no tag has its key then.
 pub(crate) fn add_missing(
     alloc: Global,
-    tags: &mut Vec<(Text, Text)>,
+    tags: &mut Seq<(Text, Text)>,
     given: &[(Text, Text)],
     from: usize,
 ) -> Result<(), OutOfMemory>
-    requires sorted { IsInKeyOrder tags.old.items }
-    requires each { AllByRecursion IsTag tags.old.items }
+    requires sorted { IsInKeyOrder tags.old }
+    requires each { AllByRecursion IsTag tags.old }
     requires filled { All IsFilledTag given.now }
     requires within { from ≤ length given.now }
     ensures added { OnOk result
-        (tags.new.items ≡ with_all_missing tags.old.items (drop from given.now)) }
-    ensures sorted { OnOk result (IsInKeyOrder tags.new.items) }
-    ensures each { OnOk result (AllByRecursion IsTag tags.new.items) }
+        (tags.new ≡ with_all_missing tags.old (drop from given.now)) }
+    ensures sorted { OnOk result (IsInKeyOrder tags.new) }
+    ensures each { OnOk result (AllByRecursion IsTag tags.new) }
 {
     for i in from..given.len() {
         add_one(alloc, tags, given[i].0.as_str(), given[i].1.as_str())?;
@@ -86,8 +86,8 @@ pub(crate) fn tag_copies(
     alloc: Global,
     tags: &[(Text, Text)],
     more: usize,
-) -> Result<Vec<(Text, Text)>, OutOfMemory>
-    ensures { IfOk result (λ copies. copies.items ≡ tags.now) }
+) -> Result<Seq<(Text, Text)>, OutOfMemory>
+    ensures { IfOk result (λ copies. copies ≡ tags.now) }
 {
     let mut copies = Vec::with_capacity(alloc, tags.len().saturating_add(more))?;
     for tag in tags {
@@ -96,7 +96,7 @@ pub(crate) fn tag_copies(
             Text::of(alloc, tag.1.as_str())?,
         ))?;
     }
-    Ok(copies)
+    Ok(Seq::of(copies))
 }
 
 /// The same fields.

@@ -1,15 +1,16 @@
 -- What is read as a sample is written as one.
-use Rattle.std.proofs.Common.{◌≡◌, ℕ, zero, suc, ◌+◌, ◌<◌, ◌≤◌, Bool, true, false, cond, ltb, List, [], ◌∷◌, ◌++◌, length, get_or, take, drop, Result, Ok, Err, refl, sym, ap, subst, ◌∙◌, arith, append_assoc, drop-cons, add-one}
+use Rattle.std.proofs.Common.{◌≡◌, ℕ, zero, suc, ◌+◌, ◌<◌, ◌≤◌, Bool, true, false, cond, List, [], ◌∷◌, ◌++◌, length, get_or, take, drop, Result, Ok, refl, sym, ap, subst, ◌∙◌, arith, append_assoc}
 use Rattle.std.specs.Prelude.{◌||◌, ◌==◌, not}
 use Rattle.std.specs.List.{position_or_len}
 use Rattle.std.specs.Char.{is_ascii_digit}
-use Rattle.std.proofs.lemmas.Bool.{eqb-true, eqb-false, ltb-true, ltb-false, and_parts}
-use Rattle.std.proofs.lemmas.List.{take_at, drop-drop, get_or-take, get_or_past, length-append, length-drop, length-take, take-append-drop}
+use Rattle.std.proofs.lemmas.Bool.{eqb-true, eqb-false, and_parts, or_parts}
+use Rattle.std.proofs.lemmas.List.{get_or-take, length-take}
 use Rattle.text_parts.specs.Chain.{◌>>=◌}
-use Rattle.text_parts.specs.Part.{Kind, part_len, len_at, text_at, plain, is_escape}
+use Rattle.text_parts.specs.Part.{is_escape}
 use Rattle.text_parts.specs.Grammar.{Mark, Escaped, Bare, spelled, meant, IsPart}
 use Rattle.text_parts.specs.Many.{many_at, items_at}
-use Rattle.text_parts.proofs.MarkLemmas.{found, part_is_read}
+use Rattle.text_parts.proofs.Founds.{bind_ok, chosen_ok, taken_ok, ok_pair, not_false}
+use Rattle.text_parts.proofs.Stands.{Spans, joins, none_spans, byte_spans, front_spans, part_again}
 use Rattle.text_parts.proofs.Spans.{position_or_len_le}
 use Rattle.text_parts.proofs.Splits.{before_none}
 use Rattle.metric.specs.Draft.{Tag}
@@ -17,69 +18,6 @@ use Rattle.openmetrics_text.specs.declared.fault.ExpositionKind.{ExpositionKind}
 use Rattle.openmetrics_text.specs.Names.{ends_label, name_len}
 use Rattle.openmetrics_text.specs.Labels.{value_part, label_len, is_opened_at, label_name_at, label_value_at, label_at, some_labels_at, has_twice, names_of, closed_at, labels_at}
 use Rattle.openmetrics_text.specs.Grammar.{label_text, more_labels_text, labels_text, IsName, IsLabel, AreLabels}
-
--- ---- chains that gave an answer
-
-pub bind_ok : {F A B : Type 0} (r : Result A F) (next : A → Result B F) (y : B) → (r >>= next) ≡ Ok y → (x : A) × (r ≡ Ok x) × (next x ≡ Ok y)
-bind_ok (Ok x) next y e = (x, refl, e)
-bind_ok (Err fault) next y e = absurd cc
-
-pub chosen_ok : {F A : Type 0} (t : Bool) (fault : F) (r : Result A F) (y : A) → cond t (Err fault) r ≡ Ok y → (t ≡ false) × (r ≡ Ok y)
-chosen_ok true fault r y e = absurd cc
-chosen_ok false fault r y e = (refl, e)
-
-pub taken_ok : {F A : Type 0} (t : Bool) (fault : F) (r : Result A F) (y : A) → cond t r (Err fault) ≡ Ok y → (t ≡ true) × (r ≡ Ok y)
-taken_ok true fault r y e = (refl, e)
-taken_ok false fault r y e = absurd cc
-
-ok_or : {F A : Type 0} → A → Result A F → A
-ok_or a (Ok x) = x
-ok_or a (Err fault) = a
-
-pub same_ok : {F A : Type 0} (a b : A) → let l : Result A F = Ok a in let r : Result A F = Ok b in l ≡ r → a ≡ b
-unfolding ok_or
-same_ok {F} {A} a b e = ap (ok_or {F = F} a) e
-
-pub ok_pair : {F A : Type 0} (a b : A) (m n : ℕ) → let l : Result (A × ℕ) F = Ok (a, m) in let r : Result (A × ℕ) F = Ok (b, n) in l ≡ r → (a ≡ b) × (m ≡ n)
-ok_pair {F} {A} a b m n e = let same = same_ok {F = F} (a, m) (b, n) e in (ap (λ (p : A × ℕ). p.0) same, ap (λ (p : A × ℕ). p.1) same)
-
-or_false : (a b : Bool) → (a || b) ≡ false → (a ≡ false) × (b ≡ false)
-or_false true b e = absurd cc
-or_false false b e = (refl, e)
-
-pub not_false : (b : Bool) → not b ≡ false → b ≡ true
-not_false true e = refl
-not_false false e = absurd cc
-
--- ---- places
-
--- the text stands between two places
-pub record Spans (line : List ℕ) (i j : ℕ) (text : List ℕ) : Type 0 where
-  pub is : drop i line ≡ text ++ drop j line
-  pub more : i ≤ j
-  pub within : j ≤ length line
-
-pub joins : (line : List ℕ) (i j k : ℕ) (a b : List ℕ) → Spans line i j a → Spans line j k b → Spans line i k (a ++ b)
-joins line i j k a b x y = record { is = x.is ∙ ap (λ (t : List ℕ). a ++ t) y.is ∙ sym (append_assoc a b (drop k line)); more = omega (arith, x.more, y.more); within = y.within }
-
-byte_at : (line : List ℕ) (m b : ℕ) → 0 < b → get_or line m 0 ≡ b → drop m line ≡ b ∷ drop (m + 1) line
-byte_at line m b some e =
-    let within : m < length line = is_within line m (omega arith) in
-    rw add-one (drop-cons line m 0 within ∙ ap (λ (x : ℕ). x ∷ drop (suc m) line) e)
-  where
-    is_within : (line : List ℕ) (m : ℕ) → 0 < get_or line m 0 → m < length line
-    is_within line m some = elim (ltb m (length line)) as (λ t. ltb m (length line) ≡ t → m < length line) [
-      | true ↦ λ lt. ltb-true m (length line) lt
-      | false ↦ λ ge. absurd (omega (arith, get_or_past line m 0 (ltb-false m (length line) ge)))
-    ] refl
-
-pub byte_spans : (line : List ℕ) (m b : ℕ) → 0 < b → get_or line m 0 ≡ b → Spans line m (m + 1) (b ∷ [])
-byte_spans line m b some e =
-    let is = byte_at line m b some e in
-    record { is = is; more = omega arith; within = omega (arith, ap length is, length-drop m line, length-drop (m + 1) line) }
-
-pub front_spans : (line : List ℕ) (i n : ℕ) → i + n ≤ length line → Spans line i (i + n) (take n (drop i line))
-front_spans line i n within = record { is = sym (take-append-drop n (drop i line)) ∙ ap (λ (t : List ℕ). take n (drop i line) ++ t) (drop-drop n i line); more = omega arith; within = within }
 
 -- ---- names
 
@@ -114,7 +52,7 @@ label_name_again : (line : List ℕ) (i j : ℕ) (name : List ℕ) → i ≤ len
 unfolding label_name_at
 label_name_again line i j name le e =
     let ok = chosen_ok (label_len line i == 0 || not (is_opened_at line (i + label_len line i))) _ _ _ e in
-    let both = or_false (label_len line i == 0) (not (is_opened_at line (i + label_len line i))) ok.0 in
+    let both = or_parts (label_len line i == 0) (not (is_opened_at line (i + label_len line i))) ok.0 in
     let opened = and_parts (get_or line (i + label_len line i) 0 == 61) (get_or line (i + label_len line i + 1) 0 == 34) (not_false (is_opened_at line (i + label_len line i)) both.1) in
     let equals = byte_spans line (i + label_len line i) 61 (omega arith) (eqb-true (get_or line (i + label_len line i) 0) 61 opened.0) in
     let quote = byte_spans line (i + label_len line i + 1) 34 (omega arith) (eqb-true (get_or line (i + label_len line i + 1) 0) 34 opened.1) in
@@ -126,37 +64,6 @@ label_name_again line i j name le e =
     record {
       is = subst (IsName ends_label) pair.0 (found_name ends_label (drop i line) both.0).0;
       spans = subst (λ (n : List ℕ). Spans line i j (n ++ 61 ∷ 34 ∷ [])) pair.0 (subst (λ (m : ℕ). Spans line i m (take (label_len line i) (drop i line) ++ 61 ∷ 34 ∷ [])) place whole);
-    }
-
--- a part that is read stands there as marks
-record Parted (k : Kind) (line : List ℕ) (i : ℕ) : Type 0 where
-  marks : List Mark
-  len : len_at k line i ≡ length (spelled marks)
-  means : text_at k line i ≡ meant k marks
-  part : IsPart k marks (drop (i + length (spelled marks)) line)
-  spans : Spans line i (i + length (spelled marks)) (spelled marks)
-
-part_again : (k : Kind) (line : List ℕ) (i : ℕ) → i ≤ length line → Parted k line i
-part_again k line i le =
-    let f = found k (drop i line) in
-    let read = part_is_read k f.marks (drop (part_len k (drop i line)) (drop i line)) f.part in
-    let len : part_len k (drop i line) ≡ length (spelled f.marks) = ap (part_len k) f.text ∙ read.0 in
-    let rest : drop (i + length (spelled f.marks)) line ≡ drop (part_len k (drop i line)) (drop i line) =
-    ap (λ (m : ℕ). drop (i + m) line) (sym len) ∙ sym (drop-drop (part_len k (drop i line)) i line) in
-    let cut : take (part_len k (drop i line)) (drop i line) ≡ spelled f.marks =
-    ap (λ (m : ℕ). take m (drop i line)) len ∙ ap (take (length (spelled f.marks))) f.text ∙ take_at (spelled f.marks) _ (length (spelled f.marks)) refl in
-    let whole : length (drop i line) ≡ length (spelled f.marks) + length (drop (part_len k (drop i line)) (drop i line)) =
-    ap length f.text ∙ length-append (spelled f.marks) (drop (part_len k (drop i line)) (drop i line)) in
-    record {
-      marks = f.marks;
-      len = len;
-      means = ap (plain k) cut ∙ read.1;
-      part = subst (IsPart k f.marks) (sym rest) f.part;
-      spans = record {
-        is = f.text ∙ ap (λ (t : List ℕ). spelled f.marks ++ t) (sym rest);
-        more = omega arith;
-        within = omega (arith, whole, length-drop i line);
-      };
     }
 
 -- what follows a double quote is no matter
@@ -226,7 +133,7 @@ record LabelsRead (line : List ℕ) (i j : ℕ) (labels : List Tag) : Type 0 whe
 no_more : (line : List ℕ) (i j : ℕ) (labels : List Tag) → i ≤ length line → (let r : Result (List Tag × ℕ) ExpositionKind = Ok ([], i) in r) ≡ Ok (labels, j) → LabelsRead line i j labels
 no_more line i j labels le e =
     let same = ok_pair {F = ExpositionKind} [] labels i j e in
-    subst (λ (ls : List Tag). LabelsRead line i j ls) same.0 (subst (λ (m : ℕ). LabelsRead line i m []) same.1 (record { written = []; are = tt; spans = record { is = refl; more = omega arith; within = le } }))
+    subst (λ (ls : List Tag). LabelsRead line i j ls) same.0 (subst (λ (m : ℕ). LabelsRead line i m []) same.1 (record { written = []; are = tt; spans = none_spans line i le }))
 
 abbrev listed : Tag → List Tag × ℕ → Result (List Tag × ℕ) ExpositionKind
 listed first others = Ok (first ∷ others.0, others.1)
@@ -272,7 +179,7 @@ some_labels line i j labels le e =
     let others = many_again line (length line) f.0.1 o.0.1 o.0.0 (first.spans).within o.1 in
     let made = ok_pair (f.0.0 ∷ o.0.0) s.0.0 o.0.1 s.0.1 o.2 in
     let ok = chosen_ok (not (get_or line s.0.1 0 == 125) || has_twice [] (names_of s.0.0)) _ _ _ s.2 in
-    let both = or_false (not (get_or line s.0.1 0 == 125)) (has_twice [] (names_of s.0.0)) ok.0 in
+    let both = or_parts (not (get_or line s.0.1 0 == 125)) (has_twice [] (names_of s.0.0)) ok.0 in
     let same = ok_pair s.0.0 labels (s.0.1 + 1) j ok.1 in
     let closed = byte_spans line s.0.1 125 (omega arith) (eqb-true (get_or line s.0.1 0) 125 (not_false (get_or line s.0.1 0 == 125) both.0)) in
     let front : Spans line i s.0.1 (labels_text (first.written ∷ others.written)) = subst (λ (m : ℕ). Spans line i m (labels_text (first.written ∷ others.written))) made.1 (joins line i f.0.1 o.0.1 (label_text first.written) (more_labels_text others.written) first.spans others.spans) in

@@ -14,7 +14,6 @@ pub mod KeyLemmas
 pub mod GatherLemmas
 pub mod MapLemmas
 pub mod NameTexts
-pub mod NumberTexts
 pub mod PlainTexts
 pub mod PointLemmas
 pub mod WrittenLines

@@ -11,6 +11,7 @@ use Rattle.std.specs.declared.cmp.Ordering.TheVariants.{Less, Equal, Greater}
 use Rattle.std.proofs.lemmas.List.{length-append, length-map}
 use Rattle.text_parts.specs.Grammar.{HasNone}
 use Rattle.metric.specs.declared.metric.Content.{Content}
+use Rattle.fixed_num.proofs.NumberBytes.{all_append}
 use Rattle.metric.specs.Draft.{Tag, Field}
 use Rattle.metric.specs.Metric.{IsMetric, IsTag, IsField, IsValue}
 use Rattle.metric.specs.Pairs.{with_pair, in_first_order, in_first_order_on, first_of_each}
@@ -19,8 +20,9 @@ use Rattle.metric.proofs.MetricLemmas.{each_pair}
 use Rattle.openmetrics_text.specs.Grammar.{IsName}
 use Rattle.openmetrics_text.specs.Labels.{has_twice, names_of}
 use Rattle.openmetrics_text.specs.Names.{ends_label, ends_name}
+use Rattle.metric.specs.Numbers.{is_text}
 use Rattle.openmetrics_text.specs.RoundTrip.{HasFewTags}
-use Rattle.openmetrics_text.specs.Writing.{clean_byte, cleaned, family_words, family_of, label_of, labels_of, Point, is_text, point_of, points_of_field, points_of_metric, points_of}
+use Rattle.openmetrics_text.specs.Writing.{clean_byte, cleaned, family_words, family_of, label_of, labels_of, Point, point_of, points_of_field, points_of_metric, points_of}
 use Rattle.openmetrics_text.specs.Writing.{is_one_series, first_of_series, at_time, with_time, in_time_order_on, in_family, series_of, families_of}
 
 -- ---- names
@@ -120,10 +122,6 @@ point_is m field is few h no_text = record {
   no_text = no_text;
   time = is.time;
 }
-
-all_append : {X : Type 0} (P : X → Type 0) (xs ys : List X) → AllByRecursion P xs → AllByRecursion P ys → AllByRecursion P (xs ++ ys)
-all_append P [] ys h k = k
-all_append P (x ∷ xs) ys h k = (h.0, all_append P xs ys h.1 k)
 
 points_of_one : (m : Content) (field : Field) → IsMetric m → HasFewTags m → IsField field → AllByRecursion IsPoint (points_of_field m field)
 points_of_one m field is few h = elim (is_text field.1) as (λ t. is_text field.1 ≡ t → AllByRecursion IsPoint (cond t [] (point_of m field ∷ []))) [

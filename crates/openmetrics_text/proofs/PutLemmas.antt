@@ -9,7 +9,8 @@ use Rattle.fixed_num.specs.Canonical.{canonical_text}
 use Rattle.metric.specs.declared.metric.Content.{Content}
 use Rattle.metric.specs.Draft.{Field}
 use Rattle.openmetrics_text.specs.Groups.{FamilyLines, series_key, put_family, put_point, put_points}
-use Rattle.openmetrics_text.specs.Writing.{Point, is_text, family_of, labels_of, written_labels, value_text, point_of, points_of_field, point_text}
+use Rattle.metric.specs.Numbers.{is_text, number_text}
+use Rattle.openmetrics_text.specs.Writing.{Point, family_of, labels_of, written_labels, point_of, points_of_field, point_text}
 
 -- the line of a sample
 assembled : (family labels number time : List ℕ) → ((family ++ labels ++ codes " ") ++ (number ++ codes " " ++ time) ++ codes "\n") ≡ family ++ (labels ++ 32 ∷ (number ++ 32 ∷ (time ++ 10 ∷ [])))
@@ -20,16 +21,16 @@ assembled family labels number time =
     ∙ ap (λ (text : List ℕ). family ++ (labels ++ 32 ∷ text)) (append_assoc (number ++ 32 ∷ []) time (10 ∷ []) ∙ append_assoc number (32 ∷ []) (time ++ 10 ∷ []))
 
 pub line_is : (m : Content) (field : Field) (family labels : List ℕ) (time : ℤ) → family ≡ (point_of m field).family → labels ≡ written_labels (labels_of m.tags) → time ≡ m.time
-    → ((family ++ labels ++ codes " ") ++ (value_text field.1 ++ codes " " ++ canonical_text time) ++ codes "\n") ≡ point_text (point_of m field)
+    → ((family ++ labels ++ codes " ") ++ (number_text field.1 ++ codes " " ++ canonical_text time) ++ codes "\n") ≡ point_text (point_of m field)
 unfolding point_text
 line_is m field family labels time f l t =
-    assembled family labels (value_text field.1) (canonical_text time)
-    ∙ (λ j. f j ++ (l j ++ 32 ∷ (value_text field.1 ++ 32 ∷ (canonical_text (t j) ++ 10 ∷ []))))
+    assembled family labels (number_text field.1) (canonical_text time)
+    ∙ (λ j. f j ++ (l j ++ 32 ∷ (number_text field.1 ++ 32 ∷ (canonical_text (t j) ++ 10 ∷ []))))
 
 pub line_made : (m : Content) (field : Field) (family labels start text : List ℕ) (time : ℤ) → family ≡ (point_of m field).family → labels ≡ written_labels (labels_of m.tags) → time ≡ m.time → start ≡ []
-    → text ≡ start ++ ((family ++ labels ++ codes " ") ++ (value_text field.1 ++ codes " " ++ canonical_text time) ++ codes "\n") → text ≡ point_text (point_of m field)
+    → text ≡ start ++ ((family ++ labels ++ codes " ") ++ (number_text field.1 ++ codes " " ++ canonical_text time) ++ codes "\n") → text ≡ point_text (point_of m field)
 line_made m field family labels start text time f l t none is =
-    is ∙ ap (λ (front : List ℕ). front ++ ((family ++ labels ++ codes " ") ++ (value_text field.1 ++ codes " " ++ canonical_text time) ++ codes "\n")) none ∙ line_is m field family labels time f l t
+    is ∙ ap (λ (front : List ℕ). front ++ ((family ++ labels ++ codes " ") ++ (number_text field.1 ++ codes " " ++ canonical_text time) ++ codes "\n")) none ∙ line_is m field family labels time f l t
 
 -- a text gives no sample
 pub no_point : (families : FamilyLines) (m : Content) (field : Field) → is_text field.1 ≡ true → families ≡ put_points families (points_of_field m field)

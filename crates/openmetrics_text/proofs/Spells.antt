@@ -7,6 +7,7 @@ use Rattle.std.proofs.lemmas.Bool.{ne_eqb, eq-eqb, eqb-true, le-ltb}
 use Rattle.std.proofs.lemmas.List.{take_at, drop_at, length-append}
 use Rattle.std.proofs.lemmas.List.Concat.{flat_map-cons}
 use Rattle.std.proofs.lemmas.Slice.Eq.{bytes_eq-Decides}
+use Rattle.std.proofs.lemmas.Str.{is_utf8-from_IsUtf8}
 use Rattle.fixed_num.specs.Decimal.{decimal_of}
 use Rattle.text_parts.specs.Grammar.{HasNone}
 use Rattle.text_parts.specs.Split.{is_byte, placed, parts_of, each, AllLack}
@@ -15,10 +16,10 @@ use Rattle.openmetrics_text.specs.declared.number.Time.{Time}
 use Rattle.openmetrics_text.specs.Names.{ends_name, name_len, is_name}
 use Rattle.openmetrics_text.specs.Lines.{LineSays, Nothing, line_of, hash_line, type_line, about_line, sample_line}
 use Rattle.openmetrics_text.specs.Sample.{is_exemplar, shape_of, time_of, Said, limited, sample_of}
-use Rattle.openmetrics_text.specs.Reading.{ends_with, without_end, without_newline, before_last, line_at, exposition_of, text_reading}
+use Rattle.openmetrics_text.specs.Reading.{ends_with, without_end, without_newline, before_last, line_at, exposition_of, text_reading, reading}
 use Rattle.openmetrics_text.specs.Grammar.{WrittenSample, braces_text, time_text, exemplar_text, sample_text, WrittenLine, TypeLine, HelpLine, UnitLine, OtherLine, SampleLine, line_text, with_newline, end_text, exposition_text}
 use Rattle.openmetrics_text.specs.Grammar.{IsName, HasNoSpace, IsSample, IsLine, AreLines, WrittenIsRead}
-use Rattle.openmetrics_text.proofs.Chains.{lines_are, none_read, read_utf8}
+use Rattle.openmetrics_text.proofs.Chains.{lines_are, none_read}
 use Rattle.openmetrics_text.proofs.Takes.{name_first, whole_name, head_takes, behind_takes}
 use Rattle.openmetrics_text.proofs.TypeLemmas.{same_texts, not_same}
 
@@ -158,4 +159,5 @@ text_takes (line ∷ lines) says ended moment typed h =
     split first others says lack e = ap (λ (ts : List (List ℕ)). each line_at (placed 0 ts)) (joined_are_split 10 first others lack) ∙ e
 
 pub written_is_read : WrittenIsRead
-written_is_read lines says ended moment typed h u = read_utf8 (exposition_text lines ended) moment typed u ∙ text_takes lines says ended moment typed h
+unfolding reading
+written_is_read lines says ended moment typed h u = rw (is_utf8-from_IsUtf8 (exposition_text lines ended) u) (text_takes lines says ended moment typed h)

@@ -1,54 +1,20 @@
 -- What is written as a sample is read as it.
-use Rattle.std.proofs.Common.{◌≡◌, ◌≢◌, ℕ, zero, suc, ◌+◌, ◌<◌, ◌≤◌, Bool, true, false, eqb, List, [], ◌∷◌, ◌++◌, length, get_or, take, drop, Result, Ok, Option, Some, None, refl, sym, ap, subst, ◌∙◌, arith, add-zero, append_assoc}
+use Rattle.std.proofs.Common.{◌≡◌, ◌≢◌, ℕ, zero, suc, ◌+◌, ◌<◌, ◌≤◌, Bool, true, false, eqb, List, [], ◌∷◌, ◌++◌, length, get_or, take, drop, Ok, Option, Some, None, refl, sym, ap, subst, ◌∙◌, arith, append_assoc}
 use Rattle.std.specs.Prelude.{◌==◌}
 use Rattle.std.specs.Char.{is_ascii_digit}
 use Rattle.std.proofs.lemmas.Bool.{ne_eqb, eq-eqb}
-use Rattle.std.proofs.lemmas.List.{take_at, drop_at, drop-drop, get_or-drop, length-append}
-use Rattle.text_parts.specs.Part.{Kind, part_len, len_at, text_at, plain}
+use Rattle.std.proofs.lemmas.List.{take_at, length-append}
 use Rattle.text_parts.specs.Grammar.{Mark, spelled, meant, IsPart, HasNone}
 use Rattle.text_parts.specs.Many.{many_at}
-use Rattle.text_parts.proofs.MarkLemmas.{part_is_read}
+use Rattle.text_parts.proofs.Takes.{At, at_start, step, over, at_byte, part_takes, not_none, Took}
 use Rattle.text_parts.proofs.Splits.{found_at, none_at}
 use Rattle.metric.specs.Draft.{Tag}
-use Rattle.openmetrics_text.specs.declared.fault.ExpositionKind.{ExpositionKind}
 use Rattle.openmetrics_text.specs.Names.{ends_label, ends_name, name_len}
 use Rattle.openmetrics_text.specs.Labels.{value_part, label_len, label_name_at, label_value_at, label_at, some_labels_at, has_twice, names_of, labels_at}
 use Rattle.openmetrics_text.specs.Sample.{head_of, behind_space}
 use Rattle.openmetrics_text.specs.Grammar.{label_text, more_labels_text, labels_text, braces_text, IsName, IsLabel, AreLabels, AreBraced}
 
--- this text stands at a place of a line, up to its end
-pub record At (line : List ℕ) (i : ℕ) (text : List ℕ) : Type 0 where
-  pub is : drop i line ≡ text
-  pub within : i + length text ≡ length line
-
-pub step : (line : List ℕ) (i : ℕ) (w rest : List ℕ) → At line i (w ++ rest) → At line (i + length w) rest
-step line i w rest at = record {
-  is = sym (drop-drop (length w) i line) ∙ ap (drop (length w)) at.is ∙ drop_at w rest (length w) refl;
-  within = omega (arith, at.within, length-append w rest);
-}
-
-pub over : (line : List ℕ) (i b : ℕ) (rest : List ℕ) → At line i (b ∷ rest) → At line (i + 1) rest
-over line i b rest at = step line i (b ∷ []) rest at
-
-pub at_byte : (line : List ℕ) (i : ℕ) (text : List ℕ) → At line i text → get_or line i 0 ≡ get_or text 0 0
-at_byte line i text at = sym (get_or-drop i line 0 0 ∙ rw add-zero refl) ∙ ap (λ (l : List ℕ). get_or l 0 0) at.is
-
-part_takes : (k : Kind) (line : List ℕ) (i : ℕ) (rest : List ℕ) (marks : List Mark) → At line i (spelled marks ++ rest) → IsPart k marks rest → (len_at k line i ≡ length (spelled marks)) × (text_at k line i ≡ meant k marks)
-part_takes k line i rest marks at part =
-    let read = part_is_read k marks rest part in
-    let len : part_len k (drop i line) ≡ length (spelled marks) = ap (part_len k) at.is ∙ read.0 in
-    let cut : take (part_len k (drop i line)) (drop i line) ≡ spelled marks =
-    ap (λ (n : ℕ). take n (drop i line)) len ∙ ap (take (length (spelled marks))) at.is ∙ take_at (spelled marks) rest (length (spelled marks)) refl in
-    (len, ap (plain k) cut ∙ read.1)
-
--- what was read, and that the rest stands behind it
-abbrev pub Took : {A : Type 0} → Result (A × ℕ) ExpositionKind → List ℕ → List ℕ → A → Type 0
-Took reading line rest x = (behind : ℕ) × (reading ≡ Ok (x, behind)) × At line behind rest
-
 -- ---- names
-
-not_none : (w : List ℕ) → 0 < length w → (length w == 0) ≡ false
-not_none w some = ne_eqb _ _ (λ e. absurd (omega arith))
 
 -- a byte of a name isn't one that ends it
 not_byte : (ends : ℕ → Bool) (b y : ℕ) → ends b ≡ false → ends y ≡ true → (b == y) ≡ false
@@ -91,7 +57,7 @@ label_name_takes line i name rest at h =
 label_value_takes : (line : List ℕ) (i : ℕ) (marks : List Mark) (rest : List ℕ) → At line i (spelled marks ++ 34 ∷ rest) → IsPart value_part marks (34 ∷ rest) → Took (label_value_at line i) line rest (meant value_part marks)
 unfolding label_value_at
 label_value_takes line i marks rest at is =
-    let part = part_takes value_part line i (34 ∷ rest) marks at is in
+    let part = part_takes value_part line i (spelled marks) (34 ∷ rest) marks at refl is in
     let behind = step line i (spelled marks) (34 ∷ rest) at in
     let closed : (get_or line (i + length (spelled marks)) 0 == 34) ≡ true = eq-eqb _ _ (at_byte line (i + length (spelled marks)) (34 ∷ rest) behind) in
     (i + length (spelled marks) + 1, rw (part.1, part.0, closed) refl, over line (i + length (spelled marks)) 34 rest behind)
@@ -149,16 +115,13 @@ labels_take line i (w ∷ ws) rest (label ∷ labels) at all distinct =
 
 -- ---- the head
 
-start : (line : List ℕ) → At line 0 line
-start line = record { is = refl; within = omega arith }
-
 -- a name in front of a byte that isn't of it
 module _ (name : List ℕ) (y : ℕ) (rest : List ℕ) (h : IsName ends_name name) (e : ends_name y ≡ true) where
   front : take (name_len ends_name (name ++ y ∷ rest)) (name ++ y ∷ rest) ≡ name
   front = ap (λ (n : ℕ). take n (name ++ y ∷ rest)) (name_takes ends_name name y rest h e) ∙ take_at name (y ∷ rest) (length name) refl
 
   behind_name : At (name ++ y ∷ rest) (length name) (y ∷ rest)
-  behind_name = subst (λ (n : ℕ). At (name ++ y ∷ rest) n (y ∷ rest)) (omega arith) (step (name ++ y ∷ rest) 0 name (y ∷ rest) (start (name ++ y ∷ rest)))
+  behind_name = subst (λ (n : ℕ). At (name ++ y ∷ rest) n (y ∷ rest)) (omega arith) (step (name ++ y ∷ rest) 0 name (y ∷ rest) (at_start (name ++ y ∷ rest)))
 
   byte_is : get_or (name ++ y ∷ rest) (length name) 0 ≡ y
   byte_is = at_byte (name ++ y ∷ rest) (length name) (y ∷ rest) behind_name

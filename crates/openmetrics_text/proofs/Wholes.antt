@@ -22,7 +22,9 @@ use Rattle.openmetrics_text.specs.Reading.{ends_with, without_end, without_newli
 use Rattle.openmetrics_text.specs.Sample.{Head, braced, head_of, behind_space, is_exemplar, Shape, timed, numbered, shape_of, number_of, time_of, is_out_of_range, value_said, time_said, Said, limited, sample_of}
 use Rattle.openmetrics_text.specs.Grammar.{WrittenSample, braces_text, labels_text, time_text, exemplar_text, sample_text, WrittenLine, TypeLine, HelpLine, UnitLine, OtherLine, SampleLine, line_text, with_newline, end_text, exposition_text}
 use Rattle.openmetrics_text.specs.Grammar.{IsName, AreBraced, HasNoSpace, IsSample, IsLine, AreLines, ReadIsWritten}
-use Rattle.openmetrics_text.proofs.Founds.{bind_ok, chosen_ok, taken_ok, same_ok, Spans, joins, byte_spans, front_spans, found_name, labels_again}
+use Rattle.text_parts.proofs.Founds.{bind_ok, chosen_ok, taken_ok, same_ok}
+use Rattle.text_parts.proofs.Stands.{Spans, joins, byte_spans, front_spans}
+use Rattle.openmetrics_text.proofs.Founds.{found_name, labels_again}
 use Rattle.openmetrics_text.proofs.Spells.{joined}
 
 -- ---- the head

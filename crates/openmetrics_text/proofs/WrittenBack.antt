@@ -15,7 +15,8 @@ use Rattle.openmetrics_text.specs.Grammar.{WrittenLine, TypeLine, SampleLine, wi
 use Rattle.openmetrics_text.specs.Lines.{LineSays, Typed}
 use Rattle.openmetrics_text.specs.Names.{ends_name}
 use Rattle.openmetrics_text.specs.Reading.{reading, contents_of, metrics_from, passed_in, exposition_of}
-use Rattle.openmetrics_text.specs.RoundTrip.{billionths_of, content_behind, in_written_order, WrittenIsReadBack}
+use Rattle.metric.specs.Numbers.{billionths_of}
+use Rattle.openmetrics_text.specs.RoundTrip.{content_behind, in_written_order, WrittenIsReadBack}
 use Rattle.openmetrics_text.specs.Types.{type_of}
 use Rattle.openmetrics_text.specs.Writing.{Point, points_of, families_of, in_family, series_of, point_text, type_text, family_text, points_text}
 use Rattle.openmetrics_text.proofs.GatherLemmas.{flat_flat, flat_same}

@@ -8,10 +8,14 @@ use Rattle.text_parts.specs.Escaped.{escaped, escaped_byte}
 use Rattle.text_parts.specs.Grammar.{Mark, Escaped, Bare, IsPart, HasNone}
 use Rattle.text_parts.specs.Split.{is_byte}
 use Rattle.text_parts.proofs.Escaping.{escaped_is_part}
+use Rattle.text_parts.proofs.Lacking.{none_append, number_lacks}
 use Rattle.fixed_num.specs.Canonical.{canonical_text}
 use Rattle.fixed_num.specs.Range.{InRange}
 use Rattle.fixed_num.proofs.Again.{reads_canonical}
+use Rattle.fixed_num.proofs.NumberTexts.{IsNumberText, canonical_number}
 use Rattle.metric.specs.Draft.{Tag}
+use Rattle.metric.specs.Numbers.{number_text, billionths_of}
+use Rattle.metric.proofs.NumberLemmas.{value_number, value_read}
 use Rattle.openmetrics_text.specs.declared.number.Number.TheVariants.{Decimal}
 use Rattle.openmetrics_text.specs.declared.number.Time.TheVariants as times
 use Rattle.openmetrics_text.specs.Grammar.{WrittenSample, label_text, more_labels_text, labels_text, braces_text, sample_text, WrittenLine, TypeLine, SampleLine, line_text, with_newline}
@@ -19,11 +23,9 @@ use Rattle.openmetrics_text.specs.Grammar.{IsName, IsLabel, AreLabels, AreBraced
 use Rattle.openmetrics_text.specs.Labels.{value_part}
 use Rattle.openmetrics_text.specs.Lines.{LineSays, Typed, Sampled}
 use Rattle.openmetrics_text.specs.Names.{ends_label, ends_name}
-use Rattle.openmetrics_text.specs.RoundTrip.{billionths_of}
 use Rattle.openmetrics_text.specs.Sample.{Said, number_of, time_of, is_moment}
-use Rattle.openmetrics_text.specs.Writing.{Point, label_escapes, written_label, more_written, written_labels, value_text, point_text, type_text}
+use Rattle.openmetrics_text.specs.Writing.{Point, label_escapes, written_label, more_written, written_labels, point_text, type_text}
 use Rattle.openmetrics_text.proofs.KeyLemmas.{suits}
-use Rattle.openmetrics_text.proofs.NumberTexts.{IsNumber, clean_spaces, clean_newlines, number_canonical, value_number, value_read}
 use Rattle.openmetrics_text.proofs.PointLemmas.{IsLabelTag, IsPoint}
 
 -- ---- what is written
@@ -39,7 +41,7 @@ abbrev pub sample_of : Point → WrittenSample
 sample_of point = record {
   name = point.family;
   labels = in_braces point.labels;
-  number = value_text point.value;
+  number = number_text point.value;
   time = Some (canonical_text point.time);
   exemplar = None;
 }
@@ -72,16 +74,12 @@ ended family labels number time =
 
 pub sample_same : (point : Point) → with_newline (SampleLine (sample_of point)) ≡ point_text point
 unfolding point_text
-sample_same point = ap (λ (text : List ℕ). (point.family ++ (text ++ 32 ∷ (value_text point.value ++ ((32 ∷ canonical_text point.time) ++ [])))) ++ 10 ∷ []) (braces_same point.labels) ∙ ended point.family (written_labels point.labels) (value_text point.value) (canonical_text point.time)
+sample_same point = ap (λ (text : List ℕ). (point.family ++ (text ++ 32 ∷ (number_text point.value ++ ((32 ∷ canonical_text point.time) ++ [])))) ++ 10 ∷ []) (braces_same point.labels) ∙ ended point.family (written_labels point.labels) (number_text point.value) (canonical_text point.time)
 
 pub type_same : (family : List ℕ) → with_newline (TypeLine family (codes "unknown")) ≡ type_text family
 type_same family = ap (λ (text : List ℕ). codes "# TYPE " ++ text) (append_assoc family (codes " unknown") (10 ∷ []))
 
 -- ---- no newline in it
-
-none_append : (p : ℕ → Bool) (xs ys : List ℕ) → HasNone p xs → HasNone p ys → HasNone p (xs ++ ys)
-none_append p [] ys h k = k
-none_append p (x ∷ xs) ys h k = (h.0, none_append p xs ys h.1 k)
 
 differs : (ends : ℕ → Bool) (b c : ℕ) → ends b ≡ false → ends c ≡ true → (b == c) ≡ false
 differs ends b c e f = ne_eqb b c (λ is. true_false (sym f ∙ sym (ap ends is) ∙ e))
@@ -130,8 +128,8 @@ pub time_range : (time : ℤ) → FitsSigned w64 time → InRange time
 time_range (pos n) h = omega (arith, h.sfits)
 time_range (negsuc n) h = omega (arith, h.sfits)
 
-time_number : (time : ℤ) → FitsSigned w64 time → IsNumber (canonical_text time)
-time_number time h = number_canonical time (time_range time h)
+time_number : (time : ℤ) → FitsSigned w64 time → IsNumberText (canonical_text time)
+time_number time h = canonical_number time (time_range time h)
 
 sample_none : (point : Point) → IsPoint point → HasNone (is_byte 10) (sample_text (sample_of point))
 sample_none point is =
@@ -140,8 +138,8 @@ sample_none point is =
     none_append (is_byte 10) point.family _ (name_none ends_name refl point.family (is.family).clean)
     (none_append (is_byte 10) (braces_text (in_braces point.labels)) _ (braces_none point.labels is.labels) (
       refl,
-      none_append (is_byte 10) (value_text point.value) _ (clean_newlines (value_text point.value) number.clean)
-          (refl, none_append (is_byte 10) (canonical_text point.time) [] (clean_newlines (canonical_text point.time) time.clean) tt),
+      none_append (is_byte 10) (number_text point.value) _ (number_lacks 10 (omega arith) (number_text point.value) number.bytes)
+          (refl, none_append (is_byte 10) (canonical_text point.time) [] (number_lacks 10 (omega arith) (canonical_text point.time) time.bytes) tt),
     ))
 
 -- ---- what it says
@@ -182,8 +180,8 @@ sample_is point is =
       labels = braces_are point.labels is.labels;
       distinct = is.distinct;
       few = is.few;
-      number_whole = clean_spaces (value_text point.value) number.clean;
-      time_whole = clean_spaces (canonical_text point.time) time.clean;
+      number_whole = number_lacks 32 (omega arith) (number_text point.value) number.bytes;
+      time_whole = number_lacks 32 (omega arith) (canonical_text point.time) time.bytes;
       number = Decimal (billionths_of point.value);
       is_number = rw (value_read point.value is.value is.no_text) refl;
       time = times.At point.time;

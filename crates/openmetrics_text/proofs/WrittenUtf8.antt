@@ -1,50 +1,35 @@
 -- What is written is UTF-8.
-use Rattle.std.proofs.Common.{◌≡◌, ℕ, ◌+◌, ◌<◌, Bool, true, false, cond, List, [], ◌∷◌, ◌++◌, length, get_or, drop, map, refl, sym, ap, subst, ◌∙◌, append_assoc, arith, rules}
+use Rattle.std.proofs.Common.{◌≡◌, ℕ, ◌<◌, Bool, true, false, cond, List, [], ◌∷◌, map, refl, sym, subst, append_assoc, arith, rules}
 use Rattle.std.specs.Prelude.{◌==◌, ◌||◌, codes}
 use Rattle.std.specs.List.{AllByRecursion, flat_map}
 use Rattle.std.specs.Str.{IsUtf8}
 use Rattle.std.proofs.lemmas.Bool.{eqb-true}
-use Rattle.std.proofs.lemmas.List.{take_at, drop_at, get_or_at, length-append, drop-drop}
-use Rattle.std.proofs.lemmas.Str.{IsUtf8-nil, IsUtf8-append, IsUtf8-take, IsUtf8-drop, IsUtf8-encode, encode_ascii, IsCharBoundary-before_ascii, IsCharBoundary-after_ascii}
+use Rattle.std.proofs.lemmas.Str.{IsUtf8-nil, IsUtf8-append, IsUtf8-from_ascii}
 use Rattle.text_parts.specs.Escaped.{escaped}
 use Rattle.text_parts.specs.Grammar.{HasNone}
+use Rattle.text_parts.proofs.EscapedUtf8.{AreAscii, escaped_utf8}
+use Rattle.text_parts.proofs.Utf8.{one_ascii, first_ascii}
 use Rattle.fixed_num.specs.Canonical.{canonical_text}
+use Rattle.fixed_num.proofs.NumberBytes.{ascii_of}
+use Rattle.fixed_num.proofs.NumberTexts.{IsNumberText, canonical_number}
 use Rattle.metric.specs.Draft.{Tag}
+use Rattle.metric.specs.Numbers.{number_text}
+use Rattle.metric.proofs.NumberLemmas.{value_number}
 use Rattle.openmetrics_text.specs.Grammar.{label_text, more_labels_text, labels_text, braces_text, sample_text, WrittenLine, TypeLine, SampleLine, line_text, with_newline, exposition_text}
 use Rattle.openmetrics_text.specs.Names.{ends_label, ends_name}
-use Rattle.openmetrics_text.specs.Writing.{Point, label_escapes, value_text}
+use Rattle.openmetrics_text.specs.Writing.{Point, label_escapes}
 use Rattle.openmetrics_text.proofs.NameLemmas.{label_low, name_low}
-use Rattle.openmetrics_text.proofs.NumberTexts.{AreClean, number_canonical, value_number}
 use Rattle.openmetrics_text.proofs.PointLemmas.{IsLabelTag, IsPoint}
 use Rattle.openmetrics_text.proofs.WrittenLines.{written_tag, in_braces, sample_of, sample_lines, time_range}
 
-one_ascii : (c : ℕ) → c < 128 → IsUtf8 (c ∷ [])
-one_ascii c low = subst IsUtf8 (encode_ascii c low) (IsUtf8-encode c (search rules))
-
--- an ASCII byte in front of a text
-first_ascii : (c : ℕ) (text : List ℕ) → c < 128 → IsUtf8 text → IsUtf8 (c ∷ text)
-first_ascii c text low u = IsUtf8-append (c ∷ []) text (one_ascii c low) u
-
-clean_utf8 : (text : List ℕ) → AreClean text → IsUtf8 text
-clean_utf8 [] h = IsUtf8-nil
-clean_utf8 (b ∷ text) h = first_ascii b text (h.0).ascii (clean_utf8 text h.1)
+number_utf8 : (text : List ℕ) → IsNumberText text → IsUtf8 text
+number_utf8 text is = IsUtf8-from_ascii text (ascii_of text is.bytes)
 
 name_utf8 : (ends : ℕ → Bool) → ((b : ℕ) → ends b ≡ false → b < 128) → (name : List ℕ) → HasNone ends name → IsUtf8 name
 name_utf8 ends low [] h = IsUtf8-nil
 name_utf8 ends low (b ∷ name) h = first_ascii b name (low b h.0) (name_utf8 ends low name h.1)
 
 -- ---- escapes
-
--- a byte below 128 can become two others
-two_ascii : (xs ys : List ℕ) (b c d : ℕ) → b < 128 → c < 128 → d < 128 → IsUtf8 (xs ++ b ∷ ys) → IsUtf8 (xs ++ c ∷ d ∷ ys)
-two_ascii xs ys b c d small one other u =
-    let at : get_or (xs ++ b ∷ ys) (length xs) 0 ≡ b = get_or_at xs b ys 0 (length xs) refl in
-    let below : get_or (xs ++ b ∷ ys) (length xs) 0 < 128 = omega arith in
-    let within : length xs < length (xs ++ b ∷ ys) = omega (arith, length-append xs (b ∷ ys)) in
-    let front : IsUtf8 xs = subst IsUtf8 (take_at xs (b ∷ ys) (length xs) refl) (IsUtf8-take (xs ++ b ∷ ys) (length xs) u (IsCharBoundary-before_ascii (xs ++ b ∷ ys) (length xs) within below)) in
-    let later : drop (length xs + 1) (xs ++ b ∷ ys) ≡ ys = sym (drop-drop 1 (length xs) (xs ++ b ∷ ys)) ∙ ap (drop 1) (drop_at xs (b ∷ ys) (length xs) refl) in
-    let back : IsUtf8 ys = subst IsUtf8 later (IsUtf8-drop (xs ++ b ∷ ys) (length xs + 1) u (IsCharBoundary-after_ascii (xs ++ b ∷ ys) (length xs) u within below)) in
-    IsUtf8-append xs (c ∷ d ∷ ys) front (first_ascii c (d ∷ ys) one (first_ascii d ys other back))
 
 mark_low : (b : ℕ) → label_escapes.is_mark b ≡ true → b < 128
 mark_low b e = by (b == 92) (b == 34) (b == 10) refl refl refl e
@@ -58,27 +43,15 @@ mark_low b e = by (b == 92) (b == 34) (b == 10) refl refl refl e
 written_low : (b : ℕ) → b < 128 → label_escapes.written b < 128
 written_low b low = elim (b == 10) as (λ t. cond t 110 b < 128) [ true ↦ omega arith | false ↦ low ]
 
-escaped_more : (front text : List ℕ) → IsUtf8 (front ++ text) → IsUtf8 (front ++ escaped label_escapes text)
-unfolding escaped
-escaped_more front [] u = u
-escaped_more front (b ∷ bs) u =
-    elim (label_escapes.is_mark b) as (λ t. label_escapes.is_mark b ≡ t → IsUtf8 (front ++ (cond t (92 ∷ label_escapes.written b ∷ []) (b ∷ []) ++ escaped label_escapes bs))) [
-      | true ↦ λ e.
-          let low = mark_low b e in
-          let more = two_ascii front bs b 92 (label_escapes.written b) low (omega arith) (written_low b low) u in
-          subst IsUtf8 (append_assoc front (92 ∷ label_escapes.written b ∷ []) (escaped label_escapes bs))
-          (escaped_more (front ++ 92 ∷ label_escapes.written b ∷ []) bs (subst IsUtf8 (sym (append_assoc front (92 ∷ label_escapes.written b ∷ []) bs)) more))
-      | false ↦ λ e.
-          subst IsUtf8 (append_assoc front (b ∷ []) (escaped label_escapes bs))
-          (escaped_more (front ++ b ∷ []) bs (subst IsUtf8 (sym (append_assoc front (b ∷ []) bs)) u))
-    ] refl
+label_ascii : AreAscii label_escapes
+label_ascii = record { marks = mark_low; written = written_low }
 
 -- ---- lines
 
 label_utf8 : (tag : Tag) → IsLabelTag tag → IsUtf8 (label_text (written_tag tag))
 label_utf8 tag is =
     IsUtf8-append tag.0 _ (name_utf8 ends_label label_low tag.0 (is.name).clean)
-    (first_ascii 61 _ (omega arith) (first_ascii 34 _ (omega arith) (IsUtf8-append (escaped label_escapes tag.1) (34 ∷ []) (escaped_more [] tag.1 is.utf8) (one_ascii 34 (omega arith)))))
+    (first_ascii 61 _ (omega arith) (first_ascii 34 _ (omega arith) (IsUtf8-append (escaped label_escapes tag.1) (34 ∷ []) (escaped_utf8 label_escapes label_ascii tag.1 is.utf8) (one_ascii 34 (omega arith)))))
 
 more_utf8 : (tags : List Tag) → AllByRecursion IsLabelTag tags → IsUtf8 (more_labels_text (map written_tag tags))
 more_utf8 [] h = IsUtf8-nil
@@ -93,12 +66,12 @@ braces_utf8 (tag ∷ tags) h =
 sample_utf8 : (point : Point) → IsPoint point → IsUtf8 (with_newline (SampleLine (sample_of point)))
 sample_utf8 point is =
     let number = value_number point.value is.value is.no_text in
-    let time = number_canonical point.time (time_range point.time is.time) in
+    let time = canonical_number point.time (time_range point.time is.time) in
     IsUtf8-append (sample_text (sample_of point)) (10 ∷ [])
     (IsUtf8-append point.family _ (name_utf8 ends_name name_low point.family (is.family).clean)
     (IsUtf8-append (braces_text (in_braces point.labels)) _ (braces_utf8 point.labels is.labels)
-    (first_ascii 32 _ (omega arith) (IsUtf8-append (value_text point.value) _ (clean_utf8 (value_text point.value) number.clean)
-    (first_ascii 32 _ (omega arith) (IsUtf8-append (canonical_text point.time) [] (clean_utf8 (canonical_text point.time) time.clean) IsUtf8-nil))))))
+    (first_ascii 32 _ (omega arith) (IsUtf8-append (number_text point.value) _ (number_utf8 (number_text point.value) number)
+    (first_ascii 32 _ (omega arith) (IsUtf8-append (canonical_text point.time) [] (number_utf8 (canonical_text point.time) time) IsUtf8-nil))))))
     (one_ascii 10 (omega arith))
 
 type_utf8 : (family : List ℕ) → HasNone ends_name family → IsUtf8 (with_newline (TypeLine family (codes "unknown")))

@@ -6,7 +6,7 @@ use Rattle.std.specs.Str.{bytes_eq}
 use Rattle.text_parts.specs.Bytes.{newline, double_quote, comma, equals_sign, backslash, small_n}
 use Rattle.text_parts.specs.Chain.{◌>>=◌}
 use Rattle.text_parts.specs.Part.{Kind, len_at, text_at}
-use Rattle.text_parts.specs.Many.{items_at}
+use Rattle.text_parts.specs.Many.{some_items_at}
 use Rattle.metric.specs.Draft.{Tag}
 use Rattle.metric.specs.Pairs.{has_empty_key}
 use Rattle.openmetrics_text.specs.declared.fault.ExpositionKind.{ExpositionKind}
@@ -53,10 +53,7 @@ label_at line i = do
 
 -- labels with commas between them, at least one
 unfoldable pub some_labels_at : List ℕ → ℕ → Result (List Tag × ℕ) ExpositionKind
-some_labels_at line i = do
-  first ← label_at line i
-  others ← items_at label_at comma line first.1
-  Ok (first.0 ∷ others.0, others.1)
+some_labels_at line i = some_items_at label_at comma line i
 
 -- a text is among others, or occurs twice
 unfoldable pub has_twice : List (List ℕ) → List (List ℕ) → Bool

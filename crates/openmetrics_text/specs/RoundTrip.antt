@@ -1,27 +1,14 @@
 -- Expositions that are read back.
-use Rattle.std.specs.Prelude.{◌≡◌, ◌+◌, ◌≤◌, ◌*◌, ℤ, pos, negsuc, neg_ℤ, false, List, [], ◌∷◌, codes, length}
-use Rattle.std.specs.Prelude.{map, flat_map, Ok, if◌then◌else◌}
+use Rattle.std.specs.Prelude.{◌≡◌, ◌≤◌, ℤ, false, List, [], ◌∷◌, codes, length}
+use Rattle.std.specs.Prelude.{map, flat_map, Ok}
 use Rattle.std.specs.List.{AllByRecursion}
-use Rattle.metric.specs.declared.value.Value.{Value}
-use Rattle.metric.specs.declared.value.Value.TheVariants.{Int, Uint, Fixed, «Bool» as Truth, Text}
+use Rattle.metric.specs.declared.value.Value.TheVariants.{Fixed}
 use Rattle.metric.specs.declared.metric.Content.{Content}
 use Rattle.metric.specs.Metric.{IsMetric}
+use Rattle.metric.specs.Numbers.{billionths_of}
 use Rattle.metric.specs.Pairs.{in_key_order}
 use Rattle.openmetrics_text.specs.Reading.{reading}
 use Rattle.openmetrics_text.specs.Writing.{Point, points_of, families_of, in_family, series_of, batch_text}
-
--- as many billionths as a whole number has
-abbrev pub scaled : ℤ → ℤ
-scaled (pos n) = pos (n * 1000000000)
-scaled (negsuc n) = neg_ℤ (pos ((1 + n) * 1000000000))
-
--- the billionths of a number; a truth value is 1 or 0
-abbrev pub billionths_of : Value → ℤ
-billionths_of (Int n) = scaled n
-billionths_of (Uint n) = scaled (pos n)
-billionths_of (Fixed n) = n
-billionths_of (Truth b) = scaled (pos (if b then 1 else 0))
-billionths_of (Text text) = pos 0
 
 -- the samples as they are written: family by family, series by series, by time
 abbrev pub in_written_order : List Point → List Point

@@ -2,7 +2,6 @@
 use Rattle.std.specs.Prelude.{◌==◌, ◌&&◌, ◌||◌, ◌++◌, ℕ, ℤ, Bool, true, false, not, List, [], ◌∷◌, map, filter}
 use Rattle.std.specs.Prelude.{flat_map, codes, slice_index, if◌then◌else◌}
 use Rattle.std.specs.Char.{is_ascii_digit}
-use Rattle.std.specs.Fmt.{decimal, signed_decimal}
 use Rattle.std.specs.Ordering.{int_cmp}
 use Rattle.std.specs.Str.{bytes_eq}
 use Rattle.std.specs.declared.cmp.Ordering.{Ordering}
@@ -12,9 +11,9 @@ use Rattle.text_parts.specs.Bytes.{small_n}
 use Rattle.text_parts.specs.Escaped.{Escapes, escaped}
 use Rattle.fixed_num.specs.Canonical.{canonical_text}
 use Rattle.metric.specs.declared.value.Value.{Value}
-use Rattle.metric.specs.declared.value.Value.TheVariants.{Int, Uint, Fixed, «Bool» as Truth, Text}
 use Rattle.metric.specs.declared.metric.Content.{Content}
 use Rattle.metric.specs.Draft.{Tag, Field}
+use Rattle.metric.specs.Numbers.{is_text, number_text}
 use Rattle.metric.specs.Pairs.{in_first_order, in_key_order, first_of_each}
 use Rattle.openmetrics_text.specs.Bytes.{left_brace, right_brace}
 use Rattle.openmetrics_text.specs.Names.{ends_label, ends_name}
@@ -56,13 +55,6 @@ pub record Point : Type 0 where
   pub labels : List Tag
   pub value : Value
   pub time : ℤ
-
-abbrev pub is_text : Value → Bool
-is_text (Int n) = false
-is_text (Uint n) = false
-is_text (Fixed n) = false
-is_text (Truth b) = false
-is_text (Text text) = true
 
 abbrev pub point_of : Content → Field → Point
 point_of m field = record {
@@ -152,19 +144,11 @@ abbrev pub written_labels : List Tag → List ℕ
 written_labels [] = []
 written_labels (label ∷ labels) = left_brace ∷ (written_label label ++ (more_written labels ++ right_brace ∷ []))
 
--- a number; a truth value is 1 or 0
-unfoldable pub value_text : Value → List ℕ
-value_text (Int n) = signed_decimal n
-value_text (Uint n) = decimal n
-value_text (Fixed n) = canonical_text n
-value_text (Truth b) = if b then codes "1" else codes "0"
-value_text (Text text) = []
-
 -- the time is written as seconds
 unfoldable pub point_text : Point → List ℕ
 point_text point =
     point.family ++ (written_labels point.labels
-    ++ space ∷ (value_text point.value ++ space ∷ (canonical_text point.time ++ newline ∷ [])))
+    ++ space ∷ (number_text point.value ++ space ∷ (canonical_text point.time ++ newline ∷ [])))
 
 abbrev pub type_text : List ℕ → List ℕ
 type_text family = codes "# TYPE " ++ (family ++ codes " unknown\n")

@@ -2,8 +2,9 @@
 ghost use Rattle.std.specs.Prelude.{◌≡◌, ◌++◌, [], codes, flat_map, IfOk, OnOk, OnErr};
 ghost use Rattle.fixed_num.specs.Canonical.{canonical_text};
 ghost use Rattle.text_parts.specs.Adds.{Adds};
+ghost use Rattle.metric.specs.Numbers.{is_text, number_text};
 ghost use Rattle.openmetrics_text.specs.Groups.{put_points};
-ghost use Rattle.openmetrics_text.specs.Writing.{is_text, labels_of, written_labels, value_text, point_of};
+ghost use Rattle.openmetrics_text.specs.Writing.{labels_of, written_labels, point_of};
 ghost use Rattle.openmetrics_text.specs.Writing.{point_text, points_of_field, points_of_metric, points_of};
 ghost use Rattle.openmetrics_text.specs.Writing.{batch_text};
 ghost use Rattle.openmetrics_text.specs.Groups.{series_key, families_text};
@@ -29,9 +30,9 @@ fn is_text(value: &Value) -> bool
 }
 
 /// Appends a number.
-#[tactic(auto, unfolding(crate::specs::Writing::value_text))]
+#[tactic(auto, unfolding(metric::specs::Numbers::number_text))]
 fn append_value(alloc: Global, out: &mut Vec<u8>, value: &Value) -> Result<(), OutOfMemory>
-    ensures { Adds result out.old.items out.new.items (value_text value.now) }
+    ensures { Adds result out.old.items out.new.items (number_text value.now) }
 {
     match value {
         Value::Int(n) => append_int(out, n)?,
@@ -70,7 +71,7 @@ fn append_numbers(
     time: &Moment,
 ) -> Result<(), OutOfMemory>
     ensures { Adds result out.old.items out.new.items
-        (value_text value.now ++ codes " " ++ canonical_text time.now) }
+        (number_text value.now ++ codes " " ++ canonical_text time.now) }
 {
     append_value(alloc, out, value)?;
     append_words(out, " ")?;
@@ -99,7 +100,7 @@ fn append_point(
 ) -> Result<(), OutOfMemory>
     ensures { Adds result out.old.items out.new.items
         ((family.now ++ labels.now ++ codes " ")
-        ++ (value_text value.now ++ codes " " ++ canonical_text time.now) ++ codes "\n") }
+        ++ (number_text value.now ++ codes " " ++ canonical_text time.now) ++ codes "\n") }
 {
     append_head(out, family, labels)?;
     append_numbers(alloc, out, value, time)?;

@@ -1,26 +1,18 @@
 -- The chain of a line's readings.
-use Rattle.std.proofs.Common.{◌≡◌, ℕ, ℤ, true, false, List, [], ◌∷◌, ◌++◌, map, Result, Ok, Err, refl, sym, ap, subst, ◌∙◌}
-use Rattle.std.specs.Str.{IsUtf8, is_utf8}
-use Rattle.std.specs.Str.Lossy.{utf8_valid_len}
-use Rattle.std.proofs.lemmas.Str.{IsUtf8-from_is_utf8, is_utf8-from_IsUtf8}
-use Rattle.std.proofs.lemmas.Int.{to_z-of_z}
-use mir.Val.{SFits, of_z, to_z}
-use mir.Syntax.{w64}
+use Rattle.std.proofs.Common.{◌≡◌, ℕ, ℤ, List, [], ◌∷◌, ◌++◌, map, Ok, refl, sym, ap, ◌∙◌}
 use Rattle.text_parts.specs.declared.error.ReadError.{ReadError}
 use Rattle.text_parts.specs.declared.error.ReadError.TheVariants as errors
 use Rattle.text_parts.specs.Chain.{Fails}
 use Rattle.text_parts.specs.Split.{parts_of, each}
-use Rattle.metric.specs.declared.metric.Content.{Content}
 use Rattle.metric.specs.Draft.{Tag}
 use Rattle.metric.specs.Pairs.{in_key_order, in_key_order_on, with_values}
 use Rattle.metric.proofs.LawLemmas.{in_key_order-ordered}
 use Rattle.statsd_text.specs.declared.fault.StatsdFault.{StatsdFault}
-use Rattle.statsd_text.specs.declared.fault.StatsdKind.TheVariants.{NotUtf8}
 use Rattle.statsd_text.specs.declared.said.Said.{Said}
 use Rattle.statsd_text.specs.Sections.{Sections, sections}
 use Rattle.statsd_text.specs.Tags.{head_of, later_tags}
 use Rattle.statsd_text.specs.Said.{part_of, field_name}
-use Rattle.statsd_text.specs.Reading.{type_tag, content_of, limited, line_reading, text_reading, reading}
+use Rattle.statsd_text.specs.Reading.{type_tag, content_of, limited, line_reading}
 use Rattle.statsd_text.specs.TagMap.{kept_content}
 use Rattle.statsd_text.proofs.KeptTags.{kept_tag, in_key_order_on_more}
 
@@ -76,21 +68,3 @@ metrics_are piece moment line name given later said start mid end kept s n l h n
     ∙ sym (in_key_order_on_more [] given later) in
     let tags : kept ≡ with_values (in_key_order (given ++ later)) = valued ∙ ap with_values order in
     rw tags (ap limited (all_kept name (given ++ later) moment said)) ∙ sym (line_is piece moment line name given later said s n l h)
-
--- ---- the piece
-
-pub not_utf8 : (piece : List ℕ) (n : ℕ) (moment : ℤ) → ¬ (IsUtf8 piece) → utf8_valid_len piece ≡ n → reading piece moment ≡ Err (record { kind = NotUtf8; place = n })
-unfolding reading
-not_utf8 piece n moment not len =
-    let none : is_utf8 piece ≡ false = elim (is_utf8 piece) as (λ t. is_utf8 piece ≡ t → t ≡ false) [ true ↦ λ e. absurd (not (IsUtf8-from_is_utf8 piece e)) | false ↦ λ e. refl ] refl in
-    rw (none, len) refl
-
-pub read_utf8 : (piece : List ℕ) (moment : ℤ) → IsUtf8 piece → reading piece moment ≡ text_reading piece moment
-unfolding reading
-read_utf8 piece moment u = rw (is_utf8-from_IsUtf8 piece u) refl
-
-pub same_text : (piece text : List ℕ) (moment : ℤ) → SFits w64 moment → text ≡ piece → text_reading text (to_z w64 (of_z w64 moment)) ≡ text_reading piece moment
-same_text piece text moment fits same = rw (same, to_z-of_z w64 moment fits) refl
-
-pub fault_given : (e : ReadError StatsdFault) (fault : StatsdFault) (r : Result (List Content) StatsdFault) → e ≡ errors.Fault fault → Fails e r → r ≡ Err fault
-fault_given e fault r is h = subst (λ (x : ReadError StatsdFault). Fails x r) is h

@@ -4,7 +4,7 @@ use Rattle.std.specs.Prelude.{◌||◌, ◌&&◌, ◌==◌, codes, filter}
 use Rattle.std.specs.List.{AllByRecursion, join_with_byte, list_any, slice_split}
 use Rattle.std.specs.Str.{IsUtf8, is_utf8}
 use Rattle.std.specs.Str.Lossy.{utf8_valid_len}
-use Rattle.std.proofs.lemmas.Bool.{eqb-true, eqb-false, ne_eqb}
+use Rattle.std.proofs.lemmas.Bool.{eqb-true, ne_eqb, or_parts}
 use Rattle.std.proofs.lemmas.List.{append-nil, take_all, drop_all}
 use Rattle.std.proofs.lemmas.List.Splits.{length-slice_split, join_with_byte-slice_split}
 use Rattle.std.proofs.lemmas.Str.{IsUtf8-from_is_utf8}
@@ -12,6 +12,8 @@ use Rattle.text_parts.specs.Grammar.{HasNone}
 use Rattle.text_parts.specs.Pairs.{pair_text, pairs_text}
 use Rattle.text_parts.specs.Chain.{◌>>=◌}
 use Rattle.text_parts.specs.Split.{PartAt, is_byte, first_part, placed, parts_of, each, behind_first}
+use Rattle.text_parts.proofs.Founds.{bind_ok, same_ok, some_of}
+use Rattle.text_parts.proofs.Lacking.{none_split}
 use Rattle.text_parts.proofs.Splits.{cut_is_first, parts_none}
 use Rattle.fixed_num.specs.declared.fixed.NumFault.{NumFault}
 use Rattle.fixed_num.specs.declared.fixed.NumFault.TheVariants as numbers
@@ -29,29 +31,14 @@ use Rattle.statsd_text.specs.Said.{Texts, texts_of, texts_from, typed, rate_text
 use Rattle.statsd_text.specs.Reading.{content_of, has_too_many, limited, line_reading, is_blank, text_reading, reading}
 use Rattle.statsd_text.specs.Grammar.{ends_name, WrittenPart, rate_spelling, part_spelling, LaterTag, Nothing, Flag, Pair, later_spelling, Written, parts_spelling, end_spelling, line_spelling}
 use Rattle.statsd_text.specs.Grammar.{IsHeadTag, IsRate, IsPart, AreParts, IsLaterTag, given_later, AreLater, given_end, IsLine, metrics_of, ReadIsWritten}
-use Rattle.statsd_text.proofs.Lacking.{or_false, none_front, none_back, both_none, any_none}
+use Rattle.statsd_text.proofs.Lacking.{both_none, any_none}
 
--- ---- chains
-
-pub bind_ok : {A B F : Type 0} (r : Result A F) (next : A → Result B F) (y : B) → (r >>= next) ≡ Ok y → (x : A) × (r ≡ Ok x) × (next x ≡ Ok y)
-bind_ok (Ok x) next y e = (x, refl, e)
-bind_ok (Err f) next y e = absurd cc
-
-ok_or : {A F : Type 0} → A → Result A F → A
-ok_or other (Ok x) = x
-ok_or other (Err f) = other
-
-same_ok : {A F : Type 0} (x y : A) → (let r : Result A F = Ok x in r) ≡ Ok y → x ≡ y
-unfolding ok_or
-same_ok {A = A} {F = F} x y e = ap (ok_or {F = F} x) e
+-- ---- tests
 
 -- a test that had to fail
 test_ok : {A : Type 0} (t : Bool) (kind : StatsdKind) (place : ℕ) (r : Result A StatsdFault) (y : A) → cond t (fault kind place) r ≡ Ok y → (t ≡ false) × (r ≡ Ok y)
 test_ok true kind place r y e = absurd cc
 test_ok false kind place r y e = (refl, e)
-
-some_of : (text : List ℕ) → (length text == 0) ≡ false → 0 < length text
-some_of text e = let ne : length text ≡ 0 → ⊥ = eqb-false (length text) 0 e in omega arith
 
 -- ---- texts that were joined
 
@@ -59,7 +46,8 @@ none_joined : (p : ℕ → Bool) (c : ℕ) (texts : List (List ℕ)) → HasNone
 none_joined p c [] h = tt
 none_joined p c (text ∷ []) h = (h, tt)
 none_joined p c (text ∷ next ∷ texts) h =
-    (none_front p text (c ∷ join_with_byte c (next ∷ texts)) h, none_joined p c (next ∷ texts) (none_back p text (c ∷ join_with_byte c (next ∷ texts)) h).1)
+    let both = none_split p text (c ∷ join_with_byte c (next ∷ texts)) h in
+    (both.0, none_joined p c (next ∷ texts) both.1.1)
 
 -- ---- the head
 
@@ -76,8 +64,8 @@ head_tag_written place text tag colons commas e = cut (first_part 61 text).0 (fi
         let same = same_ok (key, value) tag test.1 in
         let colon = subst (HasNone (is_byte 58)) is.0 colons in
         let comma = subst (HasNone (is_byte 44)) is.0 commas in
-        let key_none = both_none (λ b. b == 58 || b == 44) (is_byte 61) key (both_none (is_byte 58) (is_byte 44) key (none_front (is_byte 58) key (61 ∷ value) colon) (none_front (is_byte 44) key (61 ∷ value) comma)) is.1 in
-        let value_none = both_none (is_byte 58) (is_byte 44) value (none_back (is_byte 58) key (61 ∷ value) colon).1 (none_back (is_byte 44) key (61 ∷ value) comma).1 in
+        let key_none = both_none (λ b. b == 58 || b == 44) (is_byte 61) key (both_none (is_byte 58) (is_byte 44) key (none_split (is_byte 58) key (61 ∷ value) colon).0 (none_split (is_byte 44) key (61 ∷ value) comma).0) is.1 in
+        let value_none = both_none (is_byte 58) (is_byte 44) value (none_split (is_byte 58) key (61 ∷ value) colon).1.1 (none_split (is_byte 44) key (61 ∷ value) comma).1.1 in
         subst (λ (t : Tag). (text ≡ pair_text t) × IsHeadTag t) same
         (is.0, record { filled = some_of key test.0; key = key_none; value = value_none })
 
@@ -221,7 +209,7 @@ part_written place text said colons e =
     let found = texts_found place text texts.0 texts.1 in
     let written = rate_found place found.place found.rest rate.0 (ap (rate_of place) (sym found.rate) ∙ rate.1) in
     let whole : text ≡ texts.0.value ++ 124 ∷ (found.name ++ rate_spelling written.rate) = found.is ∙ ap (λ (t : List ℕ). texts.0.value ++ 124 ∷ (found.name ++ t)) written.is in
-    let none = both_none (is_byte 58) (is_byte 124) texts.0.value (none_front (is_byte 58) texts.0.value (124 ∷ (found.name ++ rate_spelling written.rate)) (subst (HasNone (is_byte 58)) whole colons)) found.none in
+    let none = both_none (is_byte 58) (is_byte 124) texts.0.value (none_split (is_byte 58) texts.0.value (124 ∷ (found.name ++ rate_spelling written.rate)) (subst (HasNone (is_byte 58)) whole colons)).0 found.none in
     let one : Said = record { metric_type = texts.0.metric_type; field = field_of texts.0.metric_type texts.0.value; value = result.0 } in
     let w : WrittenPart = record { value = texts.0.value; type_text = found.name; rate = written.rate } in (
       w,
@@ -262,7 +250,7 @@ later_tag_written place text tag commas e = cut (first_part 58 text).0 (first_pa
         → (l : LaterTag) × (text ≡ later_spelling l) × IsLaterTag l × ((tags : List Tag) (ls : List LaterTag) → given_later ls ≡ tags → given_later (l ∷ ls) ≡ tag ∷ tags)
     cut key None is e =
         let test = test_ok (list_any (is_byte 124) text || length key == 0) kinds.BadTag place (Ok (key, codes "true")) tag e in
-        let both = or_false (list_any (is_byte 124) text) (length key == 0) test.0 in
+        let both = or_parts (list_any (is_byte 124) text) (length key == 0) test.0 in
         let whole : text ≡ key = is.0 ∙ append-nil key in
         let comma = subst (HasNone (is_byte 44)) whole commas in
         let bar = subst (HasNone (is_byte 124)) whole (any_none (is_byte 124) text both.0) in
@@ -270,11 +258,11 @@ later_tag_written place text tag commas e = cut (first_part 58 text).0 (first_pa
         (Flag key, whole, (some_of key both.1, none), λ tags ls h. rw h (ap (λ (t : Tag). t ∷ tags) (same_ok (key, codes "true") tag test.1)))
     cut key (Some value) is e =
         let test = test_ok (list_any (is_byte 124) text || length key == 0) kinds.BadTag place (Ok (key, value)) tag e in
-        let both = or_false (list_any (is_byte 124) text) (length key == 0) test.0 in
+        let both = or_parts (list_any (is_byte 124) text) (length key == 0) test.0 in
         let comma = subst (HasNone (is_byte 44)) is.0 commas in
         let bar = subst (HasNone (is_byte 124)) is.0 (any_none (is_byte 124) text both.0) in
-        let none = both_none (λ b. b == 58 || b == 44) (is_byte 124) key (both_none (is_byte 58) (is_byte 44) key is.1 (none_front (is_byte 44) key (58 ∷ value) comma)) (none_front (is_byte 124) key (58 ∷ value) bar) in
-        let value_none = both_none (is_byte 44) (is_byte 124) value (none_back (is_byte 44) key (58 ∷ value) comma).1 (none_back (is_byte 124) key (58 ∷ value) bar).1 in
+        let none = both_none (λ b. b == 58 || b == 44) (is_byte 124) key (both_none (is_byte 58) (is_byte 44) key is.1 (none_split (is_byte 44) key (58 ∷ value) comma).0) (none_split (is_byte 124) key (58 ∷ value) bar).0 in
+        let value_none = both_none (is_byte 44) (is_byte 124) value (none_split (is_byte 44) key (58 ∷ value) comma).1.1 (none_split (is_byte 124) key (58 ∷ value) bar).1.1 in
         (Pair key value, is.0, (some_of key both.1, none, value_none), λ tags ls h. rw h (ap (λ (t : Tag). t ∷ tags) (same_ok (key, value) tag test.1)))
 
 later_written : (place : ℕ) (texts : List (List ℕ)) (tags : List Tag) → AllByRecursion (HasNone (is_byte 44)) texts

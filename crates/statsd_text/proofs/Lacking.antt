@@ -4,12 +4,13 @@ use Rattle.std.specs.Prelude.{◌||◌, ◌&&◌, ◌==◌, codes}
 use Rattle.std.specs.List.{list_any}
 use Rattle.std.specs.Str.{bytes_eq}
 use Rattle.std.specs.Str.Parse.{AllDigits}
-use Rattle.std.proofs.lemmas.Bool.{ne_eqb, eqb-true}
+use Rattle.std.proofs.lemmas.Bool.{ne_eqb, eqb-true, or_parts}
 use Rattle.std.proofs.lemmas.List.{drop-drop, drop_all, length-drop}
 use Rattle.std.proofs.lemmas.Str.Parse.{digit_from_value}
 use Rattle.std.proofs.lemmas.Slice.Eq.{bytes_eq-Decides}
 use Rattle.text_parts.specs.Grammar.{HasNone}
 use Rattle.text_parts.specs.Split.{is_byte}
+use Rattle.text_parts.proofs.Lacking.{none_append}
 use Rattle.fixed_num.specs.Decimal.{Decimal, decimal_of}
 use Rattle.fixed_num.specs.Fixed.{read_as, fixed_of}
 use Rattle.fixed_num.specs.Grammar.{Sign, NoSign, Plus, Minus, sign_text, Power, NoPower, Small, Capital, power_text, FitsPower, Digits, Without, With, digits_text, whole_of, fraction_of, Spelled, spelling, IsDecimal}
@@ -19,39 +20,15 @@ use Rattle.statsd_text.specs.declared.said.MetricType.TheVariants.{Counter, Gaug
 use Rattle.statsd_text.specs.Sections.{is_marker, marker_len}
 use Rattle.statsd_text.specs.Said.{type_of}
 
-pub or_false : (a b : Bool) → (a || b) ≡ false → (a ≡ false) × (b ≡ false)
-or_false true b e = absurd cc
-or_false false b e = (refl, e)
-
 -- ---- bytes that a text hasn't
-
-pub fewer : (p q : ℕ → Bool) → ((b : ℕ) → p b ≡ false → q b ≡ false) → (bs : List ℕ) → HasNone p bs → HasNone q bs
-fewer p q h [] none = tt
-fewer p q h (b ∷ bs) none = (h b none.0, fewer p q h bs none.1)
-
-pub none_append : (p : ℕ → Bool) (xs ys : List ℕ) → HasNone p xs → HasNone p ys → HasNone p (xs ++ ys)
-none_append p [] ys h k = k
-none_append p (x ∷ xs) ys h k = (h.0, none_append p xs ys h.1 k)
-
-pub none_front : (p : ℕ → Bool) (xs ys : List ℕ) → HasNone p (xs ++ ys) → HasNone p xs
-none_front p [] ys h = tt
-none_front p (x ∷ xs) ys h = (h.0, none_front p xs ys h.1)
-
-pub none_back : (p : ℕ → Bool) (xs ys : List ℕ) → HasNone p (xs ++ ys) → HasNone p ys
-none_back p [] ys h = h
-none_back p (x ∷ xs) ys h = none_back p xs ys h.1
 
 pub both_none : (p q : ℕ → Bool) (bs : List ℕ) → HasNone p bs → HasNone q bs → HasNone (λ b. p b || q b) bs
 both_none p q [] h k = tt
 both_none p q (b ∷ bs) h k = (rw (h.0, k.0) refl, both_none p q bs h.1 k.1)
 
-pub none_any : (p : ℕ → Bool) (bs : List ℕ) → HasNone p bs → list_any p bs ≡ false
-none_any p [] h = refl
-none_any p (b ∷ bs) h = rw (h.0) (none_any p bs h.1)
-
 pub any_none : (p : ℕ → Bool) (bs : List ℕ) → list_any p bs ≡ false → HasNone p bs
 any_none p [] e = tt
-any_none p (b ∷ bs) e = let both = or_false (p b) (list_any p bs) e in (both.0, any_none p bs both.1)
+any_none p (b ∷ bs) e = let both = or_parts (p b) (list_any p bs) e in (both.0, any_none p bs both.1)
 
 -- ---- a rate
 

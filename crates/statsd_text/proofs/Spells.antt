@@ -3,7 +3,7 @@ use Rattle.std.proofs.Common.{◌≡◌, ℕ, ℤ, suc, ◌+◌, ◌<◌, Bool, 
 use Rattle.std.specs.Prelude.{◌||◌, ◌&&◌, ◌==◌, codes, filter}
 use Rattle.std.specs.List.{AllByRecursion, join_with_byte, list_any, slice_split}
 use Rattle.std.specs.Str.{is_utf8}
-use Rattle.std.proofs.lemmas.Bool.{ne_eqb}
+use Rattle.std.proofs.lemmas.Bool.{ne_eqb, or_parts}
 use Rattle.std.proofs.lemmas.List.{append-nil, take_at, drop_all, length-append}
 use Rattle.std.proofs.lemmas.Str.{is_utf8-from_IsUtf8}
 use Rattle.text_parts.specs.Grammar.{HasNone}
@@ -20,7 +20,8 @@ use Rattle.statsd_text.specs.Said.{texts_of, type_of, value_of, field_of, rate_o
 use Rattle.statsd_text.specs.Reading.{limited, line_reading, is_blank, text_reading, reading}
 use Rattle.statsd_text.specs.Grammar.{ends_name, ends_key, ends_value, ends_later_key, ends_later_value, WrittenPart, rate_spelling, part_spelling, LaterTag, Nothing, Flag, Pair, later_spelling, Written, head_spelling, parts_spelling, end_spelling, line_spelling}
 use Rattle.statsd_text.specs.Grammar.{IsHeadTag, IsRate, IsPart, AreParts, IsLaterTag, given_later, AreLater, given_end, IsLine, metrics_of, WrittenIsRead}
-use Rattle.statsd_text.proofs.Lacking.{or_false, fewer, none_append, none_any, decimal_none, type_text, Unmarked, marked_at, unmarked_more, unmarked_bar, unmarked_append, ends_rate}
+use Rattle.text_parts.proofs.Lacking.{fewer, none_append, none_any}
+use Rattle.statsd_text.proofs.Lacking.{decimal_none, type_text, Unmarked, marked_at, unmarked_more, unmarked_bar, unmarked_append, ends_rate}
 
 not_empty : (text : List ℕ) → 0 < length text → (length text == 0) ≡ false
 not_empty text some = ne_eqb (length text) 0 (λ e. absurd (omega arith))
@@ -28,15 +29,15 @@ not_empty text some = ne_eqb (length text) 0 (λ e. absurd (omega arith))
 -- ---- the head
 
 no_colon : (b : ℕ) → ends_name b ≡ false → is_byte 58 b ≡ false
-no_colon b e = (or_false (b == 58) (b == 44) e).0
+no_colon b e = (or_parts (b == 58) (b == 44) e).0
 
 no_comma : (b : ℕ) → ends_name b ≡ false → is_byte 44 b ≡ false
-no_comma b e = (or_false (b == 58) (b == 44) e).1
+no_comma b e = (or_parts (b == 58) (b == 44) e).1
 
 key_parts : (b : ℕ) → ends_key b ≡ false → (is_byte 58 b ≡ false) × (is_byte 44 b ≡ false) × (is_byte 61 b ≡ false)
 key_parts b e =
-    let last = or_false (b == 58 || b == 44) (b == 61) e in
-    let first = or_false (b == 58) (b == 44) last.0 in
+    let last = or_parts (b == 58 || b == 44) (b == 61) e in
+    let first = or_parts (b == 58) (b == 44) last.0 in
     (first.0, first.1, last.1)
 
 pair_none : (p : ℕ → Bool) → p 61 ≡ false → ((b : ℕ) → ends_key b ≡ false → p b ≡ false) → ((b : ℕ) → ends_name b ≡ false → p b ≡ false)
@@ -80,8 +81,8 @@ head_read w said is =
 
 later_key_parts : (b : ℕ) → ends_later_key b ≡ false → (is_byte 58 b ≡ false) × (is_byte 44 b ≡ false) × (is_byte 124 b ≡ false)
 later_key_parts b e =
-    let last = or_false (b == 58 || b == 44) (b == 124) e in
-    let first = or_false (b == 58) (b == 44) last.0 in
+    let last = or_parts (b == 58 || b == 44) (b == 124) e in
+    let first = or_parts (b == 58) (b == 44) last.0 in
     (first.0, first.1, last.1)
 
 later_none : (p : ℕ → Bool) → p 58 ≡ false → ((b : ℕ) → ends_later_key b ≡ false → p b ≡ false) → ((b : ℕ) → ends_later_value b ≡ false → p b ≡ false)
@@ -93,12 +94,12 @@ later_none p e h k (Pair key value) is = none_append p key (58 ∷ value) (fewer
 later_no_comma : (tags : List LaterTag) → AllByRecursion IsLaterTag tags → AllLack 44 (map later_spelling tags)
 later_no_comma [] h = tt
 later_no_comma (tag ∷ tags) h =
-    (later_none (is_byte 44) refl (λ b e. (later_key_parts b e).1) (λ b e. (or_false (b == 44) (b == 124) e).0) tag h.0, later_no_comma tags h.1)
+    (later_none (is_byte 44) refl (λ b e. (later_key_parts b e).1) (λ b e. (or_parts (b == 44) (b == 124) e).0) tag h.0, later_no_comma tags h.1)
 
 later_no_bar : (tag : LaterTag) → IsLaterTag tag → list_any (is_byte 124) (later_spelling tag) ≡ false
 later_no_bar tag is =
     none_any (is_byte 124) (later_spelling tag)
-    (later_none (is_byte 124) refl (λ b e. (later_key_parts b e).2) (λ b e. (or_false (b == 44) (b == 124) e).1) tag is)
+    (later_none (is_byte 124) refl (λ b e. (later_key_parts b e).2) (λ b e. (or_parts (b == 44) (b == 124) e).1) tag is)
 
 flag_read : (place : ℕ) (key : List ℕ) → IsLaterTag (Flag key) → later_tag (place, key) ≡ Ok (key, codes "true")
 unfolding later_tag
@@ -131,7 +132,7 @@ later_read place (Pair key value ∷ tags) h =
 -- ---- the parts
 
 value_parts : (b : ℕ) → ends_value b ≡ false → (is_byte 58 b ≡ false) × (is_byte 124 b ≡ false)
-value_parts b e = or_false (b == 58) (b == 124) e
+value_parts b e = or_parts (b == 58) (b == 124) e
 
 rate_none : (rate : Option (List ℕ)) (n : Option ℤ) → IsRate rate n → HasNone (is_byte 58) (rate_spelling rate)
 rate_none None n is = tt

@@ -1,8 +1,9 @@
 //! The metrics of a line.
-ghost use Rattle.std.specs.Prelude.{◌≡◌, ◌<◌, length, map, IfOk};
+ghost use Rattle.std.specs.Prelude.{◌≡◌, ◌<◌, [], ◌∷◌, length, map, IfOk, OnOk};
 ghost use Rattle.text_parts.specs.Chain.{Gives};
-ghost use Rattle.metric.specs.Pairs.{with_values};
-ghost use Rattle.statsd_text.specs.Reading.{limited};
+ghost use Rattle.metric.specs.Pairs.{with_sorted, with_values};
+ghost use Rattle.statsd_text.specs.Reading.{limited, type_tag};
+ghost use Rattle.statsd_text.specs.Said.{field_name};
 ghost use Rattle.statsd_text.specs.TagMap.{IsKeyed, IsReady, kept_content};
 
 use crate::fault::{StatsdFault, StatsdKind, fault};
@@ -14,6 +15,26 @@ use text_parts::ReadError;
 
 /// The most tags of a metric.
 const MOST_TAGS: usize = 64;
+
+/// Puts the tags of a line and what a part says into a builder that has none yet.
+#[inline(always)]
+fn put_said(builder: &mut Builder, tags: &[(Text, Text)], said: Said) -> Result<(), OutOfMemory>
+    requires tags { builder.old.tags ≡ [] }
+    requires fields { builder.old.fields ≡ [] }
+    requires keyed { IsKeyed tags.now }
+    ensures name { OnOk result (builder.new.name ≡ builder.old.name) }
+    ensures tags { OnOk result
+        (builder.new.tags ≡ with_sorted tags.now (type_tag said).0 (type_tag said).1) }
+    ensures fields { OnOk result
+        (builder.new.fields ≡ (field_name said.field, said.value) ∷ []) }
+{
+    for (key, value) in tags {
+        builder.tag(key.as_str(), value.as_str())?;
+    }
+    builder.tag("metric_type", said.metric_type.name())?;
+    builder.field(said.field.text(), said.value)?;
+    Ok(())
+}
 
 /// The metric of a part at a time, with the tags of its line.
 fn metric_of(
@@ -28,11 +49,7 @@ fn metric_of(
     ensures { IfOk result (λ metric. metric ≡ kept_content name.now tags.now moment said) }
 {
     let mut builder = Builder::with_room(alloc, name, tags.len() + 1, 1)?;
-    for (key, value) in tags {
-        builder.tag(key.as_str(), value.as_str())?;
-    }
-    builder.tag("metric_type", said.metric_type.name())?;
-    builder.field(said.field.text(), said.value)?;
+    put_said(&mut builder, tags, said)?;
     finish(builder, moment)
 }
 

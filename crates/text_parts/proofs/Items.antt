@@ -5,7 +5,7 @@ use Rattle.std.proofs.lemmas.Bool.{eq-eqb, ne_eqb}
 use Rattle.text_parts.specs.declared.error.ReadError.{ReadError}
 use Rattle.text_parts.specs.declared.error.ReadError.TheVariants as errors
 use Rattle.text_parts.specs.Chain.{◌>>=◌, Fails}
-use Rattle.text_parts.specs.Many.{Reader, many_at, items_at}
+use Rattle.text_parts.specs.Many.{Reader, many_at, items_at, some_items_at}
 
 -- what a reading of items gives, behind items that were read before
 abbrev pub with_front : {A F : Type 0} → List A → Result (List A × ℕ) F → Result (List A × ℕ) F
@@ -76,3 +76,20 @@ all_read {A = A} item_at separator piece from front at r is_none = with_fuel r.f
         let test : eqb (get_or piece at 0) separator ≡ false = ne_eqb _ _ is_none in
         let one : with_front front (many_at item_at separator (suc fuel) piece at) ≡ Ok (front, at) = rw (test, append-nil) refl in
         sym total ∙ one
+
+-- ---- a first item, and others behind separators
+
+pub first_fails : {A F : Type 0} (item_at : Reader A F) (separator : ℕ) (piece : List ℕ) (i : ℕ) (e : ReadError F)
+    → Fails e (item_at piece i) → Fails e (some_items_at item_at separator piece i)
+first_fails item_at separator piece i errors.OutOfMemory h = tt
+first_fails item_at separator piece i (errors.Fault fault) h = rw h refl
+
+pub other_fails : {A F : Type 0} (item_at : Reader A F) (separator : ℕ) (piece : List ℕ) (i behind : ℕ) (first : A) (e : ReadError F)
+    → item_at piece i ≡ Ok (first, behind) → Fails e (items_at item_at separator piece behind) → Fails e (some_items_at item_at separator piece i)
+other_fails item_at separator piece i behind first errors.OutOfMemory one h = tt
+other_fails item_at separator piece i behind first (errors.Fault fault) one h = rw (one, h) refl
+
+pub items_are : {A F : Type 0} (item_at : Reader A F) (separator : ℕ) (piece : List ℕ) (i behind at : ℕ) (first : A) (others : List A)
+    → item_at piece i ≡ Ok (first, behind) → items_at item_at separator piece behind ≡ Ok (others, at)
+    → some_items_at item_at separator piece i ≡ Ok (first ∷ others, at)
+items_are item_at separator piece i behind at first others one all = rw (one, all) refl

@@ -9,3 +9,9 @@ pub mod Escaping
 pub mod Splits
 pub mod Each
 pub mod WordTexts
+pub mod Lacking
+pub mod Founds
+pub mod Stands
+pub mod Utf8Readings
+pub mod Takes
+pub mod EscapedUtf8

@@ -11,30 +11,33 @@ use Rattle.text_parts.specs.declared.part.Part.{Part}
 use Rattle.text_parts.specs.Kinds.{kind_of, meaning_of, IsAsciiPart}
 use Rattle.text_parts.proofs.MarkLemmas.{found}
 
--- a byte below 128 can be left out
-pub without_ascii : (xs ys : List ℕ) (b : ℕ) → b < 128 → IsUtf8 (xs ++ b ∷ ys) → IsUtf8 (xs ++ ys)
-without_ascii xs ys b small u =
+-- what stands before a byte below 128 is UTF-8, and so is what stands behind it
+pub around_ascii : (xs ys : List ℕ) (b : ℕ) → b < 128 → IsUtf8 (xs ++ b ∷ ys) → IsUtf8 xs × IsUtf8 ys
+around_ascii xs ys b small u =
     let at : get_or (xs ++ b ∷ ys) (length xs) 0 ≡ b = get_or_at xs b ys 0 (length xs) refl in
     let low : get_or (xs ++ b ∷ ys) (length xs) 0 < 128 = omega arith in
     let within : length xs < length (xs ++ b ∷ ys) = omega (arith, length-append xs (b ∷ ys)) in
-    let front : IsUtf8 xs = subst IsUtf8 (take_at xs (b ∷ ys) (length xs) refl) (IsUtf8-take (xs ++ b ∷ ys) (length xs) u (IsCharBoundary-before_ascii (xs ++ b ∷ ys) (length xs) within low)) in
-    let later : drop (length xs + 1) (xs ++ b ∷ ys) ≡ ys = sym (drop-drop 1 (length xs) (xs ++ b ∷ ys)) ∙ ap (drop 1) (drop_at xs (b ∷ ys) (length xs) refl) in
-    let back : IsUtf8 ys = subst IsUtf8 later (IsUtf8-drop (xs ++ b ∷ ys) (length xs + 1) u (IsCharBoundary-after_ascii (xs ++ b ∷ ys) (length xs) u within low)) in
-    IsUtf8-append xs ys front back
+    let later : drop (length xs + 1) (xs ++ b ∷ ys) ≡ ys = sym (drop-drop 1 (length xs) (xs ++ b ∷ ys)) ∙ ap (drop 1) (drop_at xs (b ∷ ys) (length xs) refl) in (
+      subst IsUtf8 (take_at xs (b ∷ ys) (length xs) refl) (IsUtf8-take (xs ++ b ∷ ys) (length xs) u (IsCharBoundary-before_ascii (xs ++ b ∷ ys) (length xs) within low)),
+      subst IsUtf8 later (IsUtf8-drop (xs ++ b ∷ ys) (length xs + 1) u (IsCharBoundary-after_ascii (xs ++ b ∷ ys) (length xs) u within low)),
+    )
 
-one_ascii : (c : ℕ) → c < 128 → IsUtf8 (c ∷ [])
+pub one_ascii : (c : ℕ) → c < 128 → IsUtf8 (c ∷ [])
 one_ascii c low = subst IsUtf8 (encode_ascii c low) (IsUtf8-encode c (search rules))
+
+-- a byte below 128 in front of a text
+pub first_ascii : (c : ℕ) (text : List ℕ) → c < 128 → IsUtf8 text → IsUtf8 (c ∷ text)
+first_ascii c text low u = IsUtf8-append (c ∷ []) text (one_ascii c low) u
+
+-- a byte below 128 can be left out
+pub without_ascii : (xs ys : List ℕ) (b : ℕ) → b < 128 → IsUtf8 (xs ++ b ∷ ys) → IsUtf8 (xs ++ ys)
+without_ascii xs ys b small u = let around = around_ascii xs ys b small u in IsUtf8-append xs ys around.0 around.1
 
 -- a byte below 128 can become another
 other_ascii : (xs ys : List ℕ) (b c : ℕ) → b < 128 → c < 128 → IsUtf8 (xs ++ b ∷ ys) → IsUtf8 (xs ++ c ∷ ys)
 other_ascii xs ys b c small low u =
-    let at : get_or (xs ++ b ∷ ys) (length xs) 0 ≡ b = get_or_at xs b ys 0 (length xs) refl in
-    let below : get_or (xs ++ b ∷ ys) (length xs) 0 < 128 = omega arith in
-    let within : length xs < length (xs ++ b ∷ ys) = omega (arith, length-append xs (b ∷ ys)) in
-    let front : IsUtf8 xs = subst IsUtf8 (take_at xs (b ∷ ys) (length xs) refl) (IsUtf8-take (xs ++ b ∷ ys) (length xs) u (IsCharBoundary-before_ascii (xs ++ b ∷ ys) (length xs) within below)) in
-    let later : drop (length xs + 1) (xs ++ b ∷ ys) ≡ ys = sym (drop-drop 1 (length xs) (xs ++ b ∷ ys)) ∙ ap (drop 1) (drop_at xs (b ∷ ys) (length xs) refl) in
-    let back : IsUtf8 ys = subst IsUtf8 later (IsUtf8-drop (xs ++ b ∷ ys) (length xs + 1) u (IsCharBoundary-after_ascii (xs ++ b ∷ ys) (length xs) u within below)) in
-    IsUtf8-append xs (c ∷ ys) front (IsUtf8-append (c ∷ []) ys (one_ascii c low) back)
+    let around = around_ascii xs ys b small u in
+    IsUtf8-append xs (c ∷ ys) around.0 (first_ascii c ys low around.1)
 
 -- all that ends such a part or is hidden in it is ASCII, and so is what it means
 pub record IsAsciiKind (k : Kind) : Type 0 where

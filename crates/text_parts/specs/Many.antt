@@ -20,3 +20,10 @@ many_at item_at separator (suc n) piece i =
 -- all items from a place on, each behind the separator, and the place behind them
 abbrev pub items_at : {A F : Type 0} → Reader A F → ℕ → Reader (List A) F
 items_at item_at separator piece i = many_at item_at separator (length piece) piece i
+
+-- one item or more, with separators between them, and the place behind them
+abbrev pub some_items_at : {A F : Type 0} → Reader A F → ℕ → Reader (List A) F
+some_items_at item_at separator piece i = do
+  first ← item_at piece i
+  others ← items_at item_at separator piece first.1
+  Ok (first.0 ∷ others.0, others.1)

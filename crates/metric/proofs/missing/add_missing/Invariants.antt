@@ -6,8 +6,8 @@ use Rattle.metric.proofs.missing.add_missing.Given as goal
 
 abbrev pub invariant-loop-i : goal.invariant-loop-i
 invariant-loop-i l = record {
-  added : with_all_missing l.tags.items (drop l.i l.given)
-      ≡ with_all_missing l.fn.tags.items (drop l.from l.given);
-  sorted : IsInKeyOrder l.tags.items;
-  each : AllByRecursion IsTag l.tags.items;
+  added : with_all_missing l.tags (drop l.i l.given)
+      ≡ with_all_missing l.fn.tags (drop l.from l.given);
+  sorted : IsInKeyOrder l.tags;
+  each : AllByRecursion IsTag l.tags;
 }

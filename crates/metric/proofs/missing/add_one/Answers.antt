@@ -9,11 +9,11 @@ use Rattle.metric.proofs.missing.add_one.Goals as goal
 pub returns-clause-sorted : goal.returns-clause-sorted
 returns-clause-sorted c =
     subst IsInKeyOrder (sym c.in_ok-put_tag.ensures.ok)
-    (with_sorted-ordered c.args.tags.now.items c.args.key.now c.args.value.now c.requires.sorted)
+    (with_sorted-ordered c.args.tags.now c.args.key.now c.args.value.now c.requires.sorted)
 
 pub returns-clause-each : goal.returns-clause-each
 returns-clause-each c =
     subst (AllByRecursion IsTag) (sym c.in_ok-put_tag.ensures.ok)
-    (each_sorted IsTag c.args.tags.now.items c.args.key.now c.args.value.now
+    (each_sorted IsTag c.args.tags.now c.args.key.now c.args.value.now
     (record { filled = c.requires.key; utf8 = c.utf8.key }, record { filled = c.requires.value; utf8 = c.utf8.value })
     c.requires.each)

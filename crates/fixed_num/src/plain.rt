@@ -1,38 +1,17 @@
-//! Numbers of lines.
-ghost use Rattle.std.specs.Prelude.{◌≡◌, ◌<◌, ◌≤◌, ◌-◌, ◌*◌, ◌^◌, Ok, pos, length, take, slice_index, IfSome};
+//! Plain numbers: few digits, with a point or without.
+ghost use Rattle.std.specs.Prelude.{◌≡◌, ◌<◌, ◌≤◌, ◌-◌, ◌*◌, ◌^◌, Ok, length, take, slice_index, IfSome};
 ghost use Rattle.fixed_num.specs.Fixed.{read_as};
-ghost use Rattle.graphite_text.specs.Numbers.{Spells, Pointed};
+ghost use Rattle.fixed_num.specs.Digits.{Spells, Pointed};
+ghost use Rattle.fixed_num.specs.Whole.{numeral_read_as};
 
-use fixed_num::{Fixed, NumFault};
+use crate::fixed::Fixed;
+use crate::value::power_of_ten;
 
 /// So many digits always spell a number that fits 64 bits.
-const FEW: usize = 18;
+const FEW: usize = 19;
 
 /// So many places have the billionths of a number.
 const PLACES: usize = 9;
-
-/// The powers of ten up to that of the places.
-static POWERS: [u32; 10] = [
-    1,
-    10,
-    100,
-    1_000,
-    10_000,
-    100_000,
-    1_000_000,
-    10_000_000,
-    100_000_000,
-    1_000_000_000,
-];
-
-/// A power of ten.
-#[inline(always)]
-fn power_of_ten(exponent: usize) -> u32
-    requires { exponent ≤ 9 }
-    ensures { result ≡ 10 ^ exponent }
-{
-    POWERS[exponent]
-}
 
 /// The number that the digits spell which stand first, and how many they are.
 #[inline(always)]
@@ -78,16 +57,16 @@ fn digits_behind(front: u64, text: &[u8], point: usize) -> Option<u64>
 
 /// How many billionths a number is whose last digits are so many places.
 #[inline(always)]
-fn billionths_of(number: u64, places: usize) -> i128
+fn billionths_of(number: u64, places: usize) -> u128
     requires { places ≤ PLACES }
-    ensures { result ≡ pos (number * 10 ^ (9 - places)) }
+    ensures { result ≡ number * 10 ^ (9 - places) }
 {
-    i128::from(number) * i128::from(power_of_ten(PLACES - places))
+    u128::from(number) * u128::from(power_of_ten(PLACES - places))
 }
 
-/// The number that few digits spell, with a point among them or behind them or without, as most times and values
+/// The number that few digits spell, with a point among them or behind them or without, as most texts of numbers
 /// are; None for any other text.
-fn plain_number(text: &[u8]) -> Option<Fixed>
+pub(crate) fn plain_number(text: &[u8]) -> Option<Fixed>
     ensures { IfSome result (λ number. read_as text.now ≡ Ok number) }
 {
     if FEW < text.len() {
@@ -98,21 +77,26 @@ fn plain_number(text: &[u8]) -> Option<Fixed>
         return None;
     }
     if point == text.len() {
-        return Fixed::of_billionths(billionths_of(front, 0));
+        return Fixed::of_magnitude(billionths_of(front, 0));
     }
     if text[point] != b'.' || PLACES < text.len() - point - 1 {
         return None;
     }
     let number = digits_behind(front, text, point)?;
-    Fixed::of_billionths(billionths_of(number, text.len() - point - 1))
+    Fixed::of_magnitude(billionths_of(number, text.len() - point - 1))
 }
 
-/// The number that a text spells.
-pub(crate) fn read_number(text: &[u8]) -> Result<Fixed, NumFault>
-    ensures { result ≡ read_as text.now }
+/// The number that few digits spell, with nothing else among them; None for any other text.
+#[inline(always)]
+pub(crate) fn plain_numeral(text: &[u8]) -> Option<u64>
+    ensures { IfSome result (λ number. numeral_read_as text.now ≡ Ok number) }
 {
-    match plain_number(text) {
-        Some(number) => Ok(number),
-        None => Fixed::read(text),
+    if FEW < text.len() {
+        return None;
     }
+    let (number, count) = first_digits(text);
+    if count == 0 || count != text.len() {
+        return None;
+    }
+    Some(number)
 }

@@ -1,6 +1,6 @@
 use Rattle.std.proofs.Common.{◌+◌, arith}
-use Rattle.graphite_text.proofs.Digits.{one_behind, behind_fits}
-use Rattle.graphite_text.proofs.number.digits_behind.Goals as goal
+use Rattle.fixed_num.proofs.DigitLemmas.{one_behind, behind_fits}
+use Rattle.fixed_num.proofs.plain.digits_behind.Goals as goal
 
 pub overflow_mul-number : goal.overflow_mul-number
 overflow_mul-number c =

@@ -1,5 +1,5 @@
 -- Digits that spell a number, one by one.
-use Rattle.std.proofs.Common.{◌≡◌, ◌≢◌, ℕ, ℤ, ◌+◌, ◌-◌, ◌*◌, ◌^◌, ◌<◌, ◌≤◌, false, List, [], ◌∷◌, ◌++◌, length, get_or, take, take_all, Ok, Some, refl, sym, ap, subst, ◌∙◌, append_assoc, length-append, arith}
+use Rattle.std.proofs.Common.{◌≡◌, ◌≢◌, ℕ, ℤ, ◌+◌, ◌-◌, ◌*◌, ◌^◌, ◌<◌, ◌≤◌, true, false, ltb, List, [], ◌∷◌, ◌++◌, length, get_or, take, take_all, Ok, Some, refl, sym, ap, subst, ◌∙◌, append_assoc, length-append, arith}
 use Rattle.std.specs.Prelude.{Option, None, SomeIff, IfSome, pos}
 use Rattle.std.specs.Char.{digit_value}
 use Rattle.std.specs.Str.Parse.{AllDigits, digits_value}
@@ -13,8 +13,10 @@ use Rattle.fixed_num.specs.Grammar.{NoSign, Without, With, NoPower}
 use Rattle.fixed_num.specs.Range.{InRange}
 use Rattle.fixed_num.proofs.Magnitude.{few_fit, plain, times}
 use Rattle.fixed_num.proofs.Spelling.{reads_spelled}
+use Rattle.fixed_num.proofs.SpelledInts.{numeral_is}
+use Rattle.fixed_num.specs.Whole.{numeral_read_as}
 use Rattle.fixed_num.proofs.Values.{AllDigits-append, digit_is, value_append, value_more}
-use Rattle.graphite_text.specs.Numbers.{Spells, Pointed}
+use Rattle.fixed_num.specs.Digits.{Spells, Pointed}
 
 -- the first digits and one more
 pub one_digit : (text : List ℕ) (number : ℕ) (i : ℕ) → i < length text → digit_value (get_or text i 0) < 10 → Spells (take i text) number
@@ -25,7 +27,7 @@ one_digit text number i lt digit s = record {
 }
 
 -- what a few digits spell fits
-pub spelled_fits : (text : List ℕ) (number : ℕ) (i : ℕ) → length text ≤ 18 → Spells (take i text) number → number < 2 ^ 64
+pub spelled_fits : (text : List ℕ) (number : ℕ) (i : ℕ) → length text ≤ 19 → Spells (take i text) number → number < 2 ^ 64
 spelled_fits text number i few s = rw s.is (few_fit (take i text) s.digits (omega (arith, few, length-take i text)))
 
 -- the same behind a point
@@ -43,7 +45,7 @@ one_behind text point at number lt digit p =
           ∙ sym (value_append 0 (whole ++ p.fraction) (c ∷ [])) ∙ ap (digits_value 10) (append_assoc whole p.fraction (c ∷ []));
     }
 
-pub behind_fits : (text : List ℕ) (point at number : ℕ) → length text ≤ 18 → Pointed text point at number → number < 2 ^ 64
+pub behind_fits : (text : List ℕ) (point at number : ℕ) → length text ≤ 19 → Pointed text point at number → number < 2 ^ 64
 behind_fits text point at number few p =
     let whole : List ℕ = take point text in
     let all : length (take at text) ≡ length (whole ++ 46 ∷ p.fraction) = ap length p.text_is in
@@ -100,3 +102,14 @@ pointed_given text point places number found some lt are few p g =
     given text whole p.fraction number found
     (ap decimal_of all ∙ pointed_decimal whole p.fraction (omega (arith, front, some)) p.whole_digits p.fraction_digits) (omega (arith, same, few)) p.is
     (subst (λ (n : ℕ). SomeIff found (InRange (pos (number * 10 ^ (9 - n)))) (pos (number * 10 ^ (9 - n)))) same g)
+
+-- digits and nothing else
+pub numeral_given : (text : List ℕ) (count number : ℕ) → count ≢ 0 → count ≡ length text → length text ≤ 19 → Spells (take count text) number
+    → numeral_read_as text ≡ Ok number
+unfolding numeral_read_as
+numeral_given text count number some end few s =
+    let all : take count text ≡ text = take_all count text (omega (arith, end)) in
+    let digits : AllDigits 10 text = subst (AllDigits 10) all s.digits in
+    let is : digits_value 10 text ≡ number = ap (digits_value 10) (sym all) ∙ sym s.is in
+    let fits : ltb number (2 ^ 64) ≡ true = lt-ltb _ _ (subst (λ (n : ℕ). n < 2 ^ 64) is (few_fit text digits few)) in
+    rw (numeral_is text (omega (arith, some, end), digits), is, fits) refl

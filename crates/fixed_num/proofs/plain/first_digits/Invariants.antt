@@ -1,6 +1,6 @@
 use Rattle.std.proofs.Common.{◌≤◌, ◌-◌, length, take}
-use Rattle.graphite_text.specs.Numbers.{Spells}
-use Rattle.graphite_text.proofs.number.first_digits.Given as goal
+use Rattle.fixed_num.specs.Digits.{Spells}
+use Rattle.fixed_num.proofs.plain.first_digits.Given as goal
 
 abbrev pub invariant-loop-at : goal.invariant-loop-at
 invariant-loop-at l = record { within : l.at ≤ length l.text; spells : Spells (take l.at l.text) l.number }

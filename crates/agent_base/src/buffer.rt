@@ -19,6 +19,7 @@ use crate::{CutKind, Failed, Piece, PieceFault, Source};
 use fixed_num::OutOfMemory;
 use memchr::memchr;
 use std::alloc::Global;
+use std::mem;
 
 /// How many places are free for a read, at least.
 const READ: usize = 65_536;
@@ -99,11 +100,12 @@ fn read_behind<S: Source>(
 }
 
 /// The bytes in hand stand from `start` to `end`, and no piece ends among them before `searched`, where the line
-/// that begins at `line` has come to.
+/// that begins at `line` has come to. `spare` is memory for a piece.
 #[derive(Debug, Drop)]
 pub(crate) struct Buffer {
     kind: CutKind,
     buf: Vec<u8>,
+    spare: Vec<u8>,
     start: usize,
     line: usize,
     searched: usize,
@@ -133,6 +135,7 @@ impl Buffer {
         Ok(Buffer {
             kind,
             buf,
+            spare: Vec::new(alloc),
             start: 0,
             line: 0,
             searched: 0,
@@ -391,6 +394,28 @@ impl Buffer {
         Ok(Some(Piece::of(bytes)))
     }
 
+    // Room for so many bytes, in the memory of a piece that was taken back where there is one.
+    fn room_for(&mut self, most: usize) -> Result<Vec<u8>, OutOfMemory>
+        ensures empty { IfOk result (λ room. room.items ≡ []) }
+        ensures fits { IfOk result (λ room. most ≤ vec_capacity room) }
+        ensures same { hand_of self.new ≡ hand_of self.old }
+    {
+        let none = Vec::new(*self.buf.allocator());
+        let mut room = mem::replace(&mut self.spare, none);
+        room.clear();
+        room.reserve(most)?;
+        Ok(room)
+    }
+
+    /// Takes the memory of a piece back, for the next one. That of a piece with much memory is let go.
+    pub(crate) fn take_back(&mut self, bytes: Vec<u8>)
+        ensures { hand_of self.new ≡ hand_of self.old }
+    {
+        if bytes.capacity() <= READ {
+            self.spare = bytes;
+        }
+    }
+
     // Gives the piece of so many bytes and its newline that is in hand.
     fn give_in_hand(&mut self, i: usize) -> Result<Option<Piece>, PieceFault>
         requires { FirstEnd self.old.kind (bytes_of self.old) i }
@@ -401,12 +426,10 @@ impl Buffer {
         ensures kind { self.new.kind ≡ self.old.kind }
         ensures counted { self.new.taken ≡ self.old.taken }
     {
-        match Vec::with_capacity(
-            *self.buf.allocator(),
-            usize::min(i + 1, self.kind.most_bytes()),
-        ) {
+        let most = usize::min(i + 1, self.kind.most_bytes());
+        match self.room_for(most) {
             Ok(room) => self.give(room, i),
-            Err(_) => Err(PieceFault::OutOfMemory),
+            Err(OutOfMemory) => Err(PieceFault::OutOfMemory),
         }
     }
 

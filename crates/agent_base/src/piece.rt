@@ -96,6 +96,13 @@ impl Piece {
         Piece { bytes }
     }
 
+    pub(crate) fn into_bytes(self) -> Vec<u8>
+        ensures { result.items ≡ self }
+    {
+        let Piece { bytes } = self;
+        bytes
+    }
+
     /// The content.
     pub fn bytes(&self) -> &[u8]
         ensures { result.now ≡ self.now }

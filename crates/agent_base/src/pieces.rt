@@ -74,6 +74,13 @@ impl Pieces {
     {
         self.buffer.next(src)
     }
+
+    /// Takes a piece back that isn't needed any more, so that its memory serves the next one.
+    pub fn take_back(&mut self, piece: Piece)
+        ensures { self.new ≡ self.old }
+    {
+        self.buffer.take_back(piece.into_bytes());
+    }
 }
 
 /// The pieces of lines, each with a newline behind it, and of a rest without one are those of the lines and

@@ -6,6 +6,7 @@ pub mod PartLemmas
 pub mod SideLemmas
 pub mod ClockListLemmas
 pub mod ZipLemmas
+pub mod LoopLemmas
 pub mod RunningLemmas
 pub mod PipeLemmas
 pub mod RunCallLemmas

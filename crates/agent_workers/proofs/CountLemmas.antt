@@ -1,8 +1,8 @@
 -- What is kept of metrics, one by one.
-use Rattle.std.proofs.Common.{◌≡◌, ◌≤◌, ◌<◌, ◌+◌, ℕ, length, get_or, take, subst, List, [], ◌∷◌, ◌++◌, refl, sym, ap, ◌∙◌, arith, append_assoc, append-nil}
+use Rattle.std.proofs.Common.{◌≡◌, ◌+◌, List, [], ◌∷◌, ◌++◌, refl, sym, ap, ◌∙◌, arith, append_assoc, append-nil}
 use Rattle.std.specs.Prelude.{if◌then◌else◌, map}
 use Rattle.std.specs.List.{filter_map}
-use Rattle.std.proofs.lemmas.List.{map-id, take_more}
+use Rattle.std.proofs.lemmas.List.{map-id}
 use Rattle.std.proofs.lemmas.List.Elements.{filter_map-append}
 use Rattle.std.proofs.lemmas.List.Sums.{sum_by-append}
 use Rattle.metric.specs.declared.metric.Content.{Content}
@@ -24,11 +24,6 @@ counts_more rule done metric first old new h k = record {
       ∙ append_assoc first.metrics.items (kept rule done) (kept rule (metric ∷ []))
       ∙ ap (λ (ms : List Content). first.metrics.items ++ ms) (sym (filter_map-append (keeps rule) done (metric ∷ [])));
 }
-
--- the next of some metrics, as it was copied
-pub counts_next : (rule : InRule) (metrics : List Content) (i : ℕ) (item metric : Content) (first old new : Group) → i < length metrics → item ≡ get_or metrics i item → metric ≡ item → Counts rule (Says (take i metrics) 0) first old → Counts rule (Says (metric ∷ []) 0) old new → Counts rule (Says (take (i + 1) metrics) 0) first new
-counts_next rule metrics i item metric first old new l at same h k =
-    subst (λ (ms : List Content). Counts rule (Says ms 0) first new) (sym (take_more metrics i item l ∙ ap (λ (m : Content). take i metrics ++ m ∷ []) (sym (same ∙ at)))) (counts_more rule (take i metrics) metric first old new h k)
 
 -- all items of a list were given
 pub all_yielded : (yielded all : List Content) → map (λ (x : Content). x) yielded ≡ all → yielded ≡ all

@@ -17,7 +17,7 @@ use Rattle.pipeline_core.specs.declared.gathering.Gathered.{Gathered}
 use Rattle.agent_workers.specs.declared.input.InState.{InState}
 use Rattle.agent_workers.specs.declared.input.InState.TheVariants as states
 use Rattle.agent_workers.specs.declared.input.InJob.{InJob}
-use Rattle.agent_workers.specs.Inputs.{InPart, in_of, ins_of, in_at, no_in, is_ended, IsSameInput, AreSameInputs, FitsInput, AreInputs, IsCutBy, HoldsNoEnd, HoldsOwn, IsReadable, IsMoved, IsOut, IsFullOf, OneIsFull, AreFresh, IsFresh}
+use Rattle.agent_workers.specs.Inputs.{InPart, in_of, ins_of, in_at, no_in, is_ended, IsSameInput, AreSameInputs, FitsInput, AreInputs, IsCutBy, HoldsNoEnd, HoldsOwn, IsReadable, IsMoved, IsOut, IsFullOf, OneIsFull, IsOneIn, AreFresh, IsFresh}
 use Rattle.agent_workers.specs.Reader.{InRule, plain_rule, FitsGather}
 use Rattle.metric.specs.Metric.{IsFilledTag}
 use Rattle.metric.specs.declared.metric.Content.{Content}
@@ -99,6 +99,23 @@ gathers_nothing core ins = λ start now settled w. w
 
 pub input_here : {S C : Type 0} (left : S → Option (List ℕ)) (faults : S → ℕ) (moments : C → Option Moments) (place : C → ℕ) (jobs : List (InJob S C)) (i : ℕ) (d : InJob S C) → i < length jobs → in_at (ins_of left faults moments place jobs) i ≡ in_of left faults moments place (get_or jobs i d)
 input_here left faults moments place jobs i d b = get_or-map (in_of left faults moments place) jobs i d no_in b
+
+-- the same of a job that was read there
+pub job_here : {S C : Type 0} (left : S → Option (List ℕ)) (faults : S → ℕ) (moments : C → Option Moments) (place : C → ℕ) (jobs : List (InJob S C)) (i : ℕ) (job : InJob S C) → i < length jobs → job ≡ get_or jobs i job → in_at (ins_of left faults moments place jobs) i ≡ in_of left faults moments place job
+job_here left faults moments place jobs i job b is = input_here left faults moments place jobs i job b ∙ ap (in_of left faults moments place) (sym is)
+
+-- the first so many jobs are in no such state
+abbrev pub AreNone : {S C : Type 0} → (S → Option (List ℕ)) → (S → ℕ) → (C → Option Moments) → (C → ℕ) → InState → List (InJob S C) → ℕ → Type 0
+AreNone left faults moments place state jobs i = (k : ℕ) → k < i → (in_at (ins_of left faults moments place jobs) k).state ≢ state
+
+module _ {S C : Type 0} (left : S → Option (List ℕ)) (faults : S → ℕ) (moments : C → Option Moments) (place : C → ℕ) (state : InState) (jobs : List (InJob S C)) (i : ℕ) (none : AreNone left faults moments place state jobs i) where
+  -- nor is one more
+  pub none_more : (job : InJob S C) → i < length jobs → job ≡ get_or jobs i job → job.state ≢ state → AreNone left faults moments place state jobs (i + 1)
+  none_more job b is other = below_more _ _ none (subst (λ (x : InPart). x.state ≢ state) (sym (job_here left faults moments place jobs i job b is)) other)
+
+  -- nor is any
+  pub none_in : length jobs ≤ i → IsOneIn state (ins_of left faults moments place jobs) false
+  none_in all = λ k l. none k (omega (arith, l, all, length-map jobs (in_of left faults moments place)))
 
 pub one_is_full : (gathered : ℕ) (ins : List InPart) (n : ℕ) (part : InPart) → n < length ins → IsFullOf gathered part → OneIsFull gathered (set ins n part)
 one_is_full gathered ins n part b h = (n, omega (arith, b, length-set ins n part), subst (IsFullOf gathered) (sym (get_or-set_same ins n part no_in b)) h)

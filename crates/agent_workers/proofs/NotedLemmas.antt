@@ -23,6 +23,11 @@ pub slice_is : {X : Type 0} (x : Option X) (xs : List X) → MatchOption x (xs �
 slice_is None xs h = h
 slice_is (Some y) xs h = h
 
+-- the items that are left: those behind the first one, and behind them those that an entry names
+pub rest_named : {X : Type 0} (item kept mid left named : List X) → kept ≡ item ++ mid → left ≡ mid ++ named → kept ++ named ≡ item ++ left
+rest_named item kept mid left named first more =
+    ap (λ (xs : List _). xs ++ named) first ∙ append_assoc item mid named ∙ ap (λ (xs : List _). item ++ xs) (sym more)
+
 -- ---- texts of parts, one behind the other
 
 -- a prefix of a front is one of the whole
@@ -53,13 +58,12 @@ rose_from : (a b c : ℕ) → a ≤ b → Rose b c → Rose a c
 rose_from a b c l r = omega arith
 
 -- the same put, by other terms
-pub part_put_as : (was first now : Bool) (text other : List ℕ) (held first_held new_held : Option (List ℕ)) (faults first_faults new_faults : ℕ) → was ≡ first → text ≡ other → held ≡ first_held → faults ≡ first_faults →
-    IsPartPut was now text held new_held faults new_faults → IsPartPut first now other first_held new_held first_faults new_faults
-part_put_as was first now text other held first_held new_held faults first_faults new_faults e t h f put =
-    subst (λ (b : Bool). IsPartPut b now other first_held new_held first_faults new_faults) e
-    (subst (λ (xs : List ℕ). IsPartPut was now xs first_held new_held first_faults new_faults) t
-    (subst (λ (x : Option (List ℕ)). IsPartPut was now text x new_held first_faults new_faults) h
-    (subst (λ (n : ℕ). IsPartPut was now text held new_held n new_faults) f put)))
+pub part_put_as : {K : Type 0} (held : K → Option (List ℕ)) (faults : K → ℕ) (was first now : Bool) (text other : List ℕ) (sink before after : K) → was ≡ first → text ≡ other → sink ≡ before →
+    IsPartPut was now text (held sink) (held after) (faults sink) (faults after) → IsPartPut first now other (held before) (held after) (faults before) (faults after)
+part_put_as {K} held faults was first now text other sink before after e t k put =
+    subst (λ (b : Bool). IsPartPut b now other (held before) (held after) (faults before) (faults after)) e
+    (subst (λ (xs : List ℕ). IsPartPut was now xs (held before) (held after) (faults before) (faults after)) t
+    (subst (λ (x : K). IsPartPut was now text (held x) (held after) (faults x) (faults after)) k put))
 
 -- ---- a part without an entry
 

@@ -199,6 +199,10 @@ about_same n m confs others first start a b c = rw (a, b, c) refl
 
 -- ---- what it leaves
 
+-- lists that tell the same are of one length
+pub same_count : {X Y Z : Type 0} (f : X → Z) (h : Y → Z) (xs : List X) (ys : List Y) → map f xs ≡ map h ys → length xs ≡ length ys
+same_count {X} {Y} {Z} f h xs ys e = sym (length-map xs f) ∙ ap (λ (zs : List Z). length zs) e ∙ length-map ys h
+
 -- a change by other sinks that are the same
 pub sinks_change : {K : Type 0} (held : K → Option (List ℕ)) (faults : K → ℕ) (a b x y : K) → a ≡ x → b ≡ y → change (held a) (held b) (faults a) (faults b) ≡ change (held x) (held y) (faults x) (faults y)
 sinks_change held faults a b x y e f = rw (e, f) refl

@@ -71,6 +71,7 @@ fn read_next<S: Source>(
     match pieces.next(source) {
         Ok(Some(piece)) => {
             group.read(alloc, rule, &piece, moment)?;
+            pieces.take_back(piece);
             Ok(InState::Reading)
         }
         Ok(None) => Ok(InState::Ended),

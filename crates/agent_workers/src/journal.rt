@@ -12,7 +12,7 @@ ghost use Rattle.journal_text.specs.SoFar.{front_text, SpellsOn};
 
 use account::Entry;
 use agent_base::{PutFault, Sink};
-use fixed_num::OutOfMemory;
+use fixed_num::{OutOfMemory, Seq};
 use journal_text::{JournalSetup, write_end, write_entry, write_setup};
 use metric::Metric;
 use pipeline_core::{Core, CutAnswer};
@@ -64,12 +64,12 @@ impl<K: Sink + Drop, C: Drop> JournalJob<K, C> {
     pub fn take(
         &mut self,
         alloc: Global,
-        entries: &[Entry],
+        entries: Vec<Entry>,
         text: &mut Vec<u8>,
     ) -> Result<(), OutOfMemory>
-        requires whole { All IsWholeOrRemoved entries.now }
-        requires some { length entries.now ≢ 0 }
-        ensures { OnOk result (NotesOn entries.now
+        requires whole { All IsWholeOrRemoved entries.items }
+        requires some { length entries.items ≢ 0 }
+        ensures { OnOk result (NotesOn entries.items
             (part_of K.held K.faults self.old) (part_of K.held K.faults self.new)) }
     {
         self.spell(alloc, entries, text)?;
@@ -81,12 +81,12 @@ impl<K: Sink + Drop, C: Drop> JournalJob<K, C> {
     pub fn end(
         &mut self,
         alloc: Global,
-        entries: &[Entry],
+        entries: Vec<Entry>,
         account: &[u8],
         text: &mut Vec<u8>,
     ) -> Result<(), OutOfMemory>
-        requires { All IsWholeOrRemoved entries.now }
-        ensures { OnOk result (EndsOn entries.now account.now
+        requires { All IsWholeOrRemoved entries.items }
+        ensures { OnOk result (EndsOn entries.items account.now
             (part_of K.held K.faults self.old) (part_of K.held K.faults self.new)) }
     {
         self.spell(alloc, entries, text)?;
@@ -100,24 +100,22 @@ impl<K: Sink + Drop, C: Drop> JournalJob<K, C> {
     fn spell(
         &mut self,
         alloc: Global,
-        entries: &[Entry],
+        entries: Vec<Entry>,
         text: &mut Vec<u8>,
     ) -> Result<(), OutOfMemory>
-        requires { All IsWholeOrRemoved entries.now }
+        requires { All IsWholeOrRemoved entries.items }
         ensures spelled { OnOk result
-            (SpellsOn entries.now self.old.kept.items self.new.kept.items
+            (SpellsOn entries.items self.old.kept.items self.new.kept.items
             (front_text self.old.setup self.old.entries) text.new.items) }
-        ensures counted { OnOk result (self.new.entries ≡ self.old.entries + length entries.now) }
+        ensures counted { OnOk result (self.new.entries ≡ self.old.entries + length entries.items) }
         ensures setup { self.new.setup ≡ self.old.setup }
         ensures sink { self.new.sink ≡ self.old.sink }
         ensures failed { self.new.failed ≡ self.old.failed }
     {
+        let count = entries.len() as u64;
         write_front(alloc, &self.setup, self.entries, text)?;
         write_entries(alloc, &mut self.kept, entries, text)?;
-        self.entries = self
-            .entries
-            .checked_add(entries.len() as u64)
-            .ok_or(OutOfMemory)?;
+        self.entries = self.entries.checked_add(count).ok_or(OutOfMemory)?;
         Ok(())
     }
 }
@@ -142,12 +140,12 @@ fn write_front(
 fn write_entries(
     alloc: Global,
     unrouted_items: &mut VecDeque<Metric>,
-    entries: &[Entry],
+    entries: Vec<Entry>,
     text: &mut Vec<u8>,
 ) -> Result<(), OutOfMemory>
-    requires { All IsWholeOrRemoved entries.now }
+    requires { All IsWholeOrRemoved entries.items }
     ensures { OnOk result
-        (SpellsOn entries.now unrouted_items.old.items unrouted_items.new.items
+        (SpellsOn entries.items unrouted_items.old.items unrouted_items.new.items
         text.old.items text.new.items) }
 {
     for entry in entries {
@@ -160,16 +158,17 @@ fn write_entries(
 fn write_one(
     alloc: Global,
     unrouted_items: &mut VecDeque<Metric>,
-    entry: &Entry,
+    entry: Entry,
     text: &mut Vec<u8>,
 ) -> Result<(), OutOfMemory>
-    requires { IsWholeOrRemoved entry.now }
+    requires { IsWholeOrRemoved entry }
     ensures { OnOk result
-        (SpellsOn (entry.now ∷ []) unrouted_items.old.items unrouted_items.new.items
+        (SpellsOn (entry ∷ []) unrouted_items.old.items unrouted_items.new.items
         text.old.items text.new.items) }
 {
-    let item = item_of(unrouted_items, entry)?;
-    write_entry(alloc, item.as_slice(), entry, text)?;
+    let item = item_of(unrouted_items, &entry)?;
+    write_entry(alloc, item.as_slice(), &entry, text)?;
+    keep_named(alloc, unrouted_items, entry)?;
     Ok(())
 }
 
@@ -189,48 +188,60 @@ fn put_part<K: Sink>(sink: &mut K, failed: bool, text: &[u8]) -> Result<bool, Ou
     }
 }
 
-// The item of a Route, the first of those that weren't routed; the metrics that another entry names
-// are kept until they are routed.
+// The item of a Route, the first of those that weren't routed.
 fn item_of(
     unrouted_items: &mut VecDeque<Metric>,
     entry: &Entry,
 ) -> Result<Option<Metric>, OutOfMemory>
     ensures one { IfOk result (λ item. HasItem (option_to_list item) entry.now) }
     ensures rest { IfOk result
-        (λ item. unrouted_items.old.items ++ named_by entry.now
-        ≡ option_to_list item ++ unrouted_items.new.items) }
+        (λ item. unrouted_items.old.items ≡ option_to_list item ++ unrouted_items.new.items) }
 {
     match entry {
-        Entry::Gather { metrics, .. } => {
-            keep(unrouted_items, metrics.as_slice())?;
-            Ok(None)
-        }
-        Entry::Tick { made, .. } => {
-            keep(unrouted_items, made.as_slice())?;
-            Ok(None)
-        }
-        Entry::Stop { made, .. } => {
-            keep(unrouted_items, made.as_slice())?;
-            Ok(None)
-        }
         Entry::Route { .. } => match unrouted_items.pop_front() {
             Some(item) => Ok(Some(item)),
             None => Err(OutOfMemory),
         },
+        Entry::Gather { .. } => Ok(None),
         Entry::Ended { .. } => Ok(None),
         Entry::Take { .. } => Ok(None),
         Entry::Begin { .. } => Ok(None),
         Entry::Done { .. } => Ok(None),
+        Entry::Tick { .. } => Ok(None),
+        Entry::Stop { .. } => Ok(None),
+    }
+}
+
+// Keeps the metrics that an entry names until they are routed.
+fn keep_named(
+    alloc: Global,
+    unrouted_items: &mut VecDeque<Metric>,
+    entry: Entry,
+) -> Result<(), OutOfMemory>
+    ensures { OnOk result (unrouted_items.new.items ≡ unrouted_items.old.items ++ named_by entry) }
+{
+    match entry {
+        Entry::Gather { metrics, .. } => keep(alloc, unrouted_items, metrics),
+        Entry::Tick { made, .. } => keep(alloc, unrouted_items, made),
+        Entry::Stop { made, .. } => keep(alloc, unrouted_items, made),
+        Entry::Route { .. } => Ok(()),
+        Entry::Ended { .. } => Ok(()),
+        Entry::Take { .. } => Ok(()),
+        Entry::Begin { .. } => Ok(()),
+        Entry::Done { .. } => Ok(()),
     }
 }
 
 // Keeps items until they are routed.
-fn keep(unrouted_items: &mut VecDeque<Metric>, metrics: &[Metric]) -> Result<(), OutOfMemory>
-    ensures { OnOk result (unrouted_items.new.items ≡ unrouted_items.old.items ++ metrics.now) }
+fn keep(
+    alloc: Global,
+    unrouted_items: &mut VecDeque<Metric>,
+    metrics: Seq<Metric>,
+) -> Result<(), OutOfMemory>
+    ensures { OnOk result (unrouted_items.new.items ≡ unrouted_items.old.items ++ metrics) }
 {
-    for metric in metrics {
-        unrouted_items.push_back(metric.copy()?)?;
-    }
+    let mut items = VecDeque::from_vec(metrics.into_vec(alloc)?);
+    unrouted_items.append(&mut items)?;
     Ok(())
 }
 
@@ -252,7 +263,7 @@ pub fn note<K: Sink + Drop, C: Drop>(
 {
     match core.cut() {
         Ok(entries) => {
-            journal.take(alloc, entries.as_slice(), text)?;
+            journal.take(alloc, entries, text)?;
             Ok(())
         }
         Err(CutAnswer::NothingNew) => Ok(()),

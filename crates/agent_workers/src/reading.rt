@@ -240,7 +240,7 @@ impl Group {
         let (_passed, _filtered) = (self.passed, self.filtered);
         match read_exposition(alloc, piece.bytes(), moment, type_tag) {
             Ok(exposition) => {
-                self.keep_each(alloc, rule, exposition.metrics.as_slice())?;
+                self.keep_all(alloc, rule, exposition.metrics.into_vec(alloc)?)?;
                 self.passed = self.passed.saturating_add(exposition.passed);
                 Ok(())
             }
@@ -277,25 +277,6 @@ impl Group {
         let (_passed, _filtered) = (self.passed, self.filtered);
         for metric in metrics {
             self.keep(alloc, rule, metric)?;
-        }
-        Ok(())
-    }
-
-    /// Keeps what is kept of copies of metrics, in order.
-    fn keep_each(
-        &mut self,
-        alloc: Global,
-        rule: &ReadRule,
-        metrics: &[Metric],
-    ) -> Result<(), OutOfMemory>
-        requires filled { All IsFilledTag rule.now.globals.now }
-        ensures pieces { OnOk result (self.new.pieces ≡ self.old.pieces) }
-        ensures said { OnOk result
-            (Counts (rule_view rule.now) (Says metrics.now 0) self.old self.new) }
-    {
-        let (_passed, _filtered) = (self.passed, self.filtered);
-        for metric in metrics {
-            self.keep(alloc, rule, metric.copy()?)?;
         }
         Ok(())
     }

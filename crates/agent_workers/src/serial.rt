@@ -178,7 +178,7 @@ fn end_journal<K: Sink + Drop, C: Drop>(
     core.account().text(&mut account)?;
     let left = is_left(core, outputs);
     let entries = last_entries(alloc, core)?;
-    journal.end(alloc, entries.as_slice(), &account, text)?;
+    journal.end(alloc, entries, &account, text)?;
     Ok((account, left))
 }
 

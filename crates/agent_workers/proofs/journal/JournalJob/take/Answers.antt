@@ -1,5 +1,4 @@
-use Rattle.std.proofs.Common.{ap}
-use Rattle.agent_workers.specs.Noted.{JournalPart, part_of}
+use Rattle.agent_workers.specs.Noted.{part_of}
 use Rattle.agent_workers.proofs.NotedLemmas.{notes_more, part_put_as}
 use Rattle.agent_workers.proofs.journal.JournalJob.take.Goals as goal
 
@@ -7,10 +6,7 @@ pub returns : goal.returns
 returns g c =
     let held = g.K.Sink.held in
     let faults = g.K.Sink.faults in
-    let s = c.args.self.now in
-    let t = c.spell.new.self in
-    let k = c.put_part.new.sink in
-    let new : JournalPart = record { setup = t.setup; kept = t.kept.items; entries = t.entries; failed = c.in_ok-self.field-0; held = held k; faults = faults k } in
-    notes_more c.args.entries.now (part_of held faults s) new c.spell.new.text.items c.requires.some c.in_ok-spell.ensures.spelled c.in_ok-spell.ensures.counted c.spell.ensures.setup
-    (part_put_as t.failed s.failed c.in_ok-self.field-0 c.deref.result.now c.spell.new.text.items (held t.sink) (held s.sink) (held k) (faults t.sink) (faults s.sink) (faults k)
-    c.spell.ensures.failed c.deref.ensures.value (ap held c.spell.ensures.sink) (ap faults c.spell.ensures.sink) c.in_ok-self.ensures)
+    let old = c.args.self.now in
+    let spelled = c.spell.new.self in
+    notes_more c.args.entries.items (part_of held faults old) (part_of held faults (record spelled { sink = c.put_part.new.sink; failed = c.in_ok-self.field-0 })) c.spell.new.text.items c.requires.some c.in_ok-spell.ensures.spelled c.in_ok-spell.ensures.counted c.spell.ensures.setup
+    (part_put_as held faults spelled.failed old.failed c.in_ok-self.field-0 c.deref.result.now c.spell.new.text.items spelled.sink old.sink c.put_part.new.sink c.spell.ensures.failed c.deref.ensures.value c.spell.ensures.sink c.in_ok-self.ensures)

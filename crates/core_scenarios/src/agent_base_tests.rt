@@ -17,7 +17,7 @@ fn long(alloc: Global, count: usize, end: &[u8]) -> Result<Vec<u8>, AllocError> 
 }
 
 // The answers: a piece, or the length of a long one, and `|`; `?` for one that is too long; `.` at the end;
-// `!` for a read fault.
+// `!` for a read fault. Each piece is taken back.
 fn answers(
     alloc: Global,
     kind: CutKind,
@@ -41,6 +41,7 @@ fn answers(
                     text.extend_from_slice(format!(in alloc; "{}", content.len())?.as_bytes())?;
                 }
                 text.push(b'|')?;
+                pieces.take_back(piece);
             }
             Ok(None) => {
                 text.push(b'.')?;

@@ -1,6 +1,6 @@
 //! Texts of numbers against answers from outside: the rules in plain words, IEEE 754 shortest texts, and
 //! InfluxDB's documentation.
-use fixed_num::{Fixed, NumFault, OutOfMemory, read_int, read_uint};
+use fixed_num::{Fixed, NumFault, OutOfMemory, Seq, read_int, read_uint};
 use std::alloc::Global;
 use std::process::Abort;
 use std::test::Fail;
@@ -183,6 +183,35 @@ fn quotients(rt: HostRuntime) -> Result<(), Fail> {
     Ok(())
 }
 
+/// A list with room for so many, to which elements are added at places.
+fn grown(alloc: Global, room: usize) -> Result<Seq<u32>, OutOfMemory> {
+    let mut list = Seq::with_room(alloc, room)?;
+    list.push(alloc, 7)?;
+    list.set(0, 5);
+    list.insert(alloc, 0, 3)?;
+    list.push(alloc, 9)?;
+    list.insert(alloc, 1, 4)?;
+    Ok(list)
+}
+
+#[test]
+fn lists(rt: HostRuntime) -> Result<(), Fail> {
+    let alloc = rt.alloc();
+    let want = [3, 4, 5, 9].as_slice();
+    for room in [0, 1, 2, 9] {
+        let list = grown(alloc, room)?;
+        assert_eq!(rt; list.as_slice(), want, "with room for {room}");
+        assert_eq!(rt;
+            list.into_vec(alloc)?.as_slice(),
+            want,
+            "with room for {room}"
+        );
+    }
+    let one = Seq::of_one(5).into_vec(alloc)?;
+    assert_eq!(rt; one.as_slice(), [5].as_slice());
+    Ok(())
+}
+
 #[test]
 fn whole_numbers(rt: HostRuntime) {
     let ints = [
@@ -190,6 +219,7 @@ fn whole_numbers(rt: HostRuntime) {
         ("-0", Ok(0)),
         ("007", Ok(7)),
         ("9223372036854775807", Ok(i64::MAX)),
+        ("-9223372036854775807", Ok(-9_223_372_036_854_775_807)),
         ("9223372036854775808", Err(NumFault::NumberRange)),
         ("-9223372036854775808", Ok(i64::MIN)),
         ("-9223372036854775809", Err(NumFault::NumberRange)),
@@ -204,6 +234,8 @@ fn whole_numbers(rt: HostRuntime) {
     let uints = [
         ("-0", Err(NumFault::NotANumber)),
         ("+0", Ok(0)),
+        ("9999999999999999999", Ok(9_999_999_999_999_999_999)),
+        ("999999999999999999x", Err(NumFault::NotANumber)),
         ("18446744073709551615", Ok(u64::MAX)),
         ("18446744073709551616", Err(NumFault::NumberRange)),
         ("00000000000000000000000018446744073709551615", Ok(u64::MAX)),

@@ -1,6 +1,6 @@
 //! A vector that contracts see as its list.
 ghost use Rattle.std.specs.Prelude.{◌≡◌, ◌≤◌, ◌<◌, [], ◌∷◌, ◌++◌, length, insert, slice_set};
-ghost use Rattle.std.specs.Prelude.{IfOk, IsTrue, OnErr, OnOk, vec_capacity};
+ghost use Rattle.std.specs.Prelude.{IfOk, IfErr, IsTrue, OnErr, OnOk, vec_capacity};
 ghost use Rattle.std.specs.Cmp.Lexicographic.{pointwise, lists_per, lists_equiv, slice_cmp};
 ghost use Rattle.std.specs.Cmp.Lexicographic.{slice_partial_cmp, lists_agrees, lists_total, lists_ties};
 ghost use Rattle.std.specs.Cmp.Lexicographic.{lists_po};
@@ -119,6 +119,15 @@ impl<T: Drop> Seq<T> {
         take_all(&mut kept, alloc)
     }
 
+    /// The only element, where it stands in place; else the list as it was.
+    pub fn into_one(self) -> Result<T, Seq<T>>
+        ensures one { IfOk result (λ item. self ≡ item ∷ []) }
+        ensures other { IfErr result (λ list. list ≡ self) }
+    {
+        let Seq { kept } = self;
+        only_one(kept)
+    }
+
     /// The elements, in order.
     pub fn as_slice(&self) -> &[T]
         ensures { result.now ≡ self.now }
@@ -127,6 +136,17 @@ impl<T: Drop> Seq<T> {
             Kept::One(item) => &item[..],
             Kept::Many(items) => items.as_slice(),
         }
+    }
+}
+
+/// The only element, where it stands in place; else the list as it was.
+fn only_one<T: Drop>(kept: Kept<T>) -> Result<T, Seq<T>>
+    ensures one { IfOk result (λ item. kept_items kept ≡ item ∷ []) }
+    ensures other { IfErr result (λ list. list ≡ kept_items kept) }
+{
+    match kept {
+        Kept::One([item]) => Ok(item),
+        Kept::Many(items) => Err(Seq::of(items)),
     }
 }
 
@@ -172,6 +192,21 @@ fn insert_to_few<T: Drop>(
         *kept = Kept::One([item]);
         return Ok(());
     }
+    insert_to_some(kept, alloc, at, item)
+}
+
+/// One more element, at a place, where the others have to be taken to memory. After an error all is as before.
+#[inline(never)]
+fn insert_to_some<T: Drop>(
+    kept: &mut Kept<T>,
+    alloc: Global,
+    at: usize,
+    item: T,
+) -> Result<(), OutOfMemory>
+    requires { at ≤ length (kept_items kept.old) }
+    ensures ok { OnOk result (kept_items kept.new ≡ insert (kept_items kept.old) at item) }
+    ensures err { OnErr result (kept_items kept.new ≡ kept_items kept.old) }
+{
     let mut items = take_all(kept, alloc)?;
     let done = items.insert(at, item);
     *kept = Kept::Many(items);
@@ -188,6 +223,15 @@ fn push_to_few<T: Drop>(kept: &mut Kept<T>, alloc: Global, item: T) -> Result<()
         *kept = Kept::One([item]);
         return Ok(());
     }
+    push_to_some(kept, alloc, item)
+}
+
+/// One more element, behind others that have to be taken to memory. After an error all is as before.
+#[inline(never)]
+fn push_to_some<T: Drop>(kept: &mut Kept<T>, alloc: Global, item: T) -> Result<(), OutOfMemory>
+    ensures ok { OnOk result (kept_items kept.new ≡ kept_items kept.old ++ item ∷ []) }
+    ensures err { OnErr result (kept_items kept.new ≡ kept_items kept.old) }
+{
     let mut items = take_all(kept, alloc)?;
     let done = items.push(item);
     *kept = Kept::Many(items);

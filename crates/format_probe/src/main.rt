@@ -15,7 +15,7 @@ use graphite_text::{GraphiteKind, Template, TemplateFault, write_metric};
 use line_proto::{LineKind, read_line, write_line};
 use metric::Metric;
 use openmetrics_text::{ExpositionKind, read_exposition, write_batch};
-use statsd_text::{StatsdKind, read_packet_line};
+use statsd_text::{StatsdKind, read_packet};
 use std::alloc::{AllocError, AllocFailed, Global};
 use std::process::ExitCode;
 use std::{env, fmt};
@@ -145,9 +145,9 @@ impl Probe {
 
     /// Reads a piece as a StatsD line.
     fn statsd(&mut self, piece: &Piece) -> Result<(), OutOfMemory> {
-        match read_packet_line(self.alloc, piece.bytes(), MOMENT) {
+        match read_packet(self.alloc, piece.bytes(), MOMENT) {
             Ok(metrics) => {
-                for metric in &metrics {
+                for metric in metrics.as_slice() {
                     self.read(metric)?;
                 }
                 Ok(())

@@ -3,12 +3,12 @@ ghost use Rattle.std.specs.Prelude.{◌≡◌, ◌≤◌, List, [], length, IfOk
 ghost use Rattle.std.specs.Str.{IsCharBoundary};
 ghost use Rattle.text_parts.specs.Chain.{Gives};
 ghost use Rattle.metric.specs.Draft.{Tag, Field, StandsFor, IsReady};
-ghost use Rattle.line_proto.specs.Draft.{HasFields};
+ghost use Rattle.line_proto.specs.Draft.{HasFields, HasRest};
 ghost use Rattle.line_proto.specs.Reading.{spaced_fields_at, limited, metric_at, text_reading, reading};
 ghost use Rattle.line_proto.specs.Views.{Answers};
 
 use crate::fault::{LineFault, LineKind};
-use crate::read_items::{begin, read_fields, read_tags};
+use crate::read_items::{name_text, read_fields, read_tags};
 use crate::read_parts::{behind_spaces, fault, name_at};
 use crate::read_value::time_at;
 use fixed_num::Moment;
@@ -52,6 +52,25 @@ fn finish(draft: Draft, time: Moment) -> Result<Option<Metric>, ReadError<LineFa
     }
 }
 
+/// Puts the tags and the fields that stand behind a measurement into a draft that has none, and gives the time of the
+/// line.
+fn read_rest(
+    alloc: Global,
+    piece: &str,
+    i: usize,
+    moment: Moment,
+    draft: &mut Draft,
+) -> Result<Moment, ReadError<LineFault>>
+    requires boundary { IsCharBoundary piece.now i }
+    requires none { StandsFor draft.old [] [] }
+    ensures name { draft.new.parts.name ≡ draft.old.parts.name }
+    ensures rest { HasRest draft.new piece.now i moment result }
+{
+    let i = read_tags(alloc, piece, i, draft)?;
+    let i = read_spaced_fields(alloc, piece, i, draft)?;
+    time_at(piece.as_bytes(), i, moment)
+}
+
 /// The metric of the line that begins at a place.
 fn metric_at(
     alloc: Global,
@@ -63,10 +82,8 @@ fn metric_at(
     ensures { Gives (λ x. x) result (metric_at piece.now i moment) }
 {
     let name = name_at(piece, i)?;
-    let mut draft = begin(alloc, piece, &name)?;
-    let i = read_tags(alloc, piece, name.end, &mut draft)?;
-    let i = read_spaced_fields(alloc, piece, i, &mut draft)?;
-    let time = time_at(piece.as_bytes(), i, moment)?;
+    let mut draft = Draft::of(alloc, name_text(alloc, piece, &name)?);
+    let time = read_rest(alloc, piece, name.end, moment, &mut draft)?;
     finish(draft, time)
 }
 

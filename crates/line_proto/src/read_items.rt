@@ -14,7 +14,7 @@ ghost use Rattle.line_proto.specs.Reading.{tags_at, fields_at};
 use crate::fault::LineFault;
 use crate::read_parts::{KEY, NAME, TAG_VALUE, tag_at};
 use crate::read_value::field_at;
-use metric::{Draft, Value};
+use metric::{Draft, Text, Value};
 use std::alloc::Global;
 use text_parts::{ReadError, Span, part_text, span_text};
 
@@ -25,19 +25,22 @@ fn comma_at(piece: &str, at: usize) -> bool
     at < piece.len() && piece.as_bytes()[at] == b','
 }
 
-/// A metric whose measurement stands there, with no tags and no fields yet.
+/// The measurement that stands there.
 #[inline(always)]
-pub(crate) fn begin(alloc: Global, piece: &str, name: &Span) -> Result<Draft, ReadError<LineFault>>
+pub(crate) fn name_text(
+    alloc: Global,
+    piece: &str,
+    name: &Span,
+) -> Result<Text, ReadError<LineFault>>
     requires { IsSpan name_part piece.now name.now }
-    ensures name { IfOk result (λ draft. draft.parts.name ≡ text_at name_part piece.now name.now.start) }
-    ensures none { IfOk result (λ draft. StandsFor draft [] []) }
+    ensures text { IfOk result (λ text. text ≡ text_at name_part piece.now name.now.start) }
     ensures err { IfErr result (λ e. e ≡ OutOfMemory) }
 {
     if name.escaped {
         let name = part_text(alloc, &NAME, piece, name.start)?;
-        return Ok(Draft::new(alloc, name.as_str())?);
+        return Ok(Text::of(alloc, name.as_str())?);
     }
-    Ok(Draft::new(alloc, span_text(piece, name))?)
+    Ok(Text::of(alloc, span_text(piece, name))?)
 }
 
 /// Puts a tag into a draft.

@@ -19,6 +19,10 @@ pub record Parts : Type 0 where
   pub tags : List (List ℕ × List ℕ)
   pub fields : List (List ℕ × Value)
 
+-- the parts of a content
+abbrev pub parts_of : Content → Parts
+parts_of content = record { name = content.name; tags = content.tags; fields = content.fields }
+
 -- what is true of the parts at each time: keys and values may be empty so far
 pub record IsBuilt (p : Parts) : Type 0 where
   pub name : IsUtf8 p.name
@@ -34,6 +38,12 @@ finished parts time =
     else if has_empty_key parts.tags || has_empty_key parts.fields then Err EmptyKey
     else if length parts.fields == 0 then Err NoFields
     else Ok (record { name = parts.name; tags = with_values parts.tags; fields = parts.fields; time = time })
+
+-- the content is now the wanted one, but that memory may be wanting where one is wanted
+abbrev pub Completes : Result (Unit {0}) BuildFault → Content → Result Content BuildFault → Type 0
+Completes (Ok done) content wanted = wanted ≡ Ok content
+Completes (Err OutOfMemory) content wanted = IsOk wanted
+Completes (Err fault) content wanted = wanted ≡ Err fault
 
 -- the result is the wanted one, but that memory may be wanting where a metric is wanted
 abbrev pub Finishes : Result Content BuildFault → Result Content BuildFault → Type 0

@@ -6,4 +6,5 @@ pub mod Metric
 pub mod Numbers
 pub mod Pairs
 pub mod Plain
+pub mod InPlace
 pub mod Text

@@ -8,14 +8,14 @@ use Rattle.metric.specs.declared.text.Kept.TheVariants.{PlainShort, Short, Plain
 
 -- a short text stands in place, and a long one in a string
 abbrev pub kept_bytes : Kept → List ℕ
-kept_bytes (PlainShort text) = text.bytes
-kept_bytes (Short text) = text.bytes
+kept_bytes (PlainShort text) = text
+kept_bytes (Short text) = text
 kept_bytes (PlainLong text) = string_bytes text
 kept_bytes (Long text) = string_bytes text
 
 -- what is kept as plain has plain bytes alone
 abbrev pub IsKept : Kept → Type 0
-IsKept (PlainShort text) = list_all is_plain text.bytes ≡ true
+IsKept (PlainShort text) = list_all is_plain text ≡ true
 IsKept (Short text) = Unit {0}
 IsKept (PlainLong text) = list_all is_plain (string_bytes text) ≡ true
 IsKept (Long text) = Unit {0}

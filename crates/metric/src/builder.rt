@@ -2,8 +2,8 @@
 ghost use Rattle.std.specs.Prelude.{◌≡◌, [], length, OnOk, OnErr, IfOk};
 ghost use Rattle.std.specs.List.{position};
 ghost use Rattle.std.specs.Str.{bytes_eq};
-ghost use Rattle.metric.specs.Building.{finished, Finishes};
-ghost use Rattle.metric.specs.Metric.{IsValue};
+ghost use Rattle.metric.specs.Building.{IsBuilt, parts_of, finished, Completes, Finishes};
+ghost use Rattle.metric.specs.Metric.{IsMetric, IsValue};
 ghost use Rattle.metric.specs.declared.builder.BuildFault.TheVariants.{OutOfMemory};
 ghost use Rattle.metric.specs.Pairs.{with_pair, with_sorted, has_empty_key, has_empty_value, HasPlace};
 ghost use Rattle.metric.specs.Pairs.{with_values, IsInKeyOrder};
@@ -12,8 +12,8 @@ use crate::{Content, Metric, Text, Value};
 use fixed_num::{Moment, OutOfMemory, Seq};
 use std::alloc::Global;
 use std::cmp::Ordering;
-use std::fmt;
 use std::marker::Model;
+use std::{fmt, mem};
 
 /// Why no metric was made.
 #[derive(Clone, Copy, Debug, PartialEq, Eq)]
@@ -51,33 +51,48 @@ impl fmt::Display for BuildFault {
 #[derive(Drop)]
 pub struct Builder {
     alloc: Global,
-    name: Text,
-    tags: Seq<(Text, Text)>,
-    fields: Seq<(Text, Value)>,
+    /// Its time is set at the end.
+    content: Content,
 }
 
 impl Model for Builder {
-    ghost use Rattle.metric.specs.Building.{Parts, IsBuilt};
+    ghost use Rattle.metric.specs.Building.{Parts, IsBuilt, parts_of};
 
     ghost Value = { Parts };
 
-    ghost view = { λ b. record { name = b.name; tags = b.tags; fields = b.fields } };
+    ghost view = { λ b. parts_of b.content };
 
-    ghost invariant = { λ b. IsBuilt
-        (record { name = b.name; tags = b.tags; fields = b.fields }) };
+    ghost invariant = { λ b. IsBuilt (parts_of b.content) };
 }
 
 impl Builder {
-    /// A metric of this name, with no tags and no fields yet.
+    /// A metric of this name, with no tags and no fields yet. A single tag and a single field take no memory but that
+    /// of the builder.
+    #[inline(always)]
+    pub fn of(alloc: Global, name: Text) -> Builder
+        ensures { result ≡ record { name = name; tags = []; fields = [] } }
+    {
+        let _text = name.as_str();
+        Builder {
+            alloc,
+            content: Content {
+                name,
+                tags: Seq::of(Vec::new(alloc)),
+                fields: Seq::of(Vec::new(alloc)),
+                time: 0,
+            },
+        }
+    }
+
+    /// The same, of a name that is copied.
     #[inline(always)]
     pub fn new(alloc: Global, name: &str) -> Result<Builder, OutOfMemory>
         ensures { IfOk result (λ b. b ≡ record { name = name.now; tags = []; fields = [] }) }
     {
-        Builder::with_room(alloc, name, 1, 1)
+        Ok(Builder::of(alloc, Text::of(alloc, name)?))
     }
 
-    /// The same, with room for so many tags and fields before memory is asked for again. A single tag and a single
-    /// field take no memory but that of the builder.
+    /// The same, with room for so many tags and fields before memory is asked for again.
     #[inline(always)]
     pub fn with_room(
         alloc: Global,
@@ -89,9 +104,12 @@ impl Builder {
     {
         Ok(Builder {
             alloc,
-            name: Text::of(alloc, name)?,
-            tags: Seq::with_room(alloc, tags)?,
-            fields: Seq::with_room(alloc, fields)?,
+            content: Content {
+                name: Text::of(alloc, name)?,
+                tags: Seq::with_room(alloc, tags)?,
+                fields: Seq::with_room(alloc, fields)?,
+                time: 0,
+            },
         })
     }
 
@@ -102,7 +120,7 @@ impl Builder {
             (self.new ≡ record self.old { tags = with_sorted self.old.tags key.now value.now }) }
         ensures err { OnErr result (self.new ≡ self.old) }
     {
-        put_tag(self.alloc, &mut self.tags, key, value)
+        put_tag(self.alloc, &mut self.content.tags, key, value)
     }
 
     /// One more field: a key that was given before keeps its place and takes this value.
@@ -112,21 +130,21 @@ impl Builder {
         ensures err { OnErr result (self.new ≡ self.old) }
     {
         in_range(&value);
-        put_field(self.alloc, &mut self.fields, key, value)
+        put_field(self.alloc, &mut self.content.fields, key, value)
     }
 
     /// How many tags there are, those with an empty value too.
     pub fn tag_count(&self) -> usize
         ensures { result ≡ length self.now.tags }
     {
-        self.tags.as_slice().len()
+        self.content.tags.as_slice().len()
     }
 
     /// How many fields there are.
     pub fn field_count(&self) -> usize
         ensures { result ≡ length self.now.fields }
     {
-        self.fields.as_slice().len()
+        self.content.fields.as_slice().len()
     }
 
     /// The metric at a time, without the tags whose value is empty. EmptyName exactly where the name is
@@ -135,32 +153,34 @@ impl Builder {
     pub fn finish(self, time: Moment) -> Result<Metric, BuildFault>
         ensures { Finishes result (finished self time) }
     {
-        if self.name.as_str().is_empty() {
-            return Err(BuildFault::EmptyName);
-        }
-        if tag_without_key(self.tags.as_slice()) || field_without_key(self.fields.as_slice()) {
-            return Err(BuildFault::EmptyKey);
-        }
-        if self.fields.as_slice().is_empty() {
-            return Err(BuildFault::NoFields);
-        }
-        let Builder {
-            alloc,
-            name,
-            tags,
-            fields,
-        } = self;
-        let tags = valued(alloc, tags)?;
-        Ok(Metric::of(
-            alloc,
-            Content {
-                name,
-                tags,
-                fields,
-                time,
-            },
-        )?)
+        let Builder { alloc, mut content } = self;
+        complete(alloc, &mut content, time)?;
+        Ok(Metric::of(alloc, content)?)
     }
+}
+
+/// Gives a content its time, and leaves out its tags whose value is empty, or says why it makes no metric.
+#[inline(always)]
+fn complete(alloc: Global, content: &mut Content, time: Moment) -> Result<(), BuildFault>
+    requires { IsBuilt (parts_of content.old) }
+    ensures completes { Completes result content.new (finished (parts_of content.old) time) }
+    ensures metric { OnOk result (IsMetric content.new) }
+{
+    content.time = time;
+    if content.name.as_str().is_empty() {
+        return Err(BuildFault::EmptyName);
+    }
+    let tags = content.tags.as_slice();
+    if tag_without_key(tags) || field_without_key(content.fields.as_slice()) {
+        return Err(BuildFault::EmptyKey);
+    }
+    if content.fields.as_slice().is_empty() {
+        return Err(BuildFault::NoFields);
+    }
+    if tag_without_value(tags) {
+        leave_out_empty(alloc, &mut content.tags)?;
+    }
+    Ok(())
 }
 
 /// Says that a value is in the range of its type, and UTF-8 where it is a text.
@@ -267,26 +287,17 @@ fn tag_without_value(tags: &[(Text, Text)]) -> bool
     tags.iter().any(|tag| tag.1.as_str().is_empty())
 }
 
-/// The tags whose value isn't empty.
-#[inline(always)]
-fn valued(alloc: Global, tags: Seq<(Text, Text)>) -> Result<Seq<(Text, Text)>, OutOfMemory>
-    ensures { IfOk result (λ kept. kept ≡ with_values tags) }
-{
-    if !tag_without_value(tags.as_slice()) {
-        return Ok(tags);
-    }
-    valued_alone(alloc, tags)
-}
-
-/// The same, where there may be a tag whose value is empty.
+/// Leaves out the tags whose value is empty, where there may be some.
 #[cold]
 #[inline(never)]
-fn valued_alone(alloc: Global, tags: Seq<(Text, Text)>) -> Result<Seq<(Text, Text)>, OutOfMemory>
-    ensures { IfOk result (λ kept. kept ≡ with_values tags) }
+fn leave_out_empty(alloc: Global, tags: &mut Seq<(Text, Text)>) -> Result<(), OutOfMemory>
+    ensures { OnOk result (tags.new ≡ with_values tags.old) }
 {
-    let mut tags = tags.into_vec(alloc)?;
-    keep_valued(&mut tags);
-    Ok(Seq::of(tags))
+    let all = mem::replace(tags, Seq::of(Vec::new(alloc)));
+    let mut kept = all.into_vec(alloc)?;
+    keep_valued(&mut kept);
+    *tags = Seq::of(kept);
+    Ok(())
 }
 
 /// Leaves out the tags whose value is empty.

@@ -2,7 +2,7 @@
 ghost use Rattle.std.specs.Prelude.{◌≡◌, ◌<◌, ◌++◌, List, [], ◌∷◌, length, OnErr, IfOk};
 ghost use Rattle.metric.specs.Draft.{Tag, Field, StandsFor, IsReady, drafted, Drafts};
 
-use crate::{BuildFault, Builder, Metric, Value};
+use crate::{BuildFault, Builder, Metric, Text, Value};
 use fixed_num::{Moment, OutOfMemory};
 use std::alloc::Global;
 use std::marker::Model;
@@ -41,14 +41,23 @@ impl Model for Draft {
 impl Draft {
     /// A metric of this name, with no tags and no fields yet.
     #[inline(always)]
+    pub fn of(alloc: Global, name: Text) -> Draft
+        ensures name { result.parts.name ≡ name }
+        ensures none { StandsFor result [] [] }
+    {
+        Draft {
+            builder: Builder::of(alloc, name),
+            too_many: false,
+        }
+    }
+
+    /// The same, of a name that is copied.
+    #[inline(always)]
     pub fn new(alloc: Global, name: &str) -> Result<Draft, OutOfMemory>
         ensures name { IfOk result (λ draft. draft.parts.name ≡ name.now) }
         ensures none { IfOk result (λ draft. StandsFor draft [] []) }
     {
-        Ok(Draft {
-            builder: Builder::new(alloc, name)?,
-            too_many: false,
-        })
+        Ok(Draft::of(alloc, Text::of(alloc, name)?))
     }
 
     /// One more tag. After an error the draft is as before.

@@ -6,6 +6,7 @@ mod draft;
 mod glob;
 mod glob_scan;
 mod glob_text;
+mod in_place;
 mod laws;
 mod metric;
 mod missing;

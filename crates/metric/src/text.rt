@@ -13,24 +13,21 @@ ghost use Rattle.std.specs.Ordering.{nat_cmp, as_partial_cmp};
 ghost use Rattle.std.specs.Hash as fed;
 ghost use Rattle.std.specs.String.{string_bytes};
 
+use crate::in_place::{InPlace, MOST};
 use crate::plain::are_plain;
-use arrayvec::ArrayString;
 use fixed_num::OutOfMemory;
 use std::alloc::Global;
 use std::cmp::Ordering;
 use std::hash::{Hash, Hasher};
 use std::marker::Model;
 
-/// The most bytes of a text that stands in place: names, keys and the values of tags are mostly shorter.
-const IN_PLACE: usize = 24;
-
 /// How a text is kept.
 #[derive(Drop, Debug)]
 enum Kept {
     /// In place, and plain.
-    PlainShort(ArrayString<IN_PLACE>),
+    PlainShort(InPlace),
     /// In place.
-    Short(ArrayString<IN_PLACE>),
+    Short(InPlace),
     /// In memory of its own, and plain.
     PlainLong(String),
     /// In memory of its own.
@@ -60,11 +57,10 @@ impl Text {
         ensures { IfOk result (λ t. t ≡ s.now) }
     {
         let plain = are_plain(s.as_bytes());
-        if s.len() <= IN_PLACE {
-            let mut short = ArrayString::new();
-            short.push_str(s);
+        // Names, keys and the values of tags are mostly short.
+        if s.len() <= MOST {
             return Ok(Text {
-                kept: short_text(plain, short),
+                kept: short_text(plain, InPlace::of(s)),
             });
         }
         let long = String::from_str(alloc, s)?;
@@ -102,9 +98,9 @@ impl Text {
 }
 
 /// A text that stands in place.
-fn short_text(plain: bool, text: ArrayString<IN_PLACE>) -> Kept
-    requires { plain ≡ true → list_all is_plain text.bytes ≡ true }
-    ensures bytes { kept_bytes result ≡ text.bytes }
+fn short_text(plain: bool, text: InPlace) -> Kept
+    requires { plain ≡ true → list_all is_plain text ≡ true }
+    ensures bytes { kept_bytes result ≡ text }
     ensures kept { IsKept result }
 {
     if plain {
@@ -127,13 +123,25 @@ fn long_text(plain: bool, text: String) -> Kept
     }
 }
 
+/// Whether both stand in place, alike: a quick way to find that they are equal.
+fn are_kept_alike(a: &Kept, b: &Kept) -> bool
+    ensures { result ≡ true → kept_bytes a.now ≡ kept_bytes b.now }
+{
+    match (a, b) {
+        (Kept::PlainShort(a) | Kept::Short(a), Kept::PlainShort(b) | Kept::Short(b)) => {
+            a.is_kept_as(b)
+        }
+        _ => false,
+    }
+}
+
 impl PartialEq for Text {
     ghost eq = { pointwise nat_eq };
 
     ghost laws = { partial_equiv_from_equiv nat_list_eq_equiv };
 
     fn eq(&self, other: &Self) -> bool {
-        self.as_str() == other.as_str()
+        are_kept_alike(&self.kept, &other.kept) || self.as_str() == other.as_str()
     }
 }
 

@@ -1,7 +1,6 @@
 -- What a reader of lines returned.
-use Rattle.std.specs.Prelude.{◌≡◌, ℕ, List, Vec, option_map, Result, Ok, Err, ◌⊎◌}
+use Rattle.std.specs.Prelude.{◌≡◌, ℕ, List, option_map, Result, Ok, Err, ◌⊎◌}
 use Rattle.std.specs.Borrow.{Bor}
-use Rattle.std.specs.declared.alloc.Global.{Global}
 use Rattle.text_parts.specs.Chain.{Fails}
 use Rattle.text_parts.specs.declared.error.ReadError.{ReadError}
 use Rattle.text_parts.specs.declared.split.Placed.{Placed}
@@ -45,6 +44,7 @@ HasHead old new (Ok name) reading =
 HasHead old new (Err e) reading = Fails e reading
 
 -- the result is the reading, or memory ran out
-abbrev pub Answers : Result (Vec Content Global) StatsdFault → Result (List Content) StatsdFault → Type 0
-Answers (Ok metrics) reading = reading ≡ Ok metrics.items
-Answers (Err e) reading = (e ≡ record { kind = OutOfMemory; place = 0 }) ⊎ (reading ≡ Err e)
+abbrev pub Answers : {A : Type 0} → (A → List Content) → Result A StatsdFault
+    → Result (List Content) StatsdFault → Type 0
+Answers listed (Ok metrics) reading = reading ≡ Ok (listed metrics)
+Answers listed (Err e) reading = (e ≡ record { kind = OutOfMemory; place = 0 }) ⊎ (reading ≡ Err e)

@@ -8,7 +8,7 @@ ghost use Rattle.statsd_text.specs.TagMap.{IsKeyed, IsReady, kept_content};
 
 use crate::fault::{StatsdFault, StatsdKind, fault};
 use crate::said::Said;
-use fixed_num::{Moment, OutOfMemory};
+use fixed_num::{Moment, OutOfMemory, Seq};
 use metric::{BuildFault, Builder, Metric, Text};
 use std::alloc::Global;
 use text_parts::ReadError;
@@ -48,7 +48,7 @@ fn metric_of(
     requires keyed { IsKeyed tags.now }
     ensures { IfOk result (λ metric. metric ≡ kept_content name.now tags.now moment said) }
 {
-    let mut builder = Builder::with_room(alloc, name, tags.len() + 1, 1)?;
+    let mut builder = Builder::of(alloc, Text::of(alloc, name)?);
     put_said(&mut builder, tags, said)?;
     finish(builder, moment)
 }
@@ -72,8 +72,28 @@ fn finish(builder: Builder, moment: Moment) -> Result<Metric, OutOfMemory>
     }
 }
 
-/// The metrics of the parts of a line at a time, with the tags of the line, unless they are too many.
-pub(crate) fn metrics_of(
+/// The metric of a part at a time, with the tags of its line, unless they are too many.
+fn limited_metric(
+    alloc: Global,
+    name: &str,
+    tags: &[(Text, Text)],
+    said: Said,
+    moment: Moment,
+) -> Result<Metric, ReadError<StatsdFault>>
+    requires named { 0 < length name.now }
+    requires keyed { IsKeyed tags.now }
+    ensures { Gives (λ metric. metric ∷ []) result
+        (limited (kept_content name.now tags.now moment said ∷ [])) }
+{
+    let metric = metric_of(alloc, name, tags, said, moment)?;
+    if metric.tags().len() > MOST_TAGS {
+        return Err(fault(StatsdKind::TooMany, 0));
+    }
+    Ok(metric)
+}
+
+/// The metrics of parts of a line at a time, with the tags of the line, unless they are too many.
+fn metrics_of_parts(
     alloc: Global,
     name: &str,
     tags: &[(Text, Text)],
@@ -87,11 +107,33 @@ pub(crate) fn metrics_of(
 {
     let mut metrics = Vec::with_capacity(alloc, said.len())?;
     for part in said {
-        let metric = metric_of(alloc, name, tags, part, moment)?;
-        if metric.tags().len() > MOST_TAGS {
-            return Err(fault(StatsdKind::TooMany, 0));
-        }
-        metrics.push(metric)?;
+        metrics.push(limited_metric(alloc, name, tags, part, moment)?)?;
     }
     Ok(metrics)
+}
+
+/// The metrics of the parts of a line at a time, with the tags of the line, unless they are too many. Most lines have
+/// one part.
+pub(crate) fn metrics_of(
+    alloc: Global,
+    name: &str,
+    tags: &[(Text, Text)],
+    said: Seq<Said>,
+    moment: Moment,
+) -> Result<Seq<Metric>, ReadError<StatsdFault>>
+    requires named { 0 < length name.now }
+    requires keyed { IsKeyed tags.now }
+    ensures { Gives (λ metrics. metrics) result
+        (limited (map (kept_content name.now tags.now moment) said)) }
+{
+    match said.into_one() {
+        Ok(said) => Ok(Seq::of_one(limited_metric(alloc, name, tags, said, moment)?)),
+        Err(said) => Ok(Seq::of(metrics_of_parts(
+            alloc,
+            name,
+            tags,
+            said.into_vec(alloc)?,
+            moment,
+        )?)),
+    }
 }

@@ -9,7 +9,7 @@ use crate::metrics::metrics_of;
 use crate::said::read_parts;
 use crate::sections::sections;
 use crate::tags::{read_head, read_later_tags, with_values};
-use fixed_num::Moment;
+use fixed_num::{Moment, OutOfMemory, Seq};
 use metric::Metric;
 use std::alloc::Global;
 use std::collections::BTreeMap;
@@ -20,8 +20,8 @@ fn read_line(
     alloc: Global,
     piece: &str,
     moment: Moment,
-) -> Result<Vec<Metric>, ReadError<StatsdFault>>
-    ensures { Gives (λ metrics. metrics.items) result (line_reading piece.now moment) }
+) -> Result<Seq<Metric>, ReadError<StatsdFault>>
+    ensures { Gives (λ metrics. metrics) result (line_reading piece.now moment) }
 {
     let line = sections(piece)?;
     let mut tags = BTreeMap::new(alloc);
@@ -45,13 +45,23 @@ fn read_text(
     alloc: Global,
     piece: &str,
     moment: Moment,
-) -> Result<Vec<Metric>, ReadError<StatsdFault>>
-    ensures { Gives (λ metrics. metrics.items) result (text_reading piece.now moment) }
+) -> Result<Seq<Metric>, ReadError<StatsdFault>>
+    ensures { Gives (λ metrics. metrics) result (text_reading piece.now moment) }
 {
     if is_blank(piece) {
-        return Ok(Vec::new(alloc));
+        return Ok(Seq::of(Vec::new(alloc)));
     }
     read_line(alloc, piece, moment)
+}
+
+/// The fault where no memory was left.
+fn out_of_memory() -> StatsdFault
+    ensures { result ≡ record { kind = StatsdKind.OutOfMemory; place = 0 } }
+{
+    StatsdFault {
+        kind: StatsdKind::OutOfMemory,
+        place: 0,
+    }
 }
 
 /// Reads a piece without its newline as a StatsD line: a name with tags, then parts, each a value with its
@@ -65,7 +75,17 @@ pub fn read_packet_line(
     piece: &[u8],
     moment: Moment,
 ) -> Result<Vec<Metric>, StatsdFault>
-    ensures { Answers result (reading piece.now moment) }
+    ensures { Answers (λ metrics. metrics.items) result (reading piece.now moment) }
+{
+    match read_packet(alloc, piece, moment)?.into_vec(alloc) {
+        Ok(metrics) => Ok(metrics),
+        Err(OutOfMemory) => Err(out_of_memory()),
+    }
+}
+
+/// Reads a piece as `read_packet_line` does. The list of a line of one part takes no memory but its own.
+pub fn read_packet(alloc: Global, piece: &[u8], moment: Moment) -> Result<Seq<Metric>, StatsdFault>
+    ensures { Answers (λ metrics. metrics) result (reading piece.now moment) }
 {
     let text = match str::from_utf8(piece) {
         Ok(text) => text,
@@ -78,10 +98,7 @@ pub fn read_packet_line(
     };
     match read_text(alloc, text, moment) {
         Ok(metrics) => Ok(metrics),
-        Err(ReadError::OutOfMemory) => Err(StatsdFault {
-            kind: StatsdKind::OutOfMemory,
-            place: 0,
-        }),
+        Err(ReadError::OutOfMemory) => Err(out_of_memory()),
         Err(ReadError::Fault(fault)) => Err(fault),
     }
 }

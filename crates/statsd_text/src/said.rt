@@ -10,7 +10,7 @@ ghost use Rattle.statsd_text.specs.Said.{counted, part_of};
 ghost use Rattle.statsd_text.specs.Views.{part_at, texts_view};
 
 use crate::fault::{StatsdFault, StatsdKind, fault};
-use fixed_num::{Fixed, NumFault};
+use fixed_num::{Fixed, NumFault, Seq};
 use metric::{Text, Value};
 use std::alloc::Global;
 use text_parts::{Placed, ReadError, Separated, first_part};
@@ -285,14 +285,14 @@ pub(crate) fn part_of(alloc: Global, part: &Placed) -> Result<Said, ReadError<St
 }
 
 /// What the parts of a text say.
-pub(crate) fn read_parts(alloc: Global, text: Placed) -> Result<Vec<Said>, ReadError<StatsdFault>>
+pub(crate) fn read_parts(alloc: Global, text: Placed) -> Result<Seq<Said>, ReadError<StatsdFault>>
     requires fits { Fits (part_at text) }
-    ensures { Gives (λ said. said.items) result (each part_of (parts_of 58 (part_at text.entry))) }
+    ensures { Gives (λ said. said) result (each part_of (parts_of 58 (part_at text.entry))) }
 {
-    let mut said = Vec::new(alloc);
+    let mut said = Seq::of(Vec::new(alloc));
     let mut parts = Separated::of(b':', text);
     while let Some(part) = parts.next() {
-        said.push(part_of(alloc, &part)?)?;
+        said.push(alloc, part_of(alloc, &part)?)?;
     }
     Ok(said)
 }

@@ -213,6 +213,17 @@ fn lists(rt: HostRuntime) -> Result<(), Fail> {
 }
 
 #[test]
+fn only_elements(rt: HostRuntime) -> Result<(), Fail> {
+    let alloc = rt.alloc();
+    assert!(rt; matches!(Seq::of_one(5).into_one(), Ok(5)));
+    match grown(alloc, 0)?.into_one() {
+        Ok(_) => assert!(rt; false, "one of four"),
+        Err(list) => assert_eq!(rt; list.as_slice(), [3, 4, 5, 9].as_slice()),
+    }
+    Ok(())
+}
+
+#[test]
 fn whole_numbers(rt: HostRuntime) {
     let ints = [
         ("+5", Ok(5)),

@@ -1,7 +1,7 @@
 //! StatsD lines: the examples of etsy's StatsD, DogStatsD and Telegraf, lines of our own, and each fault.
 use fixed_num::OutOfMemory;
 use line_proto::write_line;
-use statsd_text::read_packet_line;
+use statsd_text::{read_packet, read_packet_line};
 use std::alloc::Global;
 use std::process::Abort;
 use std::test::Fail;
@@ -36,6 +36,31 @@ fn each_is_shown(rt: &impl Abort, alloc: Global, cases: &[Case]) -> Result<(), O
     for case in cases {
         let text = shown(alloc, case.piece.as_bytes())?;
         assert_eq!(rt; text.as_slice(), case.want.as_bytes(), "at {}", case.piece);
+    }
+    Ok(())
+}
+
+#[test]
+fn lists_in_place(rt: HostRuntime) -> Result<(), Fail> {
+    let alloc = rt.alloc();
+    for (piece, want) in [
+        ("  ", ""),
+        ("a:1|c", "a,metric_type=counter value=1 50\n"),
+        (
+            "a:1|c:2|g",
+            "a,metric_type=counter value=1 50\na,metric_type=gauge value=2 50\n",
+        ),
+    ] {
+        let mut out = Vec::new(alloc);
+        match read_packet(alloc, piece.as_bytes(), 50) {
+            Ok(metrics) => {
+                for metric in metrics.as_slice() {
+                    write_line(alloc, metric, &mut out)?;
+                }
+            }
+            Err(fault) => assert!(rt; false, "{:?} at {}", fault.kind, fault.place),
+        }
+        assert_eq!(rt; out.as_slice(), want.as_bytes(), "at {piece}");
     }
     Ok(())
 }

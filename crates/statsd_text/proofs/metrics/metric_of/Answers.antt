@@ -42,7 +42,7 @@ pub finish-requires : goal.finish-requires
 finish-requires c =
     let put = c.in_ok-put_said.ensures in
     let all : HasAll c.put_said.new.builder c.args.name.now (with_sorted c.args.tags.now (codes "metric_type") (type_name c.args.said.metric_type)) (field_name c.args.said.field) c.args.said.value =
-    record { named = put.name ∙ ap (λ (b : Parts). b.name) c.in_ok-builder.ensures; tagged = put.tags; fields = put.fields } in
+    record { named = put.name ∙ ap (λ (b : Parts). b.name) c.of-builder.ensures ∙ c.in_ok-of.ensures; tagged = put.tags; fields = put.fields } in
     all_ready c.put_said.new.builder c.args.name.now (with_sorted c.args.tags.now (codes "metric_type") (type_name c.args.said.metric_type)) (field_name c.args.said.field) c.args.said.value all c.requires.named
     (keyed_more c.args.tags.now (codes "metric_type") (type_name c.args.said.metric_type) (omega arith) c.requires.keyed)
     (field_filled c.args.said.field)
@@ -53,7 +53,7 @@ same_ok r a b h e = subst (λ (x : Content). IfOk r (λ m. m ≡ x)) e h
 pub returns : goal.returns
 returns c =
     let put = c.in_ok-put_said.ensures in
-    let named : c.put_said.new.builder.name ≡ c.args.name.now = put.name ∙ ap (λ (b : Parts). b.name) c.in_ok-builder.ensures in
+    let named : c.put_said.new.builder.name ≡ c.args.name.now = put.name ∙ ap (λ (b : Parts). b.name) c.of-builder.ensures ∙ c.in_ok-of.ensures in
     same_ok c.finish.result (record {
       name = c.put_said.new.builder.name;
       tags = with_values c.put_said.new.builder.tags;

@@ -42,6 +42,6 @@ returns c =
     let head = c.in_ok-name.ensures.head in
     let later = c.in_ok-read_later_tags.ensures.tags in
     let kept = c.as_slice.ensures.value ∙ c.in_ok-tags.ensures in
-    let read = metrics_are c.args.piece.now c.args.moment (sections_view c.in_ok-line.line) c.in_ok-name.name.now head.0 later.0 c.in_ok-said.said.items c.new-tags.result.entries c.read_head.new.tags.entries c.read_later_tags.new.tags.entries c.as_slice.result.now c.in_ok-line.ensures.gives head.1 later.1 c.in_ok-said.ensures c.new-tags.ensures.empty head.2 later.2 kept in
-    subst (λ (r : Result (List Content) StatsdFault). Gives (λ metrics. metrics.items) c.metrics_of.result r) read
+    let read = metrics_are c.args.piece.now c.args.moment (sections_view c.in_ok-line.line) c.in_ok-name.name.now head.0 later.0 c.in_ok-said.said c.new-tags.result.entries c.read_head.new.tags.entries c.read_later_tags.new.tags.entries c.as_slice.result.now c.in_ok-line.ensures.gives head.1 later.1 c.in_ok-said.ensures c.new-tags.ensures.empty head.2 later.2 kept in
+    subst (λ (r : Result (List Content) StatsdFault). Gives (λ metrics. metrics) c.metrics_of.result r) read
     (rw (to_z-of_z w64 c.args.moment c.ranges.moment) at c.metrics_of.ensures)

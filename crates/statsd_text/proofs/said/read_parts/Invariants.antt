@@ -6,7 +6,7 @@ use Rattle.statsd_text.specs.Views.{part_at}
 use Rattle.statsd_text.proofs.said.read_parts.Given as goal
 
 abbrev pub invariant-loop-part : goal.invariant-loop-part
-invariant-loop-part l = HasRead part_of (parts_of 58 (part_at l.text)) l.said.items l.parts
+invariant-loop-part l = HasRead part_of (parts_of 58 (part_at l.text)) l.said l.parts
 
 abbrev pub decreases-loop-part : goal.decreases-loop-part
 decreases-loop-part l = length l.parts

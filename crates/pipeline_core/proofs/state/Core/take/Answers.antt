@@ -1,4 +1,5 @@
-use Rattle.std.proofs.Common.{◌≡◌, ◌<◌, length, None, ap, sym, ◌∙◌, subst, rules, arith}
+use Rattle.std.proofs.Common.{◌≡◌, ◌<◌, ℕ, false, length, Option, Some, None, refl, ap, sym, ◌∙◌, subst, rules, arith}
+use Rattle.std.specs.Option.{is_some}
 use Rattle.std.proofs.lemmas.Grind.{common_steps}
 use Rattle.pipeline_core.specs.CoreState.{CoreState, IsCore}
 use Rattle.pipeline_core.proofs.StandsSteps.{take_stands}
@@ -6,9 +7,14 @@ use Rattle.pipeline_core.specs.CoreView.{core_state}
 use Rattle.pipeline_core.proofs.Keeping.{kept_take, flights-le}
 use Rattle.pipeline_core.proofs.state.Core.take.Goals as goal
 
+-- a test for something that came out false
+none_from : (held : Option ℕ) → is_some held ≡ false → held ≡ None
+none_from None e = refl
+none_from (Some item) e = absurd cc
+
 pub invariant_of-self-2 : goal.invariant_of-self-2
 invariant_of-self-2 c =
-    let empty : c.self.inside.held ≡ None = grind (arith, common_steps) in
+    let empty : c.self.inside.held ≡ None = none_from c.self.inside.held (sym c.is_some.ensures ∙ c.if-is_some.false) in
     let some : 0 < length c.self.inside.raw.items = grind (arith, common_steps) in
     record {
       core = rw c.pop_front.ensures.rest (kept_take (core_state c.self.inside) _ c.self.invariant.core empty some);
@@ -17,7 +23,7 @@ invariant_of-self-2 c =
 
 pub returns-clause-stands : goal.returns-clause-stands
 returns-clause-stands c =
-    let empty : c.self.inside.held ≡ None = grind (arith, common_steps) in
+    let empty : c.self.inside.held ≡ None = none_from c.self.inside.held (sym c.is_some.ensures ∙ c.if-is_some.false) in
     let some : 0 < length c.self.inside.raw.items = grind (arith, common_steps) in
     take_stands c.args.self.now _ (search rules) (subst IsCore c.self.view_is c.self.invariant.core)
     (ap (λ (s : CoreState). s.held) (sym c.self.view_is) ∙ empty)

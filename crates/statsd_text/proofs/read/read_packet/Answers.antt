@@ -4,7 +4,7 @@ use Rattle.text_parts.proofs.Utf8Readings.{not_utf8, utf8_read}
 use Rattle.statsd_text.specs.declared.fault.StatsdFault.{StatsdFault}
 use Rattle.statsd_text.specs.declared.fault.StatsdKind.TheVariants.{NotUtf8}
 use Rattle.statsd_text.specs.Reading.{text_reading, reading}
-use Rattle.statsd_text.proofs.read.read_packet_line.Goals as goal
+use Rattle.statsd_text.proofs.read.read_packet.Goals as goal
 
 pub returns-in-Err : goal.returns-in-Err
 unfolding reading

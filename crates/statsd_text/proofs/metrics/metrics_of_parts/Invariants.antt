@@ -4,7 +4,7 @@ use Rattle.statsd_text.specs.TagMap.{kept_content}
 use Rattle.std.specs.List.{list_any}
 use Rattle.std.specs.Vec.Iter.{into_iter_items}
 use Rattle.std.specs.Prelude.{false}
-use Rattle.statsd_text.proofs.metrics.metrics_of.Given as goal
+use Rattle.statsd_text.proofs.metrics.metrics_of_parts.Given as goal
 
 abbrev pub invariant-loop-part : goal.invariant-loop-part
 invariant-loop-part l = record {

@@ -1,0 +1,78 @@
+//! Short texts that stand in place.
+ghost use Rattle.std.specs.Prelude.{◌≡◌, ◌≤◌, true, length, take};
+
+use std::marker::Model;
+use std::{fmt, str};
+
+/// The most bytes of a text in place.
+pub(crate) const MOST: usize = 24;
+
+/// A UTF-8 text of at most 24 bytes, in place.
+#[derive(Drop)]
+pub(crate) struct InPlace {
+    /// Its bytes, with zeros behind them.
+    cells: [u8; MOST],
+    len: usize,
+}
+
+impl Model for InPlace {
+    ghost use Rattle.std.specs.Prelude.{List, ℕ, take};
+    ghost use Rattle.metric.specs.InPlace.{IsPlaced};
+
+    ghost Value = { List ℕ };
+
+    ghost view = { λ t. take t.len t.cells };
+
+    ghost invariant = { λ t. IsPlaced t.cells t.len };
+}
+
+impl InPlace {
+    /// A copy of a text.
+    #[inline(always)]
+    pub fn of(s: &str) -> InPlace
+        requires { length s.now ≤ MOST }
+        ensures { result ≡ s.now }
+    {
+        InPlace {
+            cells: filled(s.as_bytes()),
+            len: s.len(),
+        }
+    }
+
+    /// The text.
+    #[inline(always)]
+    pub fn as_str(&self) -> &str
+        ensures { result.now ≡ self.now }
+    {
+        let (cells, len) = (&self.cells, self.len);
+        let (bytes, _) = cells.split_at(len);
+        unsafe { str::from_utf8_unchecked(bytes) }
+    }
+
+    /// Whether both are kept alike: then the texts are equal. It takes one comparison for all bytes.
+    #[inline(always)]
+    pub fn is_kept_as(&self, other: &InPlace) -> bool
+        ensures { result ≡ true → self.now ≡ other.now }
+    {
+        self.len == other.len && self.cells == other.cells
+    }
+}
+
+/// Cells that begin with some bytes.
+#[inline(always)]
+fn filled(bytes: &[u8]) -> [u8; MOST]
+    requires { length bytes.now ≤ MOST }
+    ensures front { take (length bytes.now) result ≡ bytes.now }
+    ensures len { length result ≡ MOST }
+{
+    let mut cells = [0; MOST];
+    let (front, _) = cells.split_at_mut(bytes.len());
+    front.copy_from_slice(bytes);
+    cells
+}
+
+impl fmt::Debug for InPlace {
+    fn fmt<W: fmt::Write>(&self, f: &mut fmt::Formatter<W>) -> fmt::Result {
+        fmt::Debug::fmt(self.as_str(), f)
+    }
+}

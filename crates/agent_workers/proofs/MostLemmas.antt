@@ -1,5 +1,5 @@
 -- How many metrics a piece says at most.
-use Rattle.std.proofs.Common.{◌≡◌, ◌≤◌, ◌+◌, ◌*◌, ℕ, ℤ, Bool, true, false, cond, List, [], ◌∷◌, ◌++◌, length, map, refl, sym, ap, ◌∙◌, arith, length-append, Result, Ok, Err, Option, Some, None}
+use Rattle.std.proofs.Common.{◌≡◌, ◌≤◌, ◌+◌, ◌*◌, ℕ, ℤ, Bool, true, false, cond, List, [], ◌∷◌, ◌++◌, length, map, refl, ap, ◌∙◌, arith, length-append, Result, Ok, Err, Option, Some, None}
 use Rattle.std.specs.Prelude.{codes}
 use Rattle.std.specs.List.{flat_map, join_with_byte}
 use Rattle.std.specs.Str.{is_utf8}
@@ -21,7 +21,7 @@ use Rattle.statsd_text.specs.Sections.{fault}
 use Rattle.statsd_text.specs.declared.fault.StatsdFault.{StatsdFault}
 use Rattle.statsd_text.specs.declared.fault.StatsdKind.TheVariants.{NotUtf8}
 use Rattle.statsd_text.proofs.Founds as founds
-use Rattle.openmetrics_text.specs.Grammar.{WrittenLine, WrittenSample, TypeLine, HelpLine, UnitLine, OtherLine, SampleLine, line_text, with_newline, end_text, braces_text, time_text, exemplar_text, IsLine, AreLines}
+use Rattle.openmetrics_text.specs.Grammar.{WrittenLine, TypeLine, HelpLine, UnitLine, OtherLine, SampleLine, line_text, with_newline, end_text, braces_text, time_text, exemplar_text, IsLine, AreLines}
 use Rattle.openmetrics_text.specs.Lines.{LineSays, Typed, Nothing, Sampled}
 use Rattle.openmetrics_text.specs.Reading as openmetrics
 use Rattle.openmetrics_text.specs.Sample as samples

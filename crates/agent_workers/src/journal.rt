@@ -18,6 +18,7 @@ use metric::Metric;
 use pipeline_core::{Core, CutAnswer};
 use std::alloc::Global;
 use std::collections::VecDeque;
+use std::mem;
 
 /// The journal's part of a run: what the journal is about, where its text goes, and what is needed to go on
 /// with it.
@@ -140,7 +141,7 @@ fn write_front(
 fn write_entries(
     alloc: Global,
     unrouted_items: &mut VecDeque<Metric>,
-    entries: Vec<Entry>,
+    mut entries: Vec<Entry>,
     text: &mut Vec<u8>,
 ) -> Result<(), OutOfMemory>
     requires { All IsWholeOrRemoved entries.items }
@@ -148,26 +149,26 @@ fn write_entries(
         (SpellsOn entries.items unrouted_items.old.items unrouted_items.new.items
         text.old.items text.new.items) }
 {
-    for entry in entries {
+    for entry in entries.iter_mut() {
         write_one(alloc, unrouted_items, entry, text)?;
     }
     Ok(())
 }
 
-// Adds the text of an entry, given the items that have no Route yet.
+// Adds the text of an entry, given the items that have no Route yet. Its metrics are taken out of it.
 fn write_one(
     alloc: Global,
     unrouted_items: &mut VecDeque<Metric>,
-    entry: Entry,
+    entry: &mut Entry,
     text: &mut Vec<u8>,
 ) -> Result<(), OutOfMemory>
-    requires { IsWholeOrRemoved entry }
+    requires { IsWholeOrRemoved entry.old }
     ensures { OnOk result
-        (SpellsOn (entry ∷ []) unrouted_items.old.items unrouted_items.new.items
+        (SpellsOn (entry.old ∷ []) unrouted_items.old.items unrouted_items.new.items
         text.old.items text.new.items) }
 {
-    let item = item_of(unrouted_items, &entry)?;
-    write_entry(alloc, item.as_slice(), &entry, text)?;
+    let item = item_of(unrouted_items, entry)?;
+    write_entry(alloc, item.as_slice(), entry, text)?;
     keep_named(alloc, unrouted_items, entry)?;
     Ok(())
 }
@@ -212,24 +213,31 @@ fn item_of(
     }
 }
 
-// Keeps the metrics that an entry names until they are routed.
+// Keeps the metrics that an entry names until they are routed, which are taken out of it.
 fn keep_named(
     alloc: Global,
     unrouted_items: &mut VecDeque<Metric>,
-    entry: Entry,
+    entry: &mut Entry,
 ) -> Result<(), OutOfMemory>
-    ensures { OnOk result (unrouted_items.new.items ≡ unrouted_items.old.items ++ named_by entry) }
+    ensures { OnOk result (unrouted_items.new.items ≡ unrouted_items.old.items ++ named_by entry.old) }
 {
     match entry {
-        Entry::Gather { metrics, .. } => keep(alloc, unrouted_items, metrics),
-        Entry::Tick { made, .. } => keep(alloc, unrouted_items, made),
-        Entry::Stop { made, .. } => keep(alloc, unrouted_items, made),
+        Entry::Gather { metrics, .. } => keep(alloc, unrouted_items, taken(alloc, metrics)),
+        Entry::Tick { made, .. } => keep(alloc, unrouted_items, taken(alloc, made)),
+        Entry::Stop { made, .. } => keep(alloc, unrouted_items, taken(alloc, made)),
         Entry::Route { .. } => Ok(()),
         Entry::Ended { .. } => Ok(()),
         Entry::Take { .. } => Ok(()),
         Entry::Begin { .. } => Ok(()),
         Entry::Done { .. } => Ok(()),
     }
+}
+
+// Takes metrics out of their list.
+fn taken(alloc: Global, metrics: &mut Seq<Metric>) -> Seq<Metric>
+    ensures { result ≡ metrics.old }
+{
+    mem::replace(metrics, Seq::of(Vec::new(alloc)))
 }
 
 // Keeps items until they are routed.

@@ -12,13 +12,13 @@ ghost use Rattle.agent_workers.specs.Reader.{exposition_says, parts_say, say_in}
 
 use agent_base::Piece;
 use agent_config::InFormat;
-use fixed_num::{Moment, OutOfMemory};
+use fixed_num::{Moment, OutOfMemory, Seq};
 use graphite_text::{GraphiteKind, Template};
 use line_proto::{LineKind, read_line};
 use metric::{Metric, Text};
 use metric_filter::Filter;
 use openmetrics_text::{ExpositionKind, read_exposition};
-use statsd_text::{StatsdKind, read_packet_line};
+use statsd_text::{StatsdKind, read_packet};
 use std::alloc::Global;
 
 /// How many metrics a gather has room for from its start.
@@ -192,8 +192,8 @@ impl Group {
             (Counts (rule_view rule.now) (parts_say (statsd.reading piece.now moment)) self.old self.new) }
     {
         let (_passed, _filtered) = (self.passed, self.filtered);
-        match read_packet_line(alloc, piece.bytes(), moment) {
-            Ok(metrics) => self.keep_all(alloc, rule, metrics),
+        match read_packet(alloc, piece.bytes(), moment) {
+            Ok(metrics) => self.keep_list(alloc, rule, metrics),
             Err(fault) => self.refuse_for(fault.kind == StatsdKind::OutOfMemory),
         }
     }
@@ -240,7 +240,7 @@ impl Group {
         let (_passed, _filtered) = (self.passed, self.filtered);
         match read_exposition(alloc, piece.bytes(), moment, type_tag) {
             Ok(exposition) => {
-                self.keep_all(alloc, rule, exposition.metrics.into_vec(alloc)?)?;
+                self.keep_list(alloc, rule, exposition.metrics)?;
                 self.passed = self.passed.saturating_add(exposition.passed);
                 Ok(())
             }
@@ -260,6 +260,24 @@ impl Group {
         }
         self.refused += 1;
         Ok(())
+    }
+
+    /// Keeps what is kept of metrics, in order. Most lines say one.
+    fn keep_list(
+        &mut self,
+        alloc: Global,
+        rule: &ReadRule,
+        metrics: Seq<Metric>,
+    ) -> Result<(), OutOfMemory>
+        requires filled { All IsFilledTag rule.now.globals.now }
+        ensures pieces { OnOk result (self.new.pieces ≡ self.old.pieces) }
+        ensures said { OnOk result
+            (Counts (rule_view rule.now) (Says metrics 0) self.old self.new) }
+    {
+        match metrics.into_one() {
+            Ok(metric) => self.keep(alloc, rule, metric),
+            Err(metrics) => self.keep_all(alloc, rule, metrics.into_vec(alloc)?),
+        }
     }
 
     /// Keeps what is kept of metrics, in order.

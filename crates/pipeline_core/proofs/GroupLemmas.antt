@@ -1,5 +1,5 @@
 -- Where no input is tracked there are no groups, and nothing settles.
-use Rattle.std.proofs.Common.{◌≡◌, ◌<◌, ℕ, List, [], ◌∷◌, ◌++◌, map, refl, sym, ap, ◌∙◌, subst, length}
+use Rattle.std.proofs.Common.{◌≡◌, ℕ, List, [], ◌∷◌, ◌++◌, map, refl, sym, ap, ◌∙◌, length}
 use Rattle.std.specs.Prelude.{slice_get}
 use Rattle.std.proofs.lemmas.Option.{slice_get_within, get_or_from_slice_get}
 use Rattle.std.specs.List.{All, enumerate_from, filter}
@@ -7,14 +7,13 @@ use Rattle.std.specs.declared.option.Option.{Option}
 use Rattle.std.specs.declared.option.Option.TheVariants.{Some, None}
 use Rattle.account.specs.Setup.{Setup}
 use Rattle.account.specs.Says.{GatherSays, gather_of}
-use Rattle.account.specs.Origins.{group_inputs, group_inputs_said, input_among, groups}
+use Rattle.account.specs.Origins.{group_inputs, group_inputs_said, input_among}
 use Rattle.account.proofs.OriginLemmas.{group_inputs-push}
 use Rattle.account.specs.declared.entry.Entry.{Entry}
 use Rattle.account.specs.declared.entry.Entry.TheVariants.{Gather, Ended, Take, Route, Tick, Stop, Begin}
 use Rattle.account.specs.declared.entry.Entry.TheVariants.{Done}
-use Rattle.account.specs.declared.entry.Report.{Report}
 use Rattle.pipeline_core.specs.Groups.{reports_at, report_of, settles, next_group}
-use Rattle.pipeline_core.specs.Laws.{NoGroups, UntrackedHasNoGroups}
+use Rattle.pipeline_core.specs.Laws.{UntrackedHasNoGroups}
 use Rattle.pipeline_core.specs.Legal.{Meets, MeetsGather, AreLegal, IsLegal}
 
 -- an input of the set-up isn't tracked

@@ -4,7 +4,7 @@ use Rattle.std.specs.List.{enumerate_from, filter, sum_by}
 use Rattle.std.specs.declared.option.Option.{Option}
 use Rattle.std.specs.declared.option.Option.TheVariants.{Some, None}
 use Rattle.account.specs.Setup.{Setup}
-use Rattle.account.specs.Origins.{Origin, origin_at, is_of_group, unrouted, group_inputs, groups}
+use Rattle.account.specs.Origins.{origin_at, is_of_group, unrouted, group_inputs, groups}
 use Rattle.account.specs.declared.entry.Entry.{Entry}
 use Rattle.account.specs.declared.entry.Report.{Report}
 use Rattle.pipeline_core.specs.Fates.{Fate, ItemFate, item_fates, is_buffered, is_dropped}

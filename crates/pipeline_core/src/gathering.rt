@@ -7,7 +7,7 @@ ghost use Rattle.pipeline_core.specs.Steps.{gather_entry, after_gather, after_en
 ghost use Rattle.pipeline_core.specs.Steps.{IsGatherAnswer};
 ghost use Rattle.pipeline_core.specs.declared.gathering.GatherRefused.TheVariants as refused;
 
-use crate::room::{make_room, queue_of};
+use crate::room::{make_room, make_room_for, queue_of};
 use crate::state::Core;
 use account::Entry;
 use fixed_num::{Moment, OutOfMemory, Seq};
@@ -118,7 +118,7 @@ impl Core {
             return Err(GatherRefused::OutOfMemory);
         }
         let mut copies = queue_of(self.alloc, g.metrics.as_slice())?;
-        make_room(&mut self.stored, self.outputs.len())?;
+        make_room_for(&mut self.stored, self.outputs.len(), count)?;
         self.raw.append(&mut copies)?;
         self.gathered += count as u32;
         self.account.gathered(

@@ -1,5 +1,5 @@
 //! Room for entries and copies of metrics.
-ghost use Rattle.std.specs.Prelude.{◌≡◌, ◌+◌, ◌≤◌, length, vec_len, vec_capacity, IfOk, OnOk};
+ghost use Rattle.std.specs.Prelude.{◌≡◌, ◌+◌, ◌<◌, ◌≤◌, ◌^◌, length, vec_len, vec_capacity, IfOk, OnOk};
 ghost use Rattle.pipeline_core.specs.Offers.{views_of};
 
 use crate::output::Offer;
@@ -19,6 +19,24 @@ pub(crate) fn make_room(stored: &mut Vec<Entry>, outputs: usize) -> Result<(), O
     ensures kept { vec_capacity stored.old ≤ vec_capacity stored.new }
 {
     stored.reserve(outputs + 1)?;
+    Ok(())
+}
+
+/// The same, where so many items came: they will be taken and routed. So the entries of a round are moved to larger
+/// memory once, and not again and again.
+pub(crate) fn make_room_for(
+    stored: &mut Vec<Entry>,
+    outputs: usize,
+    items: usize,
+) -> Result<(), OutOfMemory>
+    requires few { outputs ≤ 16 }
+    requires numbered { items < 2 ^ 32 }
+    ensures items { stored.new.items ≡ stored.old.items }
+    ensures len { vec_len stored.new ≡ vec_len stored.old }
+    ensures room { OnOk result (vec_len stored.new + (outputs + 1) ≤ vec_capacity stored.new) }
+    ensures kept { vec_capacity stored.old ≤ vec_capacity stored.new }
+{
+    stored.reserve(outputs + 1 + 2 * items)?;
     Ok(())
 }
 

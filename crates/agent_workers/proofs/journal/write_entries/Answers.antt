@@ -1,28 +1,54 @@
-use Rattle.std.proofs.Common.{◌≡◌, ℕ, length, ◌∷◌, [], subst, sym, length-append, arith}
-use Rattle.std.specs.Vec.Iter.{into_iter_items, into_iter_len}
-use Rattle.std.proofs.lemmas.Iterator.Adapters.{YieldsList-from_vec}
-use Rattle.std.proofs.lemmas.Iterator.Consumers.{YieldsList-turn, YieldsList-end}
-use Rattle.journal_text.proofs.SoFarLemmas.{SpellsFirst, spells_no_more, spells_more, spells_all}
+use Rattle.std.proofs.Common.{◌≡◌, ◌<◌, ◌+◌, ◌∷◌, [], ℕ, List, length, get_or, drop, set, sym, ap, subst, ◌∙◌, length-drop, arith}
+use Rattle.std.proofs.lemmas.List.{drop_more, drop-set-lt, get_or-drop}
+use Rattle.account.specs.declared.entry.Entry.{Entry}
+use Rattle.journal_text.specs.JournalText.{IsWholeOrRemoved}
+use Rattle.journal_text.specs.SoFar.{SpellsOn}
+use Rattle.journal_text.proofs.SoFarLemmas.{spells_no_more, spells_more, spells_all}
 use Rattle.agent_workers.proofs.journal.write_entries.Goals as goal
 
+-- lists that are the same from a place on have as many elements behind it
+as_long : (xs ys : List Entry) (i : ℕ) → i < length xs → drop i xs ≡ drop i ys → i < length ys
+as_long xs ys i lt same = omega (arith, lt, ap length same, length-drop i xs, length-drop i ys)
+
+same_at : (xs ys : List Entry) (i : ℕ) (e : Entry) → e ≡ get_or xs i e → drop i xs ≡ drop i ys → e ≡ get_or ys i e
+same_at xs ys i e is same =
+    let none : i + 0 ≡ i = omega arith in
+    is ∙ ap (λ (n : ℕ). get_or xs n e) (sym none) ∙ sym (get_or-drop i xs 0 e) ∙ ap (λ (zs : List Entry). get_or zs 0 e) same ∙ get_or-drop i ys 0 e
+    ∙ ap (λ (n : ℕ). get_or ys n e) none
+
+behind_one : (xs ys : List Entry) (i : ℕ) (e left : Entry) → i < length xs → drop i xs ≡ drop i ys → drop (i + 1) (set xs i left) ≡ drop (i + 1) ys
+behind_one xs ys i e left lt same =
+    drop-set-lt (i + 1) xs i left (omega arith) ∙ sym (ap (drop 1) (drop_more xs i e lt)) ∙ ap (drop 1) same
+    ∙ ap (drop 1) (drop_more ys i e (as_long xs ys i lt same))
+
 pub loop-entry-init : goal.loop-entry-init
-loop-entry-init c = spells_no_more c.args.entries.items c.args.unrouted_items.now.items c.args.text.now.items
+loop-entry-init c = record {
+  spelled = spells_no_more c.args.entries.items c.args.unrouted_items.now.items c.args.text.now.items;
+  behind = c.deref_mut-entry-items.ensures.value;
+}
 
 pub loop-entry-preserved : goal.loop-entry-preserved
 loop-entry-preserved c =
-    let s = c.into_iter-entry-iterator.result in
-    let items : into_iter_items s ≡ c.args.entries.items = (cc) in
-    let len : into_iter_len s ≡ length c.args.entries.items = (cc) in
-    let turn = YieldsList-turn (YieldsList-from_vec c.args.entries.items items len) c.loop-entry.yielded c.loop-entry.entry-iterator c.loop-entry.yielded_by c.next.result c.next.new.self c.in-Some.entry c.in-Some.is c.next.ensures.steps in
-    subst (λ (n : ℕ). SpellsFirst n c.args.entries.items c.args.unrouted_items.now.items c.write_one.new.unrouted_items.items c.args.text.now.items c.write_one.new.text.items)
-    (sym (length-append c.loop-entry.yielded (c.in-Some.entry ∷ [])))
-    (spells_more (length c.loop-entry.yielded) c.args.entries.items c.in-Some.entry c.args.unrouted_items.now.items c.loop-entry.unrouted_items.items c.write_one.new.unrouted_items.items c.args.text.now.items c.loop-entry.text.items c.write_one.new.text.items
-    turn.0 turn.1 c.loop-entry.invariant c.in_ok-write_one.ensures)
+    let lt : c.loop-entry.entry-index < length c.loop-entry.entry-items = omega (arith, c.loop-entry-test.true, c.loop-entry.auto.entry-items) in
+    record {
+      spelled =
+          spells_more c.loop-entry.entry-index c.args.entries.items c.entry-item.result c.args.unrouted_items.now.items c.loop-entry.unrouted_items.items
+          c.write_one.new.unrouted_items.items c.args.text.now.items c.loop-entry.text.items c.write_one.new.text.items
+          (as_long c.loop-entry.entry-items c.args.entries.items c.loop-entry.entry-index lt c.loop-entry.invariant.behind)
+          (same_at c.loop-entry.entry-items c.args.entries.items c.loop-entry.entry-index c.entry-item.result c.entry-item.is c.loop-entry.invariant.behind)
+          c.loop-entry.invariant.spelled
+          (subst (λ (e : Entry). SpellsOn (e ∷ []) c.loop-entry.unrouted_items.items c.write_one.new.unrouted_items.items c.loop-entry.text.items c.write_one.new.text.items)
+          (sym c.entry-item.is) c.in_ok-write_one.ensures);
+      behind = behind_one c.loop-entry.entry-items c.args.entries.items c.loop-entry.entry-index c.entry-item.result c.write_one.new.entry lt c.loop-entry.invariant.behind;
+    }
 
 pub returns : goal.returns
 returns c =
-    let s = c.into_iter-entry-iterator.result in
-    let items : into_iter_items s ≡ c.args.entries.items = (cc) in
-    let len : into_iter_len s ≡ length c.args.entries.items = (cc) in
-    let end = YieldsList-end (YieldsList-from_vec c.args.entries.items items len) c.loop-entry.yielded c.loop-entry.entry-iterator c.loop-entry.yielded_by c.next.result c.next.new.self c.in-None.is c.next.ensures.steps in
-    spells_all (length c.loop-entry.yielded) c.args.entries.items c.args.unrouted_items.now.items c.loop-entry.unrouted_items.items c.args.text.now.items c.loop-entry.text.items (omega (arith, end.1)) c.loop-entry.invariant
+    spells_all c.loop-entry.entry-index c.args.entries.items c.args.unrouted_items.now.items c.loop-entry.unrouted_items.items c.args.text.now.items c.loop-entry.text.items
+    (omega (arith, c.loop-entry-test.false, ap length c.deref_mut-entry-items.ensures.value)) c.loop-entry.invariant.spelled
+
+pub write_one-requires : goal.write_one-requires
+write_one-requires c =
+    let lt : c.loop-entry.entry-index < length c.loop-entry.entry-items = omega (arith, c.loop-entry-test.true, c.loop-entry.auto.entry-items) in
+    subst IsWholeOrRemoved c.entry-item.is (subst IsWholeOrRemoved (sym (same_at c.loop-entry.entry-items c.args.entries.items c.loop-entry.entry-index c.entry-item.result c.entry-item.is c.loop-entry.invariant.behind))
+    (c.requires c.loop-entry.entry-index c.entry-item.result (as_long c.loop-entry.entry-items c.args.entries.items c.loop-entry.entry-index lt c.loop-entry.invariant.behind)))

@@ -10,6 +10,6 @@ use Rattle.agent_workers.proofs.journal.write_one.Goals as goal
 pub returns : goal.returns
 returns c =
     let item : List Content = option_to_list c.in_ok-item.item in
-    spells_entry c.args.entry item c.args.unrouted_items.now.items c.keep_named.new.unrouted_items.items c.args.text.now.items c.write_entry.new.out.items c.in_ok-item.ensures.one
-    (rest_named item c.args.unrouted_items.now.items c.item_of.new.unrouted_items.items c.keep_named.new.unrouted_items.items (named_by c.args.entry) c.in_ok-item.ensures.rest c.in_ok-keep_named.ensures)
-    (c.in_ok-write_entry.ensures.ok ∙ ap (λ (i : List Content). c.args.text.now.items ++ entry_text i c.args.entry) (slice_is c.in_ok-item.item c.as_slice.result.now c.as_slice.ensures))
+    spells_entry c.args.entry.now item c.args.unrouted_items.now.items c.keep_named.new.unrouted_items.items c.args.text.now.items c.write_entry.new.out.items c.in_ok-item.ensures.one
+    (rest_named item c.args.unrouted_items.now.items c.item_of.new.unrouted_items.items c.keep_named.new.unrouted_items.items (named_by c.args.entry.now) c.in_ok-item.ensures.rest c.in_ok-keep_named.ensures)
+    (c.in_ok-write_entry.ensures.ok ∙ ap (λ (i : List Content). c.args.text.now.items ++ entry_text i c.args.entry.now) (slice_is c.in_ok-item.item c.as_slice.result.now c.as_slice.ensures))

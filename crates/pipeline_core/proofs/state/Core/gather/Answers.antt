@@ -19,7 +19,7 @@ invariant_of-self-2 c =
           (c.in_ok-append.ensures.items ∙ ap (λ (xs : List Content). c.self.inside.raw.items ++ xs) (c.in_ok-copies.ensures ∙ c.as_slice.ensures))
           (c.gathered.ensures ∙ ap (λ (xs : List Content). with_input c.self.inside.account c.args.g.input (gathered_more (input_numbers c.self.inside.account c.args.g.input) c.args.g.pieces c.args.g.refused c.args.g.passed c.args.g.filtered (length xs))) c.as_slice-count.ensures)
           (ap (λ (xs : List Content). c.self.inside.gathered + length xs) c.as_slice-count.ensures);
-      spare = omega (arith, flights-le c.self.inside.outputs.items, c.in_ok-make_room.ensures.room);
+      spare = omega (arith, flights-le c.self.inside.outputs.items, c.in_ok-make_room_for.ensures.room);
     }
 
 pub returns-clause-stands : goal.returns-clause-stands

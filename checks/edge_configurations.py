@@ -16,6 +16,7 @@ from edge_kit import (
     SECONDS,
     Case,
     Folder,
+    Holding,
     Link,
     differences,
     open_fault,
@@ -23,7 +24,9 @@ from edge_kit import (
 )
 
 SOUND = b"[[inputs.file]]\nfiles = [\"a\"]\n[[outputs.file]]\nfiles = [\"b\"]\n"
+INPUT = b'[[inputs.file]]\nfiles = ["a"]\n'
 MISSPELLED = b"[agent]\nmetric_bufer_limit = 5\n"
+WAS_REFUSED = b"hogzent: the configuration c was refused: "
 
 
 def checked(name, line, before=None, **others):
@@ -31,16 +34,49 @@ def checked(name, line, before=None, **others):
     return Case(name, line, {"c": SOUND} if before is None else before, **{"report": b"ok\n", **others})
 
 
+def faulty(name, text, report, told):
+    """A case in which a configuration has a fault, which is reported, and told in plain words."""
+    return checked(name, "hogzent check c", {"c": text}, status=3, report=b"config: %b\n" % report, told=told)
+
+
 CHECKS = [
     checked("a configuration is checked", "hogzent check c"),
     checked("a configuration at standard input", "hogzent check stdin < c"),
-    checked(
-        "a configuration with a fault",
-        "hogzent check c",
-        {"c": MISSPELLED},
-        status=3,
-        report=b"config: UnknownKey agent 0\n",
-        told=b'hogzent: the configuration c was refused: [agent], "metric_bufer_limit": there is no such key\n',
+    faulty(
+        "a key that there isn't",
+        MISSPELLED,
+        b"UnknownKey agent 0",
+        WAS_REFUSED + b'[agent], "metric_bufer_limit": there is no such key\n',
+    ),
+    faulty(
+        "a configuration without an output",
+        INPUT,
+        b"NoOutput root 0",
+        WAS_REFUSED + b"the root: there is no output\n",
+    ),
+    faulty(
+        "a text that is no glob",
+        INPUT + b'namepass = ["["]\n',
+        b"BadGlob inputs 0",
+        WAS_REFUSED + b'plugin 0 of inputs, counted from 0, "namepass": a text is no glob\n',
+    ),
+    faulty(
+        "a kind of plugin that there isn't",
+        b"[[inputs.cpu]]\n",
+        b"UnknownKind inputs 0",
+        WAS_REFUSED + b'plugin 0 of inputs, counted from 0, "cpu": there are no such plugins\n',
+    ),
+    faulty(
+        "an input without files",
+        b'[[inputs.file]]\nalias = "x"\n',
+        b"Missing inputs 0",
+        WAS_REFUSED + b"plugin 0 of inputs, counted from 0: `files` is missing\n",
+    ),
+    faulty(
+        "a text that is no TOML",
+        b"[agent]\nx = \n",
+        b"NotToml root 0",
+        Holding(b"line 2, column 5"),
     ),
     checked(
         "a configuration through a pipe can't be read again",
@@ -115,7 +151,27 @@ RUN_READ_FAULT = (
 )
 INPUT_UNREAD = NOTHING.replace(b"ended", b"unread")
 
+LOSING = (
+    configured(("in", "in2"))
+    + b'[[outputs.file]]\nfiles = ["out2"]\nmetric_batch_size = 4\nmetric_buffer_limit = 4\n'
+)
+FOUR_LINES = b"mem u=1u 7\nmem u=2u 8\nmem u=3u 9\nmem u=4u 10\n"
+LOSING_ACCOUNT = b"""input 0 pieces 3 refused 1 passed 0 filtered 0 gathered 2 ended
+input 1 pieces 4 refused 0 passed 0 filtered 0 gathered 4 ended
+items made 0 removed 0 routed 6
+output 0 filtered 0 late 0 consumed 0 written 6 buffered 0 dropped 0
+output 1 filtered 0 late 0 consumed 0 written 4 buffered 0 dropped 2
+"""
+
 RUNS_WELL = [
+    Case(
+        "what was refused and dropped is told with its place",
+        "hogzent run c && rm agent.journal",
+        {"c": LOSING, "in": LINES + b"no line protocol\n", "in2": FOUR_LINES},
+        {"out": LINES + FOUR_LINES, "out2": FOUR_LINES},
+        report=LOSING_ACCOUNT,
+        told=b"hogzent: " + REFUSED % 1 + b"; output 1: metrics dropped: 2 (more waited than the buffer limit)\n",
+    ),
     Case(
         "a configuration is run",
         "hogzent run c",

@@ -76,6 +76,16 @@ class Folder:
     """A folder with nothing in it."""
 
 
+@dataclass(frozen=True)
+class Holding:
+    """A text that has this part somewhere: what another library says of a fault, around what is promised."""
+
+    part: bytes
+
+    def __eq__(self, text):
+        return self.part in text
+
+
 @dataclass
 class Case:
     """A shell line, what lies in its folder before, and what is expected of it."""

@@ -11,8 +11,8 @@ use Rattle.toml.specs.Data.{Members, no_members, member, get_member, as_table, a
 use Rattle.toml.specs.Data.{as_bool}
 use Rattle.toml.specs.Parse.{parse_document}
 use Rattle.metric.specs.Glob.{glob_of}
-use Rattle.graphite_text.specs.Template.{template_of}
-use Rattle.graphite_text.specs.Template.{Shape as Template}
+use Rattle.format_words.specs.Template.{template_of}
+use Rattle.format_words.specs.Template.{Shape as Template}
 use Rattle.agent_config.specs.Durations.{time_of_text, time_of_seconds}
 use Rattle.agent_config.specs.Keys.{is_one_of, is_root_key, shape_of}
 use Rattle.agent_config.specs.declared.keys.Keys.{Keys}

@@ -7,18 +7,18 @@ use Rattle.toml.specs.Data.{Members, no_members, member, get_member, as_str, as_
 use Rattle.metric.specs.Glob.{glob_of}
 use Rattle.metric.specs.declared.glob.Element.{Element}
 use Rattle.metric_filter.specs.declared.rules.FilterRules.{FilterRules}
-use Rattle.graphite_text.specs.Template.{Shape as Template}
+use Rattle.format_words.specs.Template.{Shape as Template}
 use Rattle.agent_config.specs.Faults.{texts_in, count_at, agent_limits, own_limits, members_in, time_in}
 use Rattle.agent_config.specs.Faults.{Plugin, place_of, journal_of, table_at, plugins_at, most_counted}
 use Rattle.agent_config.specs.Faults.{template_in, text_at, truth_at}
 use Rattle.agent_config.specs.declared.tables.Limits.{Limits}
 use Rattle.agent_config.specs.declared.config.AgentConf.{AgentConf}
 use Rattle.agent_config.specs.declared.config.Config.{Config}
-use Rattle.agent_config.specs.declared.config.InFormat.{InFormat}
-use Rattle.agent_config.specs.declared.config.InFormat.TheVariants as read
+use Rattle.format_words.specs.declared.format.InFormat.{InFormat}
+use Rattle.format_words.specs.declared.format.InFormat.TheVariants as read
 use Rattle.agent_config.specs.declared.config.InputConf.{InputConf}
-use Rattle.agent_config.specs.declared.config.OutFormat.{OutFormat}
-use Rattle.agent_config.specs.declared.config.OutFormat.TheVariants as written
+use Rattle.format_words.specs.declared.format.OutFormat.{OutFormat}
+use Rattle.format_words.specs.declared.format.OutFormat.TheVariants as written
 use Rattle.agent_config.specs.declared.config.OutputConf.{OutputConf}
 
 -- ---- the agent

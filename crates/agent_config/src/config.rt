@@ -1,40 +1,8 @@
 //! What a configuration says.
 use fixed_num::Seq;
-use graphite_text::Template;
+use format_words::{InFormat, OutFormat};
 use metric::Text;
 use metric_filter::Filter;
-
-/// A format that is read.
-#[derive(Debug, Drop)]
-pub enum InFormat {
-    /// InfluxDB line protocol.
-    Influx,
-    /// StatsD lines.
-    Statsd,
-    /// Graphite's plaintext lines.
-    Graphite {
-        /// What the segments of a path are, by the first that serves it.
-        templates: Seq<Template>,
-        /// What stands between segments that are joined.
-        separator: Text,
-    },
-    /// Expositions of OpenMetrics 1.0.
-    Openmetrics {
-        /// Does each metric get the type of its family as the tag `om_type`?
-        type_tag: bool,
-    },
-}
-
-/// A format that is written.
-#[derive(Clone, Copy, Debug, PartialEq, Eq)]
-pub enum OutFormat {
-    /// InfluxDB line protocol.
-    Influx,
-    /// Graphite's plaintext lines.
-    Graphite,
-    /// Expositions of OpenMetrics 1.0.
-    Openmetrics,
-}
 
 /// What holds for the whole run.
 #[derive(Debug, Drop)]

@@ -4,10 +4,10 @@ ghost use Rattle.toml.specs.View.{table_view};
 ghost use Rattle.agent_config.specs.Faults.{is_in_name, is_out_name};
 ghost use Rattle.agent_config.specs.Values.{format_name, graphite_at, in_format, out_format};
 
-use crate::config::{InFormat, OutFormat};
 use crate::tables::{text_at, truth_at};
 use crate::templates::templates_at;
 use fixed_num::OutOfMemory;
+use format_words::{InFormat, OutFormat};
 use metric::Text;
 use std::alloc::Global;
 use toml::Table;

@@ -22,12 +22,7 @@ mod texts;
 mod times;
 mod values;
 
-pub use config::{AgentConf, Config, InFormat, InputConf, OutFormat, OutputConf};
+pub use config::{AgentConf, Config, InputConf, OutputConf};
 pub use fault::{Class, ConfigFault, ConfigKind};
 pub use faulty::faulty_key;
 pub use read::read_config;
-
-#[cfg(test)]
-mod format_tests;
-#[cfg(test)]
-mod tests;

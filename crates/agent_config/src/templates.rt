@@ -9,7 +9,7 @@ use crate::fault::ConfigKind;
 use crate::tables::value_at;
 use crate::texts::texts_in;
 use fixed_num::{OutOfMemory, Seq};
-use graphite_text::{Template, TemplateFault};
+use format_words::{Template, TemplateFault};
 use std::alloc::Global;
 use toml::{Table, Value};
 

@@ -158,8 +158,3 @@ fn main(rt: HostRuntime) -> ExitCode {
     };
     ExitCode::from(status.code())
 }
-
-#[cfg(test)]
-mod losses_tests;
-#[cfg(test)]
-mod reasons_tests;

@@ -16,8 +16,8 @@ use Rattle.agent_base.specs.Moments.{Moments}
 use Rattle.agent_workers.specs.Opened.{RanBy, conf_sizes}
 use Rattle.agent_workers.specs.Inputs.{IsOneOf}
 use Rattle.agent_workers.specs.Run.{Change, InRun, run_at, OutRun, out_run_at, RunsFull, SomeIsFull, EndsSo, IsPutSo, IsLeft, account_of, text_of}
-use Rattle.agent_workers.specs.declared.input.InState.{InState}
-use Rattle.agent_workers.specs.declared.input.InState.TheVariants as states
+use Rattle.formats.specs.declared.pieces.InState.{InState}
+use Rattle.formats.specs.declared.pieces.InState.TheVariants as states
 use Rattle.agent_workers.specs.declared.serial.Ending.{Ending}
 use Rattle.agent_run.specs.Headline.{RunChange, IsRunOf, Headline, IsWhole, IsBroken, IsReportFault, Ends, NothingRose, config_setup, status_of, place_change, world_change, world_ins, world_outs}
 use Rattle.agent_base.specs.Views.{WorldView}

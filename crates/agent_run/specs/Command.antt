@@ -4,8 +4,8 @@ use Rattle.std.specs.Str.Parse.{IsNumeral, digits_value}
 use Rattle.std.specs.declared.alloc.Global.{Global}
 use Rattle.std.specs.String.{string_bytes}
 use Rattle.agent_config.specs.declared.config.Config.{Config}
-use Rattle.agent_config.specs.declared.config.InFormat.TheVariants as read
-use Rattle.agent_config.specs.declared.config.OutFormat.TheVariants as written
+use Rattle.format_words.specs.declared.format.InFormat.TheVariants as read
+use Rattle.format_words.specs.declared.format.OutFormat.TheVariants as written
 use Rattle.metric_filter.specs.Filter.{no_rules}
 use Rattle.agent_run.specs.declared.command.Command.{Command}
 use Rattle.agent_run.specs.declared.command.Command.TheVariants.{Check, Pipe, Run}

@@ -15,7 +15,7 @@ use Rattle.agent_config.specs.declared.config.OutputConf.{OutputConf}
 use Rattle.pipeline_core.specs.Legal.{has_ended}
 use Rattle.agent_workers.specs.Opened.{rule_by, sizes_of}
 use Rattle.agent_workers.specs.PipeSetup.{run_setup}
-use Rattle.agent_workers.specs.Reader.{views_by}
+use Rattle.agent_workers.specs.Rules.{views_by}
 use Rattle.agent_workers.specs.Run.{Change, change, InRun, OutRun, run_at, buffered_at_end, account_of, text_of}
 use Rattle.agent_workers.specs.Run.{IsRun, IsPutSo, IsCutShort, SomeIsFull}
 use Rattle.agent_base.specs.Counts.{Rose}

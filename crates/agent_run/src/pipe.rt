@@ -3,8 +3,9 @@ ghost use Rattle.std.specs.Prelude.{◌≡◌, IfOk};
 ghost use Rattle.agent_run.specs.Command.{pipe_config};
 
 use crate::command::{JOURNAL, Pipe};
-use agent_config::{AgentConf, Config, InFormat, InputConf, OutFormat, OutputConf};
+use agent_config::{AgentConf, Config, InputConf, OutputConf};
 use fixed_num::{OutOfMemory, Seq};
+use format_words::{InFormat, OutFormat};
 use metric::Text;
 use metric_filter::Filter;
 use std::alloc::Global;

@@ -1,7 +1,7 @@
 -- What a run leaves at its end, and what it begins with.
 use Rattle.std.proofs.Common.{◌≡◌, ◌≢◌, ◌≤◌, ◌<◌, ℕ, zero, suc, ℤ, ◌^◌, min, Bool, true, false, List, [], ◌∷◌, ◌++◌, length, take, replicate, refl, sym, ap, ◌∙◌, subst, inl, inr, arith}
 use Rattle.std.specs.Prelude.{IfSome, not, ◌⊎◌, count_by, map}
-use Rattle.std.proofs.lemmas.List.{length-map, length-replicate}
+use Rattle.std.proofs.lemmas.List.{length-replicate}
 use Rattle.std.specs.Int.{int_max}
 use Rattle.std.specs.declared.option.Option.{Option}
 use Rattle.std.specs.declared.option.Option.TheVariants.{Some, None}
@@ -25,17 +25,18 @@ use Rattle.pipeline_core.specs.Stopped.{behind_stop}
 use Rattle.account.specs.EntryMoments.{counted_moments}
 use Rattle.account.specs.Items.{raw_items, items, taken}
 use Rattle.agent_workers.specs.Input.{IsFull}
-use Rattle.agent_workers.specs.Reader.{InRule, FitsGather}
+use Rattle.formats.specs.Reader.{InRule, FitsGather}
 use Rattle.agent_workers.specs.Inputs.{InPart, in_at, AreSameInputs, HoldsTooMany, AreInputs, AreOut, OneIsFull, IsOneOf, IsOneIn, IsFresh, AreFresh}
-use Rattle.agent_workers.specs.Run.{change, InRun, in_run, in_runs, run_at, OutRun, out_run, out_run_at, out_runs, SomeIsFull, RunsFull, IsUnread, IsReadFrom, IsSentTo, HasRun, EndsSo, IsPutSo, IsLeft, Ran, buffered_at_end, account_of}
+use Rattle.agent_workers.specs.Run.{change, InRun, in_run, in_runs, run_at, out_run, out_run_at, out_runs, SomeIsFull, RunsFull, IsUnread, IsReadFrom, IsSentTo, HasRun, EndsSo, IsPutSo, IsLeft, Ran, buffered_at_end, account_of}
 use Rattle.agent_workers.specs.Finished.{ClockRun, IsCounted, Finished, FinishesSo, begun, IsSetUp}
 use Rattle.agent_workers.specs.Noted.{JournalPart, Notes}
 use Rattle.agent_workers.specs.PipeSetup.{run_setup, journal_setup_of}
-use Rattle.agent_workers.specs.Progress.{Beginning, Surroundings, HasText, Heard, Said, AllSaid, Progress, GoesOn, SendsOn, GathersOn, RunsOn, NotesRun}
+use Rattle.agent_workers.specs.Progress.{Beginning, Surroundings, HasText, Heard, Said, Progress, GoesOn, SendsOn, GathersOn, RunsOn, NotesRun}
 use Rattle.agent_workers.specs.Running.{IsReady, AreSettled, AreLeft, IsLeftOver, buffered_at}
-use Rattle.agent_workers.specs.Output.{OutPart, out_at, anew, AreAnew, AreOutputs, IsUnfailed, AreUnfailed, batch_text}
-use Rattle.agent_workers.specs.declared.input.InState.{InState}
-use Rattle.agent_workers.specs.declared.input.InState.TheVariants as states
+use Rattle.formats.specs.Batches.{batch_text}
+use Rattle.agent_workers.specs.Output.{OutPart, out_at, anew, AreAnew, AreOutputs, IsUnfailed, AreUnfailed}
+use Rattle.formats.specs.declared.pieces.InState.{InState}
+use Rattle.formats.specs.declared.pieces.InState.TheVariants as states
 use Rattle.agent_workers.specs.declared.serial.Ending.{Ending}
 use Rattle.account.proofs.DoneLemmas.{dones_none, last_none, last_fewer}
 use Rattle.account.proofs.MomentLemmas.{counted_none}
@@ -47,7 +48,7 @@ use Rattle.pipeline_core.proofs.WorkedLemmas.{worked_first}
 use Rattle.agent_workers.proofs.HeardLemmas.{heard_first, gathered_at_end, clocked_at_end, full_at_end}
 use Rattle.agent_workers.proofs.InLemmas.{fit_first}
 use Rattle.agent_workers.proofs.NotedLemmas.{notes_none}
-use Rattle.agent_workers.proofs.OutLemmas.{at_anew, are_anew}
+use Rattle.agent_workers.proofs.OutLemmas.{are_anew}
 use Rattle.agent_workers.proofs.ProgressLemmas.{buffered_is, went_anew, went_next}
 use Rattle.agent_workers.proofs.RoseLemmas.{rose_none}
 use Rattle.agent_workers.proofs.SentLemmas.{sent_first}

@@ -13,7 +13,7 @@ use Rattle.pipeline_core.proofs.JournalPush.{has_ended-push}
 use Rattle.pipeline_core.specs.declared.gathering.Gathered.{Gathered}
 use Rattle.account.specs.Says.{GatherSays}
 use Rattle.account.specs.Gathers.{gathers_by, gathers}
-use Rattle.agent_workers.specs.Reader.{InRule, kind_of}
+use Rattle.formats.specs.Reader.{InRule, kind_of}
 use Rattle.agent_workers.specs.Inputs.{says_of}
 use Rattle.agent_workers.specs.Input.{IsGroup, AreGroups, AreFull, AllFull, joined, Naming, Gathering, GatheredTo}
 

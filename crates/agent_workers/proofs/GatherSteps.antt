@@ -23,18 +23,19 @@ use Rattle.pipeline_core.proofs.StandsSteps.{differs}
 use Rattle.pipeline_core.proofs.RawLemmas.{none_of_other}
 use Rattle.pipeline_core.proofs.WorkedLemmas.{worked-push}
 use Rattle.account.proofs.MomentLemmas.{counted_moments-same}
-use Rattle.agent_workers.specs.declared.input.InState.{InState}
-use Rattle.agent_workers.specs.declared.input.InState.TheVariants as states
-use Rattle.agent_workers.specs.declared.reading.Group.{Group}
-use Rattle.agent_workers.specs.Groups.{ReadsGroup, gathered_of}
-use Rattle.agent_workers.specs.Reader.{FitsGather}
+use Rattle.formats.specs.declared.pieces.InState.{InState}
+use Rattle.formats.specs.declared.pieces.InState.TheVariants as states
+use Rattle.formats.specs.declared.reading.Group.{Group}
+use Rattle.formats.specs.Groups.{ReadsGroup}
+use Rattle.agent_workers.specs.Inputs.{gathered_of}
+use Rattle.formats.specs.Reader.{FitsGather}
 use Rattle.agent_workers.specs.Inputs.{InPart, in_at, no_in, HoldsNoEnd, HoldsOwn, IsOffered, HasMetEnd}
 use Rattle.agent_workers.specs.Progress.{Beginning, Surroundings, Heard, Progress, SettlesFirst, ReadsAt, GathersAt, EndsAt}
 use Rattle.agent_workers.specs.Running.{AreSettled}
 use Rattle.agent_workers.proofs.GatherLemmas.{entry_of, said_of}
 use Rattle.agent_workers.proofs.HeardLemmas.{IsNotOf, read_to, heard_push, heard_accepted, heard_full, heard_ended, heard_free, heard_read_none, heard_read_some}
 use Rattle.agent_workers.proofs.ProgressLemmas.{text-push, all_heard_set, all_said_push, order-push, buffered_is, went_behind}
-use Rattle.agent_workers.proofs.GroupLemmas.{told_then}
+use Rattle.formats.proofs.GroupLemmas.{told_then}
 
 -- one of the inputs changes, and the journal stays
 pub went_set : (start : Beginning) (core : CoreState) (now : Surroundings) (ins : List InPart) (i : ℕ) (part : InPart) → i < length ins → (w : Progress start core (record now { ins = ins })) → Heard (in_at start.ins i) part i w.journal → Progress start core (record now { ins = set ins i part })

@@ -25,15 +25,16 @@ use Rattle.pipeline_core.specs.Legal.{has_ended, is_ended_of, gathered_count}
 use Rattle.pipeline_core.proofs.JournalPush.{has_ended-push, gathered_count-push}
 use Rattle.pipeline_core.proofs.StandsSteps.{same_number}
 use Rattle.pipeline_core.specs.declared.gathering.Gathered.{Gathered}
-use Rattle.agent_workers.specs.declared.reading.Group.{Group}
-use Rattle.agent_workers.specs.declared.input.InState.{InState}
-use Rattle.agent_workers.specs.declared.input.InState.TheVariants as states
-use Rattle.agent_workers.specs.Reader.{InRule, kind_of, most_said, FitsGather}
+use Rattle.formats.specs.declared.reading.Group.{Group}
+use Rattle.formats.specs.declared.pieces.InState.{InState}
+use Rattle.formats.specs.declared.pieces.InState.TheVariants as states
+use Rattle.formats.specs.Reader.{InRule, kind_of, most_said, FitsGather}
 use Rattle.agent_workers.specs.Input.{IsGroup, AreGroups, Naming, Gathering, GatheredTo, Gathered as AreGathered, IsNextGroup, IsFull}
 use Rattle.agent_workers.specs.Inputs.{InPart, IsFresh, says_of, heard_of, is_ended, HoldsTooMany, HoldsNoEnd}
-use Rattle.agent_workers.specs.Groups.{ReadsGroup, gathered_of, read_state}
+use Rattle.formats.specs.Groups.{ReadsGroup}
+use Rattle.agent_workers.specs.Inputs.{gathered_of, read_state}
 use Rattle.agent_workers.specs.Progress.{IsNamed, HasState, IsClocked, IsNamedOfTaken, Heard}
-use Rattle.agent_workers.proofs.GroupLemmas.{told_then, told_map, told_pair, told_self, few_kept}
+use Rattle.formats.proofs.GroupLemmas.{told_then, told_map, told_pair, told_self, few_kept}
 use Rattle.agent_workers.proofs.GatherLemmas.{has_ended-other, entry_of, said_of, gathers_own, group_said, AreGroups-last, gathering_starts, gathering_as, gathered_as, gathering_full, gathering_last, gathered_more, gathered_here, unheld}
 use Rattle.agent_workers.proofs.TakenSteps.{told_names_start, names_as, taken_as, no_pieces, told_names_more, told_names_none, told_taken_more, told_taken_none}
 

@@ -1,8 +1,6 @@
 -- Inputs by their places: one changes, and the others stay.
-use Rattle.std.proofs.Common.{◌≡◌, ◌≢◌, ◌≤◌, ◌<◌, ◌+◌, ℕ, zero, suc, Bool, true, false, List, [], ◌∷◌, ◌++◌, length, length-append, get_or, set, take, drop, replicate, refl, sym, ap, ◌∙◌, subst, inl, inr, arith, below_more}
-use Rattle.std.specs.Prelude.{slice_get, is_some, ◌⊎◌, IfSome, IfOk, OnOk, All, Result, Ok, Err}
-use Rattle.fixed_num.specs.declared.memory.OutOfMemory.{OutOfMemory}
-use Rattle.agent_workers.specs.declared.serial.Ending.{Ending}
+use Rattle.std.proofs.Common.{◌≡◌, ◌≢◌, ◌≤◌, ◌<◌, ◌+◌, ℕ, zero, suc, Bool, true, false, List, [], ◌∷◌, length, length-append, get_or, set, replicate, refl, sym, ap, ◌∙◌, subst, inl, inr, arith, below_more}
+use Rattle.std.specs.Prelude.{slice_get, is_some, ◌⊎◌, IfSome}
 use Rattle.std.proofs.lemmas.List.{length-map, length-set, get_or-map, get_or-set_same, get_or-set_other}
 use Rattle.std.specs.declared.option.Option.{Option}
 use Rattle.std.specs.declared.option.Option.TheVariants.{Some, None}
@@ -14,15 +12,12 @@ use Rattle.account.specs.declared.entry.Entry.TheVariants.{Ended}
 use Rattle.pipeline_core.specs.CoreState.{CoreState}
 use Rattle.pipeline_core.specs.Steps.{after_gather, after_ended, gather_entry}
 use Rattle.pipeline_core.specs.declared.gathering.Gathered.{Gathered}
-use Rattle.agent_workers.specs.declared.input.InState.{InState}
-use Rattle.agent_workers.specs.declared.input.InState.TheVariants as states
+use Rattle.formats.specs.declared.pieces.InState.{InState}
+use Rattle.formats.specs.declared.pieces.InState.TheVariants as states
 use Rattle.agent_workers.specs.declared.input.InJob.{InJob}
-use Rattle.agent_workers.specs.Inputs.{InPart, in_of, ins_of, in_at, no_in, is_ended, IsSameInput, AreSameInputs, FitsInput, AreInputs, IsCutBy, HoldsNoEnd, HoldsOwn, IsReadable, IsMoved, IsOut, IsFullOf, OneIsFull, IsOneIn, AreFresh, IsFresh}
-use Rattle.agent_workers.specs.Reader.{InRule, plain_rule, FitsGather}
-use Rattle.metric.specs.Metric.{IsFilledTag}
-use Rattle.metric.specs.declared.metric.Content.{Content}
-use Rattle.agent_workers.specs.Output.{OutPart, AreOutputs, out_at, out_of, outs_of}
-use Rattle.agent_workers.specs.declared.output.OutJob.{OutJob}
+use Rattle.agent_workers.specs.Inputs.{InPart, in_of, ins_of, in_at, no_in, is_ended, IsSameInput, AreSameInputs, FitsInput, AreInputs, IsCutBy, HoldsNoEnd, HoldsOwn, IsReadable, IsMoved, IsOut, IsFullOf, OneIsFull, IsOneIn, AreFresh}
+use Rattle.formats.specs.Reader.{FitsGather}
+use Rattle.agent_workers.specs.Output.{OutPart}
 use Rattle.agent_workers.specs.Progress.{Progress, GathersAt, GathersTo}
 use Rattle.agent_workers.specs.Running.{IsReady, AreSettled, IsGathered, IsGatheredAt, HasMoved, HasGone, IdlesOut, buffered_at}
 use Rattle.agent_workers.proofs.HeardLemmas.{not_ended, holds_no_end}

@@ -1,13 +1,10 @@
-pub mod CountLemmas
 pub mod FailedLemmas
 pub mod FinishSteps
 pub mod GatherLemmas
 pub mod GatherSteps
-pub mod GroupLemmas
 pub mod HeardLemmas
 pub mod InLemmas
 pub mod MomentLemmas
-pub mod MostLemmas
 pub mod NotedLemmas
 pub mod OpenedLemmas
 pub mod OutLemmas

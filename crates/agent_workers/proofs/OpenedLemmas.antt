@@ -13,13 +13,14 @@ use Rattle.agent_config.specs.declared.config.InputConf.{InputConf}
 use Rattle.agent_config.specs.declared.config.OutputConf.{OutputConf}
 use Rattle.metric.specs.Metric.{IsFilledTag}
 use Rattle.pipeline_core.specs.CoreState.{CoreState}
-use Rattle.agent_workers.specs.Finished.{ClockRun, Finished, FinishesSo, IsSetUp, begun, around}
+use Rattle.agent_workers.specs.Finished.{ClockRun, FinishesSo, begun, around}
 use Rattle.agent_workers.specs.Inputs.{InPart, in_of, ins_of, in_at, IsSameInput, AreSameInputs, AreFresh, IsFresh, IsReadable}
 use Rattle.agent_workers.specs.Noted.{JournalPart}
 use Rattle.agent_workers.specs.Opened.{Carried, Timed, all_carried, all_timed, carried_of, timed_of, fresh_in, fresh_ins, fresh_out, fresh_outs, empty_hands, config_ins, config_outs, in_carried, out_carried, rule_by, sizes_of, conf_sizes, IsMadeOf, IsNewCore, RanBy}
 use Rattle.agent_workers.specs.Output.{OutPart, out_of, outs_of, out_at, AreOutputs, AreUnfailed, IsUnfailed}
 use Rattle.agent_workers.specs.PipeSetup.{run_setup, journal_setup_of}
-use Rattle.agent_workers.specs.Reader.{kind_of, views_by}
+use Rattle.formats.specs.Reader.{kind_of}
+use Rattle.agent_workers.specs.Rules.{views_by}
 use Rattle.agent_workers.specs.Running.{IsReady, buffered_at}
 use Rattle.pipeline_core.specs.Stands.{Stands}
 use Rattle.agent_workers.specs.Run.{Change, change, InRun, in_run, in_runs, OutRun, out_run, out_runs, Ran}

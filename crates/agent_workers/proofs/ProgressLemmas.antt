@@ -35,7 +35,8 @@ use Rattle.agent_workers.specs.PipeSetup.{journal_setup_of}
 use Rattle.account.specs.Routes.{RouteOnInOrder}
 use Rattle.agent_workers.specs.Inputs.{InPart, in_at, no_in}
 use Rattle.agent_workers.specs.Progress.{Beginning, Surroundings, HasText, Heard, AllHeard, Said, AllSaid, HasOrder, Progress}
-use Rattle.agent_workers.specs.Output.{OutPart, out_at, anew, AreAnew, batch_text}
+use Rattle.formats.specs.Batches.{batch_text}
+use Rattle.agent_workers.specs.Output.{OutPart, out_at, anew, AreAnew}
 use Rattle.pipeline_core.specs.Totals.{totals}
 use Rattle.agent_workers.specs.Run.{buffered_at_end}
 use Rattle.agent_workers.specs.Running.{routed_by, buffered_at}

@@ -21,8 +21,9 @@ use Rattle.pipeline_core.specs.declared.batches.Batch.{Batch}
 use Rattle.account.specs.Dones.{dones}
 use Rattle.pipeline_core.specs.Stopped.{behind_stop}
 use Rattle.agent_workers.specs.Progress.{Beginning, Surroundings, Said, AllSaid, SendsOn, SendsAt, Progress}
-use Rattle.agent_config.specs.declared.config.OutFormat.{OutFormat}
-use Rattle.agent_workers.specs.Output.{batch_text, OutPart, out_at, no_out}
+use Rattle.format_words.specs.declared.format.OutFormat.{OutFormat}
+use Rattle.formats.specs.Batches.{batch_text}
+use Rattle.agent_workers.specs.Output.{OutPart, out_at, no_out}
 use Rattle.agent_workers.proofs.FailedLemmas.{failed_accepted, failed_once}
 use Rattle.agent_workers.proofs.OutLemmas.{each_set}
 use Rattle.agent_workers.proofs.ProgressLemmas.{IsQuietAt, said_push}

@@ -6,7 +6,7 @@ use Rattle.std.specs.declared.option.Option.TheVariants.{None}
 use Rattle.std.proofs.lemmas.List.Elements.{All-replicate}
 use Rattle.std.proofs.lemmas.List.{length-map, length-replicate, get_or-map}
 use Rattle.agent_config.specs.Sound.{HasSizes}
-use Rattle.agent_config.specs.declared.config.OutFormat.TheVariants.{Influx}
+use Rattle.format_words.specs.declared.format.OutFormat.TheVariants.{Influx}
 use Rattle.agent_config.specs.declared.config.OutputConf.{OutputConf}
 use Rattle.metric_filter.specs.Filter.{no_rules}
 use Rattle.pipeline_core.specs.CoreState.{CoreState, first_state, most_undelivered, setup_of, sizes}

@@ -9,11 +9,11 @@ use Rattle.agent_base.proofs.FrontLemmas.{all_but_rest}
 use Rattle.agent_base.specs.Told.{Told}
 use Rattle.account.specs.Says.{GatherSays}
 use Rattle.account.specs.Gathers.{gathers}
-use Rattle.agent_workers.specs.Reader.{InRule, kind_of}
-use Rattle.agent_workers.specs.declared.reading.Group.{Group}
+use Rattle.formats.specs.Reader.{InRule, kind_of}
+use Rattle.formats.specs.declared.reading.Group.{Group}
 use Rattle.agent_workers.specs.Input.{IsGroup, AreGroups, joined, Naming, NamesTaken, NamesSoFar}
-use Rattle.agent_workers.specs.Groups.{Reads, TakesPieces}
-use Rattle.agent_workers.proofs.GroupLemmas.{told_map, told_pair, told_self, told_then, still_spent}
+use Rattle.formats.specs.Groups.{Reads, TakesPieces}
+use Rattle.formats.proofs.GroupLemmas.{told_map, told_pair, told_self, told_then, still_spent}
 use Rattle.agent_workers.proofs.GatherLemmas.{AreGroups-push, joined-push, naming_starts, naming_as, naming_more}
 
 -- ---- the start

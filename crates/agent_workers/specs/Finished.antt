@@ -17,7 +17,7 @@ use Rattle.agent_workers.specs.Progress.{Beginning, Surroundings, Progress, AllH
 use Rattle.agent_workers.specs.Run.{change, in_runs, out_runs, run_at, HasRun, EndsSo, IsPutSo, IsLeft}
 use Rattle.agent_workers.specs.Run.{account_of, text_of}
 use Rattle.agent_workers.specs.Running.{IsReady, HasJournal, AreSettled}
-use Rattle.agent_workers.specs.declared.input.InState.TheVariants as states
+use Rattle.formats.specs.declared.pieces.InState.TheVariants as states
 use Rattle.agent_workers.specs.declared.serial.Ending.{Ending}
 
 -- the moments of a clock, and its place before and after

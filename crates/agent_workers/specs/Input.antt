@@ -11,8 +11,8 @@ use Rattle.account.specs.Says.{GatherSays}
 use Rattle.pipeline_core.specs.Legal.{has_ended, gathered_count}
 use Rattle.account.specs.Gathers.{gathers}
 use Rattle.agent_base.specs.Told.{Told}
-use Rattle.agent_workers.specs.Reader.{InRule, reader_of, kind_of, is_refused, passed_over, filtered_of, kept_of}
-use Rattle.agent_workers.specs.Reader.{capped, FitsGather}
+use Rattle.formats.specs.Reader.{InRule, reader_of, kind_of, is_refused, passed_over, filtered_of, kept_of}
+use Rattle.formats.specs.Reader.{capped, FitsGather}
 
 -- a Gather names a group of pieces: how many they are, how many of them are refused, how many samples of the
 -- others are passed over, of how many of their metrics nothing is kept, and what is kept of the others in

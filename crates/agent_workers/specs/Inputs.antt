@@ -1,5 +1,5 @@
 -- The inputs of a run, as contracts see them.
-use Rattle.std.specs.Prelude.{◌≡◌, ◌≢◌, ◌≤◌, ◌<◌, ◌⊎◌, ◌+◌, ◌^◌, ℕ, Bool, true, false, List, [], ◌∷◌, ◌++◌, map}
+use Rattle.std.specs.Prelude.{◌≡◌, ◌≢◌, ◌≤◌, ◌<◌, ◌⊎◌, ◌+◌, ◌^◌, ℕ, ℤ, Bool, true, false, List, [], ◌∷◌, ◌++◌, map}
 use Rattle.std.specs.Prelude.{length, slice_index_or, slice_get, IfSome, All}
 use Rattle.std.specs.declared.option.Option.{Option}
 use Rattle.std.specs.declared.option.Option.TheVariants.{Some, None}
@@ -12,10 +12,12 @@ use Rattle.agent_base.specs.Told.{Told}
 use Rattle.agent_base.specs.declared.piece.CutKind.TheVariants.{Lines}
 use Rattle.metric.specs.Metric.{IsFilledTag}
 use Rattle.pipeline_core.specs.declared.gathering.Gathered.{Gathered}
-use Rattle.agent_workers.specs.Reader.{InRule, plain_rule, rule_of, kind_of, FitsGather}
+use Rattle.formats.specs.Reader.{InRule, plain_rule, kind_of, FitsGather}
+use Rattle.agent_workers.specs.Rules.{rule_of}
 use Rattle.agent_workers.specs.declared.input.InJob.{InJob}
-use Rattle.agent_workers.specs.declared.input.InState.{InState}
-use Rattle.agent_workers.specs.declared.input.InState.TheVariants as states
+use Rattle.formats.specs.declared.pieces.InState.{InState}
+use Rattle.formats.specs.declared.pieces.InState.TheVariants as states
+use Rattle.formats.specs.declared.reading.Group.{Group}
 
 -- an input of a run: its number, by what rule it is read, what is in hand of its bytes, the bytes left of it,
 -- its count of failed reads, the moments of its clock and the clock's place, the gather that is held, and
@@ -191,3 +193,22 @@ pub record AreFresh (ins : List InPart) : Type 0 where
   pub readable : (input : ℕ) → input < length ins → IsReadable (in_at ins input).rule
   pub numbered : (input : ℕ) → input < length ins → (in_at ins input).input ≡ input
   pub fresh : (input : ℕ) → input < length ins → IsFresh (in_at ins input)
+
+-- what a group says, as the core gathers it
+abbrev pub gathered_of : ℕ → ℤ → Group → Gathered
+gathered_of input moment group = record {
+  input = input;
+  moment = moment;
+  pieces = group.pieces;
+  refused = group.refused;
+  passed = group.passed;
+  filtered = group.filtered;
+  metrics = group.metrics.items;
+}
+
+-- whether an input is read on after a read: that its end was met isn't remembered
+abbrev pub read_state : InState → InState
+read_state states.Reading = states.Reading
+read_state states.Ended = states.Reading
+read_state states.Faulted = states.Faulted
+read_state states.LimitReached = states.LimitReached

@@ -1,5 +1,4 @@
 pub mod Finished
-pub mod Groups
 pub mod Input
 pub mod Inputs
 pub mod Noted
@@ -7,6 +6,6 @@ pub mod Opened
 pub mod Output
 pub mod PipeSetup
 pub mod Progress
-pub mod Reader
+pub mod Rules
 pub mod Run
 pub mod Running

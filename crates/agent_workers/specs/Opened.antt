@@ -15,10 +15,11 @@ use Rattle.agent_workers.specs.Inputs.{InPart}
 use Rattle.agent_workers.specs.Noted.{JournalPart}
 use Rattle.agent_workers.specs.Output.{OutPart}
 use Rattle.agent_workers.specs.PipeSetup.{run_setup}
-use Rattle.agent_workers.specs.Reader.{InRule, in_rule, kind_of, views_by}
+use Rattle.formats.specs.Reader.{InRule, in_rule, kind_of}
+use Rattle.agent_workers.specs.Rules.{views_by}
 use Rattle.agent_workers.specs.Run.{Change, change, InRun, OutRun, Ran}
 use Rattle.agent_workers.specs.Running.{IsReady, buffered_at}
-use Rattle.agent_workers.specs.declared.input.InState.TheVariants as states
+use Rattle.formats.specs.declared.pieces.InState.TheVariants as states
 use Rattle.agent_workers.specs.declared.serial.Ending.{Ending}
 
 -- what a part of a place carries: the bytes that are left of it, or that it holds, and its count of faults

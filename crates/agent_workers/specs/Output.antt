@@ -1,23 +1,11 @@
 -- What a run puts to its outputs.
 use Rattle.std.specs.Prelude.{◌≡◌, ◌<◌, ◌⊎◌, ℕ, min, Bool, true, false, List, ◌∷◌, ◌++◌, ⊤, map, length}
 use Rattle.std.specs.Prelude.{replicate, slice_index_or}
-use Rattle.std.specs.List.{flat_map}
 use Rattle.std.specs.declared.option.Option.{Option}
 use Rattle.std.specs.declared.option.Option.TheVariants.{Some, None}
-use Rattle.agent_config.specs.declared.config.OutFormat.{OutFormat}
-use Rattle.agent_config.specs.declared.config.OutFormat.TheVariants.{Influx, Graphite, Openmetrics}
-use Rattle.metric.specs.declared.metric.Content.{Content}
-use Rattle.graphite_text.specs.Writing.{metric_text}
-use Rattle.line_proto.specs.LineText.{line_text}
-use Rattle.openmetrics_text.specs.Writing as exposition
+use Rattle.format_words.specs.declared.format.OutFormat.{OutFormat}
+use Rattle.format_words.specs.declared.format.OutFormat.TheVariants.{Influx}
 use Rattle.agent_workers.specs.declared.output.OutJob.{OutJob}
-
--- the text of a batch in a format: in line protocol and Graphite the lines of its views, in order, in OpenMetrics
--- one exposition
-abbrev pub batch_text : OutFormat → List Content → List ℕ
-batch_text Influx views = flat_map line_text views
-batch_text Graphite views = flat_map metric_text views
-batch_text Openmetrics views = exposition.batch_text views
 
 -- known bytes grow by some of which a fact holds
 abbrev pub AppendsSo : Option (List ℕ) → Option (List ℕ) → (List ℕ → Type 0) → Type 0

@@ -17,11 +17,11 @@ use Rattle.pipeline_core.specs.CoreState.{CoreState}
 use Rattle.pipeline_core.specs.Legal.{has_ended, has_stop, gathered_count}
 use Rattle.pipeline_core.specs.Offers.{lane_events}
 use Rattle.pipeline_core.specs.Stands.{Stands}
-use Rattle.agent_workers.specs.declared.input.InState.{InState}
-use Rattle.agent_workers.specs.declared.input.InState.TheVariants as states
+use Rattle.formats.specs.declared.pieces.InState.{InState}
+use Rattle.formats.specs.declared.pieces.InState.TheVariants as states
 use Rattle.agent_workers.specs.Inputs.{InPart, in_at, heard_of, is_ended, HoldsTooMany}
 use Rattle.agent_workers.specs.Input.{Gathering, GatheredTo, NamesSoFar, NamesTaken}
-use Rattle.agent_workers.specs.Reader.{InRule}
+use Rattle.formats.specs.Reader.{InRule}
 use Rattle.account.specs.Dones.{dones, failed_count, LastFailed}
 use Rattle.pipeline_core.specs.Stopped.{behind_stop}
 use Rattle.account.specs.EntryMoments.{counted_moments}
@@ -29,7 +29,8 @@ use Rattle.agent_workers.specs.Noted.{JournalPart, Notes}
 use Rattle.pipeline_core.specs.Order.{EndsFailed, InOrder}
 use Rattle.agent_workers.specs.PipeSetup.{journal_setup_of}
 use Rattle.pipeline_core.specs.Sent.{Sent}
-use Rattle.agent_workers.specs.Output.{AppendsSo, batch_text, OutPart, out_at, AreAnew, FailedLast}
+use Rattle.formats.specs.Batches.{batch_text}
+use Rattle.agent_workers.specs.Output.{AppendsSo, OutPart, out_at, AreAnew, FailedLast}
 use Rattle.agent_workers.specs.Running.{AreSettled}
 use Rattle.pipeline_core.specs.Worked.{Worked}
 

@@ -25,14 +25,15 @@ use Rattle.account.specs.EntryMoments.{gather_moments, counted_moments}
 use Rattle.pipeline_core.specs.Order.{InOrder}
 use Rattle.agent_workers.specs.PipeSetup.{run_setup, journal_setup_of}
 use Rattle.pipeline_core.specs.Sent.{Sent}
-use Rattle.agent_config.specs.declared.config.OutFormat.{OutFormat}
-use Rattle.agent_workers.specs.Output.{AppendsSo, batch_text, OutPart, no_out}
+use Rattle.format_words.specs.declared.format.OutFormat.{OutFormat}
+use Rattle.formats.specs.Batches.{batch_text}
+use Rattle.agent_workers.specs.Output.{AppendsSo, OutPart, no_out}
 use Rattle.agent_workers.specs.Inputs.{InPart, no_in, IsOneOf}
-use Rattle.agent_workers.specs.Reader.{InRule}
+use Rattle.formats.specs.Reader.{InRule}
 use Rattle.pipeline_core.specs.Worked.{Worked}
 use Rattle.agent_workers.specs.declared.serial.Ending.{Ending}
-use Rattle.agent_workers.specs.declared.input.InState.{InState}
-use Rattle.agent_workers.specs.declared.input.InState.TheVariants as states
+use Rattle.formats.specs.declared.pieces.InState.{InState}
+use Rattle.formats.specs.declared.pieces.InState.TheVariants as states
 
 -- the bytes of a place before and after, and its counts of faults
 pub record Change : Type 0 where

@@ -6,7 +6,7 @@ ghost use Rattle.pipeline_core.specs.Stands.{Continues};
 ghost use Rattle.pipeline_core.specs.Steps.{after_route, route_entry};
 ghost use Rattle.pipeline_core.specs.Worked.{views_of};
 ghost use Rattle.agent_workers.specs.Progress.{GoesOn};
-ghost use Rattle.agent_workers.specs.Reader.{views_by};
+ghost use Rattle.agent_workers.specs.Rules.{views_by};
 ghost use Rattle.agent_workers.specs.Running.{IsReady, IsRoutable, HasJournal, StillStands, routed_by};
 
 use agent_config::OutputConf;

@@ -7,11 +7,10 @@ mod item;
 mod journal;
 mod output;
 mod parts;
-mod reading;
 mod serial;
 mod setup;
 
-pub use input::{InJob, InState};
+pub use input::InJob;
 pub use item::ProcJob;
 pub use journal::JournalJob;
 pub use output::OutJob;

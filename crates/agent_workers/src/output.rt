@@ -1,23 +1,18 @@
-//! An output: the text of a batch, and sending the batches.
+//! An output: sending the batches.
 ghost use Rattle.std.specs.Prelude.{◌&&◌, ◌||◌, true, false};
 ghost use Rattle.std.specs.Prelude.{◌≡◌, ◌≢◌, ◌<◌, ◌≤◌, ◌+◌, ◌-◌, ◌^◌, ℕ, [], Ok, IfOk, OnOk, length, map};
 ghost use Rattle.std.specs.Prelude.{min};
-ghost use Rattle.std.specs.List.{flat_map};
-ghost use Rattle.graphite_text.specs.Writing.{metric_text};
-ghost use Rattle.line_proto.specs.LineText.{line_text};
-ghost use Rattle.openmetrics_text.specs.Writing as exposition;
 ghost use Rattle.pipeline_core.specs.CoreState.{CoreState, lane_at};
-ghost use Rattle.agent_workers.specs.Output.{batch_text, out_of, outs_of, anew, AreOutputs};
+ghost use Rattle.agent_workers.specs.Output.{out_of, outs_of, anew, AreOutputs};
 ghost use Rattle.agent_workers.specs.Progress.{SendsAt, SendsOn};
 ghost use Rattle.agent_workers.specs.Running.{IsReady, HasJournal, StillStands, IsSentOn, IsSentAt};
 ghost use Rattle.agent_workers.specs.Running.{HasFlushed, HasSwept, HaveFailed, AreLeft, waiting_at};
 ghost use Rattle.agent_workers.specs.Running.{buffered_at};
 
 use agent_base::{PutFault, Sink};
-use agent_config::OutFormat;
 use fixed_num::OutOfMemory;
-use graphite_text::write_metric;
-use line_proto::write_line;
+use format_words::OutFormat;
+use formats::write_batch;
 use metric::Metric;
 use pipeline_core::{BeginAnswer, Core};
 use std::alloc::Global;
@@ -37,52 +32,6 @@ pub struct OutJob<K: Drop, C: Drop> {
     pub failed: u32,
     /// How many of them failed since the items of this round were routed, or the run was stopped.
     pub failed_since: u32,
-}
-
-/// Writes the lines of metrics, in order, in place of what `out` held.
-fn write_lines(alloc: Global, metrics: &[Metric], out: &mut Vec<u8>) -> Result<(), OutOfMemory>
-    ensures ok { OnOk result (out.new.items ≡ flat_map line_text metrics.now) }
-{
-    out.clear();
-    for metric in metrics {
-        write_line(alloc, metric, out)?;
-    }
-    Ok(())
-}
-
-/// Writes the lines of metrics in Graphite, in order, in place of what `out` held.
-fn write_paths(alloc: Global, metrics: &[Metric], out: &mut Vec<u8>) -> Result<(), OutOfMemory>
-    ensures ok { OnOk result (out.new.items ≡ flat_map metric_text metrics.now) }
-{
-    out.clear();
-    for metric in metrics {
-        write_metric(alloc, metric, out)?;
-    }
-    Ok(())
-}
-
-/// Writes the exposition of metrics, in place of what `out` held.
-fn write_exposition(alloc: Global, metrics: &[Metric], out: &mut Vec<u8>) -> Result<(), OutOfMemory>
-    ensures ok { OnOk result (out.new.items ≡ exposition.batch_text metrics.now) }
-{
-    out.clear();
-    openmetrics_text::write_batch(alloc, metrics, out)
-}
-
-/// The text of a batch in a format, in place of what `out` held.
-pub fn write_batch(
-    alloc: Global,
-    format: OutFormat,
-    metrics: &[Metric],
-    out: &mut Vec<u8>,
-) -> Result<(), OutOfMemory>
-    ensures ok { OnOk result (out.new.items ≡ batch_text format metrics.now) }
-{
-    match format {
-        OutFormat::Influx => write_lines(alloc, metrics, out),
-        OutFormat::Graphite => write_paths(alloc, metrics, out),
-        OutFormat::Openmetrics => write_exposition(alloc, metrics, out),
-    }
 }
 
 /// What came of a batch.

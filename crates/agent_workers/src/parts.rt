@@ -8,17 +8,18 @@ ghost use Rattle.agent_workers.specs.Opened.{all_carried, all_timed, carried_of,
 ghost use Rattle.agent_workers.specs.Opened.{fresh_in, fresh_ins, fresh_out, fresh_outs};
 ghost use Rattle.agent_workers.specs.Opened.{conf_sizes, empty_hands, in_carried, out_carried, IsMadeOf, IsNewCore, Timed};
 ghost use Rattle.agent_workers.specs.Output.{out_of, outs_of};
-ghost use Rattle.agent_workers.specs.Reader.{kind_of};
+ghost use Rattle.formats.specs.Reader.{kind_of};
 ghost use Rattle.agent_workers.specs.PipeSetup.{run_setup, journal_setup_of};
 
-use crate::input::{InJob, InState};
+use crate::input::InJob;
 use crate::item::ProcJob;
 use crate::journal::JournalJob;
 use crate::output::OutJob;
 use crate::setup::{journal_setup, new_core};
-use agent_base::{Clock, CutKind, Pieces, Sink, Source};
-use agent_config::{Config, InFormat, InputConf, OutputConf};
+use agent_base::{Clock, Pieces, Sink, Source};
+use agent_config::{Config, InputConf, OutputConf};
 use fixed_num::{Moment, OutOfMemory};
+use formats::{InState, kind_of};
 use journal_text::JournalSetup;
 use pipeline_core::Core;
 use std::alloc::Global;
@@ -72,18 +73,6 @@ struct Room<'a, S: Drop, K: Drop, C: Drop> {
     pieces: Vec<Pieces>,
     inputs: Vec<InJob<'a, S, C>>,
     outputs: Vec<OutJob<K, C>>,
-}
-
-/// How the text of an input is cut.
-fn kind_of(format: &InFormat) -> CutKind
-    ensures { result ≡ kind_of format.now }
-{
-    match format {
-        InFormat::Influx => CutKind::Lines,
-        InFormat::Statsd => CutKind::Lines,
-        InFormat::Graphite { .. } => CutKind::Lines,
-        InFormat::Openmetrics { .. } => CutKind::Expositions,
-    }
 }
 
 /// What was taken of inputs of which nothing was read.

@@ -12,11 +12,11 @@ ghost use Rattle.agent_workers.specs.Noted.{part_of, EndsOn};
 ghost use Rattle.agent_workers.specs.Opened.{all_carried, all_timed, config_ins, config_outs, RanBy, Timed};
 ghost use Rattle.agent_workers.specs.Output.{outs_of, AreOutputs};
 ghost use Rattle.agent_workers.specs.Progress.{Beginning, Surroundings, Progress, RunsOn};
-ghost use Rattle.agent_workers.specs.Reader.{views_by};
+ghost use Rattle.agent_workers.specs.Rules.{views_by};
 ghost use Rattle.agent_workers.specs.Run.{change};
 ghost use Rattle.agent_workers.specs.Running.{IsReady, HasJournal, StillStands, AreLeft, IsLeftOver};
 
-use crate::input::{InJob, InState, are_out, gather_each, has_fault, has_limit};
+use crate::input::{InJob, are_out, gather_each, has_fault, has_limit};
 use crate::item::route_all;
 use crate::journal::{JournalJob, last_entries, note};
 use crate::output::{OutJob, begin_anew, send_each, send_rest};
@@ -24,6 +24,7 @@ use crate::parts::{Clocks, Opened, Parts, set_up};
 use agent_base::{Clock, Sink, Source};
 use agent_config::{Config, OutputConf};
 use fixed_num::{Moment, OutOfMemory};
+use formats::InState;
 use pipeline_core::Core;
 use std::alloc::Global;
 

@@ -11,7 +11,8 @@
 
 use agent_base::{CutKind, Piece, PieceFault, Pieces, Sink, Source, StdSink, StdSource};
 use fixed_num::{Moment, OutOfMemory};
-use graphite_text::{GraphiteKind, Template, TemplateFault, write_metric};
+use format_words::{Template, TemplateFault};
+use graphite_text::{GraphiteKind, write_metric};
 use line_proto::{LineKind, read_line, write_line};
 use metric::Metric;
 use openmetrics_text::{ExpositionKind, read_exposition, write_batch};

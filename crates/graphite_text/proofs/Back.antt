@@ -20,8 +20,8 @@ use Rattle.metric.specs.declared.metric.Content.{Content}
 use Rattle.metric.specs.Draft.{Tag, Field}
 use Rattle.metric.specs.Metric.{IsMetric, IsTag, IsField}
 use Rattle.metric.specs.Pairs.{in_key_order_on}
-use Rattle.graphite_text.specs.declared.template.TemplatePart.TheVariants as parts
-use Rattle.graphite_text.specs.Path.{AreFilled}
+use Rattle.format_words.specs.declared.template.TemplatePart.TheVariants as parts
+use Rattle.format_words.specs.Segments.{AreFilled}
 use Rattle.graphite_text.specs.Applied.{collected, joined, name_of, key_of, tags_at}
 use Rattle.graphite_text.specs.Reading.{is_minus_one, is_moment, content_of, reading}
 use Rattle.graphite_text.specs.Grammar.{Written, line_spelling, IsMoment, IsLine, said_in, has_too_many}
@@ -33,7 +33,7 @@ use Rattle.fixed_num.proofs.NumberTexts.{IsNumberText, signed_number, signed_rea
 use Rattle.metric.specs.Numbers.{is_text, number_text, billionths_of}
 use Rattle.metric.proofs.NumberLemmas.{value_number, value_read}
 use Rattle.graphite_text.proofs.Bytes.{IsClean, AreClean, clean_spaces, clean_semicolons, value_clean, value_no_dot, name_clean, name_dot, mapped_clean, clean_point, clean_number}
-use Rattle.graphite_text.proofs.Spelling.{split_some}
+use Rattle.format_words.proofs.Spelling.{split_some}
 use Rattle.graphite_text.proofs.Writtens.{written_is_read}
 
 -- ---- segments of a path

@@ -1,31 +1,18 @@
 -- What the parts of a template take, part by part.
-use Rattle.std.proofs.Common.{◌≡◌, ℕ, zero, suc, ◌+◌, ◌-◌, ◌<◌, ◌≤◌, Bool, true, false, List, [], ◌∷◌, ◌++◌, length, get_or, take, drop, take_all, map, refl, sym, ap, ◌∙◌, append_assoc, arith, drop-cons, length-drop, length-append, Some}
-use Rattle.std.specs.Prelude.{flat_map, ◌&&◌}
+use Rattle.std.proofs.Common.{◌≡◌, ℕ, zero, suc, ◌+◌, ◌-◌, ◌<◌, ◌≤◌, Bool, true, false, List, [], ◌∷◌, ◌++◌, length, get_or, take, drop, take_all, map, refl, sym, ap, ◌∙◌, append_assoc, arith, length-drop, length-append, Some}
+use Rattle.std.specs.Prelude.{flat_map}
 use Rattle.std.specs.Borrow.{Bor}
 use Rattle.std.specs.List.{AllByRecursion, find}
 use Rattle.std.proofs.lemmas.List.{append-nil, drop_all, take_more}
 use Rattle.metric.specs.Draft.{Tag}
-use Rattle.graphite_text.specs.declared.template.TemplatePart.{TemplatePart}
-use Rattle.graphite_text.specs.declared.template.TemplatePart.TheVariants as parts
+use Rattle.format_words.specs.declared.template.TemplatePart.{TemplatePart}
+use Rattle.format_words.specs.declared.template.TemplatePart.TheVariants as parts
 use Rattle.graphite_text.specs.declared.collected.Share.{Share}
 use Rattle.graphite_text.specs.declared.collected.Share.TheVariants.{Nothing, One, Rest}
-use Rattle.graphite_text.specs.Applied.{admits, begins_with, with_share, collected, joined, or_all, name_share, key_share, tag_share, name_of, key_from, key_of, tags_at}
-use Rattle.graphite_text.specs.Template.{Shape}
-use Rattle.graphite_text.specs.Views.{now_of, tag_view}
-use Rattle.graphite_text.proofs.Texts.{map_push, map_length, map_drop, flat_push}
-
--- the elements from a place on
-pub from : {A : Type 0} (xs : List A) (i : ℕ) (x : A) → i < length xs → x ≡ get_or xs i x → drop i xs ≡ x ∷ drop (i + 1) xs
-from {A = A} xs i x lt is =
-    let next : suc i ≡ i + 1 = omega arith in
-    drop-cons xs i x lt ∙ ap (λ (n : ℕ). get_or xs i x ∷ drop n xs) next ∙ ap (λ (y : A). y ∷ drop (i + 1) xs) (sym is)
-
-pub texts_from : (xs : List (Bor (List ℕ))) (i : ℕ) (d : Bor (List ℕ)) → i < length xs → drop i (map now_of xs) ≡ now_of (get_or xs i d) ∷ drop (i + 1) (map now_of xs)
-texts_from xs i d lt =
-    let next : suc i ≡ i + 1 = omega arith in
-    map_drop now_of i xs
-    ∙ ap (map now_of) (drop-cons xs i d lt ∙ ap (λ (n : ℕ). get_or xs i d ∷ drop n xs) next)
-    ∙ ap (λ (ts : List (List ℕ)). now_of (get_or xs i d) ∷ ts) (sym (map_drop now_of (i + 1) xs))
+use Rattle.graphite_text.specs.Applied.{with_share, collected, joined, or_all, name_share, key_share, tag_share, name_of, key_from, key_of, tags_at}
+use Rattle.format_words.specs.Template.{Shape}
+use Rattle.format_words.specs.Views.{now_of, tag_view}
+use Rattle.format_words.proofs.Texts.{map_push, map_length, map_drop, flat_push, from, texts_from}
 
 -- ---- collecting
 
@@ -85,30 +72,6 @@ texts_end share all xs texts i le h =
     sym (append-nil (map now_of texts))
     ∙ ap (λ (ts : List (List ℕ)). map now_of texts ++ ts) (sym (collected_none share (drop i all)))
     ∙ ap (λ (ts : List (List ℕ)). map now_of texts ++ collected share (drop i all) ts) (sym none) ∙ h
-
--- ---- filters
-
-too_short : (filter segments : List (List ℕ)) → length segments < length filter → begins_with filter segments ≡ false
-unfolding begins_with
-too_short [] segments lt = absurd (omega arith)
-too_short (wanted ∷ filter) [] lt = refl
-too_short (wanted ∷ filter) (text ∷ segments) lt = elim (admits wanted text) as (λ t. (t && begins_with filter segments) ≡ false) [
-  | true ↦ too_short filter segments (omega arith)
-  | false ↦ refl
-]
-
-pub filter_longer : (filter : List (List ℕ)) (xs : List (Bor (List ℕ))) → length xs < length filter → begins_with filter (map now_of xs) ≡ false
-filter_longer filter xs lt = too_short filter (map now_of xs) (omega (arith, map_length now_of xs))
-
-pub begins_at : (filter : List (List ℕ)) (xs : List (Bor (List ℕ))) (d : Bor (List ℕ)) (i : ℕ) (wanted : List ℕ) (t : Bool) → i < length filter → i < length xs → wanted ≡ get_or filter i wanted
-    → admits wanted (now_of (get_or xs i d)) ≡ t
-    → begins_with (drop i filter) (drop i (map now_of xs)) ≡ (t && begins_with (drop (i + 1) filter) (drop (i + 1) (map now_of xs)))
-unfolding begins_with
-begins_at filter xs d i wanted t lt within is e = rw (from filter i wanted lt is, texts_from xs i d within, e) refl
-
-pub begins_end : (filter segments : List (List ℕ)) (i : ℕ) → length filter ≤ i → begins_with (drop i filter) (drop i segments) ≡ true
-unfolding begins_with
-begins_end filter segments i le = rw (drop_all i filter le) refl
 
 -- ---- the template that serves
 

@@ -1,4 +1,3 @@
-pub mod Texts
 pub mod Lines
 pub mod Filled
 pub mod Collecting
@@ -6,6 +5,5 @@ pub mod Taking
 pub mod Paths
 pub mod Spelling
 pub mod Writtens
-pub mod TemplateTexts
 pub mod Bytes
 pub mod Back

@@ -9,8 +9,9 @@ use Rattle.metric.specs.Pairs.{with_pair, in_key_order, in_first_order, in_first
 use Rattle.metric.specs.Draft.{Tag, Field, Drafted, StandsFor, IsReady, drafted, has_too_many}
 use Rattle.graphite_text.specs.declared.fault.GraphiteFault.{GraphiteFault}
 use Rattle.graphite_text.specs.declared.fault.GraphiteKind.TheVariants.{TooMany}
-use Rattle.graphite_text.specs.declared.template.TemplatePart.{TemplatePart}
-use Rattle.graphite_text.specs.Path.{segments_of, pairs_of, Path, path_of}
+use Rattle.format_words.specs.declared.template.TemplatePart.{TemplatePart}
+use Rattle.format_words.specs.Segments.{segments_of, pairs_of}
+use Rattle.graphite_text.specs.Path.{Path, path_of}
 use Rattle.graphite_text.specs.Applied.{name_of, key_of, collected_tags}
 use Rattle.graphite_text.specs.Reading.{Said, content_of, limited, said_of}
 use Rattle.std.specs.Borrow.{Bor}

@@ -3,7 +3,7 @@ use Rattle.std.proofs.Common.{◌≡◌, ℕ, ◌+◌, ◌-◌, ◌<◌, ◌≤�
 use Rattle.std.specs.Borrow.{Bor}
 use Rattle.std.specs.Prelude.{Option, Some, None, MatchOption, codes}
 use Rattle.std.proofs.lemmas.List.{append-nil}
-use Rattle.graphite_text.specs.declared.template.TemplatePart.{TemplatePart}
+use Rattle.format_words.specs.declared.template.TemplatePart.{TemplatePart}
 use Rattle.graphite_text.specs.declared.collected.Share.{Share}
 use Rattle.graphite_text.specs.declared.collected.Share.TheVariants.{Nothing, One, Rest}
 use Rattle.graphite_text.specs.declared.collected.Taken.{Taken}
@@ -11,8 +11,8 @@ use Rattle.graphite_text.specs.declared.collected.Taken.TheVariants as taken
 use Rattle.graphite_text.specs.declared.collected.JoinedText.{JoinedText}
 use Rattle.graphite_text.specs.Applied.{name_share, key_share, collected, joined, or_all, name_of, key_from, key_of}
 use Rattle.graphite_text.specs.Taken.{joined_view, AreJoined, Takes}
-use Rattle.graphite_text.specs.Views.{now_of}
-use Rattle.graphite_text.proofs.Texts.{map_push}
+use Rattle.format_words.specs.Views.{now_of}
+use Rattle.format_words.proofs.Texts.{map_push}
 use Rattle.graphite_text.proofs.Collecting.{Stands, none_taken, one_taken, rest_taken, parts_end, texts_end}
 
 -- what is taken before a place

@@ -12,13 +12,13 @@ use Rattle.fixed_num.specs.declared.fixed.NumFault.TheVariants as numbers
 use Rattle.fixed_num.specs.Fixed.{read_as}
 use Rattle.metric.specs.declared.metric.Content.{Content}
 use Rattle.metric.specs.Pairs.{in_key_order}
-use Rattle.graphite_text.specs.declared.fault.ShapeFault.{ShapeFault}
-use Rattle.graphite_text.specs.declared.fault.ShapeFault.TheVariants.{Malformed}
+use Rattle.format_words.specs.declared.fault.ShapeFault.{ShapeFault}
+use Rattle.format_words.specs.declared.fault.ShapeFault.TheVariants.{Malformed}
 use Rattle.graphite_text.specs.declared.fault.GraphiteFault.{GraphiteFault}
 use Rattle.graphite_text.specs.declared.fault.GraphiteKind.{GraphiteKind}
 use Rattle.graphite_text.specs.declared.fault.GraphiteKind.TheVariants as kinds
 use Rattle.graphite_text.specs.Path.{Path, path_of}
-use Rattle.graphite_text.specs.Template.{Shape}
+use Rattle.format_words.specs.Template.{Shape}
 use Rattle.graphite_text.specs.Applied.{used}
 use Rattle.graphite_text.specs.Reading.{Line, last_word, words_behind, line_of, or_bad_path, number_at, is_moment, is_minus_one, moment_of, time_of, Said, content_of, limited, said_of}
 use Rattle.graphite_text.specs.Reading.{metric_reading, line_reading, text_reading, reading}

@@ -1,36 +1,18 @@
 -- What a template takes from the segments of a path.
-use Rattle.std.specs.Prelude.{◌++◌, ◌&&◌, ◌||◌, ℕ, Bool, true, false, List, [], ◌∷◌, length, take, codes}
+use Rattle.std.specs.Prelude.{◌++◌, ℕ, List, [], ◌∷◌, length, take, codes}
 use Rattle.std.specs.Prelude.{flat_map, Option, Some, None, if◌then◌else◌}
 use Rattle.std.specs.List.{find, join_by}
 use Rattle.std.specs.Str.{bytes_eq}
 use Rattle.metric.specs.Draft.{Tag}
-use Rattle.graphite_text.specs.declared.template.TemplatePart.{TemplatePart}
-use Rattle.graphite_text.specs.declared.template.TemplatePart.TheVariants as parts
+use Rattle.format_words.specs.declared.template.TemplatePart.{TemplatePart}
+use Rattle.format_words.specs.declared.template.TemplatePart.TheVariants as parts
 use Rattle.graphite_text.specs.declared.collected.Share.{Share}
 use Rattle.graphite_text.specs.declared.collected.Share.TheVariants.{Nothing, One, Rest}
-use Rattle.graphite_text.specs.Bytes.{star}
+use Rattle.format_words.specs.Serving.{serves}
 use Rattle.graphite_text.specs.Path.{Path}
-use Rattle.graphite_text.specs.Template.{Shape}
+use Rattle.format_words.specs.Template.{Shape}
 
 -- ---- the template that is used
-
--- a segment of a filter stands for itself, and `*` for any one segment
-abbrev pub admits : List ℕ → List ℕ → Bool
-admits wanted text = bytes_eq wanted (star ∷ []) || bytes_eq wanted text
-
--- the first segments are those of the filter
-unfoldable pub begins_with : List (List ℕ) → List (List ℕ) → Bool
-begins_with [] segments = true
-begins_with (wanted ∷ filter) [] = false
-begins_with (wanted ∷ filter) (text ∷ segments) = admits wanted text && begins_with filter segments
-
--- a template without a filter serves every path
-abbrev pub passes : Option (List (List ℕ)) → List (List ℕ) → Bool
-passes None segments = true
-passes (Some filter) segments = begins_with filter segments
-
-abbrev pub serves : List (List ℕ) → Shape → Bool
-serves segments shape = passes shape.filter segments
 
 -- where no template serves, all segments are the measurement
 abbrev pub default : Shape

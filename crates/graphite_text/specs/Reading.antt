@@ -14,15 +14,15 @@ use Rattle.metric.specs.declared.value.Value.TheVariants as values
 use Rattle.metric.specs.declared.metric.Content.{Content}
 use Rattle.metric.specs.Draft.{Tag}
 use Rattle.metric.specs.Pairs.{in_key_order, with_values}
-use Rattle.graphite_text.specs.declared.fault.ShapeFault.{ShapeFault}
-use Rattle.graphite_text.specs.declared.fault.ShapeFault.TheVariants.{Malformed}
+use Rattle.format_words.specs.declared.fault.ShapeFault.{ShapeFault}
+use Rattle.format_words.specs.declared.fault.ShapeFault.TheVariants.{Malformed}
 use Rattle.graphite_text.specs.declared.fault.GraphiteFault.{GraphiteFault}
 use Rattle.graphite_text.specs.declared.fault.GraphiteKind.{GraphiteKind}
 use Rattle.graphite_text.specs.declared.fault.GraphiteKind.TheVariants.{FieldCount, BadPath, BadValue}
 use Rattle.graphite_text.specs.declared.fault.GraphiteKind.TheVariants.{BadTime}
 use Rattle.graphite_text.specs.declared.fault.GraphiteKind.TheVariants.{NumberRange, NotUtf8, TooMany}
 use Rattle.graphite_text.specs.Path.{Path, path_of}
-use Rattle.graphite_text.specs.Template.{Shape}
+use Rattle.format_words.specs.Template.{Shape}
 use Rattle.graphite_text.specs.Applied.{used, name_of, key_of, tags_of}
 
 -- a fault at a place

@@ -10,8 +10,8 @@ use Rattle.metric.specs.declared.metric.Content.{Content}
 use Rattle.metric.specs.Draft.{Field}
 use Rattle.metric.specs.Metric.{IsMetric}
 use Rattle.metric.specs.Numbers.{is_text, billionths_of}
-use Rattle.graphite_text.specs.Bytes.{dot}
-use Rattle.graphite_text.specs.Path.{AreFilled}
+use Rattle.format_words.specs.Bytes.{dot}
+use Rattle.format_words.specs.Segments.{AreFilled}
 use Rattle.graphite_text.specs.Reading.{is_minus_one, reading}
 use Rattle.graphite_text.specs.Writing.{path_text, line_text, seconds_of}
 

@@ -6,7 +6,7 @@ use Rattle.graphite_text.specs.declared.collected.Taken.TheVariants as taken
 use Rattle.graphite_text.specs.declared.collected.JoinedText.{JoinedText}
 use Rattle.graphite_text.specs.declared.collected.JoinedText.TheVariants.{Whole, Joined}
 use Rattle.graphite_text.specs.Applied.{joined}
-use Rattle.graphite_text.specs.Views.{now_of}
+use Rattle.format_words.specs.Views.{now_of}
 
 abbrev pub joined_view : JoinedText → List ℕ
 joined_view (Whole text) = text.now

@@ -2,7 +2,7 @@
 use Rattle.graphite_text.specs.declared.collected.Wanted.{Wanted}
 use Rattle.graphite_text.specs.declared.collected.Wanted.TheVariants.{Name, Key, TagOf}
 use Rattle.graphite_text.specs.declared.collected.Share.{Share}
-use Rattle.graphite_text.specs.declared.template.TemplatePart.{TemplatePart}
+use Rattle.format_words.specs.declared.template.TemplatePart.{TemplatePart}
 use Rattle.graphite_text.specs.Applied.{name_share, key_share, tag_share}
 
 abbrev pub share_of : Wanted → TemplatePart → Share

@@ -11,7 +11,8 @@ use Rattle.text_parts.specs.Bytes.{underscore}
 use Rattle.metric.specs.declared.metric.Content.{Content}
 use Rattle.metric.specs.Draft.{Tag, Field}
 use Rattle.metric.specs.Numbers.{is_text, number_text}
-use Rattle.graphite_text.specs.Bytes.{minus, dot}
+use Rattle.format_words.specs.Bytes.{dot}
+use Rattle.graphite_text.specs.Bytes.{minus}
 
 -- ---- the path
 

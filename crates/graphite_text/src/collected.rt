@@ -6,13 +6,13 @@ ghost use Rattle.std.specs.List.{AllByRecursion};
 ghost use Rattle.std.specs.Str.{bytes_eq};
 ghost use Rattle.std.specs.String.{string_bytes};
 ghost use Rattle.graphite_text.specs.Applied.{collected, joined, name_of, key_of, tag_share};
-ghost use Rattle.graphite_text.specs.Path.{AreFilled};
+ghost use Rattle.format_words.specs.Segments.{AreFilled};
 ghost use Rattle.graphite_text.specs.Taken.{joined_view, AreJoined, Takes};
-ghost use Rattle.graphite_text.specs.Views.{now_of, texts_view};
+ghost use Rattle.format_words.specs.Views.{now_of, texts_view};
 ghost use Rattle.graphite_text.specs.Wanted.{share_of};
 
-use crate::template::TemplatePart;
 use fixed_num::OutOfMemory;
+use format_words::TemplatePart;
 use std::alloc::Global;
 
 /// What a part gives to a thing.

@@ -1,4 +1,4 @@
-//! What is wrong with a line, or with a template.
+//! What is wrong with a line.
 ghost use Rattle.std.specs.Prelude.{◌≡◌};
 
 use text_parts::ReadError;
@@ -32,21 +32,6 @@ pub struct GraphiteFault {
     /// An index into the piece: the first byte of the value or of the time at fault, or the end of the
     /// longest valid front for `NotUtf8`; else 0.
     pub place: usize,
-}
-
-/// Why a text is no template.
-#[derive(Clone, Copy, Debug, PartialEq, Eq)]
-pub enum TemplateFault {
-    /// No memory was left.
-    OutOfMemory,
-    /// The text is none.
-    BadTemplate,
-}
-
-/// A text isn't of the form that is wanted.
-#[derive(Clone, Copy, Debug, PartialEq, Eq)]
-pub(crate) enum ShapeFault {
-    Malformed,
 }
 
 /// A fault at a place.

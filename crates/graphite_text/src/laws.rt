@@ -1,6 +1,5 @@
 //! Laws of readings.
 ghost use Rattle.graphite_text.specs.Grammar.{WrittenIsRead, ReadIsWritten};
-ghost use Rattle.graphite_text.specs.Grammar.{SpelledIsTemplate, TemplateIsSpelled};
 ghost use Rattle.graphite_text.specs.RoundTrip.{WrittenIsReadBack};
 
 /// What is written as a line is read as its metric.
@@ -11,12 +10,6 @@ pub fn written_is_read()
 /// What is read as a metric is written as a line.
 pub fn read_is_written()
     ensures { ReadIsWritten }
-{}
-
-/// The text of a template is read as the template, and each text that is read as a template is its text.
-pub fn templates_are_spelled()
-    ensures read { SpelledIsTemplate }
-    ensures spelled { TemplateIsSpelled }
 {}
 
 /// Each line of a metric is read, without templates, as a metric of its path, its number and its seconds,

@@ -8,12 +8,9 @@ mod laws;
 mod line;
 mod path;
 mod read;
-mod template;
-mod template_text;
 mod write;
 
-pub use fault::{GraphiteFault, GraphiteKind, TemplateFault};
-pub use laws::{read_is_written, templates_are_spelled, written_is_read, written_is_read_back};
+pub use fault::{GraphiteFault, GraphiteKind};
+pub use laws::{read_is_written, written_is_read, written_is_read_back};
 pub use read::read_line;
-pub use template::{Template, TemplatePart};
 pub use write::write_metric;

@@ -3,7 +3,8 @@ ghost use Rattle.std.specs.Prelude.{◌≡◌, option_map};
 ghost use Rattle.text_parts.specs.Chain.{Gives};
 ghost use Rattle.text_parts.specs.Words.{words_of};
 ghost use Rattle.graphite_text.specs.Reading.{last_word, words_behind, line_of};
-ghost use Rattle.graphite_text.specs.Views.{part_at, line_view};
+ghost use Rattle.format_words.specs.Views.{part_at};
+ghost use Rattle.graphite_text.specs.Views.{line_view};
 
 use crate::fault::{GraphiteFault, GraphiteKind, fault};
 use text_parts::{Placed, ReadError, Words};

@@ -5,14 +5,15 @@ ghost use Rattle.fixed_num.specs.Fixed.{read_as};
 ghost use Rattle.graphite_text.specs.Path.{path_of, IsPath};
 ghost use Rattle.graphite_text.specs.Reading.{or_bad_path, number_at, value_of, is_minus_one, is_moment};
 ghost use Rattle.graphite_text.specs.Reading.{moment_of, time_of, metric_reading, text_reading, reading};
-ghost use Rattle.graphite_text.specs.Views.{part_at, path_view, line_view, Answers};
+ghost use Rattle.format_words.specs.Views.{part_at};
+ghost use Rattle.graphite_text.specs.Views.{path_view, line_view, Answers};
 
 use crate::applied::templated;
 use crate::fault::{GraphiteFault, GraphiteKind, fault};
 use crate::line::{Line, line_of};
 use crate::path::{Path, path_of};
-use crate::template::Template;
 use fixed_num::{Fixed, Moment, NumFault};
+use format_words::Template;
 use metric::Metric;
 use std::alloc::Global;
 use text_parts::{Placed, ReadError};

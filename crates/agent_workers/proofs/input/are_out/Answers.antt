@@ -2,9 +2,9 @@ use denote.Enum.Bare.{same_true}
 use Rattle.std.proofs.Common.{◌≡◌, ◌<◌, ◌∙◌, true, false, length, sym, ap, subst, arith, rules, below_more}
 use Rattle.std.proofs.lemmas.List.{length-map}
 use Rattle.std.specs.Prelude.{is_some}
-use Rattle.agent_workers.specs.contracts.input.InState.{the_type}
+use Rattle.formats.specs.contracts.pieces.InState.{the_type}
 use Rattle.agent_workers.specs.Inputs.{in_of, ins_of, IsOut}
-use Rattle.agent_workers.specs.declared.input.InState.TheVariants as states
+use Rattle.formats.specs.declared.pieces.InState.TheVariants as states
 use Rattle.agent_workers.proofs.InLemmas.{job_here, none_held}
 use Rattle.agent_workers.proofs.input.are_out.Goals.{then-eq-via-then-eq, then-eq-via-else-eq+then-is_some}
 use Rattle.agent_workers.proofs.input.are_out.Goals as goal

@@ -1,7 +1,7 @@
 use Rattle.std.proofs.Common.{◌≡◌, true, rules}
 use Rattle.std.specs.declared.option.Option.TheVariants.{None}
 use Rattle.agent_workers.specs.Inputs.{in_of}
-use Rattle.agent_workers.specs.declared.input.InState.TheVariants as states
+use Rattle.formats.specs.declared.pieces.InState.TheVariants as states
 use Rattle.agent_workers.proofs.GatherSteps.{end_noted}
 use Rattle.agent_workers.proofs.InLemmas.{ended_core, ready_gathered, fits_ended}
 use Rattle.agent_workers.proofs.StandingLemmas.{continues}

@@ -1,5 +1,5 @@
 use Rattle.std.proofs.Common.{◌≡◌, ◌<◌, ◌≤◌, length, arith, rules}
-use Rattle.agent_workers.specs.declared.input.InState.TheVariants as states
+use Rattle.formats.specs.declared.pieces.InState.TheVariants as states
 use Rattle.agent_workers.proofs.InLemmas.{none_more, none_in}
 use Rattle.agent_workers.proofs.input.has_fault.Goals as goal
 

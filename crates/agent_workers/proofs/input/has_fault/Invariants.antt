@@ -1,7 +1,7 @@
 use Rattle.std.proofs.Common.{◌<◌, ℕ}
 use Rattle.std.specs.Prelude.{◌≢◌}
 use Rattle.agent_workers.specs.Inputs.{ins_of, in_at}
-use Rattle.agent_workers.specs.declared.input.InState.TheVariants as states
+use Rattle.formats.specs.declared.pieces.InState.TheVariants as states
 use Rattle.agent_workers.proofs.input.has_fault.Given as goal
 
 abbrev pub invariant-loop-job : goal.invariant-loop-job

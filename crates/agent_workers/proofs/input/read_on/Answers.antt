@@ -3,9 +3,10 @@ use Rattle.std.proofs.lemmas.Int.{to_z-of_z}
 use mir.Syntax.{w64}
 use mir.Val.{of_z, to_z}
 use Rattle.agent_base.specs.Moments.{Gives}
-use Rattle.agent_workers.specs.Groups.{ReadsGroup}
+use Rattle.formats.specs.Groups.{ReadsGroup}
 use Rattle.agent_workers.specs.Inputs.{InPart, in_of}
-use Rattle.agent_workers.specs.Reader.{InRule, rule_of}
+use Rattle.formats.specs.Reader.{InRule}
+use Rattle.agent_workers.specs.Rules.{rule_of}
 use Rattle.agent_workers.proofs.HeardLemmas.{read_to, held_own}
 use Rattle.agent_workers.proofs.GatherSteps.{went_read, went_clocked}
 use Rattle.agent_workers.proofs.input.read_on.Goals as goal

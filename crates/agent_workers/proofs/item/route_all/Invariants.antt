@@ -1,5 +1,5 @@
 use Rattle.agent_workers.specs.Progress.{GoesOn}
-use Rattle.agent_workers.specs.Reader.{views_by}
+use Rattle.agent_workers.specs.Rules.{views_by}
 use Rattle.agent_workers.specs.Running.{IsReady, IsRoutable, HasJournal}
 use Rattle.agent_workers.proofs.item.route_all.Given as goal
 

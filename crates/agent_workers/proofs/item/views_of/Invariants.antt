@@ -1,6 +1,6 @@
 use Rattle.std.proofs.Common.{◌≡◌, take}
 use Rattle.pipeline_core.specs.Worked.{views_of}
-use Rattle.agent_workers.specs.Reader.{views_by}
+use Rattle.agent_workers.specs.Rules.{views_by}
 use Rattle.agent_workers.proofs.item.views_of.Given as goal
 
 abbrev pub invariant-loop-conf : goal.invariant-loop-conf

@@ -1,5 +1,6 @@
 use Rattle.std.proofs.Common.{◌≡◌, ◌<◌, length, ap, ◌∙◌, refl, arith}
-use Rattle.agent_workers.specs.Output.{batch_text, OutPart, out_of}
+use Rattle.formats.specs.Batches.{batch_text}
+use Rattle.agent_workers.specs.Output.{OutPart, out_of}
 use Rattle.agent_workers.specs.Progress.{Surroundings}
 use Rattle.agent_workers.proofs.OutLemmas.{ready_done, sent_at}
 use Rattle.agent_workers.proofs.SendSteps.{went_accepted, went_failed}

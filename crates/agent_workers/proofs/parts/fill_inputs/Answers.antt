@@ -1,6 +1,4 @@
-use Rattle.std.proofs.Common.{◌≡◌, ◌≤◌, ◌<◌, ◌+◌, ◌-◌, ◌∙◌, ℕ, List, length, get_or, replicate, sym, ap, arith, rules}
-use Rattle.std.specs.List.{remove}
-use Rattle.agent_base.specs.Hand.{Hand}
+use Rattle.std.proofs.Common.{◌≡◌, ◌<◌, ◌∙◌, List, length, get_or, ap, arith, rules}
 use Rattle.agent_config.specs.declared.config.InputConf.{InputConf}
 use Rattle.agent_workers.proofs.OpenedLemmas.{in_filled, in_filled_all, in_is, hands_first, hands_left}
 use Rattle.agent_workers.proofs.parts.fill_inputs.Goals as goal

@@ -1,4 +1,4 @@
-use Rattle.std.proofs.Common.{◌≡◌, ◌≤◌, ◌<◌, ◌+◌, ◌∙◌, ℕ, List, length, get_or, sym, ap, arith, rules}
+use Rattle.std.proofs.Common.{◌≡◌, ◌<◌, List, length, get_or, ap, arith, rules}
 use Rattle.agent_config.specs.declared.config.OutputConf.{OutputConf}
 use Rattle.agent_workers.proofs.OpenedLemmas.{out_filled, out_filled_all, out_is}
 use Rattle.agent_workers.proofs.parts.fill_outputs.Goals as goal

@@ -12,7 +12,7 @@ use Rattle.agent_workers.specs.Output.{OutPart, outs_of, AreOutputs}
 use Rattle.agent_workers.specs.Noted.{JournalPart, part_of}
 use Rattle.agent_workers.specs.PipeSetup.{journal_setup_of}
 use Rattle.agent_workers.specs.Progress.{Beginning, Surroundings}
-use Rattle.agent_workers.specs.Reader.{views_by}
+use Rattle.agent_workers.specs.Rules.{views_by}
 use Rattle.agent_workers.proofs.FinishSteps.{finished}
 use Rattle.agent_workers.proofs.ProgressLemmas.{stored_in_order}
 use Rattle.agent_workers.proofs.serial.finish_jobs.Goals as goal

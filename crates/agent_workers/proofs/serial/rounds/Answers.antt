@@ -4,7 +4,7 @@ use Rattle.pipeline_core.specs.CoreState.{CoreState}
 use Rattle.agent_workers.specs.Noted.{JournalPart, part_of}
 use Rattle.agent_workers.specs.Inputs.{InPart, ins_of, AreInputs, AreSameInputs, OneIsFull}
 use Rattle.agent_workers.specs.Progress.{RunsOn}
-use Rattle.agent_workers.specs.Reader.{views_by}
+use Rattle.agent_workers.specs.Rules.{views_by}
 use Rattle.agent_workers.specs.Output.{OutPart, outs_of, AreOutputs}
 use Rattle.agent_workers.specs.declared.input.InJob.{InJob}
 use Rattle.agent_workers.specs.declared.journal.JournalJob.{JournalJob}

@@ -1,7 +1,7 @@
 use Rattle.std.proofs.Common.{◌≡◌, false, length}
 use Rattle.agent_workers.specs.Noted.{part_of}
 use Rattle.agent_workers.specs.Inputs.{ins_of, AreInputs, AreSameInputs}
-use Rattle.agent_workers.specs.Reader.{views_by}
+use Rattle.agent_workers.specs.Rules.{views_by}
 use Rattle.agent_workers.specs.Output.{outs_of, AreOutputs}
 use Rattle.agent_workers.specs.Progress.{RunsOn}
 use Rattle.agent_workers.specs.Running.{IsReady, HasJournal, AreSettled}

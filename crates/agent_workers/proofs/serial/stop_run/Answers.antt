@@ -7,7 +7,7 @@ use Rattle.pipeline_core.specs.Steps.{after_stop, stop_entry}
 use Rattle.std.specs.Int.{int_max}
 use Rattle.agent_base.specs.Clocked.{last_of}
 use Rattle.agent_workers.specs.Progress.{Beginning, Surroundings}
-use Rattle.agent_workers.specs.Reader.{views_by}
+use Rattle.agent_workers.specs.Rules.{views_by}
 use Rattle.agent_workers.proofs.ProgressLemmas.{went_stop, went_anew}
 use Rattle.agent_workers.proofs.OutLemmas.{are_anew, outputs_still}
 use Rattle.account.specs.Setup.{Setup}

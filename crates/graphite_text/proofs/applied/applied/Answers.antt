@@ -3,7 +3,8 @@ use Rattle.std.proofs.lemmas.Int.{to_z-of_z}
 use mir.Syntax.{w64}
 use Rattle.text_parts.specs.Chain.{Gives}
 use Rattle.graphite_text.specs.Applied.{name_of, key_of, collected_tags}
-use Rattle.graphite_text.specs.Views.{now_of, tag_view, path_view}
+use Rattle.format_words.specs.Views.{now_of, tag_view}
+use Rattle.graphite_text.specs.Views.{path_view}
 use Rattle.graphite_text.proofs.Collecting.{name_some, key_some}
 use Rattle.graphite_text.proofs.Lines.{same_said, same_tags, ready}
 use Rattle.graphite_text.proofs.applied.applied.Goals as goal

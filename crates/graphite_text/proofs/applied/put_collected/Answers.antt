@@ -1,9 +1,9 @@
 use Rattle.std.proofs.Common.{◌++◌, [], List, map, subst}
 use Rattle.std.specs.Prelude.{flat_map}
 use Rattle.metric.specs.Draft.{StandsFor}
-use Rattle.graphite_text.specs.declared.template.TemplatePart.{TemplatePart}
+use Rattle.format_words.specs.declared.template.TemplatePart.{TemplatePart}
 use Rattle.graphite_text.specs.Applied.{tags_at}
-use Rattle.graphite_text.specs.Views.{now_of}
+use Rattle.format_words.specs.Views.{now_of}
 use Rattle.graphite_text.proofs.Collecting.{taken_all, taken_some}
 use Rattle.graphite_text.proofs.applied.put_collected.Goals as goal
 

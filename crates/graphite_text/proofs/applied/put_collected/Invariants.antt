@@ -2,7 +2,7 @@ use Rattle.std.proofs.Common.{◌≡◌, ◌++◌, ◌-◌, ◌≤◌, List, [],
 use Rattle.std.specs.Prelude.{flat_map}
 use Rattle.metric.specs.Draft.{Tag, StandsFor}
 use Rattle.graphite_text.specs.Applied.{tags_at}
-use Rattle.graphite_text.specs.Views.{now_of}
+use Rattle.format_words.specs.Views.{now_of}
 use Rattle.graphite_text.proofs.applied.put_collected.Given as goal
 
 abbrev pub invariant-loop-i : goal.invariant-loop-i

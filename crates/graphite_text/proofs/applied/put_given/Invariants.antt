@@ -1,6 +1,6 @@
 use Rattle.std.proofs.Common.{◌≡◌, ◌++◌, List, [], take, map}
 use Rattle.metric.specs.Draft.{Tag, StandsFor}
-use Rattle.graphite_text.specs.Views.{tag_view}
+use Rattle.format_words.specs.Views.{tag_view}
 use Rattle.graphite_text.proofs.applied.put_given.Given as goal
 
 abbrev pub invariant-loop-key : goal.invariant-loop-key

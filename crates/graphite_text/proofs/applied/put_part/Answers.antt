@@ -1,7 +1,7 @@
 use Rattle.std.proofs.Common.{◌++◌, [], List, map, ap, subst, ◌∙◌}
 use Rattle.metric.specs.Draft.{Tag, StandsFor}
 use Rattle.graphite_text.specs.Applied.{joined, collected, tag_share}
-use Rattle.graphite_text.specs.Views.{now_of}
+use Rattle.format_words.specs.Views.{now_of}
 use Rattle.graphite_text.proofs.Collecting.{tag_at_part}
 use Rattle.graphite_text.proofs.applied.put_part.Goals as goal
 

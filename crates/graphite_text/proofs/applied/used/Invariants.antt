@@ -1,7 +1,7 @@
 use Rattle.std.proofs.Common.{◌≡◌, drop, map}
 use Rattle.std.specs.List.{find}
-use Rattle.graphite_text.specs.Applied.{serves}
-use Rattle.graphite_text.specs.Views.{now_of}
+use Rattle.format_words.specs.Serving.{serves}
+use Rattle.format_words.specs.Views.{now_of}
 use Rattle.graphite_text.proofs.applied.used.Given as goal
 
 abbrev pub invariant-loop-template : goal.invariant-loop-template

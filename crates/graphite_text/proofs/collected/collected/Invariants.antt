@@ -1,6 +1,6 @@
 use Rattle.std.proofs.Common.{◌≡◌, ◌-◌, ◌++◌, length, drop, map}
 use Rattle.graphite_text.specs.Applied.{collected}
-use Rattle.graphite_text.specs.Views.{now_of}
+use Rattle.format_words.specs.Views.{now_of}
 use Rattle.graphite_text.specs.Wanted.{share_of}
 use Rattle.graphite_text.proofs.collected.collected.Given as goal
 

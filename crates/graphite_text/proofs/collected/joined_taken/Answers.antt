@@ -1,6 +1,6 @@
 use Rattle.std.proofs.Common.{map}
 use Rattle.graphite_text.specs.Applied.{collected}
-use Rattle.graphite_text.specs.Views.{now_of}
+use Rattle.format_words.specs.Views.{now_of}
 use Rattle.graphite_text.specs.Wanted.{share_of}
 use Rattle.graphite_text.proofs.Taking.{alone}
 use Rattle.graphite_text.proofs.collected.joined_taken.Goals as goal

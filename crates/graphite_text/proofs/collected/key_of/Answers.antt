@@ -1,6 +1,6 @@
 use Rattle.std.proofs.Common.{map}
 use Rattle.graphite_text.specs.Applied.{collected, key_share}
-use Rattle.graphite_text.specs.Views.{now_of}
+use Rattle.format_words.specs.Views.{now_of}
 use Rattle.graphite_text.proofs.Taking.{found_some, found_none, key_joined, key_value}
 use Rattle.graphite_text.proofs.collected.key_of.Goals as goal
 

@@ -2,7 +2,7 @@ use Rattle.std.proofs.Common.{◌≡◌, ℕ, List, map, subst}
 use Rattle.std.specs.Prelude.{IfOk}
 use Rattle.graphite_text.specs.Applied.{collected, name_share}
 use Rattle.graphite_text.specs.Taken.{joined_view}
-use Rattle.graphite_text.specs.Views.{now_of}
+use Rattle.format_words.specs.Views.{now_of}
 use Rattle.graphite_text.proofs.Taking.{found_some, found_none, name_joined, name_whole}
 use Rattle.graphite_text.proofs.collected.name_of.Goals as goal
 

@@ -1,6 +1,6 @@
 use Rattle.std.proofs.Common.{map}
 use Rattle.graphite_text.specs.Applied.{collected, tag_share}
-use Rattle.graphite_text.specs.Views.{now_of}
+use Rattle.format_words.specs.Views.{now_of}
 use Rattle.graphite_text.proofs.Taking.{found_none, none_joined}
 use Rattle.graphite_text.proofs.collected.tag_value.Goals as goal
 

@@ -1,4 +1,4 @@
-use Rattle.graphite_text.specs.Views.{texts_view, tags_view}
+use Rattle.format_words.specs.Views.{texts_view, tags_view}
 use Rattle.graphite_text.proofs.Filled.{path_some}
 use Rattle.graphite_text.proofs.Lines.{path_is}
 use Rattle.graphite_text.proofs.path.path_of.Goals as goal

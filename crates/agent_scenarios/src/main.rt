@@ -1,0 +1,130 @@
+//! Whole runs of `agent` over worlds in memory, and of a configuration over its parts, by tables: each row lays a world,
+//! says what is run, and what the run leaves. `agent_scenarios` looks at all tables, `agent_scenarios TABLE` at one;
+//! `agent_scenarios run TABLE ROW` at that row alone, and `agent_scenarios lay TABLE ROW` lays its world and runs nothing.
+#![tactic(auto)]
+
+mod compared;
+mod laid;
+mod marks;
+mod run;
+mod told;
+
+use compared::compare;
+use laid::{Scene, lay};
+use run::run_row;
+use scenario_tables::{Part, Row, Table, Tally};
+use std::alloc::Global;
+use std::env;
+use std::test::Fail;
+
+/// The tables, each a file of the current folder.
+const TABLES: &str =
+    "pipes clocks rounds commands faults single_faults last_tries journals reports checks failed_checks runs \
+    run_faults settings formats parts";
+
+/// The name of the row whose parts each row of its table begins with.
+const EACH: &str = "in each row";
+
+/// What of a table is looked at: each row, or the one of this name, which may be laid alone.
+#[derive(Clone, Copy)]
+enum Asked<'a> {
+    All,
+    Run(&'a str),
+    Lay(&'a str),
+}
+
+impl Asked<'_> {
+    /// Whether the row of this name is looked at.
+    fn is_about(self, row: &str) -> bool {
+        match self {
+            Asked::All => row != EACH,
+            Asked::Run(name) | Asked::Lay(name) => row == name,
+        }
+    }
+}
+
+/// The parts of a row, behind those that each row begins with.
+fn parts_of<'a>(alloc: Global, rows: &[Row<'a>], row: &Row<'a>) -> Result<Vec<Part<'a>>, Fail> {
+    let mut parts = Vec::new(alloc);
+    if let Some(first) = rows.first() {
+        if first.name == EACH {
+            parts.extend_from_slice(first.parts.as_slice())?;
+        }
+    }
+    parts.extend_from_slice(row.parts.as_slice())?;
+    Ok(parts)
+}
+
+/// Looks at one row.
+fn look_at(
+    rt: &HostRuntime,
+    tally: &mut Tally<'_>,
+    row: &str,
+    parts: &[Part<'_>],
+    asked: Asked<'_>,
+) -> Result<(), Fail> {
+    let alloc = rt.alloc();
+    let Scene { mut world } = lay(alloc, parts)?;
+    if let Asked::Lay(_) = asked {
+        return Ok(());
+    }
+    let end = run_row(alloc, parts, &mut world)?;
+    let differences = compare(alloc, parts, end.as_str(), &world)?;
+    tally.compare(
+        rt,
+        row,
+        differences.wanted.as_slice(),
+        differences.is.as_slice(),
+    )
+}
+
+/// Looks at a table, and says whether all rows held that were looked at.
+fn table(rt: &HostRuntime, name: &str, asked: Asked<'_>) -> Result<bool, Fail> {
+    let alloc = rt.alloc();
+    let table = Table::open(rt, format!(in alloc; "{name}.txt")?.as_str())?;
+    let rows = table.rows(alloc)?;
+    let mut tally = Tally::of(name);
+    for row in &rows {
+        if asked.is_about(row.name) {
+            let parts = parts_of(alloc, rows.as_slice(), row)?;
+            if let Err(fail) = look_at(rt, &mut tally, row.name, parts.as_slice(), asked) {
+                let _ = eprintln!(rt; "{name}: {}", row.name);
+                return Err(fail);
+            }
+        }
+    }
+    tally.end(rt)
+}
+
+/// Looks at each of these tables, and says whether all rows held.
+fn tables(rt: &HostRuntime, names: &str) -> Result<bool, Fail> {
+    let mut all = true;
+    for name in names.split(' ') {
+        all &= table(rt, name, Asked::All)?;
+    }
+    Ok(all)
+}
+
+/// Looks at what the words ask for.
+fn looked_at(rt: &HostRuntime, words: &[String]) -> Result<bool, Fail> {
+    match words {
+        [] => tables(rt, TABLES),
+        [name] => tables(rt, name.as_str()),
+        [how, name, row] if how.as_str() == "run" => {
+            table(rt, name.as_str(), Asked::Run(row.as_str()))
+        }
+        [how, name, row] if how.as_str() == "lay" => {
+            table(rt, name.as_str(), Asked::Lay(row.as_str()))
+        }
+        _ => Err(Fail::new("the words are none, TABLE, run TABLE ROW, or lay TABLE ROW")),
+    }
+}
+
+fn main(rt: HostRuntime) -> Result<(), Fail> {
+    let words = env::args(&rt)?.skip(1).collect::<Vec<String>>(rt.alloc())?;
+    if looked_at(&rt, words.as_slice())? {
+        Ok(())
+    } else {
+        Err(Fail::new("rows differ"))
+    }
+}

@@ -1,0 +1,49 @@
+//! A world in memory whose report may fail.
+use agent_base::{MemClock, MemSink, MemSource, MemWorld, OpenFault, PutFault, Sink, World};
+
+/// A world in memory, with a sink that is told the report.
+#[derive(Drop)]
+pub struct ToldWorld {
+    pub parts: MemWorld,
+    pub report: MemSink,
+}
+
+impl World for ToldWorld {
+    type In = MemSource;
+
+    type Out = MemSink;
+
+    type Clk = MemClock;
+
+    ghost view = { λ w. record {
+      ins = (⟦<MemWorld as World>⟧.view w.parts).ins;
+      outs = (⟦<MemWorld as World>⟧.view w.parts).outs;
+      clocks = (⟦<MemWorld as World>⟧.view w.parts).clocks;
+      report = record
+          { reported = ⟦<MemSink as Sink>⟧.held w.report; report_faults = ⟦<MemSink as Sink>⟧.faults w.report };
+    } };
+
+    fn open_in(&mut self, place: &str) -> Result<MemSource, OpenFault> {
+        self.parts.open_in(place)
+    }
+
+    fn open_out(&mut self, place: &str) -> Result<MemSink, OpenFault> {
+        self.parts.open_out(place)
+    }
+
+    fn give_in(&mut self, place: &str, part: MemSource) {
+        self.parts.give_in(place, part);
+    }
+
+    fn give_out(&mut self, place: &str, part: MemSink) {
+        self.parts.give_out(place, part);
+    }
+
+    fn clock(&mut self, who: u32, pause: i64) -> MemClock {
+        self.parts.clock(who, pause)
+    }
+
+    fn report(&mut self, bytes: &[u8]) -> Result<(), PutFault> {
+        self.report.put(bytes)
+    }
+}

@@ -1,0 +1,10 @@
+//! All formats behind one call: what the next pieces of an input say and what is kept of it, and the text of a batch.
+#![tactic(auto)]
+
+mod pieces;
+mod reading;
+mod writing;
+
+pub use pieces::{InState, kind_of, read_group};
+pub use reading::{Group, ReadRule};
+pub use writing::write_batch;

@@ -1,0 +1,317 @@
+//! What the pieces of an input say, and what is kept of it.
+ghost use Rattle.std.specs.Prelude.{◌≡◌, ◌<◌, ◌≤◌, ◌^◌, ◌∷◌, ◌+◌, ◌-◌, ℤ, [], false, All, IfOk, OnOk};
+ghost use Rattle.agent_base.specs.Cut.{TooLong, Whole};
+ghost use Rattle.graphite_text.specs.Reading as graphite;
+ghost use Rattle.line_proto.specs.Reading.{reading};
+ghost use Rattle.openmetrics_text.specs.Reading as openmetrics;
+ghost use Rattle.statsd_text.specs.Reading as statsd;
+ghost use Rattle.metric.specs.Metric.{IsFilledTag};
+ghost use Rattle.formats.specs.Groups.{Counts, CountsPiece};
+ghost use Rattle.formats.specs.Reader.{InRule, Says, in_rule, line_says, rule_view};
+ghost use Rattle.formats.specs.Reader.{exposition_says, parts_say, say_in};
+
+use agent_base::Piece;
+use fixed_num::{Moment, OutOfMemory, Seq};
+use format_words::{InFormat, Template};
+use graphite_text::GraphiteKind;
+use line_proto::{LineKind, read_line};
+use metric::{Metric, Text};
+use metric_filter::Filter;
+use openmetrics_text::{ExpositionKind, read_exposition};
+use statsd_text::{StatsdKind, read_packet};
+use std::alloc::Global;
+
+/// How many metrics a gather has room for from its start.
+const GATHER_ROOM: u32 = 1_000;
+
+/// By what rule the pieces of an input are read.
+#[derive(Drop)]
+pub struct ReadRule<'a> {
+    /// The format of the input.
+    pub format: &'a InFormat,
+    /// The tags that each metric gets that lacks them.
+    pub globals: &'a [(Text, Text)],
+    /// What is kept of the metrics, once they have these tags.
+    pub filter: &'a Filter,
+    /// How many pieces a gather has at most.
+    pub most: u32,
+}
+
+impl<'a> ReadRule<'a> {
+    /// The rule of these parts.
+    pub fn new(
+        format: &'a InFormat,
+        globals: &'a [(Text, Text)],
+        filter: &'a Filter,
+        most: u32,
+    ) -> ReadRule<'a>
+        ensures rule { rule_view result ≡ in_rule format.now globals.now filter.now most }
+        ensures globals { result.globals.now ≡ globals.now }
+        ensures format { result.format.now ≡ format.now }
+        ensures most { result.most ≡ most }
+    {
+        ReadRule {
+            format,
+            globals,
+            filter,
+            most,
+        }
+    }
+}
+
+/// The next pieces of an input, and what they say.
+#[derive(Drop)]
+pub struct Group {
+    /// How many pieces there are.
+    pub pieces: u32,
+    /// How many of them are refused.
+    pub refused: u32,
+    /// How many samples of the others are passed over; it stands still at its highest number.
+    pub passed: u32,
+    /// Of how many of their metrics nothing is kept; it stands still at its highest number.
+    pub filtered: u32,
+    /// What is kept of the other metrics, in order.
+    pub metrics: Vec<Metric>,
+}
+
+impl Group {
+    /// No piece yet, with room for the metrics of so many pieces, but of no more than a thousand.
+    pub fn new(alloc: Global, most: u32) -> Result<Group, OutOfMemory>
+        ensures pieces { IfOk result (λ group. group.pieces ≡ 0) }
+        ensures refused { IfOk result (λ group. group.refused ≡ 0) }
+        ensures passed { IfOk result (λ group. group.passed ≡ 0) }
+        ensures filtered { IfOk result (λ group. group.filtered ≡ 0) }
+        ensures metrics { IfOk result (λ group. group.metrics.items ≡ []) }
+    {
+        Ok(Group {
+            pieces: 0,
+            refused: 0,
+            passed: 0,
+            filtered: 0,
+            metrics: Vec::with_capacity(alloc, most.min(GATHER_ROOM) as usize)?,
+        })
+    }
+
+    /// Counts a piece that is too long, and so refused.
+    pub fn refuse(&mut self)
+        requires few { self.old.pieces < 2 ^ 32 - 1 }
+        requires some { self.old.refused ≤ self.old.pieces }
+        ensures counted { (rule : InRule) (moment : ℤ) → CountsPiece rule moment TooLong self.old self.new }
+    {
+        self.pieces += 1;
+        self.refused += 1;
+    }
+
+    /// Counts a piece, and keeps what is kept of what it says at the moment.
+    pub fn read(
+        &mut self,
+        alloc: Global,
+        rule: &ReadRule,
+        piece: &Piece,
+        moment: Moment,
+    ) -> Result<(), OutOfMemory>
+        requires few { self.old.pieces < 2 ^ 32 - 1 }
+        requires some { self.old.refused ≤ self.old.pieces }
+        requires filled { All IsFilledTag rule.now.globals.now }
+        ensures counted { OnOk result
+            (CountsPiece (rule_view rule.now) moment (Whole piece.now) self.old self.new) }
+    {
+        self.read_in_format(alloc, rule, piece, moment)?;
+        self.pieces += 1;
+        Ok(())
+    }
+
+    /// Keeps what is kept of a piece in the format of the input, or counts it as refused.
+    fn read_in_format(
+        &mut self,
+        alloc: Global,
+        rule: &ReadRule,
+        piece: &Piece,
+        moment: Moment,
+    ) -> Result<(), OutOfMemory>
+        requires few { self.old.refused < 2 ^ 32 - 1 }
+        requires filled { All IsFilledTag rule.now.globals.now }
+        ensures pieces { OnOk result (self.new.pieces ≡ self.old.pieces) }
+        ensures said { OnOk result
+            (Counts (rule_view rule.now) (say_in rule.now.format.now moment piece.now) self.old self.new) }
+    {
+        match rule.format {
+            InFormat::Influx => self.read_line(alloc, rule, piece, moment),
+            InFormat::Statsd => self.read_packet(alloc, rule, piece, moment),
+            InFormat::Graphite {
+                templates,
+                separator,
+            } => self.read_path(
+                alloc,
+                rule,
+                templates.as_slice(),
+                separator.as_str(),
+                piece,
+                moment,
+            ),
+            InFormat::Openmetrics { type_tag } => {
+                self.read_samples(alloc, rule, *type_tag, piece, moment)
+            }
+        }
+    }
+
+    /// Keeps what is kept of a line of line protocol, or counts it as refused.
+    fn read_line(
+        &mut self,
+        alloc: Global,
+        rule: &ReadRule,
+        piece: &Piece,
+        moment: Moment,
+    ) -> Result<(), OutOfMemory>
+        requires few { self.old.refused < 2 ^ 32 - 1 }
+        requires filled { All IsFilledTag rule.now.globals.now }
+        ensures pieces { OnOk result (self.new.pieces ≡ self.old.pieces) }
+        ensures said { OnOk result
+            (Counts (rule_view rule.now) (line_says (reading piece.now moment)) self.old self.new) }
+    {
+        let (_passed, _filtered) = (self.passed, self.filtered);
+        match read_line(alloc, piece.bytes(), moment) {
+            Ok(Some(metric)) => self.keep(alloc, rule, metric),
+            Ok(None) => Ok(()),
+            Err(fault) => self.refuse_for(fault.kind == LineKind::OutOfMemory),
+        }
+    }
+
+    /// Keeps what is kept of a StatsD line, or counts it as refused.
+    fn read_packet(
+        &mut self,
+        alloc: Global,
+        rule: &ReadRule,
+        piece: &Piece,
+        moment: Moment,
+    ) -> Result<(), OutOfMemory>
+        requires few { self.old.refused < 2 ^ 32 - 1 }
+        requires filled { All IsFilledTag rule.now.globals.now }
+        ensures pieces { OnOk result (self.new.pieces ≡ self.old.pieces) }
+        ensures said { OnOk result
+            (Counts (rule_view rule.now) (parts_say (statsd.reading piece.now moment)) self.old self.new) }
+    {
+        let (_passed, _filtered) = (self.passed, self.filtered);
+        match read_packet(alloc, piece.bytes(), moment) {
+            Ok(metrics) => self.keep_list(alloc, rule, metrics),
+            Err(fault) => self.refuse_for(fault.kind == StatsdKind::OutOfMemory),
+        }
+    }
+
+    /// Keeps what is kept of a line of Graphite, or counts it as refused.
+    fn read_path(
+        &mut self,
+        alloc: Global,
+        rule: &ReadRule,
+        templates: &[Template],
+        separator: &str,
+        piece: &Piece,
+        moment: Moment,
+    ) -> Result<(), OutOfMemory>
+        requires few { self.old.refused < 2 ^ 32 - 1 }
+        requires filled { All IsFilledTag rule.now.globals.now }
+        ensures pieces { OnOk result (self.new.pieces ≡ self.old.pieces) }
+        ensures said { OnOk result (Counts (rule_view rule.now)
+            (line_says (graphite.reading templates.now separator.now piece.now moment)) self.old self.new) }
+    {
+        let (_passed, _filtered) = (self.passed, self.filtered);
+        match graphite_text::read_line(alloc, templates, separator, piece.bytes(), moment) {
+            Ok(Some(metric)) => self.keep(alloc, rule, metric),
+            Ok(None) => Ok(()),
+            Err(fault) => self.refuse_for(fault.kind == GraphiteKind::OutOfMemory),
+        }
+    }
+
+    /// Keeps what is kept of an exposition and counts the samples that are passed over, or counts it as refused.
+    fn read_samples(
+        &mut self,
+        alloc: Global,
+        rule: &ReadRule,
+        type_tag: bool,
+        piece: &Piece,
+        moment: Moment,
+    ) -> Result<(), OutOfMemory>
+        requires few { self.old.refused < 2 ^ 32 - 1 }
+        requires filled { All IsFilledTag rule.now.globals.now }
+        ensures pieces { OnOk result (self.new.pieces ≡ self.old.pieces) }
+        ensures said { OnOk result (Counts (rule_view rule.now)
+            (exposition_says (openmetrics.reading piece.now moment type_tag)) self.old self.new) }
+    {
+        let (_passed, _filtered) = (self.passed, self.filtered);
+        match read_exposition(alloc, piece.bytes(), moment, type_tag) {
+            Ok(exposition) => {
+                self.keep_list(alloc, rule, exposition.metrics)?;
+                self.passed = self.passed.saturating_add(exposition.passed);
+                Ok(())
+            }
+            Err(fault) => self.refuse_for(fault.kind == ExpositionKind::OutOfMemory),
+        }
+    }
+
+    /// Counts a piece as refused, unless memory was wanting.
+    fn refuse_for(&mut self, memory_wanting: bool) -> Result<(), OutOfMemory>
+        requires { self.old.refused < 2 ^ 32 - 1 }
+        ensures fault { OnOk result (memory_wanting ≡ false) }
+        ensures refused { OnOk result
+            (self.new ≡ record self.old { refused = self.old.refused + 1 }) }
+    {
+        if memory_wanting {
+            return Err(OutOfMemory);
+        }
+        self.refused += 1;
+        Ok(())
+    }
+
+    /// Keeps what is kept of metrics, in order. Most lines say one.
+    fn keep_list(
+        &mut self,
+        alloc: Global,
+        rule: &ReadRule,
+        metrics: Seq<Metric>,
+    ) -> Result<(), OutOfMemory>
+        requires filled { All IsFilledTag rule.now.globals.now }
+        ensures pieces { OnOk result (self.new.pieces ≡ self.old.pieces) }
+        ensures said { OnOk result
+            (Counts (rule_view rule.now) (Says metrics 0) self.old self.new) }
+    {
+        match metrics.into_one() {
+            Ok(metric) => self.keep(alloc, rule, metric),
+            Err(metrics) => self.keep_all(alloc, rule, metrics.into_vec(alloc)?),
+        }
+    }
+
+    /// Keeps what is kept of metrics, in order.
+    fn keep_all(
+        &mut self,
+        alloc: Global,
+        rule: &ReadRule,
+        metrics: Vec<Metric>,
+    ) -> Result<(), OutOfMemory>
+        requires filled { All IsFilledTag rule.now.globals.now }
+        ensures pieces { OnOk result (self.new.pieces ≡ self.old.pieces) }
+        ensures said { OnOk result
+            (Counts (rule_view rule.now) (Says metrics.items 0) self.old self.new) }
+    {
+        let (_passed, _filtered) = (self.passed, self.filtered);
+        for metric in metrics {
+            self.keep(alloc, rule, metric)?;
+        }
+        Ok(())
+    }
+
+    /// Keeps what is kept of a metric, with the global tags that it lacks, or counts that nothing is.
+    fn keep(&mut self, alloc: Global, rule: &ReadRule, metric: Metric) -> Result<(), OutOfMemory>
+        requires filled { All IsFilledTag rule.now.globals.now }
+        ensures pieces { OnOk result (self.new.pieces ≡ self.old.pieces) }
+        ensures said { OnOk result
+            (Counts (rule_view rule.now) (Says (metric ∷ []) 0) self.old self.new) }
+    {
+        let (_passed, _filtered) = (self.passed, self.filtered);
+        let metric = metric.with_tags(alloc, rule.globals)?;
+        match rule.filter.apply_to(metric)? {
+            Some(metric) => self.metrics.push(metric)?,
+            None => self.filtered = self.filtered.saturating_add(1),
+        }
+        Ok(())
+    }
+}

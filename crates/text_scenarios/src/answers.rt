@@ -1,0 +1,69 @@
+//! Which call a piece is put to.
+use crate::configurations::{append_configuration, append_interval};
+use crate::formats::{
+    append_exposition, append_graphite, append_influx, append_statsd, append_template,
+};
+use crate::metrics::{append_filtered, append_glob, append_metric};
+use crate::numbers::{append_decimal, append_grown, append_one, append_quotient, append_whole};
+use crate::parts::{
+    LABEL, append_cut, append_key, append_part, append_places, append_separated, append_text,
+    append_written_label,
+};
+use crate::written::{append_batch, append_lines, append_made};
+use fixed_num::{read_int, read_uint};
+use scenario_tables::Row;
+use std::alloc::Global;
+use std::str;
+use std::test::Fail;
+
+/// Appends what comes of a piece, each line with its newline. The key says which call it is put to.
+pub fn answer(
+    alloc: Global,
+    row: &Row,
+    key: &str,
+    piece: &[u8],
+    out: &mut Vec<u8>,
+) -> Result<(), Fail> {
+    match key {
+        "influx" => append_influx(alloc, piece, out),
+        "statsd" => append_statsd(alloc, piece, out),
+        "graphite" => append_graphite(alloc, row, piece, out),
+        "expositions" => append_exposition(alloc, row, piece, out),
+        "configurations" => append_configuration(alloc, piece, out),
+        "flush_intervals" => append_interval(alloc, piece, out),
+        "labels" => append_part(alloc, &LABEL, piece, out),
+        "decimals" => append_decimal(alloc, piece, out),
+        "signed" => append_whole(read_int(piece), out),
+        "unsigned" => append_whole(read_uint(piece), out),
+        _ => answer_text(alloc, row, key, str::from_utf8(piece)?, out),
+    }
+}
+
+/// Appends what comes of a piece that is put to a call as a text.
+fn answer_text(
+    alloc: Global,
+    row: &Row,
+    key: &str,
+    piece: &str,
+    out: &mut Vec<u8>,
+) -> Result<(), Fail> {
+    match key {
+        "templates" => append_template(alloc, piece, out),
+        "written" => append_made(alloc, row, piece, out),
+        "graphite_written" => append_lines(alloc, piece, out),
+        "openmetrics_written" => append_batch(alloc, piece, out),
+        "metrics" => append_metric(alloc, row, piece, out),
+        "globs" => append_glob(alloc, piece, out),
+        "filtered" => append_filtered(alloc, row, piece, out),
+        "quotients" => append_quotient(alloc, piece, out),
+        "rooms" => append_grown(alloc, piece, out),
+        "alone" => append_one(alloc, piece, out),
+        "keys" => append_key(alloc, piece, out),
+        "separated" => append_separated(piece, out),
+        "cut" => append_cut(piece, out),
+        "words" => append_places(piece, out),
+        "grown" => append_text(alloc, piece, out),
+        "labels_written" => append_written_label(piece, out),
+        _ => Err(Fail::new(format_args!("no call for {key}"))),
+    }
+}

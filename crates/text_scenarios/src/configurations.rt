@@ -1,0 +1,114 @@
+//! What configurations say.
+use crate::pieces::{put, setting};
+use agent_config::{AgentConf, Config, ConfigFault, InputConf, OutputConf, read_config};
+use format_words::{InFormat, OutFormat};
+use scenario_tables::Row;
+use std::alloc::Global;
+use std::test::Fail;
+
+/// The configuration of a row.
+pub fn config_of(alloc: Global, row: &Row) -> Result<Config, Fail> {
+    let text = setting(alloc, row, "configuration")?;
+    match read_config(alloc, text.as_bytes()) {
+        Ok(config) => Ok(config),
+        Err(_) => Err(Fail::new("the configuration has a fault")),
+    }
+}
+
+/// Appends the first fault of a configuration.
+fn append_first(fault: &ConfigFault, out: &mut Vec<u8>) -> Result<(), Fail> {
+    let (kind, class, number) = (fault.kind, fault.class, fault.number);
+    put(out, format_args!("{kind:?} {class:?} {number}\n"))
+}
+
+/// Appends the values of a configuration, or its first fault.
+pub fn append_configuration(alloc: Global, text: &[u8], out: &mut Vec<u8>) -> Result<(), Fail> {
+    match read_config(alloc, text) {
+        Ok(config) => append_values(&config, out),
+        Err(fault) => append_first(&fault, out),
+    }
+}
+
+/// Appends the nanoseconds between two flushes, or the first fault.
+pub fn append_interval(alloc: Global, text: &[u8], out: &mut Vec<u8>) -> Result<(), Fail> {
+    match read_config(alloc, text) {
+        Ok(config) => put(out, format_args!("{}\n", config.agent.flush_interval)),
+        Err(fault) => append_first(&fault, out),
+    }
+}
+
+/// Appends the values of a configuration, with a line for the agent, each global tag, each input and each output.
+fn append_values(config: &Config, out: &mut Vec<u8>) -> Result<(), Fail> {
+    append_agent(&config.agent, out)?;
+    for (key, value) in config.globals.as_slice() {
+        put(
+            out,
+            format_args!("global tag {}={}\n", key.as_str(), value.as_str()),
+        )?;
+    }
+    for input in config.inputs.as_slice() {
+        append_input(input, out)?;
+    }
+    for output in config.outputs.as_slice() {
+        append_output(output, out)?;
+    }
+    Ok(())
+}
+
+/// Appends what holds for the whole run.
+fn append_agent(agent: &AgentConf, out: &mut Vec<u8>) -> Result<(), Fail> {
+    put(
+        out,
+        format_args!("agent: gather_pieces {}, ", agent.gather_pieces),
+    )?;
+    put(out, format_args!("final_tries {}, ", agent.final_tries))?;
+    put(
+        out,
+        format_args!("flush_interval {}, ", agent.flush_interval),
+    )?;
+    put(out, format_args!("workers {}, ", agent.workers))?;
+    put(out, format_args!("journal {}\n", agent.journal.as_str()))
+}
+
+/// Appends what an input is, with its format.
+fn append_input(input: &InputConf, out: &mut Vec<u8>) -> Result<(), Fail> {
+    let (place, groups) = (input.place.as_str(), input.max_undelivered);
+    put(
+        out,
+        format_args!("input {place}: max_undelivered {groups}, "),
+    )?;
+    match &input.format {
+        InFormat::Influx => put(out, "influx\n"),
+        InFormat::Statsd => put(out, "statsd\n"),
+        InFormat::Graphite {
+            templates,
+            separator,
+        } => {
+            let (count, separator) = (templates.as_slice().len(), separator.as_str());
+            put(
+                out,
+                format_args!("graphite, templates {count}, separator '{separator}'\n"),
+            )
+        }
+        InFormat::Openmetrics { type_tag } => {
+            put(out, format_args!("openmetrics, type_tag {type_tag}\n"))
+        }
+    }
+}
+
+/// Appends what an output is, with its format.
+fn append_output(output: &OutputConf, out: &mut Vec<u8>) -> Result<(), Fail> {
+    let (place, batch, limit) = (output.place.as_str(), output.batch, output.limit);
+    put(
+        out,
+        format_args!("output {place}: batch {batch}, limit {limit}, "),
+    )?;
+    put(
+        out,
+        match output.format {
+            OutFormat::Influx => "influx\n",
+            OutFormat::Graphite => "graphite\n",
+            OutFormat::Openmetrics => "openmetrics\n",
+        },
+    )
+}

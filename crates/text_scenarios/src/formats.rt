@@ -1,0 +1,163 @@
+//! What pieces of each format are read as.
+use crate::configurations::config_of;
+use crate::pieces::{put, setting};
+use format_words::{InFormat, Template};
+use line_proto::write_line;
+use metric::Metric;
+use openmetrics_text::read_exposition;
+use scenario_tables::Row;
+use statsd_text::{read_packet, read_packet_line};
+use std::alloc::Global;
+use std::fmt::Debug;
+use std::test::Fail;
+
+/// Appends the lines of metrics in line protocol.
+fn append_metrics(alloc: Global, metrics: &[Metric], out: &mut Vec<u8>) -> Result<(), Fail> {
+    for metric in metrics {
+        write_line(alloc, metric, out)?;
+    }
+    Ok(())
+}
+
+/// Appends the kind of a fault, and its place.
+fn append_fault<K: Debug + Drop>(kind: K, place: usize, out: &mut Vec<u8>) -> Result<(), Fail> {
+    put(out, format_args!("{kind:?} {place}\n"))
+}
+
+/// Appends what a piece of line protocol is read as, at the moment 7.
+pub fn append_influx(alloc: Global, piece: &[u8], out: &mut Vec<u8>) -> Result<(), Fail> {
+    match line_proto::read_line(alloc, piece, 7) {
+        Ok(Some(metric)) => write_line(alloc, &metric, out)?,
+        Ok(None) => put(out, "none\n")?,
+        Err(fault) => append_fault(fault.kind, fault.place, out)?,
+    }
+    Ok(())
+}
+
+/// Appends what a line of StatsD is read as, at the moment 50, by both calls; what the second gives is left out where
+/// it is the same.
+pub fn append_statsd(alloc: Global, piece: &[u8], out: &mut Vec<u8>) -> Result<(), Fail> {
+    match read_packet_line(alloc, piece, 50) {
+        Ok(metrics) => append_metrics(alloc, metrics.as_slice(), out)?,
+        Err(fault) => append_fault(fault.kind, fault.place, out)?,
+    }
+    let mut other = Vec::new(alloc);
+    match read_packet(alloc, piece, 50) {
+        Ok(metrics) => append_metrics(alloc, metrics.as_slice(), &mut other)?,
+        Err(fault) => append_fault(fault.kind, fault.place, &mut other)?,
+    }
+    if other.as_slice() != out.as_slice() {
+        put(out, "in place:\n")?;
+        out.extend_from_slice(other.as_slice())?;
+    }
+    Ok(())
+}
+
+/// Appends what an exposition of OpenMetrics is read as, at the moment 50, and how many samples are passed over.
+pub fn append_exposition(
+    alloc: Global,
+    row: &Row,
+    piece: &[u8],
+    out: &mut Vec<u8>,
+) -> Result<(), Fail> {
+    match read_exposition(alloc, piece, 50, row.part("type_tag").is_some()) {
+        Ok(exposition) => {
+            append_metrics(alloc, exposition.metrics.as_slice(), out)?;
+            put(out, format_args!("passed {}\n", exposition.passed))?;
+        }
+        Err(fault) => append_fault(fault.kind, fault.place, out)?,
+    }
+    Ok(())
+}
+
+/// Appends whether a text is a template of Graphite.
+pub fn append_template(alloc: Global, text: &str, out: &mut Vec<u8>) -> Result<(), Fail> {
+    match Template::read(alloc, text) {
+        Ok(_) => put(out, "template\n"),
+        Err(fault) => put(out, format_args!("{fault:?}\n")),
+    }
+}
+
+/// The templates of lines.
+fn templates_of(alloc: Global, lines: &str) -> Result<Vec<Template>, Fail> {
+    let mut templates = Vec::new(alloc);
+    for line in lines.lines() {
+        templates.push(Template::read(alloc, line)?)?;
+    }
+    Ok(templates)
+}
+
+/// Appends what a line of Graphite is read as, at the moment 50, by the templates and the separator that the row says,
+/// or by those of the inputs of its configuration.
+pub fn append_graphite(
+    alloc: Global,
+    row: &Row,
+    piece: &[u8],
+    out: &mut Vec<u8>,
+) -> Result<(), Fail> {
+    let is_counted = row.part("counted").is_some();
+    let Some(part) = row.part("separator") else {
+        return append_configured(alloc, row, piece, out);
+    };
+    let templates = templates_of(alloc, setting(alloc, row, "templates")?.as_str())?;
+    append_graphite_line(
+        alloc,
+        templates.as_slice(),
+        part.value,
+        piece,
+        is_counted,
+        out,
+    )
+}
+
+/// Appends what a line of Graphite is read as by the inputs of the row's configuration.
+fn append_configured(
+    alloc: Global,
+    row: &Row,
+    piece: &[u8],
+    out: &mut Vec<u8>,
+) -> Result<(), Fail> {
+    let config = config_of(alloc, row)?;
+    for input in config.inputs.as_slice() {
+        if let InFormat::Graphite {
+            templates,
+            separator,
+        } = &input.format
+        {
+            let templates = templates.as_slice();
+            append_graphite_line(alloc, templates, separator.as_str(), piece, false, out)?;
+        }
+    }
+    Ok(())
+}
+
+/// Appends how many tags a metric has, where they are counted, or its line in line protocol.
+fn append_counted(
+    alloc: Global,
+    metric: &Metric,
+    is_counted: bool,
+    out: &mut Vec<u8>,
+) -> Result<(), Fail> {
+    if is_counted {
+        return put(out, format_args!("tags {}\n", metric.tags().len()));
+    }
+    write_line(alloc, metric, out)?;
+    Ok(())
+}
+
+/// Appends what a line of Graphite is read as by templates and a separator; how many tags it has where they are
+/// counted.
+fn append_graphite_line(
+    alloc: Global,
+    templates: &[Template],
+    separator: &str,
+    piece: &[u8],
+    is_counted: bool,
+    out: &mut Vec<u8>,
+) -> Result<(), Fail> {
+    match graphite_text::read_line(alloc, templates, separator, piece, 50) {
+        Ok(Some(metric)) => append_counted(alloc, &metric, is_counted, out),
+        Ok(None) => Ok(()),
+        Err(fault) => append_fault(fault.kind, fault.place, out),
+    }
+}

@@ -1,0 +1,88 @@
+//! Numbers in texts, and lists of numbers.
+use crate::pieces::{cut, put};
+use fixed_num::{Fixed, NumFault, OutOfMemory, Seq};
+use std::alloc::Global;
+use std::fmt::Display;
+use std::test::Fail;
+
+/// Appends the canonical text of a number, and a newline.
+fn append_number(alloc: Global, number: Fixed, out: &mut Vec<u8>) -> Result<(), Fail> {
+    number.append(alloc, out)?;
+    out.push(b'\n')?;
+    Ok(())
+}
+
+/// Appends the decimal that a text spells, or its fault.
+pub fn append_decimal(alloc: Global, text: &[u8], out: &mut Vec<u8>) -> Result<(), Fail> {
+    match Fixed::read(text) {
+        Ok(number) => append_number(alloc, number, out),
+        Err(fault) => put(out, format_args!("{fault:?}\n")),
+    }
+}
+
+/// Appends the quotient of two decimals with ` / ` between them; `none` where there is none.
+pub fn append_quotient(alloc: Global, text: &str, out: &mut Vec<u8>) -> Result<(), Fail> {
+    let (number, by) = cut(text, " / ")?;
+    let number = Fixed::read(number.as_bytes());
+    let by = Fixed::read(by.as_bytes());
+    let (Ok(number), Ok(by)) = (number, by) else {
+        return Err(Fail::new("no numbers"));
+    };
+    match number.divide(by) {
+        Some(quotient) => append_number(alloc, quotient, out),
+        None => put(out, "none\n"),
+    }
+}
+
+/// Appends the whole number that was read, or its fault.
+pub fn append_whole<N: Display + Drop>(
+    read: Result<N, NumFault>,
+    out: &mut Vec<u8>,
+) -> Result<(), Fail> {
+    match read {
+        Ok(number) => put(out, format_args!("{number}\n")),
+        Err(fault) => put(out, format_args!("{fault:?}\n")),
+    }
+}
+
+/// A list with room for so many, to which elements are added at the front.
+fn begun(alloc: Global, room: usize) -> Result<Seq<u32>, OutOfMemory> {
+    let mut list = Seq::with_room(alloc, room)?;
+    list.push(alloc, 7)?;
+    list.set(0, 5);
+    list.insert(alloc, 0, 3)?;
+    Ok(list)
+}
+
+/// The same list with two more, at its end and behind its first.
+fn grown(alloc: Global, room: usize) -> Result<Seq<u32>, OutOfMemory> {
+    let mut list = begun(alloc, room)?;
+    list.push(alloc, 9)?;
+    list.insert(alloc, 1, 4)?;
+    Ok(list)
+}
+
+/// Appends the only element of a list, where it stands in place, or the list as it was.
+fn append_only(list: Seq<u32>, out: &mut Vec<u8>) -> Result<(), Fail> {
+    match list.into_one() {
+        Ok(element) => put(out, format_args!("one {element}\n")),
+        Err(list) => put(out, format_args!("several {:?}\n", list.as_slice())),
+    }
+}
+
+/// Appends what a list with room for so many is: as a slice, as a vector, and its only element.
+pub fn append_grown(alloc: Global, room: &str, out: &mut Vec<u8>) -> Result<(), Fail> {
+    let room = room.parse()?;
+    let list = grown(alloc, room)?;
+    put(out, format_args!("slice {:?}\n", list.as_slice()))?;
+    put(out, format_args!("vector {:?}\n", list.into_vec(alloc)?))?;
+    append_only(grown(alloc, room)?, out)
+}
+
+/// Appends what a list of one element is: as a vector, and its only element.
+pub fn append_one(alloc: Global, element: &str, out: &mut Vec<u8>) -> Result<(), Fail> {
+    let element = element.parse()?;
+    let list = Seq::of_one(element).into_vec(alloc)?;
+    put(out, format_args!("vector {list:?}\n"))?;
+    append_only(Seq::of_one(element), out)
+}

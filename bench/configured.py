@@ -8,17 +8,17 @@ where one isn't met.
 import os
 import sys
 
-import measure
-from measure import Peer, input_of, megabytes, run_once, whole
+import kit
+from kit import Peer, input_of, run_once, whole
 
 KINDS = ["telegraf", "small"]
 LINES = 1_000_000
-RUNS = int(os.environ.get("HOGZENT_BENCH_RUNS", "7"))
+RUNS = kit.runs_or(7)
 # Of each of two inputs.
 MEMORY_LINES = 5_000_000
 RUN_RATIO, FILTER_COST, MEGABYTES = 0.97, 1.1, 24.0
 
-PIPE = "pipe"
+PIPE = kit.OURS
 ONE = "run, one input and one output"
 FILTERED = "run, the output with namepass = [\"*\"]"
 TAGGED = "run, two global tags"
@@ -27,18 +27,11 @@ THREE_OUT = "run, three outputs"
 ALL = "run, two global tags, two inputs, three outputs"
 
 
-def plugins(word, places, more=""):
-    """The plugins of these places, each with these lines."""
-    return "".join(f'[[{word}.file]]\nfiles = ["{place}"]\n{more}' for place in places)
-
-
 def configuration(folder, name, inputs, outputs, tags=(), of_output=""):
     """Writes a configuration, and gives its place."""
-    path = os.path.join(folder, name + ".toml")
-    text = "[global_tags]\n" + "".join(f'{tag} = "berlin-{tag}"\n' for tag in tags)
-    with open(path, "w", encoding="utf-8") as file:
-        file.write(text + plugins("inputs", inputs) + plugins("outputs", outputs, of_output))
-    return path
+    global_tags = "[global_tags]\n" + "".join(f'{tag} = "berlin-{tag}"\n' for tag in tags)
+    return kit.write_configuration(
+        folder, name, global_tags, kit.plugins("inputs", inputs), kit.plugins("outputs", outputs, of_output))
 
 
 def second_name(work, source):
@@ -61,7 +54,7 @@ def peers_of(work, program, kind, lines, folder):
         words = [program, "run", configuration(folder, f"{kind}-{len(made)}", *given, **others)]
         made.append((Peer(name, words, {}), len(given[1])))
 
-    made = [(Peer(PIPE, [program, "pipe", source, outputs[0], "1000", "10000"], {}), 1)]
+    made = [(kit.pipe_of(program, source, outputs[0]), 1)]
     peer(ONE, [source], outputs[:1])
     peer(FILTERED, [source], outputs[:1], of_output='namepass = ["*"]\n')
     peer(TAGGED, [source], outputs[:1], tags=tags)
@@ -71,28 +64,17 @@ def peers_of(work, program, kind, lines, folder):
     return made
 
 
-def measured(made, folder):
-    """The least processor seconds of each, of several runs in turn."""
-    used = {}
-    for _ in range(RUNS):
-        for peer, _outputs in made:
-            one = run_once(peer, "", folder)
-            if one is None:
-                sys.exit(f"bench: {peer.name} failed")
-            used[peer.name] = min(used.get(peer.name, one.processor), one.processor)
-    return used
-
-
 def check_kind(bounds, work, program, kind, folder):
     """Measures one kind of input."""
     made = peers_of(work, program, kind, LINES, folder)
-    measure.say(f"measuring {kind}, {whole(LINES)} lines, {RUNS} runs each")
-    used = measured(made, folder)
+    kit.say(f"measuring {kind}, {whole(LINES)} lines, {RUNS} runs each")
+    best = kit.in_turn([peer for peer, _ in made], "", folder, RUNS)
+    used = {name: one.processor for name, one in best.items()}
     rows = [
         [name, kind, whole(LINES), f"{used[name]:.4f}", whole(LINES / used[name]), whole(LINES * outputs / used[name])]
         for name, outputs in [(peer.name, outputs) for peer, outputs in made]
     ]
-    measure.print_table(
+    kit.print_table(
         ["program", "input", "lines", "processor s", "lines/processor s", "lines/processor s, over outputs"], rows)
     bounds.say(
         f"{kind}: lines a processor second of run by those of pipe, at least {RUN_RATIO}",
@@ -107,20 +89,15 @@ def check_memory(bounds, work, program, folder):
     half = input_of(work, "small", MEMORY_LINES)
     outputs = [os.path.join(folder, name) for name in ("output", "output2")]
     config = configuration(folder, "memory", [half, second_name(work, half)], outputs)
-    measure.say(f"memory of {whole(2 * MEMORY_LINES)} small lines")
+    kit.say(f"memory of {whole(2 * MEMORY_LINES)} small lines")
     used = run_once(Peer("memory", [program, "run", config], {}), "", folder)
-    text = f"peak MB of run over {whole(2 * MEMORY_LINES)} small lines in two inputs to two outputs, at most {MEGABYTES}"
-    if used is None:
-        bounds.say(text, "it failed", False)
-        return
-    bounds.say(text, megabytes(used.kilobytes), used.kilobytes * 1024 / 1e6 <= MEGABYTES)
+    bounds.peak(f"run over {whole(2 * MEMORY_LINES)} small lines in two inputs to two outputs", MEGABYTES, used)
 
 
 def main(work, program):
-    folder = os.path.join(work, "runs")
-    os.makedirs(folder, exist_ok=True)
-    print(measure.machine(), flush=True)
-    bounds = measure.Bounds()
+    folder = kit.runs_folder(work)
+    print(kit.machine(), flush=True)
+    bounds = kit.Bounds()
     for kind in KINDS:
         check_kind(bounds, work, program, kind, folder)
     check_memory(bounds, work, program, folder)

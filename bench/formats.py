@@ -13,16 +13,16 @@ import sys
 from collections import namedtuple
 from itertools import zip_longest
 
-import measure
-from graphite import TEMPLATES
-from measure import Peer, Used, input_of, megabytes, run_once, whole
+import kit
+from kit import TEMPLATES, Peer, input_of, megabytes, run_once, whole
+from measure import RUST, SIZES
 
-LINES = max(measure.SIZES)
-RUNS = int(os.environ.get("HOGZENT_BENCH_RUNS", "5"))
+LINES = max(SIZES)
+RUNS = kit.runs_or(5)
 # Samples that are 200 MB of expositions.
 MEMORY_LINES, MEMORY_BYTES = 2_000_000, 200_000_000
 RATIO, MEGABYTES = 1.5, 40.0
-OURS, RUST = "hogzent run", "rust, with journal"
+OURS = "hogzent run"
 
 # A kind of input, how it is read and written, further lines of `agent` and of the input, and whether the times that are
 # written are those of the run.
@@ -38,20 +38,12 @@ WAYS = [
 ]
 
 
-def configuration(folder, way, source, out):
-    """Writes a configuration, and gives its place."""
-    path = os.path.join(folder, way.kind + ".toml")
-    with open(path, "w", encoding="utf-8") as file:
-        file.write(
-            f'[agent]\n{way.agent}\n'
-            f'[[inputs.file]]\nfiles = ["{source}"]\ndata_format = "{way.read}"\n{way.input}\n'
-            f'[[outputs.file]]\nfiles = ["{out}"]\ndata_format = "{way.write}"\n')
-    return path
-
-
 def peers_of(program, peer, way, source, folder):
     """Our program and the plain one, over one input."""
-    config = configuration(folder, way, source, os.path.join(folder, "output"))
+    config = kit.write_configuration(
+        folder, way.kind, f"[agent]\n{way.agent}",
+        kit.plugins("inputs", [source], f'data_format = "{way.read}"\n{way.input}'),
+        kit.plugins("outputs", [os.path.join(folder, "output")], f'data_format = "{way.write}"\n'))
     templates = TEMPLATES if way.read == "graphite" else []
     return [
         Peer(OURS, [program, "run", config], {}),
@@ -87,31 +79,16 @@ def compare(way, peers, source, folder):
     return counts, differing
 
 
-def measured(peers, source, folder):
-    """The least processor seconds and the greatest peak of each, of several runs in turn."""
-    used = {peer.name: [] for peer in peers}
-    for _ in range(RUNS):
-        for peer in peers:
-            one = run_once(peer, source, folder)
-            if one is None:
-                sys.exit(f"bench: {peer.name} failed")
-            used[peer.name].append(one)
-    return {
-        name: Used(*(min(it[at] for it in all) for at in range(2)), max(it.kilobytes for it in all))
-        for name, all in used.items()
-    }
-
-
 def check_way(bounds, work, program, peer, way, folder):
     """Measures one kind of input; the rows of its table."""
     source = input_of(work, way.kind, LINES)
     peers = peers_of(program, peer, way, source, folder)
-    measure.say(f"measuring {way.kind}, {whole(LINES)} lines, {RUNS} runs each")
+    kit.say(f"measuring {way.kind}, {whole(LINES)} lines, {RUNS} runs each")
     counts, differing = compare(way, peers, source, folder)
     bounds.say(
         f"{way.kind}: metrics written by ours and by rust, {whole(LINES)} each",
         f"{whole(counts[0])} and {whole(counts[1])}, {whole(differing)} lines differ", counts == [LINES, LINES])
-    used = measured(peers, source, folder)
+    used = kit.in_turn(peers, source, folder, RUNS)
     ratio = used[RUST].processor / used[OURS].processor
     bounds.at_least(f"{way.kind}: our lines a processor second by those of {RUST}", RATIO, ratio)
     return [
@@ -126,25 +103,22 @@ def check_memory(bounds, work, program, peer, folder):
     way = WAYS[-1]
     source = input_of(work, way.kind, MEMORY_LINES)
     size = os.path.getsize(source)
-    measure.say(f"memory of {whole(size)} bytes of expositions")
+    kit.say(f"memory of {whole(size)} bytes of expositions")
+    if size < MEMORY_BYTES:
+        sys.exit(f"bench: there are only {whole(size)} bytes of expositions")
     used = run_once(peers_of(program, peer, way, source, folder)[0], source, folder)
-    text = f"peak MB of run over {whole(size)} bytes of expositions, at most {MEGABYTES}"
-    if used is None or size < MEMORY_BYTES:
-        bounds.say(text, "it failed", False)
-        return
-    bounds.say(text, megabytes(used.kilobytes), used.kilobytes * 1024 / 1e6 <= MEGABYTES)
+    bounds.peak(f"run over {whole(size)} bytes of expositions", MEGABYTES, used)
 
 
 def main(work, program, peer, *kinds):
-    folder = os.path.join(work, "runs")
-    os.makedirs(folder, exist_ok=True)
-    print(measure.machine(), flush=True)
-    bounds, rows = measure.Bounds(), []
+    folder = kit.runs_folder(work)
+    print(kit.machine(), flush=True)
+    bounds, rows = kit.Bounds(), []
     for way in WAYS:
         if not kinds or way.kind in kinds:
             rows += check_way(bounds, work, program, peer, way, folder)
     print()
-    measure.print_table(
+    kit.print_table(
         ["program", "input", "seconds", "processor s", "lines/processor s", "peak MB", "ratio to ours"], rows)
     if not kinds or "openmetrics" in kinds:
         check_memory(bounds, work, program, peer, folder)

@@ -1,21 +1,32 @@
 """Runs the programs side by side and prints the tables, and each bound with what was measured:
 measure.py WORK PROGRAM KIND.., with --quick before the kinds for the ratios alone."""
 
-import datetime
-import filecmp
 import os
-import re
 import subprocess
 import sys
-import zlib
-from collections import namedtuple
 
 import callgrind
+from kit import (
+    HERE,
+    OURS,
+    Bounds,
+    Peer,
+    best,
+    in_turn,
+    input_of,
+    machine,
+    megabytes,
+    pipe_of,
+    print_table,
+    run_back,
+    runs_folder,
+    runs_or,
+    say,
+    whole,
+)
 
-HERE = os.path.dirname(os.path.realpath(__file__))
 SIZES = sorted(int(word) for word in os.environ.get("HOGZENT_BENCH_LINES", "10000 100000 1000000").split())
 QUICK_SIZE, QUICK_RUNS = 100_000, 3
-OURS = "hogzent pipe"
 GO = "go"
 RUST = "rust, with journal"
 
@@ -26,22 +37,16 @@ ALLOCATIONS_BOUNDS = {"telegraf": 6, "small": 5}
 # Processor time a line at the most lines by that at the fewest.
 GROWTH_BOUNDS = {"telegraf": 1.05, "small": 1.05, "escaped": 1.1}
 
-Used = namedtuple("Used", "seconds processor kilobytes")
-Peer = namedtuple("Peer", "name words env")
-
 
 def runs_of(lines):
     """How often each program is run at a size."""
-    given = os.environ.get("HOGZENT_BENCH_RUNS")
-    if given:
-        return int(given)
-    return 15 if lines <= 10_000 else 7 if lines <= 100_000 else 5
+    return runs_or(15 if lines <= 10_000 else 7 if lines <= 100_000 else 5)
 
 
 def peers_of(work, program):
     """The programs that there are; IN and OUT stand for the places."""
-    peers = [Peer(OURS, [program, "pipe", "IN", "OUT", "1000", "10000"], {})]
-    go, rust = os.path.join(work, "peer-go"), os.path.join(work, "peer-rust")
+    peers = [pipe_of(program)]
+    go, rust = os.path.join(work, "peer-go-main"), os.path.join(work, "peer-rust-main")
     if os.path.exists(go):
         peers.append(Peer(GO, [go, "IN", "OUT"], {}))
         peers.append(Peer("go, one thread", [go, "IN", "OUT"], {"GOMAXPROCS": "1"}))
@@ -51,108 +56,23 @@ def peers_of(work, program):
     return peers
 
 
-def input_of(work, kind, lines):
-    """The file of an input, made where there is none of this kind and size from this maker."""
-    maker = os.path.join(HERE, "inputs.py")
-    with open(maker, "rb") as source:
-        mark = zlib.crc32(source.read())
-    path = os.path.join(work, "%s-%d-%08x" % (kind, lines, mark))
-    if not os.path.exists(path):
-        say("making %s, %s lines" % (kind, format(lines, ",")))
-        subprocess.run([sys.executable, maker, kind, str(lines), path + ".new"], check=True)
-        os.rename(path + ".new", path)
-    return path
-
-
-def say(text):
-    print("bench: " + text, file=sys.stderr, flush=True)
-
-
-def run_once(peer, source, folder):
-    """Runs a program in the folder; None where it fails."""
-    target = os.path.join(folder, "output")
-    for name in ("output", "agent.journal", "peer.journal"):
-        path = os.path.join(folder, name)
-        if os.path.exists(path):
-            os.unlink(path)
-    places = {"IN": source, "OUT": target}
-    words = [places.get(word, word) for word in peer.words]
-    told = subprocess.run(
-        [os.path.join(HERE, "once"), sys.executable] + words,
-        cwd=folder, env=dict(os.environ, **peer.env), stdout=subprocess.PIPE, check=True,
-    ).stdout.split()
-    if told[0] != b"0":
-        return None
-    return Used(float(told[1]), float(told[2]), int(told[3]))
-
-
-def gives_back(peer, source, folder):
-    """Whether the program's output is its input."""
-    if run_once(peer, source, folder) is None:
-        return False
-    return filecmp.cmp(source, os.path.join(folder, "output"), shallow=False)
-
-
 def measure(peers, source, lines, folder):
     """The least that each program used, of several runs in turn; the peak memory is the greatest."""
     fit = []
     for peer in peers:
-        if gives_back(peer, source, folder):
+        if run_back(peer, source, folder) is not None:
             fit.append(peer)
         else:
             print("Left out: %s, which doesn't give back %s." % (peer.name, os.path.basename(source)))
-    used = {peer.name: [] for peer in fit}
-    for turn in range(runs_of(lines)):
-        for peer in fit:
-            one = run_once(peer, source, folder)
-            if one is not None:
-                used[peer.name].append(one)
-    return {
-        name: Used(min(u.seconds for u in all), min(u.processor for u in all), max(u.kilobytes for u in all))
-        for name, all in used.items() if all
-    }
+    return in_turn(fit, source, folder, runs_of(lines))
 
 
-def least(first, second):
+def together(first, second):
     """What is known of the programs of two measurements of the same size."""
     known = dict(first)
     for name, two in second.items():
-        one = known.get(name, two)
-        known[name] = Used(
-            min(one.seconds, two.seconds), min(one.processor, two.processor), max(one.kilobytes, two.kilobytes))
+        known[name] = best([known.get(name, two), two])
     return known
-
-
-def print_table(head, rows):
-    """A table in Markdown, its first two columns to the left."""
-    rows = [head] + rows
-    widths = [max(len(row[i]) for row in rows) for i in range(len(head))]
-
-    def line(row):
-        cells = [c.ljust(w) if i < 2 else c.rjust(w) for i, (c, w) in enumerate(zip(row, widths))]
-        return "| " + " | ".join(cells) + " |"
-
-    marks = ["-" * w if i < 2 else "-" * (w - 1) + ":" for i, w in enumerate(widths)]
-    for row in [rows[0], marks] + rows[1:]:
-        print(line(row))
-    print(flush=True)
-
-
-def machine():
-    """What the machine is, and how busy it is."""
-    with open("/proc/cpuinfo") as info:
-        model = re.search(r"model name\s*: (.*)", info.read())
-    memory = os.sysconf("SC_PAGE_SIZE") * os.sysconf("SC_PHYS_PAGES") / 1e9
-    return "%s. %d cores, %s, %.0f GB; load %.1f, %.1f, %.1f." % (
-        (datetime.date.today(), os.cpu_count(), model.group(1) if model else "unknown", memory) + os.getloadavg())
-
-
-def whole(number):
-    return format(round(number), ",")
-
-
-def megabytes(kilobytes):
-    return "%.1f" % (kilobytes * 1024 / 1e6)
 
 
 HEAD = [
@@ -181,26 +101,6 @@ def growth_row(name, kind, few, many, results):
     return row, each[1] / each[0]
 
 
-class Bounds:
-    """The bounds, each printed with what was measured."""
-
-    def __init__(self):
-        self.all_met = True
-
-    def say(self, text, measured, met):
-        self.all_met = self.all_met and met
-        print("- %s: %s, %s" % (text, measured, "met" if met else "NOT MET"))
-
-    def at_least(self, text, bound, measured):
-        self.say("%s, at least %.1f" % (text, bound), "%.2f" % measured, measured >= bound)
-
-    def at_most(self, text, bound, measured, form):
-        self.say("%s, at most %s" % (text, form % bound), form % measured, measured <= bound)
-
-    def unknown(self, text):
-        print("- %s: not measured" % text)
-
-
 def profiled(work, program, kinds):
     """What a line of each kind costs by callgrind; none where the profile can't be made."""
     say("profiling")
@@ -220,7 +120,7 @@ def measured(peers, work, kinds, sizes, folder):
         for lines in sizes + sizes[:1] if len(sizes) > 1 else sizes:
             say("measuring %s, %s lines, %d runs" % (kind, whole(lines), runs_of(lines)))
             used = measure(peers, input_of(work, kind, lines), lines, folder)
-            results[kind, lines] = least(results.get((kind, lines), {}), used)
+            results[kind, lines] = together(results.get((kind, lines), {}), used)
     return results
 
 
@@ -284,10 +184,8 @@ def main(work, program, *words):
     peers = peers_of(work, program)
     if quick:
         peers = [peer for peer in peers if peer.name == OURS or peer.name in RATIO_BOUNDS]
-    folder = os.path.join(work, "runs")
-    os.makedirs(folder, exist_ok=True)
     print(machine(), flush=True)
-    results = measured(peers, work, kinds, sizes, folder)
+    results = measured(peers, work, kinds, sizes, runs_folder(work))
     print_tables(work, kinds, sizes, results)
     bounds = Bounds()
     check_times(bounds, kinds, sizes, results)

@@ -1,10 +1,11 @@
-"""Runs the program once at each size and says what its peak memory is: memory.py WORK PROGRAM KIND.."""
+"""Runs the program once at each size and says what its peak memory is: memory.py WORK PROGRAM KIND.. The kind `hostile`
+is the inputs of hostile.py; each other one goes through `pipe`, which has to give it back."""
 
-import filecmp
-import os
 import sys
 
-from measure import OURS, Peer, input_of, megabytes, print_table, run_once, say, whole
+import hostile
+import kit
+from kit import OURS, input_of, megabytes, say, whole
 
 FEW, MANY = 10_000, 1_000_000
 # Small lines are few bytes each, so that ten times as many are still a run of seconds.
@@ -14,50 +15,43 @@ GROWTH_BOUND = 1.2
 MEGABYTES_BOUND = 12.0
 
 
-def peak_of(work, ours, kind, lines, folder):
-    """The peak of one run in kilobytes of 1,024 bytes; None where it fails or gives back another text."""
-    source = input_of(work, kind, lines)
-    say("memory of %s, %s lines" % (kind, whole(lines)))
-    used = run_once(ours, source, folder)
-    if used is None or not filecmp.cmp(source, os.path.join(folder, "output"), shallow=False):
-        return None
-    return used.kilobytes
+def runs_of(work, ours, kind, folder):
+    """What one run at each size of a kind used; None where it fails or gives back another text."""
+    runs = {}
+    for lines in [FEW, MANY, *([MOST[kind]] if kind in MOST else [])]:
+        source = input_of(work, kind, lines)
+        say("memory of %s, %s lines" % (kind, whole(lines)))
+        runs[lines] = kit.run_back(ours, source, folder)
+    return runs
 
 
-def check(text, bound, measured, form):
-    """Prints a bound with what was measured; whether it is met."""
-    is_met = measured <= bound
-    print("- %s, at most %s: %s, %s" % (text, form % bound, form % measured, "met" if is_met else "NOT MET"))
-    return is_met
-
-
-def check_kind(kind, peaks):
-    """Checks the peaks of a kind, by the lines of their inputs; whether all bounds are met."""
-    if None in peaks.values():
-        print("- %s: gives back its input: it doesn't, NOT MET" % kind)
-        return False
-    held = []
-    for lines, peak in peaks.items():
-        text = "%s, %s lines: peak memory in MB" % (kind, whole(lines))
-        held.append(check(text, MEGABYTES_BOUND, peak * 1024 / 1e6, "%.1f"))
+def check_kind(bounds, kind, runs):
+    """Checks the peaks of a kind, by the lines of their inputs."""
+    if None in runs.values():
+        bounds.say("%s: gives back its input" % kind, "it doesn't", False)
+        return
+    for lines, used in runs.items():
+        bounds.peak("%s, %s lines" % (kind, whole(lines)), MEGABYTES_BOUND, used)
     text = "%s: peak memory at %s lines by that at %s" % (kind, whole(MANY), whole(FEW))
-    held.append(check(text, GROWTH_BOUND, peaks[MANY] / peaks[FEW], "%.2f"))
-    return all(held)
+    bounds.at_most(text, GROWTH_BOUND, runs[MANY].kilobytes / runs[FEW].kilobytes, "%.2f")
 
 
 def main(work, program, *kinds):
-    ours = Peer(OURS, [program, "pipe", "IN", "OUT", "1000", "10000"], {})
-    folder = os.path.join(work, "runs")
-    os.makedirs(folder, exist_ok=True)
-    peaks, rows = {}, []
-    for kind in kinds:
-        sizes = [FEW, MANY, *([MOST[kind]] if kind in MOST else [])]
-        peaks[kind] = {lines: peak_of(work, ours, kind, lines, folder) for lines in sizes}
-        rows += [[OURS, kind, whole(lines), megabytes(peak)] for lines, peak in peaks[kind].items() if peak]
-    print()
-    print_table(["program", "input", "lines", "peak MB"], rows)
-    held = [check_kind(kind, of_kind) for kind, of_kind in peaks.items()]
-    return 0 if all(held) else 1
+    folder, bounds = kit.runs_folder(work), kit.Bounds()
+    ours = kit.pipe_of(program)
+    runs = {kind: runs_of(work, ours, kind, folder) for kind in kinds if kind != "hostile"}
+    if runs:
+        rows = [
+            [OURS, kind, whole(lines), megabytes(used.kilobytes)]
+            for kind, of_kind in runs.items() for lines, used in of_kind.items() if used
+        ]
+        print()
+        kit.print_table(["program", "input", "lines", "peak MB"], rows)
+    for kind, of_kind in runs.items():
+        check_kind(bounds, kind, of_kind)
+    if "hostile" in kinds:
+        hostile.check_all(bounds, program, folder)
+    return 0 if bounds.all_met else 1
 
 
 if __name__ == "__main__":

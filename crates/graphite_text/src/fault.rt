@@ -34,6 +34,12 @@ pub struct GraphiteFault {
     pub place: usize,
 }
 
+/// What is answered where no memory was left.
+pub(crate) const NO_MEMORY: GraphiteFault = GraphiteFault {
+    kind: GraphiteKind::OutOfMemory,
+    place: 0,
+};
+
 /// A fault at a place.
 pub(crate) fn fault(kind: GraphiteKind, place: usize) -> ReadError<GraphiteFault>
     ensures { result ≡ ReadError.Fault (record { kind = kind; place = place }) }

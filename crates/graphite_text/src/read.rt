@@ -9,14 +9,14 @@ ghost use Rattle.format_words.specs.Views.{part_at};
 ghost use Rattle.graphite_text.specs.Views.{path_view, line_view, Answers};
 
 use crate::applied::templated;
-use crate::fault::{GraphiteFault, GraphiteKind, fault};
+use crate::fault::{GraphiteFault, GraphiteKind, NO_MEMORY, fault};
 use crate::line::{Line, line_of};
 use crate::path::{Path, path_of};
 use fixed_num::{Fixed, Moment, NumFault};
 use format_words::Template;
 use metric::Metric;
 use std::alloc::Global;
-use text_parts::{Placed, ReadError};
+use text_parts::{Placed, ReadError, answer, utf8_text};
 
 /// The path that a text is; one that is none is a fault of the line.
 fn read_path(alloc: Global, text: &str) -> Result<Path<'_>, ReadError<GraphiteFault>>
@@ -121,6 +121,22 @@ fn read_text(
     }
 }
 
+/// The metric that a piece is, or none where it has no word.
+fn read_piece(
+    alloc: Global,
+    templates: &[Template],
+    separator: &str,
+    piece: &[u8],
+    moment: Moment,
+) -> Result<Option<Metric>, ReadError<GraphiteFault>>
+    ensures { Gives (λ x. x) result (reading templates.now separator.now piece.now moment) }
+{
+    match utf8_text(piece) {
+        Ok(text) => read_text(alloc, templates, separator, text, moment),
+        Err(place) => Err(fault(GraphiteKind::NotUtf8, place)),
+    }
+}
+
 /// Reads a piece without its newline as a line of Graphite's plaintext protocol: a path, a value and perhaps
 /// a time in seconds since 1970, with spaces between them, the path perhaps with tags as carbon 1.1 has them.
 /// The first template that serves the path says what its segments are; where none does, all of them are the
@@ -138,21 +154,5 @@ pub fn read_line(
 ) -> Result<Option<Metric>, GraphiteFault>
     ensures { Answers result (reading templates.now separator.now piece.now moment) }
 {
-    let text = match str::from_utf8(piece) {
-        Ok(text) => text,
-        Err(e) => {
-            return Err(GraphiteFault {
-                kind: GraphiteKind::NotUtf8,
-                place: e.valid_up_to(),
-            });
-        }
-    };
-    match read_text(alloc, templates, separator, text, moment) {
-        Ok(metric) => Ok(metric),
-        Err(ReadError::OutOfMemory) => Err(GraphiteFault {
-            kind: GraphiteKind::OutOfMemory,
-            place: 0,
-        }),
-        Err(ReadError::Fault(fault)) => Err(fault),
-    }
+    answer(read_piece(alloc, templates, separator, piece, moment), NO_MEMORY)
 }

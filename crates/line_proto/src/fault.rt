@@ -31,3 +31,9 @@ pub struct LineFault {
     /// `NotUtf8`.
     pub place: usize,
 }
+
+/// What is answered where no memory was left.
+pub(crate) const NO_MEMORY: LineFault = LineFault {
+    kind: LineKind::OutOfMemory,
+    place: 0,
+};

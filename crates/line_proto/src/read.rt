@@ -7,14 +7,14 @@ ghost use Rattle.line_proto.specs.Draft.{HasFields, HasRest};
 ghost use Rattle.line_proto.specs.Reading.{spaced_fields_at, limited, metric_at, text_reading, reading};
 ghost use Rattle.line_proto.specs.Views.{Answers};
 
-use crate::fault::{LineFault, LineKind};
+use crate::fault::{LineFault, LineKind, NO_MEMORY};
 use crate::read_items::{name_text, read_fields, read_tags};
 use crate::read_parts::{behind_spaces, fault, name_at};
 use crate::read_value::time_at;
 use fixed_num::Moment;
 use metric::{Draft, DraftFault, Metric};
 use std::alloc::Global;
-use text_parts::ReadError;
+use text_parts::{ReadError, answer, utf8_text};
 
 /// Puts the fields behind the spaces at a place into a draft, and gives the place behind them.
 #[tactic(auto, unfolding(crate::specs::Reading::spaced_fields_at))]
@@ -103,6 +103,20 @@ fn read_text(
     metric_at(alloc, piece, start, moment)
 }
 
+/// The metric that a piece is, or none where it is blank or a comment.
+fn read_piece(
+    alloc: Global,
+    piece: &[u8],
+    moment: Moment,
+) -> Result<Option<Metric>, ReadError<LineFault>>
+    ensures { Gives (λ x. x) result (reading piece.now moment) }
+{
+    match utf8_text(piece) {
+        Ok(text) => read_text(alloc, text, moment),
+        Err(place) => Err(fault(LineKind::NotUtf8, place)),
+    }
+}
+
 /// Reads a piece without its newline as a line of line protocol. `NotUtf8` comes before all else, in comments
 /// too. `None` exactly where the piece is blank (nothing but spaces) or a comment (its first byte other than
 /// a space is `#`). Where the line has no time, the moment is its time. The first fault from left to right
@@ -111,21 +125,5 @@ fn read_text(
 pub fn read_line(alloc: Global, piece: &[u8], moment: Moment) -> Result<Option<Metric>, LineFault>
     ensures { Answers result (reading piece.now moment) }
 {
-    let text = match str::from_utf8(piece) {
-        Ok(text) => text,
-        Err(e) => {
-            return Err(LineFault {
-                kind: LineKind::NotUtf8,
-                place: e.valid_up_to(),
-            });
-        }
-    };
-    match read_text(alloc, text, moment) {
-        Ok(metric) => Ok(metric),
-        Err(ReadError::OutOfMemory) => Err(LineFault {
-            kind: LineKind::OutOfMemory,
-            place: 0,
-        }),
-        Err(ReadError::Fault(fault)) => Err(fault),
-    }
+    answer(read_piece(alloc, piece, moment), NO_MEMORY)
 }

@@ -37,6 +37,12 @@ pub struct ExpositionFault {
     pub place: usize,
 }
 
+/// What is answered where no memory was left.
+pub(crate) const NO_MEMORY: ExpositionFault = ExpositionFault {
+    kind: ExpositionKind::OutOfMemory,
+    place: 0,
+};
+
 /// A fault of a line.
 pub(crate) fn fault(kind: ExpositionKind) -> ReadError<ExpositionKind>
     ensures { result ≡ ReadError.Fault kind }

@@ -7,11 +7,11 @@ ghost use Rattle.openmetrics_text.specs.Views.{part_at, line_view, texts_view, s
 
 use crate::collected::Collected;
 use crate::exposition::Exposition;
-use crate::fault::{ExpositionFault, ExpositionKind};
+use crate::fault::{ExpositionFault, ExpositionKind, NO_MEMORY};
 use crate::line::{Line, line_of};
 use fixed_num::{Moment, Seq};
 use std::alloc::Global;
-use text_parts::{Placed, ReadError, Separated};
+use text_parts::{Placed, ReadError, Separated, answer, utf8_text};
 
 /// A text without a word at its end, which begins with an ASCII byte; None where it doesn't end with the word.
 fn without_end<'a>(word: &[u8], text: &'a str) -> Option<&'a str>
@@ -115,6 +115,24 @@ fn read_text(
     }
 }
 
+/// The exposition that a piece is.
+fn read_piece(
+    alloc: Global,
+    piece: &[u8],
+    moment: Moment,
+    typed: bool,
+) -> Result<Exposition, ReadError<ExpositionFault>>
+    ensures { Gives (λ x. x) result (reading piece.now moment typed) }
+{
+    match utf8_text(piece) {
+        Ok(text) => read_text(alloc, text, moment, typed),
+        Err(place) => Err(ReadError::Fault(ExpositionFault {
+            kind: ExpositionKind::NotUtf8,
+            place,
+        })),
+    }
+}
+
 /// Reads a piece as an exposition of OpenMetrics 1.0's text format: lines of metadata and of samples, and at its
 /// end `# EOF`, with or without a newline behind it. Each sample whose number is a decimal gives a metric with the
 /// sample's name, its labels as tags, those with an empty value left out, and the field `value`; a sample whose
@@ -134,21 +152,5 @@ pub fn read_exposition(
 ) -> Result<Exposition, ExpositionFault>
     ensures { Answers result (reading piece.now moment type_tag) }
 {
-    let text = match str::from_utf8(piece) {
-        Ok(text) => text,
-        Err(e) => {
-            return Err(ExpositionFault {
-                kind: ExpositionKind::NotUtf8,
-                place: e.valid_up_to(),
-            });
-        }
-    };
-    match read_text(alloc, text, moment, type_tag) {
-        Ok(exposition) => Ok(exposition),
-        Err(ReadError::OutOfMemory) => Err(ExpositionFault {
-            kind: ExpositionKind::OutOfMemory,
-            place: 0,
-        }),
-        Err(ReadError::Fault(fault)) => Err(fault),
-    }
+    answer(read_piece(alloc, piece, moment, type_tag), NO_MEMORY)
 }

@@ -1,4 +1,5 @@
 pub mod Chain
+pub mod Answers
 pub mod Part
 pub mod Kinds
 pub mod Many

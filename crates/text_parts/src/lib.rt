@@ -1,5 +1,5 @@
 //! What readers and writers of text formats share: parts that end before given bytes, with escapes, parts
-//! between separators, words between spaces, the chain of first faults, and writing by appending.
+//! between separators, words between spaces, the chain of first faults and its answer, and writing by appending.
 #![tactic(auto)]
 
 mod append;
@@ -7,6 +7,7 @@ mod error;
 mod escapes;
 mod laws;
 mod part;
+mod reading;
 mod span;
 mod split;
 mod stops;
@@ -22,6 +23,7 @@ pub use laws::{
     escaped_is_part, part_is_read, parts_are_split, read_is_part, text_is_cut, words_are_spaced,
 };
 pub use part::{Part, part_len, part_text, plain_bytes};
+pub use reading::{answer, utf8_text};
 pub use span::{Span, span_at, span_text};
 pub use split::{Placed, Separated, first_part};
 pub use stops::first_of;

@@ -1,28 +1,8 @@
-use Rattle.std.proofs.Common.{◌∙◌, ℕ, ℤ, List, Result, sym, inr}
-use Rattle.text_parts.proofs.Founds.{fault_given}
-use Rattle.text_parts.proofs.Utf8Readings.{not_utf8, utf8_read}
-use Rattle.openmetrics_text.specs.declared.exposition.Exposition.{Exposition}
-use Rattle.openmetrics_text.specs.declared.fault.ExpositionFault.{ExpositionFault}
-use Rattle.openmetrics_text.specs.declared.fault.ExpositionKind.TheVariants.{NotUtf8}
-use Rattle.openmetrics_text.specs.Reading.{text_reading, reading}
+use Rattle.std.proofs.lemmas.Int.{to_z-of_z}
+use mir.Syntax.{w64}
+use Rattle.text_parts.proofs.Utf8Readings.{answers}
+use Rattle.openmetrics_text.specs.Reading.{reading}
 use Rattle.openmetrics_text.proofs.read.read_exposition.Goals as goal
 
-pub returns-in-Err : goal.returns-in-Err
-unfolding reading
-returns-in-Err c =
-    let fault : ℕ → ExpositionFault = λ n. record { kind = NotUtf8; place = n } in
-    inr (not_utf8 c.args.piece.now c.valid_up_to.result fault _ c.in-Err.ensures.cases.0 (sym c.in-Err.ensures.valid_len ∙ sym c.valid_up_to.ensures))
-
-pub returns-in-Ok-read_text : goal.returns-in-Ok-read_text
-unfolding reading
-returns-in-Ok-read_text c =
-    let read : List ℕ → ℤ → Result Exposition ExpositionFault = λ text moment. text_reading text moment c.args.type_tag in
-    utf8_read read _ c.args.piece.now c.in-Ok.text.now c.args.moment c.in-Ok.ensures.cases.1 c.in-Ok.ensures.cases.0 c.ranges.moment
-    ∙ c.in-Ok-read_text.ensures
-
-pub returns-in-Err-Fault : goal.returns-in-Err-Fault
-unfolding reading
-returns-in-Err-Fault c =
-    let read : List ℕ → ℤ → Result Exposition ExpositionFault = λ text moment. text_reading text moment c.args.type_tag in
-    inr (utf8_read read _ c.args.piece.now c.in-Ok.text.now c.args.moment c.in-Ok.ensures.cases.1 c.in-Ok.ensures.cases.0 c.ranges.moment
-    ∙ fault_given c.in-Err-Fault.field-0 c.in-Err-Fault.fault _ c.in-Err-Fault.field-0-is c.in-Err-Fault.ensures)
+pub returns : goal.returns
+returns c = rw c.answer.ensures (answers _ (λ x. x) c.read_piece.result (reading c.args.piece.now c.args.moment c.args.type_tag) (rw (to_z-of_z w64 c.args.moment c.ranges.moment) at c.read_piece.ensures))

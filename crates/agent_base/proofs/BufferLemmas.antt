@@ -169,12 +169,12 @@ read_hand xs ys old new start end most n le fits same h =
     between_join new start end (end + n) le (omega arith) ∙ ap (λ (l : List ℕ). l ++ between end (end + n) new) (between_front old new start end end (omega arith) same) in
     ap (λ (l : List ℕ). between start end old ++ l) (h ∙ ap (λ (l : List ℕ). l ++ ys) front) ∙ sym (append_assoc (between start end old) (between end (end + n) new) ys) ∙ ap (λ (l : List ℕ). l ++ ys) (sym whole)
 
-pub read_steps : (before after : Option (List ℕ)) (old new : List ℕ) (start end most n taken : ℕ) (kind : CutKind) (p : Bool) → start ≤ end → n ≤ most → end + most ≤ length new → take end new ≡ take end old
+pub read_steps : (before after : Option (List ℕ)) (old new : List ℕ) (start end most n taken counted : ℕ) (kind : CutKind) (p : Bool) → start ≤ end → n ≤ most → end + most ≤ length new → take end new ≡ take end old → counted ≡ taken + n
     → Consumes before after (take n (between end (end + most) new))
-    → Steps before after (record { kind = kind; bytes = between start end old; is_passing = p; taken = taken }) (record { kind = kind; bytes = between start (end + n) new; is_passing = p; taken = taken + n })
-read_steps None after old new start end most n taken kind p le fits within same h = tt
-read_steps (Some xs) None old new start end most n taken kind p le fits within same h = absurd h
-read_steps (Some xs) (Some ys) old new start end most n taken kind p le fits within same h =
+    → Steps before after (record { kind = kind; bytes = between start end old; is_passing = p; taken = taken }) (record { kind = kind; bytes = between start (end + n) new; is_passing = p; taken = counted })
+read_steps None after old new start end most n taken counted kind p le fits within same rise h = tt
+read_steps (Some xs) None old new start end most n taken counted kind p le fits within same rise h = absurd h
+read_steps (Some xs) (Some ys) old new start end most n taken counted kind p le fits within same rise h =
     let front : List ℕ = take n (between end (end + most) new) in
     let len : length front ≡ n = omega (arith, length-take n (between end (end + most) new), length-take (end + most - end) (drop end new), length-drop end new) in
     let all : length xs ≡ length front + length ys = ap length h ∙ length-append front ys in
@@ -190,5 +190,5 @@ keeps_steps (Some xs) None old new h same = absurd h
 keeps_steps (Some xs) (Some ys) old new h same = rw (same, h) (record { pieces = refl; counted = refl })
 
 -- the same bytes in hand, with the same kind, mark and count
-pub hand_is : (kind : CutKind) (bytes old : List ℕ) (p : Bool) (taken : ℕ) → bytes ≡ old → (let h : Hand = record { kind = kind; bytes = bytes; is_passing = p; taken = taken } in h) ≡ record { kind = kind; bytes = old; is_passing = p; taken = taken }
-hand_is kind bytes old p taken e = rw e refl
+pub hand_is : (kind : CutKind) (bytes old : List ℕ) (p : Bool) (counted taken : ℕ) → bytes ≡ old → counted ≡ taken → (let h : Hand = record { kind = kind; bytes = bytes; is_passing = p; taken = counted } in h) ≡ record { kind = kind; bytes = old; is_passing = p; taken = taken }
+hand_is kind bytes old p counted taken e f = rw (e, f) refl

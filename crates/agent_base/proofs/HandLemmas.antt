@@ -82,11 +82,11 @@ ends_last old new given k p q clean some short is none = rw (p, q, k, none, is, 
 
 -- ---- the end of a read that gave no bytes
 
-pub hand_zero : (kind : CutKind) (old new : List ℕ) (start end n taken : ℕ) (p : Bool) → n ≡ 0 → take end new ≡ take end old
-    → (let h : Hand = record { kind = kind; bytes = between start (end + n) new; is_passing = p; taken = taken + n } in h) ≡ record { kind = kind; bytes = between start end old; is_passing = p; taken = taken }
-hand_zero kind old new start end n taken p z same =
+pub hand_zero : (kind : CutKind) (old new : List ℕ) (start end n taken counted : ℕ) (p : Bool) → n ≡ 0 → take end new ≡ take end old → counted ≡ taken + n
+    → (let h : Hand = record { kind = kind; bytes = between start (end + n) new; is_passing = p; taken = counted } in h) ≡ record { kind = kind; bytes = between start end old; is_passing = p; taken = taken }
+hand_zero kind old new start end n taken counted p z same rise =
     let e : end + n ≡ end = omega arith in
-    let f : taken + n ≡ taken = omega arith in
+    let f : counted ≡ taken = omega arith in
     rw (e, f, between_front old new start end end (omega arith) same) refl
 
 pub empty_bytes : (xs : List ℕ) (start end : ℕ) → start ≡ end → between start end xs ≡ []

@@ -6,20 +6,16 @@ use Rattle.std.specs.Option.{option_or}
 use Rattle.std.specs.declared.option.Option.{Option}
 use Rattle.std.specs.Str.{bytes_eq}
 use Rattle.std.proofs.lemmas.Bool.{false_from_ne_true, eqb-true, eq-eqb}
-use Rattle.std.specs.Prelude.{ℤ, Vec}
-use Rattle.std.specs.declared.alloc.Global.{Global}
-use Rattle.agent_base.specs.Clocks.{is_of, told_by, moments_at}
-use Rattle.agent_base.specs.Memory.{moments_of}
+use Rattle.agent_base.specs.Clocks.{is_of, clock_of, clock_at}
+use Rattle.agent_base.specs.declared.fresh.FreshClock.{FreshClock}
 use Rattle.std.proofs.lemmas.Grind.{common_steps}
 use Rattle.std.proofs.lemmas.List.Folds.{find_at, find-set, find_past, find-append}
 use Rattle.std.proofs.lemmas.List.Quantifiers.{position-Some}
 use Rattle.std.proofs.lemmas.Slice.Eq.{bytes_eq-Decides}
 use Rattle.std.specs.List.{position, position_or_len, find}
 use Rattle.std.specs.String.{string_bytes}
-use Rattle.agent_base.specs.Slots.{slot_at, is_named, told_of, Leaves, Comes, IsMissed, Opened, Fills, AllHome, is_out_at, HasPart, HasNoPart}
-use Rattle.std.specs.Borrow.{Bor}
-use Rattle.std.specs.Option.{option_copied}
-use Rattle.std.specs.Prelude.{MatchOption}
+use Rattle.agent_base.specs.Slots.{slot_at, is_named, told_of, part_at, Leaves, Comes, IsMissed, Opened, Fills, AllHome, is_out_at}
+use Rattle.std.specs.Prelude.{is_some}
 use Rattle.agent_base.specs.Places.{SameBut, Opens, TakesIn, FailsToOpen, Refuses, IsTold}
 use Rattle.agent_base.specs.declared.world.OpenFault.{OpenFault}
 use Rattle.agent_base.specs.declared.world.OpenFault.TheVariants.{Failed, OutOfMemory}
@@ -36,27 +32,33 @@ not_named : {P : Type 0} (slot : Slot P) (place other : List ℕ) → is_named p
 not_named slot place other t ne =
     false_from_ne_true _ (λ e. ne (sym ((bytes_eq-Decides (string_bytes slot.place) other).0 e) ∙ (bytes_eq-Decides (string_bytes slot.place) place).0 t))
 
-pub at_position : {X : Type 0} (p : X → Bool) (xs : List X) (i : ℕ) (x : X) → position p xs ≡ Some i → x ≡ get_or xs i x → find p xs ≡ Some x
-at_position p xs i x e at =
-    let found = position-Some p xs i x e in
+pub at_index : {X : Type 0} (p : X → Bool) (xs : List X) (i : ℕ) (d : X) → position p xs ≡ Some i → find p xs ≡ Some (get_or xs i d)
+at_index p xs i d e =
+    let found = position-Some p xs i d e in
     let first : i ≡ position_or_len p xs = grind (arith, common_steps) in
-    find_at p xs ∙ ap (slice_get xs) (sym first) ∙ slice_get-get_or xs i x found.0 ∙ ap Some (sym at)
+    find_at p xs ∙ ap (slice_get xs) (sym first) ∙ slice_get-get_or xs i d found.0
+
+pub at_position : {X : Type 0} (p : X → Bool) (xs : List X) (i : ℕ) (x : X) → position p xs ≡ Some i → x ≡ get_or xs i x → find p xs ≡ Some x
+at_position p xs i x e at = at_index p xs i x e ∙ ap Some (sym at)
 
 pub no_position : {X : Type 0} (p : X → Bool) (xs : List X) → position p xs ≡ None → find p xs ≡ None
 no_position p xs e =
     let past : length xs ≤ position_or_len p xs = grind (arith, common_steps) in
     find_at p xs ∙ slice_get_past xs (position_or_len p xs) past
 
--- a clock's moments were taken out
-pub told_before : (clocks : List (ℕ × Vec ℤ Global)) (who i : ℕ) (x : ℕ × Vec ℤ Global) → position (is_of who) clocks ≡ Some i → x ≡ get_or clocks i x → moments_of x.1.items ≡ moments_at clocks who
-told_before clocks who i x e at = sym (ap told_by (at_position (is_of who) clocks i x e at))
+-- a clock was taken out
+pub clock_before : (clocks : List (ℕ × FreshClock)) (who i : ℕ) (x : ℕ × FreshClock) → position (is_of who) clocks ≡ Some i → x ≡ get_or clocks i x → clock_at clocks who ≡ Some x.1.clock
+clock_before clocks who i x e at = ap clock_of (at_position (is_of who) clocks i x e at)
 
-pub told_beside : (clocks : List (ℕ × Vec ℤ Global)) (who i : ℕ) (x y : ℕ × Vec ℤ Global) → position (is_of who) clocks ≡ Some i → x ≡ get_or clocks i x → y.0 ≡ x.0 → SameBut who (moments_at clocks) (moments_at (set clocks i y))
-told_beside clocks who i x y e at same other ne =
+pub clock_none : (clocks : List (ℕ × FreshClock)) (who : ℕ) → position (is_of who) clocks ≡ None → clock_at clocks who ≡ None
+clock_none clocks who e = ap clock_of (no_position (is_of who) clocks e)
+
+pub clocks_beside : (clocks : List (ℕ × FreshClock)) (who i : ℕ) (x y : ℕ × FreshClock) → position (is_of who) clocks ≡ Some i → x ≡ get_or clocks i x → y.0 ≡ x.0 → SameBut who (clock_at clocks) (clock_at (set clocks i y))
+clocks_beside clocks who i x y e at same other ne =
     let named : x.0 ≡ who = eqb-true x.0 who (ap (is_of who) at ∙ (position-Some (is_of who) clocks i x e).1) in
     let not_x : is_of other x ≡ false = false_from_ne_true _ (λ t. ne (sym (eqb-true x.0 other t) ∙ named)) in
     let not_y : is_of other y ≡ false = false_from_ne_true _ (λ t. ne (sym (eqb-true y.0 other t) ∙ same ∙ named)) in
-    ap told_by (find_past (is_of other) clocks i y x (ap (is_of other) (sym at) ∙ not_x) not_y)
+    ap clock_of (find_past (is_of other) clocks i y x (ap (is_of other) (sym at) ∙ not_x) not_y)
 
 pub changes : {P : Type 0} (slots : List (Slot P)) (place : List ℕ) (i : ℕ) (x y : Slot P) → position (is_named place) slots ≡ Some i → x ≡ get_or slots i x → string_bytes y.place ≡ string_bytes x.place → Changes slots (set slots i y) place x y
 changes slots place i x y e at same =
@@ -100,29 +102,33 @@ adds slots place y e same =
 pub never : false ≡ true → ⊥
 never e = cc
 
--- a clock's moments are put in place of those that were there, or added
-pub told_after : (clocks : List (ℕ × Vec ℤ Global)) (who i : ℕ) (x y : ℕ × Vec ℤ Global) → position (is_of who) clocks ≡ Some i → x ≡ get_or clocks i x → y.0 ≡ x.0 → moments_at (set clocks i y) who ≡ moments_of y.1.items
-told_after clocks who i x y e at same =
+-- a clock is put in place of the one that was there, or added
+pub clock_after : (clocks : List (ℕ × FreshClock)) (who i : ℕ) (x y : ℕ × FreshClock) → position (is_of who) clocks ≡ Some i → x ≡ get_or clocks i x → y.0 ≡ x.0 → clock_at (set clocks i y) who ≡ Some y.1.clock
+clock_after clocks who i x y e at same =
     let found = position-Some (is_of who) clocks i x e in
     let first : i ≡ position_or_len (is_of who) clocks = grind (arith, common_steps) in
     let named : x.0 ≡ who = eqb-true x.0 who (ap (is_of who) at ∙ found.1) in
     let is_y : is_of who y ≡ true = eq-eqb y.0 who (same ∙ named) in
-    ap told_by (find-set (is_of who) clocks i y first found.0 is_y)
+    ap clock_of (find-set (is_of who) clocks i y first found.0 is_y)
 
-pub told_added : (clocks : List (ℕ × Vec ℤ Global)) (who : ℕ) (v : Vec ℤ Global) → position (is_of who) clocks ≡ None → moments_at (clocks ++ (who, v) ∷ []) who ≡ moments_of v.items
-told_added clocks who v e =
+pub clock_added : (clocks : List (ℕ × FreshClock)) (who : ℕ) (c : FreshClock) → position (is_of who) clocks ≡ None → clock_at (clocks ++ (who, c) ∷ []) who ≡ Some c.clock
+clock_added clocks who c e =
     let none = no_position (is_of who) clocks e in
-    let same : is_of who (who, v) ≡ true = eq-eqb who who refl in
+    let same : is_of who (who, c) ≡ true = eq-eqb who who refl in
     rw (find-append, none, same) refl
 
-pub told_beside_added : (clocks : List (ℕ × Vec ℤ Global)) (who : ℕ) (v : Vec ℤ Global) → SameBut who (moments_at clocks) (moments_at (clocks ++ (who, v) ∷ []))
-told_beside_added clocks who v other ne =
-    let not_same : is_of other (who, v) ≡ false = false_from_ne_true _ (λ t. ne (sym (eqb-true who other t))) in
-    ap told_by (find-append (is_of other) clocks ((who, v) ∷ []) ∙ ap (λ b. option_or (find (is_of other) clocks) (cond b (Some (who, v)) None)) not_same ∙ or_none (find (is_of other) clocks))
+pub clocks_beside_added : (clocks : List (ℕ × FreshClock)) (who : ℕ) (c : FreshClock) → SameBut who (clock_at clocks) (clock_at (clocks ++ (who, c) ∷ []))
+clocks_beside_added clocks who c other ne =
+    let not_same : is_of other (who, c) ≡ false = false_from_ne_true _ (λ t. ne (sym (eqb-true who other t))) in
+    ap clock_of (find-append (is_of other) clocks ((who, c) ∷ []) ∙ ap (λ b. option_or (find (is_of other) clocks) (cond b (Some (who, c)) None)) not_same ∙ or_none (find (is_of other) clocks))
 
 -- the push
 pub misses : {P : Type 0} (slots new : List (Slot P)) (place : List ℕ) (y : Slot P) → position (is_named place) slots ≡ None → string_bytes y.place ≡ place → new ≡ slots ++ y ∷ [] → Adds slots new place y
 misses slots new place y e same grown = rw grown (adds slots place y e same)
+
+none_from : {P : Type 0} (o : Option P) → is_some o ≡ false → o ≡ None
+none_from None e = refl
+none_from (Some part) e = absurd (never (sym e))
 
 -- what a place tells as its part leaves and comes
 module _ {P : Type 0} (bytes : P → Option (List ℕ)) (faults : P → ℕ) where
@@ -139,13 +145,6 @@ module _ {P : Type 0} (bytes : P → Option (List ℕ)) (faults : P → ℕ) whe
       rw (h.now, h.has) (record { bytes = refl; faults = refl; open_faults = h.open_faults; is_out = h.is_out })
   fills_told part (Some slot) new h =
       rw (h.now, h.has) (record { bytes = refl; faults = refl; open_faults = h.open_faults; is_out = h.is_out })
-
-  pub part_is_told : (r : Option (Bor P)) (slot : Option (Slot P)) → MatchOption r (HasNoPart slot) (λ part. HasPart part.now slot)
-      → MatchOption r ((told_of bytes faults slot).bytes ≡ None) (λ part. IsTold (bytes part.now) (faults part.now) (told_of bytes faults slot))
-  part_is_told None None h = refl
-  part_is_told None (Some slot) h = rw h refl
-  part_is_told (Some part) None h = absurd h
-  part_is_told (Some part) (Some slot) h = rw h (record { bytes = refl; faults = refl })
 
   misses_told : (old : Option (Slot P)) (new : Option (Slot P)) → (told_of bytes faults old).is_out ≡ false → IsMissed old new → FailsToOpen (told_of bytes faults old) (told_of bytes faults new)
   misses_told None new out h = rw (h.now, h.has) (record { bytes = refl; part_faults = refl; is_out = h.is_out; rose = rw h.open_faults (omega arith); later = omega arith })
@@ -165,16 +164,12 @@ still_home old new place s z h q = go (bytes_eq q place) refl
     go true e = rw ((bytes_eq-Decides q place).0 e) z
     go false e = ap is_out_at (s q (λ same. never (sym e ∙ (bytes_eq-Decides q place).1 same))) ∙ h q
 
-pub part_told : {P : Type 0} (r : Option (Bor P)) (slot : Slot P) → option_copied r ≡ slot.part → MatchOption r (HasNoPart (Some slot)) (λ part. HasPart part.now (Some slot))
-part_told None slot e = sym e
-part_told (Some p) slot e = sym e
-
 -- the home of all places, by what they tell
 pub home_told : {P : Type 0} (bytes : P → Option (List ℕ)) (faults : P → ℕ) (slot : Option (Slot P)) → (told_of bytes faults slot).is_out ≡ is_out_at slot
 home_told bytes faults None = refl
 home_told bytes faults (Some slot) = refl
 
 -- a place without its part tells nothing
-pub none_told : {P : Type 0} (bytes : P → Option (List ℕ)) (faults : P → ℕ) (slot : Option (Slot P)) → HasNoPart slot → IsTold None 0 (told_of bytes faults slot)
+pub none_told : {P : Type 0} (bytes : P → Option (List ℕ)) (faults : P → ℕ) (slot : Option (Slot P)) → is_some (part_at slot) ≡ false → IsTold None 0 (told_of bytes faults slot)
 none_told bytes faults None h = record { bytes = refl; faults = refl }
-none_told bytes faults (Some slot) h = rw h (record { bytes = refl; faults = refl })
+none_told bytes faults (Some slot) h = rw (none_from slot.part h) (record { bytes = refl; faults = refl })

@@ -16,12 +16,12 @@ use Rattle.agent_base.proofs.BufferLemmas.{read_hand}
 
 -- ---- a read
 
-pub read_takes : (before after : Option (List ℕ)) (old new : List ℕ) (start end most n taken : ℕ) (kind : CutKind) (p : Bool) → start ≤ end → n ≤ most → take end new ≡ take end old
+pub read_takes : (before after : Option (List ℕ)) (old new : List ℕ) (start end most n taken counted : ℕ) (kind : CutKind) (p : Bool) → start ≤ end → n ≤ most → take end new ≡ take end old
     → Consumes before after (take n (between end (end + most) new))
-    → Takes before after (record { kind = kind; bytes = between start end old; is_passing = p; taken = taken }) (record { kind = kind; bytes = between start (end + n) new; is_passing = p; taken = taken + n })
-read_takes None after old new start end most n taken kind p le fits same h = tt
-read_takes (Some xs) None old new start end most n taken kind p le fits same h = absurd h
-read_takes (Some xs) (Some ys) old new start end most n taken kind p le fits same h =
+    → Takes before after (record { kind = kind; bytes = between start end old; is_passing = p; taken = taken }) (record { kind = kind; bytes = between start (end + n) new; is_passing = p; taken = counted })
+read_takes None after old new start end most n taken counted kind p le fits same h = tt
+read_takes (Some xs) None old new start end most n taken counted kind p le fits same h = absurd h
+read_takes (Some xs) (Some ys) old new start end most n taken counted kind p le fits same h =
     let front : List ℕ = take n (between end (end + most) new) in
     record {
       taken = front;

@@ -4,8 +4,10 @@ pub mod Moments
 pub mod Clocked
 pub mod Places
 pub mod Memory
+pub mod Failing
 pub mod Slots
 pub mod Clocks
+pub mod Standing
 pub mod Cut
 pub mod Room
 pub mod Lines

@@ -42,6 +42,11 @@ told_of bytes faults
       is_out = slot.is_out;
     }
 
+-- the part that stands at a place
+abbrev pub part_at : {P : Type 0} → Option (Slot P) → Option P
+part_at None = None
+part_at (Some slot) = slot.part
+
 -- whether the part is out
 abbrev pub is_out_at : {P : Type 0} → Option (Slot P) → Bool
 is_out_at None = false
@@ -100,16 +105,6 @@ pub record Fills {P : Type 0} (part : P) (old new : Option (Slot P)) : Type 0 wh
   pub has : slot.part ≡ Some part
   pub is_out : slot.is_out ≡ false
   pub open_faults : slot.open_faults ≡ open_faults_at old
-
--- the slot has this part
-abbrev pub HasPart : {P : Type 0} → P → Option (Slot P) → Type 0
-HasPart part None = ⊥
-HasPart part (Some slot) = slot.part ≡ Some part
-
--- there is no slot, or none with a part
-abbrev pub HasNoPart : {P : Type 0} → Option (Slot P) → Type 0
-HasNoPart None = Unit {0}
-HasNoPart (Some slot) = slot.part ≡ None
 
 -- no part is out
 abbrev pub AllHome : {P : Type 0} → List (Slot P) → Type 0

@@ -65,20 +65,27 @@ fn filled(mut room: Vec<u8>, content: &[u8]) -> Vec<u8>
     room
 }
 
-// Reads into so many places of a buffer, from one on.
+// Reads into so many places of a buffer, from one on, and counts the bytes that are taken.
 fn read_into<S: Source>(
     buf: &mut [u8],
     at: usize,
     most: usize,
+    taken: &mut u64,
     src: &mut S,
 ) -> Result<usize, Failed>
-    requires { at + most ≤ length buf.old }
+    requires room { at + most ≤ length buf.old }
+    requires least { min LEAST (MAX_TAKEN_BYTES - taken.old) ≤ most }
+    requires limit { taken.old + most ≤ MAX_TAKEN_BYTES }
     ensures bound { IfOk result (λ n. n ≤ most) }
     ensures before { take at buf.new ≡ take at buf.old }
     ensures bytes { ReadConsumes (S.left src.old) (S.left src.new) result (between at (at + most) buf.new) }
     ensures cause { HasCause (S.faults src.old) (S.faults src.new) result }
+    ensures counted { IfOk result (λ n. taken.new ≡ taken.old + n) }
+    ensures kept { OnErr result (taken.new ≡ taken.old) }
 {
-    src.read(&mut buf[at..at + most])
+    let n = src.read(&mut buf[at..at + most])?;
+    *taken += n as u64;
+    Ok(n)
 }
 
 // The same, of a vector.
@@ -86,17 +93,22 @@ fn read_behind<S: Source>(
     buf: &mut Vec<u8>,
     at: usize,
     most: usize,
+    taken: &mut u64,
     src: &mut S,
 ) -> Result<usize, Failed>
-    requires { at + most ≤ vec_len buf.old }
+    requires room { at + most ≤ vec_len buf.old }
+    requires least { min LEAST (MAX_TAKEN_BYTES - taken.old) ≤ most }
+    requires limit { taken.old + most ≤ MAX_TAKEN_BYTES }
     ensures len { vec_len buf.new ≡ vec_len buf.old }
     ensures bound { IfOk result (λ n. n ≤ most) }
     ensures before { take at buf.new.items ≡ take at buf.old.items }
     ensures bytes { ReadConsumes (S.left src.old) (S.left src.new) result
         (between at (at + most) buf.new.items) }
     ensures cause { HasCause (S.faults src.old) (S.faults src.new) result }
+    ensures counted { IfOk result (λ n. taken.new ≡ taken.old + n) }
+    ensures kept { OnErr result (taken.new ≡ taken.old) }
 {
-    read_into(buf, at, most, src)
+    read_into(buf, at, most, taken, src)
 }
 
 /// The bytes in hand stand from `start` to `end`, and no piece ends among them before `searched`, where the line
@@ -361,9 +373,8 @@ impl Buffer {
         ensures cause { HasCause (S.faults src.old) (S.faults src.new) result }
     {
         let most = self.lent();
-        let n = read_behind(&mut self.buf, self.end, most, src)?;
+        let n = read_behind(&mut self.buf, self.end, most, &mut self.taken, src)?;
         self.end += n;
-        self.taken += n as u64;
         Ok(n)
     }
 

@@ -2,6 +2,8 @@
 #![tactic(auto)]
 
 mod buffer;
+mod clocks;
+mod fresh;
 mod laws;
 mod mem_world;
 mod memory;

@@ -1,15 +1,18 @@
 //! A world in memory.
-ghost use Rattle.std.specs.Prelude.{◌≡◌, false, [], Some, None, OnOk, OnErr, MatchOption, List, ℕ};
-ghost use Rattle.std.specs.List.{position};
-ghost use Rattle.agent_base.specs.Clocks.{moments_at, is_of};
+ghost use Rattle.std.specs.Prelude.{◌≡◌, true, false, [], Some, None, is_some, OnOk, OnErr, IfOk, IfErr};
+ghost use Rattle.std.specs.Prelude.{MatchOption, List, ℕ};
+ghost use Rattle.std.specs.Option.{option_copied};
 ghost use Rattle.agent_base.specs.Memory.{moments_of};
-ghost use Rattle.agent_base.specs.Places.{Rest, SameBut, SameAtAll, AreHome, TakesIn, IsTold, empty_place};
+ghost use Rattle.agent_base.specs.Places.{Opens, Refuses, SameAtAll, AreHome, TakesIn, IsTold, empty_place};
+ghost use Rattle.agent_base.specs.Puts.{PutAppends, PutHasCause};
+ghost use Rattle.agent_base.specs.Views.{OnlyIn, OnlyOut, OnlyClock, OnlyReport};
 
+use crate::clocks::{put, take};
+use crate::fresh::FreshClock;
 use crate::slots::{Slot, add, give, has_part, open, part_of};
 use crate::{Clock, MemClock, MemSink, MemSource, OpenFault, PutFault, Sink, Source, World};
-use fixed_num::{Moment, OutOfMemory};
-use std::alloc::{AllocError, Global};
-use std::mem;
+use fixed_num::OutOfMemory;
+use std::alloc::Global;
 
 /// A world in memory. What is added takes the place of what was there.
 ///
@@ -19,15 +22,17 @@ pub struct MemWorld<S = MemSource, K = MemSink> {
     alloc: Global,
     ins: Vec<Slot<S>>,
     outs: Vec<Slot<K>>,
-    clocks: Vec<(u32, Vec<Moment>)>,
+    clocks: Vec<(u32, FreshClock)>,
     reported: Vec<u8>,
 }
 
 impl<S: Source + Send + Drop, K: Sink + Send + Drop> MemWorld<S, K> {
-    ghost use Rattle.agent_base.specs.Slots.{told_of, slot_at, HasPart, HasNoPart};
+    ghost use Rattle.agent_base.specs.Standing.{standing, nothing};
+    ghost use Rattle.agent_base.specs.Standing.{OnlyInStands, OnlyOutStands, OnlyClockStands};
 
     /// A world without places and clocks, and with an empty report.
     pub fn new(alloc: Global) -> MemWorld<S, K>
+        ensures nothing_stands { standing result ≡ nothing }
         ensures ins { (place : List ℕ) → (⟦<MemWorld<S, K> as World>⟧.view result).ins place ≡ empty_place }
         ensures outs { (place : List ℕ) → (⟦<MemWorld<S, K> as World>⟧.view result).outs place ≡ empty_place }
         ensures ins_home { AreHome ((⟦<MemWorld<S, K> as World>⟧.view result).ins) }
@@ -49,21 +54,19 @@ impl<S: Source + Send + Drop, K: Sink + Send + Drop> MemWorld<S, K> {
         ensures added { OnOk result
             (TakesIn (S.left s) (S.faults s) ((⟦<MemWorld<S, K> as World>⟧.view self.old).ins place.now)
             ((⟦<MemWorld<S, K> as World>⟧.view self.new).ins place.now)) }
-        ensures others { SameBut place.now ((⟦<MemWorld<S, K> as World>⟧.view self.old).ins)
-            ((⟦<MemWorld<S, K> as World>⟧.view self.new).ins) }
         ensures refused { OnErr result
-            (SameAtAll ((⟦<MemWorld<S, K> as World>⟧.view self.old).ins)
-            ((⟦<MemWorld<S, K> as World>⟧.view self.new).ins)) }
-        ensures home { AreHome ((⟦<MemWorld<S, K> as World>⟧.view self.old).ins)
-            → AreHome ((⟦<MemWorld<S, K> as World>⟧.view self.new).ins) }
+            (SameAtAll (⟦<MemWorld<S, K> as World>⟧.view self.old).ins
+            (⟦<MemWorld<S, K> as World>⟧.view self.new).ins) }
+        ensures only { OnlyIn place.now (⟦<MemWorld<S, K> as World>⟧.view self.old)
+            (⟦<MemWorld<S, K> as World>⟧.view self.new) }
+        ensures home { AreHome (⟦<MemWorld<S, K> as World>⟧.view self.old).ins
+            → AreHome (⟦<MemWorld<S, K> as World>⟧.view self.new).ins }
+        ensures outs_home { AreHome (⟦<MemWorld<S, K> as World>⟧.view self.old).outs
+            → AreHome (⟦<MemWorld<S, K> as World>⟧.view self.new).outs }
 
-        ensures outs { SameAtAll ((⟦<MemWorld<S, K> as World>⟧.view self.old).outs)
-            ((⟦<MemWorld<S, K> as World>⟧.view self.new).outs) }
-        ensures outs_home { AreHome ((⟦<MemWorld<S, K> as World>⟧.view self.old).outs)
-            → AreHome ((⟦<MemWorld<S, K> as World>⟧.view self.new).outs) }
-        ensures rest { (⟦<MemWorld<S, K> as World>⟧.view self.new).report ≡ (⟦<MemWorld<S, K> as World>⟧.view self.old).report }
-        ensures moments { SameAtAll ((⟦<MemWorld<S, K> as World>⟧.view self.old).clocks)
-            ((⟦<MemWorld<S, K> as World>⟧.view self.new).clocks) }
+        ensures stands { OnOk result ((standing self.new).ins place.now ≡ Some s) }
+        ensures stays { OnErr result (standing self.new ≡ standing self.old) }
+        ensures beside { OnlyInStands place.now (standing self.old) (standing self.new) }
     {
         add(self.alloc, &mut self.ins, place, s)
     }
@@ -73,68 +76,66 @@ impl<S: Source + Send + Drop, K: Sink + Send + Drop> MemWorld<S, K> {
         ensures added { OnOk result
             (TakesIn (K.held s) (K.faults s) ((⟦<MemWorld<S, K> as World>⟧.view self.old).outs place.now)
             ((⟦<MemWorld<S, K> as World>⟧.view self.new).outs place.now)) }
-        ensures others { SameBut place.now ((⟦<MemWorld<S, K> as World>⟧.view self.old).outs)
-            ((⟦<MemWorld<S, K> as World>⟧.view self.new).outs) }
         ensures refused { OnErr result
-            (SameAtAll ((⟦<MemWorld<S, K> as World>⟧.view self.old).outs)
-            ((⟦<MemWorld<S, K> as World>⟧.view self.new).outs)) }
-        ensures home { AreHome ((⟦<MemWorld<S, K> as World>⟧.view self.old).outs)
-            → AreHome ((⟦<MemWorld<S, K> as World>⟧.view self.new).outs) }
+            (SameAtAll (⟦<MemWorld<S, K> as World>⟧.view self.old).outs
+            (⟦<MemWorld<S, K> as World>⟧.view self.new).outs) }
+        ensures only { OnlyOut place.now (⟦<MemWorld<S, K> as World>⟧.view self.old)
+            (⟦<MemWorld<S, K> as World>⟧.view self.new) }
+        ensures home { AreHome (⟦<MemWorld<S, K> as World>⟧.view self.old).outs
+            → AreHome (⟦<MemWorld<S, K> as World>⟧.view self.new).outs }
+        ensures ins_home { AreHome (⟦<MemWorld<S, K> as World>⟧.view self.old).ins
+            → AreHome (⟦<MemWorld<S, K> as World>⟧.view self.new).ins }
 
-        ensures ins { SameAtAll ((⟦<MemWorld<S, K> as World>⟧.view self.old).ins)
-            ((⟦<MemWorld<S, K> as World>⟧.view self.new).ins) }
-        ensures ins_home { AreHome ((⟦<MemWorld<S, K> as World>⟧.view self.old).ins)
-            → AreHome ((⟦<MemWorld<S, K> as World>⟧.view self.new).ins) }
-        ensures rest { (⟦<MemWorld<S, K> as World>⟧.view self.new).report ≡ (⟦<MemWorld<S, K> as World>⟧.view self.old).report }
-        ensures moments { SameAtAll ((⟦<MemWorld<S, K> as World>⟧.view self.old).clocks)
-            ((⟦<MemWorld<S, K> as World>⟧.view self.new).clocks) }
+        ensures stands { OnOk result ((standing self.new).outs place.now ≡ Some s) }
+        ensures stays { OnErr result (standing self.new ≡ standing self.old) }
+        ensures beside { OnlyOutStands place.now (standing self.old) (standing self.new) }
     {
         add(self.alloc, &mut self.outs, place, s)
     }
 
-    /// Puts a clock at a number.
+    /// Puts a clock that has given no moment at a number.
     pub fn add_clock(&mut self, who: u32, c: MemClock) -> Result<(), OutOfMemory>
         requires first { ⟦<MemClock as Clock>⟧.place c ≡ 0 }
         requires unstopped { ⟦<MemClock as Clock>⟧.stopped c ≡ false }
 
         ensures added { OnOk result
             ((⟦<MemWorld<S, K> as World>⟧.view self.new).clocks who ≡ ⟦<MemClock as Clock>⟧.moments c) }
-        ensures others { SameBut who ((⟦<MemWorld<S, K> as World>⟧.view self.old).clocks)
-            ((⟦<MemWorld<S, K> as World>⟧.view self.new).clocks) }
-        ensures refused { OnErr result
-            (SameAtAll ((⟦<MemWorld<S, K> as World>⟧.view self.old).clocks)
-            ((⟦<MemWorld<S, K> as World>⟧.view self.new).clocks)) }
+        ensures refused { OnErr result (SameAtAll (⟦<MemWorld<S, K> as World>⟧.view self.old).clocks
+            (⟦<MemWorld<S, K> as World>⟧.view self.new).clocks) }
+        ensures only { OnlyClock who (⟦<MemWorld<S, K> as World>⟧.view self.old)
+            (⟦<MemWorld<S, K> as World>⟧.view self.new) }
+        ensures ins_home { AreHome (⟦<MemWorld<S, K> as World>⟧.view self.old).ins
+            → AreHome (⟦<MemWorld<S, K> as World>⟧.view self.new).ins }
+        ensures outs_home { AreHome (⟦<MemWorld<S, K> as World>⟧.view self.old).outs
+            → AreHome (⟦<MemWorld<S, K> as World>⟧.view self.new).outs }
 
-        ensures ins { SameAtAll ((⟦<MemWorld<S, K> as World>⟧.view self.old).ins)
-            ((⟦<MemWorld<S, K> as World>⟧.view self.new).ins) }
-        ensures ins_home { AreHome ((⟦<MemWorld<S, K> as World>⟧.view self.old).ins)
-            → AreHome ((⟦<MemWorld<S, K> as World>⟧.view self.new).ins) }
-        ensures outs { SameAtAll ((⟦<MemWorld<S, K> as World>⟧.view self.old).outs)
-            ((⟦<MemWorld<S, K> as World>⟧.view self.new).outs) }
-        ensures outs_home { AreHome ((⟦<MemWorld<S, K> as World>⟧.view self.old).outs)
-            → AreHome ((⟦<MemWorld<S, K> as World>⟧.view self.new).outs) }
-        ensures rest { (⟦<MemWorld<S, K> as World>⟧.view self.new).report ≡ (⟦<MemWorld<S, K> as World>⟧.view self.old).report }
+        ensures stands { OnOk result ((standing self.new).clocks who ≡ Some c) }
+        ensures stays { OnErr result (standing self.new ≡ standing self.old) }
+        ensures beside { OnlyClockStands who (standing self.old) (standing self.new) }
     {
-        put_moments(&mut self.clocks, who, c.into_moments())
+        put(&mut self.clocks, who, FreshClock::new(c))
     }
 
     /// Whether a source stands at an input place. Where none does, the place tells no bytes and no faults.
     pub fn has_in(&self, place: &str) -> bool
-        ensures { result ≡ false → IsTold None 0 ((⟦<MemWorld<S, K> as World>⟧.view self.now).ins place.now) }
+        ensures stands { result ≡ is_some ((standing self.now).ins place.now) }
+        ensures none { result ≡ false → IsTold None 0 ((⟦<MemWorld<S, K> as World>⟧.view self.now).ins place.now) }
     {
         has_part(&self.ins, place)
     }
 
     /// Whether a sink stands at an output place. Where none does, the place tells no bytes and no faults.
     pub fn has_out(&self, place: &str) -> bool
-        ensures { result ≡ false → IsTold None 0 ((⟦<MemWorld<S, K> as World>⟧.view self.now).outs place.now) }
+        ensures stands { result ≡ is_some ((standing self.now).outs place.now) }
+        ensures none { result ≡ false → IsTold None 0 ((⟦<MemWorld<S, K> as World>⟧.view self.now).outs place.now) }
     {
         has_part(&self.outs, place)
     }
 
-    /// The sink of an output place, where it isn't out.
+    /// The sink that stands at an output place, as the place tells it.
     pub fn out(&self, place: &str) -> Option<&K>
-        ensures { MatchOption result (((⟦<MemWorld<S, K> as World>⟧.view self.now).outs place.now).bytes ≡ None)
+        ensures stands { option_copied result ≡ (standing self.now).outs place.now }
+        ensures told { MatchOption result (((⟦<MemWorld<S, K> as World>⟧.view self.now).outs place.now).bytes ≡ None)
             (λ sink. IsTold (K.held sink.now) (K.faults sink.now)
             ((⟦<MemWorld<S, K> as World>⟧.view self.now).outs place.now)) }
     {
@@ -149,59 +150,11 @@ impl<S: Source + Send + Drop, K: Sink + Send + Drop> MemWorld<S, K> {
     }
 }
 
-fn find_clock(clocks: &[(u32, Vec<Moment>)], who: u32) -> Option<usize>
-    ensures { result ≡ position (is_of who) clocks.now }
-{
-    clocks.iter().position(|clock| clock.0 == who)
-}
-
-// Takes the moments of a clock out.
-fn take_moments(clocks: &mut Vec<(u32, Vec<Moment>)>, alloc: Global, who: u32) -> Vec<Moment>
-    ensures told { moments_of result.items ≡ moments_at clocks.old.items who }
-    ensures others { SameBut who (moments_at clocks.old.items) (moments_at clocks.new.items) }
-{
-    match find_clock(clocks, who) {
-        Some(at) => mem::replace(&mut clocks[at].1, Vec::new(alloc)),
-        None => Vec::new(alloc),
-    }
-}
-
-// Puts the moments of a clock at a number.
-fn put_moments(
-    clocks: &mut Vec<(u32, Vec<Moment>)>,
-    who: u32,
-    moments: Vec<Moment>,
-) -> Result<(), OutOfMemory>
-    ensures told { OnOk result (moments_at clocks.new.items who ≡ moments_of moments.items) }
-    ensures others { SameBut who (moments_at clocks.old.items) (moments_at clocks.new.items) }
-    ensures refused { OnErr result (clocks.new.items ≡ clocks.old.items) }
-{
-    match find_clock(clocks, who) {
-        Some(at) => {
-            clocks[at].1 = moments;
-            Ok(())
-        }
-        None => push_clock(clocks, who, moments),
-    }
-}
-
-// Adds a clock with a number that has none.
-fn push_clock(
-    clocks: &mut Vec<(u32, Vec<Moment>)>,
-    who: u32,
-    moments: Vec<Moment>,
-) -> Result<(), OutOfMemory>
-    requires { position (is_of who) clocks.old.items ≡ None }
-    ensures told { OnOk result (moments_at clocks.new.items who ≡ moments_of moments.items) }
-    ensures others { SameBut who (moments_at clocks.old.items) (moments_at clocks.new.items) }
-    ensures refused { OnErr result (clocks.new.items ≡ clocks.old.items) }
-{
-    clocks.push((who, moments))?;
-    Ok(())
-}
-
 impl<S: Source + Send + Drop, K: Sink + Send + Drop> World for MemWorld<S, K> {
+    ghost use Rattle.agent_base.specs.Clocks.{moments_at, IsClockOf};
     ghost use Rattle.agent_base.specs.Slots.{told_of, slot_at};
+    ghost use Rattle.agent_base.specs.Standing.{standing, MovesOut};
+    ghost use Rattle.agent_base.specs.Standing.{OnlyInStands, OnlyOutStands, OnlyClockStands};
 
     type In = S;
 
@@ -216,27 +169,87 @@ impl<S: Source + Send + Drop, K: Sink + Send + Drop> World for MemWorld<S, K> {
       report = record { reported = Some w.reported.items; report_faults = 0 };
     } };
 
-    fn open_in(&mut self, place: &str) -> Result<S, OpenFault> {
+    fn open_in(&mut self, place: &str) -> Result<S, OpenFault>
+        requires { ((⟦<MemWorld<S, K> as World>⟧.view self.old).ins place.now).is_out ≡ false }
+        ensures opened { IfOk result
+            (λ part. Opens (S.left part) (S.faults part) ((⟦<MemWorld<S, K> as World>⟧.view self.old).ins place.now)
+            ((⟦<MemWorld<S, K> as World>⟧.view self.new).ins place.now)) }
+        ensures refused { IfErr result (λ e. Refuses e ((⟦<MemWorld<S, K> as World>⟧.view self.old).ins place.now)
+            ((⟦<MemWorld<S, K> as World>⟧.view self.new).ins place.now)) }
+        ensures only { OnlyIn place.now (⟦<MemWorld<S, K> as World>⟧.view self.old)
+            (⟦<MemWorld<S, K> as World>⟧.view self.new) }
+
+        ensures moves { MovesOut result ((standing self.old).ins place.now) ((standing self.new).ins place.now) }
+        ensures beside { OnlyInStands place.now (standing self.old) (standing self.new) }
+    {
         open(self.alloc, &mut self.ins, place)
     }
 
-    fn open_out(&mut self, place: &str) -> Result<K, OpenFault> {
+    fn open_out(&mut self, place: &str) -> Result<K, OpenFault>
+        requires { ((⟦<MemWorld<S, K> as World>⟧.view self.old).outs place.now).is_out ≡ false }
+        ensures opened { IfOk result
+            (λ part. Opens (K.held part) (K.faults part) ((⟦<MemWorld<S, K> as World>⟧.view self.old).outs place.now)
+            ((⟦<MemWorld<S, K> as World>⟧.view self.new).outs place.now)) }
+        ensures refused { IfErr result (λ e. Refuses e ((⟦<MemWorld<S, K> as World>⟧.view self.old).outs place.now)
+            ((⟦<MemWorld<S, K> as World>⟧.view self.new).outs place.now)) }
+        ensures only { OnlyOut place.now (⟦<MemWorld<S, K> as World>⟧.view self.old)
+            (⟦<MemWorld<S, K> as World>⟧.view self.new) }
+
+        ensures moves { MovesOut result ((standing self.old).outs place.now) ((standing self.new).outs place.now) }
+        ensures beside { OnlyOutStands place.now (standing self.old) (standing self.new) }
+    {
         open(self.alloc, &mut self.outs, place)
     }
 
-    fn give_in(&mut self, place: &str, part: S) {
+    fn give_in(&mut self, place: &str, part: S)
+        requires { ((⟦<MemWorld<S, K> as World>⟧.view self.old).ins place.now).is_out ≡ true }
+        ensures given { TakesIn (S.left part) (S.faults part) ((⟦<MemWorld<S, K> as World>⟧.view self.old).ins place.now)
+            ((⟦<MemWorld<S, K> as World>⟧.view self.new).ins place.now) }
+        ensures only { OnlyIn place.now (⟦<MemWorld<S, K> as World>⟧.view self.old)
+            (⟦<MemWorld<S, K> as World>⟧.view self.new) }
+
+        ensures stands { (standing self.new).ins place.now ≡ Some part }
+        ensures beside { OnlyInStands place.now (standing self.old) (standing self.new) }
+    {
         give(&mut self.ins, place, part);
     }
 
-    fn give_out(&mut self, place: &str, part: K) {
+    fn give_out(&mut self, place: &str, part: K)
+        requires { ((⟦<MemWorld<S, K> as World>⟧.view self.old).outs place.now).is_out ≡ true }
+        ensures given { TakesIn (K.held part) (K.faults part) ((⟦<MemWorld<S, K> as World>⟧.view self.old).outs place.now)
+            ((⟦<MemWorld<S, K> as World>⟧.view self.new).outs place.now) }
+        ensures only { OnlyOut place.now (⟦<MemWorld<S, K> as World>⟧.view self.old)
+            (⟦<MemWorld<S, K> as World>⟧.view self.new) }
+
+        ensures stands { (standing self.new).outs place.now ≡ Some part }
+        ensures beside { OnlyOutStands place.now (standing self.old) (standing self.new) }
+    {
         give(&mut self.outs, place, part);
     }
 
-    fn clock(&mut self, who: u32, _pause: i64) -> MemClock {
-        MemClock::new(self.alloc, take_moments(&mut self.clocks, self.alloc, who))
+    fn clock(&mut self, who: u32, _pause: i64) -> MemClock
+        ensures told { ⟦<MemClock as Clock>⟧.moments result ≡ (⟦<MemWorld<S, K> as World>⟧.view self.old).clocks who }
+        ensures first { ⟦<MemClock as Clock>⟧.place result ≡ 0 }
+        ensures unstopped { ⟦<MemClock as Clock>⟧.stopped result ≡ false }
+        ensures only { OnlyClock who (⟦<MemWorld<S, K> as World>⟧.view self.old)
+            (⟦<MemWorld<S, K> as World>⟧.view self.new) }
+
+        ensures is { IsClockOf ((standing self.old).clocks who) result }
+        ensures beside { OnlyClockStands who (standing self.old) (standing self.new) }
+    {
+        take(&mut self.clocks, self.alloc, who).into_clock()
     }
 
-    fn report(&mut self, bytes: &[u8]) -> Result<(), PutFault> {
+    fn report(&mut self, bytes: &[u8]) -> Result<(), PutFault>
+        ensures bytes { PutAppends (⟦<MemWorld<S, K> as World>⟧.view self.old).report.reported
+            (⟦<MemWorld<S, K> as World>⟧.view self.new).report.reported bytes.now result }
+        ensures cause { PutHasCause (⟦<MemWorld<S, K> as World>⟧.view self.old).report.report_faults
+            (⟦<MemWorld<S, K> as World>⟧.view self.new).report.report_faults result }
+        ensures only { OnlyReport (⟦<MemWorld<S, K> as World>⟧.view self.old)
+            (⟦<MemWorld<S, K> as World>⟧.view self.new) }
+
+        ensures stands { standing self.new ≡ standing self.old }
+    {
         match self.reported.extend_from_slice(bytes) {
             Ok(()) => Ok(()),
             Err(_) => Err(PutFault::OutOfMemory),

@@ -1,9 +1,13 @@
 //! Sources, sinks and clocks in memory.
-ghost use Rattle.std.specs.Prelude.{◌≡◌, ◌≤◌, ◌-◌, [], vec_len, drop, false, Some};
+ghost use Rattle.std.specs.Prelude.{◌≡◌, ◌≤◌, ◌-◌, ◌++◌, [], length, take, drop, min, vec_len, false, Some};
+ghost use Rattle.std.specs.Prelude.{IfOk, OnErr};
+ghost use Rattle.std.specs.List.{position};
+ghost use Rattle.agent_base.specs.Failing.{failing_count, is_numbered};
 
 use crate::{Clock, Failed, PutFault, Sink, Source};
 use fixed_num::Moment;
 use std::alloc::Global;
+use std::marker::Model;
 
 /// Bytes in memory, with the reads that fail.
 #[derive(Debug, Drop)]
@@ -14,15 +18,34 @@ pub struct MemSource {
     at: usize,
     reads: u64,
     faults: u64,
-    ghost within: { at ≤ vec_len bytes },
-    ghost some: { 1 ≤ most },
+}
+
+impl Model for MemSource {
+    ghost use Rattle.std.specs.Prelude.{◌≤◌, drop, vec_len};
+    ghost use Rattle.agent_base.specs.Failing.{SourceState};
+
+    ghost Value = { SourceState };
+
+    ghost view = { λ s. record {
+      left = drop s.at s.bytes.items;
+      fails = s.fails.items;
+      most = s.most;
+      reads = s.reads;
+      faults = s.faults;
+    } };
+
+    ghost invariant = { λ s. (s.at ≤ vec_len s.bytes) × (1 ≤ s.most) };
 }
 
 impl MemSource {
+    ghost use Rattle.agent_base.specs.Failing.{ReadAnswers, after_read};
+
     /// The reads are numbered from 0; one whose number is in `fails` fails, and each other gives at most
     /// `most` bytes.
     pub fn new(_alloc: Global, bytes: Vec<u8>, fails: Vec<u64>, most: usize) -> MemSource
         requires { 1 ≤ most }
+        ensures is { result ≡ record
+            { left = bytes.items; fails = fails.items; most = most; reads = 0; faults = 0 } }
         ensures left { ⟦<MemSource as Source>⟧.left result ≡ Some bytes.items }
         ensures faults { ⟦<MemSource as Source>⟧.faults result ≡ 0 }
     {
@@ -35,25 +58,48 @@ impl MemSource {
             faults: 0,
         }
     }
-}
 
-impl Source for MemSource {
-    ghost left = { λ s. Some (drop s.at s.bytes.items) };
-
-    ghost faults = { λ s. s.faults };
-
-    fn read(&mut self, buf: &mut [u8]) -> Result<usize, Failed> {
+    /// The next read: it fails exactly where its number is listed, and takes nothing then.
+    ///
+    /// Else it moves the next bytes to the front of the buffer: all that are left and have room, but no more than a
+    /// read gives at most.
+    pub fn read_next(&mut self, buf: &mut [u8]) -> Result<usize, Failed>
+        ensures answer { ReadAnswers self.old (length buf.old) result }
+        ensures next { self.new ≡ after_read self.old result }
+        ensures given { IfOk result (λ count. buf.new ≡ take count self.old.left ++ drop count buf.old) }
+        ensures kept { OnErr result (buf.new ≡ buf.old) }
+        ensures some { 1 ≤ self.old.most }
+        ensures later { self.old.faults ≤ self.new.faults }
+    {
         let number = self.reads;
         self.reads = number.saturating_add(1);
         if self.fails.contains(&number) {
             self.faults = self.faults.saturating_add(1);
             return Err(Failed);
         }
-        let rest = &self.bytes[self.at..];
-        let count = rest.len().min(buf.len()).min(self.most);
-        buf[..count].copy_from_slice(&rest[..count]);
+        let count = copy_front(&self.bytes[self.at..], buf, self.most);
         self.at += count;
         Ok(count)
+    }
+}
+
+// Copies the front of some bytes to the front of a buffer, as many as it has room for, and at most so many.
+fn copy_front(bytes: &[u8], buf: &mut [u8], most: usize) -> usize
+    ensures count { result ≡ min (min (length bytes.now) (length buf.old)) most }
+    ensures given { buf.new ≡ take result bytes.now ++ drop result buf.old }
+{
+    let count = bytes.len().min(buf.len()).min(most);
+    buf[..count].copy_from_slice(&bytes[..count]);
+    count
+}
+
+impl Source for MemSource {
+    ghost left = { λ s. Some s.left };
+
+    ghost faults = { λ s. s.faults };
+
+    fn read(&mut self, buf: &mut [u8]) -> Result<usize, Failed> {
+        self.read_next(buf)
     }
 }
 
@@ -66,10 +112,26 @@ pub struct MemSink {
     faults: u64,
 }
 
+impl Model for MemSink {
+    ghost use Rattle.agent_base.specs.Failing.{SinkState};
+
+    ghost Value = { SinkState };
+
+    ghost view = { λ s. record {
+      held = s.held.items;
+      fails = s.fails.items;
+      puts = s.puts;
+      faults = s.faults;
+    } };
+}
+
 impl MemSink {
+    ghost use Rattle.agent_base.specs.Failing.{PutAnswers, after_put};
+
     /// The puts are numbered from 0; one whose number is listed appends so many bytes, or all if there are
-    /// fewer, and fails.
+    /// fewer, and fails. Where a number is listed twice its first place counts.
     pub fn new(alloc: Global, fails: Vec<(u64, usize)>) -> MemSink
+        ensures is { result ≡ record { held = []; fails = fails.items; puts = 0; faults = 0 } }
         ensures held { ⟦<MemSink as Sink>⟧.held result ≡ Some [] }
         ensures faults { ⟦<MemSink as Sink>⟧.faults result ≡ 0 }
     {
@@ -87,24 +149,14 @@ impl MemSink {
     {
         self.held.as_slice()
     }
-}
 
-// How many bytes the put with this number appends before it fails, if it does.
-fn failing(fails: &[(u64, usize)], number: u64) -> Option<usize> {
-    for (failing, count) in fails {
-        if *failing == number {
-            return Some(*count);
-        }
-    }
-    None
-}
-
-impl Sink for MemSink {
-    ghost held = { λ s. Some s.held.items };
-
-    ghost faults = { λ s. s.faults };
-
-    fn put(&mut self, bytes: &[u8]) -> Result<(), PutFault> {
+    /// The next put: unless memory is short it fails exactly where its number is listed, and appends so many bytes
+    /// then, or all if there are fewer. Else it appends all; where memory is short, none.
+    pub fn put_next(&mut self, bytes: &[u8]) -> Result<(), PutFault>
+        ensures answer { PutAnswers self.old result }
+        ensures next { self.new ≡ after_put self.old bytes.now result }
+        ensures later { self.old.faults ≤ self.new.faults }
+    {
         let number = self.puts;
         self.puts = number.saturating_add(1);
         match failing(&self.fails, number) {
@@ -112,10 +164,7 @@ impl Sink for MemSink {
                 Ok(()) => Ok(()),
                 Err(_) => Err(PutFault::OutOfMemory),
             },
-            Some(count) => match self
-                .held
-                .extend_from_slice(&bytes[..count.min(bytes.len())])
-            {
+            Some(count) => match self.held.extend_from_slice(front(bytes, count)) {
                 Ok(()) => {
                     self.faults = self.faults.saturating_add(1);
                     Err(PutFault::Failed)
@@ -123,6 +172,40 @@ impl Sink for MemSink {
                 Err(_) => Err(PutFault::OutOfMemory),
             },
         }
+    }
+}
+
+// The index of the first pair of a put.
+fn find_put(fails: &[(u64, usize)], number: u64) -> Option<usize>
+    ensures { result ≡ position (is_numbered number) fails.now }
+{
+    fails.iter().position(|pair| pair.0 == number)
+}
+
+// How many bytes the put with this number appends before it fails, if it does.
+fn failing(fails: &[(u64, usize)], number: u64) -> Option<usize>
+    ensures { result ≡ failing_count fails.now number }
+{
+    match find_put(fails, number) {
+        Some(at) => Some(fails[at].1),
+        None => None,
+    }
+}
+
+// So many bytes of a put, or all if there are fewer.
+fn front(bytes: &[u8], count: usize) -> &[u8]
+    ensures { result.now ≡ take count bytes.now }
+{
+    &bytes[..count.min(bytes.len())]
+}
+
+impl Sink for MemSink {
+    ghost held = { λ s. Some s.held };
+
+    ghost faults = { λ s. s.faults };
+
+    fn put(&mut self, bytes: &[u8]) -> Result<(), PutFault> {
+        self.put_next(bytes)
     }
 }
 
@@ -151,13 +234,6 @@ impl MemClock {
             at: 0,
             waits: 0,
         }
-    }
-
-    // The moments of the list.
-    pub(crate) fn into_moments(self) -> Vec<Moment>
-        ensures { Some (moments_of result.items) ≡ ⟦<MemClock as Clock>⟧.moments self }
-    {
-        self.moments
     }
 
     // The moment at the place; moves on.

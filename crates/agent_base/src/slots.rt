@@ -1,8 +1,9 @@
 //! Places in memory.
-ghost use Rattle.std.specs.Prelude.{false, ◌≡◌, None, true, OnOk, OnErr, MatchOption};
+ghost use Rattle.std.specs.Prelude.{◌≡◌, None, true, OnOk, OnErr, is_some};
 ghost use Rattle.std.specs.List.{position};
-ghost use Rattle.agent_base.specs.Slots.{slot_at, is_named, is_out_at, Opened, Comes, IsMissed, Fills};
-ghost use Rattle.agent_base.specs.Slots.{HasPart, HasNoPart, AllHome};
+ghost use Rattle.std.specs.Option.{option_copied};
+ghost use Rattle.agent_base.specs.Slots.{slot_at, is_named, is_out_at, part_at, Opened, Comes, IsMissed, Fills};
+ghost use Rattle.agent_base.specs.Slots.{AllHome};
 ghost use Rattle.agent_base.specs.Places.{SameBut};
 
 use crate::OpenFault;
@@ -129,10 +130,9 @@ fn push_slot<P: Drop>(
     Ok(())
 }
 
-// The part of a place.
+// The part that stands at a place.
 pub(crate) fn part_of<'a, P>(slots: &'a [Slot<P>], place: &str) -> Option<&'a P>
-    ensures { MatchOption result (HasNoPart (slot_at slots.now place.now))
-        (λ part. HasPart part.now (slot_at slots.now place.now)) }
+    ensures { option_copied result ≡ part_at (slot_at slots.now place.now) }
 {
     match find(slots, place) {
         Some(at) => slots[at].part.as_ref(),
@@ -140,9 +140,9 @@ pub(crate) fn part_of<'a, P>(slots: &'a [Slot<P>], place: &str) -> Option<&'a P>
     }
 }
 
-// Whether a place has its part.
+// Whether a part stands at a place.
 pub(crate) fn has_part<P>(slots: &[Slot<P>], place: &str) -> bool
-    ensures { result ≡ false → HasNoPart (slot_at slots.now place.now) }
+    ensures { result ≡ is_some (part_at (slot_at slots.now place.now)) }
 {
     part_of(slots, place).is_some()
 }

@@ -17,7 +17,7 @@ impl<R: Read + Drop> StdSource<R> {
         ensures left { ⟦<StdSource<R> as Source>⟧.left result ≡ None }
         ensures faults { ⟦<StdSource<R> as Source>⟧.faults result ≡ 0 }
     {
-        StdSource { reader, faults: 0 }
+        StdSource::with_faults(reader, 0)
     }
 
     /// So many reads have failed before.
@@ -63,7 +63,7 @@ impl<W: Write + Drop> StdSink<W> {
         ensures held { ⟦<StdSink<W> as Sink>⟧.held result ≡ None }
         ensures faults { ⟦<StdSink<W> as Sink>⟧.faults result ≡ 0 }
     {
-        StdSink { writer, faults: 0 }
+        StdSink::with_faults(writer, 0)
     }
 
     /// So many puts have failed before.

@@ -3,6 +3,7 @@
 
 mod fixed;
 mod grammar;
+mod half_even;
 mod laws;
 mod memory;
 mod plain;

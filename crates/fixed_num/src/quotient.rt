@@ -2,6 +2,8 @@
 ghost use Rattle.std.specs.Prelude.{◌≡◌, ◌<◌, ◌*◌, ◌^◌};
 ghost use Rattle.fixed_num.specs.Rounded.{rounded};
 
+use crate::half_even::rounded_of;
+
 /// How many billionths are one.
 const BILLION: u128 = 1_000_000_000;
 
@@ -12,15 +14,7 @@ fn nearest(number: u128, divisor: u128) -> u128
     requires some { (0 < divisor) × (divisor < 2 ^ 127) }
     ensures { result ≡ rounded number divisor }
 {
-    let floor = number / divisor;
-    let left = number % divisor;
-    if 2 * left < divisor {
-        floor
-    } else if divisor < 2 * left {
-        floor + 1
-    } else {
-        floor + floor % 2
-    }
+    rounded_of(divisor, number / divisor, number % divisor)
 }
 
 /// How many billionths the quotient of two magnitudes in billionths has, rounded half to even.

@@ -97,7 +97,8 @@ impl<T: Drop> Seq<T> {
                 return Ok(());
             }
         }
-        push_to_few(&mut self.kept, alloc, item)
+        let end = self.as_slice().len();
+        insert_to_few(&mut self.kept, alloc, end, item)
     }
 
     /// Puts an element in the place of another.
@@ -209,31 +210,6 @@ fn insert_to_some<T: Drop>(
 {
     let mut items = take_all(kept, alloc)?;
     let done = items.insert(at, item);
-    *kept = Kept::Many(items);
-    done?;
-    Ok(())
-}
-
-/// One more element, behind none, or one that stands in place. After an error all is as before.
-fn push_to_few<T: Drop>(kept: &mut Kept<T>, alloc: Global, item: T) -> Result<(), OutOfMemory>
-    ensures ok { OnOk result (kept_items kept.new ≡ kept_items kept.old ++ item ∷ []) }
-    ensures err { OnErr result (kept_items kept.new ≡ kept_items kept.old) }
-{
-    if has_none(kept) {
-        *kept = Kept::One([item]);
-        return Ok(());
-    }
-    push_to_some(kept, alloc, item)
-}
-
-/// One more element, behind others that have to be taken to memory. After an error all is as before.
-#[inline(never)]
-fn push_to_some<T: Drop>(kept: &mut Kept<T>, alloc: Global, item: T) -> Result<(), OutOfMemory>
-    ensures ok { OnOk result (kept_items kept.new ≡ kept_items kept.old ++ item ∷ []) }
-    ensures err { OnErr result (kept_items kept.new ≡ kept_items kept.old) }
-{
-    let mut items = take_all(kept, alloc)?;
-    let done = items.push(item);
     *kept = Kept::Many(items);
     done?;
     Ok(())

@@ -8,6 +8,7 @@ ghost use Rattle.fixed_num.specs.View.{decimal};
 
 use crate::fixed::LIMIT;
 use crate::grammar::Parts;
+use crate::half_even::rounded_of;
 
 /// Above each number that is in range, and above each length of a text.
 const CAP: u128 = 1_000_000_000_000_000_000_000_000_000_000;
@@ -56,15 +57,7 @@ fn nearest(value: u128, exact: bool) -> u128
     ensures { result ≡ rounded (2 * value + (if exact then 0 else 1)) 20 }
 {
     let doubled = if exact { 2 * value } else { 2 * value + 1 };
-    let quotient = doubled / 20;
-    let left = doubled % 20;
-    if 2 * left < 20 {
-        quotient
-    } else if 20 < 2 * left {
-        quotient + 1
-    } else {
-        quotient + quotient % 2
-    }
+    rounded_of(20, doubled / 20, doubled % 20)
 }
 
 /// The number of the first digits, and whether the others spell 0.
@@ -215,19 +208,13 @@ pub(crate) fn power_of_ten(exponent: usize) -> u64
 
 /// A quotient, rounded half to even.
 #[tactic(auto, unfolding(crate::specs::Rounded::rounded))]
-fn nearest_quotient(number: u64, divisor: u64) -> u64
+fn nearest_quotient(number: u64, divisor: u64) -> u128
     requires { (2 ≤ divisor) × (divisor < 2 ^ 63) }
     ensures { result ≡ rounded number divisor }
 {
     let floor = number / divisor;
     let left = number % divisor;
-    if 2 * left < divisor {
-        floor
-    } else if divisor < 2 * left {
-        floor + 1
-    } else {
-        floor + floor % 2
-    }
+    rounded_of(u128::from(divisor), u128::from(floor), u128::from(left))
 }
 
 /// How many billionths the digits spell, all of whose number fits 64 bits, with so many of them behind the
@@ -239,7 +226,7 @@ fn scaled(number: u64, places: usize) -> u128
     if places <= 9 {
         u128::from(number) * u128::from(power_of_ten(9 - places))
     } else {
-        u128::from(nearest_quotient(number, power_of_ten(places - 9)))
+        nearest_quotient(number, power_of_ten(places - 9))
     }
 }
 

@@ -16,7 +16,7 @@ use graphite_text::{GraphiteKind, write_metric};
 use line_proto::{LineKind, read_line, write_line};
 use metric::Metric;
 use openmetrics_text::{ExpositionKind, read_exposition, write_batch};
-use statsd_text::{StatsdKind, read_packet};
+use statsd_text::StatsdKind;
 use std::alloc::{AllocError, AllocFailed, Global};
 use std::process::ExitCode;
 use std::{env, fmt};
@@ -146,7 +146,7 @@ impl Probe {
 
     /// Reads a piece as a StatsD line.
     fn statsd(&mut self, piece: &Piece) -> Result<(), OutOfMemory> {
-        match read_packet(self.alloc, piece.bytes(), MOMENT) {
+        match statsd_text::read_line(self.alloc, piece.bytes(), MOMENT) {
             Ok(metrics) => {
                 for metric in metrics.as_slice() {
                     self.read(metric)?;

@@ -18,7 +18,7 @@ use line_proto::{LineKind, read_line};
 use metric::{Metric, Text};
 use metric_filter::Filter;
 use openmetrics_text::{ExpositionKind, read_exposition};
-use statsd_text::{StatsdKind, read_packet};
+use statsd_text::StatsdKind;
 use std::alloc::Global;
 
 /// How many metrics a gather has room for from its start.
@@ -137,7 +137,7 @@ impl Group {
     {
         match rule.format {
             InFormat::Influx => self.read_line(alloc, rule, piece, moment),
-            InFormat::Statsd => self.read_packet(alloc, rule, piece, moment),
+            InFormat::Statsd => self.read_statsd(alloc, rule, piece, moment),
             InFormat::Graphite {
                 templates,
                 separator,
@@ -178,7 +178,7 @@ impl Group {
     }
 
     /// Keeps what is kept of a StatsD line, or counts it as refused.
-    fn read_packet(
+    fn read_statsd(
         &mut self,
         alloc: Global,
         rule: &ReadRule,
@@ -192,7 +192,7 @@ impl Group {
             (Counts (rule_view rule.now) (parts_say (statsd.reading piece.now moment)) self.old self.new) }
     {
         let (_passed, _filtered) = (self.passed, self.filtered);
-        match read_packet(alloc, piece.bytes(), moment) {
+        match statsd_text::read_line(alloc, piece.bytes(), moment) {
             Ok(metrics) => self.keep_list(alloc, rule, metrics),
             Err(fault) => self.refuse_for(fault.kind == StatsdKind::OutOfMemory),
         }

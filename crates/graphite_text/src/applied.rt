@@ -30,7 +30,7 @@ fn put_own(draft: &mut Draft, tags: &[(Text, Text)]) -> Result<(), OutOfMemory>
         → StandsFor draft.new (given ++ tags.now) []) }
 {
     for (key, value) in tags {
-        draft.tag(key.as_str(), value.as_str())?;
+        draft.tag_of(key.copy()?, value.copy()?)?;
     }
     Ok(())
 }

@@ -4,7 +4,7 @@ ghost use Rattle.std.specs.Prelude.{OnErr};
 ghost use Rattle.std.specs.Prelude.{if◌then◌else◌};
 ghost use Rattle.text_parts.specs.Adds.{Adds};
 ghost use Rattle.metric.specs.Draft.{Tag, Field};
-ghost use Rattle.metric.specs.Numbers.{is_text, number_text};
+ghost use Rattle.metric.specs.Numbers.{number_text};
 ghost use Rattle.graphite_text.specs.Writing.{value_byte, name_byte, value_part, name_part};
 ghost use Rattle.graphite_text.specs.Writing.{is_host, is_no_host, path_text, seconds_of};
 ghost use Rattle.graphite_text.specs.Writing.{line_text, field_text, metric_text};
@@ -13,7 +13,7 @@ ghost use Rattle.graphite_text.specs.Pieces.{key_text, host_text, other_text};
 use fixed_num::{Moment, OutOfMemory};
 use metric::{Metric, Text, Value};
 use std::alloc::Global;
-use text_parts::{append_int, append_signed, append_uint, append_words, settle};
+use text_parts::{append_signed, append_words, settle};
 
 /// Each byte as it stands in the value of a tag: a letter, a digit, `_` or `-`, or `_` for another.
 static VALUE_BYTES: [u8; 256] = *b"\
@@ -175,22 +175,6 @@ fn append_path(out: &mut Vec<u8>, metric: &Metric, key: &str) -> Result<(), OutO
     Ok(())
 }
 
-/// Appends a number.
-#[tactic(auto, unfolding(metric::specs::Numbers::number_text))]
-fn append_number(alloc: Global, out: &mut Vec<u8>, value: &Value) -> Result<(), OutOfMemory>
-    ensures { Adds result out.old.items out.new.items (number_text value.now) }
-{
-    match value {
-        Value::Int(n) => append_int(out, n)?,
-        Value::Uint(n) => append_uint(out, *n)?,
-        Value::Fixed(n) => n.append(alloc, out)?,
-        Value::Bool(true) => append_words(out, "1")?,
-        Value::Bool(false) => append_words(out, "0")?,
-        Value::Text(_) => {}
-    }
-    Ok(())
-}
-
 /// The seconds of a time, rounded down.
 fn seconds_of(time: Moment) -> i64
     ensures { result ≡ seconds_of time }
@@ -210,7 +194,7 @@ fn append_numbered(
 {
     append_path(out, metric, field.0.as_str())?;
     append_words(out, " ")?;
-    append_number(alloc, out, &field.1)?;
+    field.1.append_number(alloc, out)?;
     Ok(())
 }
 
@@ -229,13 +213,6 @@ fn append_line(
     Ok(())
 }
 
-/// Whether a value is a text.
-fn is_text(value: &Value) -> bool
-    ensures { result ≡ is_text value.now }
-{
-    matches!(value, Value::Text(_))
-}
-
 /// Appends the line of a field, which a text has not.
 fn append_field(
     alloc: Global,
@@ -245,7 +222,7 @@ fn append_field(
 ) -> Result<(), OutOfMemory>
     ensures { Adds result out.old.items out.new.items (field_text metric.now field.now) }
 {
-    if is_text(&field.1) {
+    if field.1.is_text() {
         return Ok(());
     }
     append_line(alloc, out, metric, field)?;

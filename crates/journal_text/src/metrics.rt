@@ -64,7 +64,7 @@ fn append_text(out: &mut Vec<u8>, text: &Text) -> Result<(), OutOfMemory>
     ensures { Adds result out.old.items out.new.items (escaped text.now) }
 {
     let bytes = text.as_str().as_bytes();
-    if text.is_plain() {
+    if text.is_known_plain() {
         out.extend_from_slice(bytes)?;
     } else {
         append_escaped(out, bytes)?;

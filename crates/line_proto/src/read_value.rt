@@ -155,7 +155,8 @@ fn text_of(alloc: Global, piece: &str, span: &Span) -> Result<Text, OutOfMemory>
     ensures { IfOk result (λ text. text ≡ text_at text_part piece.now span.now.start) }
 {
     if span.escaped {
-        return Ok(Text::of_string(part_text(alloc, &TEXT, piece, span.start)?));
+        let text = part_text(alloc, &TEXT, piece, span.start)?;
+        return Ok(Text::of_string(alloc, text)?);
     }
     Text::of(alloc, span_text(piece, span))
 }

@@ -160,7 +160,7 @@ fn append_inside(text: &Text, out: &mut Vec<u8>) -> Result<(), OutOfMemory>
     ensures { Adds result out.old.items out.new.items (escaped text_escapes (on_one_line text.now)) }
 {
     let bytes = text.as_str().as_bytes();
-    if text.is_plain() {
+    if text.is_known_plain() {
         return Ok(out.extend_from_slice(bytes)?);
     }
     append_in_line(out, &TEXT_MARKS, bytes)
@@ -179,7 +179,7 @@ fn append_name(name: &Text, out: &mut Vec<u8>) -> Result<(), OutOfMemory>
         out.push(b'_')?;
         return append_in_line(out, &NAME_MARKS, &kept[1..]);
     }
-    if name.is_plain() {
+    if name.is_known_plain() {
         return Ok(out.extend_from_slice(kept)?);
     }
     append_in_line(out, &NAME_MARKS, kept)
@@ -194,7 +194,7 @@ fn append_key(key: &Text, out: &mut Vec<u8>) -> Result<(), OutOfMemory>
     if kept.is_empty() {
         return Ok(out.push(b'_')?);
     }
-    if key.is_plain() {
+    if key.is_known_plain() {
         return Ok(out.extend_from_slice(kept)?);
     }
     append_in_line(out, &KEY_MARKS, kept)

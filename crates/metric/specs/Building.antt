@@ -1,5 +1,5 @@
 -- How a metric is made of parts.
-use Rattle.std.specs.Prelude.{◌≡◌, ◌==◌, ◌||◌, ℕ, ℤ, List, length, Result, Ok, Err, IsOk, nat_eq}
+use Rattle.std.specs.Prelude.{◌≡◌, ◌<◌, ◌==◌, ◌||◌, ℕ, ℤ, false, List, length, Result, Ok, Err, IsOk, nat_eq}
 use Rattle.std.specs.Prelude.{if◌then◌else◌}
 use Rattle.std.specs.List.{AllByRecursion, IsDistinct}
 use Rattle.std.specs.Str.{IsUtf8}
@@ -30,6 +30,13 @@ pub record IsBuilt (p : Parts) : Type 0 where
   pub fields : AllByRecursion (λ (field : List ℕ × Value). IsUtf8 field.0 × IsValue field.1) p.fields
   pub sorted : IsInKeyOrder p.tags
   pub distinct : IsDistinct (pointwise nat_eq) (keys_of p.fields)
+
+-- nothing is wrong with the parts: there is a name, a field and no empty key
+pub record IsWhole (p : Parts) : Type 0 where
+  pub named : 0 < length p.name
+  pub tag_keys : has_empty_key p.tags ≡ false
+  pub field_keys : has_empty_key p.fields ≡ false
+  pub some : 0 < length p.fields
 
 -- the metric that the parts make at a time, or the first thing that is wrong with them
 abbrev pub finished : Parts → ℤ → Result Content BuildFault

@@ -2,7 +2,7 @@
 ghost use Rattle.std.specs.Prelude.{◌≡◌, [], length, OnOk, OnErr, IfOk};
 ghost use Rattle.std.specs.List.{position};
 ghost use Rattle.std.specs.Str.{bytes_eq};
-ghost use Rattle.metric.specs.Building.{IsBuilt, parts_of, finished, Completes, Finishes};
+ghost use Rattle.metric.specs.Building.{IsBuilt, IsWhole, parts_of, finished, Completes, Finishes};
 ghost use Rattle.metric.specs.Metric.{IsMetric, IsValue};
 ghost use Rattle.metric.specs.declared.builder.BuildFault.TheVariants.{OutOfMemory};
 ghost use Rattle.metric.specs.Pairs.{with_pair, with_sorted, has_empty_key, has_empty_value, HasPlace};
@@ -123,13 +123,24 @@ impl Builder {
         put_tag(self.alloc, &mut self.content.tags, key, value)
     }
 
+    /// The same, of texts that are there.
+    pub fn tag_of(&mut self, key: Text, value: Text) -> Result<(), OutOfMemory>
+        ensures ok { OnOk result
+            (self.new ≡ record self.old { tags = with_sorted self.old.tags key value }) }
+        ensures err { OnErr result (self.new ≡ self.old) }
+    {
+        let _key = key.as_str();
+        let _value = value.as_str();
+        put_texts(self.alloc, &mut self.content.tags, key, value)
+    }
+
     /// One more field: a key that was given before keeps its place and takes this value.
     pub fn field(&mut self, key: &str, value: Value) -> Result<(), OutOfMemory>
         ensures ok { OnOk result
             (self.new ≡ record self.old { fields = with_pair self.old.fields key.now value }) }
         ensures err { OnErr result (self.new ≡ self.old) }
     {
-        in_range(&value);
+        shows_in_range(&value);
         put_field(self.alloc, &mut self.content.fields, key, value)
     }
 
@@ -156,6 +167,25 @@ impl Builder {
         let Builder { alloc, mut content } = self;
         complete(alloc, &mut content, time)?;
         Ok(Metric::of(alloc, content)?)
+    }
+
+    /// The same, of a builder in which all is there: a name, a field and no empty key.
+    pub fn complete(self, time: Moment) -> Result<Metric, OutOfMemory>
+        requires { IsWhole self }
+        ensures { IfOk result (λ metric. metric ≡ record {
+          name = self.name;
+          tags = with_values self.tags;
+          fields = self.fields;
+          time = time;
+        }) }
+    {
+        match self.finish(time) {
+            Ok(metric) => Ok(metric),
+            Err(fault) => match fault {
+                BuildFault::OutOfMemory => Err(OutOfMemory),
+                _ => unreachable!(),
+            },
+        }
     }
 }
 
@@ -185,7 +215,7 @@ fn complete(alloc: Global, content: &mut Content, time: Moment) -> Result<(), Bu
 
 /// Says that a value is in the range of its type, and UTF-8 where it is a text.
 #[inline(always)]
-fn in_range(value: &Value)
+fn shows_in_range(value: &Value)
     ensures { IsValue value.now }
 {
     match value {
@@ -206,7 +236,7 @@ fn in_range(value: &Value)
 }
 
 /// One more tag among tags sorted by key.
-pub(crate) fn put_tag(
+fn put_tag(
     alloc: Global,
     tags: &mut Seq<(Text, Text)>,
     key: &str,
@@ -216,10 +246,23 @@ pub(crate) fn put_tag(
     ensures ok { OnOk result (tags.new ≡ with_sorted tags.old key.now value.now) }
     ensures err { OnErr result (tags.new ≡ tags.old) }
 {
-    let tag = (Text::of(alloc, key)?, Text::of(alloc, value)?);
-    match place_of(tags.as_slice(), key) {
-        Ok(i) => tags.set(i, tag),
-        Err(i) => tags.insert(alloc, i, tag)?,
+    put_texts(alloc, tags, Text::of(alloc, key)?, Text::of(alloc, value)?)
+}
+
+/// The same, of texts that are there.
+pub(crate) fn put_texts(
+    alloc: Global,
+    tags: &mut Seq<(Text, Text)>,
+    key: Text,
+    value: Text,
+) -> Result<(), OutOfMemory>
+    requires { IsInKeyOrder tags.old }
+    ensures ok { OnOk result (tags.new ≡ with_sorted tags.old key value) }
+    ensures err { OnErr result (tags.new ≡ tags.old) }
+{
+    match place_of(tags.as_slice(), key.as_str()) {
+        Ok(i) => tags.set(i, (key, value)),
+        Err(i) => tags.insert(alloc, i, (key, value))?,
     }
     Ok(())
 }

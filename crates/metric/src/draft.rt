@@ -77,6 +77,23 @@ impl Draft {
         Ok(())
     }
 
+    /// The same, of texts that are there.
+    pub fn tag_of(&mut self, key: Text, value: Text) -> Result<(), OutOfMemory>
+        requires { 0 < length key }
+        ensures name { self.new.parts.name ≡ self.old.parts.name }
+        ensures ok { IfOk result (λ done. (tags : List Tag) (fields : List Field)
+            → StandsFor self.old tags fields
+            → StandsFor self.new (tags ++ (key, value) ∷ []) fields) }
+        ensures err { OnErr result (self.new ≡ self.old) }
+    {
+        if self.too_many {
+            return Ok(());
+        }
+        self.builder.tag_of(key, value)?;
+        self.too_many = MOST_TAGS < self.builder.tag_count();
+        Ok(())
+    }
+
     /// One more field. After an error the draft is as before.
     pub fn field(&mut self, key: &str, value: Value) -> Result<(), OutOfMemory>
         requires { 0 < length key.now }

@@ -49,6 +49,17 @@ impl InPlace {
         unsafe { str::from_utf8_unchecked(bytes) }
     }
 
+    /// An equal text.
+    #[inline(always)]
+    pub fn copy(&self) -> InPlace
+        ensures { result ≡ self.now }
+    {
+        InPlace {
+            cells: self.cells,
+            len: self.len,
+        }
+    }
+
     /// Whether both are kept alike: then the texts are equal. It takes one comparison for all bytes.
     #[inline(always)]
     pub fn is_kept_as(&self, other: &InPlace) -> bool

@@ -61,7 +61,7 @@ impl Metric {
     /// Says to a caller's proof what is true of each metric: its texts are UTF-8, its name, its keys and the
     /// values of its tags are filled, its keys are distinct, it has a field, and its numbers are in the
     /// ranges of their types.
-    pub fn is_metric(&self)
+    pub fn shows_metric(&self)
         ensures { IsMetric self.now }
     {
         let _content = &self.content;
@@ -119,11 +119,11 @@ impl Metric {
         ensures { IfOk result
             (λ m. m ≡ record self { tags = with_all_missing self.tags (drop from given.now) }) }
     {
-        self.is_metric();
+        self.shows_metric();
         let mut tags = tag_copies(alloc, self.tags(), given.len() - from)?;
         add_missing(alloc, &mut tags, given, from)?;
         let content = Content {
-            name: Text::of(alloc, self.name().as_str())?,
+            name: self.name().copy()?,
             tags,
             fields: Seq::of(field_copies(alloc, self.fields())?),
             time: self.time(),

@@ -4,7 +4,7 @@ ghost use Rattle.std.specs.List.{AllByRecursion, list_all};
 ghost use Rattle.metric.specs.Metric.{is_filled, IsFilled, IsFilledTag, IsTag};
 ghost use Rattle.metric.specs.Pairs.{has_key, with_missing, with_all_missing, IsInKeyOrder};
 
-use crate::builder::put_tag;
+use crate::builder::put_texts;
 use crate::{Text, Value};
 use fixed_num::{OutOfMemory, Seq};
 use std::alloc::Global;
@@ -40,8 +40,8 @@ pub(crate) fn behind_known(tags: &[(Text, Text)], given: &[(Text, Text)]) -> usi
 fn add_one(
     alloc: Global,
     tags: &mut Seq<(Text, Text)>,
-    key: &str,
-    value: &str,
+    key: &Text,
+    value: &Text,
 ) -> Result<(), OutOfMemory>
     requires sorted { IsInKeyOrder tags.old }
     requires each { AllByRecursion IsTag tags.old }
@@ -52,10 +52,11 @@ fn add_one(
     ensures sorted { OnOk result (IsInKeyOrder tags.new) }
     ensures each { OnOk result (AllByRecursion IsTag tags.new) }
 {
-    if has_key(tags.as_slice(), key) {
+    let _value = value.as_str();
+    if has_key(tags.as_slice(), key.as_str()) {
         return Ok(());
     }
-    put_tag(alloc, tags, key, value)?;
+    put_texts(alloc, tags, key.copy()?, value.copy()?)?;
     Ok(())
 }
 
@@ -76,7 +77,7 @@ pub(crate) fn add_missing(
     ensures each { OnOk result (AllByRecursion IsTag tags.new) }
 {
     for i in from..given.len() {
-        add_one(alloc, tags, given[i].0.as_str(), given[i].1.as_str())?;
+        add_one(alloc, tags, &given[i].0, &given[i].1)?;
     }
     Ok(())
 }
@@ -91,10 +92,7 @@ pub(crate) fn tag_copies(
 {
     let mut copies = Vec::with_capacity(alloc, tags.len().saturating_add(more))?;
     for tag in tags {
-        copies.push((
-            Text::of(alloc, tag.0.as_str())?,
-            Text::of(alloc, tag.1.as_str())?,
-        ))?;
+        copies.push((tag.0.copy()?, tag.1.copy()?))?;
     }
     Ok(Seq::of(copies))
 }
@@ -108,7 +106,7 @@ pub(crate) fn field_copies(
 {
     let mut copies = Vec::with_capacity(alloc, fields.len())?;
     for field in fields {
-        copies.push((Text::of(alloc, field.0.as_str())?, field.1.copy(alloc)?))?;
+        copies.push((field.0.copy()?, field.1.copy()?))?;
     }
     Ok(copies)
 }

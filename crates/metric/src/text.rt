@@ -11,6 +11,7 @@ ghost use Rattle.std.specs.Cmp.{partial_order_from_own_ties};
 ghost use Rattle.std.specs.Cmp.Rules.{comparing, hashing};
 ghost use Rattle.std.specs.Ordering.{nat_cmp, as_partial_cmp};
 ghost use Rattle.std.specs.Hash as fed;
+ghost use Rattle.std.specs.Arc.{arc_value};
 ghost use Rattle.std.specs.String.{string_bytes};
 
 use crate::in_place::{InPlace, MOST};
@@ -20,6 +21,7 @@ use std::alloc::Global;
 use std::cmp::Ordering;
 use std::hash::{Hash, Hasher};
 use std::marker::Model;
+use std::sync::Arc;
 
 /// How a text is kept.
 #[derive(Drop, Debug)]
@@ -28,13 +30,14 @@ enum Kept {
     PlainShort(InPlace),
     /// In place.
     Short(InPlace),
-    /// In memory of its own, and plain.
-    PlainLong(String),
-    /// In memory of its own.
-    Long(String),
+    /// In memory that its copies share, and plain.
+    PlainLong(Arc<String>),
+    /// In memory that its copies share.
+    Long(Arc<String>),
 }
 
-/// UTF-8 text that contracts see as its bytes. A short one takes no memory but its own.
+/// UTF-8 text that contracts see as its bytes. A short one takes no memory but its own; copies of a long one share its
+/// bytes.
 #[derive(Drop, Debug)]
 pub struct Text {
     kept: Kept,
@@ -52,7 +55,7 @@ impl Model for Text {
 }
 
 impl Text {
-    /// A copy of a text.
+    /// The text of these bytes.
     pub fn of(alloc: Global, s: &str) -> Result<Text, OutOfMemory>
         ensures { IfOk result (λ t. t ≡ s.now) }
     {
@@ -63,19 +66,35 @@ impl Text {
                 kept: short_text(plain, InPlace::of(s)),
             });
         }
-        let long = String::from_str(alloc, s)?;
+        let long = Arc::new(alloc, String::from_str(alloc, s)?)?;
         Ok(Text {
             kept: long_text(plain, long),
         })
     }
 
-    /// The text of a string.
-    pub fn of_string(string: String) -> Text
-        ensures { result ≡ string_bytes string }
+    /// The text of a string. A long one keeps the string's memory.
+    pub fn of_string(alloc: Global, string: String) -> Result<Text, OutOfMemory>
+        ensures { IfOk result (λ t. t ≡ string_bytes string) }
     {
-        Text {
-            kept: Kept::Long(string),
+        if string.len() <= MOST {
+            return Text::of(alloc, string.as_str());
         }
+        Ok(Text {
+            kept: Kept::Long(Arc::new(alloc, string)?),
+        })
+    }
+
+    /// An equal text. It takes no memory: a long one shares its bytes with it.
+    pub fn copy(&self) -> Result<Text, OutOfMemory>
+        ensures { IfOk result (λ copy. copy ≡ self.now) }
+    {
+        let kept = match &self.kept {
+            Kept::PlainShort(text) => Kept::PlainShort(text.copy()),
+            Kept::Short(text) => Kept::Short(text.copy()),
+            Kept::PlainLong(text) => Kept::PlainLong(text.clone()?),
+            Kept::Long(text) => Kept::Long(text.clone()?),
+        };
+        Ok(Text { kept })
     }
 
     /// The text.
@@ -88,9 +107,9 @@ impl Text {
         }
     }
 
-    /// Whether the text is known to have plain bytes alone: letters, digits and `_ . - :`. One that was made of a
-    /// string isn't looked at.
-    pub fn is_plain(&self) -> bool
+    /// Whether the text is known to have plain bytes alone: letters, digits and `_ . - :`. A long one that was made of
+    /// a string isn't looked at.
+    pub fn is_known_plain(&self) -> bool
         ensures { result ≡ true → list_all is_plain self.now ≡ true }
     {
         matches!(self.kept, Kept::PlainShort(_) | Kept::PlainLong(_))
@@ -110,10 +129,10 @@ fn short_text(plain: bool, text: InPlace) -> Kept
     }
 }
 
-/// A text in memory of its own.
-fn long_text(plain: bool, text: String) -> Kept
-    requires { plain ≡ true → list_all is_plain (string_bytes text) ≡ true }
-    ensures bytes { kept_bytes result ≡ string_bytes text }
+/// A text in memory that its copies share.
+fn long_text(plain: bool, text: Arc<String>) -> Kept
+    requires { plain ≡ true → list_all is_plain (string_bytes (arc_value text)) ≡ true }
+    ensures bytes { kept_bytes result ≡ string_bytes (arc_value text) }
     ensures kept { IsKept result }
 {
     if plain {

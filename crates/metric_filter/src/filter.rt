@@ -1,6 +1,7 @@
 //! Filters.
 ghost use Rattle.std.specs.Prelude.{◌≡◌, IfOk};
-ghost use Rattle.metric_filter.specs.Filter.{applied, filtered, has_no_rule, no_rules, selects};
+ghost use Rattle.metric_filter.specs.Filter.{applied, filtered, has_no_rule, left, no_rules, selects};
+ghost use Rattle.metric_filter.specs.Filter.{with_fields};
 
 use crate::left::{keeps_all, left};
 use crate::rules::{FilterRules, passes, some_matches, some_tag, tags_pass};
@@ -98,11 +99,21 @@ impl Filter {
         if !self.selects(m) {
             return Ok(None);
         }
+        self.left_of(m.copy()?)
+    }
+
+    /// What the tests of fields and tags leave of a metric, which is given up, whether or not it is selected: None exactly
+    /// where no field is left; else the metric with the fields and tags that are included and not excluded, in their
+    /// order. Where nothing is left out that is the metric itself.
+    pub fn left_of(&self, m: Metric) -> Result<Option<Metric>, OutOfMemory>
+        ensures { IfOk result (λ answer. answer ≡ with_fields (left self.now m)) }
+    {
+        m.shows_metric();
         let rules = &self.rules;
-        if keeps_all(rules, m) {
-            return Ok(Some(m.copy()?));
+        if keeps_all(rules, &m) {
+            return Ok(Some(m));
         }
-        left(self.alloc, rules, m)
+        left(self.alloc, rules, &m)
     }
 
     /// Has the filter no rule?
@@ -117,10 +128,13 @@ impl Filter {
         ensures filtered { IfOk result (λ answer. answer ≡ filtered self.now m) }
         ensures applied { IfOk result (λ answer. answer ≡ applied self.now m) }
     {
-        m.is_metric();
+        m.shows_metric();
         if self.has_no_rule() {
             return Ok(Some(m));
         }
-        self.apply(&m)
+        if !self.selects(&m) {
+            return Ok(None);
+        }
+        self.left_of(m)
     }
 }

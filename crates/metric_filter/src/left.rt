@@ -47,7 +47,7 @@ pub(crate) fn left(
 ) -> Result<Option<Metric>, OutOfMemory>
     ensures { IfOk result (λ answer. answer ≡ with_fields (left rules.now m.now)) }
 {
-    m.is_metric();
+    m.shows_metric();
     let (include, exclude) = (rules.fieldinclude.as_slice(), rules.fieldexclude.as_slice());
     let fields = kept_fields(alloc, include, exclude, m.fields())?;
     if fields.is_empty() {
@@ -55,7 +55,7 @@ pub(crate) fn left(
     }
     let (include, exclude) = (rules.taginclude.as_slice(), rules.tagexclude.as_slice());
     let content = Content {
-        name: Text::of(alloc, m.name().as_str())?,
+        name: m.name().copy()?,
         tags: Seq::of(kept_tags(alloc, include, exclude, m.tags())?),
         fields: Seq::of(fields),
         time: m.time(),
@@ -74,11 +74,10 @@ fn kept_fields(
 {
     let mut left = Vec::new(alloc);
     for field in fields {
-        let key = field.0.as_str();
-        if !keeps(include, exclude, key) {
+        if !keeps(include, exclude, field.0.as_str()) {
             continue;
         }
-        left.push((Text::of(alloc, key)?, field.1.copy(alloc)?))?;
+        left.push((field.0.copy()?, field.1.copy()?))?;
     }
     Ok(left)
 }
@@ -94,11 +93,10 @@ fn kept_tags(
 {
     let mut left = Vec::new(alloc);
     for tag in tags {
-        let key = tag.0.as_str();
-        if !keeps(include, exclude, key) {
+        if !keeps(include, exclude, tag.0.as_str()) {
             continue;
         }
-        left.push((Text::of(alloc, key)?, Text::of(alloc, tag.1.as_str())?))?;
+        left.push((tag.0.copy()?, tag.1.copy()?))?;
     }
     Ok(left)
 }

@@ -3,7 +3,7 @@ use Rattle.std.specs.Prelude.{◌≡◌, ◌<◌, ℕ, ℤ, ◌==◌, ◌||◌, 
 use Rattle.std.specs.Prelude.{codes, Option, Some, None, Ok}
 use Rattle.std.specs.List.{AllByRecursion, join_with_byte, list_any}
 use Rattle.std.specs.Str.{IsUtf8}
-use Rattle.text_parts.specs.Bytes.{hash, comma, equals_sign}
+use Rattle.text_parts.specs.Bytes.{hash, comma, colon, equals_sign, at_sign, bar}
 use Rattle.text_parts.specs.Grammar.{HasNone}
 use Rattle.text_parts.specs.Pairs.{pairs_text}
 use Rattle.fixed_num.specs.Fixed.{read_as}
@@ -11,7 +11,6 @@ use Rattle.metric.specs.declared.value.Value.{Value}
 use Rattle.metric.specs.declared.metric.Content.{Content}
 use Rattle.metric.specs.Draft.{Tag}
 use Rattle.statsd_text.specs.declared.said.Said.{Said}
-use Rattle.statsd_text.specs.Bytes.{colon, at_sign, bar}
 use Rattle.statsd_text.specs.Said.{type_of, value_of, field_of, is_positive, counted}
 use Rattle.statsd_text.specs.Reading.{content_of, has_too_many, is_blank, reading}
 

@@ -1,4 +1,3 @@
-pub mod Bytes
 pub mod Sections
 pub mod Tags
 pub mod Said

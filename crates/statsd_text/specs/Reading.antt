@@ -4,7 +4,7 @@ use Rattle.std.specs.Prelude.{if◌then◌else◌}
 use Rattle.std.specs.List.{list_any, list_all}
 use Rattle.std.specs.Str.{is_utf8}
 use Rattle.std.specs.Str.Lossy.{utf8_valid_len}
-use Rattle.text_parts.specs.Bytes.{space}
+use Rattle.text_parts.specs.Bytes.{space, colon}
 use Rattle.text_parts.specs.Chain.{◌>>=◌}
 use Rattle.text_parts.specs.Split.{is_byte, parts_of, each}
 use Rattle.metric.specs.declared.metric.Content.{Content}
@@ -13,7 +13,6 @@ use Rattle.metric.specs.Pairs.{in_key_order, with_values}
 use Rattle.statsd_text.specs.declared.fault.StatsdFault.{StatsdFault}
 use Rattle.statsd_text.specs.declared.fault.StatsdKind.TheVariants.{NotUtf8, TooMany}
 use Rattle.statsd_text.specs.declared.said.Said.{Said}
-use Rattle.statsd_text.specs.Bytes.{colon}
 use Rattle.statsd_text.specs.Sections.{fault, sections}
 use Rattle.statsd_text.specs.Tags.{head_of, later_tags}
 use Rattle.statsd_text.specs.Said.{type_name, field_name, part_of}

@@ -2,6 +2,7 @@
 use Rattle.std.specs.Prelude.{ℕ, ℤ, ◌+◌, ◌==◌, ◌||◌, Bool, true, false, zero, suc, pos, negsuc, List, length}
 use Rattle.std.specs.Prelude.{drop, codes, Option, Some, None, Result, Ok, Err, slice_index, if◌then◌else◌}
 use Rattle.std.specs.Str.{bytes_eq}
+use Rattle.text_parts.specs.Bytes.{plus, minus, at_sign, bar}
 use Rattle.text_parts.specs.Chain.{◌>>=◌}
 use Rattle.text_parts.specs.Split.{PartAt, first_part}
 use Rattle.fixed_num.specs.declared.fixed.NumFault.{NumFault}
@@ -18,7 +19,6 @@ use Rattle.statsd_text.specs.declared.said.MetricType.TheVariants.{Counter, Gaug
 use Rattle.statsd_text.specs.declared.said.FieldName.{FieldName}
 use Rattle.statsd_text.specs.declared.said.FieldName.TheVariants as names
 use Rattle.statsd_text.specs.declared.said.Said.{Said}
-use Rattle.statsd_text.specs.Bytes.{plus, minus, at_sign, bar}
 use Rattle.statsd_text.specs.Sections.{fault}
 
 -- ---- the type

@@ -2,12 +2,11 @@
 use Rattle.std.specs.Prelude.{ℕ, ◌+◌, ◌==◌, ◌&&◌, Bool, false, List, [], ◌∷◌, length, take, drop, Option}
 use Rattle.std.specs.Prelude.{Some, None, Result}
 use Rattle.std.specs.Prelude.{Ok, Err, if◌then◌else◌}
-use Rattle.text_parts.specs.Bytes.{hash}
+use Rattle.text_parts.specs.Bytes.{hash, colon, bar}
 use Rattle.text_parts.specs.Split.{PartAt, first_part}
 use Rattle.statsd_text.specs.declared.fault.StatsdFault.{StatsdFault}
 use Rattle.statsd_text.specs.declared.fault.StatsdKind.{StatsdKind}
 use Rattle.statsd_text.specs.declared.fault.StatsdKind.TheVariants.{NoColon}
-use Rattle.statsd_text.specs.Bytes.{colon, bar}
 
 -- a fault at a place
 abbrev pub fault : {A : Type 0} → StatsdKind → ℕ → Result A StatsdFault

@@ -2,13 +2,12 @@
 use Rattle.std.specs.Prelude.{ℕ, ◌==◌, ◌||◌, not, Bool, List, [], ◌∷◌, length, filter, codes, Option, Some}
 use Rattle.std.specs.Prelude.{None, Result, Ok, if◌then◌else◌}
 use Rattle.std.specs.List.{list_any}
-use Rattle.text_parts.specs.Bytes.{comma, equals_sign}
+use Rattle.text_parts.specs.Bytes.{comma, colon, equals_sign, bar}
 use Rattle.text_parts.specs.Chain.{◌>>=◌}
 use Rattle.text_parts.specs.Split.{PartAt, is_byte, first_part, parts_of, each}
 use Rattle.metric.specs.Draft.{Tag}
 use Rattle.statsd_text.specs.declared.fault.StatsdFault.{StatsdFault}
 use Rattle.statsd_text.specs.declared.fault.StatsdKind.TheVariants.{BadTag, BadName}
-use Rattle.statsd_text.specs.Bytes.{colon, bar}
 use Rattle.statsd_text.specs.Sections.{fault}
 
 -- ---- the head

@@ -40,6 +40,12 @@ pub struct StatsdFault {
     pub place: usize,
 }
 
+/// What is answered where no memory was left.
+pub(crate) const NO_MEMORY: StatsdFault = StatsdFault {
+    kind: StatsdKind::OutOfMemory,
+    place: 0,
+};
+
 /// A fault at a place.
 pub(crate) fn fault(kind: StatsdKind, place: usize) -> ReadError<StatsdFault>
     ensures { result ≡ ReadError.Fault (record { kind = kind; place = place }) }

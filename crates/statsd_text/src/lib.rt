@@ -11,4 +11,4 @@ mod tags;
 
 pub use fault::{StatsdFault, StatsdKind};
 pub use laws::{fault_is_within, read_is_written, written_is_read};
-pub use read::{read_packet, read_packet_line};
+pub use read::read_line;

@@ -1,15 +1,15 @@
 //! The metrics of a line.
 ghost use Rattle.std.specs.Prelude.{◌≡◌, ◌<◌, [], ◌∷◌, length, map, IfOk, OnOk};
 ghost use Rattle.text_parts.specs.Chain.{Gives};
-ghost use Rattle.metric.specs.Pairs.{with_sorted, with_values};
+ghost use Rattle.metric.specs.Pairs.{with_sorted};
 ghost use Rattle.statsd_text.specs.Reading.{limited, type_tag};
 ghost use Rattle.statsd_text.specs.Said.{field_name};
-ghost use Rattle.statsd_text.specs.TagMap.{IsKeyed, IsReady, kept_content};
+ghost use Rattle.statsd_text.specs.TagMap.{IsKeyed, kept_content};
 
 use crate::fault::{StatsdFault, StatsdKind, fault};
 use crate::said::Said;
 use fixed_num::{Moment, OutOfMemory, Seq};
-use metric::{BuildFault, Builder, Metric, Text};
+use metric::{Builder, Metric, Text};
 use std::alloc::Global;
 use text_parts::ReadError;
 
@@ -29,7 +29,7 @@ fn put_said(builder: &mut Builder, tags: &[(Text, Text)], said: Said) -> Result<
         (builder.new.fields ≡ (field_name said.field, said.value) ∷ []) }
 {
     for (key, value) in tags {
-        builder.tag(key.as_str(), value.as_str())?;
+        builder.tag_of(key.copy()?, value.copy()?)?;
     }
     builder.tag("metric_type", said.metric_type.name())?;
     builder.field(said.field.text(), said.value)?;
@@ -39,51 +39,32 @@ fn put_said(builder: &mut Builder, tags: &[(Text, Text)], said: Said) -> Result<
 /// The metric of a part at a time, with the tags of its line.
 fn metric_of(
     alloc: Global,
-    name: &str,
+    name: Text,
     tags: &[(Text, Text)],
     said: Said,
     moment: Moment,
 ) -> Result<Metric, OutOfMemory>
-    requires named { 0 < length name.now }
+    requires named { 0 < length name }
     requires keyed { IsKeyed tags.now }
-    ensures { IfOk result (λ metric. metric ≡ kept_content name.now tags.now moment said) }
+    ensures { IfOk result (λ metric. metric ≡ kept_content name tags.now moment said) }
 {
-    let mut builder = Builder::of(alloc, Text::of(alloc, name)?);
+    let mut builder = Builder::of(alloc, name);
     put_said(&mut builder, tags, said)?;
-    finish(builder, moment)
-}
-
-/// The metric at a time, of a builder with a name, a field and no empty key.
-fn finish(builder: Builder, moment: Moment) -> Result<Metric, OutOfMemory>
-    requires { IsReady builder }
-    ensures { IfOk result (λ metric. metric ≡ record {
-      name = builder.name;
-      tags = with_values builder.tags;
-      fields = builder.fields;
-      time = moment;
-    }) }
-{
-    match builder.finish(moment) {
-        Ok(metric) => Ok(metric),
-        Err(fault) => match fault {
-            BuildFault::OutOfMemory => Err(OutOfMemory),
-            _ => unreachable!(),
-        },
-    }
+    builder.complete(moment)
 }
 
 /// The metric of a part at a time, with the tags of its line, unless they are too many.
 fn limited_metric(
     alloc: Global,
-    name: &str,
+    name: Text,
     tags: &[(Text, Text)],
     said: Said,
     moment: Moment,
 ) -> Result<Metric, ReadError<StatsdFault>>
-    requires named { 0 < length name.now }
+    requires named { 0 < length name }
     requires keyed { IsKeyed tags.now }
     ensures { Gives (λ metric. metric ∷ []) result
-        (limited (kept_content name.now tags.now moment said ∷ [])) }
+        (limited (kept_content name tags.now moment said ∷ [])) }
 {
     let metric = metric_of(alloc, name, tags, said, moment)?;
     if metric.tags().len() > MOST_TAGS {
@@ -92,10 +73,11 @@ fn limited_metric(
     Ok(metric)
 }
 
-/// The metrics of parts of a line at a time, with the tags of the line, unless they are too many.
+/// The metrics of parts of a line at a time, with the tags of the line, unless they are too many. They share the line's
+/// texts.
 fn metrics_of_parts(
     alloc: Global,
-    name: &str,
+    name: &Text,
     tags: &[(Text, Text)],
     said: Vec<Said>,
     moment: Moment,
@@ -107,7 +89,7 @@ fn metrics_of_parts(
 {
     let mut metrics = Vec::with_capacity(alloc, said.len())?;
     for part in said {
-        metrics.push(limited_metric(alloc, name, tags, part, moment)?)?;
+        metrics.push(limited_metric(alloc, name.copy()?, tags, part, moment)?)?;
     }
     Ok(metrics)
 }
@@ -116,21 +98,21 @@ fn metrics_of_parts(
 /// one part.
 pub(crate) fn metrics_of(
     alloc: Global,
-    name: &str,
+    name: Text,
     tags: &[(Text, Text)],
     said: Seq<Said>,
     moment: Moment,
 ) -> Result<Seq<Metric>, ReadError<StatsdFault>>
-    requires named { 0 < length name.now }
+    requires named { 0 < length name }
     requires keyed { IsKeyed tags.now }
     ensures { Gives (λ metrics. metrics) result
-        (limited (map (kept_content name.now tags.now moment) said)) }
+        (limited (map (kept_content name tags.now moment) said)) }
 {
     match said.into_one() {
         Ok(said) => Ok(Seq::of_one(limited_metric(alloc, name, tags, said, moment)?)),
         Err(said) => Ok(Seq::of(metrics_of_parts(
             alloc,
-            name,
+            &name,
             tags,
             said.into_vec(alloc)?,
             moment,

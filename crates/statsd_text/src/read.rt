@@ -4,19 +4,19 @@ ghost use Rattle.text_parts.specs.Chain.{Gives};
 ghost use Rattle.statsd_text.specs.Reading.{is_blank, line_reading, text_reading, reading};
 ghost use Rattle.statsd_text.specs.Views.{Answers};
 
-use crate::fault::{StatsdFault, StatsdKind};
+use crate::fault::{NO_MEMORY, StatsdFault, StatsdKind, fault};
 use crate::metrics::metrics_of;
 use crate::said::read_parts;
 use crate::sections::sections;
 use crate::tags::{read_head, read_later_tags, with_values};
 use fixed_num::{Moment, OutOfMemory, Seq};
-use metric::Metric;
+use metric::{Metric, Text};
 use std::alloc::Global;
 use std::collections::BTreeMap;
-use text_parts::ReadError;
+use text_parts::{ReadError, answer, utf8_text};
 
 /// The metrics of a line.
-fn read_line(
+fn line_metrics(
     alloc: Global,
     piece: &str,
     moment: Moment,
@@ -29,7 +29,7 @@ fn read_line(
     read_later_tags(alloc, line.tags, &mut tags)?;
     let said = read_parts(alloc, line.parts)?;
     let tags = with_values(alloc, tags)?;
-    metrics_of(alloc, name, tags.as_slice(), said, moment)
+    metrics_of(alloc, Text::of(alloc, name)?, tags.as_slice(), said, moment)
 }
 
 /// Whether a text has nothing but spaces.
@@ -51,54 +51,32 @@ fn read_text(
     if is_blank(piece) {
         return Ok(Seq::of(Vec::new(alloc)));
     }
-    read_line(alloc, piece, moment)
+    line_metrics(alloc, piece, moment)
 }
 
-/// The fault where no memory was left.
-fn out_of_memory() -> StatsdFault
-    ensures { result ≡ record { kind = StatsdKind.OutOfMemory; place = 0 } }
+/// The metrics of a piece, none where it is blank.
+fn read_piece(
+    alloc: Global,
+    piece: &[u8],
+    moment: Moment,
+) -> Result<Seq<Metric>, ReadError<StatsdFault>>
+    ensures { Gives (λ metrics. metrics) result (reading piece.now moment) }
 {
-    StatsdFault {
-        kind: StatsdKind::OutOfMemory,
-        place: 0,
+    match utf8_text(piece) {
+        Ok(text) => read_text(alloc, text, moment),
+        Err(place) => Err(fault(StatsdKind::NotUtf8, place)),
     }
 }
 
 /// Reads a piece without its newline as a StatsD line: a name with tags, then parts, each a value with its
 /// type and perhaps a rate, then perhaps tags behind `|#`, as etsy's StatsD, DogStatsD and Telegraf have it.
 /// Gives a metric for each part, in order, at the moment that is handed in; none where the piece is empty or
-/// has nothing but spaces. `NotUtf8` comes before all else; then the first fault of the head, of the tags
+/// has nothing but spaces. They share the line's name and tags, and the list of a line of one part takes no memory
+/// but its own. `NotUtf8` comes before all else; then the first fault of the head, of the tags
 /// behind `|#`, and of the parts from left to right counts, with its place; `TooMany` comes last, where there
 /// is no other fault. `OutOfMemory`, at place 0, may come in place of any answer.
-pub fn read_packet_line(
-    alloc: Global,
-    piece: &[u8],
-    moment: Moment,
-) -> Result<Vec<Metric>, StatsdFault>
-    ensures { Answers (λ metrics. metrics.items) result (reading piece.now moment) }
-{
-    match read_packet(alloc, piece, moment)?.into_vec(alloc) {
-        Ok(metrics) => Ok(metrics),
-        Err(OutOfMemory) => Err(out_of_memory()),
-    }
-}
-
-/// Reads a piece as `read_packet_line` does. The list of a line of one part takes no memory but its own.
-pub fn read_packet(alloc: Global, piece: &[u8], moment: Moment) -> Result<Seq<Metric>, StatsdFault>
+pub fn read_line(alloc: Global, piece: &[u8], moment: Moment) -> Result<Seq<Metric>, StatsdFault>
     ensures { Answers (λ metrics. metrics) result (reading piece.now moment) }
 {
-    let text = match str::from_utf8(piece) {
-        Ok(text) => text,
-        Err(e) => {
-            return Err(StatsdFault {
-                kind: StatsdKind::NotUtf8,
-                place: e.valid_up_to(),
-            });
-        }
-    };
-    match read_text(alloc, text, moment) {
-        Ok(metrics) => Ok(metrics),
-        Err(ReadError::OutOfMemory) => Err(out_of_memory()),
-        Err(ReadError::Fault(fault)) => Err(fault),
-    }
+    answer(read_piece(alloc, piece, moment), NO_MEMORY)
 }

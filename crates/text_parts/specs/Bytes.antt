@@ -16,11 +16,23 @@ double_quote = 34
 abbrev pub hash : ℕ
 hash = 35
 
+abbrev pub plus : ℕ
+plus = 43
+
 abbrev pub comma : ℕ
 comma = 44
 
+abbrev pub minus : ℕ
+minus = 45
+
+abbrev pub colon : ℕ
+colon = 58
+
 abbrev pub equals_sign : ℕ
 equals_sign = 61
+
+abbrev pub at_sign : ℕ
+at_sign = 64
 
 abbrev pub backslash : ℕ
 backslash = 92
@@ -30,3 +42,6 @@ underscore = 95
 
 abbrev pub small_n : ℕ
 small_n = 110
+
+abbrev pub bar : ℕ
+bar = 124

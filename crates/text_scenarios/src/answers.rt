@@ -3,7 +3,7 @@ use crate::configurations::{append_configuration, append_interval};
 use crate::formats::{
     append_exposition, append_graphite, append_influx, append_statsd, append_template,
 };
-use crate::metrics::{append_filtered, append_glob, append_metric};
+use crate::metrics::{append_filtered, append_glob, append_left, append_metric};
 use crate::numbers::{append_decimal, append_grown, append_one, append_quotient, append_whole};
 use crate::parts::{
     LABEL, append_cut, append_key, append_part, append_places, append_separated, append_text,
@@ -55,6 +55,7 @@ fn answer_text(
         "metrics" => append_metric(alloc, row, piece, out),
         "globs" => append_glob(alloc, piece, out),
         "filtered" => append_filtered(alloc, row, piece, out),
+        "left" => append_left(alloc, row, piece, out),
         "quotients" => append_quotient(alloc, piece, out),
         "rooms" => append_grown(alloc, piece, out),
         "alone" => append_one(alloc, piece, out),

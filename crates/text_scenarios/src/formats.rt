@@ -6,7 +6,6 @@ use line_proto::write_line;
 use metric::Metric;
 use openmetrics_text::read_exposition;
 use scenario_tables::Row;
-use statsd_text::{read_packet, read_packet_line};
 use std::alloc::Global;
 use std::fmt::Debug;
 use std::test::Fail;
@@ -34,21 +33,11 @@ pub fn append_influx(alloc: Global, piece: &[u8], out: &mut Vec<u8>) -> Result<(
     Ok(())
 }
 
-/// Appends what a line of StatsD is read as, at the moment 50, by both calls; what the second gives is left out where
-/// it is the same.
+/// Appends what a line of StatsD is read as, at the moment 50.
 pub fn append_statsd(alloc: Global, piece: &[u8], out: &mut Vec<u8>) -> Result<(), Fail> {
-    match read_packet_line(alloc, piece, 50) {
+    match statsd_text::read_line(alloc, piece, 50) {
         Ok(metrics) => append_metrics(alloc, metrics.as_slice(), out)?,
         Err(fault) => append_fault(fault.kind, fault.place, out)?,
-    }
-    let mut other = Vec::new(alloc);
-    match read_packet(alloc, piece, 50) {
-        Ok(metrics) => append_metrics(alloc, metrics.as_slice(), &mut other)?,
-        Err(fault) => append_fault(fault.kind, fault.place, &mut other)?,
-    }
-    if other.as_slice() != out.as_slice() {
-        put(out, "in place:\n")?;
-        out.extend_from_slice(other.as_slice())?;
     }
     Ok(())
 }

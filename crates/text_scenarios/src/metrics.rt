@@ -130,3 +130,17 @@ pub fn append_filtered(
     }
     Ok(())
 }
+
+/// Appends what the tests of fields and tags of the row's inputs leave of metrics, whether or not they pass.
+pub fn append_left(alloc: Global, row: &Row, lines: &str, out: &mut Vec<u8>) -> Result<(), Fail> {
+    let metrics = metrics_of(alloc, lines)?;
+    let config = config_of(alloc, row)?;
+    for input in config.inputs.as_slice() {
+        for metric in &metrics {
+            if let Some(left) = input.filter.left_of(metric.copy()?)? {
+                write_line(alloc, &left, out)?;
+            }
+        }
+    }
+    Ok(())
+}

@@ -9,4 +9,4 @@ pub returns-then-places-le9 : goal.returns-then-places-le9
 returns-then-places-le9 c = rw (c.from.ensures, c.from-then-places-le9.ensures, c.power_of_ten.ensures) (sym (times c.args.number 9 c.args.places c.if-places-le9.true))
 
 pub returns-else-places-le9 : goal.returns-else-places-le9
-returns-else-places-le9 c = rw (c.from-else-places-le9.ensures, c.nearest_quotient.ensures, c.power_of_ten-else-places-le9.ensures) (sym (over c.args.number 9 c.args.places (omega arith)))
+returns-else-places-le9 c = rw (c.nearest_quotient.ensures, c.power_of_ten-else-places-le9.ensures) (sym (over c.args.number 9 c.args.places (omega arith)))

@@ -14,11 +14,11 @@ returns-then-is_empty c =
     let none : length c.trim-kept.result.now ≡ 0 = eqb-true _ _ (sym c.is_empty.ensures ∙ c.if-is_empty.true) in
     c.in_ok-push.ensures.items ∙ ap (λ text. c.args.out.now.items ++ text) (sym (empty_key c.args.key.now c.trim-kept.result.now is none))
 
-pub returns-then-is_plain : goal.returns-then-is_plain
-returns-then-is_plain c =
+pub returns-then-is_known_plain : goal.returns-then-is_known_plain
+returns-then-is_known_plain c =
     let is = c.trim-kept.ensures ∙ ap trimmed (c.as_bytes.ensures.value ∙ c.as_str.ensures) in
     let some : length c.trim-kept.result.now ≡ 0 → ⊥ = eqb-false _ _ (sym c.is_empty.ensures ∙ c.if-is_empty.false) in
-    c.in_ok-extend_from_slice.ensures.items ∙ ap (λ text. c.args.out.now.items ++ text) (word_key c.args.key.now c.trim-kept.result.now is (omega arith) (c.is_plain.ensures c.if-is_plain.true))
+    c.in_ok-extend_from_slice.ensures.items ∙ ap (λ text. c.args.out.now.items ++ text) (word_key c.args.key.now c.trim-kept.result.now is (omega arith) (c.is_known_plain.ensures c.if-is_known_plain.true))
 
 pub returns : goal.returns
 returns c =

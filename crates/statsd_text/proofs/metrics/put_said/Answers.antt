@@ -23,9 +23,9 @@ put_one tags old i item lt is so_far =
 
 pub loop-key-preserved : goal.loop-key-preserved
 loop-key-preserved c =
-    let put = c.in_ok-tag.ensures.ok in
-    let key = c.as_str.ensures in
-    let value = c.as_str-in-loop-key.ensures in
+    let put = c.in_ok-tag_of.ensures.ok in
+    let key = c.in_ok-copy.ensures in
+    let value = c.in_ok-copy-2.ensures in
     let one = put_one c.args.tags.now c.loop-key.builder.tags c.loop-key.key-index c.loop-key-item.result c.loop-key-test.true c.loop-key-item.is c.loop-key.invariant.tags in
     record {
       name = ap (λ (b : Parts). b.name) put ∙ c.loop-key.invariant.name;
@@ -52,16 +52,16 @@ put_first start mid end tag_key tag_value key value none put_tag put_field =
 
 pub returns-clause-name : goal.returns-clause-name
 returns-clause-name c =
-    ap (λ (b : Parts). b.name) c.in_ok-field.ensures.ok ∙ ap (λ (b : Parts). b.name) c.in_ok-tag-2.ensures.ok ∙ c.loop-key.invariant.name
+    ap (λ (b : Parts). b.name) c.in_ok-field.ensures.ok ∙ ap (λ (b : Parts). b.name) c.in_ok-tag.ensures.ok ∙ c.loop-key.invariant.name
 
 pub returns-clause-tags : goal.returns-clause-tags
 returns-clause-tags c =
-    put_tags c.loop-key.builder c.tag-2.new.self c.field.new.self c.args.tags.now c.loop-key.key-index (codes "metric_type") c.name.result.now c.text.result.now c.args.said.value
-    c.loop-key-test.false c.loop-key.invariant.tags c.requires.keyed c.in_ok-tag-2.ensures.ok c.in_ok-field.ensures.ok
+    put_tags c.loop-key.builder c.tag.new.self c.field.new.self c.args.tags.now c.loop-key.key-index (codes "metric_type") c.name.result.now c.text.result.now c.args.said.value
+    c.loop-key-test.false c.loop-key.invariant.tags c.requires.keyed c.in_ok-tag.ensures.ok c.in_ok-field.ensures.ok
     ∙ ap (with_sorted c.args.tags.now (codes "metric_type")) c.name.ensures
 
 pub returns-clause-fields : goal.returns-clause-fields
 returns-clause-fields c =
-    put_first c.loop-key.builder c.tag-2.new.self c.field.new.self (codes "metric_type") c.name.result.now c.text.result.now c.args.said.value
-    c.loop-key.invariant.fields c.in_ok-tag-2.ensures.ok c.in_ok-field.ensures.ok
+    put_first c.loop-key.builder c.tag.new.self c.field.new.self (codes "metric_type") c.name.result.now c.text.result.now c.args.said.value
+    c.loop-key.invariant.fields c.in_ok-tag.ensures.ok c.in_ok-field.ensures.ok
     ∙ ap (λ (key : List ℕ). (key, c.args.said.value) ∷ []) c.text.ensures

@@ -12,21 +12,12 @@ use Rattle.std.proofs.iter.Yields.{fronts}
 use Rattle.std.proofs.lemmas.Iterator.{zips}
 use Rattle.std.proofs.lemmas.List.{length-map, length_push, take-map}
 use Rattle.agent_base.specs.Places.{Place, Refuses, SameBut, AreHome}
-use Rattle.agent_base.specs.Views.{WorldView, OnlyIn, OnlyOut}
 use Rattle.agent_base.specs.declared.world.OpenFault.{OpenFault}
-use Rattle.agent_run.specs.PlaceLists.{AreOpened, AreGiven, AreOut, AreRefused, IsUnopenedBy, OnlyIns, OnlyOuts, OpensPart, StopsAt, TakesPart, place_at}
+use Rattle.agent_run.specs.PlaceLists.{AreOpened, AreGiven, AreOut, AreRefused, IsUnopenedBy, OpensPart, StopsAt, TakesPart, place_at}
 use Rattle.agent_run.specs.declared.places.Unopened.{Unopened}
 use Rattle.agent_workers.specs.Opened.{all_carried, carried_of}
 use Rattle.agent_run.proofs.PartLemmas.{distinct_take, give_next, go_all, go_next, next_same, place_here, stopped_out, stopped_refused, stops_at}
 use Rattle.agent_run.proofs.ZipLemmas.{turn, ended}
-
--- one input place more changed at most
-pub ins_more : (place : List ℕ) (w0 w1 w2 : WorldView) → OnlyIns w0 w1 → OnlyIn place w1 w2 → OnlyIns w0 w2
-ins_more place w0 w1 w2 h k = record { outs = λ q. k.outs q ∙ h.outs q; clocks = λ who. k.clocks who ∙ h.clocks who; report = k.report ∙ h.report }
-
--- one output place more
-pub outs_more : (place : List ℕ) (w0 w1 w2 : WorldView) → OnlyOuts w0 w1 → OnlyOut place w1 w2 → OnlyOuts w0 w2
-outs_more place w0 w1 w2 h k = record { ins = λ q. k.ins q ∙ h.ins q; clocks = λ who. k.clocks who ∙ h.clocks who; report = k.report ∙ h.report }
 
 -- ---- parts that are opened, one after the other
 

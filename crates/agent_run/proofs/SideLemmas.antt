@@ -1,5 +1,6 @@
 -- The places of both sides: what is left where they are opened, or one isn't, or they are given back.
-use Rattle.std.proofs.Common.{◌≡◌, ℕ, List, refl, ◌∙◌, inl, inr}
+use Rattle.std.proofs.Common.{◌≡◌, ℕ, List, refl, sym, ◌∙◌, subst, inl, inr}
+use Rattle.std.specs.Prelude.{IfErr, IsErrAnd, Result, Ok, Err}
 use Rattle.agent_base.specs.Places.{Place, SameAtAll, AreHome}
 use Rattle.agent_base.specs.Views.{WorldView}
 use Rattle.agent_config.specs.declared.config.Config.{Config}
@@ -48,6 +49,13 @@ module _ (unopened : Unopened) (ins outs : List (List ℕ)) (old new : WorldView
 refused_along : (unopened : Unopened) (places : List (List ℕ)) (w0 w1 w2 w3 : List ℕ → Place) → SameAtAll w0 w1 → AreRefused unopened places w1 w2 → SameAtAll w2 w3 → AreRefused unopened places w0 w3
 refused_along (Failed named) places w0 w1 w2 w3 before r after = (r.0, unopened_along named.now w0 w1 w2 w3 before r.1 after)
 refused_along OutOfMemory places w0 w1 w2 w3 before r after = λ q. after q ∙ r q ∙ before q
+
+-- so it is told by a call that stops where the place of an input wasn't opened
+pub err_left : {T : Type 0} (result : Result T Unopened) (Q : Unopened → Type 0) (unopened : Unopened) → ((x : Unopened) → Q x → x ≡ unopened) → (seen ins outs : List (List ℕ)) (old new : WorldView) → seen ≡ ins
+    → IsErrAnd result Q → AreRefused unopened seen old.ins new.ins → OnlyIns old new → IfErr result (λ x. IsLeftUnopened x ins outs old new)
+err_left (Ok value) Q unopened is seen ins outs old new e h r only = tt
+err_left (Err x) Q unopened is seen ins outs old new e h r only =
+    left_by_ins x ins outs old new (subst (λ (ps : List (List ℕ)). AreRefused x ps old.ins new.ins) e (subst (λ (u : Unopened). AreRefused u seen old.ins new.ins) (sym (is x h)) r)) only
 
 -- the inputs were opened, a place that is written wasn't, and the parts of the inputs were given back
 pub written_refused : (unopened : Unopened) (ins outs : List (List ℕ)) (read : List Carried) (w0 w1 w2 w3 : WorldView) → AreHome w0.ins → AreOpened ins read w0.ins w1.ins → OnlyIns w0 w1

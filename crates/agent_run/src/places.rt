@@ -1,8 +1,10 @@
 //! Opening the places of a configuration, and giving their parts back.
-ghost use Rattle.std.specs.Prelude.{◌≡◌, ◌≤◌, [], ◌∷◌, length, IfOk, IfErr, OnErr, OnOk, vec_capacity};
+ghost use Rattle.std.specs.Prelude.{◌≡◌, ◌≤◌, ℕ, List, Option, map, refl, true, false, [], ◌∷◌, length, IfOk, IfErr, OnErr, OnOk, vec_capacity};
 ghost use Rattle.std.specs.List.{IsDistinct};
 ghost use Rattle.std.specs.Str.{bytes_eq};
-ghost use Rattle.agent_base.specs.Places.{AreHome};
+ghost use Rattle.agent_base.specs.Places.{AreHome, Opens, Place, Refuses, SameBut, TakesIn};
+ghost use Rattle.agent_base.specs.Views.{WorldView};
+ghost use Rattle.std.proofs.Common.{◌∙◌};
 ghost use Rattle.agent_run.specs.PlaceLists.{AreGiven, AreHomeBut, AreOpened, AreOut, AreRefused, GivesAll, IsLeftUnopened, IsUnopenedBy};
 ghost use Rattle.agent_run.specs.PlaceLists.{OnlyIns, OnlyOuts, OpensAll, StopsAt};
 ghost use Rattle.agent_workers.specs.Opened.{all_carried, carried_of};
@@ -33,27 +35,155 @@ fn unopened_at(place: &str, fault: OpenFault) -> Unopened<'_>
     }
 }
 
-/// Opens the places of inputs in their order, until one isn't opened.
-fn open_each_in<'a, W: World>(
+/// One side of a world: the places that are read, or those that are written.
+trait Side<W: World> {
+    /// What names a place of the side in a configuration.
+    type Conf;
+
+    /// The part of a place.
+    type Part: Drop;
+
+    /// That place, as contracts see it.
+    ghost place_of: { Self.Conf → List ℕ };
+
+    /// The bytes that a part tells.
+    ghost bytes: { Self.Part → Option (List ℕ) };
+
+    /// Its count of faults.
+    ghost faults: { Self.Part → ℕ };
+
+    /// What a world tells of the side's places.
+    ghost places: { WorldView → List ℕ → Place };
+
+    /// Places of the side changed at most.
+    ghost only: { WorldView → WorldView → Type 0 };
+
+    /// The place that it names.
+    fn place(conf: &Self::Conf) -> &str
+        ensures { result.now ≡ place_of conf.now };
+
+    /// Moves the part of a place out; nothing else changes.
+    fn open_part(world: &mut W, place: &str) -> Result<Self::Part, OpenFault>
+        requires { (places (W.view world.old) place.now).is_out ≡ false }
+        ensures opened { IfOk result (λ part. Opens (bytes part) (faults part)
+            (places (W.view world.old) place.now) (places (W.view world.new) place.now)) }
+        ensures refused { IfErr result (λ e. Refuses e (places (W.view world.old) place.now)
+            (places (W.view world.new) place.now)) }
+        ensures others { SameBut place.now (places (W.view world.old)) (places (W.view world.new)) }
+        ensures only { only (W.view world.old) (W.view world.new) };
+
+    /// Gives the part of a place back.
+    fn give_part(world: &mut W, place: &str, part: Self::Part)
+        requires { (places (W.view world.old) place.now).is_out ≡ true }
+        ensures given { TakesIn (bytes part) (faults part)
+            (places (W.view world.old) place.now) (places (W.view world.new) place.now) }
+        ensures others { SameBut place.now (places (W.view world.old)) (places (W.view world.new)) }
+        ensures only { only (W.view world.old) (W.view world.new) };
+
+    ghost same: { (w : WorldView) → only w w };
+
+    ghost more: { (u v w : WorldView) → only u v → only v w → only u w };
+}
+
+/// The side that is read.
+struct Read;
+
+/// The side that is written.
+struct Written;
+
+impl<W: World> Side<W> for Read {
+    type Conf = InputConf;
+
+    type Part = W::In;
+
+    ghost place_of = { λ conf. conf.place };
+
+    ghost bytes = { W.In.left };
+
+    ghost faults = { W.In.faults };
+
+    ghost places = { λ w. w.ins };
+
+    ghost only = { OnlyIns };
+
+    fn place(conf: &InputConf) -> &str {
+        conf.place.as_str()
+    }
+
+    fn open_part(world: &mut W, place: &str) -> Result<W::In, OpenFault> {
+        world.open_in(place)
+    }
+
+    fn give_part(world: &mut W, place: &str, part: W::In) {
+        world.give_in(place, part);
+    }
+
+    ghost same = { λ w. record { outs = λ q. refl; clocks = λ who. refl; report = refl } };
+
+    ghost more = { λ u v w h k. record {
+      outs = λ q. k.outs q ∙ h.outs q;
+      clocks = λ who. k.clocks who ∙ h.clocks who;
+      report = k.report ∙ h.report;
+    } };
+}
+
+impl<W: World> Side<W> for Written {
+    type Conf = OutputConf;
+
+    type Part = W::Out;
+
+    ghost place_of = { λ conf. conf.place };
+
+    ghost bytes = { W.Out.held };
+
+    ghost faults = { W.Out.faults };
+
+    ghost places = { λ w. w.outs };
+
+    ghost only = { OnlyOuts };
+
+    fn place(conf: &OutputConf) -> &str {
+        conf.place.as_str()
+    }
+
+    fn open_part(world: &mut W, place: &str) -> Result<W::Out, OpenFault> {
+        world.open_out(place)
+    }
+
+    fn give_part(world: &mut W, place: &str, part: W::Out) {
+        world.give_out(place, part);
+    }
+
+    ghost same = { λ w. record { ins = λ q. refl; clocks = λ who. refl; report = refl } };
+
+    ghost more = { λ u v w h k. record {
+      ins = λ q. k.ins q ∙ h.ins q;
+      clocks = λ who. k.clocks who ∙ h.clocks who;
+      report = k.report ∙ h.report;
+    } };
+}
+
+/// Opens the places of a side in their order, until one isn't opened.
+fn open_each<'a, W: World, S: Side<W>>(
     world: &mut W,
-    inputs: &'a [InputConf],
-    parts: &mut Vec<W::In>,
+    confs: &'a [S::Conf],
+    parts: &mut Vec<S::Part>,
 ) -> Result<(), Unopened<'a>>
-    requires home { AreHome (W.view world.old).ins }
-    requires apart { IsDistinct bytes_eq (places_in inputs.now) }
+    requires home { AreHome (S.places (W.view world.old)) }
+    requires apart { IsDistinct bytes_eq (map S.place_of confs.now) }
     requires none { parts.old.items ≡ [] }
-    requires room { length inputs.now ≤ vec_capacity parts.old }
+    requires room { length confs.now ≤ vec_capacity parts.old }
     ensures opened { OnOk result
-        (AreOpened (places_in inputs.now) (all_carried W.In.left W.In.faults parts.new.items)
-        (W.view world.old).ins (W.view world.new).ins) }
+        (AreOpened (map S.place_of confs.now) (all_carried S.bytes S.faults parts.new.items)
+        (S.places (W.view world.old)) (S.places (W.view world.new))) }
     ensures stopped { IfErr result
-        (λ unopened. StopsAt unopened (places_in inputs.now)
-        (all_carried W.In.left W.In.faults parts.new.items) (W.view world.old).ins (W.view world.new).ins) }
-    ensures only { OnlyIns (W.view world.old) (W.view world.new) }
+        (λ unopened. StopsAt unopened (map S.place_of confs.now)
+        (all_carried S.bytes S.faults parts.new.items) (S.places (W.view world.old)) (S.places (W.view world.new))) }
+    ensures only { S.only (W.view world.old) (W.view world.new) }
 {
-    for input in inputs {
-        let place = input.place.as_str();
-        match world.open_in(place) {
+    for conf in confs {
+        let place = S::place(conf);
+        match S::open_part(world, place) {
             Ok(part) => parts.push_reserved(part),
             Err(fault) => return Err(unopened_at(place, fault)),
         }
@@ -61,112 +191,42 @@ fn open_each_in<'a, W: World>(
     Ok(())
 }
 
-/// Gives the parts of inputs back, in their order.
-fn give_ins<W: World>(world: &mut W, inputs: &[InputConf], parts: Vec<W::In>)
-    requires count { length parts.items ≡ length inputs.now }
-    requires apart { IsDistinct bytes_eq (places_in inputs.now) }
-    requires out { AreOut (places_in inputs.now) (W.view world.old).ins }
-    ensures given { AreGiven (places_in inputs.now) (all_carried W.In.left W.In.faults parts.items)
-        (W.view world.old).ins (W.view world.new).ins }
-    ensures only { OnlyIns (W.view world.old) (W.view world.new) }
+/// Gives the parts of a side back, in their order.
+fn give_each<W: World, S: Side<W>>(world: &mut W, confs: &[S::Conf], parts: Vec<S::Part>)
+    requires count { length parts.items ≡ length confs.now }
+    requires apart { IsDistinct bytes_eq (map S.place_of confs.now) }
+    requires out { AreOut (map S.place_of confs.now) (S.places (W.view world.old)) }
+    ensures given { AreGiven (map S.place_of confs.now) (all_carried S.bytes S.faults parts.items)
+        (S.places (W.view world.old)) (S.places (W.view world.new)) }
+    ensures only { S.only (W.view world.old) (W.view world.new) }
 {
-    for (input, part) in inputs.iter().zip(parts) {
-        world.give_in(input.place.as_str(), part);
+    for (conf, part) in confs.iter().zip(parts) {
+        S::give_part(world, S::place(conf), part);
     }
 }
 
-/// Opens the places of inputs in their order. Where one isn't opened, those that were are given back.
-fn open_ins<'a, W: World>(
+/// Opens the places of a side in their order. Where one isn't opened, those that were are given back.
+fn open_side<'a, W: World, S: Side<W>>(
     world: &mut W,
-    inputs: &'a [InputConf],
-    mut parts: Vec<W::In>,
-) -> Result<Vec<W::In>, Unopened<'a>>
-    requires home { AreHome (W.view world.old).ins }
-    requires apart { IsDistinct bytes_eq (places_in inputs.now) }
+    confs: &'a [S::Conf],
+    mut parts: Vec<S::Part>,
+) -> Result<Vec<S::Part>, Unopened<'a>>
+    requires home { AreHome (S.places (W.view world.old)) }
+    requires apart { IsDistinct bytes_eq (map S.place_of confs.now) }
     requires none { parts.items ≡ [] }
-    requires room { length inputs.now ≤ vec_capacity parts }
+    requires room { length confs.now ≤ vec_capacity parts }
     ensures opened { IfOk result
-        (λ parts. AreOpened (places_in inputs.now) (all_carried W.In.left W.In.faults parts.items)
-        (W.view world.old).ins (W.view world.new).ins) }
+        (λ parts. AreOpened (map S.place_of confs.now) (all_carried S.bytes S.faults parts.items)
+        (S.places (W.view world.old)) (S.places (W.view world.new))) }
     ensures refused { IfErr result
-        (λ unopened. AreRefused unopened (places_in inputs.now) (W.view world.old).ins
-        (W.view world.new).ins) }
-    ensures only { OnlyIns (W.view world.old) (W.view world.new) }
+        (λ unopened. AreRefused unopened (map S.place_of confs.now) (S.places (W.view world.old))
+        (S.places (W.view world.new))) }
+    ensures only { S.only (W.view world.old) (W.view world.new) }
 {
-    match open_each_in(world, inputs, &mut parts) {
+    match open_each::<W, S>(world, confs, &mut parts) {
         Ok(()) => Ok(parts),
         Err(unopened) => {
-            give_ins(world, &inputs[..parts.len()], parts);
-            Err(unopened)
-        }
-    }
-}
-
-/// Opens the places of outputs in their order, until one isn't opened.
-fn open_each_out<'a, W: World>(
-    world: &mut W,
-    outputs: &'a [OutputConf],
-    parts: &mut Vec<W::Out>,
-) -> Result<(), Unopened<'a>>
-    requires home { AreHome (W.view world.old).outs }
-    requires apart { IsDistinct bytes_eq (places_out outputs.now) }
-    requires none { parts.old.items ≡ [] }
-    requires room { length outputs.now ≤ vec_capacity parts.old }
-    ensures opened { OnOk result
-        (AreOpened (places_out outputs.now) (all_carried W.Out.held W.Out.faults parts.new.items)
-        (W.view world.old).outs (W.view world.new).outs) }
-    ensures stopped { IfErr result
-        (λ unopened. StopsAt unopened (places_out outputs.now)
-        (all_carried W.Out.held W.Out.faults parts.new.items) (W.view world.old).outs
-        (W.view world.new).outs) }
-    ensures only { OnlyOuts (W.view world.old) (W.view world.new) }
-{
-    for output in outputs {
-        let place = output.place.as_str();
-        match world.open_out(place) {
-            Ok(part) => parts.push_reserved(part),
-            Err(fault) => return Err(unopened_at(place, fault)),
-        }
-    }
-    Ok(())
-}
-
-/// Gives the parts of outputs back, in their order.
-fn give_outs<W: World>(world: &mut W, outputs: &[OutputConf], parts: Vec<W::Out>)
-    requires count { length parts.items ≡ length outputs.now }
-    requires apart { IsDistinct bytes_eq (places_out outputs.now) }
-    requires out { AreOut (places_out outputs.now) (W.view world.old).outs }
-    ensures given { AreGiven (places_out outputs.now) (all_carried W.Out.held W.Out.faults parts.items)
-        (W.view world.old).outs (W.view world.new).outs }
-    ensures only { OnlyOuts (W.view world.old) (W.view world.new) }
-{
-    for (output, part) in outputs.iter().zip(parts) {
-        world.give_out(output.place.as_str(), part);
-    }
-}
-
-/// Opens the places of outputs in their order. Where one isn't opened, those that were are given back.
-fn open_outs<'a, W: World>(
-    world: &mut W,
-    outputs: &'a [OutputConf],
-    mut parts: Vec<W::Out>,
-) -> Result<Vec<W::Out>, Unopened<'a>>
-    requires home { AreHome (W.view world.old).outs }
-    requires apart { IsDistinct bytes_eq (places_out outputs.now) }
-    requires none { parts.items ≡ [] }
-    requires room { length outputs.now ≤ vec_capacity parts }
-    ensures opened { IfOk result
-        (λ parts. AreOpened (places_out outputs.now) (all_carried W.Out.held W.Out.faults parts.items)
-        (W.view world.old).outs (W.view world.new).outs) }
-    ensures refused { IfErr result
-        (λ unopened. AreRefused unopened (places_out outputs.now) (W.view world.old).outs
-        (W.view world.new).outs) }
-    ensures only { OnlyOuts (W.view world.old) (W.view world.new) }
-{
-    match open_each_out(world, outputs, &mut parts) {
-        Ok(()) => Ok(parts),
-        Err(unopened) => {
-            give_outs(world, &outputs[..parts.len()], parts);
+            give_each::<W, S>(world, &confs[..parts.len()], parts);
             Err(unopened)
         }
     }
@@ -191,12 +251,12 @@ fn open_written<'a, W: World>(
         (W.view world.new).outs) }
     ensures only { OnlyOuts (W.view world.old) (W.view world.new) }
 {
-    let outputs = open_outs(world, config.outputs.as_slice(), parts)?;
+    let outputs = open_side::<W, Written>(world, config.outputs.as_slice(), parts)?;
     let place = config.agent.journal.as_str();
     match world.open_out(place) {
         Ok(journal) => Ok((outputs, journal)),
         Err(fault) => {
-            give_outs(world, config.outputs.as_slice(), outputs);
+            give_each::<W, Written>(world, config.outputs.as_slice(), outputs);
             Err(unopened_at(place, fault))
         }
     }
@@ -212,7 +272,7 @@ fn give_written<W: World>(world: &mut W, config: &Config, outputs: Vec<W::Out>, 
         (W.view world.old).outs (W.view world.new).outs }
     ensures only { OnlyOuts (W.view world.old) (W.view world.new) }
 {
-    give_outs(world, config.outputs.as_slice(), outputs);
+    give_each::<W, Written>(world, config.outputs.as_slice(), outputs);
     world.give_out(config.agent.journal.as_str(), journal);
 }
 
@@ -244,7 +304,7 @@ pub(crate) fn open_places<'a, W: World>(
     let Ok(outputs) = Vec::with_capacity(alloc, config.outputs.as_slice().len()) else {
         return Err(Unopened::OutOfMemory);
     };
-    let inputs = open_ins(world, config.inputs.as_slice(), inputs)?;
+    let inputs = open_side::<W, Read>(world, config.inputs.as_slice(), inputs)?;
     match open_written(world, config, outputs) {
         Ok((outputs, journal)) => Ok(Opened {
             inputs,
@@ -252,7 +312,7 @@ pub(crate) fn open_places<'a, W: World>(
             journal,
         }),
         Err(unopened) => {
-            give_ins(world, config.inputs.as_slice(), inputs);
+            give_each::<W, Read>(world, config.inputs.as_slice(), inputs);
             Err(unopened)
         }
     }
@@ -278,6 +338,6 @@ pub(crate) fn give_back<W: World>(world: &mut W, config: &Config, opened: Opened
         outputs,
         journal,
     } = opened;
-    give_ins(world, config.inputs.as_slice(), inputs);
+    give_each::<W, Read>(world, config.inputs.as_slice(), inputs);
     give_written(world, config, outputs, journal);
 }

@@ -1,5 +1,5 @@
 -- What was put of a journal's text, as far as the run has come.
-use Rattle.std.specs.Prelude.{◌≡◌, ◌≤◌, ℕ, Bool, true, false, List, ◌++◌, length, take}
+use Rattle.std.specs.Prelude.{◌≡◌, ◌≤◌, ◌+◌, ℕ, Bool, true, false, List, ◌++◌, length, take}
 use Rattle.std.specs.Io.KnownBytes.{Appends}
 use Rattle.std.specs.declared.option.Option.{Option}
 use Rattle.metric.specs.declared.metric.Content.{Content}
@@ -11,7 +11,7 @@ use Rattle.journal_text.specs.JournalText.{journal_text}
 use Rattle.agent_workers.specs.Run.{Change, change, IsPutSo}
 use Rattle.account.specs.Routes.{RoutesInOrder, RouteOnInOrder}
 use Rattle.agent_workers.specs.declared.journal.JournalJob.{JournalJob}
-use Rattle.journal_text.specs.SoFar.{text_so_far, noted_text}
+use Rattle.journal_text.specs.SoFar.{text_so_far, noted_text, SpellsOn}
 
 -- the journal's part of a run: what the journal is about, the items that have no Route yet, how many entries
 -- there were, whether a put failed, and the bytes and the count of failed puts at the journal's place
@@ -58,6 +58,24 @@ IsPartPut true now text held new_held faults new_faults = (now ≡ true) × (new
     × (new_faults ≡ faults)
 IsPartPut false now text held new_held faults new_faults = IsPutSo now
     (change held new_held faults new_faults) text × (faults ≤ new_faults)
+
+-- a text was added to one that waits: of both a front was put, unless a put failed before, and the rest waits
+pub record GoesOut (old new : JournalPart) (waiting added rest : List ℕ) : Type 0 where
+  pub front : List ℕ
+  pub all : front ++ rest ≡ waiting ++ added
+  pub put : IsPartPut old.failed new.failed front old.held new.held old.faults new.faults
+  pub about : new.setup ≡ old.setup
+  pub kept_same : new.kept ≡ old.kept
+  pub counted_same : new.entries ≡ old.entries
+
+-- entries were spelled behind a text that waits, and counted: of all this a front was put, unless a put failed
+-- before, and the rest waits
+pub record SpellsOut (entries : List Entry) (old new : JournalPart) (waiting rest : List ℕ) : Type 0 where
+  pub front : List ℕ
+  pub spelled : SpellsOn entries old.kept new.kept waiting (front ++ rest)
+  pub put : IsPartPut old.failed new.failed front old.held new.held old.faults new.faults
+  pub about : new.setup ≡ old.setup
+  pub counted : new.entries ≡ old.entries + length entries
 
 -- the part noted a journal, and now notes it with these entries behind it
 abbrev pub NotesOn : List Entry → JournalPart → JournalPart → Type 0

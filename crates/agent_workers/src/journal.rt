@@ -1,31 +1,39 @@
 //! The journal's part of a run: it puts the text of the entries as they come.
-ghost use Rattle.std.specs.Prelude.{◌≡◌, ◌≢◌, ◌+◌, ◌++◌, ◌∷◌, [], false, length, All, IfOk, OnOk};
+ghost use Rattle.std.specs.Prelude.{◌≡◌, ◌≢◌, ◌++◌, ◌∷◌, [], false, length, All, IfOk, OnOk};
 ghost use Rattle.std.specs.Option.{option_to_list};
 ghost use Rattle.account.specs.Items.{named_by};
-ghost use Rattle.journal_text.specs.JournalText.{HasItem, IsWholeOrRemoved};
+ghost use Rattle.journal_text.specs.JournalText.{entry_text, metric_lines, HasItem, IsWholeOrRemoved};
 ghost use Rattle.pipeline_core.specs.CoreState.{CoreState};
 ghost use Rattle.pipeline_core.specs.Steps.{after_cut};
-ghost use Rattle.agent_workers.specs.Noted.{part_of, IsPartPut, NotesOn, EndsOn};
+ghost use Rattle.agent_workers.specs.Noted.{part_of, IsPartPut, GoesOut, SpellsOut, NotesOn, EndsOn};
 ghost use Rattle.agent_workers.specs.Progress.{NotesRun};
 ghost use Rattle.agent_workers.specs.Running.{IsReady, HasJournal, StillStands};
-ghost use Rattle.journal_text.specs.SoFar.{front_text, SpellsOn};
+ghost use Rattle.journal_text.specs.SoFar.{front_text};
 
 use account::Entry;
 use agent_base::{PutFault, Sink};
 use fixed_num::{OutOfMemory, Seq};
-use journal_text::{JournalSetup, write_end, write_entry, write_setup};
+use journal_text::{
+    JournalSetup, named_by, write_end, write_head, write_metric, write_reports, write_setup,
+};
 use metric::Metric;
 use pipeline_core::{Core, CutAnswer};
 use std::alloc::Global;
 use std::collections::VecDeque;
 use std::mem;
 
+/// How many bytes of text wait at most behind a line that is whole: those of 1 MiB are put.
+const FULL: usize = 1 << 20;
+
+/// How many bytes of room are kept for text from one put to the next: 4 MiB.
+const MOST_ROOM: usize = 1 << 22;
+
 /// The journal's part of a run: what the journal is about, where its text goes, and what is needed to go on
 /// with it.
 ///
-/// The text goes out in parts, one put each. The first part begins with the set-up, and the last one ends
-/// with the account and the number of entries. After a put that failed nothing more is put; the entries are
-/// still counted.
+/// The text goes out in parts, one put each, which end behind a line. The first part begins with the set-up,
+/// and the last one ends with the account and the number of entries. After a put that failed nothing more is
+/// put; the entries are still counted.
 #[derive(Drop)]
 pub struct JournalJob<K: Drop, C: Drop> {
     pub setup: JournalSetup,
@@ -61,7 +69,7 @@ impl<K: Sink + Drop, C: Drop> JournalJob<K, C> {
 
     /// Puts the text of some entries, which follow those that came before, and counts them. Each Route among
     /// them names the first item that has no Route yet. The text is built in `text`, in place of what it
-    /// held.
+    /// held, and goes out in puts of at least 1 MiB and a last one, none of them empty.
     pub fn take(
         &mut self,
         alloc: Global,
@@ -74,7 +82,7 @@ impl<K: Sink + Drop, C: Drop> JournalJob<K, C> {
             (part_of K.held K.faults self.old) (part_of K.held K.faults self.new)) }
     {
         self.spell(alloc, entries, text)?;
-        self.failed = put_part(&mut self.sink, self.failed, text)?;
+        self.put_text(text)?;
         Ok(())
     }
 
@@ -92,12 +100,12 @@ impl<K: Sink + Drop, C: Drop> JournalJob<K, C> {
     {
         self.spell(alloc, entries, text)?;
         write_end(alloc, account, self.entries, text)?;
-        self.failed = put_part(&mut self.sink, self.failed, text)?;
+        self.put_text(text)?;
         Ok(())
     }
 
-    // Builds the text of the next part: entries, behind the set-up where they are the first. They are
-    // counted, and their items kept.
+    // Spells entries, behind the set-up where they are the first, counts them, and keeps their items. `text`
+    // holds what isn't put yet then.
     fn spell(
         &mut self,
         alloc: Global,
@@ -105,18 +113,113 @@ impl<K: Sink + Drop, C: Drop> JournalJob<K, C> {
         text: &mut Vec<u8>,
     ) -> Result<(), OutOfMemory>
         requires { All IsWholeOrRemoved entries.items }
-        ensures spelled { OnOk result
-            (SpellsOn entries.items self.old.kept.items self.new.kept.items
+        ensures { OnOk result (SpellsOut entries.items
+            (part_of K.held K.faults self.old) (part_of K.held K.faults self.new)
             (front_text self.old.setup self.old.entries) text.new.items) }
-        ensures counted { OnOk result (self.new.entries ≡ self.old.entries + length entries.items) }
-        ensures setup { self.new.setup ≡ self.old.setup }
-        ensures sink { self.new.sink ≡ self.old.sink }
-        ensures failed { self.new.failed ≡ self.old.failed }
     {
-        let count = entries.len() as u64;
         write_front(alloc, &self.setup, self.entries, text)?;
-        write_entries(alloc, &mut self.kept, entries, text)?;
-        self.entries = self.entries.checked_add(count).ok_or(OutOfMemory)?;
+        self.write_entries(alloc, entries, text)?;
+        Ok(())
+    }
+
+    // Spells entries behind a text.
+    fn write_entries(
+        &mut self,
+        alloc: Global,
+        mut entries: Vec<Entry>,
+        text: &mut Vec<u8>,
+    ) -> Result<(), OutOfMemory>
+        requires { All IsWholeOrRemoved entries.items }
+        ensures { OnOk result (SpellsOut entries.items
+            (part_of K.held K.faults self.old) (part_of K.held K.faults self.new)
+            text.old.items text.new.items) }
+    {
+        for entry in entries.iter_mut() {
+            self.write_one(alloc, entry, text)?;
+        }
+        Ok(())
+    }
+
+    // Spells an entry behind a text. Its metrics are taken out of it.
+    fn write_one(
+        &mut self,
+        alloc: Global,
+        entry: &mut Entry,
+        text: &mut Vec<u8>,
+    ) -> Result<(), OutOfMemory>
+        requires { IsWholeOrRemoved entry.old }
+        ensures { OnOk result (SpellsOut (entry.old ∷ [])
+            (part_of K.held K.faults self.old) (part_of K.held K.faults self.new)
+            text.old.items text.new.items) }
+    {
+        let item = item_of(&mut self.kept, entry)?;
+        self.write_lines(alloc, item.as_slice(), entry, text)?;
+        keep_named(alloc, &mut self.kept, entry)?;
+        self.entries = self.entries.checked_add(1).ok_or(OutOfMemory)?;
+        Ok(())
+    }
+
+    // Adds the lines of an entry to a text, with the item of a Route.
+    fn write_lines(
+        &mut self,
+        alloc: Global,
+        item: &[Metric],
+        entry: &Entry,
+        text: &mut Vec<u8>,
+    ) -> Result<(), OutOfMemory>
+        requires item { HasItem item.now entry.now }
+        requires whole { IsWholeOrRemoved entry.now }
+        ensures { OnOk result (GoesOut
+            (part_of K.held K.faults self.old) (part_of K.held K.faults self.new)
+            text.old.items (entry_text item.now entry.now) text.new.items) }
+    {
+        write_head(alloc, item, entry, text)?;
+        self.write_metrics(alloc, named_by(entry), text)?;
+        write_reports(entry, text)?;
+        self.put_full(text)?;
+        Ok(())
+    }
+
+    // Adds the lines of metrics to a text.
+    fn write_metrics(
+        &mut self,
+        alloc: Global,
+        metrics: &[Metric],
+        text: &mut Vec<u8>,
+    ) -> Result<(), OutOfMemory>
+        ensures { OnOk result (GoesOut
+            (part_of K.held K.faults self.old) (part_of K.held K.faults self.new)
+            text.old.items (metric_lines metrics.now) text.new.items) }
+    {
+        for metric in metrics {
+            write_metric(alloc, metric, text)?;
+            self.put_full(text)?;
+        }
+        Ok(())
+    }
+
+    // Puts a text that has come to 1 MiB, all of it.
+    fn put_full(&mut self, text: &mut Vec<u8>) -> Result<(), OutOfMemory>
+        ensures { OnOk result (GoesOut
+            (part_of K.held K.faults self.old) (part_of K.held K.faults self.new)
+            text.old.items [] text.new.items) }
+    {
+        if text.len() < FULL {
+            return Ok(());
+        }
+        self.put_text(text)?;
+        Ok(())
+    }
+
+    // Puts a text, unless it is empty or a put failed before. It is empty then.
+    fn put_text(&mut self, text: &mut Vec<u8>) -> Result<(), OutOfMemory>
+        ensures goes { OnOk result (GoesOut
+            (part_of K.held K.faults self.old) (part_of K.held K.faults self.new)
+            text.old.items [] text.new.items) }
+        ensures all { OnOk result (text.new.items ≡ []) }
+    {
+        self.failed = put_part(&mut self.sink, self.failed, text)?;
+        empty(text);
         Ok(())
     }
 }
@@ -130,50 +233,22 @@ fn write_front(
 ) -> Result<(), OutOfMemory>
     ensures { OnOk result (text.new.items ≡ front_text setup.now entries) }
 {
-    text.clear();
+    empty(text);
     if entries == 0 {
         write_setup(alloc, setup, text)?;
     }
     Ok(())
 }
 
-// Adds the text of entries, given the items that have no Route yet.
-fn write_entries(
-    alloc: Global,
-    unrouted_items: &mut VecDeque<Metric>,
-    mut entries: Vec<Entry>,
-    text: &mut Vec<u8>,
-) -> Result<(), OutOfMemory>
-    requires { All IsWholeOrRemoved entries.items }
-    ensures { OnOk result
-        (SpellsOn entries.items unrouted_items.old.items unrouted_items.new.items
-        text.old.items text.new.items) }
+// Empties a text. Some of its room is kept.
+fn empty(text: &mut Vec<u8>)
+    ensures { text.new.items ≡ [] }
 {
-    for entry in entries.iter_mut() {
-        write_one(alloc, unrouted_items, entry, text)?;
-    }
-    Ok(())
+    text.clear();
+    text.shrink_to(MOST_ROOM);
 }
 
-// Adds the text of an entry, given the items that have no Route yet. Its metrics are taken out of it.
-fn write_one(
-    alloc: Global,
-    unrouted_items: &mut VecDeque<Metric>,
-    entry: &mut Entry,
-    text: &mut Vec<u8>,
-) -> Result<(), OutOfMemory>
-    requires { IsWholeOrRemoved entry.old }
-    ensures { OnOk result
-        (SpellsOn (entry.old ∷ []) unrouted_items.old.items unrouted_items.new.items
-        text.old.items text.new.items) }
-{
-    let item = item_of(unrouted_items, entry)?;
-    write_entry(alloc, item.as_slice(), entry, text)?;
-    keep_named(alloc, unrouted_items, entry)?;
-    Ok(())
-}
-
-// Puts the text of a part, unless a put failed before, and says whether one failed.
+// Puts the text of a part, unless it is empty or a put failed before, and says whether one failed.
 fn put_part<K: Sink>(sink: &mut K, failed: bool, text: &[u8]) -> Result<bool, OutOfMemory>
     ensures { IfOk result
         (λ now. IsPartPut failed now text.now (K.held sink.old) (K.held sink.new) (K.faults sink.old)
@@ -181,6 +256,9 @@ fn put_part<K: Sink>(sink: &mut K, failed: bool, text: &[u8]) -> Result<bool, Ou
 {
     if failed {
         return Ok(true);
+    }
+    if text.is_empty() {
+        return Ok(false);
     }
     match sink.put(text) {
         Ok(()) => Ok(false),

@@ -12,7 +12,7 @@ use Rattle.account.specs.declared.entry.Verdict.TheVariants.{Passes, Consumed, L
 use Rattle.account.specs.declared.entry.Report.{Report}
 use Rattle.account.specs.declared.entry.Entry.{Entry}
 use Rattle.account.specs.declared.entry.Entry.TheVariants.{Ended, Take, Route, Tick, Stop, Begin, Done}
-use Rattle.account.specs.Says.{GatherSays, gather_of}
+use Rattle.account.specs.Says.{GatherSays, gather_of, reports_of}
 use Rattle.account.specs.Items.{items, named_by}
 use Rattle.account.specs.Views.{HasViews}
 use Rattle.std.specs.Fmt.{signed_decimal}
@@ -56,9 +56,13 @@ routed_text item (Some whole) verdict aggs outs =
     codes " " ++ whole_text item whole ++ codes " " ++ verdict_text verdict
     ++ views_text whole aggs ++ codes " /" ++ views_text whole outs ++ codes "\n"
 
+-- the line of a metric
+abbrev pub metric_line : Content → List ℕ
+metric_line m = codes "m " ++ metric_text m ++ codes "\n"
+
 -- the lines of metrics
 abbrev pub metric_lines : List Content → List ℕ
-metric_lines metrics = flat_map (λ (m : Content). codes "m " ++ metric_text m ++ codes "\n") metrics
+metric_lines metrics = flat_map metric_line metrics
 
 -- the line of a report
 unfoldable pub report_line : Report → List ℕ
@@ -85,38 +89,40 @@ gather_line input moment numbers group =
     codes "gather " ++ decimal input ++ codes " " ++ signed_decimal moment ++ spaced numbers
     ++ codes " " ++ group_text group ++ codes "\n"
 
--- the text of a Gather, and nothing where there is none
-unfoldable pub gather_text : Option GatherSays → List ℕ
-gather_text None = []
-gather_text (Some says) =
+-- the line of a Gather, and nothing where there is none
+unfoldable pub gather_head : Option GatherSays → List ℕ
+gather_head None = []
+gather_head (Some says) =
     gather_line says.input says.moment
     (says.pieces ∷ says.refused ∷ says.passed ∷ says.filtered ∷ length says.metrics ∷ []) says.group
-    ++ metric_lines says.metrics ++ report_lines says.reports
 
--- an entry, with the item of a Route: its line, its metrics and its reports
-unfoldable pub entry_text : List Content → Entry → List ℕ
-entry_text item (Ended input) = codes "ended " ++ decimal input ++ codes "\n"
-entry_text item (Take taken) = codes "take " ++ decimal taken ++ codes "\n"
-entry_text item (Route routed whole verdict aggs outs reports) =
-    codes "route " ++ decimal routed ++ routed_text item whole verdict aggs outs ++ report_lines reports
-entry_text item (Tick moment made) =
-    codes "tick " ++ signed_decimal moment ++ codes " " ++ decimal (length made) ++ codes "\n"
-    ++ metric_lines made
-entry_text item (Stop moment made) =
-    codes "stop " ++ signed_decimal moment ++ codes " " ++ decimal (length made) ++ codes "\n"
-    ++ metric_lines made
-entry_text item (Begin output from to) =
+-- the line of a Tick or a Stop: its word, the moment, and how many metrics were made
+abbrev pub made_line : List ℕ → ℤ → ℕ → List ℕ
+made_line word moment made = word ++ signed_decimal moment ++ codes " " ++ decimal made ++ codes "\n"
+
+-- the line of an entry, with the item of a Route; the lines of its metrics and of its reports stand behind it
+unfoldable pub head_text : List Content → Entry → List ℕ
+head_text item (Ended input) = codes "ended " ++ decimal input ++ codes "\n"
+head_text item (Take taken) = codes "take " ++ decimal taken ++ codes "\n"
+head_text item (Route routed whole verdict aggs outs reports) =
+    codes "route " ++ decimal routed ++ routed_text item whole verdict aggs outs
+head_text item (Tick moment made) = made_line (codes "tick ") moment (length made)
+head_text item (Stop moment made) = made_line (codes "stop ") moment (length made)
+head_text item (Begin output from to) =
     codes "begin " ++ decimal output ++ codes " " ++ decimal from ++ codes " " ++ decimal to ++ codes "\n"
-entry_text item (Done output ok reports) =
+head_text item (Done output ok reports) =
     codes "done " ++ decimal output ++ (if ok then codes " ok\n" else codes " failed\n")
-    ++ report_lines reports
-entry_text item e = gather_text (gather_of e)
+head_text item e = gather_head (gather_of e)
 
--- the text of a Route with its item, and nothing for another entry
-unfoldable pub route_text : List Content → Entry → List ℕ
-route_text item (Route routed whole verdict aggs outs reports) =
-    entry_text item (Route routed whole verdict aggs outs reports)
-route_text item _ = []
+-- an entry, with the item of a Route: its line, the metrics that it names and its reports
+unfoldable pub entry_text : List Content → Entry → List ℕ
+entry_text item e = head_text item e ++ metric_lines (named_by e) ++ report_lines (reports_of e)
+
+-- the line of a Route with its item, and nothing for another entry
+unfoldable pub route_head : List Content → Entry → List ℕ
+route_head item (Route routed whole verdict aggs outs reports) =
+    head_text item (Route routed whole verdict aggs outs reports)
+route_head item _ = []
 
 -- the item of an entry among these: that of a Route
 abbrev pub item_of : List Content → Entry → List Content

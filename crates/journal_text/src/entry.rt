@@ -1,12 +1,13 @@
 //! The entries of a journal, and its end.
-ghost use Rattle.std.specs.Prelude.{◌≡◌, ◌++◌, OnOk, OnErr, Some, true, length, codes, decimal, if◌then◌else◌};
+ghost use Rattle.std.specs.Prelude.{◌≡◌, ◌++◌, OnOk, OnErr, Some, true, codes, decimal, if◌then◌else◌};
 ghost use Rattle.text_parts.specs.Adds.{Adds};
-ghost use Rattle.std.specs.Fmt.{signed_decimal};
-ghost use Rattle.account.specs.Says.{gather_of};
+ghost use Rattle.account.specs.Items.{named_by};
+ghost use Rattle.account.specs.Says.{gather_of, reports_of};
 ghost use Rattle.journal_text.specs.JournalText.{beside_text, whole_text, view_text, views_text};
-ghost use Rattle.journal_text.specs.JournalText.{verdict_text, routed_text, metric_lines, report_line};
-ghost use Rattle.journal_text.specs.JournalText.{report_lines, group_text, spaced, gather_line, gather_text};
-ghost use Rattle.journal_text.specs.JournalText.{route_text, entry_text, end_text, HasItem, IsWholeOrRemoved};
+ghost use Rattle.journal_text.specs.JournalText.{verdict_text, routed_text, metric_line, metric_lines};
+ghost use Rattle.journal_text.specs.JournalText.{report_line, report_lines, group_text, spaced, gather_line};
+ghost use Rattle.journal_text.specs.JournalText.{gather_head, made_line, route_head, head_text, entry_text};
+ghost use Rattle.journal_text.specs.JournalText.{end_text, HasItem, IsWholeOrRemoved};
 
 use crate::metrics::append_metric;
 use account::{Entry, Report, Verdict};
@@ -182,6 +183,16 @@ fn append_routed(
     Ok(())
 }
 
+// Appends the line of a metric.
+fn append_metric_line(alloc: Global, out: &mut Vec<u8>, metric: &Metric) -> Result<(), OutOfMemory>
+    ensures { Adds result out.old.items out.new.items (metric_line metric.now) }
+{
+    append_words(out, "m ")?;
+    append_metric(alloc, out, metric)?;
+    append_words(out, "\n")?;
+    Ok(())
+}
+
 // Appends the lines of metrics.
 fn append_metric_lines(
     alloc: Global,
@@ -191,9 +202,7 @@ fn append_metric_lines(
     ensures { Adds result out.old.items out.new.items (metric_lines metrics.now) }
 {
     for metric in metrics {
-        append_words(out, "m ")?;
-        append_metric(alloc, out, metric)?;
-        append_words(out, "\n")?;
+        append_metric_line(alloc, out, metric)?;
     }
     Ok(())
 }
@@ -268,21 +277,17 @@ fn append_gather_line(
     Ok(())
 }
 
-// Appends words, a moment, the number of metrics and their lines.
+// Appends the line of a Tick or a Stop: its word, the moment, and how many metrics were made.
 fn append_made(
-    alloc: Global,
     out: &mut Vec<u8>,
-    words: &str,
+    word: &str,
     moment: &Moment,
-    made: &[Metric],
+    made: usize,
 ) -> Result<(), OutOfMemory>
-    ensures { Adds result out.old.items out.new.items
-        (words.now ++ signed_decimal moment.now ++ codes " " ++ decimal (length made.now) ++ codes "\n"
-        ++ metric_lines made.now) }
+    ensures { Adds result out.old.items out.new.items (made_line word.now moment.now made) }
 {
-    append_signed(out, words, moment)?;
-    append_line(out, " ", made.len() as u64)?;
-    append_metric_lines(alloc, out, made)?;
+    append_signed(out, word, moment)?;
+    append_line(out, " ", made as u64)?;
     Ok(())
 }
 
@@ -293,10 +298,10 @@ fn done_ending(ok: bool) -> &'static str
     if ok { " ok\n" } else { " failed\n" }
 }
 
-// Appends a Gather: its line, its metrics and its reports. Another entry adds nothing.
-#[tactic(auto, unfolding(crate::specs::JournalText::gather_text, crate::specs::JournalText::entry_text))]
-fn append_gather(alloc: Global, e: &Entry, out: &mut Vec<u8>) -> Result<(), OutOfMemory>
-    ensures { Adds result out.old.items out.new.items (gather_text (gather_of e.now)) }
+// Appends the line of a Gather. Another entry adds nothing.
+#[tactic(auto, unfolding(crate::specs::JournalText::gather_head))]
+fn append_gather(e: &Entry, out: &mut Vec<u8>) -> Result<(), OutOfMemory>
+    ensures { Adds result out.old.items out.new.items (gather_head (gather_of e.now)) }
 {
     let Entry::Gather {
         input,
@@ -307,7 +312,7 @@ fn append_gather(alloc: Global, e: &Entry, out: &mut Vec<u8>) -> Result<(), OutO
         filtered,
         metrics,
         group,
-        reports,
+        ..
     } = e
     else {
         return Ok(());
@@ -320,20 +325,18 @@ fn append_gather(alloc: Global, e: &Entry, out: &mut Vec<u8>) -> Result<(), OutO
         metrics.as_slice().len() as u64,
     ];
     append_gather_line(out, *input, moment, &numbers, *group)?;
-    append_metric_lines(alloc, out, metrics.as_slice())?;
-    append_reports(out, reports.as_slice())?;
     Ok(())
 }
 
-// Appends a Route, beside its item: its line and its reports. Another entry adds nothing.
-#[tactic(auto, unfolding(crate::specs::JournalText::route_text, crate::specs::JournalText::entry_text))]
+// Appends the line of a Route, beside its item. Another entry adds nothing.
+#[tactic(auto, unfolding(crate::specs::JournalText::route_head, crate::specs::JournalText::head_text))]
 fn append_route(
     alloc: Global,
     item: &[Metric],
     e: &Entry,
     out: &mut Vec<u8>,
 ) -> Result<(), OutOfMemory>
-    ensures { Adds result out.old.items out.new.items (route_text item.now e.now) }
+    ensures { Adds result out.old.items out.new.items (route_head item.now e.now) }
 {
     let Entry::Route {
         item: number,
@@ -341,7 +344,7 @@ fn append_route(
         verdict,
         aggs,
         outs,
-        reports,
+        ..
     } = e
     else {
         return Ok(());
@@ -349,7 +352,6 @@ fn append_route(
     let (aggs, outs) = (aggs.as_slice(), outs.as_slice());
     append_unsigned(out, "route ", *number)?;
     append_routed(alloc, out, item, whole, *verdict, aggs, outs)?;
-    append_reports(out, reports.as_slice())?;
     Ok(())
 }
 
@@ -364,34 +366,27 @@ fn append_begin(out: &mut Vec<u8>, output: u32, from: u64, to: u64) -> Result<()
     Ok(())
 }
 
-// Appends a Done: its output, how it ended, and its reports.
-fn append_done(
-    out: &mut Vec<u8>,
-    output: u32,
-    ok: bool,
-    reports: &[Report],
-) -> Result<(), OutOfMemory>
+// Appends the line of a Done: its output, and how it ended.
+fn append_done(out: &mut Vec<u8>, output: u32, ok: bool) -> Result<(), OutOfMemory>
     ensures { Adds result out.old.items out.new.items
-        (codes "done " ++ decimal output ++ (if ok then codes " ok\n" else codes " failed\n")
-        ++ report_lines reports.now) }
+        (codes "done " ++ decimal output ++ (if ok then codes " ok\n" else codes " failed\n")) }
 {
     append_numbers(out, &[("done ", u64::from(output))], done_ending(ok))?;
-    append_reports(out, reports)?;
     Ok(())
 }
 
-// Appends an entry, or a front of it.
-#[tactic(auto, unfolding(crate::specs::JournalText::entry_text, crate::specs::JournalText::gather_text, crate::specs::JournalText::route_text))]
-fn append_entry(
+// Appends the line of an entry, or a front of it.
+#[tactic(auto, unfolding(crate::specs::JournalText::head_text, crate::specs::JournalText::gather_head, crate::specs::JournalText::route_head))]
+fn append_head(
     alloc: Global,
     item: &[Metric],
     e: &Entry,
     out: &mut Vec<u8>,
 ) -> Result<(), OutOfMemory>
-    ensures { Adds result out.old.items out.new.items (entry_text item.now e.now) }
+    ensures { Adds result out.old.items out.new.items (head_text item.now e.now) }
 {
     match e {
-        Entry::Gather { .. } => append_gather(alloc, e, out),
+        Entry::Gather { .. } => append_gather(e, out),
         Entry::Ended { input } => {
             append_line(out, "ended ", u64::from(*input))?;
             Ok(())
@@ -401,15 +396,59 @@ fn append_entry(
             Ok(())
         }
         Entry::Route { .. } => append_route(alloc, item, e, out),
-        Entry::Tick { moment, made } => append_made(alloc, out, "tick ", moment, made.as_slice()),
-        Entry::Stop { moment, made } => append_made(alloc, out, "stop ", moment, made.as_slice()),
+        Entry::Tick { moment, made } => append_made(out, "tick ", moment, made.as_slice().len()),
+        Entry::Stop { moment, made } => append_made(out, "stop ", moment, made.as_slice().len()),
         Entry::Begin { output, from, to } => append_begin(out, *output, *from, *to),
-        Entry::Done {
-            output,
-            ok,
-            reports,
-        } => append_done(out, *output, *ok, reports.as_slice()),
+        Entry::Done { output, ok, .. } => append_done(out, *output, *ok),
     }
+}
+
+/// The metrics that an entry names, whose lines stand behind its own.
+pub fn named_by(e: &Entry) -> &[Metric]
+    ensures { result.now ≡ named_by e.now }
+{
+    match e {
+        Entry::Gather { metrics, .. } => metrics.as_slice(),
+        Entry::Tick { made, .. } => made.as_slice(),
+        Entry::Stop { made, .. } => made.as_slice(),
+        Entry::Ended { .. } => &[],
+        Entry::Take { .. } => &[],
+        Entry::Route { .. } => &[],
+        Entry::Begin { .. } => &[],
+        Entry::Done { .. } => &[],
+    }
+}
+
+// The groups that an entry says settled by it, whose lines are its last ones.
+fn reports_of(e: &Entry) -> &[Report]
+    ensures { result.now ≡ reports_of e.now }
+{
+    match e {
+        Entry::Gather { reports, .. } => reports.as_slice(),
+        Entry::Route { reports, .. } => reports.as_slice(),
+        Entry::Done { reports, .. } => reports.as_slice(),
+        Entry::Ended { .. } => &[],
+        Entry::Take { .. } => &[],
+        Entry::Tick { .. } => &[],
+        Entry::Stop { .. } => &[],
+        Entry::Begin { .. } => &[],
+    }
+}
+
+// Appends an entry, or a front of it.
+#[tactic(auto, unfolding(crate::specs::JournalText::entry_text))]
+fn append_entry(
+    alloc: Global,
+    item: &[Metric],
+    e: &Entry,
+    out: &mut Vec<u8>,
+) -> Result<(), OutOfMemory>
+    ensures { Adds result out.old.items out.new.items (entry_text item.now e.now) }
+{
+    append_head(alloc, item, e, out)?;
+    append_metric_lines(alloc, out, named_by(e))?;
+    append_reports(out, reports_of(e))?;
+    Ok(())
 }
 
 /// Appends an entry: its line, its metrics and its reports, in the order of the list. A Route is
@@ -428,6 +467,45 @@ pub fn write_entry(
 {
     let len = out.len();
     let written = append_entry(alloc, metrics, e, out);
+    settle(out, len, written)
+}
+
+/// Appends the line of an entry. Behind it stand the lines of the metrics that it names (`write_metric`) and of its
+/// reports (`write_reports`), and so it is an entry. A Route is written beside its item. `OutOfMemory` leaves
+/// `out` as it was.
+pub fn write_head(
+    alloc: Global,
+    metrics: &[Metric],
+    e: &Entry,
+    out: &mut Vec<u8>,
+) -> Result<(), OutOfMemory>
+    requires item { HasItem metrics.now e.now }
+    requires whole { IsWholeOrRemoved e.now }
+    ensures ok { OnOk result (out.new.items ≡ out.old.items ++ head_text metrics.now e.now) }
+    ensures err { OnErr result (out.new.items ≡ out.old.items) }
+{
+    let len = out.len();
+    let written = append_head(alloc, metrics, e, out);
+    settle(out, len, written)
+}
+
+/// Appends the line of a metric that an entry names. `OutOfMemory` leaves `out` as it was.
+pub fn write_metric(alloc: Global, metric: &Metric, out: &mut Vec<u8>) -> Result<(), OutOfMemory>
+    ensures ok { OnOk result (out.new.items ≡ out.old.items ++ metric_line metric.now) }
+    ensures err { OnErr result (out.new.items ≡ out.old.items) }
+{
+    let len = out.len();
+    let written = append_metric_line(alloc, out, metric);
+    settle(out, len, written)
+}
+
+/// Appends the lines of an entry's reports. `OutOfMemory` leaves `out` as it was.
+pub fn write_reports(e: &Entry, out: &mut Vec<u8>) -> Result<(), OutOfMemory>
+    ensures ok { OnOk result (out.new.items ≡ out.old.items ++ report_lines (reports_of e.now)) }
+    ensures err { OnErr result (out.new.items ≡ out.old.items) }
+{
+    let len = out.len();
+    let written = append_reports(out, reports_of(e));
     settle(out, len, written)
 }
 

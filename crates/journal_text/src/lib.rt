@@ -7,6 +7,6 @@ mod metrics;
 mod setup;
 
 pub use account::{AggLine, AggWord};
-pub use entry::{write_end, write_entry};
+pub use entry::{named_by, write_end, write_entry, write_head, write_metric, write_reports};
 pub use laws::{equal_are_same, text_grows};
 pub use setup::{JournalSetup, write_setup};

@@ -1,15 +1,8 @@
-use Rattle.std.proofs.Common.{◌∙◌, ◌++◌}
 use Rattle.agent_workers.specs.Noted.{part_of}
-use Rattle.journal_text.specs.JournalText.{end_text}
-use Rattle.agent_workers.proofs.NotedLemmas.{ends_noted, part_put_as}
+use Rattle.agent_workers.proofs.NotedLemmas.{ends_noted}
 use Rattle.agent_workers.proofs.journal.JournalJob.«end».Goals as goal
 
 pub returns : goal.returns
 returns g c =
-    let held = g.K.Sink.held in
-    let faults = g.K.Sink.faults in
-    let old = c.args.self.now in
-    let spelled = c.spell.new.self in
-    ends_noted c.args.entries.items c.args.account.now (part_of held faults old) (part_of held faults (record spelled { sink = c.put_part.new.sink; failed = c.in_ok-self.field-0 })) c.spell.new.text.items c.in_ok-spell.ensures.spelled c.in_ok-spell.ensures.counted
-    (part_put_as held faults spelled.failed old.failed c.in_ok-self.field-0 c.deref.result.now (c.spell.new.text.items ++ end_text c.args.account.now spelled.entries) spelled.sink old.sink c.put_part.new.sink
-    c.spell.ensures.failed (c.deref.ensures.value ∙ c.in_ok-write_end.ensures.ok) c.spell.ensures.sink c.in_ok-self.ensures)
+    ends_noted c.args.entries.items c.args.account.now (part_of g.K.Sink.held g.K.Sink.faults c.args.self.now) (part_of g.K.Sink.held g.K.Sink.faults c.spell.new.self) (part_of g.K.Sink.held g.K.Sink.faults c.put_text.new.self)
+    c.spell.new.text.items c.write_end.new.out.items c.put_text.new.text.items c.in_ok-spell.ensures c.in_ok-write_end.ensures.ok c.in_ok-put_text.ensures.goes c.in_ok-put_text.ensures.all

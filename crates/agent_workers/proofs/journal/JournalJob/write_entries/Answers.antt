@@ -2,9 +2,9 @@ use Rattle.std.proofs.Common.{◌≡◌, ◌<◌, ◌+◌, ◌∷◌, [], ℕ, L
 use Rattle.std.proofs.lemmas.List.{drop_more, drop-set-lt, get_or-drop}
 use Rattle.account.specs.declared.entry.Entry.{Entry}
 use Rattle.journal_text.specs.JournalText.{IsWholeOrRemoved}
-use Rattle.journal_text.specs.SoFar.{SpellsOn}
-use Rattle.journal_text.proofs.SoFarLemmas.{spells_no_more, spells_more, spells_all}
-use Rattle.agent_workers.proofs.journal.write_entries.Goals as goal
+use Rattle.agent_workers.specs.Noted.{part_of, SpellsOut}
+use Rattle.agent_workers.proofs.NotedLemmas.{first_none, first_more, first_all}
+use Rattle.agent_workers.proofs.journal.JournalJob.write_entries.Goals as goal
 
 -- lists that are the same from a place on have as many elements behind it
 as_long : (xs ys : List Entry) (i : ℕ) → i < length xs → drop i xs ≡ drop i ys → i < length ys
@@ -22,33 +22,35 @@ behind_one xs ys i e left lt same =
     ∙ ap (drop 1) (drop_more ys i e (as_long xs ys i lt same))
 
 pub loop-entry-init : goal.loop-entry-init
-loop-entry-init c = record {
-  spelled = spells_no_more c.args.entries.items c.args.unrouted_items.now.items c.args.text.now.items;
+loop-entry-init g c = record {
+  spelled = first_none c.args.entries.items (part_of g.K.Sink.held g.K.Sink.faults c.args.self.now) c.args.text.now.items;
   behind = c.deref_mut-entry-items.ensures.value;
 }
 
 pub loop-entry-preserved : goal.loop-entry-preserved
-loop-entry-preserved c =
+loop-entry-preserved g c =
     let lt : c.loop-entry.entry-index < length c.loop-entry.entry-items = omega (arith, c.loop-entry-test.true, c.loop-entry.auto.entry-items) in
+    let held = g.K.Sink.held in
+    let faults = g.K.Sink.faults in
     record {
       spelled =
-          spells_more c.loop-entry.entry-index c.args.entries.items c.entry-item.result c.args.unrouted_items.now.items c.loop-entry.unrouted_items.items
-          c.write_one.new.unrouted_items.items c.args.text.now.items c.loop-entry.text.items c.write_one.new.text.items
+          first_more c.loop-entry.entry-index c.args.entries.items c.entry-item.result (part_of held faults c.args.self.now) (part_of held faults c.loop-entry.self) (part_of held faults c.write_one.new.self)
+          c.args.text.now.items c.loop-entry.text.items c.write_one.new.text.items
           (as_long c.loop-entry.entry-items c.args.entries.items c.loop-entry.entry-index lt c.loop-entry.invariant.behind)
           (same_at c.loop-entry.entry-items c.args.entries.items c.loop-entry.entry-index c.entry-item.result c.entry-item.is c.loop-entry.invariant.behind)
           c.loop-entry.invariant.spelled
-          (subst (λ (e : Entry). SpellsOn (e ∷ []) c.loop-entry.unrouted_items.items c.write_one.new.unrouted_items.items c.loop-entry.text.items c.write_one.new.text.items)
+          (subst (λ (e : Entry). SpellsOut (e ∷ []) (part_of held faults c.loop-entry.self) (part_of held faults c.write_one.new.self) c.loop-entry.text.items c.write_one.new.text.items)
           (sym c.entry-item.is) c.in_ok-write_one.ensures);
       behind = behind_one c.loop-entry.entry-items c.args.entries.items c.loop-entry.entry-index c.entry-item.result c.write_one.new.entry lt c.loop-entry.invariant.behind;
     }
 
 pub returns : goal.returns
-returns c =
-    spells_all c.loop-entry.entry-index c.args.entries.items c.args.unrouted_items.now.items c.loop-entry.unrouted_items.items c.args.text.now.items c.loop-entry.text.items
+returns g c =
+    first_all c.loop-entry.entry-index c.args.entries.items (part_of g.K.Sink.held g.K.Sink.faults c.args.self.now) (part_of g.K.Sink.held g.K.Sink.faults c.loop-entry.self) c.args.text.now.items c.loop-entry.text.items
     (omega (arith, c.loop-entry-test.false, ap length c.deref_mut-entry-items.ensures.value)) c.loop-entry.invariant.spelled
 
 pub write_one-requires : goal.write_one-requires
-write_one-requires c =
+write_one-requires g c =
     let lt : c.loop-entry.entry-index < length c.loop-entry.entry-items = omega (arith, c.loop-entry-test.true, c.loop-entry.auto.entry-items) in
     subst IsWholeOrRemoved c.entry-item.is (subst IsWholeOrRemoved (sym (same_at c.loop-entry.entry-items c.args.entries.items c.loop-entry.entry-index c.entry-item.result c.entry-item.is c.loop-entry.invariant.behind))
     (c.requires c.loop-entry.entry-index c.entry-item.result (as_long c.loop-entry.entry-items c.args.entries.items c.loop-entry.entry-index lt c.loop-entry.invariant.behind)))

@@ -1,0 +1,8 @@
+use Rattle.agent_workers.specs.Noted.{part_of}
+use Rattle.agent_workers.proofs.NotedLemmas.{put_whole}
+use Rattle.agent_workers.proofs.journal.JournalJob.put_text.Goals as goal
+
+pub returns-clause-goes : goal.returns-clause-goes
+returns-clause-goes g c =
+    put_whole (part_of g.K.Sink.held g.K.Sink.faults c.args.self.now) c.in_ok-self.field-0 (g.K.Sink.held c.put_part.new.sink) (g.K.Sink.faults c.put_part.new.sink) c.deref.result.now c.args.text.now.items c.empty.new.text.items
+    c.deref.ensures.value c.empty.ensures c.in_ok-self.ensures

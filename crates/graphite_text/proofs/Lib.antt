@@ -7,3 +7,4 @@ pub mod Spelling
 pub mod Writtens
 pub mod Bytes
 pub mod Back
+pub mod Telling

@@ -80,11 +80,11 @@ written_is_read templates separator w moment value time is u few =
 
 -- ---- what is read is written
 
-path_ok : (r : Result Path ShapeFault) (path : Path) → or_bad_path r ≡ Ok path → r ≡ Ok path
+pub path_ok : (r : Result Path ShapeFault) (path : Path) → or_bad_path r ≡ Ok path → r ≡ Ok path
 path_ok (Ok p) path e = ap (λ (x : Path). Ok x) (same_ok {F = GraphiteFault} p path e)
 path_ok (Err Malformed) path e = absurd cc
 
-number_ok : (kind : GraphiteKind) (place : ℕ) (r : Result ℤ NumFault) (n : ℤ) → number_at kind place r ≡ Ok n → r ≡ Ok n
+pub number_ok : (kind : GraphiteKind) (place : ℕ) (r : Result ℤ NumFault) (n : ℤ) → number_at kind place r ≡ Ok n → r ≡ Ok n
 number_ok kind place (Ok m) n e = ap (λ (x : ℤ). Ok x) (same_ok {F = GraphiteFault} m n e)
 number_ok kind place (Err numbers.NotANumber) n e = absurd cc
 number_ok kind place (Err numbers.NumberRange) n e = absurd cc
@@ -97,7 +97,7 @@ moment_as : (place : ℕ) (moment n time : ℤ) (t : Bool) → is_minus_one n �
 moment_as place moment n time true is e = inl (is, sym (same_ok {F = GraphiteFault} moment time e))
 moment_as place moment n time false is e = fits_ok place moment n time (is_moment n) is refl e
 
-moment_ok : (place : ℕ) (moment n time : ℤ) → moment_of place moment n ≡ Ok time → IsMoment moment n time
+pub moment_ok : (place : ℕ) (moment n time : ℤ) → moment_of place moment n ≡ Ok time → IsMoment moment n time
 moment_ok place moment n time e = moment_as place moment n time (is_minus_one n) refl e
 
 time_ok : (place : ℕ) (moment : ℤ) (word : Option Spaced) (time : ℤ) → time_of moment (part_of place word) ≡ Ok time → IsTime moment word time

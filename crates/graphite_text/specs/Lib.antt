@@ -9,3 +9,4 @@ pub mod Writing
 pub mod Pieces
 pub mod Grammar
 pub mod RoundTrip
+pub mod Faults

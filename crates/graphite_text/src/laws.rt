@@ -1,4 +1,5 @@
 //! Laws of readings.
+ghost use Rattle.graphite_text.specs.Faults.{FaultIsWithin, FaultSays};
 ghost use Rattle.graphite_text.specs.Grammar.{WrittenIsRead, ReadIsWritten};
 ghost use Rattle.graphite_text.specs.RoundTrip.{WrittenIsReadBack};
 
@@ -17,4 +18,14 @@ pub fn read_is_written()
 /// moment. The seconds -1 stand for the moment of the reading.
 pub fn written_is_read_back()
     ensures { WrittenIsReadBack }
+{}
+
+/// A fault's place is in the piece, or its length.
+pub fn fault_is_within()
+    ensures { FaultIsWithin }
+{}
+
+/// A fault's kind says what stands in the piece, at its place where it has one.
+pub fn fault_says()
+    ensures { FaultSays }
 {}

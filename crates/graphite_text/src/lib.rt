@@ -11,6 +11,8 @@ mod read;
 mod write;
 
 pub use fault::{GraphiteFault, GraphiteKind};
-pub use laws::{read_is_written, written_is_read, written_is_read_back};
+pub use laws::{
+    fault_is_within, fault_says, read_is_written, written_is_read, written_is_read_back,
+};
 pub use read::read_line;
 pub use write::write_metric;

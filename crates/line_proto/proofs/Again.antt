@@ -337,14 +337,14 @@ pub record TimeRead (piece : List ℕ) (i : ℕ) (time moment : ℤ) : Type 0 wh
   pub is : IsTime written time moment
   pub text : drop i piece ≡ time_text written ++ spaces after
 
-at_end : (piece : List ℕ) (i j : ℕ) (n : ℕ) → Spans piece i j (spaces n) → (j == length piece) ≡ true → drop i piece ≡ spaces n
+pub at_end : (piece : List ℕ) (i j : ℕ) (n : ℕ) → Spans piece i j (spaces n) → (j == length piece) ≡ true → drop i piece ≡ spaces n
 at_end piece i j n s e = let all : j ≡ length piece = eqb-true j (length piece) e in s.is ∙ ap (λ (t : List ℕ). spaces n ++ t) (drop_all j piece (omega arith)) ∙ append-nil (spaces n)
 
-not_all : (piece : List ℕ) (i j : ℕ) → i ≤ j → j ≤ length piece → j ≢ length piece → i < length piece
+pub not_all : (piece : List ℕ) (i j : ℕ) → i ≤ j → j ≤ length piece → j ≢ length piece → i < length piece
 not_all piece i j a b ne = omega arith
 
 -- a byte that is no comma and ends a word, in front of the end or a space
-space_there : (piece : List ℕ) (i : ℕ) → i < length piece → Meets ends_word (drop i piece) → get_or piece i 0 ≢ 44 → get_or piece i 0 ≡ 32
+pub space_there : (piece : List ℕ) (i : ℕ) → i < length piece → Meets ends_word (drop i piece) → get_or piece i 0 ≢ 44 → get_or piece i 0 ≡ 32
 space_there piece i lt ends no_comma =
     let is : ends_word (get_or piece i 0) ≡ true = rw (← first_of) (meets_first (drop i piece) (omega (arith, length-drop i piece)) ends) in
     elim (either (eqb (get_or piece i 0) 44) (eqb (get_or piece i 0) 32) is) [
@@ -360,7 +360,7 @@ space_there piece i lt ends no_comma =
     meets_first (b ∷ bs) some e = e
 
 -- where a space stands, at least one is passed
-passes_one : (piece : List ℕ) (i j : ℕ) → get_or piece i 0 ≡ 32 → (s : SpacesRead piece i j) → 0 < s.count
+pub passes_one : (piece : List ℕ) (i j : ℕ) → get_or piece i 0 ≡ 32 → (s : SpacesRead piece i j) → 0 < s.count
 passes_one piece i j space s = some s.count refl
   where
     some : (n : ℕ) → s.count ≡ n → 0 < n

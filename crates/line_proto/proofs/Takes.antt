@@ -50,7 +50,7 @@ tag_value_takes piece i w rest value at is =
     let text : text_at tag_value_part piece i ≡ value = part.1 ∙ is.says in
     (i + length w, rw (text, part.0, not_none w is.some) refl, step piece i w rest at)
 
-key_takes : (piece : List ℕ) (i : ℕ) (w rest key : List ℕ) → At piece i (w ++ 61 ∷ rest)
+pub key_takes : (piece : List ℕ) (i : ℕ) (w rest key : List ℕ) → At piece i (w ++ 61 ∷ rest)
     → IsWritten key_part w (61 ∷ rest) key → Took (key_at piece i) piece rest key
 unfolding key_at
 key_takes piece i w rest key at is =
@@ -99,7 +99,7 @@ value_end piece i (b ∷ rest) at ends =
     let some : (i == length piece) ≡ false = ne_eqb _ _ (λ e. absurd (omega (arith, at.within))) in
     rw (some, at_byte piece i (b ∷ rest) at) ends
 
-quoted_takes : (piece : List ℕ) (i : ℕ) (w rest : List ℕ) (value : Value) → At piece i (w ++ rest) → IsQuoted w rest value
+pub quoted_takes : (piece : List ℕ) (i : ℕ) (w rest : List ℕ) (value : Value) → At piece i (w ++ rest) → IsQuoted w rest value
     → Meets ends_word rest → Took (value_at piece i) piece rest value
 unfolding value_at text_value_at
 quoted_takes piece i w rest value at is ends =

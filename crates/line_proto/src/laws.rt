@@ -1,5 +1,5 @@
 //! Laws of readings and lines.
-ghost use Rattle.line_proto.specs.Faults.{FaultIsWithin};
+ghost use Rattle.line_proto.specs.Faults.{FaultIsWithin, FaultSays};
 ghost use Rattle.line_proto.specs.Grammar.{WrittenIsRead, ReadIsWritten};
 ghost use Rattle.line_proto.specs.OneLine.{MetricIsOneLine};
 ghost use Rattle.line_proto.specs.RoundTrip.{MetricIsReadBack, ReadIsPlain};
@@ -27,6 +27,11 @@ pub fn metric_is_read_back()
 /// A fault's place is in the piece, or its length.
 pub fn fault_is_within()
     ensures { FaultIsWithin }
+{}
+
+/// A fault's kind says what stands in the piece, at its place where it has one.
+pub fn fault_says()
+    ensures { FaultSays }
 {}
 
 /// What is read of a piece without a newline and a carriage return is plain: its line is read as it.

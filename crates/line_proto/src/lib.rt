@@ -11,8 +11,8 @@ mod write;
 
 pub use fault::{LineFault, LineKind};
 pub use laws::{
-    fault_is_within, metric_is_one_line, metric_is_read_back, read_is_plain, read_is_written,
-    written_is_read,
+    fault_is_within, fault_says, metric_is_one_line, metric_is_read_back, read_is_plain,
+    read_is_written, written_is_read,
 };
 pub use read::read_line;
 pub use write::write_line;

@@ -23,3 +23,4 @@ pub mod Sweeping
 pub mod MarkTexts
 pub mod PutLemmas
 pub mod StayLemmas
+pub mod Telling

@@ -84,7 +84,7 @@ unfolding about_line
 about_takes name None h = rw (append-nil, (first_is_cut 32 name [] (name_no_space name h.clean)).0, name_is name h) refl
 about_takes name (Some text) h = rw ((first_is_cut 32 name text (name_no_space name h.clean)).1, name_is name h) refl
 
-line_takes : (line : WrittenLine) (says : LineSays) → IsLine line says → line_of (line_text line) ≡ Ok says
+pub line_takes : (line : WrittenLine) (says : LineSays) → IsLine line says → line_of (line_text line) ≡ Ok says
 unfolding line_of hash_line type_line sample_line
 line_takes (TypeLine name kind) says h = rw ((first_is_cut 32 name kind (name_no_space name (h.0).clean)).1, name_is name h.0, h.1) (ap (λ (s : LineSays). Ok s) (sym h.2))
 line_takes (HelpLine name text) says h = about_takes name text h.0 ∙ ap (λ (s : LineSays). Ok s) (sym h.1)
@@ -127,11 +127,11 @@ no_newline_end front =
 newline_taken : (text : List ℕ) → without_newline (text ++ 10 ∷ []) ≡ text
 newline_taken text = rw (ends_append (10 ∷ []) text) (without_append (10 ∷ []) text)
 
-end_taken : (front : List ℕ) (ended : Bool) → without_newline (front ++ (codes "# EOF" ++ end_text ended)) ≡ front ++ codes "# EOF"
+pub end_taken : (front : List ℕ) (ended : Bool) → without_newline (front ++ (codes "# EOF" ++ end_text ended)) ≡ front ++ codes "# EOF"
 end_taken front true = ap without_newline (sym (append_assoc front (codes "# EOF") (10 ∷ []))) ∙ newline_taken (front ++ codes "# EOF")
 end_taken front false = rw (no_newline_end front) refl
 
-before_some : (text : List ℕ) → before_last (text ++ 10 ∷ codes "# EOF") ≡ Some (Some text)
+pub before_some : (text : List ℕ) → before_last (text ++ 10 ∷ codes "# EOF") ≡ Some (Some text)
 before_some text =
     let other : bytes_eq (text ++ 10 ∷ codes "# EOF") (codes "# EOF") ≡ false =
     not_same (bytes_eq (text ++ 10 ∷ codes "# EOF") (codes "# EOF")) (λ e. absurd (omega (arith, ap length ((bytes_eq-Decides (text ++ 10 ∷ codes "# EOF") (codes "# EOF")).0 e), length-append text (10 ∷ codes "# EOF")))) in

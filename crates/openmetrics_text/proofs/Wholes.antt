@@ -29,14 +29,14 @@ use Rattle.openmetrics_text.proofs.Spells.{joined}
 
 -- ---- the head
 
-record HeadRead (line : List ℕ) (head : Head) : Type 0 where
-  braces : Option (List (List ℕ × List ℕ))
-  name : IsName ends_name head.name
-  labels : AreBraced braces head.labels
-  distinct : has_twice [] (names_of head.labels) ≡ false
-  spans : Spans line 0 head.behind (head.name ++ braces_text braces)
+pub record HeadRead (line : List ℕ) (head : Head) : Type 0 where
+  pub braces : Option (List (List ℕ × List ℕ))
+  pub name : IsName ends_name head.name
+  pub labels : AreBraced braces head.labels
+  pub distinct : has_twice [] (names_of head.labels) ≡ false
+  pub spans : Spans line 0 head.behind (head.name ++ braces_text braces)
 
-head_again : (line : List ℕ) (head : Head) → head_of line ≡ Ok head → HeadRead line head
+pub head_again : (line : List ℕ) (head : Head) → head_of line ≡ Ok head → HeadRead line head
 unfolding head_of has_twice
 head_again line head e =
     let n : ℕ = name_len ends_name line in
@@ -70,11 +70,11 @@ head_again line head e =
 
 -- ---- the number and the time
 
-record ShapeRead (text : List ℕ) (shape : Shape) : Type 0 where
-  exemplar : Option (List ℕ)
-  number_whole : HasNone (is_byte 32) shape.number
-  time_whole : HasNoSpace shape.time
-  is : text ≡ shape.number ++ (time_text shape.time ++ exemplar_text exemplar)
+pub record ShapeRead (text : List ℕ) (shape : Shape) : Type 0 where
+  pub exemplar : Option (List ℕ)
+  pub number_whole : HasNone (is_byte 32) shape.number
+  pub time_whole : HasNoSpace shape.time
+  pub is : text ≡ shape.number ++ (time_text shape.time ++ exemplar_text exemplar)
 
 exemplar_again : (text : List ℕ) → is_exemplar text ≡ true → text ≡ 35 ∷ 32 ∷ drop 2 text
 exemplar_again text e =
@@ -109,7 +109,7 @@ numbered_again text number (Some rest) shape whole is e =
           subst (λ (s : Shape). ShapeRead text s) t.same (record { exemplar = t.exemplar; number_whole = whole; time_whole = cut.1; is = is ∙ ap (λ (l : List ℕ). number ++ 32 ∷ l) (cut.0 ∙ ap (λ (l : List ℕ). (first_part 32 rest).0 ++ l) t.rest) })
     ] refl e
 
-shape_again : (text : List ℕ) (shape : Shape) → shape_of text ≡ Ok shape → ShapeRead text shape
+pub shape_again : (text : List ℕ) (shape : Shape) → shape_of text ≡ Ok shape → ShapeRead text shape
 unfolding shape_of
 shape_again text shape e = let cut = cut_is_first 32 text in numbered_again text (first_part 32 text).0 (first_part 32 text).1 shape cut.1 cut.0 e
 
@@ -293,7 +293,7 @@ ends_again : (word text : List ℕ) → ends_with word text ≡ true → text �
 ends_again word text e =
     sym (take-append-drop (length text - length word) text) ∙ ap (λ (t : List ℕ). take (length text - length word) text ++ t) ((bytes_eq-Decides (drop (length text - length word) text) word).0 e)
 
-newline_again : (piece : List ℕ) → (ended : Bool) × (piece ≡ without_newline piece ++ end_text ended)
+pub newline_again : (piece : List ℕ) → (ended : Bool) × (piece ≡ without_newline piece ++ end_text ended)
 newline_again piece =
     elim (ends_with (10 ∷ []) piece) as (λ t. ends_with (10 ∷ []) piece ≡ t → (ended : Bool) × (piece ≡ cond t (without_end (10 ∷ []) piece) piece ++ end_text ended)) [
       | true ↦ λ e. (true, ends_again (10 ∷ []) piece e)
@@ -301,14 +301,14 @@ newline_again piece =
     ] refl
 
 -- what stands before the last line, with its newline
-abbrev before_text : Option (List ℕ) → List ℕ
+abbrev pub before_text : Option (List ℕ) → List ℕ
 before_text None = []
 before_text (Some text) = text ++ 10 ∷ []
 
 some_ok : (a b : Option (List ℕ)) → (let l : Option (Option (List ℕ)) = Some a in l) ≡ Some b → a ≡ b
 some_ok a b e = cc
 
-before_again : (text : List ℕ) (front : Option (List ℕ)) → before_last text ≡ Some front → text ≡ before_text front ++ codes "# EOF"
+pub before_again : (text : List ℕ) (front : Option (List ℕ)) → before_last text ≡ Some front → text ≡ before_text front ++ codes "# EOF"
 before_again text front e =
     elim (bytes_eq text (codes "# EOF")) as (λ t. bytes_eq text (codes "# EOF") ≡ t → cond t (Some None) (cond (ends_with (10 ∷ codes "# EOF") text) (Some (Some (without_end (10 ∷ codes "# EOF") text))) None) ≡ Some front → text ≡ before_text front ++ codes "# EOF") [
       | true ↦ λ test e. (bytes_eq-Decides text (codes "# EOF")).0 test ∙ ap (λ (f : Option (List ℕ)). before_text f ++ codes "# EOF") (some_ok None front e)

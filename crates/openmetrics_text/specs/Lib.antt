@@ -14,3 +14,4 @@ pub mod Writing
 pub mod Groups
 pub mod WriteViews
 pub mod RoundTrip
+pub mod FaultLines

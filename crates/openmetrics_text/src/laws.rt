@@ -1,4 +1,5 @@
 //! Laws of readings.
+ghost use Rattle.openmetrics_text.specs.FaultLines.{FaultSays};
 ghost use Rattle.openmetrics_text.specs.Grammar.{WrittenIsRead, ReadIsWritten};
 ghost use Rattle.openmetrics_text.specs.RoundTrip.{WrittenIsReadBack};
 
@@ -16,4 +17,9 @@ pub fn read_is_written()
 /// is passed over: each with its family, its labels as tags, its number and its time.
 pub fn written_is_read_back()
     ensures { WrittenIsReadBack }
+{}
+
+/// A fault's kind says what stands in the line that begins at its place, or in the piece.
+pub fn fault_says()
+    ensures { FaultSays }
 {}

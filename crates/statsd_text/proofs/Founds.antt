@@ -285,7 +285,7 @@ later_written place ((b ∷ bs) ∷ texts) tags commas e =
 -- ---- the sections
 
 -- a text has no `|#`, or is cut at its first one
-marker_cut : (bs : List ℕ) → (marker_len bs ≡ length bs) ⊎ (bs ≡ take (marker_len bs) bs ++ 124 ∷ 35 ∷ drop (marker_len bs + 2) bs)
+pub marker_cut : (bs : List ℕ) → (marker_len bs ≡ length bs) ⊎ (bs ≡ take (marker_len bs) bs ++ 124 ∷ 35 ∷ drop (marker_len bs + 2) bs)
 unfolding marker_len
 marker_cut [] = inl refl
 marker_cut (b ∷ []) = inl refl
@@ -387,6 +387,29 @@ record LineWritten (piece : List ℕ) (moment : ℤ) (metrics : List Content) : 
   few : list_any has_too_many metrics ≡ false
   are : metrics ≡ metrics_of w said moment
 
+-- the line that a head, tags and parts were read from
+pub record LineFound (piece : List ℕ) (moment : ℤ) (name : List ℕ) (tags : List Tag) (said : List Said) : Type 0 where
+  pub w : Written
+  pub is : piece ≡ line_spelling w
+  pub line : IsLine w said
+  pub are : map (content_of name tags moment) said ≡ metrics_of w said moment
+
+pub line_found : (piece front rest : List ℕ) (moment : ℤ) (name : List ℕ) (tags later : List Tag) (said : List Said) → piece ≡ front ++ 58 ∷ rest → HasNone (is_byte 58) front
+    → head_of front ≡ Ok (name, tags) → later_tags (length front + 1 + marker_len rest + 2, drop (marker_len rest + 2) rest) ≡ Ok later
+    → each part_of (parts_of 58 (length front + 1, take (marker_len rest) rest)) ≡ Ok said → LineFound piece moment name (tags ++ later) said
+line_found piece front rest moment name tags later said whole colons head behind parts_read =
+    let h = head_written front name tags colons head in
+    let end = end_written (length front + 1 + marker_len rest + 2) rest later behind in
+    let parts = all_parts_written (length front + 1) (take (marker_len rest) rest) said parts_read in
+    let w : Written = record { name = name; tags = tags; first = parts.first; others = parts.others; later = end.later } in
+    let body : rest ≡ parts_spelling w ++ end_spelling end.later = end.is ∙ ap (λ (t : List ℕ). t ++ end_spelling end.later) parts.is in
+    record {
+      w = w;
+      is = whole ∙ ap (λ (t : List ℕ). t ++ 58 ∷ rest) h.is ∙ ap (λ (t : List ℕ). (name ++ pairs_text tags) ++ 58 ∷ t) body;
+      line = record { filled = h.filled; name = h.none; tags = h.pairs; parts = parts.are; later = end.are };
+      are = ap (λ (ts : List Tag). map (content_of name (tags ++ ts) moment) said) (sym end.given);
+    }
+
 line_from : (piece front rest : List ℕ) (line : Sections) (moment : ℤ) (metrics : List Content) → piece ≡ front ++ 58 ∷ rest → HasNone (is_byte 58) front
     → line ≡ record {
       head = front;
@@ -401,18 +424,14 @@ line_from piece front rest line moment metrics whole colons is e =
     let later = bind_ok (later_tags (length front + 1 + marker_len rest + 2, drop (marker_len rest + 2) rest)) _ metrics head.2 in
     let said = bind_ok (each part_of (parts_of 58 (length front + 1, take (marker_len rest) rest))) _ metrics later.2 in
     let few = limited_ok (map (content_of head.0.0 (head.0.1 ++ later.0) moment) said.0) metrics said.2 in
-    let h = head_written front head.0.0 head.0.1 colons head.1 in
-    let end = end_written (length front + 1 + marker_len rest + 2) rest later.0 later.1 in
-    let parts = all_parts_written (length front + 1) (take (marker_len rest) rest) said.0 said.1 in
-    let w : Written = record { name = head.0.0; tags = head.0.1; first = parts.first; others = parts.others; later = end.later } in
-    let body : rest ≡ parts_spelling w ++ end_spelling end.later = end.is ∙ ap (λ (t : List ℕ). t ++ end_spelling end.later) parts.is in
+    let found = line_found piece front rest moment head.0.0 head.0.1 later.0 said.0 whole colons head.1 later.1 said.1 in
     record {
-      w = w;
+      w = found.w;
       said = said.0;
-      is = whole ∙ ap (λ (t : List ℕ). t ++ 58 ∷ rest) h.is ∙ ap (λ (t : List ℕ). (head.0.0 ++ pairs_text head.0.1) ++ 58 ∷ t) body;
-      line = record { filled = h.filled; name = h.none; tags = h.pairs; parts = parts.are; later = end.are };
+      is = found.is;
+      line = found.line;
       few = subst (λ (ms : List Content). list_any has_too_many ms ≡ false) few.1 few.0;
-      are = sym few.1 ∙ ap (λ (tags : List Tag). map (content_of head.0.0 (head.0.1 ++ tags) moment) said.0) (sym end.given);
+      are = sym few.1 ∙ found.are;
     }
 
 line_written : (piece : List ℕ) (moment : ℤ) (metrics : List Content) → line_reading piece moment ≡ Ok metrics → LineWritten piece moment metrics

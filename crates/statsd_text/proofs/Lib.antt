@@ -4,3 +4,4 @@ pub mod Lacking
 pub mod Spells
 pub mod Founds
 pub mod Chains
+pub mod Telling

@@ -57,7 +57,7 @@ head_split text (tag ∷ tags) none h =
     ∙ ap (λ (texts : List (List ℕ)). text ∷ texts)
     (head_split (pair_text tag) tags (pair_none (is_byte 44) refl (λ b e. (key_parts b e).1) no_comma tag h.0) h.1)
 
-head_tag_read : (place : ℕ) (tag : Tag) → IsHeadTag tag → head_tag (place, pair_text tag) ≡ Ok tag
+pub head_tag_read : (place : ℕ) (tag : Tag) → IsHeadTag tag → head_tag (place, pair_text tag) ≡ Ok tag
 unfolding head_tag
 head_tag_read place tag is =
     let cut = (first_is_cut 61 tag.0 tag.1 (fewer ends_key (is_byte 61) (λ b e. (key_parts b e).2) tag.0 is.key)).1 in
@@ -101,7 +101,7 @@ later_no_bar tag is =
     none_any (is_byte 124) (later_spelling tag)
     (later_none (is_byte 124) refl (λ b e. (later_key_parts b e).2) (λ b e. (or_parts (b == 44) (b == 124) e).1) tag is)
 
-flag_read : (place : ℕ) (key : List ℕ) → IsLaterTag (Flag key) → later_tag (place, key) ≡ Ok (key, codes "true")
+pub flag_read : (place : ℕ) (key : List ℕ) → IsLaterTag (Flag key) → later_tag (place, key) ≡ Ok (key, codes "true")
 unfolding later_tag
 flag_read place key is =
     let cut = (first_is_cut 58 key [] (fewer ends_later_key (is_byte 58) (λ b e. (later_key_parts b e).0) key is.1)).0 in
@@ -109,7 +109,7 @@ flag_read place key is =
     let bar = later_no_bar (Flag key) is in
     rw (bar, cut, some) refl
 
-pair_read : (place : ℕ) (key value : List ℕ) → IsLaterTag (Pair key value) → later_tag (place, key ++ 58 ∷ value) ≡ Ok (key, value)
+pub pair_read : (place : ℕ) (key value : List ℕ) → IsLaterTag (Pair key value) → later_tag (place, key ++ 58 ∷ value) ≡ Ok (key, value)
 unfolding later_tag
 pair_read place key value is =
     let cut = (first_is_cut 58 key value (fewer ends_later_key (is_byte 58) (λ b e. (later_key_parts b e).0) key is.1)).1 in

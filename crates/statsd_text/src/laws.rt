@@ -1,5 +1,5 @@
 //! Laws of readings.
-ghost use Rattle.statsd_text.specs.Faults.{FaultIsWithin};
+ghost use Rattle.statsd_text.specs.Faults.{FaultIsWithin, FaultSays};
 ghost use Rattle.statsd_text.specs.Grammar.{WrittenIsRead, ReadIsWritten};
 
 /// What is written as a line is read as its metrics.
@@ -15,4 +15,9 @@ pub fn read_is_written()
 /// A fault's place is in the piece, or its length.
 pub fn fault_is_within()
     ensures { FaultIsWithin }
+{}
+
+/// A fault's kind says what stands in the piece, at its place where it has one.
+pub fn fault_says()
+    ensures { FaultSays }
 {}

@@ -15,3 +15,6 @@ pub mod Stands
 pub mod Utf8Readings
 pub mod Takes
 pub mod EscapedUtf8
+pub mod Faulty
+pub mod ValidFronts
+pub mod PlaceLemmas

@@ -14,3 +14,4 @@ pub mod Stops
 pub mod Escaped
 pub mod Marks
 pub mod Pairs
+pub mod Places

@@ -1,0 +1,5 @@
+use Rattle.openmetrics_text.proofs.Telling as lemmas
+use Rattle.openmetrics_text.proofs.laws.fault_says.Goals as goal
+
+pub returns : goal.returns
+returns c = lemmas.fault_says

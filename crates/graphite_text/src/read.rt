@@ -154,5 +154,8 @@ pub fn read_line(
 ) -> Result<Option<Metric>, GraphiteFault>
     ensures { Answers result (reading templates.now separator.now piece.now moment) }
 {
-    answer(read_piece(alloc, templates, separator, piece, moment), NO_MEMORY)
+    answer(
+        read_piece(alloc, templates, separator, piece, moment),
+        NO_MEMORY,
+    )
 }

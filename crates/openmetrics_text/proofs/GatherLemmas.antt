@@ -1,5 +1,5 @@
 -- The text of what is gathered is the exposition.
-use Rattle.std.proofs.Common.{◌≡◌, ℕ, ℤ, Bool, true, false, cond, not, List, [], ◌∷◌, ◌++◌, map, filter, refl, sym, ap, ◌∙◌}
+use Rattle.std.proofs.Common.{◌≡◌, ◌<◌, ◌+◌, ℕ, ℤ, Bool, true, false, cond, not, List, [], ◌∷◌, ◌++◌, map, filter, take, get_or, length, refl, sym, ap, ◌∙◌, append_assoc, append-nil}
 use Rattle.std.specs.List.{fold, flat_map}
 use Rattle.std.specs.Str.{bytes_eq}
 use Rattle.std.specs.Prelude.{codes}
@@ -7,9 +7,11 @@ use Rattle.std.specs.Ordering.{int_cmp, match_ordering}
 use Rattle.std.specs.declared.cmp.Ordering.TheVariants.{Less, Equal, Greater}
 use Rattle.std.proofs.lemmas.Cmp.{int_ranked}
 use Rattle.std.proofs.lemmas.Grind.{flat_map-append}
+use Rattle.std.proofs.lemmas.List.{map_more}
 use Rattle.std.proofs.lemmas.List.Folds.{flat_map-map}
+use Rattle.std.proofs.lemmas.List.Sums.{fold-append}
 use Rattle.metric.specs.Pairs.{first_of_each}
-use Rattle.openmetrics_text.specs.Groups.{put_in, Lines, SeriesLines, FamilyLines, series_key, put_line, put_series, put_family, put_points, lines_text, series_text, families_text}
+use Rattle.openmetrics_text.specs.Groups.{Grouped, Lines, Written, written_of, grouped, put_in, with_last, put_line, by_time_on, lines_text, series_key, series_text, series_group, samples_text, family_group, families_text}
 use Rattle.openmetrics_text.specs.Writing.{Point, is_one_series, first_of_series, at_time, with_time, in_time_order_on, in_family, series_of, point_text, type_text, family_text, families_of, points_text}
 use Rattle.openmetrics_text.proofs.GroupLemmas.{made, put_one, put_are}
 use Rattle.openmetrics_text.proofs.KeyLemmas.{one_key}
@@ -30,14 +32,73 @@ one_line (point ∷ points) new =
       | Greater ↦ λ e. ap (λ (lines : Lines). line_of point ∷ lines) (one_line points new)
     ] refl
 
-lines_on : (kept points : List Point) → fold (λ x p. put_line p.time (point_text p) x) (map line_of kept) points ≡ map line_of (in_time_order_on kept points)
-unfolding in_time_order_on
+lines_on : (kept points : List Point) → by_time_on (map line_of kept) (map written_of points) ≡ map line_of (in_time_order_on kept points)
+unfolding in_time_order_on by_time_on
 lines_on kept [] = refl
-lines_on kept (point ∷ points) = ap (λ (lines : Lines). fold (λ x (p : Point). put_line p.time (point_text p) x) lines points) (sym (one_line kept point)) ∙ lines_on (with_time kept point) points
+lines_on kept (point ∷ points) = ap (λ (lines : Lines). by_time_on lines (map written_of points)) (sym (one_line kept point)) ∙ lines_on (with_time kept point) points
 
-lines_are : (points : List Point) → lines_text (fold (λ x p. put_line p.time (point_text p) x) [] points) ≡ flat_map point_text (in_time_order_on [] points)
-unfolding lines_text
+lines_are : (points : List Point) → series_text (map written_of points) ≡ flat_map point_text (in_time_order_on [] points)
+unfolding lines_text series_text
 lines_are points = ap (flat_map (λ (line : ℤ × List ℕ). line.1)) (lines_on [] points) ∙ flat_map-map (λ (line : ℤ × List ℕ). line.1) line_of (in_time_order_on [] points)
+
+-- one more sample
+pub by_time-push : (lines : Lines) (samples : List Written) (sample : Written) → by_time_on lines (samples ++ sample ∷ []) ≡ put_line sample.time sample.text (by_time_on lines samples)
+unfolding by_time_on
+by_time-push lines [] sample = refl
+by_time-push lines (first ∷ samples) sample = by_time-push (put_line first.time first.text lines) samples sample
+
+-- ---- by keys
+
+all_last : (xs samples : List Written) → fold (λ (ys : List Written) (s : Written). ys ++ s ∷ []) xs samples ≡ xs ++ samples
+all_last xs [] = sym (append-nil xs)
+all_last xs (s ∷ samples) = all_last (xs ++ s ∷ []) samples ∙ append_assoc xs (s ∷ []) samples
+
+module _ (key : Written → List ℕ) where
+  abbrev put_by : List Grouped → Written → List Grouped
+  put_by = put_one key with_last []
+
+  grouped_is : (samples : List Written) → fold put_by [] samples ≡ grouped key samples
+  unfolding grouped
+  grouped_is samples =
+      put_are key with_last [] samples
+      ∙ ap (λ (f : List ℕ → List Written). map (λ k. (k, f k)) (first_of_each (map key samples))) (λ i. λ k. all_last [] (filter (λ s. bytes_eq k (key s)) samples) i)
+
+  -- one more sample
+  pub grouped-push : (samples : List Written) (sample : Written) → put_in (with_last sample) [] (grouped key samples) (key sample) ≡ grouped key (samples ++ sample ∷ [])
+  grouped-push samples sample =
+      ap (λ (gs : List Grouped). put_in (with_last sample) [] gs (key sample)) (sym (grouped_is samples))
+      ∙ sym (fold-append put_by [] samples (sample ∷ []))
+      ∙ grouped_is (samples ++ sample ∷ [])
+
+  -- the step of a loop that groups what it makes of elements
+  pub grouped_more : {A : Type 0} (f : A → Written) (xs : List A) (i : ℕ) (d : A) (sample : Written) (now new : List Grouped) → i < length xs → sample ≡ f (get_or xs i d)
+      → now ≡ grouped key (map f (take i xs)) → new ≡ put_in (with_last sample) [] now (key sample) → new ≡ grouped key (map f (take (i + 1) xs))
+  grouped_more f xs i d sample now new lt made before put =
+      put
+      ∙ (λ j. put_in (with_last (made j)) [] (before j) (key (made j)))
+      ∙ grouped-push (map f (take i xs)) (f (get_or xs i d))
+      ∙ ap (grouped key) (sym (map_more f xs i d lt))
+
+  -- the groups of samples that are made of others, as a text
+  grouped_text : (f : Grouped → List ℕ) (points : List Point) → flat_map f (grouped key (map written_of points))
+      ≡ flat_map (λ k. f (k, map written_of (filter (λ point. bytes_eq k (key (written_of point))) points))) (first_of_each (map (λ point. key (written_of point)) points))
+  unfolding grouped
+  grouped_text f points =
+      flat_map-map f (λ k. (k, filter (λ s. bytes_eq k (key s)) (map written_of points))) (first_of_each (map key (map written_of points)))
+      ∙ ap (λ (keys : List (List ℕ)). flat_map (λ k. f (k, filter (λ s. bytes_eq k (key s)) (map written_of points))) (first_of_each keys)) (map-again points)
+      ∙ ap (λ (g : List ℕ → List Written). flat_map (λ k. f (k, g k)) (first_of_each (map (λ point. key (written_of point)) points))) (λ i. λ k. filter-again (λ s. bytes_eq k (key s)) points i)
+    where
+      map-again : (ps : List Point) → map key (map written_of ps) ≡ map (λ point. key (written_of point)) ps
+      map-again [] = refl
+      map-again (p ∷ ps) = ap (λ (ks : List (List ℕ)). key (written_of p) ∷ ks) (map-again ps)
+
+      filter-again : (test : Written → Bool) (ps : List Point) → filter test (map written_of ps) ≡ map written_of (filter (λ point. test (written_of point)) ps)
+      filter-again test [] = refl
+      filter-again test (p ∷ ps) =
+          elim (test (written_of p)) as (λ t. cond t (written_of p ∷ filter test (map written_of ps)) (filter test (map written_of ps)) ≡ map written_of (cond t (p ∷ filter (λ point. test (written_of point)) ps) (filter (λ point. test (written_of point)) ps))) [
+            | true ↦ ap (λ (rest : List Written). written_of p ∷ rest) (filter-again test ps)
+            | false ↦ filter-again test ps
+          ]
 
 -- ---- by series
 
@@ -69,34 +130,23 @@ flat_flat g f (x ∷ xs) = flat_map-append g (f x) (flat_map f xs) ∙ ap (λ re
 pub flat_same : {A C : Type 0} (f g : A → List C) (xs : List A) → ((x : A) → f x ≡ g x) → flat_map f xs ≡ flat_map g xs
 flat_same {A = A} {C = C} f g xs same = ap (λ (h : A → List C). flat_map h xs) (λ i. λ x. same x i)
 
-abbrev step_of : Point → Lines → Lines
-step_of point lines = put_line point.time (point_text point) lines
-
-series_are : (points : List Point) → series_text (fold (put_one key_of step_of []) [] points) ≡ flat_map point_text (series_of points)
-unfolding series_text series_of
+series_are : (points : List Point) → samples_text (map written_of points) ≡ flat_map point_text (series_of points)
+unfolding samples_text series_of
 series_are points =
-    ap (flat_map (λ (series : List ℕ × Lines). lines_text series.1)) (put_are key_of step_of [] points ∙ ap (map (λ k. (k, made key_of step_of [] k points))) (first_keys points))
-    ∙ flat_map-map (λ (series : List ℕ × Lines). lines_text series.1) (λ k. (k, made key_of step_of [] k points)) (map key_of (first_of_series points))
-    ∙ flat_map-map (λ k. lines_text (made key_of step_of [] k points)) key_of (first_of_series points)
-    ∙ flat_same _ _ (first_of_series points) (λ first. ap (λ ps. lines_text (fold (λ x (p : Point). step_of p x) [] ps)) (of_series first points) ∙ lines_are (filter (is_one_series first) points))
+    grouped_text (λ sample. sample.series) series_group points
+    ∙ ap (flat_map (λ k. series_text (map written_of (filter (λ point. bytes_eq k (key_of point)) points)))) (first_keys points)
+    ∙ flat_map-map (λ k. series_text (map written_of (filter (λ point. bytes_eq k (key_of point)) points))) key_of (first_of_series points)
+    ∙ flat_same _ _ (first_of_series points) (λ first. ap (λ ps. series_text (map written_of ps)) (of_series first points) ∙ lines_are (filter (is_one_series first) points))
     ∙ sym (flat_flat point_text (λ first. in_time_order_on [] (filter (is_one_series first) points)) (first_of_series points))
 
 -- ---- by family
 
-abbrev family_step : Point → SeriesLines → SeriesLines
-family_step point family = put_in (step_of point) [] family (key_of point)
-
-put_is : (families : FamilyLines) (points : List Point) → put_points families points ≡ fold (put_one (λ (p : Point). p.family) family_step []) families points
-unfolding put_points put_family put_series
-put_is families points = refl
-
-families_are : (points : List Point) → families_text (put_points [] points) ≡ flat_map (λ family. family_text family (in_family family points)) (families_of points)
+families_are : (points : List Point) → families_text (map written_of points) ≡ flat_map (λ family. family_text family (in_family family points)) (families_of points)
 unfolding families_text family_text
 families_are points =
-    ap (flat_map (λ (family : List ℕ × SeriesLines). type_text family.0 ++ series_text family.1)) (put_is [] points ∙ put_are (λ (p : Point). p.family) family_step [] points)
-    ∙ flat_map-map (λ (family : List ℕ × SeriesLines). type_text family.0 ++ series_text family.1) (λ k. (k, made (λ (p : Point). p.family) family_step [] k points)) (families_of points)
+    grouped_text (λ sample. sample.family) family_group points
     ∙ flat_same _ _ (families_of points) (λ family. ap (λ text. type_text family ++ text) (series_are (in_family family points)))
 
-pub text_is : (points : List Point) → families_text (put_points [] points) ++ codes "# EOF\n" ≡ points_text points
+pub text_is : (points : List Point) → families_text (map written_of points) ++ codes "# EOF\n" ≡ points_text points
 unfolding points_text
 text_is points = ap (λ text. text ++ codes "# EOF\n") (families_are points)

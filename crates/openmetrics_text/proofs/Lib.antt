@@ -12,7 +12,9 @@ pub mod Wholes
 pub mod GroupLemmas
 pub mod KeyLemmas
 pub mod GatherLemmas
+pub mod SampleLemmas
 pub mod MapLemmas
+pub mod IndexLemmas
 pub mod NameTexts
 pub mod PlainTexts
 pub mod PointLemmas

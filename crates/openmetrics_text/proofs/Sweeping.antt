@@ -1,7 +1,8 @@
 -- A loop that appends a text for each of some elements.
-use Rattle.std.proofs.Common.{◌≡◌, ℕ, List, [], ◌∷◌, ◌++◌, sym, ap, ◌∙◌, append_assoc, append-nil}
+use Rattle.std.proofs.Common.{◌≡◌, ◌<◌, ◌≤◌, ◌+◌, ℕ, List, [], ◌∷◌, ◌++◌, length, get_or, take, sym, ap, ◌∙◌, append_assoc, append-nil}
 use Rattle.std.specs.List.{flat_map}
 use Rattle.std.proofs.lemmas.Grind.{flat_map-append}
+use Rattle.std.proofs.lemmas.List.{take_more, take_all}
 use Rattle.text_parts.specs.Adds.{Extends}
 use Rattle.text_parts.proofs.Adding.{extends_after}
 
@@ -26,3 +27,17 @@ sweeps_all {A = A} old out all left f s l = s.is ∙ ap (λ (xs : List A). old +
 
 pub sweeps_failed : {A : Type 0} (old out new : List ℕ) (all left : List A) (f : A → List ℕ) → Sweeps old out all left f → Extends out new → Extends old new
 sweeps_failed old out new all left f s h = extends_after old out new (flat_map f s.done) s.is h
+
+-- the same over a slice, up to an index
+module _ {A : Type 0} (f : A → List ℕ) (xs : List A) (old : List ℕ) where
+  pub swept_none : old ≡ old ++ flat_map f (take 0 xs)
+  swept_none = sym (append-nil old)
+
+  pub swept_more : (out new : List ℕ) (i : ℕ) (x : A) → i < length xs → x ≡ get_or xs i x → out ≡ old ++ flat_map f (take i xs) → new ≡ out ++ f x → new ≡ old ++ flat_map f (take (i + 1) xs)
+  swept_more out new i x lt is before put =
+      let more : take (i + 1) xs ≡ take i xs ++ x ∷ [] = take_more xs i x lt ∙ ap (λ (y : A). take i xs ++ y ∷ []) (sym is) in
+      put ∙ ap (λ (text : List ℕ). text ++ f x) before ∙ append_assoc old (flat_map f (take i xs)) (f x)
+      ∙ ap (λ (text : List ℕ). old ++ text) (ap (λ (text : List ℕ). flat_map f (take i xs) ++ text) (sym (append-nil (f x))) ∙ sym (flat_map-append f (take i xs) (x ∷ [])) ∙ ap (flat_map f) (sym more))
+
+  pub swept_all : (out : List ℕ) (i : ℕ) → length xs ≤ i → out ≡ old ++ flat_map f (take i xs) → out ≡ old ++ flat_map f xs
+  swept_all out i le is = is ∙ ap (λ (ys : List A). old ++ flat_map f ys) (take_all i xs le)

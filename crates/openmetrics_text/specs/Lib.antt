@@ -13,5 +13,6 @@ pub mod Grammar
 pub mod Writing
 pub mod Groups
 pub mod WriteViews
+pub mod Texts
 pub mod RoundTrip
 pub mod FaultLines

@@ -1,14 +1,18 @@
--- The maps of the writer, as lists.
-use Rattle.std.specs.Prelude.{ℕ, ℤ, List, [], ◌∷◌, ◌++◌, map, Vec}
+-- What the writer has in its maps and groups, as lists.
+use Rattle.std.specs.Prelude.{◌≡◌, ℕ, suc, ℤ, List, [], ◌∷◌, ◌++◌, map, slice_set, slice_index_or, Vec}
+use Rattle.std.specs.Prelude.{Option, Some, None, option_map, if◌then◌else◌}
 use Rattle.std.specs.Borrow.{Bor}
-use Rattle.std.specs.BTreeMap.{BTreeMap}
+use Rattle.std.specs.BTreeMap.{BTreeMap, get_by}
+use Rattle.std.specs.Cmp.Lexicographic.{slice_cmp}
+use Rattle.std.specs.Ordering.{nat_cmp}
+use Rattle.std.specs.Str.{bytes_eq}
 use Rattle.std.specs.declared.alloc.Global.{Global}
 use Rattle.metric.specs.Draft.{Tag}
-use Rattle.indexmap.specs.IndexMap.{IndexMap}
 use Rattle.openmetrics_text.specs.Bytes.{left_brace, right_brace}
-use Rattle.openmetrics_text.specs.Groups.{Lines, SeriesLines, FamilyLines}
-use Rattle.openmetrics_text.specs.declared.families.Series.{Series}
-use Rattle.openmetrics_text.specs.declared.families.Series.TheVariants.{One, Many}
+use Rattle.openmetrics_text.specs.Groups.{Grouped, Lines, Written, with_last}
+use Rattle.openmetrics_text.specs.declared.groups.Group.{Group}
+use Rattle.openmetrics_text.specs.declared.groups.Groups.{Groups}
+use Rattle.openmetrics_text.specs.declared.groups.SampleLine.{SampleLine}
 
 -- ---- labels
 
@@ -18,8 +22,8 @@ label_entry label = (label.0.items, label.1.now)
 abbrev pub sorted_entry : Bor (List ℕ) × Bor (List ℕ) → Tag
 sorted_entry label = (label.0.now, label.1.now)
 
-abbrev pub labels_view : {S : Type 0} → IndexMap (Vec ℕ Global) (Bor (List ℕ)) S → List Tag
-labels_view labels = map label_entry labels.entries
+abbrev pub labels_view : Vec (Vec ℕ Global × Bor (List ℕ)) Global → List Tag
+labels_view labels = map label_entry labels.items
 
 abbrev pub sorted_view : BTreeMap (Bor (List ℕ)) (Bor (List ℕ)) → List Tag
 sorted_view labels = map sorted_entry labels.entries
@@ -29,28 +33,40 @@ abbrev pub braced : List ℕ → List ℕ
 braced [] = []
 braced (b ∷ text) = left_brace ∷ (text ++ right_brace ∷ [])
 
--- ---- lines
+-- ---- samples
 
-abbrev pub line_entry : ℤ × Vec ℕ Global → ℤ × List ℕ
-line_entry line = (line.0, line.1.items)
+abbrev pub line_view : SampleLine → Written
+line_view line = record {
+  family = line.family.now;
+  series = line.series.now;
+  time = line.time;
+  text = line.text.now;
+}
 
-abbrev pub many_view : BTreeMap ℤ (Vec ℕ Global) → Lines
-many_view lines = map line_entry lines.entries
+abbrev pub line_entry : ℤ × Bor (List ℕ) → ℤ × List ℕ
+line_entry line = (line.0, line.1.now)
 
-abbrev pub lines_view : Series → Lines
-lines_view (One line) = (line.time, line.text.items) ∷ []
-lines_view (Many lines) = many_view lines
+abbrev pub lines_view : BTreeMap ℤ (Bor (List ℕ)) → Lines
+lines_view lines = map line_entry lines.entries
 
-abbrev pub series_entry : Vec ℕ Global × Series → List ℕ × Lines
-series_entry series = (series.0.items, lines_view series.1)
+abbrev pub group_view : Group → Grouped
+group_view group = (group.key.now, map line_view group.samples)
 
-abbrev pub family_view : {S : Type 0} → IndexMap (Vec ℕ Global) Series S → SeriesLines
-family_view family = map series_entry family.entries
+abbrev pub groups_view : Groups → List Grouped
+groups_view groups = map group_view groups.groups.items
 
-abbrev pub family_entry : {S : Type 0}
-    → Vec ℕ Global × IndexMap (Vec ℕ Global) Series S → List ℕ × SeriesLines
-family_entry family = (family.0.items, family_view family.1)
+-- the place of the first group of a key
+abbrev pub place_in : List ℕ → List Grouped → Option ℕ
+place_in key [] = None
+place_in key (group ∷ groups) =
+    if bytes_eq key group.0 then Some 0 else option_map suc (place_in key groups)
 
-abbrev pub families_view : {S R : Type 0}
-    → IndexMap (Vec ℕ Global) (IndexMap (Vec ℕ Global) Series S) R → FamilyLines
-families_view families = map family_entry families.entries
+-- each key has the place of its group
+abbrev pub IsIndexed : Groups → Type 0
+IsIndexed groups = (key : List ℕ)
+    → get_by (λ k. slice_cmp nat_cmp key k.now) groups.places ≡ place_in key (groups_view groups)
+
+-- the group at a place has one sample more
+abbrev pub HasMore : List Grouped → ℕ → Written → List Grouped → Type 0
+HasMore old place sample new = (d : Grouped)
+    → new ≡ slice_set old place ((slice_index_or old place d).0, with_last sample (slice_index_or old place d).1)

@@ -1,6 +1,6 @@
 //! Names as they are written: a byte outside of their alphabet is `_`, and `_` stands before a digit at the
 //! front.
-ghost use Rattle.std.specs.Prelude.{◌≡◌, IfOk, map};
+ghost use Rattle.std.specs.Prelude.{◌≡◌, IfOk, OnOk, map};
 ghost use Rattle.text_parts.specs.Adds.{Adds};
 ghost use Rattle.openmetrics_text.specs.Names.{ends_label, ends_name};
 ghost use Rattle.openmetrics_text.specs.Writing.{clean_byte, digit_mark, cleaned, family_words, family_of};
@@ -108,16 +108,13 @@ fn clean(family: &mut Vec<u8>)
     clean_name(family);
 }
 
-/// The family of a field.
-pub(crate) fn family_of(alloc: Global, name: &str, key: &str) -> Result<Vec<u8>, OutOfMemory>
-    ensures { IfOk result (λ family. family.items ≡ family_of name.now key.now) }
+/// Writes the family of a field, in place of what stood there.
+pub(crate) fn write_family(family: &mut Vec<u8>, name: &str, key: &str) -> Result<(), OutOfMemory>
+    ensures { OnOk result (family.new.items ≡ family_of name.now key.now) }
 {
-    let mut family = Vec::with_capacity(
-        alloc,
-        name.len().saturating_add(key.len()).saturating_add(2),
-    )?;
-    append_mark(&mut family, name)?;
-    append_family_words(&mut family, name, key)?;
-    clean(&mut family);
-    Ok(family)
+    family.clear();
+    append_mark(family, name)?;
+    append_family_words(family, name, key)?;
+    clean(family);
+    Ok(())
 }

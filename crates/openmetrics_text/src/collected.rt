@@ -81,6 +81,14 @@ fn or_moment(moment: Moment, time: Option<Moment>) -> Moment
     }
 }
 
+/// How many tags so many labels make, and that of a type where it is asked for.
+fn tags_of(labels: usize, typed: bool) -> usize {
+    if typed {
+        return labels.saturating_add(1);
+    }
+    labels
+}
+
 /// The metric of a sample whose number is a decimal.
 fn metric_of(
     alloc: Global,
@@ -94,7 +102,8 @@ fn metric_of(
     ensures { IfOk result
         (λ metric. metric ≡ content_of moment typed kind.now (sample_view sample.now) number) }
 {
-    let mut builder = Builder::with_room(alloc, sample.name, sample.labels.len() + 1, 1)?;
+    let tags = tags_of(sample.labels.len(), typed);
+    let mut builder = Builder::with_room(alloc, sample.name, tags, 1)?;
     put_labels(&mut builder, sample.labels.as_slice())?;
     put_type(&mut builder, typed, kind)?;
     builder.field("value", Value::Fixed(number))?;
@@ -162,11 +171,31 @@ impl<'a> Collected<'a> {
         Ok(())
     }
 
-    /// One more line.
+    // One more sample, whose labels leave their room.
+    fn add_and_free(
+        &mut self,
+        alloc: Global,
+        sample: Sample<'a>,
+        room: &mut Vec<Label<'a>>,
+        moment: Moment,
+        typed: bool,
+    ) -> Result<(), OutOfMemory>
+        requires { IsFilled sample }
+        ensures { OnOk result ((lines : List LineSays) → HaveSaid moment typed self.old lines
+            → HaveSaid moment typed self.new (lines ++ Sampled (sample_view sample.entry) ∷ [])) }
+    {
+        self.add_sample(alloc, &sample, moment, typed)?;
+        let Sample { labels, .. } = sample;
+        *room = labels;
+        Ok(())
+    }
+
+    /// One more line. The labels of a sample leave their room.
     pub(crate) fn add(
         &mut self,
         alloc: Global,
         line: Line<'a>,
+        room: &mut Vec<Label<'a>>,
         moment: Moment,
         typed: bool,
     ) -> Result<(), OutOfMemory>
@@ -177,7 +206,7 @@ impl<'a> Collected<'a> {
         match line {
             Line::Typed(name, kind) => self.add_type(name, kind, typed),
             Line::Nothing => Ok(()),
-            Line::Sampled(sample) => self.add_sample(alloc, &sample, moment, typed),
+            Line::Sampled(sample) => self.add_and_free(alloc, sample, room, moment, typed),
         }
     }
 }

@@ -24,9 +24,6 @@ const VALUE: Part = Part {
     newlines: true,
 };
 
-/// Labels that find room before memory is asked for again.
-const ROOM: usize = 8;
-
 /// So many labels are held against each other one by one.
 const FEW: usize = 64;
 
@@ -151,19 +148,21 @@ fn label_at<'a>(
     Ok((Label { name, value }, behind))
 }
 
-/// The labels that begin at a place, with commas between them, and the place behind them.
+/// The labels that begin at a place, with commas between them, and the place behind them. They are put into the room.
 fn some_labels_at<'a>(
     alloc: Global,
     line: &'a str,
     i: usize,
+    room: Vec<Label<'a>>,
 ) -> Result<(Vec<Label<'a>>, usize), ReadError<ExpositionKind>>
     requires boundary { IsCharBoundary line.now i }
+    requires empty { room.items ≡ [] }
     ensures gives { Gives (λ x. (map label_view x.0.items, x.1)) result (some_labels_at line.now i) }
     ensures named { IfOk result (λ x. AreNamed (map label_view x.0.items)) }
     ensures behind { IfOk result (λ x. IsCharBoundary line.now x.1) }
 {
     let (first, behind) = label_at(alloc, line, i)?;
-    let mut labels = Vec::with_capacity(alloc, ROOM)?;
+    let mut labels = room;
     labels.push(first)?;
     let mut at = behind;
     'labels: while is_at(b',', line, at) {
@@ -216,22 +215,24 @@ fn have_twice(alloc: Global, labels: &[Label]) -> Result<bool, OutOfMemory>
     many_have_twice(alloc, labels)
 }
 
-/// The labels behind an opening brace, up to the closing one, and the place behind that.
+/// The labels behind an opening brace, up to the closing one, and the place behind that. They are put into the room.
 #[tactic(auto, unfolding(crate::specs::Labels::labels_at))]
 pub(crate) fn labels_at<'a>(
     alloc: Global,
     line: &'a str,
     i: usize,
+    room: Vec<Label<'a>>,
 ) -> Result<(Vec<Label<'a>>, usize), ReadError<ExpositionKind>>
     requires boundary { IsCharBoundary line.now i }
+    requires empty { room.items ≡ [] }
     ensures gives { Gives (λ x. (map label_view x.0.items, x.1)) result (labels_at line.now i) }
     ensures named { IfOk result (λ x. AreNamed (map label_view x.0.items)) }
     ensures behind { IfOk result (λ x. x.1 ≤ length line.now) }
 {
     if is_at(b'}', line, i) {
-        return Ok((Vec::new(alloc), i + 1));
+        return Ok((room, i + 1));
     }
-    let (labels, at) = some_labels_at(alloc, line, i)?;
+    let (labels, at) = some_labels_at(alloc, line, i, room)?;
     if !is_at(b'}', line, at) {
         return Err(fault(ExpositionKind::BadLabel));
     }

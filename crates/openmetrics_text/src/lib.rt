@@ -6,6 +6,7 @@ mod collected;
 mod exposition;
 mod families;
 mod fault;
+mod groups;
 mod label_texts;
 mod labels;
 mod laws;
@@ -14,6 +15,7 @@ mod names;
 mod number;
 mod read;
 mod sample;
+mod texts;
 mod types;
 mod write;
 

@@ -1,15 +1,16 @@
 //! The lines of an exposition.
-ghost use Rattle.std.specs.Prelude.{◌≡◌, ◌==◌, MatchOption, drop, length, slice_index, IfOk};
+ghost use Rattle.std.specs.Prelude.{◌≡◌, ◌==◌, [], MatchOption, drop, length, slice_index, IfOk};
 ghost use Rattle.text_parts.specs.Chain.{Gives};
 ghost use Rattle.openmetrics_text.specs.Lines.{begins_with, type_line, about_line, hash_line, line_of, is_type};
 ghost use Rattle.openmetrics_text.specs.Lines.{sample_line};
 ghost use Rattle.openmetrics_text.specs.Views.{line_view, IsFilledLine};
 
 use crate::fault::{ExpositionKind, fault};
-use crate::labels::is_at;
+use crate::labels::{Label, is_at};
 use crate::names::is_name;
 use crate::sample::{Sample, sample_of};
 use std::alloc::Global;
+use std::mem;
 use text_parts::{ReadError, first_part};
 
 /// What a line says.
@@ -108,21 +109,35 @@ fn hash_line<'a>(line: &'a str) -> Result<Line<'a>, ReadError<ExpositionKind>>
     Ok(Line::Nothing)
 }
 
-/// The sample that a line is.
+/// A vector without an element, in the memory of one, which has none afterwards.
+fn taken<'a>(alloc: Global, room: &mut Vec<Label<'a>>) -> Vec<Label<'a>>
+    ensures { result.items ≡ [] }
+{
+    let mut taken = mem::replace(room, Vec::new(alloc));
+    taken.clear();
+    taken
+}
+
+/// The sample that a line is. Its labels take the room.
 #[tactic(auto, unfolding(crate::specs::Lines::sample_line))]
-fn sample_line<'a>(alloc: Global, line: &'a str) -> Result<Line<'a>, ReadError<ExpositionKind>>
+fn sample_line<'a>(
+    alloc: Global,
+    line: &'a str,
+    room: &mut Vec<Label<'a>>,
+) -> Result<Line<'a>, ReadError<ExpositionKind>>
     ensures gives { Gives line_view result (sample_line line.now) }
     ensures filled { IfOk result IsFilledLine }
 {
-    let sample = sample_of(alloc, line)?;
+    let sample = sample_of(alloc, line, taken(alloc, room))?;
     Ok(Line::Sampled(sample))
 }
 
-/// What a line says.
+/// What a line says. The labels of a sample take the room.
 #[tactic(auto, unfolding(crate::specs::Lines::line_of))]
 pub(crate) fn line_of<'a>(
     alloc: Global,
     line: &'a str,
+    room: &mut Vec<Label<'a>>,
 ) -> Result<Line<'a>, ReadError<ExpositionKind>>
     ensures gives { Gives line_view result (line_of line.now) }
     ensures filled { IfOk result IsFilledLine }
@@ -130,5 +145,5 @@ pub(crate) fn line_of<'a>(
     if is_at(b'#', line, 0) {
         return hash_line(line);
     }
-    sample_line(alloc, line)
+    sample_line(alloc, line, room)
 }

@@ -8,6 +8,7 @@ ghost use Rattle.openmetrics_text.specs.Views.{part_at, line_view, texts_view, s
 use crate::collected::Collected;
 use crate::exposition::Exposition;
 use crate::fault::{ExpositionFault, ExpositionKind, NO_MEMORY};
+use crate::labels::Label;
 use crate::line::{Line, line_of};
 use fixed_num::{Moment, Seq};
 use std::alloc::Global;
@@ -52,13 +53,17 @@ fn before_last(text: &str) -> Option<Option<&str>>
     }
 }
 
-/// What a line says.
+/// What a line says. The labels of a sample take the room.
 #[tactic(auto, unfolding(crate::specs::Reading::line_at))]
-fn line_at<'a>(alloc: Global, line: &Placed<'a>) -> Result<Line<'a>, ReadError<ExpositionFault>>
+fn line_at<'a>(
+    alloc: Global,
+    line: &Placed<'a>,
+    room: &mut Vec<Label<'a>>,
+) -> Result<Line<'a>, ReadError<ExpositionFault>>
     ensures gives { Gives line_view result (line_at (part_at line.now)) }
     ensures filled { IfOk result IsFilledLine }
 {
-    match line_of(alloc, line.text) {
+    match line_of(alloc, line.text, room) {
         Ok(says) => Ok(says),
         Err(ReadError::OutOfMemory) => Err(ReadError::OutOfMemory),
         Err(ReadError::Fault(kind)) => Err(ReadError::Fault(ExpositionFault {
@@ -82,10 +87,11 @@ fn read_lines<'a>(
     let Some(text) = text else {
         return Ok(collected);
     };
+    let mut room = Vec::new(alloc);
     let mut lines = Separated::of(b'\n', Placed { place: 0, text });
     while let Some(line) = lines.next() {
-        let says = line_at(alloc, &line)?;
-        collected.add(alloc, says, moment, typed)?;
+        let says = line_at(alloc, &line, &mut room)?;
+        collected.add(alloc, says, &mut room, moment, typed)?;
     }
     Ok(collected)
 }

@@ -1,5 +1,5 @@
 //! Samples.
-ghost use Rattle.std.specs.Prelude.{◌≡◌, ◌<◌, ◌≤◌, ◌==◌, ◌&&◌, length, map, slice_index, option_map, Some, IfOk};
+ghost use Rattle.std.specs.Prelude.{◌≡◌, ◌<◌, ◌≤◌, ◌==◌, ◌&&◌, [], length, map, slice_index, option_map, Some, IfOk};
 ghost use Rattle.std.specs.Str.{IsCharBoundary};
 ghost use Rattle.text_parts.specs.Chain.{Gives};
 ghost use Rattle.text_parts.specs.Split.{first_part};
@@ -53,9 +53,14 @@ pub(crate) struct Sample<'a> {
     pub(crate) time: Option<Moment>,
 }
 
-/// The name that a line begins with, and the labels behind it.
+/// The name that a line begins with, and the labels behind it, which are put into the room.
 #[tactic(auto, unfolding(crate::specs::Sample::head_of))]
-fn head_of<'a>(alloc: Global, line: &'a str) -> Result<Head<'a>, ReadError<ExpositionKind>>
+fn head_of<'a>(
+    alloc: Global,
+    line: &'a str,
+    room: Vec<Label<'a>>,
+) -> Result<Head<'a>, ReadError<ExpositionKind>>
+    requires { room.items ≡ [] }
     ensures gives { Gives head_view result (head_of line.now) }
     ensures named { IfOk result (λ head. 0 < length head.name.now) }
     ensures labels { IfOk result (λ head. AreNamed (map label_view head.labels.items)) }
@@ -67,7 +72,7 @@ fn head_of<'a>(alloc: Global, line: &'a str) -> Result<Head<'a>, ReadError<Expos
     }
     let (name, _) = line.split_at(n);
     if is_at(b'{', line, n) {
-        let (labels, behind) = labels_at(alloc, line, n + 1)?;
+        let (labels, behind) = labels_at(alloc, line, n + 1, room)?;
         return Ok(Head {
             name,
             labels,
@@ -76,7 +81,7 @@ fn head_of<'a>(alloc: Global, line: &'a str) -> Result<Head<'a>, ReadError<Expos
     }
     Ok(Head {
         name,
-        labels: Vec::new(alloc),
+        labels: room,
         behind: n,
     })
 }
@@ -201,16 +206,18 @@ fn limited<'a>(
     })
 }
 
-/// The sample that a line is.
+/// The sample that a line is. Its labels are put into the room.
 #[tactic(auto, unfolding(crate::specs::Sample::sample_of))]
 pub(crate) fn sample_of<'a>(
     alloc: Global,
     line: &'a str,
+    room: Vec<Label<'a>>,
 ) -> Result<Sample<'a>, ReadError<ExpositionKind>>
+    requires { room.items ≡ [] }
     ensures gives { Gives sample_view result (sample_of line.now) }
     ensures filled { IfOk result IsFilled }
 {
-    let head = head_of(alloc, line)?;
+    let head = head_of(alloc, line, room)?;
     let text = behind_space(line, head.behind)?;
     let shape = shape_of(text)?;
     let number = number_of(shape.number.as_bytes())?;

@@ -1,26 +1,22 @@
 //! Expositions as they are written.
-ghost use Rattle.std.specs.Prelude.{◌≡◌, ◌++◌, [], codes, flat_map, IfOk, OnOk, OnErr};
+ghost use Rattle.std.specs.Prelude.{◌≡◌, ◌++◌, [], ◌∷◌, codes, flat_map, IfOk, OnOk, OnErr};
 ghost use Rattle.fixed_num.specs.Canonical.{canonical_text};
 ghost use Rattle.text_parts.specs.Adds.{Adds};
 ghost use Rattle.metric.specs.Numbers.{is_text, number_text};
-ghost use Rattle.openmetrics_text.specs.Groups.{put_points};
 ghost use Rattle.openmetrics_text.specs.Writing.{labels_of, written_labels, point_of};
-ghost use Rattle.openmetrics_text.specs.Writing.{point_text, points_of_field, points_of_metric, points_of};
+ghost use Rattle.openmetrics_text.specs.Writing.{points_of_field, points_of_metric, points_of};
 ghost use Rattle.openmetrics_text.specs.Writing.{batch_text};
-ghost use Rattle.openmetrics_text.specs.Groups.{series_key, families_text};
-ghost use Rattle.openmetrics_text.specs.WriteViews.{families_view};
+ghost use Rattle.openmetrics_text.specs.Groups.{series_key};
+ghost use Rattle.openmetrics_text.specs.Texts.{AreIn, IsAt, Puts};
 
-use crate::clean::family_of;
-use crate::families::{Families, SampleLine, append_families, put_family};
+use crate::clean::write_family;
+use crate::families::append_families;
 use crate::label_texts::{LabelTexts, label_texts};
+use crate::texts::{Place, Row, Texts, families_of};
 use fixed_num::{Fixed, Moment, OutOfMemory};
-use indexmap::IndexMap;
 use metric::{Metric, Text, Value};
 use std::alloc::Global;
 use text_parts::{append_bytes, append_int, append_uint, append_words, settle};
-
-/// Bytes for which room is made before the number of a sample is written, behind its name and its labels.
-const LIKELY: usize = 48;
 
 /// Whether a value is a text.
 fn is_text(value: &Value) -> bool
@@ -108,114 +104,149 @@ fn append_point(
     Ok(())
 }
 
-/// The line of a sample.
-fn line_of(
+/// Puts the sample of a field among others, given the text of its family and of its labels, and where that stands
+/// which stands for its labels.
+fn put_line(
     alloc: Global,
+    texts: &mut Texts,
     family: &[u8],
     labels: &[u8],
-    metric: &Metric,
-    field: &(Text, Value),
-) -> Result<SampleLine, OutOfMemory>
-    requires family { family.now ≡ (point_of metric.now field.now).family }
-    requires labels { labels.now ≡ written_labels (labels_of metric.now.tags) }
-    ensures time { IfOk result (λ line. line.time ≡ metric.now.time) }
-    ensures text { IfOk result (λ line. line.text.items ≡ point_text (point_of metric.now field.now)) }
-{
-    let likely = family
-        .len()
-        .saturating_add(labels.len())
-        .saturating_add(LIKELY);
-    let mut text = Vec::with_capacity(alloc, likely)?;
-    let time = metric.time();
-    append_point(alloc, &mut text, family, labels, &field.1, &time)?;
-    Ok(SampleLine { time, text })
-}
-
-/// Puts the sample of a field among families, which a text has not.
-fn put_field(
-    alloc: Global,
-    families: &mut Families,
-    texts: &LabelTexts,
+    series: Place,
     metric: &Metric,
     field: &(Text, Value),
 ) -> Result<(), OutOfMemory>
-    requires labels { texts.now.written.items ≡ written_labels (labels_of metric.now.tags) }
-    requires key { texts.now.key.items ≡ series_key (labels_of metric.now.tags) }
-    ensures { OnOk result (families_view families.new
-        ≡ put_points (families_view families.old) (points_of_field metric.now field.now)) }
+    requires family { family.now ≡ (point_of metric.now field.now).family }
+    requires labels { labels.now ≡ written_labels (labels_of metric.now.tags) }
+    requires series { IsAt texts.old.bytes.items series (series_key (labels_of metric.now.tags)) }
+    ensures { OnOk result (Puts texts.old texts.new (point_of metric.now field.now ∷ [])) }
+{
+    let from = texts.bytes.len();
+    let time = metric.time();
+    append_point(alloc, &mut texts.bytes, family, labels, &field.1, &time)?;
+    texts.rows.push(Row {
+        family: family.len(),
+        series,
+        time,
+        line: Place {
+            from,
+            to: texts.bytes.len(),
+        },
+    })?;
+    Ok(())
+}
+
+/// Puts the sample of a field among others, which a text has not. The text of its family is built in `family`, in place
+/// of what it held.
+fn put_field(
+    alloc: Global,
+    texts: &mut Texts,
+    family: &mut Vec<u8>,
+    labels: &[u8],
+    series: Place,
+    metric: &Metric,
+    field: &(Text, Value),
+) -> Result<(), OutOfMemory>
+    requires labels { labels.now ≡ written_labels (labels_of metric.now.tags) }
+    requires series { IsAt texts.old.bytes.items series (series_key (labels_of metric.now.tags)) }
+    ensures { OnOk result (Puts texts.old texts.new (points_of_field metric.now field.now)) }
 {
     if is_text(&field.1) {
         return Ok(());
     }
-    let family = family_of(alloc, metric.name().as_str(), field.0.as_str())?;
-    let line = line_of(
+    write_family(family, metric.name().as_str(), field.0.as_str())?;
+    put_line(
         alloc,
+        texts,
         family.as_slice(),
-        texts.written.as_slice(),
+        labels,
+        series,
         metric,
         field,
     )?;
-    put_family(alloc, families, family, texts.key.as_slice(), line)?;
     Ok(())
 }
 
-/// Puts the samples of fields among families.
+/// Puts the samples of fields among others.
 fn put_fields(
     alloc: Global,
-    families: &mut Families,
-    texts: &LabelTexts,
+    texts: &mut Texts,
+    family: &mut Vec<u8>,
+    labels: &[u8],
+    series: Place,
     metric: &Metric,
     fields: &[(Text, Value)],
 ) -> Result<(), OutOfMemory>
-    requires labels { texts.now.written.items ≡ written_labels (labels_of metric.now.tags) }
-    requires key { texts.now.key.items ≡ series_key (labels_of metric.now.tags) }
-    ensures { OnOk result (families_view families.new
-        ≡ put_points (families_view families.old) (flat_map (points_of_field metric.now) fields.now)) }
+    requires labels { labels.now ≡ written_labels (labels_of metric.now.tags) }
+    requires series { IsAt texts.old.bytes.items series (series_key (labels_of metric.now.tags)) }
+    ensures { OnOk result
+        (Puts texts.old texts.new (flat_map (points_of_field metric.now) fields.now)) }
 {
     for field in fields {
-        put_field(alloc, families, texts, metric, field)?;
+        put_field(alloc, texts, family, labels, series, metric, field)?;
     }
     Ok(())
 }
 
-/// Puts the samples of a metric among families.
+/// Puts what stands for labels behind the texts, and says where it stands.
+fn put_series(texts: &mut Texts, key: &[u8]) -> Result<Place, OutOfMemory>
+    ensures puts { OnOk result (Puts texts.old texts.new []) }
+    ensures at { IfOk result (λ place. IsAt texts.new.bytes.items place key.now) }
+{
+    let from = texts.bytes.len();
+    append_bytes(&mut texts.bytes, key)?;
+    Ok(Place {
+        from,
+        to: texts.bytes.len(),
+    })
+}
+
+/// Puts the samples of a metric among others. The texts of its labels and its families are built in `labels` and `family`,
+/// in place of what these held.
 #[tactic(auto, unfolding(crate::specs::Writing::points_of_metric))]
-fn put_metric(alloc: Global, families: &mut Families, metric: &Metric) -> Result<(), OutOfMemory>
-    ensures { OnOk result (families_view families.new
-        ≡ put_points (families_view families.old) (points_of_metric metric.now)) }
+fn put_metric(
+    alloc: Global,
+    texts: &mut Texts,
+    labels: &mut LabelTexts,
+    family: &mut Vec<u8>,
+    metric: &Metric,
+) -> Result<(), OutOfMemory>
+    ensures { OnOk result (Puts texts.old texts.new (points_of_metric metric.now)) }
 {
-    let texts = label_texts(alloc, metric)?;
-    put_fields(alloc, families, &texts, metric, metric.fields())?;
+    label_texts(alloc, metric, labels)?;
+    let series = put_series(texts, labels.key.as_slice())?;
+    put_fields(
+        alloc,
+        texts,
+        family,
+        labels.written.as_slice(),
+        series,
+        metric,
+        metric.fields(),
+    )?;
     Ok(())
 }
 
-/// The samples of a batch.
-fn gathered(alloc: Global, batch: &[Metric]) -> Result<Families, OutOfMemory>
-    ensures { IfOk result (λ families. families_view families ≡ put_points [] (points_of batch.now)) }
+/// The texts of the samples of a batch.
+fn texts_of(alloc: Global, batch: &[Metric]) -> Result<Texts, OutOfMemory>
+    ensures { IfOk result (λ texts. AreIn texts (points_of batch.now)) }
 {
-    let mut families = IndexMap::new(alloc);
+    let mut texts = Texts::new(alloc);
+    let mut labels = LabelTexts::new(alloc);
+    let mut family = Vec::new(alloc);
     for metric in batch {
-        put_metric(alloc, &mut families, metric)?;
+        put_metric(alloc, &mut texts, &mut labels, &mut family, metric)?;
     }
-    Ok(families)
-}
-
-/// Appends the exposition of families.
-fn append_exposition(out: &mut Vec<u8>, families: &Families) -> Result<(), OutOfMemory>
-    ensures { Adds result out.old.items out.new.items
-        (families_text (families_view families.now) ++ codes "# EOF\n") }
-{
-    append_families(out, families)?;
-    append_words(out, "# EOF\n")?;
-    Ok(())
+    Ok(texts)
 }
 
 /// Appends the exposition of a batch.
 fn append_batch(alloc: Global, batch: &[Metric], out: &mut Vec<u8>) -> Result<(), OutOfMemory>
     ensures { Adds result out.old.items out.new.items (batch_text batch.now) }
 {
-    let families = gathered(alloc, batch)?;
-    append_exposition(out, &families)?;
+    let texts = texts_of(alloc, batch)?;
+    let families = families_of(alloc, texts.bytes.as_slice(), texts.rows.as_slice())?;
+    append_families(alloc, out, families.as_slice())?;
+    append_words(out, "# EOF\n")?;
     Ok(())
 }
 

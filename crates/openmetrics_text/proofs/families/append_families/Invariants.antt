@@ -1,9 +1,8 @@
-use Rattle.openmetrics_text.proofs.Sweeping.{Sweeps}
-use Rattle.openmetrics_text.specs.Groups.{series_text}
-use Rattle.openmetrics_text.specs.Writing.{type_text}
-use Rattle.openmetrics_text.specs.WriteViews.{family_view}
-use Rattle.std.proofs.Common.{◌++◌}
+use Rattle.std.proofs.Common.{◌≡◌, ◌++◌, take}
+use Rattle.std.specs.List.{flat_map}
+use Rattle.openmetrics_text.specs.Groups.{family_group}
+use Rattle.openmetrics_text.specs.WriteViews.{group_view}
 use Rattle.openmetrics_text.proofs.families.append_families.Given as goal
 
-abbrev pub invariant-loop-name : goal.invariant-loop-name
-invariant-loop-name l = Sweeps l.fn.out.items l.out.items l.families.entries l.name-iterator (λ e. type_text e.0.items ++ series_text (family_view e.1))
+abbrev pub invariant-loop-group : goal.invariant-loop-group
+invariant-loop-group l = l.out.items ≡ l.fn.out.items ++ flat_map (λ g. family_group (group_view g)) (take l.group-index l.groups)

@@ -1,22 +1,9 @@
-use Rattle.std.proofs.Common.{ℕ, List, ap, sym, ◌∙◌, ◌++◌, rules, refl}
-use Rattle.std.proofs.lemmas.List.Folds.{flat_map-map}
-use Rattle.text_parts.proofs.Adding.{fails}
-use Rattle.openmetrics_text.specs.Groups.{Lines, lines_text, series_text}
-use Rattle.openmetrics_text.specs.WriteViews.{series_entry}
-use Rattle.openmetrics_text.proofs.Sweeping.{sweeps_none, sweeps_more, sweeps_all, sweeps_failed}
+use Rattle.std.proofs.Common.{◌≡◌, length, subst, arith}
+use Rattle.text_parts.specs.Adds.{Adds}
+use Rattle.openmetrics_text.proofs.SampleLemmas.{only_in_series}
 use Rattle.openmetrics_text.proofs.families.append_series.Goals as goal
 
-pub loop-key-init : goal.loop-key-init
-loop-key-init c = sweeps_none _ _ _ _ _ refl (search rules)
-
-pub loop-key-preserved : goal.loop-key-preserved
-loop-key-preserved c = sweeps_more _ _ _ _ _ _ (c.in-Some._key.now, c.in-Some.series.now) _ c.loop-key.invariant c.in-Some.ensures.steps c.in_ok-append_lines.ensures
-
-pub returns-in_err-append_lines : goal.returns-in_err-append_lines
-returns-in_err-append_lines c = fails _ _ _ _ c.from_residual.ensures.0 (sweeps_failed _ _ _ _ _ _ c.loop-key.invariant c.in_err-append_lines.ensures)
-
-pub returns : goal.returns
-unfolding series_text
-returns c =
-    sweeps_all _ _ _ _ _ c.loop-key.invariant c.in-None.ensures.steps.0
-    ∙ ap (λ (text : List ℕ). c.args.out.now.items ++ text) (sym (flat_map-map (λ (series : List ℕ × Lines). lines_text series.1) series_entry c.args.family.now.entries))
+pub returns-in-len1 : goal.returns-in-len1
+returns-in-len1 c =
+    let one : length c.args.samples.now ≡ 1 = omega (arith, c.in-len1.len_at_least, c.in-len1.len_below) in
+    subst (Adds c.append_bytes.result c.args.out.now.items c.append_bytes.new.out.items) (only_in_series c.args.samples.now _ one) c.append_bytes.ensures

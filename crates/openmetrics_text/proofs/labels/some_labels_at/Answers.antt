@@ -19,7 +19,7 @@ returns-in_err-first-clause-gives c =
 
 pub labels-init : goal.labels-init
 labels-init c =
-    let items : c.push.new.self.items ≡ c.in_ok-first.first ∷ [] = c.in_ok-push.ensures.items ∙ ap (λ (ls : List Label). ls ++ c.in_ok-first.first ∷ []) c.in_ok-labels.ensures.items in
+    let items : c.push.new.self.items ≡ c.in_ok-first.first ∷ [] = c.in_ok-push.ensures.items ∙ ap (λ (ls : List Label). ls ++ c.in_ok-first.first ∷ []) c.requires.empty in
     let view = ap (map label_view) items in (
       c.in_ok-first.ensures.behind,
       rw view (named_more [] (label_view c.in_ok-first.first) refl c.in_ok-first.ensures.filled),

@@ -1,0 +1,9 @@
+use Rattle.std.proofs.Common.{◌≡◌, length, subst, arith}
+use Rattle.text_parts.specs.Adds.{Adds}
+use Rattle.openmetrics_text.proofs.SampleLemmas.{only_in_family}
+use Rattle.openmetrics_text.proofs.families.append_samples.Goals as goal
+
+pub returns-in-len1 : goal.returns-in-len1
+returns-in-len1 c =
+    let one : length c.args.samples.now ≡ 1 = omega (arith, c.in-len1.len_at_least, c.in-len1.len_below) in
+    subst (Adds c.append_bytes.result c.args.out.now.items c.append_bytes.new.out.items) (only_in_family c.args.samples.now _ one) c.append_bytes.ensures

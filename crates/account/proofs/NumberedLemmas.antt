@@ -20,13 +20,5 @@ numbered_more text xs i d within =
     ∙ numbered-push text 0 (take i xs) (get_or xs i d)
     ∙ ap (λ k. numbered text 0 (take i xs) ++ text k (get_or xs i d)) (omega (arith, length-take-le i xs (omega arith)))
 
--- a text of the first elements goes on with the next one's
-pub numbered_step : {X : Type 0} (text : ℕ → X → List ℕ) (xs : List X) (i : ℕ) (d : X) (old mid new : List ℕ) → i < length xs → mid ≡ old ++ numbered text 0 (take i xs) → new ≡ mid ++ text i (get_or xs i d) → new ≡ old ++ numbered text 0 (take (i + 1) xs)
-numbered_step text xs i d old mid new within first then =
-    then ∙ ap (λ t. t ++ text i (get_or xs i d)) first ∙ append_assoc old (numbered text 0 (take i xs)) (text i (get_or xs i d))
-    ∙ ap (λ t. old ++ t) (sym (numbered_more text xs i d within))
-
--- at first there is none
-pub numbered-none : {X : Type 0} (text : ℕ → X → List ℕ) (old : List ℕ) → old ≡ old ++ numbered text 0 []
-unfolding numbered
-numbered-none text old = sym (append-nil old)
+-- by which a loop goes on that appends the text of each element
+pub ruleset appending = (numbered_more, append_assoc)

@@ -36,7 +36,7 @@ groups_line input x =
     ++ codes "\n"
 
 -- the line of an input's groups where it is tracked, and nothing where it isn't
-abbrev pub tracked_groups : ℕ → InputNumbers → List ℕ
+unfoldable pub tracked_groups : ℕ → InputNumbers → List ℕ
 tracked_groups input x = if x.tracked then groups_line input x else []
 
 -- the line of the items

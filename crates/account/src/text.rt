@@ -35,7 +35,7 @@ fn append_input(out: &mut Vec<u8>, input: u64, x: &InputNumbers) -> Result<(), O
 }
 
 // Appends the line of an input's groups where it is tracked.
-#[tactic(auto, unfolding(crate::specs::AccountText::groups_line))]
+#[tactic(auto, unfolding(crate::specs::AccountText::groups_line, crate::specs::AccountText::tracked_groups))]
 fn append_tracked(out: &mut Vec<u8>, input: u64, x: &InputNumbers) -> Result<(), OutOfMemory>
     ensures { Adds result out.old.items out.new.items (tracked_groups input x.now) }
 {
@@ -96,6 +96,7 @@ fn append_output(out: &mut Vec<u8>, output: u64, x: &OutputNumbers) -> Result<()
 }
 
 // Appends the lines of inputs, counted from 0.
+#[tactic(auto, using(crate::proofs::NumberedLemmas::appending), unfolding(crate::specs::AccountText::numbered))]
 pub(crate) fn append_inputs(out: &mut Vec<u8>, inputs: &[InputNumbers]) -> Result<(), OutOfMemory>
     ensures { Adds result out.old.items out.new.items (numbered input_line 0 inputs.now) }
 {
@@ -106,6 +107,7 @@ pub(crate) fn append_inputs(out: &mut Vec<u8>, inputs: &[InputNumbers]) -> Resul
 }
 
 // Appends the lines of the groups of those inputs that are tracked; all inputs are counted from 0.
+#[tactic(auto, using(crate::proofs::NumberedLemmas::appending), unfolding(crate::specs::AccountText::numbered))]
 pub(crate) fn append_groups(out: &mut Vec<u8>, inputs: &[InputNumbers]) -> Result<(), OutOfMemory>
     ensures { Adds result out.old.items out.new.items (numbered tracked_groups 0 inputs.now) }
 {
@@ -116,6 +118,7 @@ pub(crate) fn append_groups(out: &mut Vec<u8>, inputs: &[InputNumbers]) -> Resul
 }
 
 // Appends the lines of outputs, counted from 0.
+#[tactic(auto, using(crate::proofs::NumberedLemmas::appending), unfolding(crate::specs::AccountText::numbered))]
 pub(crate) fn append_outputs(
     out: &mut Vec<u8>,
     outputs: &[OutputNumbers],

@@ -14,6 +14,7 @@ use Rattle.std.proofs.lemmas.List.Quantifiers.{position-Some}
 use Rattle.std.proofs.lemmas.Slice.Eq.{bytes_eq-Decides}
 use Rattle.std.specs.List.{position, position_or_len, find}
 use Rattle.std.specs.String.{string_bytes}
+use Rattle.agent_base.specs.Carried.{Carried, no_part}
 use Rattle.agent_base.specs.Slots.{slot_at, is_named, told_of, part_at, Leaves, Comes, IsMissed, Opened, Fills, AllHome, is_out_at}
 use Rattle.std.specs.Prelude.{is_some}
 use Rattle.agent_base.specs.Places.{SameBut, Opens, TakesIn, FailsToOpen, Refuses, IsTold}
@@ -131,31 +132,31 @@ none_from None e = refl
 none_from (Some part) e = absurd (never (sym e))
 
 -- what a place tells as its part leaves and comes
-module _ {P : Type 0} (bytes : P → Option (List ℕ)) (faults : P → ℕ) where
-  pub opens_told : (part : P) (old new : Option (Slot P)) → Leaves part old new → Opens (bytes part) (faults part) (told_of bytes faults old) (told_of bytes faults new)
+module _ {P : Type 0} (told : P → Carried) where
+  pub opens_told : (part : P) (old new : Option (Slot P)) → Leaves part old new → Opens (told part) (told_of told old) (told_of told new)
   opens_told part old new h =
       rw (h.was, h.now, h.had, h.has) (record { bytes = refl; faults = refl; open_faults = h.open_faults; is_out = h.is_out })
 
-  pub takes_told : (part : P) (old new : Option (Slot P)) → Comes part old new → TakesIn (bytes part) (faults part) (told_of bytes faults old) (told_of bytes faults new)
+  pub takes_told : (part : P) (old new : Option (Slot P)) → Comes part old new → TakesIn (told part) (told_of told old) (told_of told new)
   takes_told part old new h =
       rw (h.was, h.now, h.has) (record { bytes = refl; faults = refl; open_faults = h.open_faults; is_out = h.is_out })
 
-  pub fills_told : (part : P) (old new : Option (Slot P)) → Fills part old new → TakesIn (bytes part) (faults part) (told_of bytes faults old) (told_of bytes faults new)
+  pub fills_told : (part : P) (old new : Option (Slot P)) → Fills part old new → TakesIn (told part) (told_of told old) (told_of told new)
   fills_told part None new h =
       rw (h.now, h.has) (record { bytes = refl; faults = refl; open_faults = h.open_faults; is_out = h.is_out })
   fills_told part (Some slot) new h =
       rw (h.now, h.has) (record { bytes = refl; faults = refl; open_faults = h.open_faults; is_out = h.is_out })
 
-  misses_told : (old : Option (Slot P)) (new : Option (Slot P)) → (told_of bytes faults old).is_out ≡ false → IsMissed old new → FailsToOpen (told_of bytes faults old) (told_of bytes faults new)
+  misses_told : (old : Option (Slot P)) (new : Option (Slot P)) → (told_of told old).is_out ≡ false → IsMissed old new → FailsToOpen (told_of told old) (told_of told new)
   misses_told None new out h = rw (h.now, h.has) (record { bytes = refl; part_faults = refl; is_out = h.is_out; rose = rw h.open_faults (omega arith); later = omega arith })
   misses_told (Some slot) new out h =
       rw (h.now, h.has, h.open_faults.0) (record { bytes = refl; part_faults = refl; is_out = h.is_out ∙ out; rose = rw h.open_faults.1 (omega arith); later = h.open_faults.2 })
 
-  pub opened_told : (result : Result P OpenFault) (old new : Option (Slot P)) → (told_of bytes faults old).is_out ≡ false → Opened result old new
-      → IfOk result (λ part. Opens (bytes part) (faults part) (told_of bytes faults old) (told_of bytes faults new)) × IfErr result (λ e. Refuses e (told_of bytes faults old) (told_of bytes faults new))
+  pub opened_told : (result : Result P OpenFault) (old new : Option (Slot P)) → (told_of told old).is_out ≡ false → Opened result old new
+      → IfOk result (λ part. Opens (told part) (told_of told old) (told_of told new)) × IfErr result (λ e. Refuses e (told_of told old) (told_of told new))
   opened_told (Ok part) old new out h = (opens_told part old new h, tt)
   opened_told (Err Failed) old new out h = (tt, misses_told old new out h)
-  opened_told (Err OutOfMemory) old new out h = (tt, ap (told_of bytes faults) h)
+  opened_told (Err OutOfMemory) old new out h = (tt, ap (told_of told) h)
 
 pub still_home : {P : Type 0} (old new : List (Slot P)) (place : List ℕ) → SameBut place (slot_at old) (slot_at new) → is_out_at (slot_at new place) ≡ false → AllHome old → AllHome new
 still_home old new place s z h q = go (bytes_eq q place) refl
@@ -165,11 +166,11 @@ still_home old new place s z h q = go (bytes_eq q place) refl
     go false e = ap is_out_at (s q (λ same. never (sym e ∙ (bytes_eq-Decides q place).1 same))) ∙ h q
 
 -- the home of all places, by what they tell
-pub home_told : {P : Type 0} (bytes : P → Option (List ℕ)) (faults : P → ℕ) (slot : Option (Slot P)) → (told_of bytes faults slot).is_out ≡ is_out_at slot
-home_told bytes faults None = refl
-home_told bytes faults (Some slot) = refl
+pub home_told : {P : Type 0} (told : P → Carried) (slot : Option (Slot P)) → (told_of told slot).is_out ≡ is_out_at slot
+home_told told None = refl
+home_told told (Some slot) = refl
 
 -- a place without its part tells nothing
-pub none_told : {P : Type 0} (bytes : P → Option (List ℕ)) (faults : P → ℕ) (slot : Option (Slot P)) → is_some (part_at slot) ≡ false → IsTold None 0 (told_of bytes faults slot)
-none_told bytes faults None h = record { bytes = refl; faults = refl }
-none_told bytes faults (Some slot) h = rw (none_from slot.part h) (record { bytes = refl; faults = refl })
+pub none_told : {P : Type 0} (told : P → Carried) (slot : Option (Slot P)) → is_some (part_at slot) ≡ false → IsTold no_part (told_of told slot)
+none_told told None h = record { bytes = refl; faults = refl }
+none_told told (Some slot) h = rw (none_from slot.part h) (record { bytes = refl; faults = refl })

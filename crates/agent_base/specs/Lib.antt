@@ -1,6 +1,7 @@
 pub mod Counts
 pub mod Puts
 pub mod Moments
+pub mod Carried
 pub mod Clocked
 pub mod Places
 pub mod Memory
@@ -15,5 +16,6 @@ pub mod Told
 pub mod Hand
 pub mod PieceAnswers
 pub mod Taken
+pub mod Next
 pub mod Buffered
 pub mod Views

@@ -1,5 +1,6 @@
 -- What a world tells of its places.
 use Rattle.std.specs.Prelude.{◌≡◌, ◌≢◌, ◌≤◌, ℕ, List, Bool, true, false, Option, None}
+use Rattle.agent_base.specs.Carried.{Carried}
 use Rattle.agent_base.specs.Counts.{Rose}
 use Rattle.agent_base.specs.declared.world.OpenFault.{OpenFault}
 use Rattle.agent_base.specs.declared.world.OpenFault.TheVariants.{Failed, OutOfMemory}
@@ -17,9 +18,9 @@ abbrev pub empty_place : Place
 empty_place = record { bytes = None; open_faults = 0; part_faults = 0; is_out = false }
 
 -- an opened part carries the bytes and the count of its place, and is out from here on
-pub record Opens (carried : Option (List ℕ)) (count : ℕ) (old new : Place) : Type 0 where
-  pub bytes : carried ≡ old.bytes
-  pub faults : count ≡ old.part_faults
+pub record Opens (part : Carried) (old new : Place) : Type 0 where
+  pub bytes : part.bytes ≡ old.bytes
+  pub faults : part.faults ≡ old.part_faults
   pub open_faults : new.open_faults ≡ old.open_faults
   pub is_out : new.is_out ≡ true
 
@@ -37,16 +38,16 @@ Refuses Failed old new = FailsToOpen old new
 Refuses OutOfMemory old new = new ≡ old
 
 -- the place takes a part in: it tells what the part tells
-pub record TakesIn (carried : Option (List ℕ)) (count : ℕ) (old new : Place) : Type 0 where
-  pub bytes : new.bytes ≡ carried
-  pub faults : new.part_faults ≡ count
+pub record TakesIn (part : Carried) (old new : Place) : Type 0 where
+  pub bytes : new.bytes ≡ part.bytes
+  pub faults : new.part_faults ≡ part.faults
   pub open_faults : new.open_faults ≡ old.open_faults
   pub is_out : new.is_out ≡ false
 
 -- the place tells what a part tells
-pub record IsTold (held : Option (List ℕ)) (count : ℕ) (place : Place) : Type 0 where
-  pub bytes : held ≡ place.bytes
-  pub faults : count ≡ place.part_faults
+pub record IsTold (part : Carried) (place : Place) : Type 0 where
+  pub bytes : part.bytes ≡ place.bytes
+  pub faults : part.faults ≡ place.part_faults
 
 -- all is the same but at one place
 abbrev pub SameBut : {K X : Type 0} → K → (K → X) → (K → X) → Type 0

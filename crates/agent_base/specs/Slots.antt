@@ -7,6 +7,7 @@ use Rattle.std.specs.declared.result.Result.TheVariants.{Ok, Err}
 use Rattle.std.specs.String.{string_bytes}
 use Rattle.std.specs.List.{find}
 use Rattle.std.specs.Str.{bytes_eq}
+use Rattle.agent_base.specs.Carried.{Carried, no_part}
 use Rattle.agent_base.specs.Places.{Place, empty_place}
 use Rattle.agent_base.specs.declared.slots.Slot.{Slot}
 use Rattle.agent_base.specs.declared.world.OpenFault.{OpenFault}
@@ -20,27 +21,20 @@ is_named place slot = bytes_eq (string_bytes slot.place) place
 abbrev pub slot_at : {P : Type 0} → List (Slot P) → List ℕ → Option (Slot P)
 slot_at slots place = find (is_named place) slots
 
--- what a part tells
-abbrev pub part_bytes : {P : Type 0} → (P → Option (List ℕ)) → Option P → Option (List ℕ)
-part_bytes bytes None = None
-part_bytes bytes (Some part) = bytes part
-
--- what a part counts
-abbrev pub part_count : {P : Type 0} → (P → ℕ) → Option P → ℕ
-part_count faults None = 0
-part_count faults (Some part) = faults part
+-- what a part tells; where there is none, nothing and no fault
+abbrev pub told_by : {P : Type 0} → (P → Carried) → Option P → Carried
+told_by told None = no_part
+told_by told (Some part) = told part
 
 -- what a place tells
-abbrev pub told_of : {P : Type 0} → (P → Option (List ℕ)) → (P → ℕ) → Option (Slot P) → Place
-told_of bytes faults None = empty_place
-told_of bytes faults
-    (Some slot) = record {
-      bytes = part_bytes bytes slot.part;
-      open_faults = slot.open_faults;
-      part_faults = part_count faults
-          slot.part;
-      is_out = slot.is_out;
-    }
+abbrev pub told_of : {P : Type 0} → (P → Carried) → Option (Slot P) → Place
+told_of told None = empty_place
+told_of told (Some slot) = record {
+  bytes = (told_by told slot.part).bytes;
+  open_faults = slot.open_faults;
+  part_faults = (told_by told slot.part).faults;
+  is_out = slot.is_out;
+}
 
 -- the part that stands at a place
 abbrev pub part_at : {P : Type 0} → Option (Slot P) → Option P

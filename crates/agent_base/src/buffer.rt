@@ -10,8 +10,8 @@ ghost use Rattle.agent_base.specs.Cut.{HasEnd, NoEnd, FirstEnd, NoNewline, First
 ghost use Rattle.agent_base.specs.Cut.{content, ends_piece, last_line, most_before, most_bytes};
 ghost use Rattle.agent_base.specs.Hand.{empty_hand, to_come, IsSameToCome, Steps};
 ghost use Rattle.agent_base.specs.Room.{room_of};
-ghost use Rattle.agent_base.specs.Taken.{Takes, TakesFor};
-ghost use Rattle.agent_base.specs.Told.{Told};
+ghost use Rattle.agent_base.specs.Next.{GivesNext};
+ghost use Rattle.agent_base.specs.Taken.{Takes};
 ghost use Rattle.agent_base.specs.declared.buffer.TheConstants.{MAX_TAKEN_BYTES};
 ghost use Rattle.agent_base.specs.Cut.{Scanned};
 
@@ -67,29 +67,6 @@ fn filled(mut room: Vec<u8>, content: &[u8]) -> Vec<u8>
 
 // Reads into so many places of a buffer, from one on, and counts the bytes that are taken.
 fn read_into<S: Source>(
-    buf: &mut [u8],
-    at: usize,
-    most: usize,
-    taken: &mut u64,
-    src: &mut S,
-) -> Result<usize, Failed>
-    requires room { at + most ≤ length buf.old }
-    requires least { min LEAST (MAX_TAKEN_BYTES - taken.old) ≤ most }
-    requires limit { taken.old + most ≤ MAX_TAKEN_BYTES }
-    ensures bound { IfOk result (λ n. n ≤ most) }
-    ensures before { take at buf.new ≡ take at buf.old }
-    ensures bytes { ReadConsumes (S.left src.old) (S.left src.new) result (between at (at + most) buf.new) }
-    ensures cause { HasCause (S.faults src.old) (S.faults src.new) result }
-    ensures counted { IfOk result (λ n. taken.new ≡ taken.old + n) }
-    ensures kept { OnErr result (taken.new ≡ taken.old) }
-{
-    let n = src.read(&mut buf[at..at + most])?;
-    *taken += n as u64;
-    Ok(n)
-}
-
-// The same, of a vector.
-fn read_behind<S: Source>(
     buf: &mut Vec<u8>,
     at: usize,
     most: usize,
@@ -102,13 +79,15 @@ fn read_behind<S: Source>(
     ensures len { vec_len buf.new ≡ vec_len buf.old }
     ensures bound { IfOk result (λ n. n ≤ most) }
     ensures before { take at buf.new.items ≡ take at buf.old.items }
-    ensures bytes { ReadConsumes (S.left src.old) (S.left src.new) result
+    ensures bytes { ReadConsumes (S.told src.old).bytes (S.told src.new).bytes result
         (between at (at + most) buf.new.items) }
-    ensures cause { HasCause (S.faults src.old) (S.faults src.new) result }
+    ensures cause { HasCause (S.told src.old).faults (S.told src.new).faults result }
     ensures counted { IfOk result (λ n. taken.new ≡ taken.old + n) }
     ensures kept { OnErr result (taken.new ≡ taken.old) }
 {
-    read_into(buf, at, most, taken, src)
+    let n = src.read(&mut buf[at..at + most])?;
+    *taken += n as u64;
+    Ok(n)
 }
 
 /// The bytes in hand stand from `start` to `end`, and no piece ends among them before `searched`, where the line
@@ -136,7 +115,7 @@ pub(crate) struct Buffer {
 
 impl Buffer {
     ghost use Rattle.agent_base.specs.Buffered.{bytes_of, hand_of};
-    ghost use Rattle.agent_base.specs.PieceAnswers.{Answers, IsLimited, HasReason, IsGiven, IsShort};
+    ghost use Rattle.agent_base.specs.PieceAnswers.{Answers, IsGiven, IsShort};
     ghost use Rattle.agent_base.specs.PieceAnswers.{IsGivenOrUnchanged, IsLast};
 
     /// Nothing is in hand.
@@ -364,16 +343,16 @@ impl Buffer {
     fn read_more<S: Source>(&mut self, src: &mut S) -> Result<usize, Failed>
         requires room { self.old.end + READ ≤ room_of self.old.kind }
         requires most { self.old.taken < MAX_TAKEN_BYTES }
-        ensures steps { Steps (S.left src.old) (S.left src.new) (hand_of self.old) (hand_of self.new) }
-        ensures takes { Takes (S.left src.old) (S.left src.new) (hand_of self.old) (hand_of self.new) }
-        ensures end { result ≡ Ok 0 → (hand_of self.new ≡ hand_of self.old) × IsAtEnd (S.left src.new) }
+        ensures steps { Steps (S.told src.old).bytes (S.told src.new).bytes (hand_of self.old) (hand_of self.new) }
+        ensures takes { Takes (S.told src.old).bytes (S.told src.new).bytes (hand_of self.old) (hand_of self.new) }
+        ensures end { result ≡ Ok 0 → (hand_of self.new ≡ hand_of self.old) × IsAtEnd (S.told src.new).bytes }
         ensures failed { OnErr result (hand_of self.new ≡ hand_of self.old) }
         ensures kind { self.new.kind ≡ self.old.kind }
         ensures counted { IfOk result (λ n. self.new.taken ≡ self.old.taken + n) }
-        ensures cause { HasCause (S.faults src.old) (S.faults src.new) result }
+        ensures cause { HasCause (S.told src.old).faults (S.told src.new).faults result }
     {
         let most = self.lent();
-        let n = read_behind(&mut self.buf, self.end, most, &mut self.taken, src)?;
+        let n = read_into(&mut self.buf, self.end, most, &mut self.taken, src)?;
         self.end += n;
         Ok(n)
     }
@@ -448,20 +427,8 @@ impl Buffer {
     fn read_piece<S: Source>(&mut self, src: &mut S) -> Result<Option<Piece>, PieceFault>
         requires all { self.old.searched ≡ self.old.end }
         requires most { self.old.taken < MAX_TAKEN_BYTES }
-        ensures pieces { Told (S.left src.old) (S.left src.new)
-            (λ xs ys. Answers result (to_come (hand_of self.old) xs) (to_come (hand_of self.new) ys)) }
-        ensures whatever_follows { Told (S.left src.old) (S.left src.new)
-            (TakesFor result (hand_of self.old) (hand_of self.new)) }
-        ensures counted { Told (S.left src.old) (S.left src.new)
-            (λ xs ys. self.old.taken + length xs ≡ self.new.taken + length ys) }
-        ensures grows { self.old.taken ≤ self.new.taken }
-        ensures kind { self.new.kind ≡ self.old.kind }
-        ensures short { IsShort self.old.kind result }
-        ensures limited { IsLimited result self.new.taken }
-        ensures reason { HasReason result (hand_of self.old) (hand_of self.new) (S.left src.new)
-            (S.faults src.old) (S.faults src.new) }
+        ensures gives { GivesNext result (hand_of self.old) (hand_of self.new) (S.told src.old) (S.told src.new) }
         ensures memory { IsErrOf result PieceFault.OutOfMemory → src.new ≡ src.old }
-        ensures faults { S.faults src.old ≤ S.faults src.new }
     {
         let Ok(room) = Vec::with_capacity(*self.buf.allocator(), self.kind.most_bytes()) else {
             return Err(PieceFault::OutOfMemory);
@@ -484,20 +451,8 @@ impl Buffer {
 
     /// The next piece of the bytes in hand and those that the source has left.
     pub(crate) fn next<S: Source>(&mut self, src: &mut S) -> Result<Option<Piece>, PieceFault>
-        ensures pieces { Told (S.left src.old) (S.left src.new)
-            (λ xs ys. Answers result (to_come (hand_of self.old) xs) (to_come (hand_of self.new) ys)) }
-        ensures whatever_follows { Told (S.left src.old) (S.left src.new)
-            (TakesFor result (hand_of self.old) (hand_of self.new)) }
-        ensures counted { Told (S.left src.old) (S.left src.new)
-            (λ xs ys. self.old.taken + length xs ≡ self.new.taken + length ys) }
-        ensures grows { self.old.taken ≤ self.new.taken }
-        ensures kind { self.new.kind ≡ self.old.kind }
-        ensures short { IsShort self.old.kind result }
-        ensures limited { IsLimited result self.new.taken }
-        ensures reason { HasReason result (hand_of self.old) (hand_of self.new) (S.left src.new)
-            (S.faults src.old) (S.faults src.new) }
+        ensures gives { GivesNext result (hand_of self.old) (hand_of self.new) (S.told src.old) (S.told src.new) }
         ensures memory { IsErrOf result PieceFault.OutOfMemory → src.new ≡ src.old }
-        ensures faults { S.faults src.old ≤ S.faults src.new }
         ensures in_hand { HasEnd self.old.kind (bytes_of self.old) → src.new ≡ src.old }
         ensures whole { HasEnd self.old.kind (bytes_of self.old) → (left : List ℕ)
             → Answers result (to_come (hand_of self.old) left) (to_come (hand_of self.new) left) }

@@ -13,7 +13,7 @@ pub(crate) struct FreshClock {
 impl FreshClock {
     /// The clock has given no moment.
     pub(crate) fn new(clock: MemClock) -> FreshClock
-        requires { ⟦<MemClock as Clock>⟧.place clock ≡ 0 }
+        requires { (⟦<MemClock as Clock>⟧.told clock).place ≡ 0 }
         ensures { result.clock ≡ clock }
     {
         FreshClock { clock }
@@ -22,7 +22,7 @@ impl FreshClock {
     /// The clock itself.
     pub(crate) fn into_clock(self) -> MemClock
         ensures is { result ≡ self.clock }
-        ensures first { ⟦<MemClock as Clock>⟧.place result ≡ 0 }
+        ensures first { (⟦<MemClock as Clock>⟧.told result).place ≡ 0 }
     {
         self.clock
     }

@@ -2,6 +2,7 @@
 ghost use Rattle.std.specs.Prelude.{◌≡◌, true, false, [], Some, None, is_some, OnOk, OnErr, IfOk, IfErr};
 ghost use Rattle.std.specs.Prelude.{MatchOption, List, ℕ};
 ghost use Rattle.std.specs.Option.{option_copied};
+ghost use Rattle.agent_base.specs.Carried.{no_part};
 ghost use Rattle.agent_base.specs.Memory.{moments_of};
 ghost use Rattle.agent_base.specs.Places.{Opens, Refuses, SameAtAll, AreHome, TakesIn, IsTold, empty_place};
 ghost use Rattle.agent_base.specs.Puts.{PutAppends, PutHasCause};
@@ -52,7 +53,7 @@ impl<S: Source + Send + Drop, K: Sink + Send + Drop> MemWorld<S, K> {
     /// Puts a source at an input place.
     pub fn add_in(&mut self, place: &str, s: S) -> Result<(), OutOfMemory>
         ensures added { OnOk result
-            (TakesIn (S.left s) (S.faults s) ((⟦<MemWorld<S, K> as World>⟧.view self.old).ins place.now)
+            (TakesIn (S.told s) ((⟦<MemWorld<S, K> as World>⟧.view self.old).ins place.now)
             ((⟦<MemWorld<S, K> as World>⟧.view self.new).ins place.now)) }
         ensures refused { OnErr result
             (SameAtAll (⟦<MemWorld<S, K> as World>⟧.view self.old).ins
@@ -74,7 +75,7 @@ impl<S: Source + Send + Drop, K: Sink + Send + Drop> MemWorld<S, K> {
     /// Puts a sink at an output place.
     pub fn add_out(&mut self, place: &str, s: K) -> Result<(), OutOfMemory>
         ensures added { OnOk result
-            (TakesIn (K.held s) (K.faults s) ((⟦<MemWorld<S, K> as World>⟧.view self.old).outs place.now)
+            (TakesIn (K.told s) ((⟦<MemWorld<S, K> as World>⟧.view self.old).outs place.now)
             ((⟦<MemWorld<S, K> as World>⟧.view self.new).outs place.now)) }
         ensures refused { OnErr result
             (SameAtAll (⟦<MemWorld<S, K> as World>⟧.view self.old).outs
@@ -95,11 +96,11 @@ impl<S: Source + Send + Drop, K: Sink + Send + Drop> MemWorld<S, K> {
 
     /// Puts a clock that has given no moment at a number.
     pub fn add_clock(&mut self, who: u32, c: MemClock) -> Result<(), OutOfMemory>
-        requires first { ⟦<MemClock as Clock>⟧.place c ≡ 0 }
+        requires first { (⟦<MemClock as Clock>⟧.told c).place ≡ 0 }
         requires unstopped { ⟦<MemClock as Clock>⟧.stopped c ≡ false }
 
         ensures added { OnOk result
-            ((⟦<MemWorld<S, K> as World>⟧.view self.new).clocks who ≡ ⟦<MemClock as Clock>⟧.moments c) }
+            ((⟦<MemWorld<S, K> as World>⟧.view self.new).clocks who ≡ (⟦<MemClock as Clock>⟧.told c).moments) }
         ensures refused { OnErr result (SameAtAll (⟦<MemWorld<S, K> as World>⟧.view self.old).clocks
             (⟦<MemWorld<S, K> as World>⟧.view self.new).clocks) }
         ensures only { OnlyClock who (⟦<MemWorld<S, K> as World>⟧.view self.old)
@@ -119,7 +120,7 @@ impl<S: Source + Send + Drop, K: Sink + Send + Drop> MemWorld<S, K> {
     /// Whether a source stands at an input place. Where none does, the place tells no bytes and no faults.
     pub fn has_in(&self, place: &str) -> bool
         ensures stands { result ≡ is_some ((standing self.now).ins place.now) }
-        ensures none { result ≡ false → IsTold None 0 ((⟦<MemWorld<S, K> as World>⟧.view self.now).ins place.now) }
+        ensures none { result ≡ false → IsTold no_part ((⟦<MemWorld<S, K> as World>⟧.view self.now).ins place.now) }
     {
         has_part(&self.ins, place)
     }
@@ -127,7 +128,7 @@ impl<S: Source + Send + Drop, K: Sink + Send + Drop> MemWorld<S, K> {
     /// Whether a sink stands at an output place. Where none does, the place tells no bytes and no faults.
     pub fn has_out(&self, place: &str) -> bool
         ensures stands { result ≡ is_some ((standing self.now).outs place.now) }
-        ensures none { result ≡ false → IsTold None 0 ((⟦<MemWorld<S, K> as World>⟧.view self.now).outs place.now) }
+        ensures none { result ≡ false → IsTold no_part ((⟦<MemWorld<S, K> as World>⟧.view self.now).outs place.now) }
     {
         has_part(&self.outs, place)
     }
@@ -136,7 +137,7 @@ impl<S: Source + Send + Drop, K: Sink + Send + Drop> MemWorld<S, K> {
     pub fn out(&self, place: &str) -> Option<&K>
         ensures stands { option_copied result ≡ (standing self.now).outs place.now }
         ensures told { MatchOption result (((⟦<MemWorld<S, K> as World>⟧.view self.now).outs place.now).bytes ≡ None)
-            (λ sink. IsTold (K.held sink.now) (K.faults sink.now)
+            (λ sink. IsTold (K.told sink.now)
             ((⟦<MemWorld<S, K> as World>⟧.view self.now).outs place.now)) }
     {
         part_of(&self.outs, place)
@@ -163,8 +164,8 @@ impl<S: Source + Send + Drop, K: Sink + Send + Drop> World for MemWorld<S, K> {
     type Clk = MemClock;
 
     ghost view = { λ w. record {
-      ins = λ place. told_of S.left S.faults (slot_at w.ins.items place);
-      outs = λ place. told_of K.held K.faults (slot_at w.outs.items place);
+      ins = λ place. told_of S.told (slot_at w.ins.items place);
+      outs = λ place. told_of K.told (slot_at w.outs.items place);
       clocks = λ who. Some (moments_at w.clocks.items who);
       report = record { reported = Some w.reported.items; report_faults = 0 };
     } };
@@ -172,7 +173,7 @@ impl<S: Source + Send + Drop, K: Sink + Send + Drop> World for MemWorld<S, K> {
     fn open_in(&mut self, place: &str) -> Result<S, OpenFault>
         requires { ((⟦<MemWorld<S, K> as World>⟧.view self.old).ins place.now).is_out ≡ false }
         ensures opened { IfOk result
-            (λ part. Opens (S.left part) (S.faults part) ((⟦<MemWorld<S, K> as World>⟧.view self.old).ins place.now)
+            (λ part. Opens (S.told part) ((⟦<MemWorld<S, K> as World>⟧.view self.old).ins place.now)
             ((⟦<MemWorld<S, K> as World>⟧.view self.new).ins place.now)) }
         ensures refused { IfErr result (λ e. Refuses e ((⟦<MemWorld<S, K> as World>⟧.view self.old).ins place.now)
             ((⟦<MemWorld<S, K> as World>⟧.view self.new).ins place.now)) }
@@ -188,7 +189,7 @@ impl<S: Source + Send + Drop, K: Sink + Send + Drop> World for MemWorld<S, K> {
     fn open_out(&mut self, place: &str) -> Result<K, OpenFault>
         requires { ((⟦<MemWorld<S, K> as World>⟧.view self.old).outs place.now).is_out ≡ false }
         ensures opened { IfOk result
-            (λ part. Opens (K.held part) (K.faults part) ((⟦<MemWorld<S, K> as World>⟧.view self.old).outs place.now)
+            (λ part. Opens (K.told part) ((⟦<MemWorld<S, K> as World>⟧.view self.old).outs place.now)
             ((⟦<MemWorld<S, K> as World>⟧.view self.new).outs place.now)) }
         ensures refused { IfErr result (λ e. Refuses e ((⟦<MemWorld<S, K> as World>⟧.view self.old).outs place.now)
             ((⟦<MemWorld<S, K> as World>⟧.view self.new).outs place.now)) }
@@ -203,7 +204,7 @@ impl<S: Source + Send + Drop, K: Sink + Send + Drop> World for MemWorld<S, K> {
 
     fn give_in(&mut self, place: &str, part: S)
         requires { ((⟦<MemWorld<S, K> as World>⟧.view self.old).ins place.now).is_out ≡ true }
-        ensures given { TakesIn (S.left part) (S.faults part) ((⟦<MemWorld<S, K> as World>⟧.view self.old).ins place.now)
+        ensures given { TakesIn (S.told part) ((⟦<MemWorld<S, K> as World>⟧.view self.old).ins place.now)
             ((⟦<MemWorld<S, K> as World>⟧.view self.new).ins place.now) }
         ensures only { OnlyIn place.now (⟦<MemWorld<S, K> as World>⟧.view self.old)
             (⟦<MemWorld<S, K> as World>⟧.view self.new) }
@@ -216,7 +217,7 @@ impl<S: Source + Send + Drop, K: Sink + Send + Drop> World for MemWorld<S, K> {
 
     fn give_out(&mut self, place: &str, part: K)
         requires { ((⟦<MemWorld<S, K> as World>⟧.view self.old).outs place.now).is_out ≡ true }
-        ensures given { TakesIn (K.held part) (K.faults part) ((⟦<MemWorld<S, K> as World>⟧.view self.old).outs place.now)
+        ensures given { TakesIn (K.told part) ((⟦<MemWorld<S, K> as World>⟧.view self.old).outs place.now)
             ((⟦<MemWorld<S, K> as World>⟧.view self.new).outs place.now) }
         ensures only { OnlyOut place.now (⟦<MemWorld<S, K> as World>⟧.view self.old)
             (⟦<MemWorld<S, K> as World>⟧.view self.new) }
@@ -228,8 +229,8 @@ impl<S: Source + Send + Drop, K: Sink + Send + Drop> World for MemWorld<S, K> {
     }
 
     fn clock(&mut self, who: u32, _pause: i64) -> MemClock
-        ensures told { ⟦<MemClock as Clock>⟧.moments result ≡ (⟦<MemWorld<S, K> as World>⟧.view self.old).clocks who }
-        ensures first { ⟦<MemClock as Clock>⟧.place result ≡ 0 }
+        ensures told { (⟦<MemClock as Clock>⟧.told result).moments ≡ (⟦<MemWorld<S, K> as World>⟧.view self.old).clocks who }
+        ensures first { (⟦<MemClock as Clock>⟧.told result).place ≡ 0 }
         ensures unstopped { ⟦<MemClock as Clock>⟧.stopped result ≡ false }
         ensures only { OnlyClock who (⟦<MemWorld<S, K> as World>⟧.view self.old)
             (⟦<MemWorld<S, K> as World>⟧.view self.new) }

@@ -46,8 +46,8 @@ impl MemSource {
         requires { 1 ≤ most }
         ensures is { result ≡ record
             { left = bytes.items; fails = fails.items; most = most; reads = 0; faults = 0 } }
-        ensures left { ⟦<MemSource as Source>⟧.left result ≡ Some bytes.items }
-        ensures faults { ⟦<MemSource as Source>⟧.faults result ≡ 0 }
+        ensures left { (⟦<MemSource as Source>⟧.told result).bytes ≡ Some bytes.items }
+        ensures faults { (⟦<MemSource as Source>⟧.told result).faults ≡ 0 }
     {
         MemSource {
             bytes,
@@ -94,9 +94,7 @@ fn copy_front(bytes: &[u8], buf: &mut [u8], most: usize) -> usize
 }
 
 impl Source for MemSource {
-    ghost left = { λ s. Some s.left };
-
-    ghost faults = { λ s. s.faults };
+    ghost told = { λ s. record { bytes = Some s.left; faults = s.faults } };
 
     fn read(&mut self, buf: &mut [u8]) -> Result<usize, Failed> {
         self.read_next(buf)
@@ -132,8 +130,8 @@ impl MemSink {
     /// fewer, and fails. Where a number is listed twice its first place counts.
     pub fn new(alloc: Global, fails: Vec<(u64, usize)>) -> MemSink
         ensures is { result ≡ record { held = []; fails = fails.items; puts = 0; faults = 0 } }
-        ensures held { ⟦<MemSink as Sink>⟧.held result ≡ Some [] }
-        ensures faults { ⟦<MemSink as Sink>⟧.faults result ≡ 0 }
+        ensures held { (⟦<MemSink as Sink>⟧.told result).bytes ≡ Some [] }
+        ensures faults { (⟦<MemSink as Sink>⟧.told result).faults ≡ 0 }
     {
         MemSink {
             held: Vec::new(alloc),
@@ -145,7 +143,7 @@ impl MemSink {
 
     /// The bytes that are held.
     pub fn bytes(&self) -> &[u8]
-        ensures { Some result.now ≡ ⟦<MemSink as Sink>⟧.held self.now }
+        ensures { Some result.now ≡ (⟦<MemSink as Sink>⟧.told self.now).bytes }
     {
         self.held.as_slice()
     }
@@ -200,9 +198,7 @@ fn front(bytes: &[u8], count: usize) -> &[u8]
 }
 
 impl Sink for MemSink {
-    ghost held = { λ s. Some s.held };
-
-    ghost faults = { λ s. s.faults };
+    ghost told = { λ s. record { bytes = Some s.held; faults = s.faults } };
 
     fn put(&mut self, bytes: &[u8]) -> Result<(), PutFault> {
         self.put_next(bytes)
@@ -224,8 +220,8 @@ impl MemClock {
 
     /// The moments are those of the list, of which the last comes again and again; 0 alone for an empty list.
     pub fn new(_alloc: Global, moments: Vec<Moment>) -> MemClock
-        ensures told { ⟦<MemClock as Clock>⟧.moments result ≡ Some (moments_of moments.items) }
-        ensures first { ⟦<MemClock as Clock>⟧.place result ≡ 0 }
+        ensures told { (⟦<MemClock as Clock>⟧.told result).moments ≡ Some (moments_of moments.items) }
+        ensures first { (⟦<MemClock as Clock>⟧.told result).place ≡ 0 }
         ensures unstopped { ⟦<MemClock as Clock>⟧.stopped result ≡ false }
         ensures waits { ⟦<MemClock as Clock>⟧.waits result ≡ 0 }
     {
@@ -257,9 +253,7 @@ impl MemClock {
 impl Clock for MemClock {
     ghost use Rattle.agent_base.specs.Memory.{moments_of};
 
-    ghost moments = { λ c. Some (moments_of c.moments.items) };
-
-    ghost place = { λ c. c.at };
+    ghost told = { λ c. record { moments = Some (moments_of c.moments.items); place = c.at } };
 
     ghost stopped = { λ _. false };
 

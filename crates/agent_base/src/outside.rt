@@ -1,9 +1,10 @@
 //! What is read, written and waited for.
-ghost use Rattle.std.specs.Prelude.{◌≡◌, List, ℕ, Bool, Option};
+ghost use Rattle.std.specs.Prelude.{◌≡◌, ℕ, Bool};
 ghost use Rattle.std.specs.Io.{ReadsAtMost};
 ghost use Rattle.std.specs.Io.KnownBytes.{ReadConsumes};
+ghost use Rattle.agent_base.specs.Carried.{Carried, Timed};
 ghost use Rattle.agent_base.specs.Counts.{HasCause};
-ghost use Rattle.agent_base.specs.Moments.{Moments, Gives, Waits};
+ghost use Rattle.agent_base.specs.Moments.{Gives, Waits};
 ghost use Rattle.agent_base.specs.Puts.{PutAppends, PutHasCause};
 
 use fixed_num::Moment;
@@ -23,42 +24,35 @@ pub enum PutFault {
 
 /// Bytes that are read from the outside.
 pub trait Source {
-    /// The bytes that are left, where they are told.
-    ghost left: { Self → Option (List ℕ) };
-
-    /// How often a read has failed; it never falls, and stops at 2^64 - 1.
-    ghost faults: { Self → ℕ };
+    /// The bytes that are left, where they are told; and how often a read has failed, which never falls, and stops at
+    /// 2^64 - 1.
+    ghost told: { Self → Carried };
 
     /// Moves the next bytes to the front of the buffer, and says how many they are.
     ///
     /// It answers 0 for a buffer that isn't empty exactly where nothing is left. A failed read takes nothing.
     fn read(&mut self, buf: &mut [u8]) -> Result<usize, Failed>
         ensures bound { ReadsAtMost result buf.new }
-        ensures bytes { ReadConsumes (left self.old) (left self.new) result buf.new }
-        ensures cause { HasCause (faults self.old) (faults self.new) result };
+        ensures bytes { ReadConsumes (told self.old).bytes (told self.new).bytes result buf.new }
+        ensures cause { HasCause (told self.old).faults (told self.new).faults result };
 }
 
 /// Bytes that are written to the outside.
 pub trait Sink {
-    /// The bytes that are held, where they are told.
-    ghost held: { Self → Option (List ℕ) };
-
-    /// How often a put has failed; it never falls, and stops at 2^64 - 1.
-    ghost faults: { Self → ℕ };
+    /// The bytes that are held, where they are told; and how often a put has failed, which never falls, and stops at
+    /// 2^64 - 1.
+    ghost told: { Self → Carried };
 
     /// Appends the bytes: all of them, or a prefix where it fails, or none where memory is short.
     fn put(&mut self, bytes: &[u8]) -> Result<(), PutFault>
-        ensures bytes { PutAppends (held self.old) (held self.new) bytes.now result }
-        ensures cause { PutHasCause (faults self.old) (faults self.new) result };
+        ensures bytes { PutAppends (told self.old).bytes (told self.new).bytes bytes.now result }
+        ensures cause { PutHasCause (told self.old).faults (told self.new).faults result };
 }
 
 /// Moments, one after another.
 pub trait Clock {
-    /// The moments by place, where they are told; they never change.
-    ghost moments: { Self → Option Moments };
-
-    /// The place of the next moment.
-    ghost place: { Self → ℕ };
+    /// The moments by place, where they are told, which never change; and the place of the next one.
+    ghost told: { Self → Timed };
 
     /// Whether the clock was stopped; a stopped clock stays so.
     ghost stopped: { Self → Bool };
@@ -68,14 +62,14 @@ pub trait Clock {
 
     /// The moment at the place, at once.
     fn now(&mut self) -> Moment
-        ensures list { moments self.new ≡ moments self.old }
-        ensures gives { Gives (moments self.old) (place self.old) (place self.new) result }
+        ensures list { (told self.new).moments ≡ (told self.old).moments }
+        ensures gives { Gives (told self.old).moments (told self.old).place (told self.new).place result }
         ensures stopped { stopped self.new ≡ stopped self.old }
         ensures waits { waits self.new ≡ waits self.old };
 
     /// The moment at the place, after the clock's pause; None only of a stopped clock.
     fn wait(&mut self) -> Option<Moment>
-        ensures list { moments self.new ≡ moments self.old }
-        ensures gives { Waits (moments self.old) (place self.old) (place self.new) (stopped self.old)
-            (stopped self.new) (waits self.old) (waits self.new) result };
+        ensures list { (told self.new).moments ≡ (told self.old).moments }
+        ensures gives { Waits (told self.old).moments (told self.old).place (told self.new).place
+            (stopped self.old) (stopped self.new) (waits self.old) (waits self.new) result };
 }

@@ -47,19 +47,19 @@ impl Pieces {
     /// A piece that is too long is passed over to its end. After a failed read the bytes that were taken are
     /// kept. Once 2^40 bytes were taken the answer is `ByteLimit`, whatever is in hand.
     pub fn next<S: Source>(&mut self, src: &mut S) -> Result<Option<Piece>, PieceFault>
-        ensures pieces { Told (S.left src.old) (S.left src.new)
+        ensures pieces { Told (S.told src.old).bytes (S.told src.new).bytes
             (λ xs ys. Answers result (to_come self.old xs) (to_come self.new ys)) }
-        ensures reason { HasReason result self.old self.new (S.left src.new) (S.faults src.old)
-            (S.faults src.new) }
+        ensures reason { HasReason result self.old self.new (S.told src.new).bytes (S.told src.old).faults
+            (S.told src.new).faults }
         ensures short { IsShort self.old.kind result }
         ensures limited { IsLimited result self.new.taken }
 
         // The bytes that are no longer left were taken.
-        ensures counted { Told (S.left src.old) (S.left src.new)
+        ensures counted { Told (S.told src.old).bytes (S.told src.new).bytes
             (λ xs ys. self.old.taken + length xs ≡ self.new.taken + length ys) }
         ensures grows { self.old.taken ≤ self.new.taken }
         ensures kind { self.new.kind ≡ self.old.kind }
-        ensures faults { S.faults src.old ≤ S.faults src.new }
+        ensures faults { (S.told src.old).faults ≤ (S.told src.new).faults }
 
         // A piece that is in hand is given without a read, and all room is taken before the first read.
         ensures whole { HasEnd self.old.kind self.old.bytes → (left : List ℕ)
@@ -69,7 +69,7 @@ impl Pieces {
 
         // What is given of the bytes that were taken stands whatever follows them, but at the end of the
         // source.
-        ensures whatever_follows { Told (S.left src.old) (S.left src.new)
+        ensures whatever_follows { Told (S.told src.old).bytes (S.told src.new).bytes
             (TakesFor result self.old self.new) }
     {
         self.buffer.next(src)

@@ -14,25 +14,23 @@ pub struct StdSource<R> {
 impl<R: Read + Drop> StdSource<R> {
     /// No read has failed yet.
     pub fn new(reader: R) -> StdSource<R>
-        ensures left { ⟦<StdSource<R> as Source>⟧.left result ≡ None }
-        ensures faults { ⟦<StdSource<R> as Source>⟧.faults result ≡ 0 }
+        ensures left { (⟦<StdSource<R> as Source>⟧.told result).bytes ≡ None }
+        ensures faults { (⟦<StdSource<R> as Source>⟧.told result).faults ≡ 0 }
     {
         StdSource::with_faults(reader, 0)
     }
 
     /// So many reads have failed before.
     pub fn with_faults(reader: R, faults: u64) -> StdSource<R>
-        ensures left { ⟦<StdSource<R> as Source>⟧.left result ≡ None }
-        ensures faults { ⟦<StdSource<R> as Source>⟧.faults result ≡ faults }
+        ensures left { (⟦<StdSource<R> as Source>⟧.told result).bytes ≡ None }
+        ensures faults { (⟦<StdSource<R> as Source>⟧.told result).faults ≡ faults }
     {
         StdSource { reader, faults }
     }
 }
 
 impl<R: Read + Drop> Source for StdSource<R> {
-    ghost left = { λ _. None };
-
-    ghost faults = { λ s. s.faults };
+    ghost told = { λ s. record { bytes = None; faults = s.faults } };
 
     fn read(&mut self, buf: &mut [u8]) -> Result<usize, Failed> {
         for _ in 0..u64::MAX {
@@ -60,23 +58,23 @@ pub struct StdSink<W> {
 impl<W: Write + Drop> StdSink<W> {
     /// No put has failed yet.
     pub fn new(writer: W) -> StdSink<W>
-        ensures held { ⟦<StdSink<W> as Sink>⟧.held result ≡ None }
-        ensures faults { ⟦<StdSink<W> as Sink>⟧.faults result ≡ 0 }
+        ensures held { (⟦<StdSink<W> as Sink>⟧.told result).bytes ≡ None }
+        ensures faults { (⟦<StdSink<W> as Sink>⟧.told result).faults ≡ 0 }
     {
         StdSink::with_faults(writer, 0)
     }
 
     /// So many puts have failed before.
     pub fn with_faults(writer: W, faults: u64) -> StdSink<W>
-        ensures held { ⟦<StdSink<W> as Sink>⟧.held result ≡ None }
-        ensures faults { ⟦<StdSink<W> as Sink>⟧.faults result ≡ faults }
+        ensures held { (⟦<StdSink<W> as Sink>⟧.told result).bytes ≡ None }
+        ensures faults { (⟦<StdSink<W> as Sink>⟧.told result).faults ≡ faults }
     {
         StdSink { writer, faults }
     }
 
     /// The writer, and how many puts have failed.
     pub fn into_parts(self) -> (W, u64)
-        ensures { result.1 ≡ ⟦<StdSink<W> as Sink>⟧.faults self }
+        ensures { result.1 ≡ (⟦<StdSink<W> as Sink>⟧.told self).faults }
     {
         (self.writer, self.faults)
     }
@@ -88,9 +86,7 @@ fn write_whole<W: Write + Drop>(writer: &mut W, bytes: &[u8]) -> bool {
 }
 
 impl<W: Write + Drop> Sink for StdSink<W> {
-    ghost held = { λ _. None };
-
-    ghost faults = { λ s. s.faults };
+    ghost told = { λ s. record { bytes = None; faults = s.faults } };
 
     fn put(&mut self, bytes: &[u8]) -> Result<(), PutFault> {
         if write_whole(&mut self.writer, bytes) {

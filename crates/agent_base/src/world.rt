@@ -35,7 +35,7 @@ pub trait World {
     /// Moves the part of an input place out; nothing else changes.
     fn open_in(&mut self, place: &str) -> Result<Self::In, OpenFault>
         requires { ((view self.old).ins place.now).is_out ≡ false }
-        ensures opened { IfOk result (λ part. Opens (Self.In.left part) (Self.In.faults part) ((view self.old).ins place.now)
+        ensures opened { IfOk result (λ part. Opens (Self.In.told part) ((view self.old).ins place.now)
             ((view self.new).ins place.now)) }
         ensures refused { IfErr result (λ e. Refuses e ((view self.old).ins place.now) ((view self.new).ins place.now)) }
         ensures only { OnlyIn place.now (view self.old) (view self.new) };
@@ -44,7 +44,7 @@ pub trait World {
     fn open_out(&mut self, place: &str) -> Result<Self::Out, OpenFault>
         requires { ((view self.old).outs place.now).is_out ≡ false }
         ensures opened { IfOk result
-            (λ part. Opens (Self.Out.held part) (Self.Out.faults part) ((view self.old).outs place.now)
+            (λ part. Opens (Self.Out.told part) ((view self.old).outs place.now)
             ((view self.new).outs place.now)) }
         ensures refused { IfErr result (λ e. Refuses e ((view self.old).outs place.now) ((view self.new).outs place.now)) }
         ensures only { OnlyOut place.now (view self.old) (view self.new) };
@@ -52,21 +52,21 @@ pub trait World {
     /// Gives the part of an input place back: the place tells what the part tells.
     fn give_in(&mut self, place: &str, part: Self::In)
         requires { ((view self.old).ins place.now).is_out ≡ true }
-        ensures given { TakesIn (Self.In.left part) (Self.In.faults part) ((view self.old).ins place.now)
+        ensures given { TakesIn (Self.In.told part) ((view self.old).ins place.now)
             ((view self.new).ins place.now) }
         ensures only { OnlyIn place.now (view self.old) (view self.new) };
 
     /// Gives the part of an output place back: the place tells what the part tells.
     fn give_out(&mut self, place: &str, part: Self::Out)
         requires { ((view self.old).outs place.now).is_out ≡ true }
-        ensures given { TakesIn (Self.Out.held part) (Self.Out.faults part) ((view self.old).outs place.now)
+        ensures given { TakesIn (Self.Out.told part) ((view self.old).outs place.now)
             ((view self.new).outs place.now) }
         ensures only { OnlyOut place.now (view self.old) (view self.new) };
 
     /// The clock with this number, at its first place; its waits pause so many nanoseconds.
     fn clock(&mut self, who: u32, pause: i64) -> Self::Clk
-        ensures told { Self.Clk.moments result ≡ (view self.old).clocks who }
-        ensures first { Self.Clk.place result ≡ 0 }
+        ensures told { (Self.Clk.told result).moments ≡ (view self.old).clocks who }
+        ensures first { (Self.Clk.told result).place ≡ 0 }
         ensures unstopped { Self.Clk.stopped result ≡ false }
         ensures only { OnlyClock who (view self.old) (view self.new) };
 

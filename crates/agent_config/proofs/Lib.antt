@@ -1,7 +1,9 @@
 mod DecimalLemmas
+mod FaultlessLemmas
 mod FirstLemmas
-mod KindLemmas
 mod ReadLemmas
+mod SoundLemmas
 mod TextLemmas
 mod TimeLemmas
-mod SoundLemmas
+mod UsualLemmas
+mod WrittenLemmas

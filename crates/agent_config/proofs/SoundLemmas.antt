@@ -7,54 +7,32 @@ use Rattle.std.proofs.lemmas.List.{length-map}
 use Rattle.std.proofs.lemmas.List.Elements.{All-from_recursion, All-map}
 use Rattle.std.proofs.lemmas.List.Folds.{list_any-append}
 use Rattle.std.specs.List.{AllByRecursion, IsDistinct, list_any}
-use Rattle.std.specs.Prelude.{◌&&◌, ◌||◌, codes, if◌then◌else◌, nat_le, option_and_then}
+use Rattle.std.specs.Prelude.{◌&&◌, ◌||◌, codes, if◌then◌else◌, is_some, nat_le, option_and_then}
 use Rattle.std.specs.Str.{bytes_eq}
 use Rattle.toml.specs.Data.{Members, no_members, member, as_integer, as_str, as_table, get_member}
-use Rattle.agent_config.specs.Faults.{Plugin, agent_faults, agent_limits, at, beside_faults}
-use Rattle.agent_config.specs.Faults.{class_faults, classes_faults, classes_of, count_at, counted_or, faults_in}
-use Rattle.agent_config.specs.Faults.{faults_of, global_faults, global_tag_faults}
-use Rattle.agent_config.specs.Faults.{is_known, journal_of, keys_faults, limits_faults, members_in}
-use Rattle.agent_config.specs.Faults.{most_counted, needed, none_faults, numbered, own_limits, place_of}
-use Rattle.agent_config.specs.Faults.{plugin_faults, plugins_at, root_key_faults, root_value_faults}
-use Rattle.agent_config.specs.Faults.{same_faults, table_at, table_faults, tabled_faults, text_faults, tree_of}
-use Rattle.agent_config.specs.Faults.{unknown_faults, unless}
+use Rattle.agent_config.specs.Faults.{Plugin, at, faults_by, faults_in, faults_of, global_faults}
+use Rattle.agent_config.specs.Faults.{global_tag_faults, journal_of, keys_faults, missing_faults, none_faults}
+use Rattle.agent_config.specs.Faults.{numbered, place_of, plugin_faults, plugins_at, same_faults, text_faults}
+use Rattle.agent_config.specs.Faults.{tree_of, unknown_faults}
+use Rattle.agent_config.specs.Kinds.{agent_limits, agent_number, kind_keys, kind_of, limits_faults, needs}
+use Rattle.agent_config.specs.Kinds.{number_at, output_kind, own_limits}
+use Rattle.agent_config.specs.Rows.{counted_or, members_in, table_at}
 use Rattle.agent_config.specs.Sound.{HasSizes, IsCounted, IsFilled, IsSound}
+use Rattle.agent_config.specs.Unless.{unless}
 use Rattle.agent_config.specs.Values.{config_of, global_tag, globals_of, input_of, output_of}
 use Rattle.agent_config.specs.declared.config.Config.{Config}
 use Rattle.agent_config.specs.declared.config.InputConf.{InputConf}
 use Rattle.agent_config.specs.declared.config.OutputConf.{OutputConf}
 use Rattle.agent_config.specs.declared.fault.Class.{Class}
 use Rattle.agent_config.specs.declared.fault.Class.TheVariants as class
-use Rattle.agent_config.specs.declared.fault.ConfigKind.{ConfigKind}
-use Rattle.agent_config.specs.declared.fault.ConfigKind.TheVariants as kinds
-use Rattle.agent_config.specs.declared.keys.Keys.TheVariants as keys_of
+use Rattle.agent_config.specs.declared.fault.FaultKind.{FaultKind}
+use Rattle.agent_config.specs.declared.fault.FaultKind.TheVariants as kinds
+use Rattle.agent_config.specs.declared.table.Keys.TheVariants as keys
+use Rattle.agent_config.specs.declared.table.Kind.{Kind}
+use Rattle.agent_config.specs.declared.table.Kind.TheVariants as kind
 use Rattle.agent_config.specs.declared.tables.Limits.{Limits}
-
--- ---- lists without a fault
-
-front_none : {X : Type 0} (xs ys : List X) → xs ++ ys ≡ [] → xs ≡ []
-front_none [] ys e = refl
-front_none (x ∷ xs) ys e = cc
-
-rest_none : {X : Type 0} (xs ys : List X) → xs ++ ys ≡ [] → ys ≡ []
-rest_none [] ys e = e
-rest_none (x ∷ xs) ys e = cc
-
-none_at : (c : Class) (number : ℕ) (found : List ConfigKind) → at c number found ≡ [] → found ≡ []
-none_at c number [] e = refl
-none_at c number (kind ∷ found) e = cc
-
-holds : (test : Bool) (kind : ConfigKind) → unless test kind ≡ [] → test ≡ true
-holds true kind e = refl
-holds false kind e = cc
-
-holds_at : (c : Class) (number : ℕ) (test : Bool) (kind : ConfigKind) → at c number (unless test kind) ≡ []
-    → test ≡ true
-holds_at c number test kind e = holds test kind (none_at c number (unless test kind) e)
-
-not_true : (test : Bool) → not test ≡ true → test ≡ false
-not_true true e = cc
-not_true false e = refl
+use Rattle.agent_config.proofs.FaultlessLemmas.{IsFaultless, faultless, front_none, holds, holds_at, none_at}
+use Rattle.agent_config.proofs.FaultlessLemmas.{none_told, not_true, rest_none}
 
 -- ---- places
 
@@ -118,43 +96,68 @@ counted most other None h = h
 counted most other (Some (pos n)) h = counted_if most other n (nat_le 1 n && nat_le n most) refl h
 counted most other (Some (negsuc n)) h = h
 
-counted_at : (key : List ℕ) (most other : ℕ) (members : Members) → IsCounted most other → IsCounted most (count_at key most other members)
-counted_at key most other members h = counted most other (option_and_then as_integer (get_member key members)) h
-
 -- ---- outputs
 
 abbrev AreCounted : Limits → Type 0
 AreCounted limits = IsCounted 10000 limits.batch × IsCounted 10000 limits.limit
 
-own_counted : (limits : Limits) (members : Members) → AreCounted limits → AreCounted (own_limits limits members)
-own_counted limits members h =
-    (counted_at (codes "metric_batch_size") most_counted limits.batch members h.0, counted_at (codes "metric_buffer_limit") most_counted limits.limit members h.1)
+own_counted : (limits : Limits) (members : Members) → AreCounted limits
+    → AreCounted (own_limits (keys.Plugin kind.FileOutput) limits members)
+unfolding number_at
+own_counted limits members h = (
+  counted 10000 limits.batch (option_and_then as_integer (get_member (codes "metric_batch_size") members)) h.0,
+  counted 10000 limits.limit (option_and_then as_integer (get_member (codes "metric_buffer_limit") members)) h.1,
+)
 
 agent_counted : (agent : Members) → AreCounted (agent_limits agent)
-agent_counted agent =
-    (counted_at (codes "metric_batch_size") most_counted 1000 agent (omega arith, omega arith), counted_at (codes "metric_buffer_limit") most_counted 10000 agent (omega arith, omega arith))
+unfolding agent_number number_at
+agent_counted agent = (
+  counted 10000 1000 (option_and_then as_integer (get_member (codes "metric_batch_size") agent))
+      (omega arith, omega arith),
+  counted 10000 10000 (option_and_then as_integer (get_member (codes "metric_buffer_limit") agent))
+      (omega arith, omega arith),
+)
 
-ordered_of : (limits : Limits) (value : Option Members) → tabled_faults class.Outputs limits value ≡ []
-    → (own_limits limits (members_in value)).batch ≤ (own_limits limits (members_in value)).limit
-ordered_of limits None e = cc
-ordered_of limits (Some members) e =
-    let own = own_limits limits members in
-    let behind = rest_none (keys_faults keys_of.Output members) (needed members ++ limits_faults own) e in
-    leb-true own.batch own.limit (holds (nat_le own.batch own.limit) kinds.BatchAboveLimit (rest_none (needed members) (limits_faults own) behind))
+-- the sizes of an output of a kind, where it has no fault
+abbrev SizesOf : Option Kind → Limits → Option Members → Limits
+SizesOf known limits value = own_limits (kind_keys known) limits (members_in value)
 
-first_none : {X : Type 0} (test : Bool) (xs ys : List X) → test ≡ true → (if test then xs else ys) ≡ [] → xs ≡ []
-first_none true xs ys is e = e
-first_none false xs ys is e = cc
+record AreSizes (sizes : Limits) : Type 0 where
+  some : 1 ≤ sizes.batch
+  ordered : sizes.batch ≤ sizes.limit
+  most : sizes.limit ≤ 10000
 
-known_none : (limits : Limits) (plugin : Plugin) → is_known class.Outputs plugin.kind ≡ true → plugin_faults class.Outputs limits plugin ≡ [] → tabled_faults class.Outputs limits (as_table plugin.value) ≡ []
-unfolding plugin_faults
-known_none limits plugin known e = first_none (is_known class.Outputs plugin.kind) (tabled_faults class.Outputs limits (as_table plugin.value)) [] known e
+file_sizes : (limits : Limits) (value : Option Members) → AreCounted limits
+    → faults_by (Some kind.FileOutput) limits value ≡ [] → AreSizes (SizesOf (Some kind.FileOutput) limits value)
+file_sizes limits None h e = cc
+file_sizes limits (Some members) h e =
+    let own = own_limits (keys.Plugin kind.FileOutput) limits members in
+    let counts = own_counted limits members h in
+    let lacks = missing_faults (needs kind.FileOutput) members in
+    let behind = rest_none (keys_faults (keys.Plugin kind.FileOutput) members) (lacks ++ limits_faults own) e in
+    record {
+      some = counts.0.0;
+      ordered = leb-true own.batch own.limit (holds (nat_le own.batch own.limit) kinds.BatchAboveLimit
+          (rest_none lacks (limits_faults own) behind));
+      most = counts.1.1;
+    }
 
-sized : (limits : Limits) (plugin : Plugin) → AreCounted limits → unknown_faults class.Outputs plugin ≡ [] → plugin_faults class.Outputs limits plugin ≡ [] → HasSizes (output_of limits plugin)
+-- of the kinds of outputs
+kind_sizes : (limits : Limits) (file : Bool) (value : Option Members) → AreCounted limits
+    → is_some (if file then Some kind.FileOutput else None) ≡ true
+    → faults_by (if file then Some kind.FileOutput else None) limits value ≡ []
+    → AreSizes (SizesOf (if file then Some kind.FileOutput else None) limits value)
+kind_sizes limits true value h known e = file_sizes limits value h e
+kind_sizes limits false value h known e = cc
+
+sized : (limits : Limits) (plugin : Plugin) → AreCounted limits → unknown_faults class.Outputs plugin ≡ []
+    → plugin_faults class.Outputs limits plugin ≡ [] → HasSizes (output_of limits plugin)
+unfolding kind_of plugin_faults
 sized limits plugin h known e =
-    let own = own_counted limits (members_in (as_table plugin.value)) h in
-    let table = known_none limits plugin (holds (is_known class.Outputs plugin.kind) kinds.UnknownKind known) e in
-    record { some = own.0.0; ordered = ordered_of limits (as_table plugin.value) table; most = own.1.1 }
+    let file = bytes_eq plugin.name (codes "file") in
+    let sizes = kind_sizes limits file (as_table plugin.value) h
+    (holds (is_some (output_kind plugin.name)) kinds.UnknownKind known) e in
+    record { some = sizes.some; ordered = sizes.ordered; most = sizes.most }
 
 all_sized : (limits : Limits) (number : ℕ) (plugins : List Plugin) → AreCounted limits → numbered class.Outputs (unknown_faults class.Outputs) number plugins ≡ [] → numbered class.Outputs (plugin_faults class.Outputs limits) number plugins ≡ []
     → AllByRecursion (λ plugin. HasSizes (output_of limits plugin)) plugins
@@ -189,86 +192,48 @@ tags_filled (member key value tags) e =
 
 -- ---- the whole
 
--- a class without a fault: it has few plugins, each of a known kind and without a fault
-record HasNone (c : Class) (limits : Limits) (plugins : List Plugin) : Type 0 where
-  few : length plugins ≤ 16
-  known : numbered c (unknown_faults c) 0 plugins ≡ []
-  right : numbered c (plugin_faults c limits) 0 plugins ≡ []
-
-class_none : (c : Class) (limits : Limits) (plugins : List Plugin) → class_faults c limits plugins ≡ [] → HasNone c limits plugins
-unfolding class_faults
-class_none c limits plugins e =
-    let many = at c 16 (unless (nat_le (length plugins) 16) kinds.TooManyPlugins) in
-    let unknown = numbered c (unknown_faults c) 0 plugins in
-    let wrong = numbered c (plugin_faults c limits) 0 plugins in
-    let behind = rest_none many (unknown ++ wrong) e in record {
-      few = leb-true (length plugins) 16 (holds_at c 16 (nat_le (length plugins) 16) kinds.TooManyPlugins (front_none many (unknown ++ wrong) e));
-      known = front_none unknown wrong behind;
-      right = rest_none unknown wrong behind;
-    }
-
-some_plugins : (plugins : List Plugin) (kind : ConfigKind) → none_faults plugins kind ≡ [] → 1 ≤ length plugins
+some_plugins : (plugins : List Plugin) (kind : FaultKind) → none_faults plugins kind ≡ [] → 1 ≤ length plugins
 some_plugins plugins kind e =
     let differs = eqb-false (length plugins) 0 (not_true (length plugins == 0) (holds_at class.Root 0 (not (length plugins == 0)) kind e)) in omega (arith, differs)
 
-input_places : (plugins : List Plugin) → map place_of plugins ≡ map (λ (input : InputConf). input.place) (map input_of plugins)
+input_places : (plugins : List Plugin) → map (place_of class.Inputs) plugins ≡ map (λ (input : InputConf). input.place) (map input_of plugins)
 input_places [] = refl
-input_places (plugin ∷ plugins) = ap (λ (places : List (List ℕ)). place_of plugin ∷ places) (input_places plugins)
+input_places (plugin ∷ plugins) = ap (λ (places : List (List ℕ)). place_of class.Inputs plugin ∷ places) (input_places plugins)
 
-output_places : (limits : Limits) (plugins : List Plugin) → map place_of plugins ≡ map (λ (output : OutputConf). output.place) (map (output_of limits) plugins)
+output_places : (limits : Limits) (plugins : List Plugin) → map (place_of class.Outputs) plugins ≡ map (λ (output : OutputConf). output.place) (map (output_of limits) plugins)
 output_places limits [] = refl
-output_places limits (plugin ∷ plugins) = ap (λ (places : List (List ℕ)). place_of plugin ∷ places) (output_places limits plugins)
+output_places limits (plugin ∷ plugins) = ap (λ (places : List (List ℕ)). place_of class.Outputs plugin ∷ places) (output_places limits plugins)
 
 -- how many plugins there are: some, and few
 counted_plugins : {X : Type 0} (f : Plugin → X) (plugins : List Plugin) → 1 ≤ length plugins → length plugins ≤ 16 → IsCounted 16 (length (map f plugins))
 counted_plugins f plugins some few = (omega (arith, some, length-map plugins f), omega (arith, few, length-map plugins f))
 
-sound_tree : (root : Members) → faults_of root ≡ [] → IsSound (config_of root)
-sound_tree root e =
+sound_tree : (root : Members) → IsFaultless root → IsSound (config_of root)
+unfolding agent_number number_at
+sound_tree root none =
     let agent = table_at (codes "agent") root in
-    let tags = table_at (codes "global_tags") root in
     let limits = agent_limits agent in
     let journal = journal_of agent in
     let ins = plugins_at (codes "inputs") root in
     let outs = plugins_at (codes "outputs") root in
-    let processors = class_faults class.Processors limits (plugins_at (codes "processors") root) in
-    let aggregators = class_faults class.Aggregators limits (plugins_at (codes "aggregators") root) in
-    let in_faults = class_faults class.Inputs limits ins in
-    let out_faults = class_faults class.Outputs limits outs in
-    let classes = classes_faults limits (classes_of root) in
-    let beside = beside_faults journal (classes_of root) in
-    let tables = front_none (table_faults root) (classes ++ beside) e in
-    let plugins = rest_none (table_faults root) (classes ++ beside) e in
-    let in_classes = front_none classes beside plugins in
-    let others = rest_none classes beside plugins in
-    let ins_none = class_none class.Inputs limits ins (front_none in_faults (processors ++ (aggregators ++ out_faults)) in_classes) in
-    let outs_none = class_none class.Outputs limits outs (rest_none aggregators out_faults (rest_none processors (aggregators ++ out_faults) (rest_none in_faults (processors ++ (aggregators ++ out_faults)) in_classes))) in
-    let no_input = none_faults ins kinds.NoInput in
-    let no_output = none_faults outs kinds.NoOutput in
-    let same_ins = same_faults class.Inputs 0 [] (map place_of ins) in
-    let same_outs = same_faults class.Outputs 0 (journal ∷ []) (map place_of outs) in
-    let behind = rest_none no_input (no_output ++ (same_ins ++ same_outs)) others in
-    let same = rest_none no_output (same_ins ++ same_outs) behind in
-    let ins_apart = apart class.Inputs 0 [] (map place_of ins) (front_none same_ins same_outs same) in
-    let outs_apart = apart class.Outputs 0 (journal ∷ []) (map place_of outs) (rest_none same_ins same_outs same) in
-    let root_keys = at class.Root 0 (root_key_faults root) in
-    let root_values = at class.Root 0 (root_value_faults root) in
-    let in_agent = at class.Agent 0 (agent_faults agent) in
-    let in_tags = at class.GlobalTags 0 (global_faults tags) in
-    let tags_none = none_at class.GlobalTags 0 (global_faults tags) (rest_none in_agent in_tags (rest_none root_values (in_agent ++ in_tags) (rest_none root_keys (root_values ++ (in_agent ++ in_tags)) tables))) in record {
-      inputs = counted_plugins input_of ins (some_plugins ins kinds.NoInput (front_none no_input (no_output ++ (same_ins ++ same_outs)) others)) ins_none.few;
-      outputs = counted_plugins (output_of limits) outs (some_plugins outs kinds.NoOutput (front_none no_output (same_ins ++ same_outs) behind)) outs_none.few;
+    let ins_apart = apart class.Inputs 0 [] (map (place_of class.Inputs) ins) none.ins_apart in
+    let outs_apart = apart class.Outputs 0 (journal ∷ []) (map (place_of class.Outputs) outs) none.outs_apart in
+    record {
+      inputs = counted_plugins input_of ins (some_plugins ins kinds.NoInput none.some_in) none.ins.few;
+      outputs = counted_plugins (output_of limits) outs (some_plugins outs kinds.NoOutput none.some_out) none.outs.few;
       inputs_apart = subst (IsDistinct bytes_eq) (input_places ins) ins_apart.1;
-      outputs_apart = subst (λ (places : List (List ℕ)). IsDistinct bytes_eq (journal ∷ places)) (output_places limits outs) (with_first journal (map place_of outs) outs_apart.0 outs_apart.1);
-      sizes = All-map HasSizes (output_of limits) outs (All-from_recursion (λ (plugin : Plugin). HasSizes (output_of limits plugin)) outs (all_sized limits 0 outs (agent_counted agent) outs_none.known outs_none.right));
-      gather_pieces = counted_at (codes "gather_pieces") most_counted 1000 agent (omega arith, omega arith);
-      final_tries = counted_at (codes "final_tries") 100 3 agent (omega arith, omega arith);
-      globals = All-from_recursion IsFilled (globals_of tags) (tags_filled tags tags_none);
+      outputs_apart = subst (λ (places : List (List ℕ)). IsDistinct bytes_eq (journal ∷ places)) (output_places limits outs)
+          (with_first journal (map (place_of class.Outputs) outs) outs_apart.0 outs_apart.1);
+      sizes = All-map HasSizes (output_of limits) outs (All-from_recursion (λ (plugin : Plugin). HasSizes (output_of limits plugin)) outs
+          (all_sized limits 0 outs (agent_counted agent) none.outs.known none.outs.right));
+      gather_pieces = counted 10000 1000 (option_and_then as_integer (get_member (codes "gather_pieces") agent)) (omega arith, omega arith);
+      final_tries = counted 100 3 (option_and_then as_integer (get_member (codes "final_tries") agent)) (omega arith, omega arith);
+      globals = All-from_recursion IsFilled (globals_of (table_at (codes "global_tags") root)) (tags_filled (table_at (codes "global_tags") root) none.tags);
     }
 
 sound_in : (tree : Option Members) (config : Config) → faults_in tree ≡ [] → option_map config_of tree ≡ Some config → IsSound config
 sound_in None config e is = cc
-sound_in (Some root) config e is = subst IsSound (let same : config_of root ≡ config = cc in same) (sound_tree root e)
+sound_in (Some root) config e is = subst IsSound (let same : config_of root ≡ config = cc in same) (sound_tree root (faultless root (none_told (faults_of root) e)))
 
 -- the values of a text without faults
 pub sound : (text : List ℕ) (config : Config) → text_faults text ≡ [] → option_map config_of (tree_of text) ≡ Some config → IsSound config

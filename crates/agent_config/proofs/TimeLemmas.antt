@@ -1,11 +1,11 @@
--- The time that a text gives, pair by pair.
+-- The time that the pairs of a text give, pair by pair.
 use Rattle.std.proofs.Common.{◌≡◌, ◌+◌, ◌*◌, ◌/◌, ◌%◌, ◌^◌, ◌<◌, ◌≤◌, ℕ, suc, zero, List, length, refl, sym}
 use Rattle.std.proofs.Common.{ap, ◌∙◌, arith}
 use Rattle.std.proofs.Common.{Bool, true, false, Option, Some, None, option_map, add-zero, subst, zero-add}
 use Rattle.std.proofs.lemmas.Bool.{eq-eqb, eqb-false, eqb-true, ne_eqb, lt-leb}
 use Rattle.std.proofs.Math.Nat.{le-div_iff_mul-le, one-le-pow}
-use Rattle.std.specs.Prelude.{◌==◌, ◌&&◌, if◌then◌else◌, nat_le, option_and_then}
-use Rattle.agent_config.specs.Durations.{Pair, fitting, longest, pair_of, scaled, sum_of, time_of_text}
+use Rattle.std.specs.Prelude.{◌==◌, if◌then◌else◌, option_and_then}
+use Rattle.agent_config.specs.Durations.{Pair, fitting, longest, pair_of, scaled, sum_of, time_of_pairs}
 use Rattle.agent_config.specs.Durations.{whole_of}
 
 -- the time of a value and of the pairs that are left
@@ -17,14 +17,14 @@ AnswerOf n value most rest =
 pub record SoFar (text rest : List ℕ) (value : ℕ) : Type 0 where
   pub most : ℕ
   pub enough : length rest ≤ most
-  pub same : AnswerOf (length text) value most rest ≡ time_of_text text
+  pub same : AnswerOf (length text) value most rest ≡ time_of_pairs text
 
 zero_more : (sum : Option ℕ) → option_map (λ x. 0 + x) sum ≡ sum
 zero_more None = refl
 zero_more (Some x) = ap Some (zero-add x)
 
 pub begin : (text rest : List ℕ) (value : ℕ) → rest ≡ text → value ≡ 0 → SoFar text rest value
-unfolding time_of_text
+unfolding time_of_pairs
 begin text rest value whole none = record {
   most = length text;
   enough = omega (arith, ap length whole);
@@ -63,7 +63,7 @@ shift n value amount after (Some x) e =
     ap (whole_of n) same
 
 next_of : (text rest : List ℕ) (value after most : ℕ) (pair : Pair) → length rest ≤ most
-    → AnswerOf (length text) value most rest ≡ time_of_text text → 0 < length rest → pair_of rest ≡ Some pair
+    → AnswerOf (length text) value most rest ≡ time_of_pairs text → 0 < length rest → pair_of rest ≡ Some pair
     → after ≡ value + scaled (length text) pair → length pair.behind < length rest
     → SoFar text pair.behind after
 next_of text rest value after zero pair enough same some e is less = absurd (omega arith)
@@ -85,7 +85,7 @@ next text rest value after n pair so_far some e same is less =
     (is ∙ ap (λ k. value + scaled k pair) same) less
 
 pub ends_at : (text rest : List ℕ) (value : ℕ) → SoFar text rest value → length rest ≡ 0
-    → whole_of (length text) value ≡ time_of_text text
+    → whole_of (length text) value ≡ time_of_pairs text
 ends_at text rest value so_far e =
     ap (whole_of (length text)) (sym (add-zero value))
     ∙ ap (λ s. option_and_then (whole_of (length text)) (option_map (λ x. value + x) s))
@@ -93,7 +93,7 @@ ends_at text rest value so_far e =
     ∙ so_far.same
 
 pub stops_at : (text rest : List ℕ) (value : ℕ) → SoFar text rest value → 0 < length rest
-    → None ≡ pair_of rest → None ≡ time_of_text text
+    → None ≡ pair_of rest → None ≡ time_of_pairs text
 stops_at text rest value so_far some e =
     ap (λ s. option_and_then (whole_of (length text)) (option_map (λ x. value + x) s))
     (sym (sum_none so_far.most (length text) rest some (sym e)))
@@ -103,12 +103,8 @@ either_none : (b : Bool) (o : Option ℕ) → o ≡ None → (if b then o else N
 either_none true o e = e
 either_none false o e = refl
 
-and_no : (b c : Bool) → c ≡ false → (b && c) ≡ false
-and_no true c e = e
-and_no false c e = refl
-
 no_fitting : (q : ℕ) → longest < q → fitting q ≡ None
-no_fitting q h = rw (and_no (nat_le 1 q) (nat_le q longest) (lt-leb q longest h)) refl
+no_fitting q h = rw (lt-leb q longest h) refl
 
 never_whole : (n value : ℕ) → (longest + 1) * 10 ^ n ≤ value → whole_of n value ≡ None
 unfolding whole_of
@@ -123,8 +119,8 @@ never n value amount None long = refl
 never n value amount (Some x) long = never_whole n (value + (amount + x)) (omega arith)
 
 long_of : (text rest : List ℕ) (value most : ℕ) (pair : Pair) → length rest ≤ most
-    → AnswerOf (length text) value most rest ≡ time_of_text text → 0 < length rest → pair_of rest ≡ Some pair
-    → (longest + 1) * 10 ^ length text ≤ value + scaled (length text) pair → None ≡ time_of_text text
+    → AnswerOf (length text) value most rest ≡ time_of_pairs text → 0 < length rest → pair_of rest ≡ Some pair
+    → (longest + 1) * 10 ^ length text ≤ value + scaled (length text) pair → None ≡ time_of_pairs text
 long_of text rest value zero pair enough same some e long = absurd (omega arith)
 long_of text rest value (suc most) pair enough same some e long =
     sym (never (length text) value (scaled (length text) pair) (sum_of most (length text) pair.behind) long)
@@ -134,7 +130,7 @@ long_of text rest value (suc most) pair enough same some e long =
 
 pub too_long_at : (text rest : List ℕ) (value n : ℕ) (pair : Pair) → SoFar text rest value → 0 < length rest
     → Some pair ≡ pair_of rest → n ≡ length text → (longest + 1) * 10 ^ n ≤ value + scaled n pair
-    → None ≡ time_of_text text
+    → None ≡ time_of_pairs text
 too_long_at text rest value n pair so_far some e same long =
     let P : ℕ → Type 0 = λ k. (longest + 1) * 10 ^ k ≤ value + scaled k pair in
     long_of text rest value so_far.most pair so_far.enough so_far.same some (sym e) (subst P same long)

@@ -9,9 +9,9 @@ use Rattle.std.specs.Str.{bytes_eq}
 abbrev pub longest : ℕ
 longest = 9223372036854775807
 
--- a time above 0 that fits, or None
+-- a time that fits, or None
 abbrev pub fitting : ℕ → Option ℕ
-fitting n = if nat_le 1 n && nat_le n longest then Some n else None
+fitting n = if nat_le n longest then Some n else None
 
 -- ---- texts
 
@@ -88,14 +88,18 @@ sum_of (suc most) places text =
     else option_and_then (λ pair. option_map (λ others. scaled places pair + others)
     (sum_of most places pair.behind)) (pair_of text)
 
--- the whole number of nanoseconds that such a sum is, where it is above 0 and fits
+-- the whole number of nanoseconds that such a sum is, where it fits
 unfoldable pub whole_of : ℕ → ℕ → Option ℕ
 whole_of places sum = if sum % 10 ^ places == 0 then fitting (sum / 10 ^ places) else None
 
--- the nanoseconds that a text spells: pairs of a decimal and a unit, whose sum is whole, above 0 and fits. No
--- decimal in a text has more places than the text has bytes
-unfoldable pub time_of_text : List ℕ → Option ℕ
-time_of_text text = option_and_then (whole_of (length text)) (sum_of (length text) (length text) text)
+-- the nanoseconds that pairs of a decimal and a unit spell, whose sum is whole and fits. No decimal in a text has
+-- more places than the text has bytes
+unfoldable pub time_of_pairs : List ℕ → Option ℕ
+time_of_pairs text = option_and_then (whole_of (length text)) (sum_of (length text) (length text) text)
+
+-- those that a text spells, which has one pair or more
+abbrev pub time_of_text : List ℕ → Option ℕ
+time_of_text text = if length text == 0 then None else time_of_pairs text
 
 -- ---- whole numbers of seconds
 

@@ -1,18 +1,33 @@
--- The keys of the tables of a configuration, and what each takes.
-use Rattle.std.specs.Prelude.{ℕ, Bool, List, [], ◌∷◌, codes, Option, Some, None, if◌then◌else◌}
+-- The keys of the tables of a configuration, and what each takes: a row for each key.
+use Rattle.std.specs.Prelude.{ℕ, Bool, true, false, List, [], ◌∷◌, codes, pos, Option, Some, None, if◌then◌else◌}
 use Rattle.std.specs.List.{list_any}
 use Rattle.std.specs.Str.{bytes_eq}
-use Rattle.agent_config.specs.declared.keys.Shape.{Shape}
-use Rattle.agent_config.specs.declared.keys.Shape.TheVariants.{Anything, Count, Truth, Place, AnyText, Files}
-use Rattle.agent_config.specs.declared.keys.Shape.TheVariants.{InName, OutName, Templates}
-use Rattle.agent_config.specs.declared.keys.Shape.TheVariants.{Duration}
-use Rattle.agent_config.specs.declared.keys.Shape.TheVariants.{Globs, TagGlobs}
-use Rattle.agent_config.specs.declared.keys.Keys.{Keys}
-use Rattle.agent_config.specs.declared.keys.Keys.TheVariants.{Agent, Input, Output}
+use Rattle.agent_config.specs.declared.shapes.Names.{Names}
+use Rattle.agent_config.specs.declared.shapes.Names.TheVariants.{ReadFormats, WrittenFormats}
+use Rattle.agent_config.specs.declared.shapes.Shape.{Shape}
+use Rattle.agent_config.specs.declared.shapes.UsualText.{UsualText}
+use Rattle.agent_config.specs.declared.shapes.UsualText.TheVariants.{Journal, Point}
+use Rattle.agent_config.specs.declared.shapes.Shape.TheVariants.{Anything, Count, Truth, Place, AnyText, Files}
+use Rattle.agent_config.specs.declared.shapes.Shape.TheVariants.{OneOf, Templates, Time, Globs, TagGlobs}
 
 -- is the key one of these
 abbrev pub is_one_of : List (List ℕ) → List ℕ → Bool
 is_one_of names key = list_any (λ name. bytes_eq key name) names
+
+-- the names of the formats that are read, and of those that are written
+abbrev pub names_of : Names → List (List ℕ)
+names_of ReadFormats = codes "influx" ∷ codes "statsd" ∷ codes "graphite" ∷ codes "openmetrics" ∷ []
+names_of WrittenFormats = codes "influx" ∷ codes "graphite" ∷ codes "openmetrics" ∷ []
+
+-- the one of them where nothing is said
+abbrev pub usual_name : Names → List ℕ
+usual_name ReadFormats = codes "influx"
+usual_name WrittenFormats = codes "influx"
+
+-- what a text is where nothing is said
+abbrev pub text_of : UsualText → List ℕ
+text_of Journal = codes "agent.journal"
+text_of Point = codes "."
 
 -- the tables of the root
 abbrev pub is_root_key : List ℕ → Bool
@@ -20,50 +35,71 @@ is_root_key key =
     is_one_of (codes "agent" ∷ codes "global_tags" ∷ codes "inputs" ∷ codes "processors" ∷ codes "aggregators"
     ∷ codes "outputs" ∷ []) key
 
+-- a whole number from 1 to the first of two, which is the second where nothing is said
+abbrev pub count_to : ℕ → ℕ → Option Shape
+count_to most usual = Some (Count (record { most = most; usual = usual }))
+
+-- a time of so many nanoseconds or more, and how many it has where nothing is said
+abbrev pub time_from : ℕ → ℕ → Option Shape
+time_from least usual = Some (Time (record { least = pos least; usual = pos usual }))
+
+-- ---- the agent
+
+-- has the key of `agent` no effect
+abbrev pub is_unused : List ℕ → Bool
+is_unused =
+    is_one_of (codes "interval" ∷ codes "collection_jitter" ∷ codes "flush_jitter" ∷ codes "round_interval"
+    ∷ codes "precision" ∷ codes "hostname" ∷ codes "omit_hostname" ∷ codes "debug" ∷ codes "quiet"
+    ∷ codes "logfile" ∷ [])
+
+-- what a key of `agent` takes that is one of its numbers
+abbrev pub agent_number_key : List ℕ → Option Shape
+agent_number_key key =
+    if bytes_eq key (codes "metric_batch_size") then count_to 10000 1000
+    else if bytes_eq key (codes "metric_buffer_limit") then count_to 10000 10000
+    else if bytes_eq key (codes "gather_pieces") then count_to 10000 1000
+    else if bytes_eq key (codes "final_tries") then count_to 100 3
+    else None
+
 -- what a key of `agent` takes
 abbrev pub agent_key : List ℕ → Option Shape
 agent_key key =
-    if is_one_of (codes "metric_batch_size" ∷ codes "metric_buffer_limit" ∷ codes "gather_pieces" ∷ []) key
-    then Some (Count 10000)
-    else if bytes_eq key (codes "final_tries") then Some (Count 100)
-    else if bytes_eq key (codes "flush_interval") then Some Duration
-    else if bytes_eq key (codes "workers") then Some Truth
-    else if bytes_eq key (codes "journal") then Some Place
-    else if is_one_of (codes "interval" ∷ codes "collection_jitter" ∷ codes "flush_jitter"
-    ∷ codes "round_interval" ∷ codes "precision" ∷ codes "hostname" ∷ codes "omit_hostname" ∷ codes "debug"
-    ∷ codes "quiet" ∷ codes "logfile" ∷ []) key
-    then Some Anything
-    else None
+    if bytes_eq key (codes "flush_interval") then time_from 1 10000000000
+    else if bytes_eq key (codes "workers") then Some (Truth true)
+    else if bytes_eq key (codes "journal") then Some (Place Journal)
+    else if is_unused key then Some Anything
+    else agent_number_key key
 
--- what a key takes that inputs have and outputs too, with one meaning
+-- ---- plugins
+
+-- what a key takes that each plugin has
 abbrev pub plugin_key : List ℕ → Option Shape
 plugin_key key =
-    if bytes_eq key (codes "files") then Some Files
-    else if bytes_eq key (codes "alias") then Some Anything
+    if bytes_eq key (codes "alias") then Some Anything
     else if is_one_of (codes "namepass" ∷ codes "namedrop" ∷ codes "fieldinclude" ∷ codes "fieldexclude"
     ∷ codes "fieldpass" ∷ codes "fielddrop" ∷ codes "taginclude" ∷ codes "tagexclude" ∷ []) key
     then Some Globs
     else if is_one_of (codes "tagpass" ∷ codes "tagdrop" ∷ []) key then Some TagGlobs
     else None
 
--- what a key of an input takes
-abbrev pub input_key : List ℕ → Option Shape
-input_key key =
-    if bytes_eq key (codes "data_format") then Some InName
+-- what a key takes that says how an input reads its format
+abbrev pub read_format_key : List ℕ → Option Shape
+read_format_key key =
+    if bytes_eq key (codes "data_format") then Some (OneOf ReadFormats)
     else if bytes_eq key (codes "templates") then Some Templates
-    else if bytes_eq key (codes "separator") then Some AnyText
-    else if bytes_eq key (codes "type_tag") then Some Truth
+    else if bytes_eq key (codes "separator") then Some (AnyText Point)
+    else if bytes_eq key (codes "type_tag") then Some (Truth false)
     else plugin_key key
 
--- what a key of an output takes
-abbrev pub output_key : List ℕ → Option Shape
-output_key key =
-    if bytes_eq key (codes "data_format") then Some OutName
-    else if is_one_of (codes "metric_batch_size" ∷ codes "metric_buffer_limit" ∷ []) key then Some (Count 10000)
-    else plugin_key key
+-- what a key of an input of a file takes
+abbrev pub file_input_key : List ℕ → Option Shape
+file_input_key key = if bytes_eq key (codes "files") then Some Files else read_format_key key
 
--- what a key of a table takes; None where it isn't known
-abbrev pub shape_of : Keys → List ℕ → Option Shape
-shape_of Agent key = agent_key key
-shape_of Input key = input_key key
-shape_of Output key = output_key key
+-- what a key of an output of a file takes: its sizes what those of the agent take
+abbrev pub file_output_key : List ℕ → Option Shape
+file_output_key key =
+    if bytes_eq key (codes "files") then Some Files
+    else if bytes_eq key (codes "data_format") then Some (OneOf WrittenFormats)
+    else if is_one_of (codes "metric_batch_size" ∷ codes "metric_buffer_limit" ∷ []) key
+    then agent_number_key key
+    else plugin_key key

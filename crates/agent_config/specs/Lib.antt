@@ -2,10 +2,16 @@ pub mod Durations
 pub mod Faults
 pub mod FaultyKey
 pub mod Keys
+pub mod Kinds
 pub mod Pairs
 pub mod Plugins
 pub mod Reading
+pub mod Rows
 pub mod Seen
 pub mod Sound
 pub mod Sums
+pub mod Told
+pub mod Unless
+pub mod Usual
 pub mod Values
+pub mod Written

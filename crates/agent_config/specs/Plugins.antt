@@ -7,7 +7,7 @@ use Rattle.agent_config.specs.declared.plugins.Plugin.{Plugin}
 
 -- what stands at a plugin's references
 abbrev pub plugin_view : Plugin → PluginData
-plugin_view plugin = record { kind = plugin.kind.now; value = view plugin.value.now }
+plugin_view plugin = record { name = plugin.name.now; value = view plugin.value.now }
 
 abbrev pub plugins_view : List Plugin → List PluginData
 plugins_view plugins = map plugin_view plugins

@@ -1,16 +1,20 @@
 -- The values of a configuration, each with its default.
-use Rattle.std.specs.Prelude.{◌==◌, ◌++◌, ℕ, pos, Bool, true, false, List, [], ◌∷◌, length, map, chars}
+use Rattle.std.specs.Prelude.{◌==◌, ◌++◌, ℕ, false, List, [], ◌∷◌, length, map, chars}
 use Rattle.std.specs.Prelude.{codes, Option, Some, None, option_and_then, option_to_list, if◌then◌else◌}
-use Rattle.std.specs.Prelude.{unwrap_or}
 use Rattle.std.specs.Str.{bytes_eq}
 use Rattle.toml.specs.Data.{Members, no_members, member, get_member, as_str, as_table}
 use Rattle.metric.specs.Glob.{glob_of}
 use Rattle.metric.specs.declared.glob.Element.{Element}
 use Rattle.metric_filter.specs.declared.rules.FilterRules.{FilterRules}
 use Rattle.format_words.specs.Template.{Shape as Template}
-use Rattle.agent_config.specs.Faults.{texts_in, count_at, agent_limits, own_limits, members_in, time_in}
-use Rattle.agent_config.specs.Faults.{Plugin, place_of, journal_of, table_at, plugins_at, most_counted}
-use Rattle.agent_config.specs.Faults.{template_in, text_at, truth_at}
+use Rattle.agent_config.specs.Faults.{Plugin, journal_of, place_of, plugins_at, template_in, texts_in}
+use Rattle.agent_config.specs.Kinds.{agent_limits, agent_number, keys_of, own_limits, text_at, time_at}
+use Rattle.agent_config.specs.Kinds.{truth_at}
+use Rattle.agent_config.specs.Rows.{members_in, table_at}
+use Rattle.agent_config.specs.Usual.{usual_undelivered}
+use Rattle.agent_config.specs.declared.fault.Class.TheVariants.{Inputs, Outputs}
+use Rattle.agent_config.specs.declared.table.Keys.{Keys}
+use Rattle.agent_config.specs.declared.table.Keys.TheVariants.{Agent}
 use Rattle.agent_config.specs.declared.tables.Limits.{Limits}
 use Rattle.agent_config.specs.declared.config.AgentConf.{AgentConf}
 use Rattle.agent_config.specs.declared.config.Config.{Config}
@@ -23,26 +27,13 @@ use Rattle.agent_config.specs.declared.config.OutputConf.{OutputConf}
 
 -- ---- the agent
 
--- ten seconds
-abbrev pub usual_interval : ℕ
-usual_interval = 10000000000
-
--- the time between two flushes
-abbrev pub interval_of : Members → ℕ
-interval_of agent =
-    unwrap_or (option_and_then time_in (get_member (codes "flush_interval") agent)) usual_interval
-
--- may inputs be read side by side
-abbrev pub workers_of : Members → Bool
-workers_of agent = truth_at (codes "workers") true agent
-
 abbrev pub agent_of : Members → AgentConf
 agent_of agent = record {
-  gather_pieces = count_at (codes "gather_pieces") most_counted 1000 agent;
-  final_tries = count_at (codes "final_tries") 100 3 agent;
-  flush_interval = pos (interval_of agent);
+  gather_pieces = agent_number (codes "gather_pieces") agent;
+  final_tries = agent_number (codes "final_tries") agent;
+  flush_interval = time_at Agent (codes "flush_interval") agent;
   skip_second = false;
-  workers = workers_of agent;
+  workers = truth_at Agent (codes "workers") agent;
   journal = journal_of agent;
 }
 
@@ -69,7 +60,7 @@ globs_in None = []
 globs_in (Some texts) = globs_of texts
 
 -- the globs at a key
-abbrev pub globs_at : List ℕ → Members → List (List Element)
+unfoldable pub globs_at : List ℕ → Members → List (List Element)
 globs_at key members = globs_in (option_and_then texts_in (get_member key members))
 
 -- the globs of each key of a table
@@ -77,11 +68,11 @@ abbrev pub tag_globs_of : Members → List (List ℕ × List (List Element))
 tag_globs_of no_members = []
 tag_globs_of (member key value members) = (key, globs_in (texts_in value)) ∷ tag_globs_of members
 
-abbrev pub tag_globs_at : List ℕ → Members → List (List ℕ × List (List Element))
+unfoldable pub tag_globs_at : List ℕ → Members → List (List ℕ × List (List Element))
 tag_globs_at key members = tag_globs_of (table_at key members)
 
 -- the filter of a plugin: the older names of two lists are added behind the newer ones
-abbrev pub filter_of : Members → FilterRules
+unfoldable pub filter_of : Members → FilterRules
 filter_of members = record {
   namepass = globs_at (codes "namepass") members;
   namedrop = globs_at (codes "namedrop") members;
@@ -106,23 +97,23 @@ templates_in None = []
 templates_in (Some texts) = templates_of texts
 
 -- the templates of an input
-abbrev pub templates_at : Members → List Template
+unfoldable pub templates_at : Members → List Template
 templates_at members = templates_in (option_and_then texts_in (get_member (codes "templates") members))
 
 -- the name of a plugin's format
-abbrev pub format_name : Members → List ℕ
-format_name members = text_at (codes "data_format") (codes "influx") members
+abbrev pub format_name : Keys → Members → List ℕ
+format_name keys members = text_at keys (codes "data_format") members
 
 -- Graphite's lines with the templates and the separator of an input
-abbrev pub graphite_at : Members → InFormat
-graphite_at members = read.Graphite (templates_at members) (text_at (codes "separator") (codes ".") members)
+abbrev pub graphite_at : Keys → Members → InFormat
+graphite_at keys members = read.Graphite (templates_at members) (text_at keys (codes "separator") members)
 
 -- the format of this name that is read; Influx where no other has the name
-abbrev pub in_format : List ℕ → Members → InFormat
-in_format name members =
+unfoldable pub in_format : Keys → List ℕ → Members → InFormat
+in_format keys name members =
     if bytes_eq name (codes "statsd") then read.Statsd
-    else if bytes_eq name (codes "graphite") then graphite_at members
-    else if bytes_eq name (codes "openmetrics") then read.Openmetrics (truth_at (codes "type_tag") false members)
+    else if bytes_eq name (codes "graphite") then graphite_at keys members
+    else if bytes_eq name (codes "openmetrics") then read.Openmetrics (truth_at keys (codes "type_tag") members)
     else read.Influx
 
 -- the format of this name that is written; Influx where no other has the name
@@ -139,20 +130,21 @@ plugin_members plugin = members_in (as_table plugin.value)
 
 abbrev pub input_of : Plugin → InputConf
 input_of plugin = record {
-  place = place_of plugin;
-  format = in_format (format_name (plugin_members plugin)) (plugin_members plugin);
+  place = place_of Inputs plugin;
+  format = in_format (keys_of Inputs plugin.name)
+      (format_name (keys_of Inputs plugin.name) (plugin_members plugin)) (plugin_members plugin);
   tracked = false;
-  max_undelivered = 1000;
+  max_undelivered = usual_undelivered;
   filter = filter_of (plugin_members plugin);
 }
 
 -- an output: its batch size and its buffer limit are the agent's where it has none
 abbrev pub output_of : Limits → Plugin → OutputConf
 output_of limits plugin = record {
-  place = place_of plugin;
-  format = out_format (format_name (plugin_members plugin));
-  batch = (own_limits limits (plugin_members plugin)).batch;
-  limit = (own_limits limits (plugin_members plugin)).limit;
+  place = place_of Outputs plugin;
+  format = out_format (format_name (keys_of Outputs plugin.name) (plugin_members plugin));
+  batch = (own_limits (keys_of Outputs plugin.name) limits (plugin_members plugin)).batch;
+  limit = (own_limits (keys_of Outputs plugin.name) limits (plugin_members plugin)).limit;
   filter = filter_of (plugin_members plugin);
 }
 

@@ -1,18 +1,15 @@
 //! What is wrong with the plugins of a class.
 ghost use Rattle.std.specs.Prelude.{◌≡◌, ◌≤◌, IfOk, None, length};
-ghost use Rattle.toml.specs.Data.{as_table};
-ghost use Rattle.toml.specs.View.{table_view, view};
-ghost use Rattle.agent_config.specs.Faults.{class_faults, file_faults_of, first, has_files, input_faults};
-ghost use Rattle.agent_config.specs.Faults.{is_known};
-ghost use Rattle.agent_config.specs.Faults.{needed, numbered, output_faults, plugin_faults, unknown_faults};
+ghost use Rattle.toml.specs.View.{table_view};
+ghost use Rattle.agent_config.specs.Faults.{class_faults, first, kind_faults, numbered, plugin_faults};
+ghost use Rattle.agent_config.specs.Faults.{unknown_faults};
 ghost use Rattle.agent_config.specs.Plugins.{plugin_view, plugins_view};
 
-use crate::fault::{Class, ConfigFault, ConfigKind};
-use crate::keys::Keys;
+use crate::fault::{Class, Fault, FaultKind};
 use crate::plugins::Plugin;
-use crate::table_faults::{keys_fault, limits_fault};
-use crate::tables::{Limits, own_limits, value_at};
-use crate::values::unless;
+use crate::table::{Keys, Kind, kind_of};
+use crate::table_faults::keys_fault;
+use crate::tables::Limits;
 use fixed_num::OutOfMemory;
 use std::alloc::Global;
 use toml::Table;
@@ -27,14 +24,14 @@ pub(crate) fn class_fault(
     class: &Class,
     limits: &Limits,
     plugins: &[Plugin],
-) -> Result<Option<ConfigFault>, OutOfMemory>
+) -> Result<Option<Fault>, OutOfMemory>
     ensures first { IfOk result (λ fault. fault
         ≡ first (class_faults class.now limits.now (plugins_view plugins.now))) }
     ensures few { IfOk result (λ fault. fault ≡ None → length plugins.now ≤ 16) }
 {
     if plugins.len() > MOST_PLUGINS as usize {
-        return Ok(Some(ConfigFault {
-            kind: ConfigKind::TooManyPlugins,
+        return Ok(Some(Fault {
+            kind: FaultKind::TooManyPlugins,
             class: *class,
             number: MOST_PLUGINS,
         }));
@@ -46,15 +43,15 @@ pub(crate) fn class_fault(
 }
 
 /// The first plugin of a class whose kind isn't known, as a fault.
-fn unknown_fault(class: &Class, plugins: &[Plugin]) -> Option<ConfigFault>
+fn unknown_fault(class: &Class, plugins: &[Plugin]) -> Option<Fault>
     requires { length plugins.now ≤ 16 }
     ensures { result ≡ first (numbered class.now (unknown_faults class.now) 0 (plugins_view plugins.now)) }
 {
     let mut number: u32 = 0;
     for plugin in plugins {
-        if !is_known(class, plugin.kind) {
-            return Some(ConfigFault {
-                kind: ConfigKind::UnknownKind,
+        if kind_of(class, plugin.name).is_none() {
+            return Some(Fault {
+                kind: FaultKind::UnknownKind,
                 class: *class,
                 number,
             });
@@ -70,7 +67,7 @@ fn known_fault(
     class: &Class,
     limits: &Limits,
     plugins: &[Plugin],
-) -> Result<Option<ConfigFault>, OutOfMemory>
+) -> Result<Option<Fault>, OutOfMemory>
     requires { length plugins.now ≤ 16 }
     ensures { IfOk result (λ fault. fault
         ≡ first (numbered class.now (plugin_faults class.now limits.now) 0 (plugins_view plugins.now))) }
@@ -78,7 +75,7 @@ fn known_fault(
     let mut number: u32 = 0;
     for plugin in plugins {
         if let Some(kind) = plugin_fault(alloc, class, limits, plugin)? {
-            return Ok(Some(ConfigFault {
+            return Ok(Some(Fault {
                 kind,
                 class: *class,
                 number,
@@ -89,20 +86,6 @@ fn known_fault(
     Ok(None)
 }
 
-/// Has the class plugins of the kind `file`?
-fn has_files(class: &Class) -> bool
-    ensures { result ≡ has_files class.now }
-{
-    matches!(class, Class::Inputs | Class::Outputs)
-}
-
-/// Is a kind known?
-fn is_known(class: &Class, kind: &str) -> bool
-    ensures { result ≡ is_known class.now kind.now }
-{
-    has_files(class) && kind == "file"
-}
-
 /// The first fault of a plugin, where its kind is known.
 #[tactic(auto, unfolding(crate::specs::Faults::plugin_faults))]
 fn plugin_fault(
@@ -110,65 +93,33 @@ fn plugin_fault(
     class: &Class,
     limits: &Limits,
     plugin: &Plugin,
-) -> Result<Option<ConfigKind>, OutOfMemory>
+) -> Result<Option<FaultKind>, OutOfMemory>
     ensures { IfOk result (λ fault. fault
         ≡ first (plugin_faults class.now limits.now (plugin_view plugin.now))) }
 {
-    if !is_known(class, plugin.kind) {
+    let Some(kind) = kind_of(class, plugin.name) else {
         return Ok(None);
-    }
+    };
     match plugin.value.as_table() {
-        Some(table) => file_plugin_fault(alloc, class, limits, table),
-        None => Ok(Some(ConfigKind::WrongType)),
+        Some(table) => kind_fault(alloc, &kind, limits, table),
+        None => Ok(Some(FaultKind::WrongType)),
     }
 }
 
-/// The first fault of a plugin of files.
-fn file_plugin_fault(
+/// The first fault of a table that is a plugin of a kind.
+fn kind_fault(
     alloc: Global,
-    class: &Class,
+    kind: &Kind,
     limits: &Limits,
     table: &Table,
-) -> Result<Option<ConfigKind>, OutOfMemory>
-    ensures { IfOk result (λ fault. fault
-        ≡ first (file_faults_of class.now limits.now (table_view table.now))) }
+) -> Result<Option<FaultKind>, OutOfMemory>
+    ensures { IfOk result (λ fault. fault ≡ first (kind_faults kind.now limits.now (table_view table.now))) }
 {
-    match class {
-        Class::Outputs => output_fault(alloc, limits, table),
-        _ => input_fault(alloc, table),
-    }
-}
-
-/// The first fault of an input.
-fn input_fault(alloc: Global, table: &Table) -> Result<Option<ConfigKind>, OutOfMemory>
-    ensures { IfOk result (λ fault. fault ≡ first (input_faults (table_view table.now))) }
-{
-    if let Some(fault) = keys_fault(alloc, &Keys::Input, table)? {
+    if let Some(fault) = keys_fault(alloc, &Keys::Plugin(*kind), table)? {
         return Ok(Some(fault));
     }
-    Ok(missing(table))
-}
-
-/// The first fault of an output.
-fn output_fault(
-    alloc: Global,
-    limits: &Limits,
-    table: &Table,
-) -> Result<Option<ConfigKind>, OutOfMemory>
-    ensures { IfOk result (λ fault. fault ≡ first (output_faults limits.now (table_view table.now))) }
-{
-    if let Some(fault) = keys_fault(alloc, &Keys::Output, table)? {
+    if let Some(fault) = kind.missing_fault(table) {
         return Ok(Some(fault));
     }
-    if let Some(fault) = missing(table) {
-        return Ok(Some(fault));
-    }
-    Ok(limits_fault(&own_limits(limits, table)))
-}
-
-/// The fault of a plugin without files.
-fn missing(table: &Table) -> Option<ConfigKind>
-    ensures { result ≡ first (needed (table_view table.now)) }
-{
-    unless(value_at(table, "files").is_some(), ConfigKind::Missing)
+    Ok(kind.own_fault(limits, table))
 }

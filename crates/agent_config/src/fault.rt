@@ -1,4 +1,6 @@
 //! What can be wrong with a configuration.
+ghost use Rattle.std.specs.Prelude.{◌≡◌};
+ghost use Rattle.agent_config.specs.Told.{fault_told, kind_told};
 
 /// What is wrong.
 #[derive(Clone, Copy, Debug, PartialEq, Eq)]
@@ -64,4 +66,69 @@ pub struct ConfigFault {
     pub class: Class,
     /// At which plugin.
     pub number: u32,
+}
+
+/// What is wrong with a text: each kind but that no memory was left.
+#[derive(Clone, Copy)]
+pub(crate) enum FaultKind {
+    NotToml,
+    UnknownKind,
+    UnknownKey,
+    WrongType,
+    Missing,
+    OutOfRange,
+    BadGlob,
+    BadTemplate,
+    TooManyPlugins,
+    NoInput,
+    NoOutput,
+    BatchAboveLimit,
+    SamePlace,
+}
+
+impl FaultKind {
+    /// As it is told.
+    fn told(self) -> ConfigKind
+        ensures { result ≡ kind_told self }
+    {
+        match self {
+            FaultKind::NotToml => ConfigKind::NotToml,
+            FaultKind::UnknownKind => ConfigKind::UnknownKind,
+            FaultKind::UnknownKey => ConfigKind::UnknownKey,
+            FaultKind::WrongType => ConfigKind::WrongType,
+            FaultKind::Missing => ConfigKind::Missing,
+            FaultKind::OutOfRange => ConfigKind::OutOfRange,
+            FaultKind::BadGlob => ConfigKind::BadGlob,
+            FaultKind::BadTemplate => ConfigKind::BadTemplate,
+            FaultKind::TooManyPlugins => ConfigKind::TooManyPlugins,
+            FaultKind::NoInput => ConfigKind::NoInput,
+            FaultKind::NoOutput => ConfigKind::NoOutput,
+            FaultKind::BatchAboveLimit => ConfigKind::BatchAboveLimit,
+            FaultKind::SamePlace => ConfigKind::SamePlace,
+        }
+    }
+}
+
+/// A fault of a text, before it is told: what is wrong, where, and at which plugin of its class.
+#[derive(Clone, Copy)]
+pub(crate) struct Fault {
+    /// What is wrong.
+    pub(crate) kind: FaultKind,
+    /// Where.
+    pub(crate) class: Class,
+    /// At which plugin.
+    pub(crate) number: u32,
+}
+
+impl Fault {
+    /// As it is told.
+    pub(crate) fn told(self) -> ConfigFault
+        ensures { result ≡ fault_told self }
+    {
+        ConfigFault {
+            kind: self.kind.told(),
+            class: self.class,
+            number: self.number,
+        }
+    }
 }

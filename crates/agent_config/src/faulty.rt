@@ -8,10 +8,11 @@ ghost use Rattle.agent_config.specs.FaultyKey.{key_in_table, key_of_plugin, no_r
 ghost use Rattle.agent_config.specs.FaultyKey.{unknown_root_key};
 ghost use Rattle.agent_config.specs.Plugins.{plugin_view};
 
+use crate::agent_keys::is_root_key;
 use crate::fault::{Class, ConfigFault, ConfigKind};
-use crate::keys::{Keys, is_root_key};
 use crate::plugins::{Plugin, plugins_of};
 use crate::read::tree_of;
+use crate::table::{Keys, keys_of};
 use crate::table_faults::{global_tag_fault, key_fault};
 use crate::tables::table_at;
 use fixed_num::OutOfMemory;
@@ -53,29 +54,10 @@ fn key_at<'a>(
         Class::Root => Ok(root_key(root)),
         Class::Agent => key_in(alloc, &Keys::Agent, table_at(root, "agent", empty)),
         Class::GlobalTags => Ok(global_key(table_at(root, "global_tags", empty))),
-        Class::Inputs => key_in_class(alloc, &Keys::Input, fault, table_at(root, "inputs", empty)),
-        Class::Processors => {
-            key_in_class(
-                alloc,
-                &Keys::Input,
-                fault,
-                table_at(root, "processors", empty),
-            )
-        }
-        Class::Aggregators => {
-            key_in_class(
-                alloc,
-                &Keys::Input,
-                fault,
-                table_at(root, "aggregators", empty),
-            )
-        }
-        Class::Outputs => key_in_class(
-            alloc,
-            &Keys::Output,
-            fault,
-            table_at(root, "outputs", empty),
-        ),
+        Class::Inputs => key_in_class(alloc, fault, table_at(root, "inputs", empty)),
+        Class::Processors => key_in_class(alloc, fault, table_at(root, "processors", empty)),
+        Class::Aggregators => key_in_class(alloc, fault, table_at(root, "aggregators", empty)),
+        Class::Outputs => key_in_class(alloc, fault, table_at(root, "outputs", empty)),
     }
 }
 
@@ -142,16 +124,15 @@ fn no_root_table(root: &Table) -> Option<&str>
 /// The key of a class that a fault is about.
 fn key_in_class<'a>(
     alloc: Global,
-    keys: &Keys,
     fault: &ConfigFault,
     class: &'a Table,
 ) -> Result<Option<&'a str>, OutOfMemory>
     ensures { IfOk result (λ key. option_map (λ text. text.now) key
-        ≡ key_in_class keys.now fault.now.kind
+        ≡ key_in_class fault.now.class fault.now.kind
         (slice_get (plugins_of (table_view class.now)) fault.now.number)) }
 {
     match plugin_at(alloc, class, fault.number)? {
-        Some(plugin) => key_of_plugin(alloc, keys, fault.kind, &plugin),
+        Some(plugin) => key_of_plugin(alloc, fault, &plugin),
         None => Ok(None),
     }
 }
@@ -171,17 +152,16 @@ fn plugin_at<'a>(
 /// The key of a plugin that a fault of it is about.
 fn key_of_plugin<'a>(
     alloc: Global,
-    keys: &Keys,
-    kind: ConfigKind,
+    fault: &ConfigFault,
     plugin: &Plugin<'a>,
 ) -> Result<Option<&'a str>, OutOfMemory>
     ensures { IfOk result (λ key. option_map (λ text. text.now) key
-        ≡ key_of_plugin keys.now kind (plugin_view plugin.now)) }
+        ≡ key_of_plugin fault.now.class fault.now.kind (plugin_view plugin.now)) }
 {
-    match kind {
-        ConfigKind::UnknownKind => Ok(Some(plugin.kind)),
+    match fault.kind {
+        ConfigKind::UnknownKind => Ok(Some(plugin.name)),
         ConfigKind::TooManyPlugins => Ok(None),
-        _ => key_in_table(alloc, keys, plugin.value),
+        _ => key_in_table(alloc, &keys_of(&fault.class, plugin.name), plugin.value),
     }
 }
 

@@ -3,7 +3,8 @@ ghost use Rattle.std.specs.Prelude.{◌≡◌, ◌++◌, IfOk, chars, option_to_
 ghost use Rattle.toml.specs.Data.{as_table};
 ghost use Rattle.toml.specs.View.{table_view, view};
 ghost use Rattle.metric.specs.Glob.{glob_of};
-ghost use Rattle.agent_config.specs.Faults.{members_in, texts_in};
+ghost use Rattle.agent_config.specs.Faults.{texts_in};
+ghost use Rattle.agent_config.specs.Rows.{members_in};
 ghost use Rattle.agent_config.specs.Seen.{now_of};
 ghost use Rattle.agent_config.specs.Values.{filter_of, globs_at, globs_in, globs_of, tag_globs_at};
 ghost use Rattle.agent_config.specs.Values.{tag_globs_of};
@@ -17,6 +18,7 @@ use std::alloc::Global;
 use toml::{Table, Value};
 
 /// The filter of a plugin: the older names of two lists are added behind the newer ones.
+#[tactic(auto, unfolding(crate::specs::Values::filter_of))]
 pub(crate) fn filter_of(alloc: Global, table: &Table) -> Result<Filter, OutOfMemory>
     ensures { IfOk result (λ filter. filter ≡ filter_of (table_view table.now)) }
 {
@@ -61,6 +63,7 @@ fn both_globs_at(
 }
 
 /// Adds the globs at a key.
+#[tactic(auto, unfolding(crate::specs::Values::globs_at))]
 fn add_globs_at(
     alloc: Global,
     globs: &mut Vec<Glob>,
@@ -108,6 +111,7 @@ fn add_glob(alloc: Global, globs: &mut Vec<Glob>, text: &str) -> Result<(), OutO
 }
 
 /// The globs of each key of the table at a key.
+#[tactic(auto, unfolding(crate::specs::Values::tag_globs_at))]
 fn tag_globs_at(
     alloc: Global,
     table: &Table,

@@ -8,7 +8,7 @@ ghost use Rattle.agent_config.specs.Faults.{global_faults};
 ghost use Rattle.agent_config.specs.Plugins.{classes_view};
 
 use crate::class_faults::class_fault;
-use crate::fault::{Class, ConfigFault, ConfigKind};
+use crate::fault::{Class, Fault, FaultKind};
 use crate::places::{same_input, same_output};
 use crate::plugins::{Classes, classes_of};
 use crate::table_faults::{agent_fault, global_fault, root_key_fault, root_value_fault};
@@ -22,7 +22,7 @@ pub(crate) fn first_fault<'a>(
     alloc: Global,
     root: &'a Table,
     empty: &'a Table,
-) -> Result<Option<ConfigFault>, OutOfMemory>
+) -> Result<Option<Fault>, OutOfMemory>
     requires { table_view empty.now ≡ no_members }
     ensures { IfOk result (λ fault. fault ≡ first (faults_of (table_view root.now))) }
 {
@@ -38,10 +38,10 @@ pub(crate) fn first_fault<'a>(
 }
 
 /// A fault of the root.
-pub(crate) fn root_fault(kind: ConfigKind) -> ConfigFault
+pub(crate) fn root_fault(kind: FaultKind) -> Fault
     ensures { result ≡ record { kind = kind; class = Class.Root; number = 0 } }
 {
-    ConfigFault {
+    Fault {
         kind,
         class: Class::Root,
         number: 0,
@@ -53,7 +53,7 @@ fn table_fault<'a>(
     alloc: Global,
     root: &'a Table,
     empty: &'a Table,
-) -> Result<Option<ConfigFault>, OutOfMemory>
+) -> Result<Option<Fault>, OutOfMemory>
     requires { table_view empty.now ≡ no_members }
     ensures { IfOk result (λ fault. fault ≡ first (table_faults (table_view root.now))) }
 {
@@ -64,7 +64,7 @@ fn table_fault<'a>(
         return Ok(Some(root_fault(kind)));
     }
     if let Some(kind) = agent_fault(alloc, table_at(root, "agent", empty))? {
-        return Ok(Some(ConfigFault {
+        return Ok(Some(Fault {
             kind,
             class: Class::Agent,
             number: 0,
@@ -74,11 +74,11 @@ fn table_fault<'a>(
 }
 
 /// The first fault of the global tags, with its place.
-fn global_fault_of(tags: &Table) -> Option<ConfigFault>
+fn global_fault_of(tags: &Table) -> Option<Fault>
     ensures { result ≡ first (at Class.GlobalTags 0 (global_faults (table_view tags.now))) }
 {
     match global_fault(tags) {
-        Some(kind) => Some(ConfigFault {
+        Some(kind) => Some(Fault {
             kind,
             class: Class::GlobalTags,
             number: 0,
@@ -92,7 +92,7 @@ fn classes_fault(
     alloc: Global,
     limits: &Limits,
     classes: &Classes,
-) -> Result<Option<ConfigFault>, OutOfMemory>
+) -> Result<Option<Fault>, OutOfMemory>
     ensures first { IfOk result (λ fault. fault
         ≡ first (classes_faults limits.now (classes_view classes.now))) }
     ensures few { IfOk result (λ fault. fault ≡ None
@@ -118,17 +118,17 @@ fn beside_fault<'a>(
     journal: &'a str,
     classes: &Classes<'a>,
     empty: &'a Table,
-) -> Result<Option<ConfigFault>, OutOfMemory>
+) -> Result<Option<Fault>, OutOfMemory>
     requires empty { table_view empty.now ≡ no_members }
     requires few_inputs { length classes.now.inputs.items ≤ 16 }
     requires few_outputs { length classes.now.outputs.items ≤ 16 }
     ensures { IfOk result (λ fault. fault ≡ first (beside_faults journal.now (classes_view classes.now))) }
 {
     if classes.inputs.is_empty() {
-        return Ok(Some(root_fault(ConfigKind::NoInput)));
+        return Ok(Some(root_fault(FaultKind::NoInput)));
     }
     if classes.outputs.is_empty() {
-        return Ok(Some(root_fault(ConfigKind::NoOutput)));
+        return Ok(Some(root_fault(FaultKind::NoOutput)));
     }
     if let Some(fault) = same_input(alloc, classes.inputs.as_slice(), empty)? {
         return Ok(Some(fault));

@@ -1,10 +1,10 @@
 //! The formats that are read and written.
 ghost use Rattle.std.specs.Prelude.{◌≡◌, IfOk};
 ghost use Rattle.toml.specs.View.{table_view};
-ghost use Rattle.agent_config.specs.Faults.{is_in_name, is_out_name};
 ghost use Rattle.agent_config.specs.Values.{format_name, graphite_at, in_format, out_format};
 
-use crate::tables::{text_at, truth_at};
+use crate::rows::{text_at, truth_at};
+use crate::table::Keys;
 use crate::templates::templates_at;
 use fixed_num::OutOfMemory;
 use format_words::{InFormat, OutFormat};
@@ -12,57 +12,48 @@ use metric::Text;
 use std::alloc::Global;
 use toml::Table;
 
-/// Is it the name of a format that is read?
-pub(crate) fn is_in_name(name: &str) -> bool
-    ensures { result ≡ is_in_name name.now }
-{
-    matches!(name, "influx" | "statsd" | "graphite" | "openmetrics")
-}
-
-/// Is it the name of a format that is written?
-pub(crate) fn is_out_name(name: &str) -> bool
-    ensures { result ≡ is_out_name name.now }
-{
-    matches!(name, "influx" | "graphite" | "openmetrics")
-}
-
 /// The name of a plugin's format.
-fn format_name(table: &Table) -> &str
-    ensures { result.now ≡ format_name (table_view table.now) }
+fn format_name<'a>(keys: &Keys, table: &'a Table) -> &'a str
+    ensures { result.now ≡ format_name keys.now (table_view table.now) }
 {
-    text_at(table, "data_format", "influx")
+    text_at(keys, table, "data_format")
 }
 
 /// The format of an input.
-pub(crate) fn in_format_at(alloc: Global, table: &Table) -> Result<InFormat, OutOfMemory>
+#[tactic(auto, unfolding(crate::specs::Values::in_format))]
+pub(crate) fn in_format_at(
+    alloc: Global,
+    keys: &Keys,
+    table: &Table,
+) -> Result<InFormat, OutOfMemory>
     ensures { IfOk result (λ format. format
-        ≡ in_format (format_name (table_view table.now)) (table_view table.now)) }
+        ≡ in_format keys.now (format_name keys.now (table_view table.now)) (table_view table.now)) }
 {
-    match format_name(table) {
+    match format_name(keys, table) {
         "statsd" => Ok(InFormat::Statsd),
-        "graphite" => graphite_at(alloc, table),
+        "graphite" => graphite_at(alloc, keys, table),
         "openmetrics" => Ok(InFormat::Openmetrics {
-            type_tag: truth_at(table, "type_tag", false),
+            type_tag: truth_at(keys, table, "type_tag"),
         }),
         _ => Ok(InFormat::Influx),
     }
 }
 
 /// The format of an input of Graphite's lines.
-fn graphite_at(alloc: Global, table: &Table) -> Result<InFormat, OutOfMemory>
-    ensures { IfOk result (λ format. format ≡ graphite_at (table_view table.now)) }
+fn graphite_at(alloc: Global, keys: &Keys, table: &Table) -> Result<InFormat, OutOfMemory>
+    ensures { IfOk result (λ format. format ≡ graphite_at keys.now (table_view table.now)) }
 {
     Ok(InFormat::Graphite {
         templates: templates_at(alloc, table)?,
-        separator: Text::of(alloc, text_at(table, "separator", "."))?,
+        separator: Text::of(alloc, text_at(keys, table, "separator"))?,
     })
 }
 
 /// The format of an output.
-pub(crate) fn out_format_at(table: &Table) -> OutFormat
-    ensures { result ≡ out_format (format_name (table_view table.now)) }
+pub(crate) fn out_format_at(keys: &Keys, table: &Table) -> OutFormat
+    ensures { result ≡ out_format (format_name keys.now (table_view table.now)) }
 {
-    match format_name(table) {
+    match format_name(keys, table) {
         "graphite" => OutFormat::Graphite,
         "openmetrics" => OutFormat::Openmetrics,
         _ => OutFormat::Influx,

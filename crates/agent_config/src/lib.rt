@@ -1,28 +1,38 @@
 //! Configurations: what a run reads, filters and writes, from a text in TOML.
 #![tactic(auto)]
 
+mod agent_keys;
 mod class_faults;
 mod config;
 mod decimals;
 mod fault;
 mod faulty;
+mod file_input;
+mod file_output;
 mod filters;
 mod first;
 mod formats;
-mod keys;
+mod laws;
 mod places;
+mod plugin_keys;
 mod plugins;
 mod read;
+mod rows;
 mod settings;
+mod shapes;
 mod sums;
+mod table;
 mod table_faults;
 mod tables;
 mod templates;
 mod texts;
 mod times;
+mod usual;
 mod values;
 
 pub use config::{AgentConf, Config, InputConf, OutputConf};
 pub use fault::{Class, ConfigFault, ConfigKind};
 pub use faulty::faulty_key;
+pub use laws::written_counts;
 pub use read::read_config;
+pub use usual::{USUAL_UNDELIVERED, usual_agent};

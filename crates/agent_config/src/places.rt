@@ -8,9 +8,10 @@ ghost use Rattle.agent_config.specs.Faults.{first, place_of, same_faults};
 ghost use Rattle.agent_config.specs.Plugins.{plugin_view, plugins_view};
 ghost use Rattle.agent_config.specs.Seen.{now_of};
 
-use crate::fault::{Class, ConfigFault, ConfigKind};
+use crate::fault::{Class, Fault, FaultKind};
 use crate::plugins::Plugin;
-use crate::tables::{members_in, place_in};
+use crate::table::kind_of;
+use crate::tables::{members_in, only_text_at};
 use fixed_num::OutOfMemory;
 use std::alloc::Global;
 use toml::Table;
@@ -20,14 +21,14 @@ pub(crate) fn same_input<'a>(
     alloc: Global,
     inputs: &[Plugin<'a>],
     empty: &'a Table,
-) -> Result<Option<ConfigFault>, OutOfMemory>
+) -> Result<Option<Fault>, OutOfMemory>
     requires empty { table_view empty.now ≡ no_members }
     requires few { length inputs.now ≤ 16 }
     ensures { IfOk result (λ fault. fault
-        ≡ first (same_faults Class.Inputs 0 [] (map place_of (plugins_view inputs.now)))) }
+        ≡ first (same_faults Class.Inputs 0 [] (map (place_of Class.Inputs) (plugins_view inputs.now)))) }
 {
     let mut places = Vec::new(alloc);
-    add_places(&mut places, inputs, empty)?;
+    add_places(&mut places, &Class::Inputs, inputs, empty)?;
     Ok(same_fault(&Class::Inputs, places.as_slice(), 0))
 }
 
@@ -37,44 +38,48 @@ pub(crate) fn same_output<'a>(
     journal: &'a str,
     outputs: &[Plugin<'a>],
     empty: &'a Table,
-) -> Result<Option<ConfigFault>, OutOfMemory>
+) -> Result<Option<Fault>, OutOfMemory>
     requires empty { table_view empty.now ≡ no_members }
     requires few { length outputs.now ≤ 16 }
     ensures { IfOk result (λ fault. fault
-        ≡ first (same_faults Class.Outputs 0 (journal.now ∷ []) (map place_of (plugins_view outputs.now)))) }
+        ≡ first (same_faults Class.Outputs 0 (journal.now ∷ []) (map (place_of Class.Outputs) (plugins_view outputs.now)))) }
 {
     let mut places = Vec::new(alloc);
     places.push(journal)?;
-    add_places(&mut places, outputs, empty)?;
+    add_places(&mut places, &Class::Outputs, outputs, empty)?;
     Ok(same_fault(&Class::Outputs, places.as_slice(), 1))
 }
 
-/// The place of a plugin.
-pub(crate) fn place_of<'a>(plugin: &Plugin<'a>, empty: &'a Table) -> &'a str
+/// The place of a plugin of a class; no text where its kind isn't known.
+pub(crate) fn place_of<'a>(class: &Class, plugin: &Plugin<'a>, empty: &'a Table) -> &'a str
     requires { table_view empty.now ≡ no_members }
-    ensures { result.now ≡ place_of (plugin_view plugin.now) }
+    ensures { result.now ≡ place_of class.now (plugin_view plugin.now) }
 {
-    place_in(members_in(plugin.value, empty))
+    match kind_of(class, plugin.name) {
+        Some(kind) => only_text_at(members_in(plugin.value, empty), kind.place_key()),
+        None => "",
+    }
 }
 
-/// Adds the places of plugins.
+/// Adds the places of plugins of a class.
 fn add_places<'a>(
     places: &mut Vec<&'a str>,
+    class: &Class,
     plugins: &[Plugin<'a>],
     empty: &'a Table,
 ) -> Result<(), OutOfMemory>
     requires { table_view empty.now ≡ no_members }
     ensures { IfOk result (λ _. now_of places.new.items
-        ≡ now_of places.old.items ++ map place_of (plugins_view plugins.now)) }
+        ≡ now_of places.old.items ++ map (place_of class.now) (plugins_view plugins.now)) }
 {
     for plugin in plugins {
-        places.push(place_of(plugin, empty))?;
+        places.push(place_of(class, plugin, empty))?;
     }
     Ok(())
 }
 
 /// The first of places, from a number on, that stands already before it, as a fault of the class.
-fn same_fault(class: &Class, places: &[&str], from: usize) -> Option<ConfigFault>
+fn same_fault(class: &Class, places: &[&str], from: usize) -> Option<Fault>
     requires within { from ≤ length places.now }
     requires few { length places.now ≤ 17 }
     ensures { result
@@ -83,8 +88,8 @@ fn same_fault(class: &Class, places: &[&str], from: usize) -> Option<ConfigFault
     let mut number: u32 = 0;
     for at in from..places.len() {
         if stands_in(&places[..at], places[at]) {
-            return Some(ConfigFault {
-                kind: ConfigKind::SamePlace,
+            return Some(Fault {
+                kind: FaultKind::SamePlace,
                 class: *class,
                 number,
             });

@@ -13,8 +13,8 @@ use toml::{Table, Value};
 /// A plugin.
 #[derive(Clone, Copy)]
 pub(crate) struct Plugin<'a> {
-    /// Its kind.
-    pub(crate) kind: &'a str,
+    /// The name of its kind.
+    pub(crate) name: &'a str,
     /// What stands there: a table, where nothing is wrong.
     pub(crate) value: &'a Value,
 }
@@ -53,8 +53,8 @@ pub(crate) fn plugins_of<'a>(
     ensures { IfOk result (λ plugins. plugins_view plugins.items ≡ plugins_of (table_view class.now)) }
 {
     let mut plugins = Vec::new(alloc);
-    for (kind, value) in class.iter() {
-        add_kind(&mut plugins, kind.as_str(), value)?;
+    for (name, value) in class.iter() {
+        add_kind(&mut plugins, name.as_str(), value)?;
     }
     Ok(plugins)
 }
@@ -62,29 +62,29 @@ pub(crate) fn plugins_of<'a>(
 /// Adds the plugins of one kind.
 fn add_kind<'a>(
     plugins: &mut Vec<Plugin<'a>>,
-    kind: &'a str,
+    name: &'a str,
     value: &'a Value,
 ) -> Result<(), OutOfMemory>
     ensures { IfOk result (λ _. plugins_view plugins.new.items
-        ≡ plugins_view plugins.old.items ++ of_kind kind.now (view value.now) (as_array (view value.now))) }
+        ≡ plugins_view plugins.old.items ++ of_kind name.now (view value.now) (as_array (view value.now))) }
 {
     match value.as_array() {
-        Some(values) => add_all(plugins, kind, values.as_slice()),
-        None => Ok(plugins.push(Plugin { kind, value })?),
+        Some(values) => add_all(plugins, name, values.as_slice()),
+        None => Ok(plugins.push(Plugin { name, value })?),
     }
 }
 
 /// Adds a plugin of a kind for each value.
 fn add_all<'a>(
     plugins: &mut Vec<Plugin<'a>>,
-    kind: &'a str,
+    name: &'a str,
     values: &'a [Value],
 ) -> Result<(), OutOfMemory>
     ensures { IfOk result (λ _. plugins_view plugins.new.items
-        ≡ plugins_view plugins.old.items ++ listed kind.now (items_view values.now)) }
+        ≡ plugins_view plugins.old.items ++ listed name.now (items_view values.now)) }
 {
     for value in values {
-        plugins.push(Plugin { kind, value })?;
+        plugins.push(Plugin { name, value })?;
     }
     Ok(())
 }

@@ -7,7 +7,7 @@ ghost use Rattle.agent_config.specs.Reading.{Checks, memory_fault};
 ghost use Rattle.agent_config.specs.Sound.{IsSound};
 
 use crate::config::Config;
-use crate::fault::{ConfigFault, ConfigKind};
+use crate::fault::{Class, ConfigFault, ConfigKind, Fault, FaultKind};
 use crate::first::{first_fault, root_fault};
 use crate::settings::config_of;
 use fixed_num::OutOfMemory;
@@ -32,17 +32,28 @@ pub fn read_config(alloc: Global, text: &[u8]) -> Result<Config, ConfigFault>
 {
     match checked(alloc, text) {
         Ok(Ok(config)) => Ok(config),
-        Ok(Err(fault)) => Err(fault),
-        Err(OutOfMemory) => Err(root_fault(ConfigKind::OutOfMemory)),
+        Ok(Err(fault)) => Err(fault.told()),
+        Err(OutOfMemory) => Err(memory_fault()),
+    }
+}
+
+/// The fault that no memory was left.
+fn memory_fault() -> ConfigFault
+    ensures { result ≡ memory_fault }
+{
+    ConfigFault {
+        kind: ConfigKind::OutOfMemory,
+        class: Class::Root,
+        number: 0,
     }
 }
 
 /// What a configuration says, or its first fault.
-fn checked(alloc: Global, text: &[u8]) -> Result<Result<Config, ConfigFault>, OutOfMemory>
+fn checked(alloc: Global, text: &[u8]) -> Result<Result<Config, Fault>, OutOfMemory>
     ensures { IfOk result (Checks text.now) }
 {
     let Some(root) = tree_of(alloc, text)? else {
-        return Ok(Err(root_fault(ConfigKind::NotToml)));
+        return Ok(Err(root_fault(FaultKind::NotToml)));
     };
     let empty = Table::new(alloc);
     if let Some(fault) = first_fault(alloc, &root, &empty)? {

@@ -1,35 +1,24 @@
 //! The values of a configuration.
-ghost use Rattle.std.specs.Prelude.{◌≡◌, ◌++◌, IfOk, map, pos};
+ghost use Rattle.std.specs.Prelude.{◌≡◌, ◌++◌, IfOk, map};
 ghost use Rattle.toml.specs.Data.{as_str, no_members};
 ghost use Rattle.toml.specs.View.{table_view, view};
 ghost use Rattle.agent_config.specs.Plugins.{plugin_view, plugins_view};
-ghost use Rattle.agent_config.specs.Values.{agent_of, config_of, global_tag, globals_of, input_of};
-ghost use Rattle.agent_config.specs.Values.{interval_of};
-ghost use Rattle.agent_config.specs.Values.{output_of, workers_of};
+ghost use Rattle.agent_config.specs.Values.{agent_of, config_of, global_tag, globals_of, input_of, output_of};
 
 use crate::config::{AgentConf, Config, InputConf, OutputConf};
+use crate::fault::Class;
 use crate::filters::filter_of;
 use crate::formats::{in_format_at, out_format_at};
 use crate::places::place_of;
 use crate::plugins::{Plugin, classes_of};
-use crate::tables::{
-    Limits, MOST_COUNTED, agent_limits, count_at, journal_of, members_in, own_limits, table_at,
-    truth_at, value_at,
-};
-use crate::times::time_in;
+use crate::rows::{agent_number, time_at, truth_at};
+use crate::table::{Keys, keys_of};
+use crate::tables::{Limits, agent_limits, journal_of, members_in, own_limits, table_at};
+use crate::usual::USUAL_UNDELIVERED;
 use fixed_num::{OutOfMemory, Seq};
 use metric::Text;
 use std::alloc::Global;
 use toml::{Table, Value};
-
-/// The nanoseconds between two flushes where nothing is said.
-const USUAL_INTERVAL: i64 = 10_000_000_000;
-
-/// The most rounds that may accept no batch at the end.
-const MOST_TRIES: u32 = 100;
-
-/// The most groups of an input that are undelivered at once.
-const UNDELIVERED: u32 = 1000;
 
 /// The values of a configuration.
 pub(crate) fn config_of<'a>(
@@ -52,34 +41,17 @@ pub(crate) fn config_of<'a>(
 }
 
 /// What holds for the whole run.
-fn agent_of(alloc: Global, agent: &Table) -> Result<AgentConf, OutOfMemory>
+pub(crate) fn agent_of(alloc: Global, agent: &Table) -> Result<AgentConf, OutOfMemory>
     ensures { IfOk result (λ conf. conf ≡ agent_of (table_view agent.now)) }
 {
     Ok(AgentConf {
-        gather_pieces: count_at(agent, "gather_pieces", MOST_COUNTED, 1000),
-        final_tries: count_at(agent, "final_tries", MOST_TRIES, 3),
-        flush_interval: interval_of(alloc, agent)?,
+        gather_pieces: agent_number(agent, "gather_pieces"),
+        final_tries: agent_number(agent, "final_tries"),
+        flush_interval: time_at(alloc, &Keys::Agent, agent, "flush_interval")?,
         skip_second: false,
-        workers: workers_of(agent),
+        workers: truth_at(&Keys::Agent, agent, "workers"),
         journal: Text::of(alloc, journal_of(agent))?,
     })
-}
-
-/// The nanoseconds between two flushes.
-fn interval_of(alloc: Global, agent: &Table) -> Result<i64, OutOfMemory>
-    ensures { IfOk result (λ interval. interval ≡ pos (interval_of (table_view agent.now))) }
-{
-    match value_at(agent, "flush_interval") {
-        Some(value) => Ok(time_in(alloc, value)?.unwrap_or(USUAL_INTERVAL)),
-        None => Ok(USUAL_INTERVAL),
-    }
-}
-
-/// May inputs be read side by side?
-fn workers_of(agent: &Table) -> bool
-    ensures { result ≡ workers_of (table_view agent.now) }
-{
-    truth_at(agent, "workers", true)
 }
 
 /// The global tags that have a value, in the order of their keys.
@@ -138,12 +110,13 @@ fn input_of<'a>(
     requires { table_view empty.now ≡ no_members }
     ensures { IfOk result (λ input. input ≡ input_of (plugin_view plugin.now)) }
 {
+    let keys = keys_of(&Class::Inputs, plugin.name);
     let table = members_in(plugin.value, empty);
     Ok(InputConf {
-        place: Text::of(alloc, place_of(plugin, empty))?,
-        format: in_format_at(alloc, table)?,
+        place: Text::of(alloc, place_of(&Class::Inputs, plugin, empty))?,
+        format: in_format_at(alloc, &keys, table)?,
         tracked: false,
-        max_undelivered: UNDELIVERED,
+        max_undelivered: USUAL_UNDELIVERED,
         filter: filter_of(alloc, table)?,
     })
 }
@@ -176,10 +149,11 @@ fn output_of<'a>(
     ensures { IfOk result (λ output. output ≡ output_of limits.now (plugin_view plugin.now)) }
 {
     let table = members_in(plugin.value, empty);
-    let limits = own_limits(limits, table);
+    let keys = keys_of(&Class::Outputs, plugin.name);
+    let limits = own_limits(&keys, limits, table);
     Ok(OutputConf {
-        place: Text::of(alloc, place_of(plugin, empty))?,
-        format: out_format_at(table),
+        place: Text::of(alloc, place_of(&Class::Outputs, plugin, empty))?,
+        format: out_format_at(&keys, table),
         batch: limits.batch,
         limit: limits.limit,
         filter: filter_of(alloc, table)?,

@@ -85,7 +85,7 @@ fn place_sum(place: u8, digit: u8, unit: u64, carry: u64) -> u64
     u64::from(place) + digit_value(digit) * unit + carry
 }
 
-/// The time that a sum is, in nanoseconds, where it is whole, above 0 and fits.
+/// The time that a sum is, in nanoseconds, where it is whole and fits.
 pub(crate) fn time(sum: &Sum) -> Option<i64>
     requires { AreDigits sum.now.places.items }
     ensures { result ≡ option_map pos (whole_of (places_len sum.now) (value_of sum.now)) }
@@ -97,11 +97,11 @@ pub(crate) fn time(sum: &Sum) -> Option<i64>
     }
 }
 
-/// A time above 0 that fits.
+/// A time that fits.
 fn fitting(whole: u64) -> Option<i64>
     ensures { result ≡ option_map pos (fitting whole) }
 {
-    if 1 <= whole && whole <= LONGEST {
+    if whole <= LONGEST {
         Some(whole as i64)
     } else {
         None

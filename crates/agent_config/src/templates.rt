@@ -5,7 +5,7 @@ ghost use Rattle.agent_config.specs.Faults.{first, template_faults, template_in,
 ghost use Rattle.agent_config.specs.Seen.{now_of};
 ghost use Rattle.agent_config.specs.Values.{templates_at, templates_in, templates_of};
 
-use crate::fault::ConfigKind;
+use crate::fault::FaultKind;
 use crate::tables::value_at;
 use crate::texts::texts_in;
 use fixed_num::{OutOfMemory, Seq};
@@ -29,18 +29,19 @@ fn read_template(alloc: Global, text: &str) -> Result<Option<Template>, OutOfMem
 pub(crate) fn template_fault(
     alloc: Global,
     texts: &[&str],
-) -> Result<Option<ConfigKind>, OutOfMemory>
+) -> Result<Option<FaultKind>, OutOfMemory>
     ensures { IfOk result (λ fault. fault ≡ first (template_faults (now_of texts.now))) }
 {
     for text in texts {
         if read_template(alloc, text)?.is_none() {
-            return Ok(Some(ConfigKind::BadTemplate));
+            return Ok(Some(FaultKind::BadTemplate));
         }
     }
     Ok(None)
 }
 
 /// The templates of an input, in order.
+#[tactic(auto, unfolding(crate::specs::Values::templates_at))]
 pub(crate) fn templates_at(alloc: Global, table: &Table) -> Result<Seq<Template>, OutOfMemory>
     ensures { IfOk result (λ templates. templates ≡ templates_at (table_view table.now)) }
 {

@@ -5,7 +5,7 @@ ghost use Rattle.metric.specs.Glob.{glob_of};
 ghost use Rattle.agent_config.specs.Faults.{first, glob_faults, texts_in, texts_of};
 ghost use Rattle.agent_config.specs.Seen.{now_of};
 
-use crate::fault::ConfigKind;
+use crate::fault::FaultKind;
 use fixed_num::OutOfMemory;
 use metric::{Glob, GlobFault};
 use std::alloc::Global;
@@ -51,12 +51,12 @@ pub(crate) fn read_glob(alloc: Global, text: &str) -> Result<Option<Glob>, OutOf
 }
 
 /// The first fault of a list of globs.
-pub(crate) fn glob_fault(alloc: Global, texts: &[&str]) -> Result<Option<ConfigKind>, OutOfMemory>
+pub(crate) fn glob_fault(alloc: Global, texts: &[&str]) -> Result<Option<FaultKind>, OutOfMemory>
     ensures { IfOk result (λ fault. fault ≡ first (glob_faults (now_of texts.now))) }
 {
     for text in texts {
         if read_glob(alloc, text)?.is_none() {
-            return Ok(Some(ConfigKind::BadGlob));
+            return Ok(Some(FaultKind::BadGlob));
         }
     }
     Ok(None)

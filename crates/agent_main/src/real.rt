@@ -110,7 +110,7 @@ fn writer_at<R: Files<File = File>>(
 
 /// A part whose file is made empty, if it wasn't yet; whether that failed.
 fn emptied(part: StdSink<Writer>) -> (StdSink<Writer>, bool)
-    ensures { ⟦<StdSink<Writer> as Sink>⟧.faults result.0 ≡ ⟦<StdSink<Writer> as Sink>⟧.faults part }
+    ensures { (⟦<StdSink<Writer> as Sink>⟧.told result.0).faults ≡ (⟦<StdSink<Writer> as Sink>⟧.told part).faults }
 {
     let (mut writer, faults) = part.into_parts();
     let has_failed = writer.make_empty().is_err();
@@ -191,7 +191,7 @@ impl<'r, R: Files<File = File> + std::rt::Clock + Sync> World for RealWorld<'r, 
       ins = (⟦<MemWorld<StdSource<Reader>, StdSink<Writer>> as World>⟧.view w.parts).ins;
       outs = (⟦<MemWorld<StdSource<Reader>, StdSink<Writer>> as World>⟧.view w.parts).outs;
       clocks = λ who. None;
-      report = record { reported = None; report_faults = ⟦<StdSink<Writer> as Sink>⟧.faults w.report };
+      report = record { reported = None; report_faults = (⟦<StdSink<Writer> as Sink>⟧.told w.report).faults };
     } };
 
     fn open_in(&mut self, place: &str) -> Result<StdSource<Reader>, OpenFault> {

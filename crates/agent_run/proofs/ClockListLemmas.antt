@@ -1,18 +1,21 @@
 -- Clocks that are taken one after the other.
-use Rattle.std.proofs.Common.{◌≡◌, ◌+◌, ◌++◌, ℕ, List, [], ◌∷◌, refl, ap, ◌∙◌, inl, inr, arith, Option, None}
+use Rattle.std.proofs.Common.{◌≡◌, ◌+◌, ◌++◌, ℕ, List, [], ◌∷◌, refl, ap, ◌∙◌, inl, inr, arith, Option, None, map}
 use Rattle.std.proofs.lemmas.Bool.{cases_lt}
 use Rattle.std.proofs.lemmas.List.{length_push, get_or_append_left, get_or_push, map-append}
 use Rattle.agent_base.specs.Moments.{Moments}
 use Rattle.agent_base.specs.Places.{SameBut}
 use Rattle.agent_run.specs.ClockLists.{AreTaken, from_first}
-use Rattle.agent_workers.specs.Opened.{Timed, all_timed, timed_of}
+use Rattle.agent_base.specs.Carried.{Timed}
 
 -- no clock was taken yet
 pub taken_none : (first : ℕ) (told : ℕ → Option Moments) → AreTaken first 0 [] told told
 taken_none first told = record { count_is = refl; each = λ k l. absurd (omega (arith, l)); others = λ who away. refl }
 
-timed_is : (moments told : Option Moments) (place : ℕ) → moments ≡ told → place ≡ 0 → (let t : Timed = record { moments = moments; place = place } in t) ≡ from_first told
-timed_is moments told place e f = rw (e, f) refl
+abbrev told_so : Option Moments → ℕ → Timed
+told_so moments place = record { moments = moments; place = place }
+
+timed_is : (clock : Timed) (told : Option Moments) → clock.moments ≡ told → clock.place ≡ 0 → clock ≡ from_first told
+timed_is clock told e f = ap (λ (m : Option Moments). told_so m clock.place) e ∙ ap (λ (p : ℕ). told_so told p) f
 
 -- one clock more
 taken_push : (first n : ℕ) (clocks : List Timed) (clock : Timed) (w0 w1 w2 : ℕ → Option Moments) → AreTaken first n clocks w0 w1 → clock ≡ from_first (w1 (first + n)) → SameBut (first + n) w1 w2 → AreTaken first (n + 1) (clocks ++ clock ∷ []) w0 w2
@@ -30,8 +33,8 @@ taken_push first n clocks clock w0 w1 w2 h e same = record {
   ];
 }
 
-pub taken_more : {C : Type 0} (moments : C → Option Moments) (place : C → ℕ) (first n : ℕ) (clocks : List C) (clock : C) (w0 w1 w2 : ℕ → Option Moments) → AreTaken first n (all_timed moments place clocks) w0 w1
-    → moments clock ≡ w1 (first + n) → place clock ≡ 0 → SameBut (first + n) w1 w2 → AreTaken first (n + 1) (all_timed moments place (clocks ++ clock ∷ [])) w0 w2
-taken_more moments place first n clocks clock w0 w1 w2 h told at_first same =
-    rw (map-append (timed_of moments place) clocks (clock ∷ []))
-    (taken_push first n (all_timed moments place clocks) (timed_of moments place clock) w0 w1 w2 h (timed_is (moments clock) (w1 (first + n)) (place clock) told at_first) same)
+pub taken_more : {C : Type 0} (timed : C → Timed) (first n : ℕ) (clocks : List C) (clock : C) (w0 w1 w2 : ℕ → Option Moments) → AreTaken first n (map timed clocks) w0 w1
+    → (timed clock).moments ≡ w1 (first + n) → (timed clock).place ≡ 0 → SameBut (first + n) w1 w2 → AreTaken first (n + 1) (map timed (clocks ++ clock ∷ [])) w0 w2
+taken_more timed first n clocks clock w0 w1 w2 h told at_first same =
+    rw (map-append timed clocks (clock ∷ []))
+    (taken_push first n (map timed clocks) (timed clock) w0 w1 w2 h (timed_is (timed clock) (w1 (first + n)) told at_first) same)

@@ -13,8 +13,8 @@ use Rattle.std.proofs.lemmas.Slice.Eq.{bytes_eq-Decides}
 use Rattle.agent_base.specs.Places.{Place, Refuses, SameBut, SameAtAll, AreHome}
 use Rattle.agent_base.specs.declared.world.OpenFault.{OpenFault}
 use Rattle.agent_base.specs.declared.world.OpenFault.TheVariants as faults
-use Rattle.agent_run.specs.PlaceLists.{GoEach, AreOpened, AreGiven, AreHomeBut, AreOut, AreRefused, IsRefusedAt, IsUnopenedBy, StopsAt, carried_at, no_part, place_at}
-use Rattle.agent_workers.specs.Opened.{Carried, all_carried, carried_of}
+use Rattle.agent_run.specs.PlaceLists.{GoEach, AreOpened, AreGiven, AreHomeBut, AreOut, AreRefused, IsRefusedAt, IsUnopenedBy, StopsAt, carried_at, place_at}
+use Rattle.agent_base.specs.Carried.{no_part, Carried}
 use Rattle.agent_run.specs.Places.{IsUnopened}
 use Rattle.agent_run.specs.declared.places.Unopened.{Unopened}
 use Rattle.agent_run.specs.declared.places.Unopened.TheVariants.{Failed, OutOfMemory}
@@ -118,23 +118,23 @@ go_along Goes places parts w0 w1 w2 w3 before h after = record {
   others = λ q away. after q ∙ h.others q away ∙ before q;
 }
 
-module _ {P : Type 0} (held : P → Option (List ℕ)) (faults : P → ℕ) (Goes : Carried → Place → Place → Type 0) (places : List (List ℕ)) (apart : IsDistinct bytes_eq places) (n : ℕ) (l : n < length places) where
+module _ {P : Type 0} (told : P → Carried) (Goes : Carried → Place → Place → Type 0) (places : List (List ℕ)) (apart : IsDistinct bytes_eq places) (n : ℕ) (l : n < length places) where
   -- the part of the next number
-  pub go_next : (parts : List P) (part : P) (place : List ℕ) (w0 w1 w2 : List ℕ → Place) → place ≡ place_at places n → GoEach Goes (take n places) (all_carried held faults parts) w0 w1
-      → Goes (carried_of held faults part) (w1 place) (w2 place) → SameBut place w1 w2 → GoEach Goes (take (n + 1) places) (all_carried held faults (parts ++ part ∷ [])) w0 w2
+  pub go_next : (parts : List P) (part : P) (place : List ℕ) (w0 w1 w2 : List ℕ → Place) → place ≡ place_at places n → GoEach Goes (take n places) (map told parts) w0 w1
+      → Goes (told part) (w1 place) (w2 place) → SameBut place w1 w2 → GoEach Goes (take (n + 1) places) (map told (parts ++ part ∷ [])) w0 w2
   go_next parts part place w0 w1 w2 e h g same =
-      rw (take_more places n [] l, map-append (carried_of held faults) parts (part ∷ []))
-      (go_more Goes (take n places) (all_carried held faults parts) (place_at places n) (carried_of held faults part) w0 w1 w2 h (not_before places n apart l)
-      (subst (λ (p : List ℕ). Goes (carried_of held faults part) (w1 p) (w2 p)) e g) (subst (λ (p : List ℕ). SameBut p w1 w2) e same))
+      rw (take_more places n [] l, map-append told parts (part ∷ []))
+      (go_more Goes (take n places) (map told parts) (place_at places n) (told part) w0 w1 w2 h (not_before places n apart l)
+      (subst (λ (p : List ℕ). Goes (told part) (w1 p) (w2 p)) e g) (subst (λ (p : List ℕ). SameBut p w1 w2) e same))
 
 -- the same of parts that were there before
-pub give_next : {P : Type 0} (held : P → Option (List ℕ)) (faults : P → ℕ) (Goes : Carried → Place → Place → Type 0) (places : List (List ℕ)) (apart : IsDistinct bytes_eq places) (n m : ℕ) → m ≡ n + 1 → n < length places → (parts : List P) (part : P) (place : List ℕ) (w0 w1 w2 : List ℕ → Place)
-    → n < length parts → part ≡ get_or parts n part → place ≡ place_at places n → GoEach Goes (take n places) (take n (all_carried held faults parts)) w0 w1 → Goes (carried_of held faults part) (w1 place) (w2 place) → SameBut place w1 w2
-    → GoEach Goes (take m places) (take m (all_carried held faults parts)) w0 w2
-give_next held faults Goes places apart n m next l parts part place w0 w1 w2 b is here h g same =
-    let more : all_carried held faults (take n parts ++ part ∷ []) ≡ take (n + 1) (all_carried held faults parts) =
-    ap (all_carried held faults) (ap (λ p. take n parts ++ p ∷ []) is ∙ sym (take_more parts n part b)) ∙ sym (take-map (carried_of held faults) (n + 1) parts) in
-    rw (next, ← more) (go_next held faults Goes places apart n l (take n parts) part place w0 w1 w2 here (subst (λ (cs : List Carried). GoEach Goes (take n places) cs w0 w1) (take-map (carried_of held faults) n parts) h) g same)
+pub give_next : {P : Type 0} (told : P → Carried) (Goes : Carried → Place → Place → Type 0) (places : List (List ℕ)) (apart : IsDistinct bytes_eq places) (n m : ℕ) → m ≡ n + 1 → n < length places → (parts : List P) (part : P) (place : List ℕ) (w0 w1 w2 : List ℕ → Place)
+    → n < length parts → part ≡ get_or parts n part → place ≡ place_at places n → GoEach Goes (take n places) (take n (map told parts)) w0 w1 → Goes (told part) (w1 place) (w2 place) → SameBut place w1 w2
+    → GoEach Goes (take m places) (take m (map told parts)) w0 w2
+give_next told Goes places apart n m next l parts part place w0 w1 w2 b is here h g same =
+    let more : map told (take n parts ++ part ∷ []) ≡ take (n + 1) (map told parts) =
+    ap (map told) (ap (λ p. take n parts ++ p ∷ []) is ∙ sym (take_more parts n part b)) ∙ sym (take-map told (n + 1) parts) in
+    rw (next, ← more) (go_next told Goes places apart n l (take n parts) part place w0 w1 w2 here (subst (λ (cs : List Carried). GoEach Goes (take n places) cs w0 w1) (take-map told n parts) h) g same)
 
 -- all parts went
 pub go_all : (Goes : Carried → Place → Place → Type 0) (places : List (List ℕ)) (parts : List Carried) (n : ℕ) (w0 w1 : List ℕ → Place) → n ≡ length places → length parts ≡ length places → GoEach Goes (take n places) (take n parts) w0 w1 → GoEach Goes places parts w0 w1

@@ -3,17 +3,18 @@ use Rattle.std.proofs.Common.{◌≡◌, ◌<◌, ◌≤◌, ◌+◌, ℕ, suc, 
 use Rattle.std.specs.Prelude.{◌⊎◌, ◌||◌, All, Contains, None}
 use Rattle.std.proofs.lemmas.List.{length-map, get_or-map, get_or_default}
 use Rattle.agent_base.specs.Moments.{Moments}
-use Rattle.agent_base.specs.Places.{Place, Rest, SameAtAll, AreHome}
+use Rattle.agent_base.specs.Places.{Place, Rest, SameAtAll, AreHome, Opens, TakesIn}
 use Rattle.agent_base.specs.Views.{WorldView, SameButAt}
 use Rattle.agent_config.specs.declared.config.Config.{Config}
 use Rattle.agent_config.specs.declared.config.InputConf.{InputConf}
 use Rattle.agent_config.specs.declared.config.OutputConf.{OutputConf}
-use Rattle.agent_workers.specs.Opened.{Carried, Timed, RanBy, config_ins, config_outs, rule_by}
+use Rattle.agent_base.specs.Carried.{no_part, Carried, Timed}
+use Rattle.agent_workers.specs.Opened.{RanBy, config_ins, config_outs, rule_by}
 use Rattle.agent_workers.specs.Run.{Change, change, InRun, OutRun, IsPutSo}
 use Rattle.agent_workers.specs.declared.serial.Ending.{Ending}
 use Rattle.agent_run.specs.ClockLists.{HasInputClocks, clock_count, from_first, timed_at}
 use Rattle.agent_run.specs.Headline.{Ends, place_change, report_change, status_of, world_change, world_ins, world_outs, input_clock, run_clock}
-use Rattle.agent_run.specs.PlaceLists.{GoEach, OpensPart, TakesPart, AreOpened, AreGiven, AreHomeBut, AreOut, IsInUnopened, IsOutUnopened, OpensAll, carried_at, in_places, out_places, no_part, place_at, places_in, places_out}
+use Rattle.agent_run.specs.PlaceLists.{GoEach, AreOpened, AreGiven, AreHomeBut, AreOut, IsInUnopened, IsOutUnopened, OpensAll, carried_at, in_places, out_places, place_at, places_in, places_out}
 use Rattle.agent_run.specs.Places.{AreOpensSame, ReportsLine, open_fault_line}
 use Rattle.agent_run.specs.Running.{IsOpenedSame, IsRefusedBy, OnlyNamed, told, told_at}
 use Rattle.agent_run.specs.declared.status.Status.{Status}
@@ -47,11 +48,11 @@ told_is part place b f = go part.bytes part.faults b f
 
 -- parts that were opened carry what their places told
 pub opened_told : (places : List (List ℕ)) (parts : List Carried) (w0 w1 : List ℕ → Place) → AreOpened places parts w0 w1 → parts ≡ told_at places w0
-opened_told places parts w0 w1 h = go_told OpensPart places parts w0 w1 w0 (λ k l o. told_is (carried_at parts k) (w0 (place_at places k)) o.bytes o.faults) h
+opened_told places parts w0 w1 h = go_told Opens places parts w0 w1 w0 (λ k l o. told_is (carried_at parts k) (w0 (place_at places k)) o.bytes o.faults) h
 
 -- and places tell what the parts carry that were given back
 pub given_told : (places : List (List ℕ)) (parts : List Carried) (w0 w1 : List ℕ → Place) → AreGiven places parts w0 w1 → parts ≡ told_at places w1
-given_told places parts w0 w1 h = go_told TakesPart places parts w0 w1 w1 (λ k l g. told_is (carried_at parts k) (w1 (place_at places k)) (sym g.bytes) (sym g.faults)) h
+given_told places parts w0 w1 h = go_told TakesIn places parts w0 w1 w1 (λ k l g. told_is (carried_at parts k) (w1 (place_at places k)) (sym g.bytes) (sym g.faults)) h
 
 -- the same places tell the same
 pub told_same : (places : List (List ℕ)) (w0 w1 : List ℕ → Place) → SameAtAll w0 w1 → told_at places w1 ≡ told_at places w0
@@ -118,10 +119,10 @@ go_opens Goes places parts w0 w1 f h = λ q.
     ]
 
 pub opened_opens : (places : List (List ℕ)) (parts : List Carried) (w0 w1 : List ℕ → Place) → AreOpened places parts w0 w1 → AreOpensSame w0 w1
-opened_opens places parts w0 w1 h = go_opens OpensPart places parts w0 w1 (λ part old new o. o.open_faults) h
+opened_opens places parts w0 w1 h = go_opens Opens places parts w0 w1 (λ part old new o. o.open_faults) h
 
 pub given_opens : (places : List (List ℕ)) (parts : List Carried) (w0 w1 : List ℕ → Place) → AreGiven places parts w0 w1 → AreOpensSame w0 w1
-given_opens places parts w0 w1 h = go_opens TakesPart places parts w0 w1 (λ part old new g. g.open_faults) h
+given_opens places parts w0 w1 h = go_opens TakesIn places parts w0 w1 (λ part old new g. g.open_faults) h
 
 pub opens_then : (w0 w1 w2 : List ℕ → Place) → AreOpensSame w0 w1 → AreOpensSame w1 w2 → AreOpensSame w0 w2
 opens_then w0 w1 w2 h k = λ q. k q ∙ h q

@@ -1,11 +1,11 @@
 -- The places of both sides: what is left where they are opened, or one isn't, or they are given back.
 use Rattle.std.proofs.Common.{◌≡◌, ℕ, List, refl, sym, ◌∙◌, subst, inl, inr}
 use Rattle.std.specs.Prelude.{IfErr, IsErrAnd, Result, Ok, Err}
-use Rattle.agent_base.specs.Places.{Place, SameAtAll, AreHome}
+use Rattle.agent_base.specs.Places.{Place, SameAtAll, AreHome, Opens, TakesIn}
 use Rattle.agent_base.specs.Views.{WorldView}
 use Rattle.agent_config.specs.declared.config.Config.{Config}
-use Rattle.agent_run.specs.PlaceLists.{AreOpened, AreGiven, AreRefused, GivesAll, IsLeftUnopened, OnlyIns, OnlyOuts, OpensAll, OpensPart, TakesPart, in_places, out_places}
-use Rattle.agent_workers.specs.Opened.{Carried}
+use Rattle.agent_run.specs.PlaceLists.{AreOpened, AreGiven, AreRefused, GivesAll, IsLeftUnopened, OnlyIns, OnlyOuts, OpensAll, in_places, out_places}
+use Rattle.agent_base.specs.Carried.{Carried}
 use Rattle.agent_run.specs.declared.places.Unopened.{Unopened}
 use Rattle.agent_run.specs.declared.places.Unopened.TheVariants.{Failed, OutOfMemory}
 use Rattle.agent_run.proofs.PartLemmas.{go_along, unused_same}
@@ -69,15 +69,15 @@ written_refused unopened ins outs read w0 w1 w2 w3 home opened first r second gi
 -- all places were opened
 pub opens_all : (config : Config) (read written : List Carried) (w0 w1 w2 : WorldView) → AreOpened (in_places config) read w0.ins w1.ins → OnlyIns w0 w1 → AreOpened (out_places config) written w1.outs w2.outs → OnlyOuts w1 w2 → OpensAll config read written w0 w2
 opens_all config read written w0 w1 w2 ins first outs second = record {
-  inputs = go_along OpensPart (in_places config) read w0.ins w0.ins w1.ins w2.ins (λ q. refl) ins second.ins;
-  outputs = go_along OpensPart (out_places config) written w0.outs w1.outs w2.outs w2.outs first.outs outs (λ q. refl);
+  inputs = go_along Opens (in_places config) read w0.ins w0.ins w1.ins w2.ins (λ q. refl) ins second.ins;
+  outputs = go_along Opens (out_places config) written w0.outs w1.outs w2.outs w2.outs first.outs outs (λ q. refl);
   only = record { clocks = λ who. second.clocks who ∙ first.clocks who; report = second.report ∙ first.report };
 }
 
 -- all parts were given back
 pub gives_all : (config : Config) (read written : List Carried) (w0 w1 w2 : WorldView) → AreGiven (in_places config) read w0.ins w1.ins → OnlyIns w0 w1 → AreGiven (out_places config) written w1.outs w2.outs → OnlyOuts w1 w2 → GivesAll config read written w0 w2
 gives_all config read written w0 w1 w2 ins first outs second = record {
-  inputs = go_along TakesPart (in_places config) read w0.ins w0.ins w1.ins w2.ins (λ q. refl) ins second.ins;
-  outputs = go_along TakesPart (out_places config) written w0.outs w1.outs w2.outs w2.outs first.outs outs (λ q. refl);
+  inputs = go_along TakesIn (in_places config) read w0.ins w0.ins w1.ins w2.ins (λ q. refl) ins second.ins;
+  outputs = go_along TakesIn (out_places config) written w0.outs w1.outs w2.outs w2.outs first.outs outs (λ q. refl);
   only = record { clocks = λ who. second.clocks who ∙ first.clocks who; report = second.report ∙ first.report };
 }

@@ -4,7 +4,7 @@ use Rattle.agent_base.specs.Moments.{Moments}
 use Rattle.agent_base.specs.Places.{SameAtAll}
 use Rattle.agent_base.specs.Views.{WorldView}
 use Rattle.agent_config.specs.declared.config.Config.{Config}
-use Rattle.agent_workers.specs.Opened.{Timed}
+use Rattle.agent_base.specs.Carried.{Timed}
 use Rattle.agent_run.specs.Headline.{input_clock}
 use Rattle.agent_run.specs.declared.clocks.ClockRoom.{ClockRoom}
 

@@ -1,8 +1,9 @@
 -- The words that are a command.
-use Rattle.std.specs.Prelude.{◌≡◌, ◌≢◌, ◌≤◌, ℕ, pos, true, false, List, [], ◌∷◌, map, codes, String}
+use Rattle.std.specs.Prelude.{◌≡◌, ◌≢◌, ◌≤◌, ℕ, false, List, [], ◌∷◌, map, codes, String}
 use Rattle.std.specs.Str.Parse.{IsNumeral, digits_value}
 use Rattle.std.specs.declared.alloc.Global.{Global}
 use Rattle.std.specs.String.{string_bytes}
+use Rattle.agent_config.specs.Usual.{usual_agent, usual_undelivered}
 use Rattle.agent_config.specs.declared.config.Config.{Config}
 use Rattle.format_words.specs.declared.format.InFormat.TheVariants as read
 use Rattle.format_words.specs.declared.format.OutFormat.TheVariants as written
@@ -66,15 +67,8 @@ IsCommand words (Run place) = IsRunAt words place.now
 -- filter, no global tag, and what an agent has where nothing is said
 abbrev pub pipe_config : List ℕ → List ℕ → ℕ → ℕ → Config
 pipe_config input output batch limit = record {
-  agent = record {
-    gather_pieces = 1000;
-    final_tries = 3;
-    flush_interval = pos 10000000000;
-    skip_second = false;
-    workers = true;
-    journal = journal_place;
-  };
+  agent = usual_agent;
   globals = [];
-  inputs = record { place = input; format = read.Influx; tracked = false; max_undelivered = 1000; filter = no_rules } ∷ [];
+  inputs = record { place = input; format = read.Influx; tracked = false; max_undelivered = usual_undelivered; filter = no_rules } ∷ [];
   outputs = record { place = output; format = written.Influx; batch = batch; limit = limit; filter = no_rules } ∷ [];
 }

@@ -15,7 +15,7 @@ use Rattle.agent_config.specs.declared.config.OutputConf.{OutputConf}
 use Rattle.pipeline_core.specs.Legal.{has_ended}
 use Rattle.agent_workers.specs.Opened.{rule_by, sizes_of}
 use Rattle.agent_workers.specs.PipeSetup.{run_setup}
-use Rattle.agent_workers.specs.Rules.{views_by}
+use Rattle.agent_workers.specs.Rules.{work_by}
 use Rattle.agent_workers.specs.Run.{Change, change, InRun, OutRun, run_at, buffered_at_end, account_of, text_of}
 use Rattle.agent_workers.specs.Run.{IsRun, IsPutSo, IsCutShort, SomeIsFull}
 use Rattle.agent_base.specs.Counts.{Rose}
@@ -89,7 +89,7 @@ world_change config old new = record {
 
 -- a journal is that of a run of the configuration
 abbrev pub IsRunOf : Config → RunChange → ℤ → List Entry → Type 0
-IsRunOf config x start journal = IsRun (views_by config.outputs) config.agent.final_tries
+IsRunOf config x start journal = IsRun (work_by config.outputs) config.agent.final_tries
     (config_setup config start) x.ins x.outs x.moments journal
 
 -- The headline of a run: the journal is a legal history of what the inputs said and the outputs were sent, its

@@ -1,6 +1,7 @@
 -- The places of a configuration: lists of parts that were opened at them, and given back.
 use Rattle.std.specs.Prelude.{◌≡◌, ◌<◌, ◌⊎◌, ℕ, List, [], ◌∷◌, Option, None, Contains, map, length}
 use Rattle.std.specs.Prelude.{slice_index_or, take, true, false, ⊤}
+use Rattle.agent_base.specs.Carried.{Carried, no_part}
 use Rattle.agent_base.specs.Places.{Place, Opens, TakesIn, FailsToOpen, SameAtAll}
 use Rattle.agent_base.specs.Views.{WorldView, SameButAt, OnlyIn, OnlyOut}
 use Rattle.agent_base.specs.declared.world.OpenFault.{OpenFault}
@@ -8,7 +9,6 @@ use Rattle.agent_base.specs.declared.world.OpenFault.TheVariants as faults
 use Rattle.agent_config.specs.declared.config.Config.{Config}
 use Rattle.agent_config.specs.declared.config.InputConf.{InputConf}
 use Rattle.agent_config.specs.declared.config.OutputConf.{OutputConf}
-use Rattle.agent_workers.specs.Opened.{Carried, all_carried, carried_of}
 use Rattle.agent_workers.specs.declared.parts.Opened.{Opened}
 use Rattle.agent_run.specs.Places.{IsUnopened}
 use Rattle.agent_run.specs.declared.places.Unopened.{Unopened}
@@ -33,10 +33,6 @@ out_places config = config.agent.journal ∷ places_out config.outputs
 abbrev pub place_at : List (List ℕ) → ℕ → List ℕ
 place_at places k = slice_index_or places k []
 
--- a part of which nothing is told
-abbrev pub no_part : Carried
-no_part = record { bytes = None; faults = 0 }
-
 -- what the part of a number carries
 abbrev pub carried_at : List Carried → ℕ → Carried
 carried_at parts k = slice_index_or parts k no_part
@@ -50,21 +46,13 @@ pub record GoEach (Goes : Carried → Place → Place → Type 0) (places : List
       → Goes (carried_at parts k) (old (place_at places k)) (new (place_at places k))
   pub others : SameButAt places old new
 
--- a part was opened at a place
-abbrev pub OpensPart : Carried → Place → Place → Type 0
-OpensPart part old new = Opens part.bytes part.faults old new
-
--- a part was given back at a place
-abbrev pub TakesPart : Carried → Place → Place → Type 0
-TakesPart part old new = TakesIn part.bytes part.faults old new
-
 -- the part of each number was opened at the place of that number
 abbrev pub AreOpened : List (List ℕ) → List Carried → (List ℕ → Place) → (List ℕ → Place) → Type 0
-AreOpened places parts old new = GoEach OpensPart places parts old new
+AreOpened places parts old new = GoEach Opens places parts old new
 
 -- the part of each number was given back at the place of that number
 abbrev pub AreGiven : List (List ℕ) → List Carried → (List ℕ → Place) → (List ℕ → Place) → Type 0
-AreGiven places parts old new = GoEach TakesPart places parts old new
+AreGiven places parts old new = GoEach TakesIn places parts old new
 
 -- at each of the places a part is out
 abbrev pub AreOut : List (List ℕ) → (List ℕ → Place) → Type 0
@@ -153,10 +141,9 @@ AreRefused (Failed named) places old new = Contains places named.now × IsUnopen
 AreRefused OutOfMemory places old new = SameAtAll old new
 
 -- what the parts of the inputs carry
-abbrev pub read_parts : {I O : Type 0} → (I → Option (List ℕ)) → (I → ℕ) → Opened I O → List Carried
-read_parts left faults opened = all_carried left faults opened.inputs.items
+abbrev pub read_parts : {I O : Type 0} → (I → Carried) → Opened I O → List Carried
+read_parts told opened = map told opened.inputs.items
 
 -- what the parts that are written carry: the journal's, and then those of the outputs
-abbrev pub written_parts : {I O : Type 0} → (O → Option (List ℕ)) → (O → ℕ) → Opened I O → List Carried
-written_parts held faults opened =
-    carried_of held faults opened.journal ∷ all_carried held faults opened.outputs.items
+abbrev pub written_parts : {I O : Type 0} → (O → Carried) → Opened I O → List Carried
+written_parts told opened = told opened.journal ∷ map told opened.outputs.items

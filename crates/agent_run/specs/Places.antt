@@ -3,6 +3,8 @@ use Rattle.std.specs.Prelude.{◌≡◌, ◌≤◌, ℕ, List, take, ◌++◌, �
 use Rattle.std.specs.Io.KnownBytes.{Appends}
 use Rattle.agent_base.specs.Counts.{Rose}
 use Rattle.agent_base.specs.Places.{Place, Rest, FailsToOpen, SameBut, SameAtAll}
+use Rattle.agent_run.specs.declared.status.Status.{Status}
+use Rattle.agent_run.specs.declared.status.Status.TheVariants.{OutOfMemory}
 
 -- opening a place failed, which was counted; it has its bytes again, and every other place is as before
 pub record IsUnopened (place : List ℕ) (old new : List ℕ → Place) : Type 0 where
@@ -39,6 +41,11 @@ open_fault_line place = codes "fault: open " ++ place ++ codes "\n"
 -- the line that says which place wasn't read
 abbrev pub read_fault_line : List ℕ → List ℕ
 read_fault_line place = codes "fault: read " ++ place ++ codes "\n"
+
+-- a command ended with this status and this line was reported, or memory was short
+abbrev pub AnswersWith : Status → Status → Rest → Rest → List ℕ → Type 0
+AnswersWith result status old new line =
+    ((result ≡ status) × ReportsLine old new line) ⊎ (result ≡ OutOfMemory)
 
 -- the words were no command: every place is as before, and the line of usage was reported
 pub record IsUnused (ins new_ins outs new_outs : List ℕ → Place) (rest new_rest : Rest) : Type 0 where

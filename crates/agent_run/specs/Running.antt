@@ -3,7 +3,7 @@ use Rattle.std.specs.Prelude.{◌≡◌, ◌≤◌, ◌⊎◌, ℕ, List, Contai
 use Rattle.agent_base.specs.Places.{Place, SameAtAll}
 use Rattle.agent_base.specs.Views.{WorldView, SameButAt}
 use Rattle.agent_config.specs.declared.config.Config.{Config}
-use Rattle.agent_workers.specs.Opened.{Carried}
+use Rattle.agent_base.specs.Carried.{Carried}
 use Rattle.agent_run.specs.ClockLists.{clock_count}
 use Rattle.agent_run.specs.PlaceLists.{in_places, out_places}
 use Rattle.agent_run.specs.Places.{AreOpensSame, IsUnopened, ReportsLine, open_fault_line}

@@ -1,12 +1,13 @@
 //! Checking a configuration.
-ghost use Rattle.std.specs.Prelude.{◌≡◌, ◌⊎◌, IfOk, string_bytes};
-ghost use Rattle.agent_base.specs.Places.{AreHome, SameAtAll};
+ghost use Rattle.std.specs.Prelude.{◌≡◌, IfOk, string_bytes};
+ghost use Rattle.agent_base.specs.Places.{AreHome};
+ghost use Rattle.agent_base.specs.Views.{OnlyReport};
 ghost use Rattle.agent_run.specs.Checking.{Approves, HasChecked, class_word, config_fault_line, kind_word};
 ghost use Rattle.agent_run.specs.Configured.{unread_line, unread_status};
-ghost use Rattle.agent_run.specs.Places.{ReportsLine};
+ghost use Rattle.agent_run.specs.Places.{AnswersWith};
 
 use crate::reading::{Unread, config_at};
-use crate::reporting::{report_line, report_open_fault, report_read_fault};
+use crate::reporting::{report_made, report_open_fault, report_read_fault};
 use crate::status::Status;
 use agent_base::{PutFault, World};
 use agent_config::{Class, ConfigFault, ConfigKind};
@@ -62,25 +63,17 @@ fn config_fault_line(alloc: Global, fault: ConfigFault) -> Result<String, AllocE
 
 /// Reports the fault of a configuration.
 fn report_config_fault<W: World>(alloc: Global, world: &mut W, fault: ConfigFault) -> Status
-    ensures answer { ((result ≡ Status.Config)
-        × ReportsLine (W.view world.old).report (W.view world.new).report (config_fault_line fault))
-        ⊎ (result ≡ Status.OutOfMemory) }
-    ensures ins { SameAtAll (W.view world.old).ins (W.view world.new).ins }
-    ensures outs { SameAtAll (W.view world.old).outs (W.view world.new).outs }
-    ensures moments { SameAtAll (W.view world.old).clocks (W.view world.new).clocks }
+    ensures answer { AnswersWith result Status.Config (W.view world.old).report (W.view world.new).report
+        (config_fault_line fault) }
+    ensures only { OnlyReport (W.view world.old) (W.view world.new) }
 {
-    match config_fault_line(alloc, fault) {
-        Ok(line) => report_line(world, line.as_bytes(), Status::Config),
-        Err(_) => Status::OutOfMemory,
-    }
+    report_made(world, config_fault_line(alloc, fault), Status::Config)
 }
 
 /// Reports that a configuration has no fault.
 fn report_ok<W: World>(world: &mut W) -> Status
     ensures answer { Approves result (W.view world.old).report (W.view world.new).report }
-    ensures ins { SameAtAll (W.view world.old).ins (W.view world.new).ins }
-    ensures outs { SameAtAll (W.view world.old).outs (W.view world.new).outs }
-    ensures moments { SameAtAll (W.view world.old).clocks (W.view world.new).clocks }
+    ensures only { OnlyReport (W.view world.old) (W.view world.new) }
 {
     match world.report(b"ok\n") {
         Ok(()) => Status::Done,
@@ -96,12 +89,9 @@ pub(crate) fn report_unread<W: World>(
     place: &str,
     unread: Unread,
 ) -> Status
-    ensures answer { ((result ≡ unread_status unread)
-        × ReportsLine (W.view world.old).report (W.view world.new).report (unread_line unread place.now))
-        ⊎ (result ≡ Status.OutOfMemory) }
-    ensures ins { SameAtAll (W.view world.old).ins (W.view world.new).ins }
-    ensures outs { SameAtAll (W.view world.old).outs (W.view world.new).outs }
-    ensures moments { SameAtAll (W.view world.old).clocks (W.view world.new).clocks }
+    ensures answer { AnswersWith result (unread_status unread) (W.view world.old).report (W.view world.new).report
+        (unread_line unread place.now) }
+    ensures only { OnlyReport (W.view world.old) (W.view world.new) }
 {
     match unread {
         Unread::Unopened => report_open_fault(alloc, world, place),

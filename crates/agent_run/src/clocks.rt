@@ -1,9 +1,8 @@
 //! Taking the clocks of a run.
-ghost use Rattle.std.specs.Prelude.{◌≡◌, ◌≤◌, ◌+◌, ◌^◌, ℕ, [], length, IfOk, vec_len, vec_capacity};
+ghost use Rattle.std.specs.Prelude.{◌≡◌, ◌≤◌, ◌+◌, ◌^◌, ℕ, [], length, IfOk, vec_len, vec_capacity, map};
 ghost use Rattle.agent_config.specs.Sound.{IsSound};
 ghost use Rattle.agent_run.specs.ClockLists.{AreTaken, HasClockRoom, HasInputClocks, OnlyClocks, clock_count};
 ghost use Rattle.agent_run.specs.Headline.{run_clock};
-ghost use Rattle.agent_workers.specs.Opened.{all_timed};
 
 use agent_base::World;
 use agent_config::Config;
@@ -57,7 +56,7 @@ fn take_clocks<W: World>(
     requires none { clocks.old.items ≡ [] }
     requires room { count ≤ vec_capacity clocks.old }
     ensures taken { AreTaken first count
-        (all_timed W.Clk.moments W.Clk.place clocks.new.items) (W.view world.old).clocks
+        (map W.Clk.told clocks.new.items) (W.view world.old).clocks
         (W.view world.new).clocks }
     ensures only { OnlyClocks (W.view world.old) (W.view world.new) }
 {
@@ -75,9 +74,9 @@ pub(crate) fn clocks_of<W: World>(
 ) -> Clocks<W::Clk>
     requires sound { IsSound config.now }
     requires room { HasClockRoom config.now room }
-    ensures timer_moments { W.Clk.moments result.timer ≡ (W.view world.old).clocks run_clock }
-    ensures timer_first { W.Clk.place result.timer ≡ 0 }
-    ensures inputs { HasInputClocks config.now (all_timed W.Clk.moments W.Clk.place result.inputs.items)
+    ensures timer_moments { (W.Clk.told result.timer).moments ≡ (W.view world.old).clocks run_clock }
+    ensures timer_first { (W.Clk.told result.timer).place ≡ 0 }
+    ensures inputs { HasInputClocks config.now (map W.Clk.told result.inputs.items)
         (W.view world.old).clocks }
     ensures outputs { vec_len result.outputs ≡ length config.now.outputs }
     ensures others { (who : ℕ) → clock_count config.now ≤ who → (W.view world.new).clocks who ≡ (W.view world.old).clocks who }

@@ -2,8 +2,8 @@
 ghost use Rattle.std.specs.Prelude.{◌≡◌, IfOk};
 ghost use Rattle.agent_run.specs.Command.{pipe_config};
 
-use crate::command::{JOURNAL, Pipe};
-use agent_config::{AgentConf, Config, InputConf, OutputConf};
+use crate::command::Pipe;
+use agent_config::{Config, InputConf, OutputConf, USUAL_UNDELIVERED, usual_agent};
 use fixed_num::{OutOfMemory, Seq};
 use format_words::{InFormat, OutFormat};
 use metric::Text;
@@ -16,19 +16,12 @@ pub(crate) fn pipe_config(alloc: Global, pipe: &Pipe<'_>) -> Result<Config, OutO
     ensures { IfOk result
         (λ config. config ≡ pipe_config pipe.now.input.now pipe.now.output.now pipe.now.batch pipe.now.limit) }
 {
-    let agent = AgentConf {
-        gather_pieces: 1_000,
-        final_tries: 3,
-        flush_interval: 10_000_000_000,
-        skip_second: false,
-        workers: true,
-        journal: Text::of(alloc, JOURNAL)?,
-    };
+    let agent = usual_agent(alloc)?;
     let input = InputConf {
         place: Text::of(alloc, pipe.input)?,
         format: InFormat::Influx,
         tracked: false,
-        max_undelivered: 1_000,
+        max_undelivered: USUAL_UNDELIVERED,
         filter: Filter::without_rules(alloc),
     };
     let output = OutputConf {

@@ -2,12 +2,12 @@
 ghost use Rattle.std.specs.Prelude.{◌≡◌, ◌≤◌, ℕ, List, Option, map, refl, true, false, [], ◌∷◌, length, IfOk, IfErr, OnErr, OnOk, vec_capacity};
 ghost use Rattle.std.specs.List.{IsDistinct};
 ghost use Rattle.std.specs.Str.{bytes_eq};
+ghost use Rattle.agent_base.specs.Carried.{Carried};
 ghost use Rattle.agent_base.specs.Places.{AreHome, Opens, Place, Refuses, SameBut, TakesIn};
 ghost use Rattle.agent_base.specs.Views.{WorldView};
 ghost use Rattle.std.proofs.Common.{◌∙◌};
 ghost use Rattle.agent_run.specs.PlaceLists.{AreGiven, AreHomeBut, AreOpened, AreOut, AreRefused, GivesAll, IsLeftUnopened, IsUnopenedBy};
 ghost use Rattle.agent_run.specs.PlaceLists.{OnlyIns, OnlyOuts, OpensAll, StopsAt};
-ghost use Rattle.agent_workers.specs.Opened.{all_carried, carried_of};
 ghost use Rattle.agent_run.specs.PlaceLists.{in_places, out_places, places_in, places_out, read_parts};
 ghost use Rattle.agent_run.specs.PlaceLists.{written_parts};
 
@@ -46,11 +46,8 @@ trait Side<W: World> {
     /// That place, as contracts see it.
     ghost place_of: { Self.Conf → List ℕ };
 
-    /// The bytes that a part tells.
-    ghost bytes: { Self.Part → Option (List ℕ) };
-
-    /// Its count of faults.
-    ghost faults: { Self.Part → ℕ };
+    /// What a part tells.
+    ghost told: { Self.Part → Carried };
 
     /// What a world tells of the side's places.
     ghost places: { WorldView → List ℕ → Place };
@@ -65,7 +62,7 @@ trait Side<W: World> {
     /// Moves the part of a place out; nothing else changes.
     fn open_part(world: &mut W, place: &str) -> Result<Self::Part, OpenFault>
         requires { (places (W.view world.old) place.now).is_out ≡ false }
-        ensures opened { IfOk result (λ part. Opens (bytes part) (faults part)
+        ensures opened { IfOk result (λ part. Opens (told part)
             (places (W.view world.old) place.now) (places (W.view world.new) place.now)) }
         ensures refused { IfErr result (λ e. Refuses e (places (W.view world.old) place.now)
             (places (W.view world.new) place.now)) }
@@ -75,7 +72,7 @@ trait Side<W: World> {
     /// Gives the part of a place back.
     fn give_part(world: &mut W, place: &str, part: Self::Part)
         requires { (places (W.view world.old) place.now).is_out ≡ true }
-        ensures given { TakesIn (bytes part) (faults part)
+        ensures given { TakesIn (told part)
             (places (W.view world.old) place.now) (places (W.view world.new) place.now) }
         ensures others { SameBut place.now (places (W.view world.old)) (places (W.view world.new)) }
         ensures only { only (W.view world.old) (W.view world.new) };
@@ -98,9 +95,7 @@ impl<W: World> Side<W> for Read {
 
     ghost place_of = { λ conf. conf.place };
 
-    ghost bytes = { W.In.left };
-
-    ghost faults = { W.In.faults };
+    ghost told = { W.In.told };
 
     ghost places = { λ w. w.ins };
 
@@ -134,9 +129,7 @@ impl<W: World> Side<W> for Written {
 
     ghost place_of = { λ conf. conf.place };
 
-    ghost bytes = { W.Out.held };
-
-    ghost faults = { W.Out.faults };
+    ghost told = { W.Out.told };
 
     ghost places = { λ w. w.outs };
 
@@ -174,11 +167,11 @@ fn open_each<'a, W: World, S: Side<W>>(
     requires none { parts.old.items ≡ [] }
     requires room { length confs.now ≤ vec_capacity parts.old }
     ensures opened { OnOk result
-        (AreOpened (map S.place_of confs.now) (all_carried S.bytes S.faults parts.new.items)
+        (AreOpened (map S.place_of confs.now) (map S.told parts.new.items)
         (S.places (W.view world.old)) (S.places (W.view world.new))) }
     ensures stopped { IfErr result
         (λ unopened. StopsAt unopened (map S.place_of confs.now)
-        (all_carried S.bytes S.faults parts.new.items) (S.places (W.view world.old)) (S.places (W.view world.new))) }
+        (map S.told parts.new.items) (S.places (W.view world.old)) (S.places (W.view world.new))) }
     ensures only { S.only (W.view world.old) (W.view world.new) }
 {
     for conf in confs {
@@ -196,7 +189,7 @@ fn give_each<W: World, S: Side<W>>(world: &mut W, confs: &[S::Conf], parts: Vec<
     requires count { length parts.items ≡ length confs.now }
     requires apart { IsDistinct bytes_eq (map S.place_of confs.now) }
     requires out { AreOut (map S.place_of confs.now) (S.places (W.view world.old)) }
-    ensures given { AreGiven (map S.place_of confs.now) (all_carried S.bytes S.faults parts.items)
+    ensures given { AreGiven (map S.place_of confs.now) (map S.told parts.items)
         (S.places (W.view world.old)) (S.places (W.view world.new)) }
     ensures only { S.only (W.view world.old) (W.view world.new) }
 {
@@ -216,7 +209,7 @@ fn open_side<'a, W: World, S: Side<W>>(
     requires none { parts.items ≡ [] }
     requires room { length confs.now ≤ vec_capacity parts }
     ensures opened { IfOk result
-        (λ parts. AreOpened (map S.place_of confs.now) (all_carried S.bytes S.faults parts.items)
+        (λ parts. AreOpened (map S.place_of confs.now) (map S.told parts.items)
         (S.places (W.view world.old)) (S.places (W.view world.new))) }
     ensures refused { IfErr result
         (λ unopened. AreRefused unopened (map S.place_of confs.now) (S.places (W.view world.old))
@@ -244,7 +237,7 @@ fn open_written<'a, W: World>(
     requires room { length config.now.outputs ≤ vec_capacity parts }
     ensures opened { IfOk result
         (λ parts. AreOpened (out_places config.now)
-        (carried_of W.Out.held W.Out.faults parts.1 ∷ all_carried W.Out.held W.Out.faults parts.0.items)
+        (W.Out.told parts.1 ∷ map W.Out.told parts.0.items)
         (W.view world.old).outs (W.view world.new).outs) }
     ensures refused { IfErr result
         (λ unopened. AreRefused unopened (out_places config.now) (W.view world.old).outs
@@ -268,7 +261,7 @@ fn give_written<W: World>(world: &mut W, config: &Config, outputs: Vec<W::Out>, 
     requires apart { IsDistinct bytes_eq (out_places config.now) }
     requires out { AreOut (out_places config.now) (W.view world.old).outs }
     ensures given { AreGiven (out_places config.now)
-        (carried_of W.Out.held W.Out.faults journal ∷ all_carried W.Out.held W.Out.faults outputs.items)
+        (W.Out.told journal ∷ map W.Out.told outputs.items)
         (W.view world.old).outs (W.view world.new).outs }
     ensures only { OnlyOuts (W.view world.old) (W.view world.new) }
 {
@@ -290,8 +283,8 @@ pub(crate) fn open_places<'a, W: World>(
     requires inputs_apart { IsDistinct bytes_eq (in_places config.now) }
     requires outputs_apart { IsDistinct bytes_eq (out_places config.now) }
     ensures opened { IfOk result
-        (λ opened. OpensAll config.now (read_parts W.In.left W.In.faults opened)
-        (written_parts W.Out.held W.Out.faults opened) (W.view world.old) (W.view world.new)) }
+        (λ opened. OpensAll config.now (read_parts W.In.told opened)
+        (written_parts W.Out.told opened) (W.view world.old) (W.view world.new)) }
     ensures refused { IfErr result
         (λ unopened. IsLeftUnopened unopened (in_places config.now) (out_places config.now) (W.view world.old)
         (W.view world.new)) }
@@ -326,8 +319,8 @@ pub(crate) fn give_back<W: World>(world: &mut W, config: &Config, opened: Opened
     requires outputs_apart { IsDistinct bytes_eq (out_places config.now) }
     requires inputs_out { AreOut (in_places config.now) (W.view world.old).ins }
     requires outputs_out { AreOut (out_places config.now) (W.view world.old).outs }
-    ensures given { GivesAll config.now (read_parts W.In.left W.In.faults opened)
-        (written_parts W.Out.held W.Out.faults opened) (W.view world.old) (W.view world.new) }
+    ensures given { GivesAll config.now (read_parts W.In.told opened)
+        (written_parts W.Out.told opened) (W.view world.old) (W.view world.new) }
     ensures ins_home { AreHomeBut (in_places config.now) (W.view world.old).ins
         → AreHome (W.view world.new).ins }
     ensures outs_home { AreHomeBut (out_places config.now) (W.view world.old).outs

@@ -43,8 +43,8 @@ fn read_from<S: Source>(buf: &mut [u8], at: usize, src: &mut S) -> Result<usize,
     ensures len { length buf.new ≡ length buf.old }
     ensures before { take at buf.new ≡ take at buf.old }
     ensures bound { IfOk result (λ n. at + n ≤ length buf.new) }
-    ensures bytes { ReadConsumes (S.left src.old) (S.left src.new) result (drop at buf.new) }
-    ensures cause { HasCause (S.faults src.old) (S.faults src.new) result }
+    ensures bytes { ReadConsumes (S.told src.old).bytes (S.told src.new).bytes result (drop at buf.new) }
+    ensures cause { HasCause (S.told src.old).faults (S.told src.new).faults result }
 {
     src.read(&mut buf[at..])
 }
@@ -52,10 +52,10 @@ fn read_from<S: Source>(buf: &mut [u8], at: usize, src: &mut S) -> Result<usize,
 /// Reads until a buffer is full, or the source at its end, and says how many bytes that were.
 fn fill<S: Source>(buf: &mut [u8], src: &mut S) -> Result<usize, Failed>
     ensures len { length buf.new ≡ length buf.old }
-    ensures filled { IfOk result (Fills (S.left src.old) (S.left src.new) buf.new) }
-    ensures taken { TakesAtMost (length buf.old) (S.left src.old) (S.left src.new) }
-    ensures failed { OnErr result (Rose (S.faults src.old) (S.faults src.new)) }
-    ensures later { S.faults src.old ≤ S.faults src.new }
+    ensures filled { IfOk result (Fills (S.told src.old).bytes (S.told src.new).bytes buf.new) }
+    ensures taken { TakesAtMost (length buf.old) (S.told src.old).bytes (S.told src.new).bytes }
+    ensures failed { OnErr result (Rose (S.told src.old).faults (S.told src.new).faults) }
+    ensures later { (S.told src.old).faults ≤ (S.told src.new).faults }
 {
     let mut len = 0;
     while len < buf.len() {
@@ -71,10 +71,10 @@ fn fill<S: Source>(buf: &mut [u8], src: &mut S) -> Result<usize, Failed>
 /// The same, of a vector.
 fn fill_text<S: Source>(text: &mut Vec<u8>, src: &mut S) -> Result<usize, Failed>
     ensures len { length text.new.items ≡ vec_len text.old }
-    ensures filled { IfOk result (Fills (S.left src.old) (S.left src.new) text.new.items) }
-    ensures taken { TakesAtMost (vec_len text.old) (S.left src.old) (S.left src.new) }
-    ensures failed { OnErr result (Rose (S.faults src.old) (S.faults src.new)) }
-    ensures later { S.faults src.old ≤ S.faults src.new }
+    ensures filled { IfOk result (Fills (S.told src.old).bytes (S.told src.new).bytes text.new.items) }
+    ensures taken { TakesAtMost (vec_len text.old) (S.told src.old).bytes (S.told src.new).bytes }
+    ensures failed { OnErr result (Rose (S.told src.old).faults (S.told src.new).faults) }
+    ensures later { (S.told src.old).faults ≤ (S.told src.new).faults }
 {
     fill(text, src)
 }
@@ -88,10 +88,10 @@ fn room(alloc: Global) -> Result<Vec<u8>, AllocError>
 
 /// The bytes that a source has left, or the first of them where there are more than `MOST_TAKEN`.
 fn read_text<S: Source>(alloc: Global, src: &mut S) -> Result<Vec<u8>, TextFault>
-    ensures text { IfOk result (λ text. TakesText (S.left src.old) (S.left src.new) text.items) }
-    ensures taken { TakesAtMost most_taken (S.left src.old) (S.left src.new) }
-    ensures failed { result ≡ Err TextFault.Failed → Rose (S.faults src.old) (S.faults src.new) }
-    ensures later { S.faults src.old ≤ S.faults src.new }
+    ensures text { IfOk result (λ text. TakesText (S.told src.old).bytes (S.told src.new).bytes text.items) }
+    ensures taken { TakesAtMost most_taken (S.told src.old).bytes (S.told src.new).bytes }
+    ensures failed { result ≡ Err TextFault.Failed → Rose (S.told src.old).faults (S.told src.new).faults }
+    ensures later { (S.told src.old).faults ≤ (S.told src.new).faults }
 {
     let Ok(mut text) = room(alloc) else {
         return Err(TextFault::OutOfMemory);

@@ -1,7 +1,7 @@
 //! Lines of the report that say how a command ended.
-ghost use Rattle.std.specs.Prelude.{◌≡◌, ◌⊎◌, IfOk, string_bytes};
-ghost use Rattle.agent_base.specs.Places.{SameAtAll};
-ghost use Rattle.agent_run.specs.Places.{ReportsLine, open_fault_line, read_fault_line};
+ghost use Rattle.std.specs.Prelude.{◌≡◌, ℕ, List, IfOk, string_bytes};
+ghost use Rattle.agent_base.specs.Views.{OnlyReport};
+ghost use Rattle.agent_run.specs.Places.{AnswersWith, open_fault_line, read_fault_line};
 
 use crate::status::Status;
 use agent_base::{PutFault, World};
@@ -9,15 +9,28 @@ use std::alloc::{AllocError, Global};
 
 /// Reports a line, and answers the status, unless memory was short.
 pub(crate) fn report_line<W: World>(world: &mut W, line: &[u8], status: Status) -> Status
-    ensures answer { ((result ≡ status) × ReportsLine (W.view world.old).report (W.view world.new).report line.now)
-        ⊎ (result ≡ Status.OutOfMemory) }
-    ensures ins { SameAtAll (W.view world.old).ins (W.view world.new).ins }
-    ensures outs { SameAtAll (W.view world.old).outs (W.view world.new).outs }
-    ensures moments { SameAtAll (W.view world.old).clocks (W.view world.new).clocks }
+    ensures answer { AnswersWith result status (W.view world.old).report (W.view world.new).report line.now }
+    ensures only { OnlyReport (W.view world.old) (W.view world.new) }
 {
     match world.report(line) {
         Err(PutFault::OutOfMemory) => Status::OutOfMemory,
         _ => status,
+    }
+}
+
+/// Reports a line that was made, unless memory was short.
+pub(crate) fn report_made<W: World>(
+    world: &mut W,
+    line: Result<String, AllocError>,
+    status: Status,
+) -> Status
+    ensures answer { (text : List ℕ) → IfOk line (λ made. string_bytes made ≡ text)
+        → AnswersWith result status (W.view world.old).report (W.view world.new).report text }
+    ensures only { OnlyReport (W.view world.old) (W.view world.new) }
+{
+    match line {
+        Ok(line) => report_line(world, line.as_bytes(), status),
+        Err(_) => Status::OutOfMemory,
     }
 }
 
@@ -30,17 +43,11 @@ fn open_fault_line(alloc: Global, place: &str) -> Result<String, AllocError>
 
 /// Reports which place wasn't opened.
 pub(crate) fn report_open_fault<W: World>(alloc: Global, world: &mut W, place: &str) -> Status
-    ensures answer { ((result ≡ Status.OpenFault)
-        × ReportsLine (W.view world.old).report (W.view world.new).report (open_fault_line place.now))
-        ⊎ (result ≡ Status.OutOfMemory) }
-    ensures ins { SameAtAll (W.view world.old).ins (W.view world.new).ins }
-    ensures outs { SameAtAll (W.view world.old).outs (W.view world.new).outs }
-    ensures moments { SameAtAll (W.view world.old).clocks (W.view world.new).clocks }
+    ensures answer { AnswersWith result Status.OpenFault (W.view world.old).report (W.view world.new).report
+        (open_fault_line place.now) }
+    ensures only { OnlyReport (W.view world.old) (W.view world.new) }
 {
-    match open_fault_line(alloc, place) {
-        Ok(line) => report_line(world, line.as_bytes(), Status::OpenFault),
-        Err(_) => Status::OutOfMemory,
-    }
+    report_made(world, open_fault_line(alloc, place), Status::OpenFault)
 }
 
 /// The line that says which place wasn't read.
@@ -52,15 +59,9 @@ fn read_fault_line(alloc: Global, place: &str) -> Result<String, AllocError>
 
 /// Reports which place wasn't read.
 pub(crate) fn report_read_fault<W: World>(alloc: Global, world: &mut W, place: &str) -> Status
-    ensures answer { ((result ≡ Status.ReadFault)
-        × ReportsLine (W.view world.old).report (W.view world.new).report (read_fault_line place.now))
-        ⊎ (result ≡ Status.OutOfMemory) }
-    ensures ins { SameAtAll (W.view world.old).ins (W.view world.new).ins }
-    ensures outs { SameAtAll (W.view world.old).outs (W.view world.new).outs }
-    ensures moments { SameAtAll (W.view world.old).clocks (W.view world.new).clocks }
+    ensures answer { AnswersWith result Status.ReadFault (W.view world.old).report (W.view world.new).report
+        (read_fault_line place.now) }
+    ensures only { OnlyReport (W.view world.old) (W.view world.new) }
 {
-    match read_fault_line(alloc, place) {
-        Ok(line) => report_line(world, line.as_bytes(), Status::ReadFault),
-        Err(_) => Status::OutOfMemory,
-    }
+    report_made(world, read_fault_line(alloc, place), Status::ReadFault)
 }

@@ -1,14 +1,15 @@
 //! Running a configuration over a world.
-ghost use Rattle.std.specs.Prelude.{◌≡◌, ◌≢◌, ◌⊎◌, ◌||◌, Bool, All, length, vec_len};
+ghost use Rattle.std.specs.Prelude.{◌≡◌, ◌≢◌, ◌⊎◌, ◌||◌, Bool, All, length, vec_len, map};
 ghost use Rattle.agent_base.specs.Places.{AreHome, SameAtAll};
-ghost use Rattle.agent_base.specs.Views.{SameButAt};
+ghost use Rattle.agent_base.specs.Views.{OnlyReport, SameButAt};
 ghost use Rattle.agent_config.specs.Sound.{IsSound};
 ghost use Rattle.agent_run.specs.Configured.{HasRun};
 ghost use Rattle.agent_run.specs.Headline.{Ends, NothingRose, report_change, status_of, world_change};
 ghost use Rattle.agent_run.specs.PlaceLists.{AreHomeBut, AreOut, in_places, out_places, places_out, read_parts};
 ghost use Rattle.agent_run.specs.Places.{AreOpensSame};
 ghost use Rattle.agent_run.specs.Running.{IsOpenedSame, IsRefusedBy, OnlyNamed, told_at};
-ghost use Rattle.agent_workers.specs.Opened.{all_carried, all_timed, config_ins, config_outs, Timed};
+ghost use Rattle.agent_base.specs.Carried.{Timed};
+ghost use Rattle.agent_workers.specs.Opened.{config_ins, config_outs};
 ghost use Rattle.agent_workers.specs.Run.{IsPutSo, change};
 
 use crate::checking::report_unread;
@@ -29,9 +30,7 @@ fn report_account<W: World>(ending: &Ending, world: &mut W) -> Status
         × (result ≡ status_of ending.now.limit ending.now.read_fault (ending.now.journal_fault || failed)
         ending.now.left)
         × IsPutSo failed (report_change (W.view world.old).report (W.view world.new).report) ending.now.account.items) }
-    ensures ins { SameAtAll (W.view world.old).ins (W.view world.new).ins }
-    ensures outs { SameAtAll (W.view world.old).outs (W.view world.new).outs }
-    ensures clocks { SameAtAll (W.view world.old).clocks (W.view world.new).clocks }
+    ensures only { OnlyReport (W.view world.old) (W.view world.new) }
 {
     match world.report(&ending.account) {
         Ok(()) => run_status(ending, false),
@@ -53,19 +52,19 @@ fn run_opened<W: World>(
     requires in_clocks { vec_len clocks.inputs ≡ length config.now.inputs }
     requires outputs { vec_len opened.outputs ≡ length config.now.outputs }
     requires out_clocks { vec_len clocks.outputs ≡ length config.now.outputs }
-    requires first { All (λ (clock : Timed). clock.place ≡ 0) (all_timed W.Clk.moments W.Clk.place clocks.inputs.items) }
-    requires timer_first { W.Clk.place clocks.timer ≡ 0 }
+    requires first { All (λ (clock : Timed). clock.place ≡ 0) (map W.Clk.told clocks.inputs.items) }
+    requires timer_first { (W.Clk.told clocks.timer).place ≡ 0 }
     requires inputs_out { AreOut (in_places config.now) (W.view world.old).ins }
     requires outputs_out { AreOut (out_places config.now) (W.view world.old).outs }
     ensures ends { Ends config.now (record {
-      ins = config_ins config.now config.now.inputs (read_parts W.In.left W.In.faults opened)
-          (told_at (in_places config.now) (W.view world.new).ins) (all_timed W.Clk.moments W.Clk.place clocks.inputs.items);
-      outs = config_outs config.now.outputs (all_carried W.Out.held W.Out.faults opened.outputs.items)
+      ins = config_ins config.now config.now.inputs (read_parts W.In.told opened)
+          (told_at (in_places config.now) (W.view world.new).ins) (map W.Clk.told clocks.inputs.items);
+      outs = config_outs config.now.outputs (map W.Out.told opened.outputs.items)
           (told_at (places_out config.now.outputs) (W.view world.new).outs);
-      journal = change (W.Out.held opened.journal) ((W.view world.new).outs config.now.agent.journal).bytes
-          (W.Out.faults opened.journal) ((W.view world.new).outs config.now.agent.journal).part_faults;
+      journal = change (W.Out.told opened.journal).bytes ((W.view world.new).outs config.now.agent.journal).bytes
+          (W.Out.told opened.journal).faults ((W.view world.new).outs config.now.agent.journal).part_faults;
       report = report_change (W.view world.old).report (W.view world.new).report;
-      moments = W.Clk.moments clocks.timer;
+      moments = (W.Clk.told clocks.timer).moments;
     }) result }
     ensures ins { SameButAt (in_places config.now) (W.view world.old).ins (W.view world.new).ins }
     ensures outs { SameButAt (out_places config.now) (W.view world.old).outs (W.view world.new).outs }

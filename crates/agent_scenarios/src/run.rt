@@ -1,8 +1,8 @@
 //! Runs of commands, and of a configuration over its parts: each leaves its outputs in the world, and gives how it
 //! ended.
-ghost use Rattle.std.specs.Prelude.{◌≡◌, All, IfOk};
+ghost use Rattle.std.specs.Prelude.{◌≡◌, All, IfOk, map};
 ghost use Rattle.agent_base.specs.Places.{AreHome};
-ghost use Rattle.agent_workers.specs.Opened.{all_timed, Timed};
+ghost use Rattle.agent_base.specs.Carried.{Timed};
 
 use crate::laid::{sink_at, source_at};
 use crate::marks::{failing, text_about};
@@ -98,7 +98,7 @@ fn opened_by(
 
 /// A clock without moments.
 fn clock_of(alloc: Global) -> MemClock
-    ensures { (⟦<MemClock as Clock>⟧.place) result ≡ 0 }
+    ensures { (⟦<MemClock as Clock>⟧.told result).place ≡ 0 }
 {
     MemClock::new(alloc, Vec::new(alloc))
 }
@@ -106,7 +106,7 @@ fn clock_of(alloc: Global) -> MemClock
 /// One clock, or two.
 fn clocks_of(alloc: Global, two: bool) -> Result<Vec<MemClock>, AllocError>
     ensures first { IfOk result (λ clocks. All (λ (clock : Timed). clock.place ≡ 0)
-        (all_timed (⟦<MemClock as Clock>⟧.moments) (⟦<MemClock as Clock>⟧.place) clocks.items)) }
+        (map ⟦<MemClock as Clock>⟧.told clocks.items)) }
 {
     let mut clocks = Vec::new(alloc);
     clocks.push(clock_of(alloc))?;
@@ -118,9 +118,9 @@ fn clocks_of(alloc: Global, two: bool) -> Result<Vec<MemClock>, AllocError>
 
 /// The clocks of a configuration of one or two inputs and outputs.
 fn clocks_by(alloc: Global, config: &Config) -> Result<Clocks<MemClock>, AllocError>
-    ensures timer { IfOk result (λ clocks. (⟦<MemClock as Clock>⟧.place) clocks.timer ≡ 0) }
+    ensures timer { IfOk result (λ clocks. (⟦<MemClock as Clock>⟧.told clocks.timer).place ≡ 0) }
     ensures first { IfOk result (λ clocks. All (λ (clock : Timed). clock.place ≡ 0)
-        (all_timed (⟦<MemClock as Clock>⟧.moments) (⟦<MemClock as Clock>⟧.place) clocks.inputs.items)) }
+        (map ⟦<MemClock as Clock>⟧.told clocks.inputs.items)) }
 {
     let inputs = clocks_of(alloc, config.inputs.as_slice().len() == 2)?;
     let outputs = clocks_of(alloc, config.outputs.as_slice().len() == 2)?;

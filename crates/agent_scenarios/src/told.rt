@@ -20,7 +20,7 @@ impl World for ToldWorld {
       outs = (⟦<MemWorld as World>⟧.view w.parts).outs;
       clocks = (⟦<MemWorld as World>⟧.view w.parts).clocks;
       report = record
-          { reported = ⟦<MemSink as Sink>⟧.held w.report; report_faults = ⟦<MemSink as Sink>⟧.faults w.report };
+          { reported = (⟦<MemSink as Sink>⟧.told w.report).bytes; report_faults = (⟦<MemSink as Sink>⟧.told w.report).faults };
     } };
 
     fn open_in(&mut self, place: &str) -> Result<MemSource, OpenFault> {

@@ -13,6 +13,7 @@ use Rattle.agent_base.specs.Clocked.{Counted, last_of}
 use Rattle.agent_base.specs.Moments.{Moments, Gives}
 use Rattle.agent_base.proofs.ClockLemmas.{counted_joined, counted_one_over, counted_wider}
 use Rattle.journal_text.specs.JournalText.{journal_text}
+use Rattle.pipeline_core.specs.Work.{Work}
 use Rattle.pipeline_core.specs.CoreState.{CoreState}
 use Rattle.pipeline_core.specs.Legal.{IsLegal, has_ended, gathered_count}
 use Rattle.pipeline_core.specs.Stands.{Stands}
@@ -31,7 +32,7 @@ use Rattle.agent_workers.specs.Run.{change, InRun, in_run, in_runs, run_at, out_
 use Rattle.agent_workers.specs.Finished.{ClockRun, IsCounted, Finished, FinishesSo, begun, IsSetUp}
 use Rattle.agent_workers.specs.Noted.{JournalPart, Notes}
 use Rattle.agent_workers.specs.PipeSetup.{run_setup, journal_setup_of}
-use Rattle.agent_workers.specs.Progress.{Beginning, Surroundings, HasText, Heard, Said, Progress, GoesOn, SendsOn, GathersOn, RunsOn, NotesRun}
+use Rattle.agent_workers.specs.Progress.{Beginning, Surroundings, HasText, Heard, Said, Progress, GoesOn, RoutesOn, SendsOn, GathersOn, RunsOn, NotesRun}
 use Rattle.agent_workers.specs.Running.{IsReady, AreSettled, AreLeft, IsLeftOver, buffered_at}
 use Rattle.formats.specs.Batches.{batch_text}
 use Rattle.agent_workers.specs.Output.{OutPart, out_at, anew, AreAnew, AreOutputs, IsUnfailed, AreUnfailed}
@@ -84,7 +85,7 @@ went_first start core part stands setup stored notes front in_count fresh unfail
   heard = λ k l. heard_first (in_at start.ins k) k (fresh k l);
   out_count = count;
   said = λ o l. said_first (out_at start.outs o) o (unfailed o l);
-  worked = worked_first start.views;
+  worked = worked_first start.work;
   order = record { in_order = λ f. in_order_first start.setup; none_raw = λ f k l. raw_of-none k [] none_raw_first };
   counted_at = counted_none;
 }
@@ -110,7 +111,7 @@ is_set_up sizes start n core ins outs part number few ready going stands setup s
       inputs = fit_first n (length core.setup.inputs) core.ended ins inputs_are (sym number) ended fresh;
       outputs = subst (λ (k : ℕ). AreOutputs k outs) (sym outputs_are) are;
       settled = none_buffered core outs none;
-      agrees = λ views. went_first (begun sizes start views ins outs part) core part stands setup_is stored (notes_none (journal_setup_of (run_setup (length ins) sizes start)) part about_is kept entries unfailed) refl
+      agrees = λ work. went_first (begun sizes start work ins outs part) core part stands setup_is stored (notes_none (journal_setup_of (run_setup (length ins) sizes start)) part about_is kept entries unfailed) refl
           (sym (length-replicate {A = Option ℕ} (length ins) None)) fresh.fresh none_failed are.count_is;
     }
 
@@ -267,7 +268,7 @@ module _ (start : Beginning) (tries : ℕ) (core : CoreState) (now : Surrounding
           unread = unread k l;
         }
 
-    pub has_run : HasRun start.views tries start.setup (in_runs start.ins now.ins) (out_runs start.outs now.outs) w.journal
+    pub has_run : HasRun start.work tries start.setup (in_runs start.ins now.ins) (out_runs start.outs now.outs) w.journal
     has_run = record {
       legal = subst (λ (s : Setup). IsLegal s w.journal) w.text.setup_is w.text.stands.legal;
       taken = λ k. (in_at now.ins k).hand.taken;
@@ -332,23 +333,23 @@ taken_front zero (x ∷ news) rest e = absurd (omega (arith, e))
 taken_front {X} (suc n) (x ∷ news) rest e = ap (λ (xs : List X). x ∷ xs) (taken_front n news rest (omega (arith, e)))
 
 -- a run ends, by other terms
-pub finishes_by : (views : List (Content → Option Content)) (tries : ℕ) (ending : Ending) (old new : CoreState) (ins last_ins ins_by last_ins_by : List InPart) (outs last_outs outs_by last_outs_by : List OutPart) (part last_part : JournalPart) (timer : ClockRun) →
-    ins_by ≡ ins → last_ins_by ≡ last_ins → outs_by ≡ outs → last_outs_by ≡ last_outs → FinishesSo views tries ending old new ins last_ins outs last_outs part last_part timer
-    → FinishesSo views tries ending old new ins_by last_ins_by outs_by last_outs_by part last_part timer
-finishes_by views tries ending old new ins last_ins ins_by last_ins_by outs last_outs outs_by last_outs_by part last_part timer a b d e h = rw (a, b, d, e) h
+pub finishes_by : (work : Work) (tries : ℕ) (ending : Ending) (old new : CoreState) (ins last_ins ins_by last_ins_by : List InPart) (outs last_outs outs_by last_outs_by : List OutPart) (part last_part : JournalPart) (timer : ClockRun) →
+    ins_by ≡ ins → last_ins_by ≡ last_ins → outs_by ≡ outs → last_outs_by ≡ last_outs → FinishesSo work tries ending old new ins last_ins outs last_outs part last_part timer
+    → FinishesSo work tries ending old new ins_by last_ins_by outs_by last_outs_by part last_part timer
+finishes_by work tries ending old new ins last_ins ins_by last_ins_by outs last_outs outs_by last_outs_by part last_part timer a b d e h = rw (a, b, d, e) h
 
 -- its inputs are the same, by other terms
 pub same_by : (ins last_ins ins_by last_ins_by : List InPart) → ins_by ≡ ins → last_ins_by ≡ last_ins → AreSameInputs ins last_ins → AreSameInputs ins_by last_ins_by
 same_by ins last_ins ins_by last_ins_by a b h = rw (a, b) h
 
 -- a run that began with nothing
-module _ (views : List (Content → Option Content)) (tries count : ℕ) (sizes : List (ℕ × ℕ)) (start : ℤ) (starts : List InPart) (outs : List OutPart) (noted : Option (List ℕ)) (note_faults : ℕ) where
+module _ (work : Work) (tries count : ℕ) (sizes : List (ℕ × ℕ)) (start : ℤ) (starts : List InPart) (outs : List OutPart) (noted : Option (List ℕ)) (note_faults : ℕ) where
   -- what it began with
   abbrev pub beginning : Beginning
-  beginning = record { setup = run_setup count sizes start; views = views; ins = starts; outs = outs; noted = noted; note_faults = note_faults; front = [] }
+  beginning = record { setup = run_setup count sizes start; work = work; ins = starts; outs = outs; noted = noted; note_faults = note_faults; front = [] }
 
   pub ran : (ending : Ending) (core : CoreState) (ins : List InPart) (new_outs : List OutPart) (part : JournalPart) (timer : ClockRun) → Gives timer.moments 0 timer.before start → length ins ≡ count → Finished beginning tries ending core ins new_outs part [] timer
-      → Ran views tries count sizes ending (in_runs starts ins) (out_runs outs new_outs) (change noted part.held note_faults part.faults) timer.moments
+      → Ran work tries count sizes ending (in_runs starts ins) (out_runs outs new_outs) (change noted part.held note_faults part.faults) timer.moments
   ran ending core ins new_outs part timer gives number f = record {
     start = start;
     journal = f.journal;
@@ -369,19 +370,28 @@ module _ (views : List (Content → Option Content)) (tries count : ℕ) (sizes 
 
 -- ---- rounds
 
+-- more items were routed, and the entries spelled
+pub routes_more : (work : Work) (first old routed new : CoreState) (part0 part new_part : JournalPart) → RoutesOn work first old part0 part → GoesOn work old routed → NotesRun routed new part new_part → RoutesOn work first new part0 new_part
+routes_more work first old routed new part0 part new_part routes goes notes = λ start now anew w.
+    notes (record start { work = work }) now (goes start (record now { journal = part }) anew (routes start now anew w))
+
+-- the last items were routed
+pub routes_last : (work : Work) (first old new : CoreState) (part0 part : JournalPart) → RoutesOn work first old part0 part → GoesOn work old new → RoutesOn work first new part0 part
+routes_last work first old new part0 part routes goes = λ start now anew w. goes start (record now { journal = part }) anew (routes start now anew w)
+
 -- one round more: inputs were gathered, the items were routed, batches were sent, and the entries spelled
-pub runs_more : (views : List (Content → Option Content)) (first old gathered routed sent new : CoreState) (ins0 ins new_ins : List InPart) (outs0 outs fresh new_outs : List OutPart) (part0 part new_part : JournalPart) → RunsOn views first old ins0 ins outs0 outs part0 part → (AreSettled first outs0 → AreSettled old outs) →
-    GathersOn old gathered ins new_ins → fresh ≡ map anew outs → GoesOn views gathered routed → routed.raw ≡ [] → SendsOn routed sent fresh new_outs → NotesRun sent new part new_part → RunsOn views first new ins0 new_ins outs0 new_outs part0 new_part
-runs_more views first old gathered routed sent new ins0 ins new_ins outs0 outs fresh new_outs part0 part new_part runs settles gathers anews routes none sends notes = λ start now settled w.
-    let s : Beginning = record start { views = views } in
+pub runs_more : (work : Work) (first old gathered routed sent new : CoreState) (ins0 ins new_ins : List InPart) (outs0 outs fresh new_outs : List OutPart) (part0 part mid_part new_part : JournalPart) → RunsOn work first old ins0 ins outs0 outs part0 part → (AreSettled first outs0 → AreSettled old outs) →
+    GathersOn old gathered ins new_ins → fresh ≡ map anew outs → RoutesOn work gathered routed part mid_part → routed.raw ≡ [] → SendsOn routed sent fresh new_outs → NotesRun sent new mid_part new_part → RunsOn work first new ins0 new_ins outs0 new_outs part0 new_part
+runs_more work first old gathered routed sent new ins0 ins new_ins outs0 outs fresh new_outs part0 part mid_part new_part runs settles gathers anews routes none sends notes = λ start now settled w.
+    let s : Beginning = record start { work = work } in
     let after : Surroundings = record now { ins = new_ins; next = length ins } in
     let last : Surroundings = record now { ins = new_ins; next = 0 } in
     let a = runs start now settled w in
     let b = gathers s (record now { outs = outs; journal = part }) (λ f. settles (settled f)) a in
     let c = went_anew s gathered (record after { journal = part }) outs fresh anews b in
-    let d = routes start (record after { outs = fresh; journal = part }) (subst AreAnew (sym anews) (are_anew outs)) c in
-    let n = went_next s routed (record after { outs = fresh; journal = part }) 0 none d in
-    let e = sends s (record last { journal = part }) n in
+    let d = routes start (record after { outs = fresh }) (subst AreAnew (sym anews) (are_anew outs)) c in
+    let n = went_next s routed (record after { outs = fresh; journal = mid_part }) 0 none d in
+    let e = sends s (record last { journal = mid_part }) n in
     notes s (record last { outs = new_outs }) e
 
 -- the outputs are settled still, once the entries were spelled

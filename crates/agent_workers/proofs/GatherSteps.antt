@@ -17,6 +17,7 @@ use Rattle.pipeline_core.specs.Shapes.{IsGatherEntry}
 use Rattle.pipeline_core.specs.Stands.{Continues}
 use Rattle.pipeline_core.specs.Steps.{after_gather, after_ended, gather_entry}
 use Rattle.pipeline_core.specs.Order.{IsDrained}
+use Rattle.pipeline_core.proofs.OrderLemmas.{drained_plain}
 use Rattle.pipeline_core.specs.declared.gathering.Gathered.{Gathered}
 use Rattle.pipeline_core.proofs.ShapeLemmas.{entries-have-shape}
 use Rattle.pipeline_core.proofs.StandsSteps.{differs}
@@ -34,7 +35,7 @@ use Rattle.agent_workers.specs.Progress.{Beginning, Surroundings, Heard, Progres
 use Rattle.agent_workers.specs.Running.{AreSettled}
 use Rattle.agent_workers.proofs.GatherLemmas.{entry_of, said_of}
 use Rattle.agent_workers.proofs.HeardLemmas.{IsNotOf, read_to, heard_push, heard_accepted, heard_full, heard_ended, heard_free, heard_read_none, heard_read_some}
-use Rattle.agent_workers.proofs.ProgressLemmas.{text-push, all_heard_set, all_said_push, order-push, buffered_is, went_behind}
+use Rattle.agent_workers.proofs.ProgressLemmas.{text-push, all_heard_set, all_said_push, order-push, buffered_is, went_behind, aggs_start}
 use Rattle.formats.proofs.GroupLemmas.{told_then}
 
 -- one of the inputs changes, and the journal stays
@@ -94,21 +95,20 @@ ended_other : (i k : ℕ) → k ≢ i → IsNotOf k (Ended i)
 ended_other i k ne = record { none = refl; other = differs i k (λ e. ne (sym e)) }
 
 -- no item of the input is raw, and at each output nothing is buffered or the last batch failed
-drained : (start : Beginning) (core : CoreState) (now : Surroundings) (w : Progress start core now) (i : ℕ) → now.next ≤ i → start.front ≡ [] → AreSettled core now.outs → IsDrained start.setup w.journal i
-drained start core now w i l f settled = record {
-  none_raw = w.order.none_raw f i l;
-  each = λ o within.
-      let b : o < length now.outs = omega (arith, within, w.out_count) in
-      elim (settled o b) [
-        | inl none ↦ inl (sym (buffered_is start core now.journal w.journal w.text o) ∙ none)
-        | inr some ↦ inr ((w.said o b).stuck some)
-      ];
-}
+drained : (start : Beginning) (core : CoreState) (now : Surroundings) (w : Progress start core now) (i : ℕ) → now.next ≤ i → start.front ≡ [] → core.setup.aggs ≡ [] → AreSettled core now.outs → IsDrained start.setup w.journal i
+drained start core now w i l f no_aggs settled =
+    drained_plain start.setup w.journal i (aggs_start start core now w no_aggs) (w.order.none_raw f i l)
+    (λ o within.
+    let b : o < length now.outs = omega (arith, within, w.out_count) in
+    elim (settled o b) [
+      | inl none ↦ inl (sym (buffered_is start core now.journal w.journal w.text o) ∙ none)
+      | inr some ↦ inr ((w.said o b).stuck some)
+    ])
 
 -- what an input holds is gathered
-pub went_accepted : (start : Beginning) (core next : CoreState) (now : Surroundings) (ins : List InPart) (part : InPart) (g : Gathered) → part.input < length ins → in_at ins part.input ≡ record part { held = Some g } → g.input ≡ part.input → core.gathered + length g.metrics < 2 ^ 32 →
+pub went_accepted : (start : Beginning) (core next : CoreState) (now : Surroundings) (ins : List InPart) (part : InPart) (g : Gathered) → part.input < length ins → in_at ins part.input ≡ record part { held = Some g } → g.input ≡ part.input → core.setup.aggs ≡ [] → core.gathered + length g.metrics < 2 ^ 32 →
     next ≡ after_gather core g → Continues core next (gather_entry core g) → SettlesFirst start core now.outs → Progress start core (record now { ins = ins; next = part.input }) → Progress start next (record now { ins = set ins part.input (record part { held = None }); next = part.input + 1 })
-went_accepted start core next now ins part g b at own few is more settled w =
+went_accepted start core next now ins part g b at own no_aggs few is more settled w =
     let i : ℕ = part.input in
     let shape : IsGatherEntry g (gather_entry core g) = entries-have-shape.gathers core g in
     let number : Option ℕ = shape.0 in
@@ -124,9 +124,9 @@ went_accepted start core next now ins part g b at own few is more settled w =
           (λ k ne h. heard_push (in_at start.ins k) (in_at ins k) k w.journal e (gather_other g number reports k (λ q. ne (q ∙ own))) h) w.heard;
       out_count = w.out_count;
       said = all_said_push start.outs now.outs w.journal e (λ o. record { ends = tt; none = refl; quiet = refl }) refl w.said;
-      worked = worked-push start.views w.journal e tt w.worked;
+      worked = worked-push start.work w.journal e tt w.worked;
       order = order-push start core i (i + 1) w.journal e w.text.stands (omega arith)
-          (λ f. drained start core (record now { ins = ins; next = i }) w g.input (omega (arith, own)) f (settled f))
+          (λ f. drained start core (record now { ins = ins; next = i }) w g.input (omega (arith, own)) f no_aggs (settled f))
           (λ k l. none_of_other k g.input (length g.metrics) number (λ (q : g.input ≡ k). absurd (omega (arith, l, q, own)))) w.order;
       counted_at = counted_moments-same w.journal e refl ∙ w.counted_at;
     }
@@ -155,7 +155,7 @@ went_ended start core next now ins part b at some is more none w =
           (λ k ne h. heard_push (in_at start.ins k) (in_at ins k) k w.journal e (ended_other i k ne) h) w.heard;
       out_count = w.out_count;
       said = all_said_push start.outs now.outs w.journal e (λ o. record { ends = tt; none = refl; quiet = refl }) refl w.said;
-      worked = worked-push start.views w.journal e tt w.worked;
+      worked = worked-push start.work w.journal e tt w.worked;
       order = order-push start core now.next now.next w.journal e w.text.stands (omega arith) (λ f. tt) (λ k l. refl) w.order;
       counted_at = counted_moments-same w.journal e refl ∙ w.counted_at;
     }
@@ -229,8 +229,8 @@ own_of : (part : InPart) (g : Gathered) → part.held ≡ Some g → HoldsOwn pa
 own_of part g e own = (subst (λ (x : Option Gathered). IfSome x (λ y. (y.input ≡ part.input) × FitsGather part.rule (length y.metrics))) e own).0
 
 -- it was accepted
-pub offer_accepted : (core next : CoreState) (part : InPart) (g : Gathered) → part.held ≡ Some g → HoldsOwn part → core.gathered + length g.metrics < 2 ^ 32 → next ≡ after_gather core g → Continues core next (gather_entry core g) → GathersAt core next part (record part { held = None })
-offer_accepted core next part g e own few is more = λ ins b at start now settled w. went_accepted start core next now ins part g b (at ∙ held_as part g e) (own_of part g e own) few is more settled w
+pub offer_accepted : (core next : CoreState) (part : InPart) (g : Gathered) → part.held ≡ Some g → HoldsOwn part → core.setup.aggs ≡ [] → core.gathered + length g.metrics < 2 ^ 32 → next ≡ after_gather core g → Continues core next (gather_entry core g) → GathersAt core next part (record part { held = None })
+offer_accepted core next part g e own no_aggs few is more = λ ins b at start now settled w. went_accepted start core next now ins part g b (at ∙ held_as part g e) (own_of part g e own) no_aggs few is more settled w
 
 -- the run is full
 pub offer_full : (core next : CoreState) (part : InPart) (g back : Gathered) → part.held ≡ Some g → back ≡ g → next ≡ core → 1 ≤ part.rule.most → HoldsNoEnd part.state part.held → 2 ^ 32 ≤ core.gathered + length g.metrics → GathersAt core next part (record part { held = Some back; state = states.LimitReached })

@@ -4,6 +4,7 @@ use Rattle.std.specs.Prelude.{slice_get, is_some, ◌⊎◌, IfSome}
 use Rattle.std.proofs.lemmas.List.{length-map, length-set, get_or-map, get_or-set_same, get_or-set_other}
 use Rattle.std.specs.declared.option.Option.{Option}
 use Rattle.std.specs.declared.option.Option.TheVariants.{Some, None}
+use Rattle.agent_base.specs.Carried.{Timed, Carried}
 use Rattle.account.specs.Numbers.{unreached_output}
 use Rattle.account.specs.declared.numbers.OutputNumbers.{OutputNumbers}
 use Rattle.agent_base.specs.Hand.{Hand}
@@ -92,43 +93,43 @@ gathers_nothing core ins = λ start now settled w. w
 
 -- ---- parts of jobs
 
-pub input_here : {S C : Type 0} (left : S → Option (List ℕ)) (faults : S → ℕ) (moments : C → Option Moments) (place : C → ℕ) (jobs : List (InJob S C)) (i : ℕ) (d : InJob S C) → i < length jobs → in_at (ins_of left faults moments place jobs) i ≡ in_of left faults moments place (get_or jobs i d)
-input_here left faults moments place jobs i d b = get_or-map (in_of left faults moments place) jobs i d no_in b
+pub input_here : {S C : Type 0} (told : S → Carried) (timed : C → Timed) (jobs : List (InJob S C)) (i : ℕ) (d : InJob S C) → i < length jobs → in_at (ins_of told timed jobs) i ≡ in_of told timed (get_or jobs i d)
+input_here told timed jobs i d b = get_or-map (in_of told timed) jobs i d no_in b
 
 -- the same of a job that was read there
-pub job_here : {S C : Type 0} (left : S → Option (List ℕ)) (faults : S → ℕ) (moments : C → Option Moments) (place : C → ℕ) (jobs : List (InJob S C)) (i : ℕ) (job : InJob S C) → i < length jobs → job ≡ get_or jobs i job → in_at (ins_of left faults moments place jobs) i ≡ in_of left faults moments place job
-job_here left faults moments place jobs i job b is = input_here left faults moments place jobs i job b ∙ ap (in_of left faults moments place) (sym is)
+pub job_here : {S C : Type 0} (told : S → Carried) (timed : C → Timed) (jobs : List (InJob S C)) (i : ℕ) (job : InJob S C) → i < length jobs → job ≡ get_or jobs i job → in_at (ins_of told timed jobs) i ≡ in_of told timed job
+job_here told timed jobs i job b is = input_here told timed jobs i job b ∙ ap (in_of told timed) (sym is)
 
 -- the first so many jobs are in no such state
-abbrev pub AreNone : {S C : Type 0} → (S → Option (List ℕ)) → (S → ℕ) → (C → Option Moments) → (C → ℕ) → InState → List (InJob S C) → ℕ → Type 0
-AreNone left faults moments place state jobs i = (k : ℕ) → k < i → (in_at (ins_of left faults moments place jobs) k).state ≢ state
+abbrev pub AreNone : {S C : Type 0} → (S → Carried) → (C → Timed) → InState → List (InJob S C) → ℕ → Type 0
+AreNone told timed state jobs i = (k : ℕ) → k < i → (in_at (ins_of told timed jobs) k).state ≢ state
 
-module _ {S C : Type 0} (left : S → Option (List ℕ)) (faults : S → ℕ) (moments : C → Option Moments) (place : C → ℕ) (state : InState) (jobs : List (InJob S C)) (i : ℕ) (none : AreNone left faults moments place state jobs i) where
+module _ {S C : Type 0} (told : S → Carried) (timed : C → Timed) (state : InState) (jobs : List (InJob S C)) (i : ℕ) (none : AreNone told timed state jobs i) where
   -- nor is one more
-  pub none_more : (job : InJob S C) → i < length jobs → job ≡ get_or jobs i job → job.state ≢ state → AreNone left faults moments place state jobs (i + 1)
-  none_more job b is other = below_more _ _ none (subst (λ (x : InPart). x.state ≢ state) (sym (job_here left faults moments place jobs i job b is)) other)
+  pub none_more : (job : InJob S C) → i < length jobs → job ≡ get_or jobs i job → job.state ≢ state → AreNone told timed state jobs (i + 1)
+  none_more job b is other = below_more _ _ none (subst (λ (x : InPart). x.state ≢ state) (sym (job_here told timed jobs i job b is)) other)
 
   -- nor is any
-  pub none_in : length jobs ≤ i → IsOneIn state (ins_of left faults moments place jobs) false
-  none_in all = λ k l. none k (omega (arith, l, all, length-map jobs (in_of left faults moments place)))
+  pub none_in : length jobs ≤ i → IsOneIn state (ins_of told timed jobs) false
+  none_in all = λ k l. none k (omega (arith, l, all, length-map jobs (in_of told timed)))
 
 pub one_is_full : (gathered : ℕ) (ins : List InPart) (n : ℕ) (part : InPart) → n < length ins → IsFullOf gathered part → OneIsFull gathered (set ins n part)
 one_is_full gathered ins n part b h = (n, omega (arith, b, length-set ins n part), subst (IsFullOf gathered) (sym (get_or-set_same ins n part no_in b)) h)
 
 -- ---- an input that fits, by its job
 
-module _ {S C : Type 0} (left : S → Option (List ℕ)) (faults : S → ℕ) (moments : C → Option Moments) (place : C → ℕ) (jobs : List (InJob S C)) (i : ℕ) (d : InJob S C) (count : ℕ) (ended : List Bool) (b : i < length jobs) (h : AreInputs count ended (ins_of left faults moments place jobs)) where
+module _ {S C : Type 0} (told : S → Carried) (timed : C → Timed) (jobs : List (InJob S C)) (i : ℕ) (d : InJob S C) (count : ℕ) (ended : List Bool) (b : i < length jobs) (h : AreInputs count ended (ins_of told timed jobs)) where
   within : i < count
-  within = omega (arith, b, h.count_is, length-map jobs (in_of left faults moments place))
+  within = omega (arith, b, h.count_is, length-map jobs (in_of told timed))
 
-  at_place : FitsInput i ended (in_of left faults moments place (get_or jobs i d))
-  at_place = subst (FitsInput i ended) (input_here left faults moments place jobs i d b) (h.each i within)
+  at_place : FitsInput i ended (in_of told timed (get_or jobs i d))
+  at_place = subst (FitsInput i ended) (input_here told timed jobs i d b) (h.each i within)
 
   pub input_number : (get_or jobs i d).input ≡ i
   input_number = at_place.number
 
-  pub fits_here : FitsInput (get_or jobs i d).input ended (in_of left faults moments place (get_or jobs i d))
-  fits_here = subst (λ (k : ℕ). FitsInput k ended (in_of left faults moments place (get_or jobs i d))) (sym at_place.number) at_place
+  pub fits_here : FitsInput (get_or jobs i d).input ended (in_of told timed (get_or jobs i d))
+  fits_here = subst (λ (k : ℕ). FitsInput k ended (in_of told timed (get_or jobs i d))) (sym at_place.number) at_place
 
 -- ---- what a gather and an end leave of a core
 

@@ -16,11 +16,12 @@ use Rattle.pipeline_core.specs.CoreState.{CoreState}
 use Rattle.agent_workers.specs.Finished.{ClockRun, FinishesSo, begun, around}
 use Rattle.agent_workers.specs.Inputs.{InPart, in_of, ins_of, in_at, IsSameInput, AreSameInputs, AreFresh, IsFresh, IsReadable}
 use Rattle.agent_workers.specs.Noted.{JournalPart}
-use Rattle.agent_workers.specs.Opened.{Carried, Timed, all_carried, all_timed, carried_of, timed_of, fresh_in, fresh_ins, fresh_out, fresh_outs, empty_hands, config_ins, config_outs, in_carried, out_carried, rule_by, sizes_of, conf_sizes, IsMadeOf, IsNewCore, RanBy}
+use Rattle.agent_base.specs.Carried.{Carried, Timed}
+use Rattle.agent_workers.specs.Opened.{fresh_in, fresh_ins, fresh_out, fresh_outs, empty_hands, config_ins, config_outs, in_carried, out_carried, rule_by, sizes_of, conf_sizes, IsMadeOf, IsNewCore, RanBy}
 use Rattle.agent_workers.specs.Output.{OutPart, out_of, outs_of, out_at, AreOutputs, AreUnfailed, IsUnfailed}
 use Rattle.agent_workers.specs.PipeSetup.{run_setup, journal_setup_of}
 use Rattle.formats.specs.Reader.{kind_of}
-use Rattle.agent_workers.specs.Rules.{views_by}
+use Rattle.agent_workers.specs.Rules.{work_by}
 use Rattle.agent_workers.specs.Running.{IsReady, buffered_at}
 use Rattle.pipeline_core.specs.Stands.{Stands}
 use Rattle.agent_workers.specs.Run.{Change, change, InRun, in_run, in_runs, OutRun, out_run, out_runs, Ran}
@@ -104,26 +105,26 @@ is_made config start sources clocks sinks core ins outs part sound s c k first n
 -- ---- its jobs, one by one
 
 -- one job more, of the first source and the first clock that are left
-module _ {S C : Type 0} (left : S → Option (List ℕ)) (faults : S → ℕ) (moments : C → Option Moments) (place : C → ℕ) (config : Config) where
+module _ {S C : Type 0} (told : S → Carried) (timed : C → Timed) (config : Config) where
   in_step : (n : ℕ) (conf : InputConf) (confs : List InputConf) (sources : List S) (clocks : List C) (d : S) (e : C) → 1 ≤ length sources → 1 ≤ length clocks →
-      fresh_ins config n (conf ∷ confs) (all_carried left faults sources) (all_timed moments place clocks)
-      ≡ fresh_in config n conf (carried_of left faults (get_or sources 0 d)) (timed_of moments place (get_or clocks 0 e)) ∷ fresh_ins config (n + 1) confs (all_carried left faults (remove sources 0)) (all_timed moments place (remove clocks 0))
+      fresh_ins config n (conf ∷ confs) (map told sources) (map timed clocks)
+      ≡ fresh_in config n conf (told (get_or sources 0 d)) (timed (get_or clocks 0 e)) ∷ fresh_ins config (n + 1) confs (map told (remove sources 0)) (map timed (remove clocks 0))
   unfolding fresh_ins
   in_step n conf confs [] clocks d e a b = absurd (omega (arith, a))
   in_step n conf confs (source ∷ sources) [] d e a b = absurd (omega (arith, b))
   in_step n conf confs (source ∷ sources) (clock ∷ clocks) d e a b = refl
 
   pub in_filled : (n : ℕ) (confs : List InputConf) (jobs : List (InJob S C)) (job : InJob S C) (sources : List S) (clocks : List C) (conf : InputConf) (d : S) (e : C) (all : List InPart) → n < length confs → 1 ≤ length sources → 1 ≤ length clocks →
-      in_of left faults moments place job ≡ fresh_in config n (get_or confs n conf) (carried_of left faults (get_or sources 0 d)) (timed_of moments place (get_or clocks 0 e)) →
-      ins_of left faults moments place jobs ++ fresh_ins config n (drop n confs) (all_carried left faults sources) (all_timed moments place clocks) ≡ all →
-      ins_of left faults moments place (jobs ++ job ∷ []) ++ fresh_ins config (n + 1) (drop (n + 1) confs) (all_carried left faults (remove sources 0)) (all_timed moments place (remove clocks 0)) ≡ all
+      in_of told timed job ≡ fresh_in config n (get_or confs n conf) (told (get_or sources 0 d)) (timed (get_or clocks 0 e)) →
+      ins_of told timed jobs ++ fresh_ins config n (drop n confs) (map told sources) (map timed clocks) ≡ all →
+      ins_of told timed (jobs ++ job ∷ []) ++ fresh_ins config (n + 1) (drop (n + 1) confs) (map told (remove sources 0)) (map timed (remove clocks 0)) ≡ all
   in_filled n confs jobs job sources clocks conf d e all b s c is h =
-      let rest : List InPart = fresh_ins config (n + 1) (drop (n + 1) confs) (all_carried left faults (remove sources 0)) (all_timed moments place (remove clocks 0)) in
-      ap (λ (xs : List InPart). xs ++ rest) (map-append (in_of left faults moments place) jobs (job ∷ []))
-      ∙ append_assoc (ins_of left faults moments place jobs) (in_of left faults moments place job ∷ []) rest
-      ∙ ap (λ (x : InPart). ins_of left faults moments place jobs ++ x ∷ rest) is
-      ∙ ap (λ (xs : List InPart). ins_of left faults moments place jobs ++ xs)
-      (sym (ap (λ (xs : List InputConf). fresh_ins config n xs (all_carried left faults sources) (all_timed moments place clocks)) (drop_more confs n conf b) ∙ in_step n (get_or confs n conf) (drop (n + 1) confs) sources clocks d e s c))
+      let rest : List InPart = fresh_ins config (n + 1) (drop (n + 1) confs) (map told (remove sources 0)) (map timed (remove clocks 0)) in
+      ap (λ (xs : List InPart). xs ++ rest) (map-append (in_of told timed) jobs (job ∷ []))
+      ∙ append_assoc (ins_of told timed jobs) (in_of told timed job ∷ []) rest
+      ∙ ap (λ (x : InPart). ins_of told timed jobs ++ x ∷ rest) is
+      ∙ ap (λ (xs : List InPart). ins_of told timed jobs ++ xs)
+      (sym (ap (λ (xs : List InputConf). fresh_ins config n xs (map told sources) (map timed clocks)) (drop_more confs n conf b) ∙ in_step n (get_or confs n conf) (drop (n + 1) confs) sources clocks d e s c))
       ∙ h
 
 -- all are filled
@@ -131,24 +132,24 @@ pub in_filled_all : (config : Config) (n : ℕ) (confs : List InputConf) (source
 unfolding fresh_ins
 in_filled_all config n confs sources clocks ins all b h = sym (append-nil ins) ∙ ap (λ (xs : List InputConf). ins ++ fresh_ins config n xs sources clocks) (sym (drop_all n confs b)) ∙ h
 
-module _ {K : Type 0} (held : K → Option (List ℕ)) (faults : K → ℕ) where
+module _ {K : Type 0} (told : K → Carried) where
   out_step : (n : ℕ) (conf : OutputConf) (confs : List OutputConf) (sinks : List K) (d : K) → 1 ≤ length sinks →
-      fresh_outs n (conf ∷ confs) (all_carried held faults sinks) ≡ fresh_out n conf (carried_of held faults (get_or sinks 0 d)) ∷ fresh_outs (n + 1) confs (all_carried held faults (remove sinks 0))
+      fresh_outs n (conf ∷ confs) (map told sinks) ≡ fresh_out n conf (told (get_or sinks 0 d)) ∷ fresh_outs (n + 1) confs (map told (remove sinks 0))
   unfolding fresh_outs
   out_step n conf confs [] d a = absurd (omega (arith, a))
   out_step n conf confs (sink ∷ sinks) d a = refl
 
   pub out_filled : {C : Type 0} (n : ℕ) (confs : List OutputConf) (jobs : List (OutJob K C)) (job : OutJob K C) (sinks : List K) (conf : OutputConf) (d : K) (all : List OutPart) → n < length confs → 1 ≤ length sinks →
-      out_of held faults job ≡ fresh_out n (get_or confs n conf) (carried_of held faults (get_or sinks 0 d)) →
-      outs_of held faults jobs ++ fresh_outs n (drop n confs) (all_carried held faults sinks) ≡ all →
-      outs_of held faults (jobs ++ job ∷ []) ++ fresh_outs (n + 1) (drop (n + 1) confs) (all_carried held faults (remove sinks 0)) ≡ all
+      out_of told job ≡ fresh_out n (get_or confs n conf) (told (get_or sinks 0 d)) →
+      outs_of told jobs ++ fresh_outs n (drop n confs) (map told sinks) ≡ all →
+      outs_of told (jobs ++ job ∷ []) ++ fresh_outs (n + 1) (drop (n + 1) confs) (map told (remove sinks 0)) ≡ all
   out_filled n confs jobs job sinks conf d all b s is h =
-      let rest : List OutPart = fresh_outs (n + 1) (drop (n + 1) confs) (all_carried held faults (remove sinks 0)) in
-      ap (λ (xs : List OutPart). xs ++ rest) (map-append (out_of held faults) jobs (job ∷ []))
-      ∙ append_assoc (outs_of held faults jobs) (out_of held faults job ∷ []) rest
-      ∙ ap (λ (x : OutPart). outs_of held faults jobs ++ x ∷ rest) is
-      ∙ ap (λ (xs : List OutPart). outs_of held faults jobs ++ xs)
-      (sym (ap (λ (xs : List OutputConf). fresh_outs n xs (all_carried held faults sinks)) (drop_more confs n conf b) ∙ out_step n (get_or confs n conf) (drop (n + 1) confs) sinks d s))
+      let rest : List OutPart = fresh_outs (n + 1) (drop (n + 1) confs) (map told (remove sinks 0)) in
+      ap (λ (xs : List OutPart). xs ++ rest) (map-append (out_of told) jobs (job ∷ []))
+      ∙ append_assoc (outs_of told jobs) (out_of told job ∷ []) rest
+      ∙ ap (λ (x : OutPart). outs_of told jobs ++ x ∷ rest) is
+      ∙ ap (λ (xs : List OutPart). outs_of told jobs ++ xs)
+      (sym (ap (λ (xs : List OutputConf). fresh_outs n xs (map told sinks)) (drop_more confs n conf b) ∙ out_step n (get_or confs n conf) (drop (n + 1) confs) sinks d s))
       ∙ h
 
 pub out_filled_all : (n : ℕ) (confs : List OutputConf) (sinks : List Carried) (outs all : List OutPart) → length confs ≤ n → outs ++ fresh_outs n (drop n confs) sinks ≡ all → outs ≡ all
@@ -156,21 +157,21 @@ unfolding fresh_outs
 out_filled_all n confs sinks outs all b h = sym (append-nil outs) ∙ ap (λ (xs : List OutputConf). outs ++ fresh_outs n xs sinks) (sym (drop_all n confs b)) ∙ h
 
 -- a job by other terms
-pub in_is : {S C : Type 0} (left : S → Option (List ℕ)) (faults : S → ℕ) (moments : C → Option Moments) (place : C → ℕ) (config : Config) (n : ℕ) (confs : List InputConf) (job : InJob S C) (number : ℕ) (conf : InputConf) (source : S) (clock : C) (sources : List S) (clocks : List C) →
-    in_of left faults moments place job ≡ fresh_in config number conf (carried_of left faults source) (timed_of moments place clock) → number ≡ n → conf ≡ get_or confs n conf → source ≡ get_or sources 0 source → clock ≡ get_or clocks 0 clock →
-    in_of left faults moments place job ≡ fresh_in config n (get_or confs n conf) (carried_of left faults (get_or sources 0 source)) (timed_of moments place (get_or clocks 0 clock))
-in_is {S} {C} left faults moments place config n confs job number conf source clock sources clocks h a b c d =
-    h ∙ ap (λ (k : ℕ). fresh_in config k conf (carried_of left faults source) (timed_of moments place clock)) a
-    ∙ ap (λ (x : InputConf). fresh_in config n x (carried_of left faults source) (timed_of moments place clock)) b
-    ∙ ap (λ (x : S). fresh_in config n (get_or confs n conf) (carried_of left faults x) (timed_of moments place clock)) c
-    ∙ ap (λ (x : C). fresh_in config n (get_or confs n conf) (carried_of left faults (get_or sources 0 source)) (timed_of moments place x)) d
+pub in_is : {S C : Type 0} (told : S → Carried) (timed : C → Timed) (config : Config) (n : ℕ) (confs : List InputConf) (job : InJob S C) (number : ℕ) (conf : InputConf) (source : S) (clock : C) (sources : List S) (clocks : List C) →
+    in_of told timed job ≡ fresh_in config number conf (told source) (timed clock) → number ≡ n → conf ≡ get_or confs n conf → source ≡ get_or sources 0 source → clock ≡ get_or clocks 0 clock →
+    in_of told timed job ≡ fresh_in config n (get_or confs n conf) (told (get_or sources 0 source)) (timed (get_or clocks 0 clock))
+in_is {S} {C} told timed config n confs job number conf source clock sources clocks h a b c d =
+    h ∙ ap (λ (k : ℕ). fresh_in config k conf (told source) (timed clock)) a
+    ∙ ap (λ (x : InputConf). fresh_in config n x (told source) (timed clock)) b
+    ∙ ap (λ (x : S). fresh_in config n (get_or confs n conf) (told x) (timed clock)) c
+    ∙ ap (λ (x : C). fresh_in config n (get_or confs n conf) (told (get_or sources 0 source)) (timed x)) d
 
-pub out_is : {K C : Type 0} (held : K → Option (List ℕ)) (faults : K → ℕ) (n : ℕ) (confs : List OutputConf) (job : OutJob K C) (number : ℕ) (conf : OutputConf) (sink : K) (sinks : List K) →
-    out_of held faults job ≡ fresh_out number conf (carried_of held faults sink) → number ≡ n → conf ≡ get_or confs n conf → sink ≡ get_or sinks 0 sink → out_of held faults job ≡ fresh_out n (get_or confs n conf) (carried_of held faults (get_or sinks 0 sink))
-out_is {K} held faults n confs job number conf sink sinks h a b c =
-    h ∙ ap (λ (k : ℕ). fresh_out k conf (carried_of held faults sink)) a
-    ∙ ap (λ (x : OutputConf). fresh_out n x (carried_of held faults sink)) b
-    ∙ ap (λ (x : K). fresh_out n (get_or confs n conf) (carried_of held faults x)) c
+pub out_is : {K C : Type 0} (told : K → Carried) (n : ℕ) (confs : List OutputConf) (job : OutJob K C) (number : ℕ) (conf : OutputConf) (sink : K) (sinks : List K) →
+    out_of told job ≡ fresh_out number conf (told sink) → number ≡ n → conf ≡ get_or confs n conf → sink ≡ get_or sinks 0 sink → out_of told job ≡ fresh_out n (get_or confs n conf) (told (get_or sinks 0 sink))
+out_is {K} told n confs job number conf sink sinks h a b c =
+    h ∙ ap (λ (k : ℕ). fresh_out k conf (told sink)) a
+    ∙ ap (λ (x : OutputConf). fresh_out n x (told sink)) b
+    ∙ ap (λ (x : K). fresh_out n (get_or confs n conf) (told x)) c
 
 -- what is in hand of the first input that is left, and of the others
 pub hands_first : (n : ℕ) (confs : List InputConf) (hands : List Hand) (conf : InputConf) (d : Hand) → n < length confs → conf ≡ get_or confs n conf → hands ≡ empty_hands (drop n confs) → get_or hands 0 d ≡ empty_hand (kind_of conf.format)
@@ -205,8 +206,8 @@ pub same_count : {X Y Z : Type 0} (f : X → Z) (h : Y → Z) (xs : List X) (ys 
 same_count {X} {Y} {Z} f h xs ys e = sym (length-map xs f) ∙ ap (λ (zs : List Z). length zs) e ∙ length-map ys h
 
 -- a change by other sinks that are the same
-pub sinks_change : {K : Type 0} (held : K → Option (List ℕ)) (faults : K → ℕ) (a b x y : K) → a ≡ x → b ≡ y → change (held a) (held b) (faults a) (faults b) ≡ change (held x) (held y) (faults x) (faults y)
-sinks_change held faults a b x y e f = rw (e, f) refl
+pub sinks_change : {K : Type 0} (told : K → Carried) (a b x y : K) → a ≡ x → b ≡ y → change (told a).bytes (told b).bytes (told a).faults (told b).faults ≡ change (told x).bytes (told y).bytes (told x).faults (told y).faults
+sinks_change told a b x y e f = rw (e, f) refl
 
 same_tail : (old new : InPart) (olds news : List InPart) → AreSameInputs (old ∷ olds) (new ∷ news) → AreSameInputs olds news
 same_tail old new olds news h = record { count = omega (arith, h.count); each = λ k l. h.each (suc k) (omega (arith, l)) }
@@ -247,33 +248,33 @@ module _ (config : Config) (start : ℤ) (sources : List Carried) (clocks : List
   count_is : length ins ≡ length config.inputs
   count_is = ins_count config start sources clocks sinks core ins outs part made s c
 
-  left_by : (ending : Ending) → AreSameInputs ins last_ins → FinishesSo (views_by config.outputs) config.agent.final_tries ending core last ins last_ins outs last_outs part last_part timer →
+  left_by : (ending : Ending) → AreSameInputs ins last_ins → FinishesSo (work_by config.outputs) config.agent.final_tries ending core last ins last_ins outs last_outs part last_part timer →
       RanBy config ending (config_ins config config.inputs sources (map in_carried last_ins) clocks) (config_outs config.outputs sinks (map out_carried last_outs)) (change part.held last_part.held part.faults last_part.faults) timer.moments
   left_by ending same ends =
-      let views = views_by config.outputs in
-      let finished = ends (begun (sizes_of config) start views ins outs part) (around ins outs part) refl refl (λ f. made.set_up.settled) (made.set_up.agrees views) in
-      let all = ran views config.agent.final_tries (length ins) (sizes_of config) start ins outs part.held part.faults ending last last_ins last_outs last_part timer gives same.count finished in
+      let work = work_by config.outputs in
+      let finished = ends (begun (sizes_of config) start work ins outs part) (around ins outs part) refl refl (λ f. made.set_up.settled) (made.set_up.agrees work) in
+      let all = ran work config.agent.final_tries (length ins) (sizes_of config) start ins outs part.held part.faults ending last last_ins last_outs last_part timer gives same.count finished in
       let ins_are : in_runs ins last_ins ≡ config_ins config config.inputs sources (map in_carried last_ins) clocks =
       ap (λ (xs : List InPart). in_runs xs last_ins) made.ins_are ∙ ins_left config 0 config.inputs sources clocks last_ins (subst (λ (xs : List InPart). AreSameInputs xs last_ins) made.ins_are same) in
       let outs_are : out_runs outs last_outs ≡ config_outs config.outputs sinks (map out_carried last_outs) =
       ap (λ (xs : List OutPart). out_runs xs last_outs) made.outs_are ∙ outs_left 0 config.outputs sinks last_outs in
       let noted = change part.held last_part.held part.faults last_part.faults in
-      subst (λ (n : ℕ). Ran views config.agent.final_tries n (sizes_of config) ending (config_ins config config.inputs sources (map in_carried last_ins) clocks) (config_outs config.outputs sinks (map out_carried last_outs)) noted timer.moments) count_is
-      (subst (λ (xs : List OutRun). Ran views config.agent.final_tries (length ins) (sizes_of config) ending (config_ins config config.inputs sources (map in_carried last_ins) clocks) xs noted timer.moments) outs_are
-      (subst (λ (xs : List InRun). Ran views config.agent.final_tries (length ins) (sizes_of config) ending xs (out_runs outs last_outs) noted timer.moments) ins_are all))
+      subst (λ (n : ℕ). Ran work config.agent.final_tries n (sizes_of config) ending (config_ins config config.inputs sources (map in_carried last_ins) clocks) (config_outs config.outputs sinks (map out_carried last_outs)) noted timer.moments) count_is
+      (subst (λ (xs : List OutRun). Ran work config.agent.final_tries (length ins) (sizes_of config) ending (config_ins config config.inputs sources (map in_carried last_ins) clocks) xs noted timer.moments) outs_are
+      (subst (λ (xs : List InRun). Ran work config.agent.final_tries (length ins) (sizes_of config) ending xs (out_runs outs last_outs) noted timer.moments) ins_are all))
 
-  pub ran_by : (r : Result Ending OutOfMemory) (news new_sinks : List Carried) → news ≡ map in_carried last_ins → new_sinks ≡ map out_carried last_outs → OnOk r (AreSameInputs ins last_ins) → IfOk r (λ ending. FinishesSo (views_by config.outputs) config.agent.final_tries ending core last ins last_ins outs last_outs part last_part timer) →
+  pub ran_by : (r : Result Ending OutOfMemory) (news new_sinks : List Carried) → news ≡ map in_carried last_ins → new_sinks ≡ map out_carried last_outs → OnOk r (AreSameInputs ins last_ins) → IfOk r (λ ending. FinishesSo (work_by config.outputs) config.agent.final_tries ending core last ins last_ins outs last_outs part last_part timer) →
       IfOk r (λ ending. RanBy config ending (config_ins config config.inputs sources news clocks) (config_outs config.outputs sinks new_sinks) (change part.held last_part.held part.faults last_part.faults) timer.moments)
   ran_by (Err fault) news new_sinks n k same ends = tt
   ran_by (Ok ending) news new_sinks n k same ends = rw (n, k) (left_by ending same ends)
 
   -- the same by other terms
   pub ran_with : (confs : List OutputConf) (tries : ℕ) → confs ≡ config.outputs → tries ≡ config.agent.final_tries → (r : Result Ending OutOfMemory) (news new_sinks : List Carried) → news ≡ map in_carried last_ins → new_sinks ≡ map out_carried last_outs → OnOk r (AreSameInputs ins last_ins) →
-      IfOk r (λ ending. FinishesSo (views_by confs) tries ending core last ins last_ins outs last_outs part last_part timer) → (noted : Change) (moments : Option Moments) → change part.held last_part.held part.faults last_part.faults ≡ noted → timer.moments ≡ moments →
+      IfOk r (λ ending. FinishesSo (work_by confs) tries ending core last ins last_ins outs last_outs part last_part timer) → (noted : Change) (moments : Option Moments) → change part.held last_part.held part.faults last_part.faults ≡ noted → timer.moments ≡ moments →
       IfOk r (λ ending. RanBy config ending (config_ins config config.inputs sources news clocks) (config_outs config.outputs sinks new_sinks) noted moments)
   ran_with confs tries o t r news new_sinks n k same ends noted moments w m =
       subst (λ (x : Option Moments). IfOk r (λ ending. RanBy config ending (config_ins config config.inputs sources news clocks) (config_outs config.outputs sinks new_sinks) noted x)) m
       (subst (λ (x : Change). IfOk r (λ ending. RanBy config ending (config_ins config config.inputs sources news clocks) (config_outs config.outputs sinks new_sinks) x timer.moments)) w
       (ran_by r news new_sinks n k same
-      (subst (λ (x : ℕ). IfOk r (λ ending. FinishesSo (views_by config.outputs) x ending core last ins last_ins outs last_outs part last_part timer)) t
-      (subst (λ (xs : List OutputConf). IfOk r (λ ending. FinishesSo (views_by xs) tries ending core last ins last_ins outs last_outs part last_part timer)) o ends))))
+      (subst (λ (x : ℕ). IfOk r (λ ending. FinishesSo (work_by config.outputs) x ending core last ins last_ins outs last_outs part last_part timer)) t
+      (subst (λ (xs : List OutputConf). IfOk r (λ ending. FinishesSo (work_by xs) tries ending core last ins last_ins outs last_outs part last_part timer)) o ends))))

@@ -5,6 +5,7 @@ use Rattle.std.proofs.lemmas.Bool.{cases_eq}
 use Rattle.std.proofs.lemmas.List.{length-map, length-set, get_or-map, get_or-set_same, get_or-set_other, set-set, map-set}
 use Rattle.std.specs.declared.option.Option.{Option}
 use Rattle.std.specs.declared.option.Option.TheVariants.{Some, None}
+use Rattle.agent_base.specs.Carried.{Carried}
 use Rattle.metric.specs.declared.metric.Content.{Content}
 use Rattle.account.specs.Numbers.{output_numbers, unreached_output}
 use Rattle.account.specs.Setup.{Setup}
@@ -196,22 +197,22 @@ ready_first setup outputs core is same sizes_fit = record {
 }
 
 -- the part of a job is the one at its place
-pub part_here : {K C : Type 0} (held : K → Option (List ℕ)) (faults : K → ℕ) (jobs : List (OutJob K C)) (i : ℕ) (d : OutJob K C) → i < length jobs → out_at (outs_of held faults jobs) i ≡ out_of held faults (get_or jobs i d)
-part_here held faults jobs i d b = get_or-map (out_of held faults) jobs i d no_out b
+pub part_here : {K C : Type 0} (told : K → Carried) (jobs : List (OutJob K C)) (i : ℕ) (d : OutJob K C) → i < length jobs → out_at (outs_of told jobs) i ≡ out_of told (get_or jobs i d)
+part_here told jobs i d b = get_or-map (out_of told) jobs i d no_out b
 
 -- and it has the number of its place
-pub part_number : {K C : Type 0} (held : K → Option (List ℕ)) (faults : K → ℕ) (jobs : List (OutJob K C)) (i : ℕ) (d : OutJob K C) (count : ℕ) → i < length jobs → AreOutputs count (outs_of held faults jobs) → (get_or jobs i d).output ≡ i
-part_number held faults jobs i d count b h =
-    ap (λ (x : OutPart). x.output) (sym (part_here held faults jobs i d b)) ∙ h.numbered i (omega (arith, b, h.count_is, length-map jobs (out_of held faults)))
+pub part_number : {K C : Type 0} (told : K → Carried) (jobs : List (OutJob K C)) (i : ℕ) (d : OutJob K C) (count : ℕ) → i < length jobs → AreOutputs count (outs_of told jobs) → (get_or jobs i d).output ≡ i
+part_number told jobs i d count b h =
+    ap (λ (x : OutPart). x.output) (sym (part_here told jobs i d b)) ∙ h.numbered i (omega (arith, b, h.count_is, length-map jobs (out_of told)))
 
 -- a job was set, whose number is that of its place
-pub part_set : {K C : Type 0} (held : K → Option (List ℕ)) (faults : K → ℕ) (jobs : List (OutJob K C)) (i : ℕ) (job : OutJob K C) (count : ℕ) → i < length jobs → job.output ≡ i → AreOutputs count (outs_of held faults jobs) → AreOutputs count (outs_of held faults (set jobs i job))
-part_set held faults jobs i job count b number h =
-    subst (AreOutputs count) (sym (map-set (out_of held faults) jobs i job)) (outputs_set count (outs_of held faults jobs) i (out_of held faults job) (omega (arith, b, h.count_is, length-map jobs (out_of held faults))) number h)
+pub part_set : {K C : Type 0} (told : K → Carried) (jobs : List (OutJob K C)) (i : ℕ) (job : OutJob K C) (count : ℕ) → i < length jobs → job.output ≡ i → AreOutputs count (outs_of told jobs) → AreOutputs count (outs_of told (set jobs i job))
+part_set told jobs i job count b number h =
+    subst (AreOutputs count) (sym (map-set (out_of told) jobs i job)) (outputs_set count (outs_of told jobs) i (out_of told job) (omega (arith, b, h.count_is, length-map jobs (out_of told))) number h)
 
 -- one count more begins anew
-pub anew_more : {K C : Type 0} (held : K → Option (List ℕ)) (faults : K → ℕ) (jobs : List (OutJob K C)) (i : ℕ) (d : OutJob K C) (olds : List OutPart) → i < length jobs → outs_of held faults jobs ≡ map anew (take i olds) ++ drop i olds → i < length olds →
-    outs_of held faults (set jobs i (record (get_or jobs i d) { failed_since = 0 })) ≡ map anew (take (i + 1) olds) ++ drop (i + 1) olds
-anew_more held faults jobs i d olds b h l =
-    map-set (out_of held faults) jobs i (record (get_or jobs i d) { failed_since = 0 })
-    ∙ map_over_more anew olds (outs_of held faults jobs) i (out_of held faults (get_or jobs i d)) l h (sym (get_or-map (out_of held faults) jobs i d (out_of held faults (get_or jobs i d)) b))
+pub anew_more : {K C : Type 0} (told : K → Carried) (jobs : List (OutJob K C)) (i : ℕ) (d : OutJob K C) (olds : List OutPart) → i < length jobs → outs_of told jobs ≡ map anew (take i olds) ++ drop i olds → i < length olds →
+    outs_of told (set jobs i (record (get_or jobs i d) { failed_since = 0 })) ≡ map anew (take (i + 1) olds) ++ drop (i + 1) olds
+anew_more told jobs i d olds b h l =
+    map-set (out_of told) jobs i (record (get_or jobs i d) { failed_since = 0 })
+    ∙ map_over_more anew olds (outs_of told jobs) i (out_of told (get_or jobs i d)) l h (sym (get_or-map (out_of told) jobs i d (out_of told (get_or jobs i d)) b))

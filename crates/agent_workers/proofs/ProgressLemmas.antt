@@ -16,6 +16,7 @@ use Rattle.account.specs.declared.entry.Verdict.{Verdict}
 use Rattle.metric.specs.declared.metric.Content.{Content}
 use Rattle.agent_base.specs.Clocked.{last_of}
 use Rattle.agent_base.specs.Counts.{RoseBy}
+use Rattle.pipeline_core.specs.Work.{Work}
 use Rattle.pipeline_core.specs.CoreState.{CoreState}
 use Rattle.out_lane.specs.LaneEvents.{LaneEvent}
 use Rattle.pipeline_core.specs.Legal.{IsLegal, has_stop, is_stop}
@@ -30,7 +31,7 @@ use Rattle.account.specs.Dones.{dones_by, dones}
 use Rattle.pipeline_core.specs.Stopped.{behind_stop}
 use Rattle.agent_workers.specs.Noted.{JournalPart, Notes, NotesOn}
 use Rattle.pipeline_core.specs.Order.{EndsFailed, IsOrderly}
-use Rattle.pipeline_core.specs.Worked.{views_of}
+use Rattle.pipeline_core.specs.Worked.{views_of, last_of as last_metric}
 use Rattle.agent_workers.specs.PipeSetup.{journal_setup_of}
 use Rattle.account.specs.Routes.{RouteOnInOrder}
 use Rattle.agent_workers.specs.Inputs.{InPart, in_at, no_in}
@@ -49,10 +50,10 @@ use Rattle.pipeline_core.proofs.StopLemmas.{behind_stop-push, stop_before}
 use Rattle.pipeline_core.proofs.RouteLemmas.{legal_rest_in_order}
 use Rattle.account.proofs.MomentLemmas.{counted_moments-push, counted_moments-same}
 use Rattle.agent_workers.proofs.MomentLemmas.{counted_from-last}
-use Rattle.pipeline_core.proofs.OrderLemmas.{in_order-push}
+use Rattle.pipeline_core.proofs.OrderLemmas.{in_order-push, ticked_plain}
 use Rattle.pipeline_core.proofs.SentLemmas.{EndsNone}
 use Rattle.agent_workers.proofs.SentLemmas.{sent_same}
-use Rattle.pipeline_core.proofs.WorkedLemmas.{worked-push, worked_route, first_raw, item_stays}
+use Rattle.pipeline_core.proofs.WorkedLemmas.{worked-push, worked_plain, first_raw, item_stays}
 
 -- the core stands for one entry more, and stores it
 pub text-push : (start : Beginning) (core next : CoreState) (part : JournalPart) (journal : List Entry) (e : Entry) → HasText start core part journal → Continues core next e → next.stored ≡ core.stored ++ e ∷ [] → next.setup ≡ core.setup
@@ -210,21 +211,27 @@ went_take start core next now is more w =
       heard = all_heard_push start.ins now.ins w.journal e (λ k. record { none = refl; other = refl }) w.heard;
       out_count = w.out_count;
       said = all_said_push start.outs now.outs w.journal e (λ o. record { ends = tt; none = refl; quiet = refl }) refl w.said;
-      worked = worked-push start.views w.journal e tt w.worked;
+      worked = worked-push start.work w.journal e tt w.worked;
       order = order-push start core now.next now.next w.journal e w.text.stands (omega arith) (λ f. tt) (λ k b. refl) w.order;
       counted_at = counted_moments-same w.journal e refl ∙ w.counted_at;
     }
 
+-- what a run makes of its items without processors and aggregators
+pub record IsPlain (work : Work) : Type 0 where
+  pub skip : work.skip ≡ false
+  pub whole : work.whole ≡ last_metric
+  pub aggs : work.aggs ≡ []
+
 -- the first raw item was taken and routed
-pub went_route : (start : Beginning) (core mid next : CoreState) (now : Surroundings) (views : List (Content → Option Content)) (metric : Content) → AreAnew now.outs → slice_get core.raw 0 ≡ Some metric → mid ≡ after_take core → Continues core mid (Take core.taken) → next ≡ after_route mid (routed_by views core.taken metric) →
-    Continues mid next (route_entry mid (routed_by views core.taken metric)) → Progress (record start { views = views }) core now → Progress (record start { views = views }) next now
-went_route start core mid next now views metric fresh first taken takes routed routes w =
-    let s : Beginning = record start { views = views } in
-    let shape : IsRouteEntry (routed_by views core.taken metric) (route_entry mid (routed_by views core.taken metric)) = entries-have-shape.routes mid (routed_by views core.taken metric) in
+pub went_route : (start : Beginning) (core mid next : CoreState) (now : Surroundings) (work : Work) (metric : Content) → IsPlain work → AreAnew now.outs → slice_get core.raw 0 ≡ Some metric → mid ≡ after_take core → Continues core mid (Take core.taken) → next ≡ after_route mid (routed_by work core.taken metric) →
+    Continues mid next (route_entry mid (routed_by work core.taken metric)) → Progress (record start { work = work }) core now → Progress (record start { work = work }) next now
+went_route start core mid next now work metric plain fresh first taken takes routed routes w =
+    let s : Beginning = record start { work = work } in
+    let shape : IsRouteEntry (routed_by work core.taken metric) (route_entry mid (routed_by work core.taken metric)) = entries-have-shape.routes mid (routed_by work core.taken metric) in
     let verdict : Verdict = shape.0 in
     let reports : List Report = shape.1 in
     let t : Entry = Take core.taken in
-    let e : Entry = Route core.taken (Some metric) verdict [] (views_of views metric) reports in
+    let e : Entry = Route core.taken (Some metric) verdict [] (views_of work.outs (Some metric)) reports in
     let at : slice_get (items w.journal) core.taken ≡ Some metric = first_raw core w.journal metric w.text.stands first in
     let there : slice_get (items (w.journal ++ t ∷ [])) core.taken ≡ Some metric = item_stays w.journal t core.taken metric at in
     record {
@@ -235,7 +242,7 @@ went_route start core mid next now views metric fresh first taken takes routed r
       heard = all_heard_push start.ins now.ins (w.journal ++ t ∷ []) e (λ k. record { none = refl; other = refl }) (all_heard_push start.ins now.ins w.journal t (λ k. record { none = refl; other = refl }) w.heard);
       out_count = w.out_count;
       said = all_said_anew start.outs now.outs (w.journal ++ t ∷ []) e fresh (λ o. tt) (λ o. refl) (all_said_push start.outs now.outs w.journal t (λ o. record { ends = tt; none = refl; quiet = refl }) refl w.said);
-      worked = worked_route views (w.journal ++ t ∷ []) core.taken metric verdict [] reports there (worked-push views w.journal t tt w.worked);
+      worked = worked_plain work (w.journal ++ t ∷ []) core.taken metric verdict reports plain.skip plain.whole plain.aggs there (worked-push work w.journal t tt w.worked);
       order = order-push s mid now.next now.next (w.journal ++ t ∷ []) e (takes w.journal w.text.stands) (omega arith) (λ f. tt) (λ k b. refl) (order-push s core now.next now.next w.journal t w.text.stands (omega arith) (λ f. tt) (λ k b. refl) w.order);
       counted_at = counted_moments-same (w.journal ++ t ∷ []) e refl ∙ counted_moments-same w.journal t refl ∙ w.counted_at;
     }
@@ -259,10 +266,14 @@ went_cut start core next part more now stands is notes w = record {
 pub went_uncut : (start : Beginning) (core next : CoreState) (now : Surroundings) → next ≡ core → Progress start core now → Progress start next now
 went_uncut start core next now is w = subst (λ (s : CoreState). Progress start s now) (sym is) w
 
+-- a run whose core has no aggregators began without them
+pub aggs_start : (start : Beginning) (core : CoreState) (now : Surroundings) → Progress start core now → core.setup.aggs ≡ [] → start.setup.aggs ≡ []
+aggs_start start core now w none = sym (ap (λ (s : Setup). s.aggs) w.text.setup_is) ∙ none
+
 -- the run was stopped at a moment
-pub went_stop : (start : Beginning) (core next : CoreState) (now : Surroundings) (moment : ℤ) → AreAnew now.outs → next ≡ after_stop core moment → Continues core next (stop_entry core moment)
+pub went_stop : (start : Beginning) (core next : CoreState) (now : Surroundings) (moment : ℤ) → core.setup.aggs ≡ [] → AreAnew now.outs → next ≡ after_stop core moment → Continues core next (stop_entry core moment)
     → Progress start core now → Progress start next (record now { counted_at = now.counted_at ++ int_max moment (last_of start.setup.start now.counted_at) ∷ [] })
-went_stop start core next now moment fresh is more w =
+went_stop start core next now moment no_aggs fresh is more w =
     let shape : IsStopEntry (moment_at core moment) (stop_entry core moment) = entries-have-shape.stops core moment in
     let e : Entry = Stop (int_max moment core.counted) shape.0 in
     let counted : core.counted ≡ last_of start.setup.start now.counted_at =
@@ -274,14 +285,14 @@ went_stop start core next now moment fresh is more w =
       heard = all_heard_push start.ins now.ins w.journal e (λ k. record { none = refl; other = refl }) w.heard;
       out_count = w.out_count;
       said = all_said_anew start.outs now.outs w.journal e fresh (λ o. tt) (λ o. refl) w.said;
-      worked = worked-push start.views w.journal e tt w.worked;
-      order = order-push start core now.next now.next w.journal e w.text.stands (omega arith) (λ f. tt) (λ k b. none_of_made k (length shape.0)) w.order;
+      worked = worked-push start.work w.journal e tt w.worked;
+      order = order-push start core now.next now.next w.journal e w.text.stands (omega arith) (λ f. ticked_plain start.setup w.journal (aggs_start start core now w no_aggs)) (λ k b. none_of_made k (length shape.0)) w.order;
       counted_at = counted_moments-push w.journal e ∙ ap (λ (ms : List ℤ). ms ++ int_max moment core.counted ∷ []) w.counted_at ∙ ap (λ (m : ℤ). now.counted_at ++ int_max moment m ∷ []) counted;
     }
 
 -- the same of an item with the number of the first raw one
-pub went_item : (start : Beginning) (core mid next : CoreState) (now : Surroundings) (views : List (Content → Option Content)) (number : ℕ) (metric : Content) → AreAnew now.outs → number ≡ core.taken → slice_get core.raw 0 ≡ Some metric → mid ≡ after_take core → Continues core mid (Take core.taken) →
-    next ≡ after_route mid (routed_by views number metric) → Continues mid next (route_entry mid (routed_by views number metric)) → Progress (record start { views = views }) core now → Progress (record start { views = views }) next now
-went_item start core mid next now views number metric fresh is first taken takes routed routes w =
-    went_route start core mid next now views metric fresh first taken takes
-    (subst (λ (n : ℕ). next ≡ after_route mid (routed_by views n metric)) is routed) (subst (λ (n : ℕ). Continues mid next (route_entry mid (routed_by views n metric))) is routes) w
+pub went_item : (start : Beginning) (core mid next : CoreState) (now : Surroundings) (work : Work) (number : ℕ) (metric : Content) → IsPlain work → AreAnew now.outs → number ≡ core.taken → slice_get core.raw 0 ≡ Some metric → mid ≡ after_take core → Continues core mid (Take core.taken) →
+    next ≡ after_route mid (routed_by work number metric) → Continues mid next (route_entry mid (routed_by work number metric)) → Progress (record start { work = work }) core now → Progress (record start { work = work }) next now
+went_item start core mid next now work number metric plain fresh is first taken takes routed routes w =
+    went_route start core mid next now work metric plain fresh first taken takes
+    (subst (λ (n : ℕ). next ≡ after_route mid (routed_by work n metric)) is routed) (subst (λ (n : ℕ). Continues mid next (route_entry mid (routed_by work n metric))) is routes) w

@@ -80,7 +80,7 @@ module _ (start : Beginning) (core mid next : CoreState) (now : Surroundings) (o
         heard = all_heard_push start.ins now.ins between end (λ k. record { none = refl; other = refl }) (all_heard_push start.ins now.ins w.journal begin (λ k. record { none = refl; other = refl }) w.heard);
         out_count = length-set now.outs old.output new ∙ w.out_count;
         said = said_done reports ok w.journal w.said said;
-        worked = worked-push start.views between end tt (worked-push start.views w.journal begin tt w.worked);
+        worked = worked-push start.work between end tt (worked-push start.work w.journal begin tt w.worked);
         order = order-push start mid now.next now.next between end (begins w.journal w.text.stands) (omega arith) (λ f. tt) (λ k b. refl)
             (order-push start core now.next now.next w.journal begin w.text.stands (omega arith) (λ f. sym w.text.stands.raw ∙ routed) (λ k b. refl) w.order);
         counted_at = counted_moments-same between end refl ∙ counted_moments-same w.journal begin refl ∙ w.counted_at;

@@ -6,6 +6,7 @@ use Rattle.account.specs.EntryMoments.{counted_moments}
 use Rattle.account.specs.declared.entry.Entry.{Entry}
 use Rattle.agent_base.specs.Clocked.{Counted}
 use Rattle.agent_base.specs.Moments.{Moments}
+use Rattle.pipeline_core.specs.Work.{Work}
 use Rattle.pipeline_core.specs.CoreState.{CoreState}
 use Rattle.pipeline_core.specs.Order.{InOrder}
 use Rattle.pipeline_core.specs.Stands.{Stands}
@@ -44,7 +45,7 @@ pub record Finished (start : Beginning) (tries : ℕ) (ending : Ending) (core : 
   pub stands : Stands core journal
   pub more : List Entry
   pub goes_on : journal ≡ start.front ++ more
-  pub run : HasRun start.views tries start.setup (in_runs start.ins ins) (out_runs start.outs outs) journal
+  pub run : HasRun start.work tries start.setup (in_runs start.ins ins) (out_runs start.outs outs) journal
   -- what the parts were read, were sent and keep
   pub fit : AreInputs (length start.setup.inputs) core.ended ins
   pub outputs_fit : AreOutputs (length start.setup.outputs) outs
@@ -66,21 +67,21 @@ pub record Finished (start : Beginning) (tries : ℕ) (ending : Ending) (core : 
       (text_of start.setup journal)
 
 -- a run ends, whatever it began with and had come to
-abbrev pub FinishesSo : List (Content → Option Content) → ℕ → Ending → CoreState → CoreState → List InPart
+abbrev pub FinishesSo : Work → ℕ → Ending → CoreState → CoreState → List InPart
     → List InPart → List OutPart → List OutPart → JournalPart → JournalPart → ClockRun → Type 0
-FinishesSo views tries ending old new ins new_ins outs new_outs part new_part timer =
+FinishesSo work tries ending old new ins new_ins outs new_outs part new_part timer =
     (start : Beginning) (now : Surroundings) → length start.ins ≡ length ins
     → length start.outs ≡ length outs → SettlesFirst start old outs
-    → Progress (record start { views = views }) old
+    → Progress (record start { work = work }) old
     (record now { ins = ins; next = 0; outs = outs; journal = part })
-    → Finished (record start { views = views }) tries ending new new_ins new_outs new_part now.counted_at timer
+    → Finished (record start { work = work }) tries ending new new_ins new_outs new_part now.counted_at timer
 
 -- what a run begins with that has come to nothing yet
-abbrev pub begun : List (ℕ × ℕ) → ℤ → List (Content → Option Content) → List InPart → List OutPart → JournalPart
+abbrev pub begun : List (ℕ × ℕ) → ℤ → Work → List InPart → List OutPart → JournalPart
     → Beginning
-begun sizes start views ins outs part = record {
+begun sizes start work ins outs part = record {
   setup = run_setup (length ins) sizes start;
-  views = views;
+  work = work;
   ins = ins;
   outs = outs;
   noted = part.held;
@@ -103,5 +104,5 @@ pub record IsSetUp (sizes : List (ℕ × ℕ)) (start : ℤ) (core : CoreState) 
   pub inputs : AreInputs (length core.setup.inputs) core.ended ins
   pub outputs : AreOutputs (length core.setup.outputs) outs
   pub settled : AreSettled core outs
-  pub agrees : (views : List (Content → Option Content)) →
-      Progress (begun sizes start views ins outs part) core (around ins outs part)
+  pub agrees : (work : Work) →
+      Progress (begun sizes start work ins outs part) core (around ins outs part)

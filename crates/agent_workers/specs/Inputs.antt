@@ -6,6 +6,7 @@ use Rattle.std.specs.declared.option.Option.TheVariants.{Some, None}
 use Rattle.account.specs.Says.{GatherSays}
 use Rattle.account.specs.Gathers.{gathers}
 use Rattle.account.specs.declared.entry.Entry.{Entry}
+use Rattle.agent_base.specs.Carried.{Carried, Timed}
 use Rattle.agent_base.specs.Hand.{Hand, to_come, empty_hand}
 use Rattle.agent_base.specs.Moments.{Moments}
 use Rattle.agent_base.specs.Told.{Told}
@@ -34,24 +35,22 @@ pub record InPart : Type 0 where
   pub state : InState
 
 -- the part of an input, given what its source and its clock tell
-abbrev pub in_of : {S C : Type 0} → (S → Option (List ℕ)) → (S → ℕ) → (C → Option Moments) → (C → ℕ)
-    → InJob S C → InPart
-in_of left faults moments place job = record {
+abbrev pub in_of : {S C : Type 0} → (S → Carried) → (C → Timed) → InJob S C → InPart
+in_of told timed job = record {
   input = job.input;
   rule = rule_of job;
   hand = job.pieces;
-  left = left job.source;
-  read_faults = faults job.source;
-  moments = moments job.clock;
-  place = place job.clock;
+  left = (told job.source).bytes;
+  read_faults = (told job.source).faults;
+  moments = (timed job.clock).moments;
+  place = (timed job.clock).place;
   held = job.held;
   state = job.state;
 }
 
 -- the parts of the inputs, in order
-abbrev pub ins_of : {S C : Type 0} → (S → Option (List ℕ)) → (S → ℕ) → (C → Option Moments) → (C → ℕ)
-    → List (InJob S C) → List InPart
-ins_of left faults moments place jobs = map (in_of left faults moments place) jobs
+abbrev pub ins_of : {S C : Type 0} → (S → Carried) → (C → Timed) → List (InJob S C) → List InPart
+ins_of told timed jobs = map (in_of told timed) jobs
 
 -- an input of which nothing is told
 abbrev pub no_in : InPart

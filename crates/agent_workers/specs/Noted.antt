@@ -5,6 +5,7 @@ use Rattle.std.specs.declared.option.Option.{Option}
 use Rattle.metric.specs.declared.metric.Content.{Content}
 use Rattle.account.specs.declared.entry.Entry.{Entry}
 use Rattle.account.specs.Items.{unrouted_items}
+use Rattle.agent_base.specs.Carried.{Carried}
 use Rattle.agent_base.specs.Counts.{Rose}
 use Rattle.journal_text.specs.declared.setup.JournalSetup.{JournalSetup}
 use Rattle.journal_text.specs.JournalText.{journal_text}
@@ -24,14 +25,14 @@ pub record JournalPart : Type 0 where
   pub faults : ℕ
 
 -- the part, given what the sink tells
-abbrev pub part_of : {K C : Type 0} → (K → Option (List ℕ)) → (K → ℕ) → JournalJob K C → JournalPart
-part_of held faults job = record {
+abbrev pub part_of : {K C : Type 0} → (K → Carried) → JournalJob K C → JournalPart
+part_of told job = record {
   setup = job.setup;
   kept = job.kept.items;
   entries = job.entries;
   failed = job.failed;
-  held = held job.sink;
-  faults = faults job.sink;
+  held = (told job.sink).bytes;
+  faults = (told job.sink).faults;
 }
 
 -- all of the text was put; or, where a put failed, a prefix of it

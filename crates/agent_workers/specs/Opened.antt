@@ -2,6 +2,7 @@
 use Rattle.std.specs.Prelude.{◌≡◌, ◌+◌, ℕ, ℤ, false, List, [], ◌∷◌, length, map, replicate}
 use Rattle.std.specs.declared.option.Option.{Option}
 use Rattle.std.specs.declared.option.Option.TheVariants.{None}
+use Rattle.agent_base.specs.Carried.{Carried, Timed}
 use Rattle.agent_base.specs.Hand.{Hand, empty_hand}
 use Rattle.agent_base.specs.Moments.{Moments}
 use Rattle.agent_config.specs.declared.config.Config.{Config}
@@ -16,34 +17,11 @@ use Rattle.agent_workers.specs.Noted.{JournalPart}
 use Rattle.agent_workers.specs.Output.{OutPart}
 use Rattle.agent_workers.specs.PipeSetup.{run_setup}
 use Rattle.formats.specs.Reader.{InRule, in_rule, kind_of}
-use Rattle.agent_workers.specs.Rules.{views_by}
+use Rattle.agent_workers.specs.Rules.{work_by}
 use Rattle.agent_workers.specs.Run.{Change, change, InRun, OutRun, Ran}
 use Rattle.agent_workers.specs.Running.{IsReady, buffered_at}
 use Rattle.formats.specs.declared.pieces.InState.TheVariants as states
 use Rattle.agent_workers.specs.declared.serial.Ending.{Ending}
-
--- what a part of a place carries: the bytes that are left of it, or that it holds, and its count of faults
-pub record Carried : Type 0 where
-  pub bytes : Option (List ℕ)
-  pub faults : ℕ
-
--- what parts carry, given what they tell
-abbrev pub carried_of : {P : Type 0} → (P → Option (List ℕ)) → (P → ℕ) → P → Carried
-carried_of bytes faults part = record { bytes = bytes part; faults = faults part }
-
-abbrev pub all_carried : {P : Type 0} → (P → Option (List ℕ)) → (P → ℕ) → List P → List Carried
-all_carried bytes faults parts = map (carried_of bytes faults) parts
-
--- what a clock tells: its moments, and its place in them
-pub record Timed : Type 0 where
-  pub moments : Option Moments
-  pub place : ℕ
-
-abbrev pub timed_of : {C : Type 0} → (C → Option Moments) → (C → ℕ) → C → Timed
-timed_of moments place clock = record { moments = moments clock; place = place clock }
-
-abbrev pub all_timed : {C : Type 0} → (C → Option Moments) → (C → ℕ) → List C → List Timed
-all_timed moments place clocks = map (timed_of moments place) clocks
 
 -- the sizes of a configuration's outputs: batch size and buffer limit
 abbrev pub conf_sizes : OutputConf → ℕ × ℕ
@@ -152,5 +130,5 @@ out_carried part = record { bytes = part.held; faults = part.put_faults }
 
 -- what a run of a configuration leaves, before its account is reported
 abbrev pub RanBy : Config → Ending → List InRun → List OutRun → Change → Option Moments → Type 0
-RanBy config ending ins outs note run_moments = Ran (views_by config.outputs) config.agent.final_tries
+RanBy config ending ins outs note run_moments = Ran (work_by config.outputs) config.agent.final_tries
     (length config.inputs) (sizes_of config) ending ins outs note run_moments

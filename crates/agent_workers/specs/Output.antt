@@ -3,6 +3,7 @@ use Rattle.std.specs.Prelude.{◌≡◌, ◌<◌, ◌⊎◌, ℕ, min, Bool, tru
 use Rattle.std.specs.Prelude.{replicate, slice_index_or}
 use Rattle.std.specs.declared.option.Option.{Option}
 use Rattle.std.specs.declared.option.Option.TheVariants.{Some, None}
+use Rattle.agent_base.specs.Carried.{Carried}
 use Rattle.format_words.specs.declared.format.OutFormat.{OutFormat}
 use Rattle.format_words.specs.declared.format.OutFormat.TheVariants.{Influx}
 use Rattle.agent_workers.specs.declared.output.OutJob.{OutJob}
@@ -24,19 +25,19 @@ pub record OutPart : Type 0 where
   pub failed_since : ℕ
 
 -- the part of an output, given what its sink tells
-abbrev pub out_of : {K C : Type 0} → (K → Option (List ℕ)) → (K → ℕ) → OutJob K C → OutPart
-out_of held faults job = record {
+abbrev pub out_of : {K C : Type 0} → (K → Carried) → OutJob K C → OutPart
+out_of told job = record {
   output = job.output;
   format = job.format;
-  held = held job.sink;
-  put_faults = faults job.sink;
+  held = (told job.sink).bytes;
+  put_faults = (told job.sink).faults;
   failed = job.failed;
   failed_since = job.failed_since;
 }
 
 -- the parts of the outputs, in order
-abbrev pub outs_of : {K C : Type 0} → (K → Option (List ℕ)) → (K → ℕ) → List (OutJob K C) → List OutPart
-outs_of held faults jobs = map (out_of held faults) jobs
+abbrev pub outs_of : {K C : Type 0} → (K → Carried) → List (OutJob K C) → List OutPart
+outs_of told jobs = map (out_of told) jobs
 
 -- an output of which nothing is told
 abbrev pub no_out : OutPart

@@ -13,6 +13,7 @@ use Rattle.agent_base.specs.Clocked.{Clocked}
 use Rattle.agent_base.specs.Hand.{Hand, to_come}
 use Rattle.agent_base.specs.Moments.{Moments}
 use Rattle.agent_base.specs.Told.{Told}
+use Rattle.pipeline_core.specs.Work.{Work}
 use Rattle.pipeline_core.specs.CoreState.{CoreState}
 use Rattle.pipeline_core.specs.Legal.{has_ended, has_stop, gathered_count}
 use Rattle.pipeline_core.specs.Offers.{lane_events}
@@ -38,7 +39,7 @@ use Rattle.pipeline_core.specs.Worked.{Worked}
 -- count of failed puts, when these were new; and the journal that the run continues
 pub record Beginning : Type 0 where
   pub setup : Setup
-  pub views : List (Content → Option Content)
+  pub work : Work
   pub ins : List InPart
   pub outs : List OutPart
   pub noted : Option (List ℕ)
@@ -147,14 +148,20 @@ pub record Progress (start : Beginning) (core : CoreState) (now : Surroundings) 
   pub heard : AllHeard start.ins now.ins journal
   pub out_count : length now.outs ≡ length start.setup.outputs
   pub said : AllSaid start.outs now.outs journal
-  pub worked : Worked start.views journal
+  pub worked : Worked start.work journal
   pub order : HasOrder start now.next journal
   pub counted_at : counted_moments journal ≡ now.counted_at
 
 -- a step that changes nothing around the run, while no batch failed, given what the outputs' filters give
-abbrev pub GoesOn : List (Content → Option Content) → CoreState → CoreState → Type 0
-GoesOn views old new = (start : Beginning) (now : Surroundings) → AreAnew now.outs
-    → Progress (record start { views = views }) old now → Progress (record start { views = views }) new now
+abbrev pub GoesOn : Work → CoreState → CoreState → Type 0
+GoesOn work old new = (start : Beginning) (now : Surroundings) → AreAnew now.outs
+    → Progress (record start { work = work }) old now → Progress (record start { work = work }) new now
+
+-- a step that routes and puts to the journal's place, while no batch failed, given what the outputs' filters give
+abbrev pub RoutesOn : Work → CoreState → CoreState → JournalPart → JournalPart → Type 0
+RoutesOn work old new part new_part = (start : Beginning) (now : Surroundings) → AreAnew now.outs
+    → Progress (record start { work = work }) old (record now { journal = part })
+    → Progress (record start { work = work }) new (record now { journal = new_part })
 
 -- a step that puts to the outputs
 abbrev pub SendsOn : CoreState → CoreState → List OutPart → List OutPart → Type 0
@@ -216,10 +223,10 @@ NotesRun old new part new_part =
     → Progress start new (record now { journal = new_part })
 
 -- rounds: they read the inputs, and put to the outputs and to the journal's place
-abbrev pub RunsOn : List (Content → Option Content) → CoreState → CoreState → List InPart → List InPart
+abbrev pub RunsOn : Work → CoreState → CoreState → List InPart → List InPart
     → List OutPart → List OutPart → JournalPart → JournalPart → Type 0
-RunsOn views old new ins new_ins outs new_outs part new_part =
+RunsOn work old new ins new_ins outs new_outs part new_part =
     (start : Beginning) (now : Surroundings) → SettlesFirst start old outs
-    → Progress (record start { views = views }) old
+    → Progress (record start { work = work }) old
     (record now { ins = ins; next = 0; outs = outs; journal = part })
-    → Progress (record start { views = views }) new (record now { ins = new_ins; next = 0; outs = new_outs; journal = new_part })
+    → Progress (record start { work = work }) new (record now { ins = new_ins; next = 0; outs = new_outs; journal = new_part })

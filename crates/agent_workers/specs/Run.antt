@@ -15,6 +15,7 @@ use Rattle.agent_base.specs.Counts.{Rose, RoseBy}
 use Rattle.agent_base.specs.Moments.{Moments}
 use Rattle.agent_base.specs.Told.{Told}
 use Rattle.journal_text.specs.JournalText.{journal_text}
+use Rattle.pipeline_core.specs.Work.{Work}
 use Rattle.pipeline_core.specs.Legal.{IsLegal, has_ended, has_stop}
 use Rattle.pipeline_core.specs.Totals.{totals}
 use Rattle.agent_workers.specs.Input.{IsFull, Gathered, NamesTaken}
@@ -146,7 +147,7 @@ pub record IsSentTo (tries : ℕ) (setup : Setup) (journal : List Entry) (output
 
 -- A legal journal of a run that came to its end, given what its outputs' filters give, how often in succession a
 -- repeat without an accepted batch is tried at the end, its inputs and its outputs.
-pub record HasRun (views : List (Content → Option Content)) (tries : ℕ) (setup : Setup) (ins : List InRun)
+pub record HasRun (work : Work) (tries : ℕ) (setup : Setup) (ins : List InRun)
     (outputs : List OutRun) (journal : List Entry) : Type 0 where
   pub legal : IsLegal setup journal
   -- what each input gave was gathered, so many bytes of it
@@ -157,16 +158,16 @@ pub record HasRun (views : List (Content → Option Content)) (tries : ℕ) (set
   pub sent_to : (output : ℕ) → output < length setup.outputs →
       IsSentTo tries setup journal output (out_run_at outputs output)
   -- each item was routed by the outputs' filters
-  pub worked : Worked views journal
+  pub worked : Worked work journal
   -- gathering was stopped, and no item is raw or in hand
   pub stopped : has_stop journal ≡ true
   pub none_raw : raw_items journal ≡ []
   pub none_held : in_hand journal ≡ None
 
 -- The same of a run that began with nothing, given the moments of its clock.
-pub record IsRun (views : List (Content → Option Content)) (tries : ℕ) (setup : Setup) (ins : List InRun)
+pub record IsRun (work : Work) (tries : ℕ) (setup : Setup) (ins : List InRun)
     (outputs : List OutRun) (run_moments : Option Moments) (journal : List Entry) : Type 0 where
-  pub has : HasRun views tries setup ins outputs journal
+  pub has : HasRun work tries setup ins outputs journal
   -- the moments are those of the run's clock
   pub start : IfSome run_moments (λ moments. setup.start ≡ moments.at 0)
   pub counted : IfSome run_moments
@@ -202,11 +203,11 @@ IsLeft true setup journal =
     (output : ℕ) × (output < length setup.outputs) × (buffered_at_end setup journal output ≢ 0)
 
 -- what a run leaves, before its account is reported, given how many inputs it has, and the sizes of its outputs
-pub record Ran (views : List (Content → Option Content)) (tries count : ℕ) (sizes : List (ℕ × ℕ)) (ending : Ending) (ins : List InRun)
+pub record Ran (work : Work) (tries count : ℕ) (sizes : List (ℕ × ℕ)) (ending : Ending) (ins : List InRun)
     (outputs : List OutRun) (note : Change) (run_moments : Option Moments) : Type 0 where
   pub start : ℤ
   pub journal : List Entry
-  pub run : IsRun views tries (run_setup count sizes start) ins outputs run_moments journal
+  pub run : IsRun work tries (run_setup count sizes start) ins outputs run_moments journal
   -- the states of the inputs; a limit was reached, or a read failed, exactly where one of them says so
   pub state : ℕ → InState
   pub ends : (number : ℕ) → number < count →

@@ -7,6 +7,7 @@ use Rattle.std.specs.declared.option.Option.TheVariants.{Some, None}
 use Rattle.account.specs.Numbers.{output_numbers}
 use Rattle.account.specs.declared.entry.Entry.{Entry}
 use Rattle.out_lane.specs.Lane.{LaneState}
+use Rattle.pipeline_core.specs.Work.{Work}
 use Rattle.pipeline_core.specs.CoreState.{CoreState, lane_at}
 use Rattle.pipeline_core.specs.Stands.{Stands}
 use Rattle.pipeline_core.specs.Worked.{views_of}
@@ -154,6 +155,6 @@ IsLeftOver false core = (output : ℕ) → output < length core.setup.outputs �
 IsLeftOver true core = (output : ℕ) × (output < length core.setup.outputs) × (buffered_at core output ≢ 0)
 
 -- an item is routed with itself as its whole, and with what each output's filter gives for it
-abbrev pub routed_by : List (Content → Option Content) → ℕ → Content → Routed
-routed_by views item metric = record
-    { item = item; whole = Some metric; aggs = []; outs = views_of views metric }
+abbrev pub routed_by : Work → ℕ → Content → Routed
+routed_by work item metric = record
+    { item = item; whole = Some metric; aggs = []; outs = views_of work.outs (Some metric) }

@@ -87,16 +87,16 @@ fn read_on<S: Source + Drop, C: Clock + Drop>(
 ) -> Result<bool, OutOfMemory>
     requires some { 1 ≤ job.old.gather_pieces }
     requires filled { All IsFilledTag job.old.globals.now }
-    requires cut_by { IsCutBy (in_of S.left S.faults C.moments C.place job.old) }
+    requires cut_by { IsCutBy (in_of S.told C.told job.old) }
     requires reading { job.old.state ≡ InState.Reading }
     requires free { job.old.held ≡ None }
-    ensures reads { OnOk result ((core : CoreState) → ReadsAt core core (in_of S.left S.faults C.moments C.place job.old) (in_of S.left S.faults C.moments C.place job.new)) }
-    ensures met { IfOk result (λ met. met ≡ true → HasMetEnd (in_of S.left S.faults C.moments C.place job.old) (in_of S.left S.faults C.moments C.place job.new)) }
-    ensures moved { IfOk result (λ met. met ≡ false → IsMoved (in_of S.left S.faults C.moments C.place job.new)) }
-    ensures own { OnOk result (HoldsOwn (in_of S.left S.faults C.moments C.place job.new)) }
-    ensures cut_by { OnOk result (IsCutBy (in_of S.left S.faults C.moments C.place job.new)) }
+    ensures reads { OnOk result ((core : CoreState) → ReadsAt core core (in_of S.told C.told job.old) (in_of S.told C.told job.new)) }
+    ensures met { IfOk result (λ met. met ≡ true → HasMetEnd (in_of S.told C.told job.old) (in_of S.told C.told job.new)) }
+    ensures moved { IfOk result (λ met. met ≡ false → IsMoved (in_of S.told C.told job.new)) }
+    ensures own { OnOk result (HoldsOwn (in_of S.told C.told job.new)) }
+    ensures cut_by { OnOk result (IsCutBy (in_of S.told C.told job.new)) }
     ensures unended { OnOk result (job.new.state ≢ InState.Ended) }
-    ensures same { IsSameInput (in_of S.left S.faults C.moments C.place job.old) (in_of S.left S.faults C.moments C.place job.new) }
+    ensures same { IsSameInput (in_of S.told C.told job.old) (in_of S.told C.told job.new) }
 {
     let moment = job.clock.now();
     let rule = ReadRule::new(job.format, job.globals, job.filter, job.gather_pieces);
@@ -113,17 +113,17 @@ fn read_where_free<S: Source + Drop, C: Clock + Drop>(
 ) -> Result<bool, OutOfMemory>
     requires some { 1 ≤ job.old.gather_pieces }
     requires filled { All IsFilledTag job.old.globals.now }
-    requires cut_by { IsCutBy (in_of S.left S.faults C.moments C.place job.old) }
-    requires own { HoldsOwn (in_of S.left S.faults C.moments C.place job.old) }
+    requires cut_by { IsCutBy (in_of S.told C.told job.old) }
+    requires own { HoldsOwn (in_of S.told C.told job.old) }
     requires none_held { HoldsNoEnd job.old.state job.old.held }
-    ensures reads { OnOk result ((core : CoreState) → ReadsAt core core (in_of S.left S.faults C.moments C.place job.old) (in_of S.left S.faults C.moments C.place job.new)) }
-    ensures met { IfOk result (λ met. met ≡ true → HasMetEnd (in_of S.left S.faults C.moments C.place job.old) (in_of S.left S.faults C.moments C.place job.new)) }
-    ensures moved { IfOk result (λ met. met ≡ false → IsMoved (in_of S.left S.faults C.moments C.place job.new)) }
-    ensures own { OnOk result (HoldsOwn (in_of S.left S.faults C.moments C.place job.new)) }
-    ensures cut_by { OnOk result (IsCutBy (in_of S.left S.faults C.moments C.place job.new)) }
+    ensures reads { OnOk result ((core : CoreState) → ReadsAt core core (in_of S.told C.told job.old) (in_of S.told C.told job.new)) }
+    ensures met { IfOk result (λ met. met ≡ true → HasMetEnd (in_of S.told C.told job.old) (in_of S.told C.told job.new)) }
+    ensures moved { IfOk result (λ met. met ≡ false → IsMoved (in_of S.told C.told job.new)) }
+    ensures own { OnOk result (HoldsOwn (in_of S.told C.told job.new)) }
+    ensures cut_by { OnOk result (IsCutBy (in_of S.told C.told job.new)) }
     ensures none_held { OnOk result (HoldsNoEnd job.new.state job.new.held) }
     ensures ended { OnOk result (is_ended job.new.state ≡ is_ended job.old.state) }
-    ensures same { IsSameInput (in_of S.left S.faults C.moments C.place job.old) (in_of S.left S.faults C.moments C.place job.new) }
+    ensures same { IsSameInput (in_of S.told C.told job.old) (in_of S.told C.told job.new) }
 {
     if job.state != InState::Reading || job.held.is_some() {
         return Ok(false);
@@ -138,23 +138,23 @@ fn offer<S: Source + Drop, C: Clock + Drop>(
     job: &mut InJob<'_, S, C>,
 ) -> Result<bool, OutOfMemory>
     requires ready { IsReady core.old }
-    requires fits { FitsInput job.old.input core.old.ended (in_of S.left S.faults C.moments C.place job.old) }
+    requires fits { FitsInput job.old.input core.old.ended (in_of S.told C.told job.old) }
     requires going { core.old.stopped ≡ false }
     requires stands { HasJournal core.old }
     ensures ready { OnOk result (IsReady core.new) }
     ensures stands { StillStands result core.new }
     ensures kept { OnOk result (IsGatheredAt job.old.input core.old core.new) }
     ensures ended { OnOk result (core.new.ended ≡ core.old.ended) }
-    ensures part { OnOk result (IsOffered (in_of S.left S.faults C.moments C.place job.old) (in_of S.left S.faults C.moments C.place job.new)) }
-    ensures fits { OnOk result (FitsInput job.old.input core.new.ended (in_of S.left S.faults C.moments C.place job.new)) }
+    ensures part { OnOk result (IsOffered (in_of S.told C.told job.old) (in_of S.told C.told job.new)) }
+    ensures fits { OnOk result (FitsInput job.old.input core.new.ended (in_of S.told C.told job.new)) }
     ensures full { IfOk result (λ full. full ≡ true → IsFullOf core.new.gathered
-        (in_of S.left S.faults C.moments C.place job.new)) }
+        (in_of S.told C.told job.new)) }
     ensures room { IfOk result (λ full. full ≡ false → job.new.state ≡ job.old.state) }
     ensures moved { IfOk result (λ full. full ≡ false → (job.old.held ≢ None)
         → HasMoved core.old core.new) }
     ensures none { job.old.held ≡ None → job.new.held ≡ None }
-    ensures same { IsSameInput (in_of S.left S.faults C.moments C.place job.old) (in_of S.left S.faults C.moments C.place job.new) }
-    ensures gathers { OnOk result (GathersAt core.old core.new (in_of S.left S.faults C.moments C.place job.old) (in_of S.left S.faults C.moments C.place job.new)) }
+    ensures same { IsSameInput (in_of S.told C.told job.old) (in_of S.told C.told job.new) }
+    ensures gathers { OnOk result (GathersAt core.old core.new (in_of S.told C.told job.old) (in_of S.told C.told job.new)) }
 {
     let gathered = match job.held.take() {
         Some(gathered) => gathered,
@@ -186,19 +186,19 @@ fn end_where_met<S: Source + Drop, C: Clock + Drop>(
     met: bool,
 ) -> Result<(), OutOfMemory>
     requires ready { IsReady core.old }
-    requires fits { FitsInput job.old.input core.old.ended (in_of S.left S.faults C.moments C.place job.old) }
+    requires fits { FitsInput job.old.input core.old.ended (in_of S.told C.told job.old) }
     requires going { core.old.stopped ≡ false }
     requires stands { HasJournal core.old }
     ensures ready { OnOk result (IsReady core.new) }
     ensures stands { StillStands result core.new }
     ensures kept { OnOk result (IsGatheredAt job.old.input core.old core.new) }
-    ensures fits { OnOk result (FitsInput job.old.input core.new.ended (in_of S.left S.faults C.moments C.place job.new)) }
+    ensures fits { OnOk result (FitsInput job.old.input core.new.ended (in_of S.told C.told job.new)) }
     ensures held { job.new.held ≡ job.old.held }
-    ensures ends { OnOk result (EndsAt met core.old core.new (in_of S.left S.faults C.moments C.place job.old) (in_of S.left S.faults C.moments C.place job.new)) }
+    ensures ends { OnOk result (EndsAt met core.old core.new (in_of S.told C.told job.old) (in_of S.told C.told job.new)) }
     ensures out { OnOk result (met ≡ true → job.old.held ≡ None → job.old.state ≡ InState.Reading
         → job.new.state ≡ InState.Ended) }
     ensures unmet { OnOk result (met ≡ false → job.new.state ≡ job.old.state) }
-    ensures same { IsSameInput (in_of S.left S.faults C.moments C.place job.old) (in_of S.left S.faults C.moments C.place job.new) }
+    ensures same { IsSameInput (in_of S.told C.told job.old) (in_of S.told C.told job.new) }
 {
     if !met || job.held.is_some() || job.state != InState::Reading {
         return Ok(());
@@ -216,19 +216,19 @@ fn turn<S: Source + Drop, C: Clock + Drop>(
     job: &mut InJob<'_, S, C>,
 ) -> Result<bool, OutOfMemory>
     requires ready { IsReady core.old }
-    requires fits { FitsInput job.old.input core.old.ended (in_of S.left S.faults C.moments C.place job.old) }
+    requires fits { FitsInput job.old.input core.old.ended (in_of S.told C.told job.old) }
     requires going { core.old.stopped ≡ false }
     requires stands { HasJournal core.old }
     ensures ready { OnOk result (IsReady core.new) }
     ensures stands { StillStands result core.new }
     ensures kept { OnOk result (IsGatheredAt job.old.input core.old core.new) }
-    ensures fits { OnOk result (FitsInput job.old.input core.new.ended (in_of S.left S.faults C.moments C.place job.new)) }
+    ensures fits { OnOk result (FitsInput job.old.input core.new.ended (in_of S.told C.told job.new)) }
     ensures full { IfOk result (λ full. full ≡ true → IsFullOf core.new.gathered
-        (in_of S.left S.faults C.moments C.place job.new)) }
+        (in_of S.told C.told job.new)) }
     ensures moved { IfOk result (λ full. full ≡ false
-        → IsOut (in_of S.left S.faults C.moments C.place job.new) ⊎ HasMoved core.old core.new) }
-    ensures gathers { OnOk result (GathersAt core.old core.new (in_of S.left S.faults C.moments C.place job.old) (in_of S.left S.faults C.moments C.place job.new)) }
-    ensures same { IsSameInput (in_of S.left S.faults C.moments C.place job.old) (in_of S.left S.faults C.moments C.place job.new) }
+        → IsOut (in_of S.told C.told job.new) ⊎ HasMoved core.old core.new) }
+    ensures gathers { OnOk result (GathersAt core.old core.new (in_of S.told C.told job.old) (in_of S.told C.told job.new)) }
+    ensures same { IsSameInput (in_of S.told C.told job.old) (in_of S.told C.told job.new) }
 {
     let met = read_where_free(alloc, job)?;
     if offer(core, job)? {
@@ -247,23 +247,23 @@ pub fn gather_each<S: Source + Drop, C: Clock + Drop>(
 ) -> Result<bool, OutOfMemory>
     requires ready { IsReady core.old }
     requires inputs { AreInputs (length core.old.setup.inputs) core.old.ended
-        (ins_of S.left S.faults C.moments C.place inputs.old) }
+        (ins_of S.told C.told inputs.old) }
     requires going { core.old.stopped ≡ false }
     requires stands { HasJournal core.old }
     ensures ready { OnOk result (IsReady core.new) }
     ensures stands { StillStands result core.new }
     ensures kept { OnOk result (IsGathered core.old core.new) }
     ensures inputs { OnOk result (AreInputs (length core.old.setup.inputs) core.new.ended
-        (ins_of S.left S.faults C.moments C.place inputs.new)) }
+        (ins_of S.told C.told inputs.new)) }
     ensures full { IfOk result (λ full. full ≡ true → OneIsFull core.new.gathered
-        (ins_of S.left S.faults C.moments C.place inputs.new)) }
+        (ins_of S.told C.told inputs.new)) }
     ensures gathers { OnOk result (GathersOn core.old core.new
-        (ins_of S.left S.faults C.moments C.place inputs.old)
-        (ins_of S.left S.faults C.moments C.place inputs.new)) }
+        (ins_of S.told C.told inputs.old)
+        (ins_of S.told C.told inputs.new)) }
     ensures idle { IfOk result (λ full. full ≡ false → IdlesOut core.old core.new
-        (ins_of S.left S.faults C.moments C.place inputs.new)) }
-    ensures same { OnOk result (AreSameInputs (ins_of S.left S.faults C.moments C.place inputs.old)
-        (ins_of S.left S.faults C.moments C.place inputs.new)) }
+        (ins_of S.told C.told inputs.new)) }
+    ensures same { OnOk result (AreSameInputs (ins_of S.told C.told inputs.old)
+        (ins_of S.told C.told inputs.new)) }
     ensures count { length inputs.new ≡ length inputs.old }
 {
     for job in inputs.iter_mut() {
@@ -276,8 +276,8 @@ pub fn gather_each<S: Source + Drop, C: Clock + Drop>(
 
 /// Whether each input is read no more and holds nothing.
 pub fn are_out<S: Source + Drop, C: Clock + Drop>(inputs: &[InJob<'_, S, C>]) -> bool
-    ensures out { result ≡ true → AreOut (ins_of S.left S.faults C.moments C.place inputs.now) }
-    ensures some { result ≡ false → AreOut (ins_of S.left S.faults C.moments C.place inputs.now) → ⊥ }
+    ensures out { result ≡ true → AreOut (ins_of S.told C.told inputs.now) }
+    ensures some { result ≡ false → AreOut (ins_of S.told C.told inputs.now) → ⊥ }
 {
     for job in inputs {
         if job.state == InState::Reading || job.held.is_some() {
@@ -287,24 +287,15 @@ pub fn are_out<S: Source + Drop, C: Clock + Drop>(inputs: &[InJob<'_, S, C>]) ->
     true
 }
 
-/// Whether a limit was reached at an input.
-pub fn has_limit<S: Source + Drop, C: Clock + Drop>(inputs: &[InJob<'_, S, C>]) -> bool
-    ensures { IsOneIn InState.LimitReached (ins_of S.left S.faults C.moments C.place inputs.now) result }
+/// Whether one of the inputs is in a state.
+pub fn is_one_in<S: Source + Drop, C: Clock + Drop>(
+    inputs: &[InJob<'_, S, C>],
+    state: InState,
+) -> bool
+    ensures { IsOneIn state (ins_of S.told C.told inputs.now) result }
 {
     for job in inputs {
-        if job.state == InState::LimitReached {
-            return true;
-        }
-    }
-    false
-}
-
-/// Whether a read of an input failed.
-pub fn has_fault<S: Source + Drop, C: Clock + Drop>(inputs: &[InJob<'_, S, C>]) -> bool
-    ensures { IsOneIn InState.Faulted (ins_of S.left S.faults C.moments C.place inputs.now) result }
-{
-    for job in inputs {
-        if job.state == InState::Faulted {
+        if job.state == state {
             return true;
         }
     }

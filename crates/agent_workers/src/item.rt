@@ -6,7 +6,7 @@ ghost use Rattle.pipeline_core.specs.Stands.{Continues};
 ghost use Rattle.pipeline_core.specs.Steps.{after_route, route_entry};
 ghost use Rattle.pipeline_core.specs.Worked.{views_of};
 ghost use Rattle.agent_workers.specs.Progress.{GoesOn};
-ghost use Rattle.agent_workers.specs.Rules.{views_by};
+ghost use Rattle.agent_workers.specs.Rules.{work_by};
 ghost use Rattle.agent_workers.specs.Running.{IsReady, IsRoutable, HasJournal, StillStands, routed_by};
 
 use agent_config::OutputConf;
@@ -14,6 +14,10 @@ use fixed_num::{OutOfMemory, Seq};
 use metric::Metric;
 use pipeline_core::{Core, Item, Routed, TakeAnswer};
 use std::alloc::Global;
+
+/// How many items are routed before the journal's entries are put. The `take` and the `route` of so many are more than 2 MiB of
+/// its text, so that no part is put for it that is below 1 MiB.
+const ROUTED_AT_ONCE: u32 = 65_536;
 
 /// What routes the items of a run.
 #[derive(Drop)]
@@ -30,7 +34,7 @@ fn views_of(
     metric: &Metric,
     confs: &[OutputConf],
 ) -> Result<Seq<Option<Metric>>, OutOfMemory>
-    ensures { IfOk result (λ views. views ≡ views_of (views_by confs.now) metric.now) }
+    ensures { IfOk result (λ views. views ≡ views_of (work_by confs.now).outs (Some metric.now)) }
 {
     if let [conf] = confs {
         return Ok(Seq::of_one(conf.filter.apply_to(metric.copy()?)?));
@@ -57,9 +61,9 @@ fn route(
     ensures held { OnOk result (core.new.held ≡ None) }
     ensures raw { OnOk result (core.new.raw ≡ core.old.raw) }
     ensures stands { StillStands result core.new }
-    ensures after { OnOk result (core.new ≡ after_route core.old (routed_by (views_by confs.now) item.number item.metric)) }
+    ensures after { OnOk result (core.new ≡ after_route core.old (routed_by (work_by confs.now) item.number item.metric)) }
     ensures continues { OnOk result (Continues core.old core.new
-        (route_entry core.old (routed_by (views_by confs.now) item.number item.metric))) }
+        (route_entry core.old (routed_by (work_by confs.now) item.number item.metric))) }
 {
     let outs = views_of(alloc, &item.metric, confs)?;
     core.route(Routed {
@@ -81,7 +85,7 @@ fn route_next(alloc: Global, core: &mut Core, confs: &[OutputConf]) -> Result<bo
     ensures none { result ≡ Ok false → core.new.raw ≡ [] }
     ensures fewer { result ≡ Ok true → length core.new.raw + 1 ≡ length core.old.raw }
     ensures stands { StillStands result core.new }
-    ensures goes { OnOk result (GoesOn (views_by confs.now) core.old core.new) }
+    ensures goes { OnOk result (GoesOn (work_by confs.now) core.old core.new) }
 {
     match core.take() {
         Ok(item) => {
@@ -94,6 +98,25 @@ fn route_next(alloc: Global, core: &mut Core, confs: &[OutputConf]) -> Result<bo
     }
 }
 
+/// Routes raw items, at most 65,536, and says whether there may be others.
+pub fn route_some(alloc: Global, core: &mut Core, confs: &[OutputConf]) -> Result<bool, OutOfMemory>
+    requires ready { IsReady core.old }
+    requires outputs { length confs.now ≡ length core.old.setup.outputs }
+    requires stands { HasJournal core.old }
+    ensures ready { OnOk result (IsReady core.new) }
+    ensures kept { OnOk result (IsRoutable core.old core.new) }
+    ensures none { result ≡ Ok false → core.new.raw ≡ [] }
+    ensures stands { StillStands result core.new }
+    ensures goes { OnOk result (GoesOn (work_by confs.now) core.old core.new) }
+{
+    for _taken in 0..ROUTED_AT_ONCE {
+        if !route_next(alloc, core, confs)? {
+            return Ok(false);
+        }
+    }
+    Ok(true)
+}
+
 /// Routes all raw items, each with what each output's filter gives for it.
 pub fn route_all(alloc: Global, core: &mut Core, confs: &[OutputConf]) -> Result<(), OutOfMemory>
     requires ready { IsReady core.old }
@@ -103,10 +126,10 @@ pub fn route_all(alloc: Global, core: &mut Core, confs: &[OutputConf]) -> Result
     ensures kept { OnOk result (IsRoutable core.old core.new) }
     ensures none { OnOk result (core.new.raw ≡ []) }
     ensures stands { StillStands result core.new }
-    ensures goes { OnOk result (GoesOn (views_by confs.now) core.old core.new) }
+    ensures goes { OnOk result (GoesOn (work_by confs.now) core.old core.new) }
 {
-    for _taken in 0..u64::MAX {
-        if !route_next(alloc, core, confs)? {
+    for _part in 0..u64::MAX {
+        if !route_some(alloc, core, confs)? {
             return Ok(());
         }
     }

@@ -79,7 +79,7 @@ impl<K: Sink + Drop, C: Drop> JournalJob<K, C> {
         requires whole { All IsWholeOrRemoved entries.items }
         requires some { length entries.items ≢ 0 }
         ensures { OnOk result (NotesOn entries.items
-            (part_of K.held K.faults self.old) (part_of K.held K.faults self.new)) }
+            (part_of K.told self.old) (part_of K.told self.new)) }
     {
         self.spell(alloc, entries, text)?;
         self.put_text(text)?;
@@ -96,7 +96,7 @@ impl<K: Sink + Drop, C: Drop> JournalJob<K, C> {
     ) -> Result<(), OutOfMemory>
         requires { All IsWholeOrRemoved entries.items }
         ensures { OnOk result (EndsOn entries.items account.now
-            (part_of K.held K.faults self.old) (part_of K.held K.faults self.new)) }
+            (part_of K.told self.old) (part_of K.told self.new)) }
     {
         self.spell(alloc, entries, text)?;
         write_end(alloc, account, self.entries, text)?;
@@ -114,7 +114,7 @@ impl<K: Sink + Drop, C: Drop> JournalJob<K, C> {
     ) -> Result<(), OutOfMemory>
         requires { All IsWholeOrRemoved entries.items }
         ensures { OnOk result (SpellsOut entries.items
-            (part_of K.held K.faults self.old) (part_of K.held K.faults self.new)
+            (part_of K.told self.old) (part_of K.told self.new)
             (front_text self.old.setup self.old.entries) text.new.items) }
     {
         write_front(alloc, &self.setup, self.entries, text)?;
@@ -131,7 +131,7 @@ impl<K: Sink + Drop, C: Drop> JournalJob<K, C> {
     ) -> Result<(), OutOfMemory>
         requires { All IsWholeOrRemoved entries.items }
         ensures { OnOk result (SpellsOut entries.items
-            (part_of K.held K.faults self.old) (part_of K.held K.faults self.new)
+            (part_of K.told self.old) (part_of K.told self.new)
             text.old.items text.new.items) }
     {
         for entry in entries.iter_mut() {
@@ -149,7 +149,7 @@ impl<K: Sink + Drop, C: Drop> JournalJob<K, C> {
     ) -> Result<(), OutOfMemory>
         requires { IsWholeOrRemoved entry.old }
         ensures { OnOk result (SpellsOut (entry.old ∷ [])
-            (part_of K.held K.faults self.old) (part_of K.held K.faults self.new)
+            (part_of K.told self.old) (part_of K.told self.new)
             text.old.items text.new.items) }
     {
         let item = item_of(&mut self.kept, entry)?;
@@ -170,7 +170,7 @@ impl<K: Sink + Drop, C: Drop> JournalJob<K, C> {
         requires item { HasItem item.now entry.now }
         requires whole { IsWholeOrRemoved entry.now }
         ensures { OnOk result (GoesOut
-            (part_of K.held K.faults self.old) (part_of K.held K.faults self.new)
+            (part_of K.told self.old) (part_of K.told self.new)
             text.old.items (entry_text item.now entry.now) text.new.items) }
     {
         write_head(alloc, item, entry, text)?;
@@ -188,7 +188,7 @@ impl<K: Sink + Drop, C: Drop> JournalJob<K, C> {
         text: &mut Vec<u8>,
     ) -> Result<(), OutOfMemory>
         ensures { OnOk result (GoesOut
-            (part_of K.held K.faults self.old) (part_of K.held K.faults self.new)
+            (part_of K.told self.old) (part_of K.told self.new)
             text.old.items (metric_lines metrics.now) text.new.items) }
     {
         for metric in metrics {
@@ -199,9 +199,10 @@ impl<K: Sink + Drop, C: Drop> JournalJob<K, C> {
     }
 
     // Puts a text that has come to 1 MiB, all of it.
+    #[inline(always)]
     fn put_full(&mut self, text: &mut Vec<u8>) -> Result<(), OutOfMemory>
         ensures { OnOk result (GoesOut
-            (part_of K.held K.faults self.old) (part_of K.held K.faults self.new)
+            (part_of K.told self.old) (part_of K.told self.new)
             text.old.items [] text.new.items) }
     {
         if text.len() < FULL {
@@ -212,9 +213,10 @@ impl<K: Sink + Drop, C: Drop> JournalJob<K, C> {
     }
 
     // Puts a text, unless it is empty or a put failed before. It is empty then.
+    #[inline(never)]
     fn put_text(&mut self, text: &mut Vec<u8>) -> Result<(), OutOfMemory>
         ensures goes { OnOk result (GoesOut
-            (part_of K.held K.faults self.old) (part_of K.held K.faults self.new)
+            (part_of K.told self.old) (part_of K.told self.new)
             text.old.items [] text.new.items) }
         ensures all { OnOk result (text.new.items ≡ []) }
     {
@@ -251,8 +253,8 @@ fn empty(text: &mut Vec<u8>)
 // Puts the text of a part, unless it is empty or a put failed before, and says whether one failed.
 fn put_part<K: Sink>(sink: &mut K, failed: bool, text: &[u8]) -> Result<bool, OutOfMemory>
     ensures { IfOk result
-        (λ now. IsPartPut failed now text.now (K.held sink.old) (K.held sink.new) (K.faults sink.old)
-        (K.faults sink.new)) }
+        (λ now. IsPartPut failed now text.now (K.told sink.old).bytes (K.told sink.new).bytes (K.told sink.old).faults
+        (K.told sink.new).faults) }
 {
     if failed {
         return Ok(true);
@@ -344,8 +346,8 @@ pub fn note<K: Sink + Drop, C: Drop>(
     ensures noted { OnOk result (core.new ≡ after_cut core.old) }
     ensures stands { StillStands result core.new }
     ensures notes { OnOk result
-        (NotesRun core.old core.new (part_of K.held K.faults journal.old)
-        (part_of K.held K.faults journal.new)) }
+        (NotesRun core.old core.new (part_of K.told journal.old)
+        (part_of K.told journal.new)) }
 {
     match core.cut() {
         Ok(entries) => {

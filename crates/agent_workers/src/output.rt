@@ -69,7 +69,7 @@ impl Flush {
 
 /// Begins to count anew how many batches of each output failed.
 pub fn begin_anew<K: Sink + Drop, C: Drop>(outputs: &mut [OutJob<K, C>])
-    ensures fresh { outs_of K.held K.faults outputs.new ≡ map anew (outs_of K.held K.faults outputs.old) }
+    ensures fresh { outs_of K.told outputs.new ≡ map anew (outs_of K.told outputs.old) }
     ensures count { length outputs.new ≡ length outputs.old }
 {
     for job in outputs.iter_mut() {
@@ -99,7 +99,7 @@ fn send_next<K: Sink + Drop, C: Drop>(
         × (job.new.failed_since ≡ min (job.old.failed_since + 1) (2 ^ 32 - 1)) }
     ensures number { job.new.output ≡ job.old.output }
     ensures sends { OnOk result
-        (SendsAt core.old core.new (out_of K.held K.faults job.old) (out_of K.held K.faults job.new)) }
+        (SendsAt core.old core.new (out_of K.told job.old) (out_of K.told job.new)) }
 {
     let batch = match core.begin(job.output) {
         Ok(batch) => batch,
@@ -143,7 +143,7 @@ pub fn send_all<K: Sink + Drop, C: Drop>(
         job.old.failed_since job.new.failed_since) }
     ensures number { job.new.output ≡ job.old.output }
     ensures sends { OnOk result
-        (SendsAt core.old core.new (out_of K.held K.faults job.old) (out_of K.held K.faults job.new)) }
+        (SendsAt core.old core.new (out_of K.told job.old) (out_of K.told job.new)) }
 {
     for batch in 0..u64::MAX {
         match send_next(alloc, core, text, job)? {
@@ -174,19 +174,19 @@ pub fn send_each<K: Sink + Drop, C: Drop>(
     outputs: &mut [OutJob<K, C>],
 ) -> Result<Flush, OutOfMemory>
     requires ready { IsReady core.old }
-    requires outputs { AreOutputs (length core.old.setup.outputs) (outs_of K.held K.faults outputs.old) }
+    requires outputs { AreOutputs (length core.old.setup.outputs) (outs_of K.told outputs.old) }
     requires routed { core.old.raw ≡ [] }
     requires stands { HasJournal core.old }
     ensures ready { OnOk result (IsReady core.new) }
     ensures kept { OnOk result (IsSentOn core.old core.new) }
     ensures stands { StillStands result core.new }
     ensures outputs { OnOk result
-        (AreOutputs (length core.old.setup.outputs) (outs_of K.held K.faults outputs.new)) }
+        (AreOutputs (length core.old.setup.outputs) (outs_of K.told outputs.new)) }
     ensures swept { IfOk result (λ sweep. HasSwept sweep core.old core.new
-        (outs_of K.held K.faults outputs.old) (outs_of K.held K.faults outputs.new)) }
+        (outs_of K.told outputs.old) (outs_of K.told outputs.new)) }
     ensures count { length outputs.new ≡ length outputs.old }
-    ensures sends { OnOk result (SendsOn core.old core.new (outs_of K.held K.faults outputs.old)
-        (outs_of K.held K.faults outputs.new)) }
+    ensures sends { OnOk result (SendsOn core.old core.new (outs_of K.told outputs.old)
+        (outs_of K.told outputs.new)) }
 {
     let mut sweep = Flush {
         emptied: true,
@@ -220,7 +220,7 @@ pub fn send_rest<K: Sink + Drop, C: Drop>(
     final_tries: u32,
 ) -> Result<(), OutOfMemory>
     requires ready { IsReady core.old }
-    requires outputs { AreOutputs (length core.old.setup.outputs) (outs_of K.held K.faults outputs.old) }
+    requires outputs { AreOutputs (length core.old.setup.outputs) (outs_of K.told outputs.old) }
     requires routed { core.old.raw ≡ [] }
     requires stands { HasJournal core.old }
     requires some { 1 ≤ final_tries }
@@ -228,12 +228,12 @@ pub fn send_rest<K: Sink + Drop, C: Drop>(
     ensures kept { OnOk result (IsSentOn core.old core.new) }
     ensures stands { StillStands result core.new }
     ensures outputs { OnOk result
-        (AreOutputs (length core.old.setup.outputs) (outs_of K.held K.faults outputs.new)) }
+        (AreOutputs (length core.old.setup.outputs) (outs_of K.told outputs.new)) }
     ensures rest { OnOk result
-        (AreLeft final_tries core.new (outs_of K.held K.faults outputs.new)) }
+        (AreLeft final_tries core.new (outs_of K.told outputs.new)) }
     ensures count { length outputs.new ≡ length outputs.old }
-    ensures sends { OnOk result (SendsOn core.old core.new (outs_of K.held K.faults outputs.old)
-        (outs_of K.held K.faults outputs.new)) }
+    ensures sends { OnOk result (SendsOn core.old core.new (outs_of K.told outputs.old)
+        (outs_of K.told outputs.new)) }
 {
     let mut tries = 0;
     for _repeat in 0..u64::MAX {

@@ -4,9 +4,9 @@ ghost use Rattle.agent_base.specs.Hand.{empty_hand};
 ghost use Rattle.agent_config.specs.Sound.{IsSound};
 ghost use Rattle.agent_workers.specs.Inputs.{in_of, ins_of};
 ghost use Rattle.agent_workers.specs.Noted.{part_of};
-ghost use Rattle.agent_workers.specs.Opened.{all_carried, all_timed, carried_of, timed_of};
 ghost use Rattle.agent_workers.specs.Opened.{fresh_in, fresh_ins, fresh_out, fresh_outs};
-ghost use Rattle.agent_workers.specs.Opened.{conf_sizes, empty_hands, in_carried, out_carried, IsMadeOf, IsNewCore, Timed};
+ghost use Rattle.agent_base.specs.Carried.{Timed};
+ghost use Rattle.agent_workers.specs.Opened.{conf_sizes, empty_hands, in_carried, out_carried, IsMadeOf, IsNewCore};
 ghost use Rattle.agent_workers.specs.Output.{out_of, outs_of};
 ghost use Rattle.formats.specs.Reader.{kind_of};
 ghost use Rattle.agent_workers.specs.PipeSetup.{run_setup, journal_setup_of};
@@ -127,8 +127,8 @@ fn in_job<'a, S: Source + Drop, C: Clock + Drop>(
 ) -> InJob<'a, S, C>
     requires few { input < 2 ^ 32 }
     requires none_read { pieces ≡ empty_hand (kind_of conf.now.format) }
-    ensures { in_of S.left S.faults C.moments C.place result
-        ≡ fresh_in config.now input conf.now (carried_of S.left S.faults source) (timed_of C.moments C.place clock) }
+    ensures { in_of S.told C.told result
+        ≡ fresh_in config.now input conf.now (S.told source) (C.told clock) }
 {
     InJob {
         input: input as u32,
@@ -159,8 +159,8 @@ fn fill_inputs<'a, S: Source + Drop, C: Clock + Drop>(
     requires clocks { vec_len clocks.old ≡ length config.now.inputs }
     requires none { jobs.old.items ≡ [] }
     requires room { length config.now.inputs ≤ vec_capacity jobs.old }
-    ensures made { ins_of S.left S.faults C.moments C.place jobs.new.items ≡ fresh_ins config.now 0 config.now.inputs
-        (all_carried S.left S.faults sources.old.items) (all_timed C.moments C.place clocks.old.items) }
+    ensures made { ins_of S.told C.told jobs.new.items ≡ fresh_ins config.now 0 config.now.inputs
+        (map S.told sources.old.items) (map C.told clocks.old.items) }
     ensures left { sources.new.items ≡ [] }
     ensures room_left { vec_capacity sources.new ≡ vec_capacity sources.old }
 {
@@ -181,7 +181,7 @@ fn out_job<K: Sink + Drop, C: Drop>(
     clock: C,
 ) -> OutJob<K, C>
     requires few { output < 2 ^ 32 }
-    ensures { out_of K.held K.faults result ≡ fresh_out output conf.now (carried_of K.held K.faults sink) }
+    ensures { out_of K.told result ≡ fresh_out output conf.now (K.told sink) }
 {
     OutJob {
         output: output as u32,
@@ -205,8 +205,8 @@ fn fill_outputs<K: Sink + Drop, C: Drop>(
     requires clocks { vec_len clocks.old ≡ length config.now.outputs }
     requires none { jobs.old.items ≡ [] }
     requires room { length config.now.outputs ≤ vec_capacity jobs.old }
-    ensures made { outs_of K.held K.faults jobs.new.items
-        ≡ fresh_outs 0 config.now.outputs (all_carried K.held K.faults sinks.old.items) }
+    ensures made { outs_of K.told jobs.new.items
+        ≡ fresh_outs 0 config.now.outputs (map K.told sinks.old.items) }
     ensures left { sinks.new.items ≡ [] }
     ensures room_left { vec_capacity sinks.new ≡ vec_capacity sinks.old }
 {
@@ -235,11 +235,11 @@ pub fn set_up<'a, S: Source + Drop, K: Sink + Drop, C: Clock + Drop>(
     requires in_clocks { vec_len clocks.inputs ≡ length config.now.inputs }
     requires sinks { vec_len sinks.old ≡ length config.now.outputs }
     requires out_clocks { vec_len clocks.outputs ≡ length config.now.outputs }
-    requires first { All (λ (clock : Timed). clock.place ≡ 0) (all_timed C.moments C.place clocks.inputs.items) }
-    ensures made { IfOk result (λ made. IsMadeOf config.now start (all_carried S.left S.faults sources.old.items)
-        (all_timed C.moments C.place clocks.inputs.items) (all_carried K.held K.faults sinks.old.items) made.0
-        (ins_of S.left S.faults C.moments C.place made.1.inputs.items)
-        (outs_of K.held K.faults made.1.outputs.items) (part_of K.held K.faults made.1.journal)) }
+    requires first { All (λ (clock : Timed). clock.place ≡ 0) (map C.told clocks.inputs.items) }
+    ensures made { IfOk result (λ made. IsMadeOf config.now start (map S.told sources.old.items)
+        (map C.told clocks.inputs.items) (map K.told sinks.old.items) made.0
+        (ins_of S.told C.told made.1.inputs.items)
+        (outs_of K.told made.1.outputs.items) (part_of K.told made.1.journal)) }
     ensures journal { IfOk result (λ made. made.1.journal.sink ≡ journal) }
     ensures timer { IfOk result (λ made. made.1.timer ≡ clocks.timer) }
     ensures outs { IfOk result (λ made. made.1.proc.outs.now ≡ config.now.outputs) }
@@ -292,8 +292,8 @@ fn empty_inputs<S: Source + Drop, C: Clock + Drop>(
 )
     requires none { sources.old.items ≡ [] }
     requires room { vec_len jobs ≤ vec_capacity sources.old }
-    ensures { all_carried S.left S.faults sources.new.items
-        ≡ map in_carried (ins_of S.left S.faults C.moments C.place jobs.entry.items) }
+    ensures { map S.told sources.new.items
+        ≡ map in_carried (ins_of S.told C.told jobs.entry.items) }
 {
     for _input in 0..jobs.len() {
         let job = jobs.remove(0);
@@ -305,7 +305,7 @@ fn empty_inputs<S: Source + Drop, C: Clock + Drop>(
 fn empty_outputs<K: Sink + Drop, C: Drop>(mut jobs: Vec<OutJob<K, C>>, sinks: &mut Vec<K>)
     requires none { sinks.old.items ≡ [] }
     requires room { vec_len jobs ≤ vec_capacity sinks.old }
-    ensures { all_carried K.held K.faults sinks.new.items ≡ map out_carried (outs_of K.held K.faults jobs.items) }
+    ensures { map K.told sinks.new.items ≡ map out_carried (outs_of K.told jobs.items) }
 {
     for _output in 0..jobs.len() {
         let job = jobs.remove(0);
@@ -321,10 +321,10 @@ impl<'a, S: Source + Drop, K: Sink + Drop, C: Clock + Drop> Parts<'a, S, K, C> {
         requires source_room { vec_len self.inputs ≤ vec_capacity sources.old }
         requires no_sink { sinks.old.items ≡ [] }
         requires sink_room { vec_len self.outputs ≤ vec_capacity sinks.old }
-        ensures sources { all_carried S.left S.faults sources.new.items
-            ≡ map in_carried (ins_of S.left S.faults C.moments C.place self.entry.inputs.items) }
-        ensures sinks { all_carried K.held K.faults sinks.new.items
-            ≡ map out_carried (outs_of K.held K.faults self.entry.outputs.items) }
+        ensures sources { map S.told sources.new.items
+            ≡ map in_carried (ins_of S.told C.told self.entry.inputs.items) }
+        ensures sinks { map K.told sinks.new.items
+            ≡ map out_carried (outs_of K.told self.entry.outputs.items) }
         ensures journal { result ≡ self.entry.journal.sink }
     {
         let Parts {

@@ -9,15 +9,16 @@ ghost use Rattle.pipeline_core.specs.Steps.{after_cut};
 ghost use Rattle.agent_workers.specs.Finished.{FinishesSo};
 ghost use Rattle.agent_workers.specs.Inputs.{ins_of, AreInputs, AreSameInputs, AreOut, OneIsFull};
 ghost use Rattle.agent_workers.specs.Noted.{part_of, EndsOn};
-ghost use Rattle.agent_workers.specs.Opened.{all_carried, all_timed, config_ins, config_outs, RanBy, Timed};
+ghost use Rattle.agent_base.specs.Carried.{Timed};
+ghost use Rattle.agent_workers.specs.Opened.{config_ins, config_outs, RanBy};
 ghost use Rattle.agent_workers.specs.Output.{outs_of, AreOutputs};
-ghost use Rattle.agent_workers.specs.Progress.{Beginning, Surroundings, Progress, RunsOn};
-ghost use Rattle.agent_workers.specs.Rules.{views_by};
+ghost use Rattle.agent_workers.specs.Progress.{Beginning, Surroundings, Progress, RoutesOn, RunsOn};
+ghost use Rattle.agent_workers.specs.Rules.{work_by};
 ghost use Rattle.agent_workers.specs.Run.{change};
-ghost use Rattle.agent_workers.specs.Running.{IsReady, HasJournal, StillStands, AreLeft, IsLeftOver};
+ghost use Rattle.agent_workers.specs.Running.{IsReady, IsRoutable, HasJournal, StillStands, AreLeft, IsLeftOver};
 
-use crate::input::{InJob, are_out, gather_each, has_fault, has_limit};
-use crate::item::route_all;
+use crate::input::{InJob, are_out, gather_each, is_one_in};
+use crate::item::{route_all, route_some};
 use crate::journal::{JournalJob, last_entries, note};
 use crate::output::{OutJob, begin_anew, send_each, send_rest};
 use crate::parts::{Clocks, Opened, Parts, set_up};
@@ -56,33 +57,33 @@ fn rounds<S: Source + Drop, K: Sink + Drop, C: Clock + Drop>(
 ) -> Result<(), OutOfMemory>
     requires ready { IsReady core.old }
     requires confs { length confs.now ≡ length core.old.setup.outputs }
-    requires inputs { AreInputs (length core.old.setup.inputs) core.old.ended (ins_of S.left S.faults C.moments C.place inputs.old) }
-    requires outputs { AreOutputs (length core.old.setup.outputs) (outs_of K.held K.faults outputs.old) }
+    requires inputs { AreInputs (length core.old.setup.inputs) core.old.ended (ins_of S.told C.told inputs.old) }
+    requires outputs { AreOutputs (length core.old.setup.outputs) (outs_of K.told outputs.old) }
     requires going { core.old.stopped ≡ false }
     requires stands { HasJournal core.old }
     ensures ready { OnOk result (IsReady core.new) }
     ensures going { OnOk result (core.new.stopped ≡ false) }
     ensures setup { OnOk result (core.new.setup ≡ core.old.setup) }
     ensures inputs { OnOk result
-        (AreInputs (length core.old.setup.inputs) core.new.ended (ins_of S.left S.faults C.moments C.place inputs.new)) }
+        (AreInputs (length core.old.setup.inputs) core.new.ended (ins_of S.told C.told inputs.new)) }
     ensures outputs { OnOk result
-        (AreOutputs (length core.old.setup.outputs) (outs_of K.held K.faults outputs.new)) }
+        (AreOutputs (length core.old.setup.outputs) (outs_of K.told outputs.new)) }
     ensures over { OnOk result
-        (OneIsFull core.new.gathered (ins_of S.left S.faults C.moments C.place inputs.new) ⊎ AreOut (ins_of S.left S.faults C.moments C.place inputs.new)) }
+        (OneIsFull core.new.gathered (ins_of S.told C.told inputs.new) ⊎ AreOut (ins_of S.told C.told inputs.new)) }
     ensures stands { StillStands result core.new }
-    ensures runs { OnOk result (RunsOn (views_by confs.now) core.old core.new (ins_of S.left S.faults C.moments C.place inputs.old)
-        (ins_of S.left S.faults C.moments C.place inputs.new)
-        (outs_of K.held K.faults outputs.old) (outs_of K.held K.faults outputs.new)
-        (part_of K.held K.faults journal.old) (part_of K.held K.faults journal.new)) }
-    ensures same { OnOk result (AreSameInputs (ins_of S.left S.faults C.moments C.place inputs.old)
-        (ins_of S.left S.faults C.moments C.place inputs.new)) }
+    ensures runs { OnOk result (RunsOn (work_by confs.now) core.old core.new (ins_of S.told C.told inputs.old)
+        (ins_of S.told C.told inputs.new)
+        (outs_of K.told outputs.old) (outs_of K.told outputs.new)
+        (part_of K.told journal.old) (part_of K.told journal.new)) }
+    ensures same { OnOk result (AreSameInputs (ins_of S.told C.told inputs.old)
+        (ins_of S.told C.told inputs.new)) }
     ensures in_count { length inputs.new ≡ length inputs.old }
     ensures count { length outputs.new ≡ length outputs.old }
 {
     for _round in 0..u64::MAX {
         let full = gather_each(alloc, core, inputs)?;
         begin_anew(outputs);
-        route_all(alloc, core, confs)?;
+        route_noted(alloc, core, text, confs, journal)?;
         send_each(alloc, core, text, outputs)?;
         note(alloc, core, text, journal)?;
         if is_over(full, inputs) {
@@ -92,10 +93,37 @@ fn rounds<S: Source + Drop, K: Sink + Drop, C: Clock + Drop>(
     Err(OutOfMemory)
 }
 
+/// Routes all raw items, and puts the journal's entries each time that many were routed: so they needn't all be held.
+fn route_noted<K: Sink + Drop, C: Drop>(
+    alloc: Global,
+    core: &mut Core,
+    text: &mut Vec<u8>,
+    confs: &[OutputConf],
+    journal: &mut JournalJob<K, C>,
+) -> Result<(), OutOfMemory>
+    requires ready { IsReady core.old }
+    requires outputs { length confs.now ≡ length core.old.setup.outputs }
+    requires stands { HasJournal core.old }
+    ensures ready { OnOk result (IsReady core.new) }
+    ensures kept { OnOk result (IsRoutable core.old core.new) }
+    ensures none { OnOk result (core.new.raw ≡ []) }
+    ensures stands { StillStands result core.new }
+    ensures routes { OnOk result (RoutesOn (work_by confs.now) core.old core.new
+        (part_of K.told journal.old) (part_of K.told journal.new)) }
+{
+    for _part in 0..u64::MAX {
+        if !route_some(alloc, core, confs)? {
+            return Ok(());
+        }
+        note(alloc, core, text, journal)?;
+    }
+    Err(OutOfMemory)
+}
+
 /// Whether no round follows: the run is full, or each input is read no more and holds nothing.
 fn is_over<S: Source + Drop, C: Clock + Drop>(full: bool, inputs: &[InJob<'_, S, C>]) -> bool
-    ensures over { result ≡ true → (full ≡ true) ⊎ AreOut (ins_of S.left S.faults C.moments C.place inputs.now) }
-    ensures on { result ≡ false → (full ≡ true) ⊎ AreOut (ins_of S.left S.faults C.moments C.place inputs.now) → ⊥ }
+    ensures over { result ≡ true → (full ≡ true) ⊎ AreOut (ins_of S.told C.told inputs.now) }
+    ensures on { result ≡ false → (full ≡ true) ⊎ AreOut (ins_of S.told C.told inputs.now) → ⊥ }
 {
     full || are_out(inputs)
 }
@@ -112,7 +140,7 @@ fn stop_run<K: Sink + Drop, C: Drop>(
 ) -> Result<(), OutOfMemory>
     requires ready { IsReady core.old }
     requires confs { length confs.now ≡ length core.old.setup.outputs }
-    requires outputs { AreOutputs (length core.old.setup.outputs) (outs_of K.held K.faults outputs.old) }
+    requires outputs { AreOutputs (length core.old.setup.outputs) (outs_of K.told outputs.old) }
     requires going { core.old.stopped ≡ false }
     requires stands { HasJournal core.old }
     requires some { 1 ≤ final_tries }
@@ -122,17 +150,17 @@ fn stop_run<K: Sink + Drop, C: Drop>(
     ensures gathered { OnOk result (core.new.gathered ≡ core.old.gathered) }
     ensures none_raw { OnOk result (core.new.raw ≡ []) }
     ensures rest { OnOk result
-        (AreLeft final_tries core.new (outs_of K.held K.faults outputs.new)) }
+        (AreLeft final_tries core.new (outs_of K.told outputs.new)) }
     ensures outputs { OnOk result
-        (AreOutputs (length core.old.setup.outputs) (outs_of K.held K.faults outputs.new)) }
+        (AreOutputs (length core.old.setup.outputs) (outs_of K.told outputs.new)) }
     ensures stands { StillStands result core.new }
     ensures count { length outputs.new ≡ length outputs.old }
     ensures goes { OnOk result ((start : Beginning) (now : Surroundings)
-        → Progress (record start { views = views_by confs.now }) core.old
-        (record now { outs = outs_of K.held K.faults outputs.old }) →
-        Progress (record start { views = views_by confs.now }) core.new
+        → Progress (record start { work = work_by confs.now }) core.old
+        (record now { outs = outs_of K.told outputs.old }) →
+        Progress (record start { work = work_by confs.now }) core.new
         (record now {
-          outs = outs_of K.held K.faults outputs.new;
+          outs = outs_of K.told outputs.new;
           counted_at = now.counted_at ++ int_max moment
               (last_of start.setup.start now.counted_at) ∷ [];
         })) }
@@ -172,8 +200,8 @@ fn end_journal<K: Sink + Drop, C: Drop>(
     ensures account { IfOk result (λ end. end.0.items ≡ account_text core.old.numbers) }
     ensures cut { OnOk result (core.new ≡ after_cut core.old) }
     ensures ends { OnOk result
-        (EndsOn core.old.stored (account_text core.old.numbers) (part_of K.held K.faults journal.old)
-        (part_of K.held K.faults journal.new)) }
+        (EndsOn core.old.stored (account_text core.old.numbers) (part_of K.told journal.old)
+        (part_of K.told journal.new)) }
 {
     let mut account = Vec::new(alloc);
     core.account().text(&mut account)?;
@@ -198,22 +226,22 @@ fn finish_jobs<S: Source + Drop, K: Sink + Drop, C: Clock + Drop>(
     requires few { length core.old.setup.outputs ≤ 16 }
     requires ready { IsReady core.old }
     requires confs { length confs.now ≡ length core.old.setup.outputs }
-    requires inputs { AreInputs (length core.old.setup.inputs) core.old.ended (ins_of S.left S.faults C.moments C.place inputs.old) }
-    requires outputs { AreOutputs (length core.old.setup.outputs) (outs_of K.held K.faults outputs.old) }
+    requires inputs { AreInputs (length core.old.setup.inputs) core.old.ended (ins_of S.told C.told inputs.old) }
+    requires outputs { AreOutputs (length core.old.setup.outputs) (outs_of K.told outputs.old) }
     requires going { core.old.stopped ≡ false }
     requires stands { HasJournal core.old }
     requires some { 1 ≤ final_tries }
     ensures in_count { length inputs.new ≡ length inputs.old }
     ensures count { length outputs.new ≡ length outputs.old }
-    ensures same { OnOk result (AreSameInputs (ins_of S.left S.faults C.moments C.place inputs.old)
-        (ins_of S.left S.faults C.moments C.place inputs.new)) }
+    ensures same { OnOk result (AreSameInputs (ins_of S.told C.told inputs.old)
+        (ins_of S.told C.told inputs.new)) }
     ensures finished { IfOk result
-        (λ ending. FinishesSo (views_by confs.now) final_tries ending core.old core.new
-        (ins_of S.left S.faults C.moments C.place inputs.old)
-        (ins_of S.left S.faults C.moments C.place inputs.new)
-        (outs_of K.held K.faults outputs.old) (outs_of K.held K.faults outputs.new)
-        (part_of K.held K.faults journal.old) (part_of K.held K.faults journal.new)
-        (record { moments = C.moments timer.old; before = C.place timer.old; after = C.place timer.new })) }
+        (λ ending. FinishesSo (work_by confs.now) final_tries ending core.old core.new
+        (ins_of S.told C.told inputs.old)
+        (ins_of S.told C.told inputs.new)
+        (outs_of K.told outputs.old) (outs_of K.told outputs.new)
+        (part_of K.told journal.old) (part_of K.told journal.new)
+        (record { moments = (C.told timer.old).moments; before = (C.told timer.old).place; after = (C.told timer.new).place })) }
 {
     rounds(alloc, core, text, inputs, confs, outputs, journal)?;
     let moment = timer.now();
@@ -221,9 +249,9 @@ fn finish_jobs<S: Source + Drop, K: Sink + Drop, C: Clock + Drop>(
     let (account, left) = end_journal(alloc, core, text, outputs.len() as u32, journal)?;
     Ok(Ending {
         account,
-        limit: has_limit(inputs),
+        limit: is_one_in(inputs, InState::LimitReached),
         journal_fault: journal.failed,
-        read_fault: has_fault(inputs),
+        read_fault: is_one_in(inputs, InState::Faulted),
         left,
     })
 }
@@ -242,27 +270,27 @@ pub fn finish<S: Source + Drop, K: Sink + Drop, C: Clock + Drop>(
     requires ready { IsReady core.old }
     requires confs { length parts.old.proc.outs.now ≡ length core.old.setup.outputs }
     requires inputs { AreInputs (length core.old.setup.inputs) core.old.ended
-        (ins_of S.left S.faults C.moments C.place parts.old.inputs.items) }
+        (ins_of S.told C.told parts.old.inputs.items) }
     requires outputs { AreOutputs (length core.old.setup.outputs)
-        (outs_of K.held K.faults parts.old.outputs.items) }
+        (outs_of K.told parts.old.outputs.items) }
     requires going { core.old.stopped ≡ false }
     requires stands { HasJournal core.old }
     requires some { 1 ≤ parts.old.final_tries }
-    ensures same { OnOk result (AreSameInputs (ins_of S.left S.faults C.moments C.place parts.old.inputs.items)
-        (ins_of S.left S.faults C.moments C.place parts.new.inputs.items)) }
+    ensures same { OnOk result (AreSameInputs (ins_of S.told C.told parts.old.inputs.items)
+        (ins_of S.told C.told parts.new.inputs.items)) }
     ensures in_count { vec_len parts.new.inputs ≡ vec_len parts.old.inputs }
     ensures count { vec_len parts.new.outputs ≡ vec_len parts.old.outputs }
     ensures finished { IfOk result
-        (λ ending. FinishesSo (views_by parts.old.proc.outs.now) parts.old.final_tries ending core.old core.new
-        (ins_of S.left S.faults C.moments C.place parts.old.inputs.items)
-        (ins_of S.left S.faults C.moments C.place parts.new.inputs.items)
-        (outs_of K.held K.faults parts.old.outputs.items)
-        (outs_of K.held K.faults parts.new.outputs.items)
-        (part_of K.held K.faults parts.old.journal) (part_of K.held K.faults parts.new.journal)
+        (λ ending. FinishesSo (work_by parts.old.proc.outs.now) parts.old.final_tries ending core.old core.new
+        (ins_of S.told C.told parts.old.inputs.items)
+        (ins_of S.told C.told parts.new.inputs.items)
+        (outs_of K.told parts.old.outputs.items)
+        (outs_of K.told parts.new.outputs.items)
+        (part_of K.told parts.old.journal) (part_of K.told parts.new.journal)
         (record {
-          moments = C.moments parts.old.timer;
-          before = C.place parts.old.timer;
-          after = C.place parts.new.timer;
+          moments = (C.told parts.old.timer).moments;
+          before = (C.told parts.old.timer).place;
+          after = (C.told parts.new.timer).place;
         })) }
 {
     let mut text = Vec::new(alloc);
@@ -296,15 +324,15 @@ pub fn run<S: Source + Drop, K: Sink + Drop, C: Clock + Drop>(
     requires in_clocks { vec_len clocks.inputs ≡ length config.now.inputs }
     requires sinks { vec_len opened.outputs ≡ length config.now.outputs }
     requires out_clocks { vec_len clocks.outputs ≡ length config.now.outputs }
-    requires first { All (λ (clock : Timed). clock.place ≡ 0) (all_timed C.moments C.place clocks.inputs.items) }
-    requires timer_first { C.place clocks.timer ≡ 0 }
+    requires first { All (λ (clock : Timed). clock.place ≡ 0) (map C.told clocks.inputs.items) }
+    requires timer_first { (C.told clocks.timer).place ≡ 0 }
     ensures ran { IfOk result.1 (λ ending. RanBy config.now ending
-        (config_ins config.now config.now.inputs (all_carried S.left S.faults opened.inputs.items)
-        (all_carried S.left S.faults result.0.inputs.items) (all_timed C.moments C.place clocks.inputs.items))
-        (config_outs config.now.outputs (all_carried K.held K.faults opened.outputs.items)
-        (all_carried K.held K.faults result.0.outputs.items))
-        (change (K.held opened.journal) (K.held result.0.journal) (K.faults opened.journal) (K.faults result.0.journal))
-        (C.moments clocks.timer)) }
+        (config_ins config.now config.now.inputs (map S.told opened.inputs.items)
+        (map S.told result.0.inputs.items) (map C.told clocks.inputs.items))
+        (config_outs config.now.outputs (map K.told opened.outputs.items)
+        (map K.told result.0.outputs.items))
+        (change (K.told opened.journal).bytes (K.told result.0.journal).bytes (K.told opened.journal).faults (K.told result.0.journal).faults)
+        (C.told clocks.timer).moments) }
     ensures in_count { length result.0.inputs.items ≡ length opened.inputs.items }
     ensures count { length result.0.outputs.items ≡ length opened.outputs.items }
 {

@@ -83,7 +83,11 @@ impl<T: Drop> Seq<T> {
                 return Ok(());
             }
         }
-        insert_to_few(&mut self.kept, alloc, at, item)
+        if has_none(&self.kept) {
+            self.kept = Kept::One([item]);
+            return Ok(());
+        }
+        insert_to_some(&mut self.kept, alloc, at, item)
     }
 
     /// One more element, behind the others. After an error the list is as before.
@@ -98,7 +102,7 @@ impl<T: Drop> Seq<T> {
             }
         }
         let end = self.as_slice().len();
-        insert_to_few(&mut self.kept, alloc, end, item)
+        self.insert(alloc, end, item)
     }
 
     /// Puts an element in the place of another.
@@ -176,24 +180,6 @@ fn take_all<T: Drop>(kept: &mut Kept<T>, alloc: Global) -> Result<Vec<T>, OutOfM
             }
         },
     }
-}
-
-/// One more element, at a place, where there is none, or one that stands in place. After an error all is as before.
-fn insert_to_few<T: Drop>(
-    kept: &mut Kept<T>,
-    alloc: Global,
-    at: usize,
-    item: T,
-) -> Result<(), OutOfMemory>
-    requires { at ≤ length (kept_items kept.old) }
-    ensures ok { OnOk result (kept_items kept.new ≡ insert (kept_items kept.old) at item) }
-    ensures err { OnErr result (kept_items kept.new ≡ kept_items kept.old) }
-{
-    if has_none(kept) {
-        *kept = Kept::One([item]);
-        return Ok(());
-    }
-    insert_to_some(kept, alloc, at, item)
 }
 
 /// One more element, at a place, where the others have to be taken to memory. After an error all is as before.

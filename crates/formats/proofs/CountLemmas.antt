@@ -1,8 +1,7 @@
 -- What is kept of metrics, one by one.
 use Rattle.std.proofs.Common.{◌≡◌, ◌+◌, List, [], ◌∷◌, ◌++◌, refl, sym, ap, ◌∙◌, arith, append_assoc, append-nil}
-use Rattle.std.specs.Prelude.{if◌then◌else◌, map}
+use Rattle.std.specs.Prelude.{if◌then◌else◌}
 use Rattle.std.specs.List.{filter_map}
-use Rattle.std.proofs.lemmas.List.{map-id}
 use Rattle.std.proofs.lemmas.List.Elements.{filter_map-append}
 use Rattle.std.proofs.lemmas.List.Sums.{sum_by-append}
 use Rattle.metric.specs.declared.metric.Content.{Content}
@@ -24,7 +23,3 @@ counts_more rule done metric first old new h k = record {
       ∙ append_assoc first.metrics.items (kept rule done) (kept rule (metric ∷ []))
       ∙ ap (λ (ms : List Content). first.metrics.items ++ ms) (sym (filter_map-append (keeps rule) done (metric ∷ [])));
 }
-
--- all items of a list were given
-pub all_yielded : (yielded all : List Content) → map (λ (x : Content). x) yielded ≡ all → yielded ≡ all
-all_yielded yielded all e = sym (map-id yielded) ∙ e

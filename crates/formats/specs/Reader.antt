@@ -16,7 +16,7 @@ use Rattle.openmetrics_text.specs.declared.exposition.Exposition.{Exposition}
 use Rattle.statsd_text.specs.Reading as statsd
 use Rattle.metric.specs.Pairs.{with_all_missing}
 use Rattle.metric.specs.declared.metric.Content.{Content}
-use Rattle.metric_filter.specs.Filter.{filtered}
+use Rattle.metric_filter.specs.Filter.{applied}
 use Rattle.metric_filter.specs.declared.rules.FilterRules.{FilterRules}
 use Rattle.formats.specs.declared.reading.ReadRule.{ReadRule}
 
@@ -87,7 +87,7 @@ FitsGather rule count = count ≤ rule.most * most_said rule.format
 
 -- a filter keeps its result for a metric
 abbrev pub in_rule : InFormat → List (List ℕ × List ℕ) → FilterRules → ℕ → InRule
-in_rule format globals filter most = record { format = format; globals = globals; keep = filtered filter; most = most }
+in_rule format globals filter most = record { format = format; globals = globals; keep = applied filter; most = most }
 
 -- line protocol with no global tags, of which each metric is kept
 abbrev pub plain_rule : ℕ → InRule

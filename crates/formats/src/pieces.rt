@@ -54,19 +54,19 @@ fn read_next<S: Source>(
     requires cut_by { pieces.old.kind ≡ kind_of rule.now.format.now }
     ensures next { IfOk result
         (λ state. ReadsNext (rule_view rule.now) state moment group.old group.new pieces.old pieces.new
-        (S.left source.old) (S.left source.new)) }
+        (S.told source.old).bytes (S.told source.new).bytes) }
     ensures all { IfOk result (λ state. state ≡ InState.Ended
-        → IsAllRead (S.left source.old) (S.left source.new) pieces.new) }
+        → IsAllRead (S.told source.old).bytes (S.told source.new).bytes pieces.new) }
     ensures failed { IfOk result (λ state. state ≡ InState.Faulted
-        → Rose (S.faults source.old) (S.faults source.new)) }
+        → Rose (S.told source.old).faults (S.told source.new).faults) }
     ensures limit { IfOk result (λ state. state ≡ InState.LimitReached → pieces.new.taken ≡ 2 ^ 40) }
     ensures below { IfOk result (λ state. (state ≡ InState.LimitReached → ⊥) → pieces.new.taken < 2 ^ 40) }
     ensures one { IfOk result (λ state. state ≡ InState.Faulted → length (to_come pieces.new []) ≤ 1) }
     ensures line { IfOk result (λ state. state ≡ InState.Faulted
         → length (to_come pieces.new (10 ∷ [])) ≤ 1) }
-    ensures counted { Told (S.left source.old) (S.left source.new)
+    ensures counted { Told (S.told source.old).bytes (S.told source.new).bytes
         (λ xs ys. pieces.old.taken + length xs ≡ pieces.new.taken + length ys) }
-    ensures faults { S.faults source.old ≤ S.faults source.new }
+    ensures faults { (S.told source.old).faults ≤ (S.told source.new).faults }
     ensures kind { pieces.new.kind ≡ pieces.old.kind }
 {
     match pieces.next(source) {
@@ -104,19 +104,19 @@ pub fn read_group<S: Source>(
     requires filled { All IsFilledTag rule.now.globals.now }
     requires cut_by { pieces.old.kind ≡ kind_of rule.now.format.now }
     ensures reads { IfOk result
-        (λ answer. ReadsGroup (rule_view rule.now) moment answer.0 answer.1 pieces.old pieces.new (S.left source.old)
-        (S.left source.new)) }
+        (λ answer. ReadsGroup (rule_view rule.now) moment answer.0 answer.1 pieces.old pieces.new (S.told source.old).bytes
+        (S.told source.new).bytes) }
     ensures failed { IfOk result (λ answer. answer.1 ≡ InState.Faulted
-        → Rose (S.faults source.old) (S.faults source.new)) }
+        → Rose (S.told source.old).faults (S.told source.new).faults) }
     ensures limit { IfOk result (λ answer. answer.1 ≡ InState.LimitReached → pieces.new.taken ≡ 2 ^ 40) }
     ensures below { IfOk result (λ answer. (answer.1 ≡ InState.LimitReached → ⊥)
         → pieces.new.taken < 2 ^ 40) }
     ensures one { IfOk result (λ answer. answer.1 ≡ InState.Faulted → length (to_come pieces.new []) ≤ 1) }
     ensures line { IfOk result (λ answer. answer.1 ≡ InState.Faulted
         → length (to_come pieces.new (10 ∷ [])) ≤ 1) }
-    ensures counted { Told (S.left source.old) (S.left source.new)
+    ensures counted { Told (S.told source.old).bytes (S.told source.new).bytes
         (λ xs ys. pieces.old.taken + length xs ≡ pieces.new.taken + length ys) }
-    ensures faults { S.faults source.old ≤ S.faults source.new }
+    ensures faults { (S.told source.old).faults ≤ (S.told source.new).faults }
     ensures kind { OnOk result (pieces.new.kind ≡ pieces.old.kind) }
 {
     let mut group = Group::new(alloc, rule.most)?;

@@ -1,18 +1,13 @@
 //! What the pieces of an input say, and what is kept of it.
 ghost use Rattle.std.specs.Prelude.{◌≡◌, ◌<◌, ◌≤◌, ◌^◌, ◌∷◌, ◌+◌, ◌-◌, ℤ, [], false, All, IfOk, OnOk};
 ghost use Rattle.agent_base.specs.Cut.{TooLong, Whole};
-ghost use Rattle.graphite_text.specs.Reading as graphite;
-ghost use Rattle.line_proto.specs.Reading.{reading};
-ghost use Rattle.openmetrics_text.specs.Reading as openmetrics;
-ghost use Rattle.statsd_text.specs.Reading as statsd;
 ghost use Rattle.metric.specs.Metric.{IsFilledTag};
 ghost use Rattle.formats.specs.Groups.{Counts, CountsPiece};
-ghost use Rattle.formats.specs.Reader.{InRule, Says, in_rule, line_says, rule_view};
-ghost use Rattle.formats.specs.Reader.{exposition_says, parts_say, say_in};
+ghost use Rattle.formats.specs.Reader.{InRule, Says, in_rule, rule_view, say_in};
 
 use agent_base::Piece;
 use fixed_num::{Moment, OutOfMemory, Seq};
-use format_words::{InFormat, Template};
+use format_words::InFormat;
 use graphite_text::GraphiteKind;
 use line_proto::{LineKind, read_line};
 use metric::{Metric, Text};
@@ -135,117 +130,52 @@ impl Group {
         ensures said { OnOk result
             (Counts (rule_view rule.now) (say_in rule.now.format.now moment piece.now) self.old self.new) }
     {
+        self.shows_counts_fit();
+        let bytes = piece.bytes();
         match rule.format {
-            InFormat::Influx => self.read_line(alloc, rule, piece, moment),
-            InFormat::Statsd => self.read_statsd(alloc, rule, piece, moment),
+            InFormat::Influx => match read_line(alloc, bytes, moment) {
+                Ok(Some(metric)) => self.keep(alloc, rule, metric),
+                Ok(None) => Ok(()),
+                Err(fault) => self.refuse_for(fault.kind == LineKind::OutOfMemory),
+            },
+            InFormat::Statsd => match statsd_text::read_line(alloc, bytes, moment) {
+                Ok(metrics) => self.keep_list(alloc, rule, metrics),
+                Err(fault) => self.refuse_for(fault.kind == StatsdKind::OutOfMemory),
+            },
             InFormat::Graphite {
                 templates,
                 separator,
-            } => self.read_path(
+            } => match graphite_text::read_line(
                 alloc,
-                rule,
                 templates.as_slice(),
                 separator.as_str(),
-                piece,
+                bytes,
                 moment,
-            ),
-            InFormat::Openmetrics { type_tag } => {
-                self.read_samples(alloc, rule, *type_tag, piece, moment)
-            }
+            ) {
+                Ok(Some(metric)) => self.keep(alloc, rule, metric),
+                Ok(None) => Ok(()),
+                Err(fault) => self.refuse_for(fault.kind == GraphiteKind::OutOfMemory),
+            },
+            InFormat::Openmetrics { type_tag } => match read_exposition(
+                alloc, bytes, moment, *type_tag,
+            ) {
+                Ok(exposition) => {
+                    self.keep_list(alloc, rule, exposition.metrics)?;
+                    self.passed = self.passed.saturating_add(exposition.passed);
+                    Ok(())
+                }
+                Err(fault) => self.refuse_for(fault.kind == ExpositionKind::OutOfMemory),
+            },
         }
     }
 
-    /// Keeps what is kept of a line of line protocol, or counts it as refused.
-    fn read_line(
-        &mut self,
-        alloc: Global,
-        rule: &ReadRule,
-        piece: &Piece,
-        moment: Moment,
-    ) -> Result<(), OutOfMemory>
-        requires few { self.old.refused < 2 ^ 32 - 1 }
-        requires filled { All IsFilledTag rule.now.globals.now }
-        ensures pieces { OnOk result (self.new.pieces ≡ self.old.pieces) }
-        ensures said { OnOk result
-            (Counts (rule_view rule.now) (line_says (reading piece.now moment)) self.old self.new) }
+    /// Shows that the counts are in the range of their type, so that nothing more leaves them as they are.
+    #[inline(always)]
+    fn shows_counts_fit(&self)
+        ensures passed { self.now.passed < 2 ^ 32 }
+        ensures filtered { self.now.filtered < 2 ^ 32 }
     {
         let (_passed, _filtered) = (self.passed, self.filtered);
-        match read_line(alloc, piece.bytes(), moment) {
-            Ok(Some(metric)) => self.keep(alloc, rule, metric),
-            Ok(None) => Ok(()),
-            Err(fault) => self.refuse_for(fault.kind == LineKind::OutOfMemory),
-        }
-    }
-
-    /// Keeps what is kept of a StatsD line, or counts it as refused.
-    fn read_statsd(
-        &mut self,
-        alloc: Global,
-        rule: &ReadRule,
-        piece: &Piece,
-        moment: Moment,
-    ) -> Result<(), OutOfMemory>
-        requires few { self.old.refused < 2 ^ 32 - 1 }
-        requires filled { All IsFilledTag rule.now.globals.now }
-        ensures pieces { OnOk result (self.new.pieces ≡ self.old.pieces) }
-        ensures said { OnOk result
-            (Counts (rule_view rule.now) (parts_say (statsd.reading piece.now moment)) self.old self.new) }
-    {
-        let (_passed, _filtered) = (self.passed, self.filtered);
-        match statsd_text::read_line(alloc, piece.bytes(), moment) {
-            Ok(metrics) => self.keep_list(alloc, rule, metrics),
-            Err(fault) => self.refuse_for(fault.kind == StatsdKind::OutOfMemory),
-        }
-    }
-
-    /// Keeps what is kept of a line of Graphite, or counts it as refused.
-    fn read_path(
-        &mut self,
-        alloc: Global,
-        rule: &ReadRule,
-        templates: &[Template],
-        separator: &str,
-        piece: &Piece,
-        moment: Moment,
-    ) -> Result<(), OutOfMemory>
-        requires few { self.old.refused < 2 ^ 32 - 1 }
-        requires filled { All IsFilledTag rule.now.globals.now }
-        ensures pieces { OnOk result (self.new.pieces ≡ self.old.pieces) }
-        ensures said { OnOk result (Counts (rule_view rule.now)
-            (line_says (graphite.reading templates.now separator.now piece.now moment)) self.old self.new) }
-    {
-        let (_passed, _filtered) = (self.passed, self.filtered);
-        match graphite_text::read_line(alloc, templates, separator, piece.bytes(), moment) {
-            Ok(Some(metric)) => self.keep(alloc, rule, metric),
-            Ok(None) => Ok(()),
-            Err(fault) => self.refuse_for(fault.kind == GraphiteKind::OutOfMemory),
-        }
-    }
-
-    /// Keeps what is kept of an exposition and counts the samples that are passed over, or counts it as refused.
-    fn read_samples(
-        &mut self,
-        alloc: Global,
-        rule: &ReadRule,
-        type_tag: bool,
-        piece: &Piece,
-        moment: Moment,
-    ) -> Result<(), OutOfMemory>
-        requires few { self.old.refused < 2 ^ 32 - 1 }
-        requires filled { All IsFilledTag rule.now.globals.now }
-        ensures pieces { OnOk result (self.new.pieces ≡ self.old.pieces) }
-        ensures said { OnOk result (Counts (rule_view rule.now)
-            (exposition_says (openmetrics.reading piece.now moment type_tag)) self.old self.new) }
-    {
-        let (_passed, _filtered) = (self.passed, self.filtered);
-        match read_exposition(alloc, piece.bytes(), moment, type_tag) {
-            Ok(exposition) => {
-                self.keep_list(alloc, rule, exposition.metrics)?;
-                self.passed = self.passed.saturating_add(exposition.passed);
-                Ok(())
-            }
-            Err(fault) => self.refuse_for(fault.kind == ExpositionKind::OutOfMemory),
-        }
     }
 
     /// Counts a piece as refused, unless memory was wanting.
@@ -274,29 +204,16 @@ impl Group {
         ensures said { OnOk result
             (Counts (rule_view rule.now) (Says metrics 0) self.old self.new) }
     {
+        self.shows_counts_fit();
         match metrics.into_one() {
             Ok(metric) => self.keep(alloc, rule, metric),
-            Err(metrics) => self.keep_all(alloc, rule, metrics.into_vec(alloc)?),
+            Err(metrics) => {
+                for metric in metrics.into_vec(alloc)? {
+                    self.keep(alloc, rule, metric)?;
+                }
+                Ok(())
+            }
         }
-    }
-
-    /// Keeps what is kept of metrics, in order.
-    fn keep_all(
-        &mut self,
-        alloc: Global,
-        rule: &ReadRule,
-        metrics: Vec<Metric>,
-    ) -> Result<(), OutOfMemory>
-        requires filled { All IsFilledTag rule.now.globals.now }
-        ensures pieces { OnOk result (self.new.pieces ≡ self.old.pieces) }
-        ensures said { OnOk result
-            (Counts (rule_view rule.now) (Says metrics.items 0) self.old self.new) }
-    {
-        let (_passed, _filtered) = (self.passed, self.filtered);
-        for metric in metrics {
-            self.keep(alloc, rule, metric)?;
-        }
-        Ok(())
     }
 
     /// Keeps what is kept of a metric, with the global tags that it lacks, or counts that nothing is.
@@ -306,7 +223,7 @@ impl Group {
         ensures said { OnOk result
             (Counts (rule_view rule.now) (Says (metric ∷ []) 0) self.old self.new) }
     {
-        let (_passed, _filtered) = (self.passed, self.filtered);
+        self.shows_counts_fit();
         let metric = metric.with_tags(alloc, rule.globals)?;
         match rule.filter.apply_to(metric)? {
             Some(metric) => self.metrics.push(metric)?,

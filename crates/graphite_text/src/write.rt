@@ -5,7 +5,7 @@ ghost use Rattle.std.specs.Prelude.{if◌then◌else◌};
 ghost use Rattle.text_parts.specs.Adds.{Adds};
 ghost use Rattle.metric.specs.Draft.{Tag, Field};
 ghost use Rattle.metric.specs.Numbers.{number_text};
-ghost use Rattle.graphite_text.specs.Writing.{value_byte, name_byte, value_part, name_part};
+ghost use Rattle.graphite_text.specs.Writing.{value_part, name_part};
 ghost use Rattle.graphite_text.specs.Writing.{is_host, is_no_host, path_text, seconds_of};
 ghost use Rattle.graphite_text.specs.Writing.{line_text, field_text, metric_text};
 ghost use Rattle.graphite_text.specs.Pieces.{key_text, host_text, other_text};
@@ -13,7 +13,7 @@ ghost use Rattle.graphite_text.specs.Pieces.{key_text, host_text, other_text};
 use fixed_num::{Moment, OutOfMemory};
 use metric::{Metric, Text, Value};
 use std::alloc::Global;
-use text_parts::{append_signed, append_words, settle};
+use text_parts::{append_signed, append_words, settle, translate};
 
 /// Each byte as it stands in the value of a tag: a letter, a digit, `_` or `-`, or `_` for another.
 static VALUE_BYTES: [u8; 256] = *b"\
@@ -37,38 +37,18 @@ static NAME_BYTES: [u8; 256] = *b"\
     ________________________________\
     ________________________________";
 
-/// A byte as it stands in the value of a tag.
-#[inline(always)]
-fn value_byte(byte: u8) -> u8
-    ensures { result ≡ value_byte byte }
-{
-    VALUE_BYTES[byte as usize]
-}
-
-/// A byte as it stands in a name or a key.
-#[inline(always)]
-fn name_byte(byte: u8) -> u8
-    ensures { result ≡ name_byte byte }
-{
-    NAME_BYTES[byte as usize]
-}
-
 /// Puts each byte as it stands in the value of a tag.
 fn clean_value(bytes: &mut [u8])
     ensures { bytes.new ≡ value_part bytes.old }
 {
-    for byte in bytes.iter_mut() {
-        *byte = value_byte(*byte);
-    }
+    translate(&VALUE_BYTES, bytes);
 }
 
 /// Puts each byte as it stands in a name or a key.
 fn clean_name(bytes: &mut [u8])
     ensures { bytes.new ≡ name_part bytes.old }
 {
-    for byte in bytes.iter_mut() {
-        *byte = name_byte(*byte);
-    }
+    translate(&NAME_BYTES, bytes);
 }
 
 /// Appends the value of a tag.

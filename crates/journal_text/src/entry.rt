@@ -53,7 +53,7 @@ fn append_whole(
     }
 }
 
-// Appends a view, beside the whole: `-` for none.
+// Appends a view, beside the whole, behind a space: `-` for none.
 #[tactic(auto, unfolding(crate::specs::JournalText::view_text))]
 fn append_view(
     alloc: Global,
@@ -61,11 +61,15 @@ fn append_view(
     whole: &Metric,
     view: &Option<Metric>,
 ) -> Result<(), OutOfMemory>
-    ensures { Adds result out.old.items out.new.items (view_text whole.now view.now) }
+    ensures { Adds result out.old.items out.new.items (codes " " ++ view_text whole.now view.now) }
 {
     match view {
-        None => append_words(out, "-"),
-        Some(view) => append_beside(alloc, out, whole, view),
+        None => append_words(out, " -"),
+        Some(view) => {
+            append_words(out, " ")?;
+            append_beside(alloc, out, whole, view)?;
+            Ok(())
+        }
     }
 }
 
@@ -79,7 +83,6 @@ fn append_views(
     ensures { Adds result out.old.items out.new.items (views_text whole.now views.now) }
 {
     for view in views {
-        append_words(out, " ")?;
         append_view(alloc, out, whole, view)?;
     }
     Ok(())

@@ -127,9 +127,10 @@ fn append_agg(out: &mut Vec<u8>, agg: u64, line: &AggLine) -> Result<(), OutOfMe
 
 // Appends the line of an output.
 #[tactic(auto, unfolding(crate::specs::SetupText::output_line))]
-fn append_output(out: &mut Vec<u8>, output: u64, batch: u32, limit: u32) -> Result<(), OutOfMemory>
-    ensures { Adds result out.old.items out.new.items (output_line output (batch, limit)) }
+fn append_output(out: &mut Vec<u8>, output: u64, sizes: &(u32, u32)) -> Result<(), OutOfMemory>
+    ensures { Adds result out.old.items out.new.items (output_line output sizes.now) }
 {
+    let (batch, limit) = *sizes;
     append_numbers(
         out,
         &[
@@ -143,6 +144,7 @@ fn append_output(out: &mut Vec<u8>, output: u64, batch: u32, limit: u32) -> Resu
 }
 
 // Appends the lines of inputs, counted from 0.
+#[tactic(auto, using(account::proofs::NumberedLemmas::appending), unfolding(account::specs::AccountText::numbered))]
 fn append_inputs(out: &mut Vec<u8>, inputs: &[Option<u32>]) -> Result<(), OutOfMemory>
     ensures { Adds result out.old.items out.new.items (numbered input_line 0 inputs.now) }
 {
@@ -153,6 +155,7 @@ fn append_inputs(out: &mut Vec<u8>, inputs: &[Option<u32>]) -> Result<(), OutOfM
 }
 
 // Appends the lines of aggregators, counted from 0.
+#[tactic(auto, using(account::proofs::NumberedLemmas::appending), unfolding(account::specs::AccountText::numbered))]
 fn append_aggs(out: &mut Vec<u8>, aggs: &[AggLine]) -> Result<(), OutOfMemory>
     ensures { Adds result out.old.items out.new.items (numbered agg_line 0 aggs.now) }
 {
@@ -163,11 +166,12 @@ fn append_aggs(out: &mut Vec<u8>, aggs: &[AggLine]) -> Result<(), OutOfMemory>
 }
 
 // Appends the lines of outputs, counted from 0.
+#[tactic(auto, using(account::proofs::NumberedLemmas::appending), unfolding(account::specs::AccountText::numbered))]
 fn append_outputs(out: &mut Vec<u8>, outputs: &[(u32, u32)]) -> Result<(), OutOfMemory>
     ensures { Adds result out.old.items out.new.items (numbered output_line 0 outputs.now) }
 {
     for (i, sizes) in outputs.iter().enumerate() {
-        append_output(out, i as u64, sizes.0, sizes.1)?;
+        append_output(out, i as u64, sizes)?;
     }
     Ok(())
 }

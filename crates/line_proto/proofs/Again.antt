@@ -22,10 +22,11 @@ use Rattle.metric.specs.declared.metric.Content.{Content}
 use Rattle.metric.specs.Draft.{Tag, Field, has_too_many}
 use Rattle.text_parts.specs.Pairs.{pair_text, pairs_text, Meaning, AllAre}
 use Rattle.line_proto.specs.declared.fault.LineKind.{LineKind}
+use Rattle.line_proto.specs.declared.fault.LineKind.TheVariants.{BadKey, BadValue}
 use Rattle.line_proto.specs.declared.fault.LineFault.{LineFault}
 use Rattle.line_proto.specs.Kinds.{name_part, key_part, tag_value_part, text_part, value_part}
 use Rattle.line_proto.specs.Values.{value_of, time_of}
-use Rattle.line_proto.specs.Reading.{is_value_end, text_value_at, Line, placed, name_at, key_at, tag_value_at, tag_at, plain_value_at, value_at, field_at, fields_at, tags_at, behind_spaces, spaced_fields_at, time_len, written_time_at, time_at, line_at, metric_at, text_reading, reading, limited, content_of, is_blank_or_comment}
+use Rattle.line_proto.specs.Reading.{is_value_end, text_value_at, Line, placed, filled_at, name_at, key_at, tag_value_at, keyed_at, tag_at, plain_value_at, value_at, field_at, fields_at, tags_at, behind_spaces, spaced_fields_at, time_len, written_time_at, time_at, line_at, metric_at, text_reading, reading, limited, content_of, is_blank_or_comment}
 use Rattle.line_proto.specs.Grammar.{ends_word, is_space, Written, spaces, time_text}
 use Rattle.line_proto.specs.Grammar.{behind_name, line_spelling, IsTag, IsQuoted, IsUnquoted, NoQuote, IsField}
 use Rattle.line_proto.specs.Grammar.{IsTime, NoHash, IsLine}
@@ -67,25 +68,24 @@ word_read k piece i j text part some same place = subst (λ (m : ℕ). WordRead 
   spans = part.spans;
 })
 
-pub name_again : (piece : List ℕ) (i j : ℕ) (name : List ℕ) → i ≤ length piece → name_at piece i ≡ Ok (name, j)
-    → WordRead name_part piece i j name
-unfolding name_at
-name_again piece i j name le e =
-    let part = part_again name_part piece i le in
+filled_again : (k : Kind) (kind : LineKind) (piece : List ℕ) (i j : ℕ) (text : List ℕ) → i ≤ length piece → filled_at k kind piece i ≡ Ok (text, j)
+    → WordRead k piece i j text
+filled_again k kind piece i j text le e =
+    let part = part_again k piece i le in
     let read = rw (part.means, part.len) at e in
     let ok = chosen_ok (length (spelled part.marks) == 0) _ _ _ read in
     let pair = ok_pair _ _ _ _ ok.1 in
-    word_read name_part piece i j name part ok.0 pair.0 pair.1
+    word_read k piece i j text part ok.0 pair.0 pair.1
+
+pub name_again : (piece : List ℕ) (i j : ℕ) (name : List ℕ) → i ≤ length piece → name_at piece i ≡ Ok (name, j)
+    → WordRead name_part piece i j name
+unfolding name_at
+name_again piece i j name le e = filled_again name_part BadKey piece i j name le e
 
 pub tag_value_again : (piece : List ℕ) (i j : ℕ) (value : List ℕ) → i ≤ length piece → tag_value_at piece i ≡ Ok (value, j)
     → WordRead tag_value_part piece i j value
 unfolding tag_value_at
-tag_value_again piece i j value le e =
-    let part = part_again tag_value_part piece i le in
-    let read = rw (part.means, part.len) at e in
-    let ok = chosen_ok (length (spelled part.marks) == 0) _ _ _ read in
-    let pair = ok_pair _ _ _ _ ok.1 in
-    word_read tag_value_part piece i j value part ok.0 pair.0 pair.1
+tag_value_again piece i j value le e = filled_again tag_value_part BadValue piece i j value le e
 
 -- a key with its equals sign
 pub record KeyRead (piece : List ℕ) (i j : ℕ) (key : List ℕ) : Type 0 where
@@ -128,22 +128,38 @@ pub record PairRead {X : Type 0} (Is : Meaning X) (piece : List ℕ) (i j : ℕ)
   pub ends : Meets ends_word (drop j piece)
   pub spans : Spans piece i j (pair_text pair)
 
-pub tag_again : (piece : List ℕ) (i j : ℕ) (tag : Tag) → i ≤ length piece → tag_at piece i ≡ Ok (tag, j) → PairRead IsTag piece i j tag
-unfolding tag_at
-tag_again piece i j tag le e =
-    let k = bind_ok (key_at piece i) _ (tag, j) e in
+-- a value that was read behind a key: they are written as a pair
+record PairedRead {V : Type 0} (Is : Meaning (List ℕ × V)) (piece : List ℕ) (i j : ℕ) (value : V) : Type 0 where
+  text : List ℕ
+  is : (word key : List ℕ) → IsWritten key_part word (61 ∷ (text ++ drop j piece)) key → Is (word, text) (drop j piece) (key, value)
+  ends : Meets ends_word (drop j piece)
+  spans : Spans piece i j text
+
+keyed_again : {V : Type 0} (value_at : List ℕ → ℕ → Result (V × ℕ) LineFault) (Is : Meaning (List ℕ × V)) (piece : List ℕ) → ((k l : ℕ) (value : V) → k ≤ length piece → value_at piece k ≡ Ok (value, l) → PairedRead Is piece k l value)
+    → (i j : ℕ) (pair : List ℕ × V) → i ≤ length piece → keyed_at value_at piece i ≡ Ok (pair, j) → PairRead Is piece i j pair
+keyed_again {V} value_at Is piece again i j pair le e =
+    let k = bind_ok (key_at piece i) _ (pair, j) e in
     let key = key_again piece i k.0.1 k.0.0 le k.1 in
-    let v = bind_ok (tag_value_at piece k.0.1) _ (tag, j) k.2 in
-    let value = tag_value_again piece k.0.1 v.0.1 v.0.0 key.spans.within v.1 in
-    let same = ok_pair (k.0.0, v.0.0) tag v.0.1 j v.2 in
-    let both : Spans piece i v.0.1 (pair_text (key.word, value.word)) = subst (Spans piece i v.0.1) (append_assoc key.word (61 ∷ []) value.word) (joins piece i k.0.1 v.0.1 (key.word ++ 61 ∷ []) value.word key.spans value.spans) in
-    let front : IsWritten key_part key.word (61 ∷ (value.word ++ drop v.0.1 piece)) k.0.0 = subst (λ (t : List ℕ). IsWritten key_part key.word (61 ∷ t) k.0.0) value.spans.is key.written in
-    subst (λ (t : Tag). PairRead IsTag piece i j t) same.0 (subst (λ (m : ℕ). PairRead IsTag piece i m (k.0.0, v.0.0)) same.1 (record {
-      pair = (key.word, value.word);
-      is = record { key = front; value = value.written };
-      ends = ends_meet tag_value_part value.written.marks (drop v.0.1 piece) value.written.part;
+    let v = bind_ok (value_at piece k.0.1) _ (pair, j) k.2 in
+    let value = again k.0.1 v.0.1 v.0.0 key.spans.within v.1 in
+    let same = ok_pair (k.0.0, v.0.0) pair v.0.1 j v.2 in
+    let both : Spans piece i v.0.1 (pair_text (key.word, value.text)) = subst (Spans piece i v.0.1) (append_assoc key.word (61 ∷ []) value.text) (joins piece i k.0.1 v.0.1 (key.word ++ 61 ∷ []) value.text key.spans value.spans) in
+    let front : IsWritten key_part key.word (61 ∷ (value.text ++ drop v.0.1 piece)) k.0.0 = subst (λ (t : List ℕ). IsWritten key_part key.word (61 ∷ t) k.0.0) value.spans.is key.written in
+    subst (λ (x : List ℕ × V). PairRead Is piece i j x) same.0 (subst (λ (m : ℕ). PairRead Is piece i m (k.0.0, v.0.0)) same.1 (record {
+      pair = (key.word, value.text);
+      is = value.is key.word k.0.0 front;
+      ends = value.ends;
       spans = both;
     }))
+
+paired_tag : (piece : List ℕ) (k l : ℕ) (text : List ℕ) → k ≤ length piece → tag_value_at piece k ≡ Ok (text, l) → PairedRead IsTag piece k l text
+paired_tag piece k l text le e =
+    let value = tag_value_again piece k l text le e in
+    record { text = value.word; is = λ word key front. record { key = front; value = value.written }; ends = ends_meet tag_value_part value.written.marks (drop l piece) value.written.part; spans = value.spans }
+
+pub tag_again : (piece : List ℕ) (i j : ℕ) (tag : Tag) → i ≤ length piece → tag_at piece i ≡ Ok (tag, j) → PairRead IsTag piece i j tag
+unfolding tag_at
+tag_again piece i j tag le e = keyed_again tag_value_at IsTag piece (paired_tag piece) i j tag le e
 
 -- a value that was read
 pub record ValueRead (piece : List ℕ) (i j : ℕ) (value : Value) : Type 0 where
@@ -234,22 +250,14 @@ value_again piece i j value le e = elim (get_or piece i 0 == 34) as (λ t. (get_
       | false ↦ λ test e. unquoted_again piece i j value le test e
     ] refl e
 
+paired_field : (piece : List ℕ) (k l : ℕ) (field : Value) → k ≤ length piece → value_at piece k ≡ Ok (field, l) → PairedRead IsField piece k l field
+paired_field piece k l field le e =
+    let value = value_again piece k l field le e in
+    record { text = value.text; is = λ word key front. record { key = front; value = value.is }; ends = value.ends; spans = value.spans }
+
 pub field_again : (piece : List ℕ) (i j : ℕ) (field : Field) → i ≤ length piece → field_at piece i ≡ Ok (field, j) → PairRead IsField piece i j field
 unfolding field_at
-field_again piece i j field le e =
-    let k = bind_ok (key_at piece i) _ (field, j) e in
-    let key = key_again piece i k.0.1 k.0.0 le k.1 in
-    let v = bind_ok (value_at piece k.0.1) _ (field, j) k.2 in
-    let value = value_again piece k.0.1 v.0.1 v.0.0 key.spans.within v.1 in
-    let same = ok_pair (k.0.0, v.0.0) field v.0.1 j v.2 in
-    let both : Spans piece i v.0.1 (pair_text (key.word, value.text)) = subst (Spans piece i v.0.1) (append_assoc key.word (61 ∷ []) value.text) (joins piece i k.0.1 v.0.1 (key.word ++ 61 ∷ []) value.text key.spans value.spans) in
-    let front : IsWritten key_part key.word (61 ∷ (value.text ++ drop v.0.1 piece)) k.0.0 = subst (λ (t : List ℕ). IsWritten key_part key.word (61 ∷ t) k.0.0) value.spans.is key.written in
-    subst (λ (f : Field). PairRead IsField piece i j f) same.0 (subst (λ (m : ℕ). PairRead IsField piece i m (k.0.0, v.0.0)) same.1 (record {
-      pair = (key.word, value.text);
-      is = record { key = front; value = value.is };
-      ends = value.ends;
-      spans = both;
-    }))
+field_again piece i j field le e = keyed_again value_at IsField piece (paired_field piece) i j field le e
 
 -- ---- lists of pairs
 

@@ -36,7 +36,7 @@ use Rattle.line_proto.specs.declared.fault.LineKind.TheVariants as kinds
 use Rattle.line_proto.specs.Kinds.{name_part, key_part, tag_value_part, text_part, value_part}
 use Rattle.line_proto.specs.Values.{last_byte, before_last_byte, typed, number_or, truth_of, number_of, value_from, value_of, time_of}
 use Rattle.line_proto.specs.Grammar.{ends_word, is_space, spaces, behind_name, IsTag, IsField}
-use Rattle.line_proto.specs.Reading.{fault, placed, name_at, key_at, tag_value_at, tag_at, text_value_at, is_value_end, plain_value_at, value_at, field_at, tags_at, fields_at, behind_spaces, spaced_fields_at}
+use Rattle.line_proto.specs.Reading.{fault, placed, name_at, key_at, tag_value_at, keyed_at, tag_at, text_value_at, is_value_end, plain_value_at, value_at, field_at, tags_at, fields_at, behind_spaces, spaced_fields_at}
 use Rattle.line_proto.specs.Reading.{time_len, written_time_at, time_at, line_at, content_of, limited, metric_at, is_blank_or_comment, text_reading, reading}
 use Rattle.line_proto.specs.Faults.{is_whole, is_natural, is_number, IsHeadAlone, HasKey, HasText, StandsAt, Says, FaultSays}
 use Rattle.line_proto.proofs.Takes.{Meets, key_takes, quoted_takes}
@@ -208,12 +208,7 @@ placed_faulty P i (Err kind) h = one_faulty P (record { kind = kind; place = i }
 value_stands : (piece : List ℕ) (moment : ℤ) (i : ℕ) (kind : LineKind) → Follows 61 piece i → ValueSays (is_number (word_at ends_word piece i)) kind → StandsAt piece moment i kind
 value_stands piece moment i kinds.NumberRange follows h = inl (follows, h)
 value_stands piece moment i kinds.BadValue follows h = (follows, inr h)
-value_stands piece moment i kinds.OutOfMemory follows h = absurd h
-value_stands piece moment i kinds.NoFields follows h = absurd h
-value_stands piece moment i kinds.BadKey follows h = absurd h
-value_stands piece moment i kinds.BadTime follows h = absurd h
-value_stands piece moment i kinds.NotUtf8 follows h = absurd h
-value_stands piece moment i kinds.TooMany follows h = absurd h
+value_stands piece moment i _ follows h = absurd h
 
 plain_faulty : (piece : List ℕ) (moment : ℤ) (i : ℕ) → Follows 61 piece i → Faulty (Stands piece moment) (plain_value_at piece i)
 unfolding plain_value_at
@@ -260,19 +255,21 @@ value_faulty piece moment i le follows =
 abbrev Behind : List ℕ → ℕ → Type 0
 Behind piece i = Follows 44 piece i ⊎ Follows 32 piece i
 
-tag_faulty : (piece : List ℕ) (moment : ℤ) (i : ℕ) → i ≤ length piece → Behind piece i → Faulty (Stands piece moment) (tag_at piece i)
-unfolding tag_at
-tag_faulty piece moment i le follows =
+-- a key, and a value behind it
+keyed_faulty : {V : Type 0} (value_at : List ℕ → ℕ → Result (V × ℕ) LineFault) (piece : List ℕ) (moment : ℤ) → ((k : ℕ) → k ≤ length piece → Follows 61 piece k → Faulty (Stands piece moment) (value_at piece k))
+    → (i : ℕ) → i ≤ length piece → Behind piece i → Faulty (Stands piece moment) (keyed_at value_at piece i)
+keyed_faulty value_at piece moment value_faulty i le follows =
     next_faulty (Stands piece moment) (key_at piece i) _ (key_faulty piece moment i le follows)
     (λ key e. let k = key_again piece i key.1 key.0 le e in
-    next_faulty (Stands piece moment) (tag_value_at piece key.1) _ (tag_value_faulty piece moment key.1 (follows_last piece i key.1 61 k.word k.spans)) (λ value f. none_faulty (Stands piece moment) _))
+    next_faulty (Stands piece moment) (value_at piece key.1) _ (value_faulty key.1 k.spans.within (follows_last piece i key.1 61 k.word k.spans)) (λ value f. none_faulty (Stands piece moment) _))
+
+tag_faulty : (piece : List ℕ) (moment : ℤ) (i : ℕ) → i ≤ length piece → Behind piece i → Faulty (Stands piece moment) (tag_at piece i)
+unfolding tag_at
+tag_faulty piece moment i le follows = keyed_faulty tag_value_at piece moment (λ k within follows. tag_value_faulty piece moment k follows) i le follows
 
 field_faulty : (piece : List ℕ) (moment : ℤ) (i : ℕ) → i ≤ length piece → Behind piece i → Faulty (Stands piece moment) (field_at piece i)
 unfolding field_at
-field_faulty piece moment i le follows =
-    next_faulty (Stands piece moment) (key_at piece i) _ (key_faulty piece moment i le follows)
-    (λ key e. let k = key_again piece i key.1 key.0 le e in
-    next_faulty (Stands piece moment) (value_at piece key.1) _ (value_faulty piece moment key.1 k.spans.within (follows_last piece i key.1 61 k.word k.spans)) (λ value f. none_faulty (Stands piece moment) _))
+field_faulty piece moment i le follows = keyed_faulty value_at piece moment (value_faulty piece moment) i le follows
 
 many_faulty : {X : Type 0} (item_at : Reader X LineFault) (Is : Meaning X) (piece : List ℕ) (moment : ℤ)
     → ((i j : ℕ) (x : X) → i ≤ length piece → item_at piece i ≡ Ok (x, j) → PairRead Is piece i j x)
@@ -336,12 +333,7 @@ time_whole text time i e = by_number (is_whole text) (int_read_as text) (whole_n
 time_stands : (piece : List ℕ) (moment : ℤ) (i : ℕ) (kind : LineKind) → Follows 32 piece i → TimeSays (is_whole (word_at is_space piece i)) kind → StandsAt piece moment i kind
 time_stands piece moment i kinds.NumberRange follows h = inr (follows, h)
 time_stands piece moment i kinds.BadTime follows h = (follows, inl h)
-time_stands piece moment i kinds.OutOfMemory follows h = absurd h
-time_stands piece moment i kinds.NoFields follows h = absurd h
-time_stands piece moment i kinds.BadKey follows h = absurd h
-time_stands piece moment i kinds.BadValue follows h = absurd h
-time_stands piece moment i kinds.NotUtf8 follows h = absurd h
-time_stands piece moment i kinds.TooMany follows h = absurd h
+time_stands piece moment i _ follows h = absurd h
 
 whole_some : (text : List ℕ) → is_whole text ≡ true → 0 < length text
 whole_some [] e = absurd cc

@@ -19,7 +19,7 @@ use Rattle.line_proto.specs.declared.fault.LineFault.{LineFault}
 use Rattle.line_proto.specs.Kinds.{name_part, key_part, tag_value_part, text_part, value_part}
 use Rattle.line_proto.specs.Values.{value_of, time_of}
 use Rattle.line_proto.specs.Grammar.{IsTag, IsField, is_space}
-use Rattle.line_proto.specs.Reading.{fault, placed, name_at, key_at, tag_value_at, tag_at, text_value_at, plain_value_at, value_at}
+use Rattle.line_proto.specs.Reading.{fault, placed, name_at, key_at, tag_value_at, keyed_at, tag_at, text_value_at, plain_value_at, value_at}
 use Rattle.line_proto.specs.Reading.{field_at, tags_at, fields_at, behind_spaces, spaced_fields_at, time_len, written_time_at, time_at, line_at}
 use Rattle.line_proto.specs.Reading.{limited, content_of, metric_at, is_blank_or_comment, is_value_end, text_reading, reading}
 use Rattle.text_parts.proofs.Stands.{byte_spans}
@@ -61,17 +61,22 @@ tag_value_err : (piece : List ℕ) (i : ℕ) (f : LineFault) → tag_value_at pi
 unfolding tag_value_at
 tag_value_err piece i f e = one_err (len_at tag_value_part piece i == 0) BadValue i _ f e
 
-tag_err : (piece : List ℕ) (i : ℕ) (f : LineFault) → i ≤ length piece → tag_at piece i ≡ Err f → f.place ≤ length piece
-unfolding tag_at
-tag_err piece i f le e = elim (bind_err (key_at piece i) _ f e) [
+-- a key, and a value behind it
+keyed_err : {V : Type 0} (value_at : List ℕ → ℕ → Result (V × ℕ) LineFault) (piece : List ℕ) → ((k : ℕ) (f : LineFault) → value_at piece k ≡ Err f → f.place ≡ k)
+    → (i : ℕ) (f : LineFault) → i ≤ length piece → keyed_at value_at piece i ≡ Err f → f.place ≤ length piece
+keyed_err value_at piece value_err i f le e = elim (bind_err (key_at piece i) _ f e) [
   | inl x ↦ omega (arith, key_err piece i f x)
   | inr k ↦
       let key = key_again piece i k.0.1 k.0.0 le k.1 in
-      elim (bind_err (tag_value_at piece k.0.1) _ f k.2) [
-        | inl x ↦ omega (arith, tag_value_err piece k.0.1 f x, key.spans.within)
+      elim (bind_err (value_at piece k.0.1) _ f k.2) [
+        | inl x ↦ omega (arith, value_err k.0.1 f x, key.spans.within)
         | inr v ↦ absurd (ok_err _ f v.2)
       ]
 ]
+
+tag_err : (piece : List ℕ) (i : ℕ) (f : LineFault) → i ≤ length piece → tag_at piece i ≡ Err f → f.place ≤ length piece
+unfolding tag_at
+tag_err piece i f le e = keyed_err tag_value_at piece (tag_value_err piece) i f le e
 
 value_err : (piece : List ℕ) (i : ℕ) (f : LineFault) → value_at piece i ≡ Err f → f.place ≡ i
 unfolding value_at text_value_at plain_value_at
@@ -85,15 +90,7 @@ value_err piece i f e = elim (get_or piece i 0 == 34) as (λ t. cond t (text_val
 
 field_err : (piece : List ℕ) (i : ℕ) (f : LineFault) → i ≤ length piece → field_at piece i ≡ Err f → f.place ≤ length piece
 unfolding field_at
-field_err piece i f le e = elim (bind_err (key_at piece i) _ f e) [
-  | inl x ↦ omega (arith, key_err piece i f x)
-  | inr k ↦
-      let key = key_again piece i k.0.1 k.0.0 le k.1 in
-      elim (bind_err (value_at piece k.0.1) _ f k.2) [
-        | inl x ↦ omega (arith, value_err piece k.0.1 f x, key.spans.within)
-        | inr v ↦ absurd (ok_err _ f v.2)
-      ]
-]
+field_err piece i f le e = keyed_err value_at piece (value_err piece) i f le e
 
 many_err : {X : Type 0} (item_at : Reader X LineFault) (Is : Meaning X) (piece : List ℕ)
     → ((i j : ℕ) (x : X) → i ≤ length piece → item_at piece i ≡ Ok (x, j) → PairRead Is piece i j x)

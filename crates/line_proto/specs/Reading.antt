@@ -6,7 +6,7 @@ use Rattle.std.specs.Str.{is_utf8}
 use Rattle.std.specs.Str.Lossy.{utf8_valid_len}
 use Rattle.text_parts.specs.Bytes.{space, double_quote, hash, comma, equals_sign}
 use Rattle.text_parts.specs.Chain.{◌>>=◌}
-use Rattle.text_parts.specs.Part.{len_at, text_at}
+use Rattle.text_parts.specs.Part.{Kind, len_at, text_at}
 use Rattle.text_parts.specs.Many.{items_at, some_items_at}
 use Rattle.metric.specs.declared.value.Value.{Value}
 use Rattle.metric.specs.declared.value.Value.TheVariants as values
@@ -33,11 +33,14 @@ placed place (Err kind) = fault kind place
 abbrev pub behind_spaces : List ℕ → ℕ → ℕ
 behind_spaces piece i = i + position_or_len (λ b. not (b == space)) (drop i piece)
 
--- a measurement, which isn't empty; each of these gives what begins at a place, and the place behind it
+-- a part, which isn't empty; each of these gives what begins at a place, and the place behind it
+abbrev pub filled_at : Kind → LineKind → List ℕ → ℕ → Result (List ℕ × ℕ) LineFault
+filled_at part kind piece i =
+    if len_at part piece i == 0 then fault kind i else Ok (text_at part piece i, i + len_at part piece i)
+
+-- a measurement, which isn't empty
 unfoldable pub name_at : List ℕ → ℕ → Result (List ℕ × ℕ) LineFault
-name_at piece i =
-    if len_at name_part piece i == 0 then fault BadKey i
-    else Ok (text_at name_part piece i, i + len_at name_part piece i)
+name_at piece i = filled_at name_part BadKey piece i
 
 -- a key, which isn't empty, and the equals sign behind it
 unfoldable pub key_at : List ℕ → ℕ → Result (List ℕ × ℕ) LineFault
@@ -48,16 +51,18 @@ key_at piece i =
 
 -- a tag's value, which isn't empty
 unfoldable pub tag_value_at : List ℕ → ℕ → Result (List ℕ × ℕ) LineFault
-tag_value_at piece i =
-    if len_at tag_value_part piece i == 0 then fault BadValue i
-    else Ok (text_at tag_value_part piece i, i + len_at tag_value_part piece i)
+tag_value_at piece i = filled_at tag_value_part BadValue piece i
+
+-- a key, and a value behind its equals sign
+abbrev pub keyed_at : {V : Type 0} → (List ℕ → ℕ → Result (V × ℕ) LineFault) → List ℕ → ℕ → Result ((List ℕ × V) × ℕ) LineFault
+keyed_at value_at piece i = do
+  key ← key_at piece i
+  value ← value_at piece key.1
+  Ok ((key.0, value.0), value.1)
 
 -- a tag
 unfoldable pub tag_at : List ℕ → ℕ → Result (Tag × ℕ) LineFault
-tag_at piece i = do
-  key ← key_at piece i
-  value ← tag_value_at piece key.1
-  Ok ((key.0, value.0), value.1)
+tag_at piece i = keyed_at tag_value_at piece i
 
 -- at a comma, at a space or at the end
 abbrev pub is_value_end : List ℕ → ℕ → Bool
@@ -84,10 +89,7 @@ value_at piece i =
 
 -- a field
 unfoldable pub field_at : List ℕ → ℕ → Result (Field × ℕ) LineFault
-field_at piece i = do
-  key ← key_at piece i
-  value ← value_at piece key.1
-  Ok ((key.0, value.0), value.1)
+field_at piece i = keyed_at value_at piece i
 
 -- the tags, each behind a comma
 unfoldable pub tags_at : List ℕ → ℕ → Result (List Tag × ℕ) LineFault

@@ -102,10 +102,24 @@ impl Builder {
     ) -> Result<Builder, OutOfMemory>
         ensures { IfOk result (λ b. b ≡ record { name = name.now; tags = []; fields = [] }) }
     {
+        Builder::with_room_of(alloc, Text::of(alloc, name)?, tags, fields)
+    }
+
+    /// The same, of a name that is there.
+    #[inline(always)]
+    pub fn with_room_of(
+        alloc: Global,
+        name: Text,
+        tags: usize,
+        fields: usize,
+    ) -> Result<Builder, OutOfMemory>
+        ensures { IfOk result (λ b. b ≡ record { name = name; tags = []; fields = [] }) }
+    {
+        let _text = name.as_str();
         Ok(Builder {
             alloc,
             content: Content {
-                name: Text::of(alloc, name)?,
+                name,
                 tags: Seq::with_room(alloc, tags)?,
                 fields: Seq::with_room(alloc, fields)?,
                 time: 0,

@@ -12,7 +12,8 @@ pub(crate) const MOST: usize = 24;
 pub(crate) struct InPlace {
     /// Its bytes, with zeros behind them.
     cells: [u8; MOST],
-    len: usize,
+    /// How many bytes it has.
+    len: u8,
 }
 
 impl Model for InPlace {
@@ -35,7 +36,7 @@ impl InPlace {
     {
         InPlace {
             cells: filled(s.as_bytes()),
-            len: s.len(),
+            len: s.len() as u8,
         }
     }
 
@@ -44,8 +45,7 @@ impl InPlace {
     pub fn as_str(&self) -> &str
         ensures { result.now ≡ self.now }
     {
-        let (cells, len) = (&self.cells, self.len);
-        let (bytes, _) = cells.split_at(len);
+        let (bytes, _) = self.cells.split_at(usize::from(self.len));
         unsafe { str::from_utf8_unchecked(bytes) }
     }
 

@@ -30,10 +30,16 @@ enum Kept {
     PlainShort(InPlace),
     /// In place.
     Short(InPlace),
-    /// In memory that its copies share, and plain.
-    PlainLong(Arc<String>),
     /// In memory that its copies share.
-    Long(Arc<String>),
+    Long(Arc<LongText>),
+}
+
+/// A text above 24 bytes.
+#[derive(Drop, Debug)]
+struct LongText {
+    /// Whether it is known to be plain.
+    plain: bool,
+    text: String,
 }
 
 /// UTF-8 text that contracts see as its bytes. A short one takes no memory but its own; copies of a long one share its
@@ -56,6 +62,7 @@ impl Model for Text {
 
 impl Text {
     /// The text of these bytes.
+    #[inline(always)]
     pub fn of(alloc: Global, s: &str) -> Result<Text, OutOfMemory>
         ensures { IfOk result (λ t. t ≡ s.now) }
     {
@@ -66,10 +73,24 @@ impl Text {
                 kept: short_text(plain, InPlace::of(s)),
             });
         }
-        let long = Arc::new(alloc, String::from_str(alloc, s)?)?;
-        Ok(Text {
-            kept: long_text(plain, long),
-        })
+        long_text(alloc, plain, s)
+    }
+
+    /// The same. A long text shares its bytes with another that is equal to it.
+    #[inline(always)]
+    pub fn sharing(alloc: Global, other: Option<&Text>, s: &str) -> Result<Text, OutOfMemory>
+        ensures { IfOk result (λ t. t ≡ s.now) }
+    {
+        if Text::is_short(s) {
+            return Text::of(alloc, s);
+        }
+        long_sharing(alloc, other, s)
+    }
+
+    /// Whether a text is so short that it takes no memory but its own.
+    #[inline(always)]
+    pub fn is_short(s: &str) -> bool {
+        s.len() <= MOST
     }
 
     /// The text of a string. A long one keeps the string's memory.
@@ -79,9 +100,7 @@ impl Text {
         if string.len() <= MOST {
             return Text::of(alloc, string.as_str());
         }
-        Ok(Text {
-            kept: Kept::Long(Arc::new(alloc, string)?),
-        })
+        shared_text(alloc, false, string)
     }
 
     /// An equal text. It takes no memory: a long one shares its bytes with it.
@@ -91,7 +110,6 @@ impl Text {
         let kept = match &self.kept {
             Kept::PlainShort(text) => Kept::PlainShort(text.copy()),
             Kept::Short(text) => Kept::Short(text.copy()),
-            Kept::PlainLong(text) => Kept::PlainLong(text.clone()?),
             Kept::Long(text) => Kept::Long(text.clone()?),
         };
         Ok(Text { kept })
@@ -103,7 +121,7 @@ impl Text {
     {
         match &self.kept {
             Kept::PlainShort(text) | Kept::Short(text) => text.as_str(),
-            Kept::PlainLong(text) | Kept::Long(text) => text.as_str(),
+            Kept::Long(text) => text.text.as_str(),
         }
     }
 
@@ -112,7 +130,11 @@ impl Text {
     pub fn is_known_plain(&self) -> bool
         ensures { result ≡ true → list_all is_plain self.now ≡ true }
     {
-        matches!(self.kept, Kept::PlainShort(_) | Kept::PlainLong(_))
+        match &self.kept {
+            Kept::PlainShort(_) => true,
+            Kept::Short(_) => false,
+            Kept::Long(text) => text.plain,
+        }
     }
 }
 
@@ -129,17 +151,36 @@ fn short_text(plain: bool, text: InPlace) -> Kept
     }
 }
 
-/// A text in memory that its copies share.
-fn long_text(plain: bool, text: Arc<String>) -> Kept
-    requires { plain ≡ true → list_all is_plain (string_bytes (arc_value text)) ≡ true }
-    ensures bytes { kept_bytes result ≡ string_bytes (arc_value text) }
-    ensures kept { IsKept result }
+/// A long text of these bytes, apart from the code of short ones.
+#[inline(never)]
+fn long_text(alloc: Global, plain: bool, s: &str) -> Result<Text, OutOfMemory>
+    requires { plain ≡ true → list_all is_plain s.now ≡ true }
+    ensures { IfOk result (λ t. t ≡ s.now) }
 {
-    if plain {
-        Kept::PlainLong(text)
-    } else {
-        Kept::Long(text)
+    shared_text(alloc, plain, String::from_str(alloc, s)?)
+}
+
+/// A long text of these bytes, which are those of another that is equal to it.
+#[inline(never)]
+fn long_sharing(alloc: Global, other: Option<&Text>, s: &str) -> Result<Text, OutOfMemory>
+    ensures { IfOk result (λ t. t ≡ s.now) }
+{
+    if let Some(other) = other {
+        if other.as_str() == s {
+            return other.copy();
+        }
     }
+    Text::of(alloc, s)
+}
+
+/// A text in memory that its copies share.
+fn shared_text(alloc: Global, plain: bool, text: String) -> Result<Text, OutOfMemory>
+    requires { plain ≡ true → list_all is_plain (string_bytes text) ≡ true }
+    ensures { IfOk result (λ t. t ≡ string_bytes text) }
+{
+    Ok(Text {
+        kept: Kept::Long(Arc::new(alloc, LongText { plain, text })?),
+    })
 }
 
 /// Whether both stand in place, alike: a quick way to find that they are equal.

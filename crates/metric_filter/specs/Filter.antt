@@ -85,7 +85,3 @@ has_no_rule rules =
     && length rules.tagpass == 0 && length rules.tagdrop == 0
     && length rules.fieldinclude == 0 && length rules.fieldexclude == 0
     && length rules.taginclude == 0 && length rules.tagexclude == 0
-
--- the result of a filter for a metric: where it has no rule the metric as it is
-abbrev pub filtered : FilterRules → Content → Option Content
-filtered rules m = if has_no_rule rules then Some m else applied rules m

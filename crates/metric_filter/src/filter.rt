@@ -1,6 +1,6 @@
 //! Filters.
-ghost use Rattle.std.specs.Prelude.{◌≡◌, IfOk};
-ghost use Rattle.metric_filter.specs.Filter.{applied, filtered, has_no_rule, left, no_rules, selects};
+ghost use Rattle.std.specs.Prelude.{◌≡◌, true, IfOk, Some};
+ghost use Rattle.metric_filter.specs.Filter.{applied, has_no_rule, left, no_rules, selects};
 ghost use Rattle.metric_filter.specs.Filter.{with_fields};
 
 use crate::left::{keeps_all, left};
@@ -125,8 +125,8 @@ impl Filter {
 
     /// What `apply` gives for the metric, which is given up; where the filter has no rule that is the metric itself.
     pub fn apply_to(&self, m: Metric) -> Result<Option<Metric>, OutOfMemory>
-        ensures filtered { IfOk result (λ answer. answer ≡ filtered self.now m) }
         ensures applied { IfOk result (λ answer. answer ≡ applied self.now m) }
+        ensures unchanged { has_no_rule self.now ≡ true → IfOk result (λ answer. answer ≡ Some m) }
     {
         m.shows_metric();
         if self.has_no_rule() {

@@ -12,31 +12,23 @@ pub(crate) fn keeps_all(rules: &FilterRules, m: &Metric) -> bool
     ensures { IsTrue result → left rules.now m.now ≡ m.now }
 {
     let (include, exclude) = (rules.fieldinclude.as_slice(), rules.fieldexclude.as_slice());
-    if !keeps_fields(include, exclude, m.fields()) {
+    if !keeps_each(include, exclude, m.fields()) {
         return false;
     }
-    keeps_tags(
+    keeps_each(
         rules.taginclude.as_slice(),
         rules.tagexclude.as_slice(),
         m.tags(),
     )
 }
 
-/// Is each of the fields kept?
-fn keeps_fields(include: &[Glob], exclude: &[Glob], fields: &[(Text, Value)]) -> bool
-    ensures { result ≡ keeps_each include.now exclude.now fields.now }
+/// Is each of the pairs kept, by its key?
+fn keeps_each<V>(include: &[Glob], exclude: &[Glob], pairs: &[(Text, V)]) -> bool
+    ensures { result ≡ keeps_each include.now exclude.now pairs.now }
 {
-    fields
+    pairs
         .iter()
-        .all(|field| keeps(include, exclude, field.0.as_str()))
-}
-
-/// Is each of the tags kept?
-fn keeps_tags(include: &[Glob], exclude: &[Glob], tags: &[(Text, Text)]) -> bool
-    ensures { result ≡ keeps_each include.now exclude.now tags.now }
-{
-    tags.iter()
-        .all(|tag| keeps(include, exclude, tag.0.as_str()))
+        .all(|pair| keeps(include, exclude, pair.0.as_str()))
 }
 
 /// The metric with the fields and tags that are left; None where no field is.
@@ -49,54 +41,54 @@ pub(crate) fn left(
 {
     m.shows_metric();
     let (include, exclude) = (rules.fieldinclude.as_slice(), rules.fieldexclude.as_slice());
-    let fields = kept_fields(alloc, include, exclude, m.fields())?;
+    let fields = kept_pairs(alloc, include, exclude, m.fields())?;
     if fields.is_empty() {
         return Ok(None);
     }
     let (include, exclude) = (rules.taginclude.as_slice(), rules.tagexclude.as_slice());
     let content = Content {
         name: m.name().copy()?,
-        tags: Seq::of(kept_tags(alloc, include, exclude, m.tags())?),
+        tags: Seq::of(kept_pairs(alloc, include, exclude, m.tags())?),
         fields: Seq::of(fields),
         time: m.time(),
     };
     Ok(Some(Metric::of(alloc, content)?))
 }
 
-/// The fields whose keys are kept.
-fn kept_fields(
-    alloc: Global,
-    include: &[Glob],
-    exclude: &[Glob],
-    fields: &[(Text, Value)],
-) -> Result<Vec<(Text, Value)>, OutOfMemory>
-    ensures { IfOk result (λ left. left.items ≡ kept include.now exclude.now fields.now) }
-{
-    let mut left = Vec::new(alloc);
-    for field in fields {
-        if !keeps(include, exclude, field.0.as_str()) {
-            continue;
-        }
-        left.push((field.0.copy()?, field.1.copy()?))?;
-    }
-    Ok(left)
+/// What stands under a key, and has an equal.
+trait Copied: Drop {
+    /// An equal one.
+    fn copied(&self) -> Result<Self, OutOfMemory>
+        ensures { IfOk result (λ copy. copy ≡ self.now) };
 }
 
-/// The tags whose keys are kept.
-fn kept_tags(
+impl Copied for Text {
+    fn copied(&self) -> Result<Text, OutOfMemory> {
+        self.copy()
+    }
+}
+
+impl Copied for Value {
+    fn copied(&self) -> Result<Value, OutOfMemory> {
+        self.copy()
+    }
+}
+
+/// The pairs whose keys are kept.
+fn kept_pairs<V: Copied>(
     alloc: Global,
     include: &[Glob],
     exclude: &[Glob],
-    tags: &[(Text, Text)],
-) -> Result<Vec<(Text, Text)>, OutOfMemory>
-    ensures { IfOk result (λ left. left.items ≡ kept include.now exclude.now tags.now) }
+    pairs: &[(Text, V)],
+) -> Result<Vec<(Text, V)>, OutOfMemory>
+    ensures { IfOk result (λ left. left.items ≡ kept include.now exclude.now pairs.now) }
 {
     let mut left = Vec::new(alloc);
-    for tag in tags {
-        if !keeps(include, exclude, tag.0.as_str()) {
+    for pair in pairs {
+        if !keeps(include, exclude, pair.0.as_str()) {
             continue;
         }
-        left.push((tag.0.copy()?, tag.1.copy()?))?;
+        left.push((pair.0.copy()?, pair.1.copied()?))?;
     }
     Ok(left)
 }

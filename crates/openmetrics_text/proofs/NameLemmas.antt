@@ -5,7 +5,9 @@ use Rattle.std.specs.Str.{IsUtf8, IsCharBoundary}
 use Rattle.std.proofs.lemmas.Bool.Decides.{nat_tests}
 use Rattle.std.proofs.lemmas.Str.{IsCharBoundary-after_ascii, IsCharBoundary-start}
 use Rattle.std.proofs.lemmas.List.Sums.{fails_before_first}
-use Rattle.openmetrics_text.specs.Names.{ends_label, ends_name}
+use Rattle.openmetrics_text.specs.declared.names.Alphabet.{Alphabet}
+use Rattle.openmetrics_text.specs.declared.names.Alphabet.TheVariants.{Labels, Samples}
+use Rattle.openmetrics_text.specs.Names.{ends, ends_label, ends_name}
 use Rattle.text_parts.proofs.Spans.{position_or_len_le}
 
 -- behind bytes that are ASCII
@@ -16,11 +18,15 @@ ascii_boundary text (suc n) u within low =
     subst (IsCharBoundary text) e (IsCharBoundary-after_ascii text n u (omega arith) (low n (omega arith)))
 
 -- the alphabets are ASCII
-pub label_low : (b : ℕ) → ends_label b ≡ false → b < 128
+label_low : (b : ℕ) → ends_label b ≡ false → b < 128
 label_low b e = grind (arith, nat_tests)
 
-pub name_low : (b : ℕ) → ends_name b ≡ false → b < 128
+name_low : (b : ℕ) → ends_name b ≡ false → b < 128
 name_low b e = grind (arith, nat_tests)
+
+pub alphabet_low : (alphabet : Alphabet) (b : ℕ) → ends alphabet b ≡ false → b < 128
+alphabet_low Labels b e = label_low b e
+alphabet_low Samples b e = name_low b e
 
 pub front_boundary : (p : ℕ → Bool) → ((b : ℕ) → p b ≡ false → b < 128) → (text : List ℕ) → IsUtf8 text → IsCharBoundary text (position_or_len p text)
 front_boundary p low text u = ascii_boundary text (position_or_len p text) u (position_or_len_le p text) (λ k lt. low (get_or text k 0) (fails_before_first p text k 0 lt))

@@ -58,13 +58,19 @@ metrics_from-push moment typed types (Sampled said ∷ lines) line =
     ap (λ (ms : List Content). contents_of moment typed (type_of said.name types) said ++ ms) (metrics_from-push moment typed types lines line)
     ∙ sym (append_assoc (contents_of moment typed (type_of said.name types) said) (metrics_from moment typed types lines) (says_metrics moment typed (types ++ types_in lines) line))
 
+-- what was asked for stays as it is
+abbrev pub AskedAlike : Collected → Collected → Type 0
+AskedAlike old new = (new.moment ≡ old.moment) × (new.typed ≡ old.typed)
+
 -- one line more
-pub said_more : (moment : ℤ) (typed : Bool) (old new : Collected) (lines : List LineSays) (line : LineSays) → HaveSaid moment typed old lines
+pub said_more : (moment : ℤ) (typed : Bool) (old new : Collected) (lines : List LineSays) (line : LineSays) → HaveSaid moment typed old lines → AskedAlike old new
     → new.metrics.items ≡ old.metrics.items ++ says_metrics moment typed (types_in lines) line
     → new.passed ≡ min (old.passed + says_passed line) (2 ^ 32 - 1)
     → (typed ≡ true → HaveTypes new.types (types_in lines ++ says_types line))
     → HaveSaid moment typed new (lines ++ line ∷ [])
-said_more moment typed old new lines line h metrics passed types = record {
+said_more moment typed old new lines line h asked metrics passed types = record {
+  at_moment = asked.0 ∙ h.at_moment;
+  with_types = asked.1 ∙ h.with_types;
   metrics = metrics ∙ ap (λ (ms : List Content). ms ++ says_metrics moment typed (types_in lines) line) h.metrics ∙ sym (metrics_from-push moment typed [] lines line);
   passed = passed ∙ counts old.passed (passed_in lines) (passed_in (lines ++ line ∷ [])) (says_passed line) h.passed (passed_in-push lines line);
   types = λ e. rw (types_in-push lines line) (types e);
@@ -75,17 +81,17 @@ said_more moment typed old new lines line h metrics passed types = record {
 
 -- a line that says nothing
 pub said_nothing : (moment : ℤ) (typed : Bool) (old : Collected) (lines : List LineSays) → HaveSaid moment typed old lines → HaveSaid moment typed old (lines ++ Nothing ∷ [])
-said_nothing moment typed old lines h = said_more moment typed old old lines Nothing h (sym (append-nil old.metrics.items)) (still old.passed (passed_in lines) h.passed) (λ e. rw append-nil (h.types e))
+said_nothing moment typed old lines h = said_more moment typed old old lines Nothing h (refl, refl) (sym (append-nil old.metrics.items)) (still old.passed (passed_in lines) h.passed) (λ e. rw append-nil (h.types e))
   where
     still : (a n : ℕ) → a ≡ min n (2 ^ 32 - 1) → a ≡ min (a + 0) (2 ^ 32 - 1)
     still a n e = omega arith
 
 -- a TYPE line
-pub said_type : (moment : ℤ) (typed : Bool) (old new : Collected) (lines : List LineSays) (name kind : List ℕ) → HaveSaid moment typed old lines
+pub said_type : (moment : ℤ) (typed : Bool) (old new : Collected) (lines : List LineSays) (name kind : List ℕ) → HaveSaid moment typed old lines → AskedAlike old new
     → new.metrics.items ≡ old.metrics.items → new.passed ≡ old.passed → (typed ≡ true → HaveTypes new.types (types_in lines ++ (name, kind) ∷ []))
     → HaveSaid moment typed new (lines ++ Typed name kind ∷ [])
-said_type moment typed old new lines name kind h metrics passed types =
-    said_more moment typed old new lines (Typed name kind) h (metrics ∙ sym (append-nil old.metrics.items)) (still new.passed old.passed (passed_in lines) passed h.passed) types
+said_type moment typed old new lines name kind h asked metrics passed types =
+    said_more moment typed old new lines (Typed name kind) h asked (metrics ∙ sym (append-nil old.metrics.items)) (still new.passed old.passed (passed_in lines) passed h.passed) types
   where
     still : (b a n : ℕ) → b ≡ a → a ≡ min n (2 ^ 32 - 1) → b ≡ min (a + 0) (2 ^ 32 - 1)
     still b a n f e = omega arith
@@ -99,22 +105,22 @@ kept_kind : (moment : ℤ) (typed : Bool) (kind other : List ℕ) (said : Said) 
 kept_kind moment true kind other said number h = ap (λ (k : List ℕ). content_of moment true k said number) (h refl)
 kept_kind moment false kind other said number h = refl
 
-pub said_metric : (moment : ℤ) (typed : Bool) (old new : Collected) (lines : List LineSays) (said : Said) (number : ℤ) (metric : Content) (kind : List ℕ) → HaveSaid moment typed old lines → said.value ≡ Some number
+pub said_metric : (moment : ℤ) (typed : Bool) (old new : Collected) (lines : List LineSays) (said : Said) (number : ℤ) (metric : Content) (kind : List ℕ) → HaveSaid moment typed old lines → AskedAlike old new → said.value ≡ Some number
     → (typed ≡ true → kind ≡ type_of said.name (types_in lines)) → metric ≡ content_of moment typed kind said number
     → new.metrics.items ≡ old.metrics.items ++ metric ∷ [] → new.passed ≡ old.passed → (typed ≡ true → HaveTypes new.types (types_in lines))
     → HaveSaid moment typed new (lines ++ Sampled said ∷ [])
-said_metric moment typed old new lines said number metric kind h value kind_is made metrics passed types =
+said_metric moment typed old new lines said number metric kind h asked value kind_is made metrics passed types =
     let one : metric ∷ [] ≡ contents_of moment typed (type_of said.name (types_in lines)) said =
     ap (λ (m : Content). m ∷ []) (made ∙ kept_kind moment typed kind (type_of said.name (types_in lines)) said number kind_is) ∙ sym (ap (contents_by moment typed (type_of said.name (types_in lines)) said) value) in
-    said_more moment typed old new lines (Sampled said) h (metrics ∙ ap (λ (ms : List Content). old.metrics.items ++ ms) one) (passed ∙ full old.passed (passed_in lines) (passed_by said.value) h.passed (ap passed_by value)) (λ e. rw append-nil (types e))
+    said_more moment typed old new lines (Sampled said) h asked (metrics ∙ ap (λ (ms : List Content). old.metrics.items ++ ms) one) (passed ∙ full old.passed (passed_in lines) (passed_by said.value) h.passed (ap passed_by value)) (λ e. rw append-nil (types e))
 
-pub said_passed : (moment : ℤ) (typed : Bool) (old new : Collected) (lines : List LineSays) (said : Said) → HaveSaid moment typed old lines → said.value ≡ None
+pub said_passed : (moment : ℤ) (typed : Bool) (old new : Collected) (lines : List LineSays) (said : Said) → HaveSaid moment typed old lines → AskedAlike old new → said.value ≡ None
     → new.metrics.items ≡ old.metrics.items → new.passed ≡ min (old.passed + 1) (2 ^ 32 - 1) → (typed ≡ true → HaveTypes new.types (types_in lines))
     → HaveSaid moment typed new (lines ++ Sampled said ∷ [])
-said_passed moment typed old new lines said h value metrics passed types =
+said_passed moment typed old new lines said h asked value metrics passed types =
     let none : [] ≡ contents_of moment typed (type_of said.name (types_in lines)) said = sym (ap (contents_by moment typed (type_of said.name (types_in lines)) said) value) in
     let one : 1 ≡ passed_by said.value = sym (ap passed_by value) in
-    said_more moment typed old new lines (Sampled said) h (metrics ∙ sym (append-nil old.metrics.items) ∙ ap (λ (ms : List Content). old.metrics.items ++ ms) none) (passed ∙ ap (λ (n : ℕ). min (old.passed + n) (2 ^ 32 - 1)) one) (λ e. rw append-nil (types e))
+    said_more moment typed old new lines (Sampled said) h asked (metrics ∙ sym (append-nil old.metrics.items) ∙ ap (λ (ms : List Content). old.metrics.items ++ ms) none) (passed ∙ ap (λ (n : ℕ). min (old.passed + n) (2 ^ 32 - 1)) one) (λ e. rw append-nil (types e))
 
 -- all lines
 pub said_is : (moment : ℤ) (typed : Bool) (collected : Collected) (lines : List LineSays) → HaveSaid moment typed collected lines → exposition_of moment typed lines ≡ said_view collected

@@ -1,5 +1,5 @@
 -- The last TYPE line of a name.
-use Rattle.std.proofs.Common.{◌≡◌, ℕ, Bool, true, false, cond, List, [], ◌∷◌, ◌++◌, length, get_or, take, drop, map, ◌-◌, Option, Some, None, refl, sym, ap, ◌∙◌, arith, add-one}
+use Rattle.std.proofs.Common.{◌≡◌, ℕ, Bool, true, false, cond, List, [], ◌∷◌, ◌++◌, length, get_or, take, drop, map, ◌-◌, ◌+◌, ◌<◌, Option, Some, None, refl, sym, ap, ◌∙◌, arith, add-one}
 use Rattle.std.specs.Prelude.{◌||◌, codes}
 use Rattle.std.specs.Str.{bytes_eq}
 use Rattle.std.specs.Prelude.{Vec}
@@ -9,11 +9,12 @@ use Rattle.std.specs.BTreeMap.{BTreeMap, get_by}
 use Rattle.std.specs.Cmp.Lexicographic.{slice_cmp}
 use Rattle.std.specs.Ordering.{nat_cmp}
 use Rattle.std.proofs.lemmas.List.{append_cancel_right, take-append-drop, drop_at, length-append, length-map, map-append}
+use Rattle.std.proofs.lemmas.List.Folds.{list_any_more}
 use Rattle.std.proofs.lemmas.Slice.Eq.{bytes_eq-Decides}
 use Rattle.metric.specs.Draft.{Tag}
 use Rattle.openmetrics_text.specs.declared.types.Types.{Types}
 use Rattle.openmetrics_text.specs.TypeViews.{HaveTypes}
-use Rattle.openmetrics_text.specs.Types.{in_front, last_of, later, is_family_of, type_from, type_of}
+use Rattle.openmetrics_text.specs.Types.{in_front, last_of, later, has_suffix_of, is_family_of, type_from, type_of}
 
 -- one more pair
 pub last_of-push : (p : List ℕ → Bool) (pairs : List Tag) (pair : Tag) → last_of p (pairs ++ pair ∷ []) ≡ cond (p pair.0) (Some (length pairs)) (last_of p pairs)
@@ -47,14 +48,6 @@ last_of-either p q (pair ∷ pairs) =
 pub either : (p q : List ℕ → Bool) (pairs : List Tag) (one other : Option ℕ) → one ≡ last_of p pairs → other ≡ last_of q pairs → later one other ≡ last_of (λ n. p n || q n) pairs
 either p q pairs one other e f = ap (λ (o : Option ℕ). later o other) e ∙ ap (later (last_of p pairs)) f ∙ sym (last_of-either p q pairs)
 
-or_false : (t : Bool) → t ≡ (t || false)
-or_false true = refl
-or_false false = refl
-
--- a test alone, as the last of some
-pub alone : (p : List ℕ → Bool) (pairs : List Tag) (one : Option ℕ) → one ≡ last_of p pairs → one ≡ last_of (λ n. p n || false) pairs
-alone p pairs one e = e ∙ ap (λ (q : List ℕ → Bool). last_of q pairs) (λ i. λ n. or_false (p n) i)
-
 -- the type at a place
 abbrev pub kind_at : List ℕ → List Tag → Option ℕ → List ℕ
 kind_at found pairs None = found
@@ -84,6 +77,15 @@ none_last p (pair ∷ pairs) h = rw (h pair.0, ← none_last p pairs h) refl
 
 same_last : (p q : List ℕ → Bool) (pairs : List Tag) → ((name : List ℕ) → p name ≡ q name) → last_of p pairs ≡ last_of q pairs
 same_last p q pairs h = ap (λ (t : List ℕ → Bool). last_of t pairs) (λ i. λ name. h name i)
+
+-- one suffix more
+pub last_with_more : (sample : List ℕ) (suffixes : List (List ℕ)) (i : ℕ) (suffix : List ℕ) (pairs : List Tag) (last one : Option ℕ) → i < length suffixes → get_or suffixes i [] ≡ suffix
+    → last ≡ last_of (has_suffix_of sample (take i suffixes)) pairs → one ≡ last_of (λ name. bytes_eq (name ++ suffix) sample) pairs
+    → later last one ≡ last_of (has_suffix_of sample (take (i + 1) suffixes)) pairs
+last_with_more sample suffixes i suffix pairs last one below is e f =
+    either (has_suffix_of sample (take i suffixes)) (λ name. bytes_eq (name ++ suffix) sample) pairs last one e f
+    ∙ same_last (λ name. has_suffix_of sample (take i suffixes) name || bytes_eq (name ++ suffix) sample) (has_suffix_of sample (take (i + 1) suffixes)) pairs
+    (λ name. sym (list_any_more (λ s. bytes_eq (name ++ s) sample) suffixes i [] below ∙ ap (λ (s : List ℕ). has_suffix_of sample (take i suffixes) name || bytes_eq (name ++ s) sample) is))
 
 pub same_texts : (a b : List ℕ) → a ≡ b → bytes_eq a b ≡ true
 same_texts a b e = (bytes_eq-Decides a b).1 e

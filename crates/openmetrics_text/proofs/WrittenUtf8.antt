@@ -18,7 +18,8 @@ use Rattle.metric.proofs.NumberLemmas.{value_number}
 use Rattle.openmetrics_text.specs.Grammar.{label_text, more_labels_text, labels_text, braces_text, sample_text, WrittenLine, TypeLine, SampleLine, line_text, with_newline, exposition_text}
 use Rattle.openmetrics_text.specs.Names.{ends_label, ends_name}
 use Rattle.openmetrics_text.specs.Writing.{Point, label_escapes}
-use Rattle.openmetrics_text.proofs.NameLemmas.{label_low, name_low}
+use Rattle.openmetrics_text.specs.declared.names.Alphabet.TheVariants.{Labels, Samples}
+use Rattle.openmetrics_text.proofs.NameLemmas.{alphabet_low}
 use Rattle.openmetrics_text.proofs.PointLemmas.{IsLabelTag, IsPoint}
 use Rattle.openmetrics_text.proofs.WrittenLines.{written_tag, in_braces, sample_of, sample_lines, time_range}
 
@@ -50,7 +51,7 @@ label_ascii = record { marks = mark_low; written = written_low }
 
 label_utf8 : (tag : Tag) → IsLabelTag tag → IsUtf8 (label_text (written_tag tag))
 label_utf8 tag is =
-    IsUtf8-append tag.0 _ (name_utf8 ends_label label_low tag.0 (is.name).clean)
+    IsUtf8-append tag.0 _ (name_utf8 ends_label (alphabet_low Labels) tag.0 (is.name).clean)
     (first_ascii 61 _ (omega arith) (first_ascii 34 _ (omega arith) (IsUtf8-append (escaped label_escapes tag.1) (34 ∷ []) (escaped_utf8 label_escapes label_ascii tag.1 is.utf8) (one_ascii 34 (omega arith)))))
 
 more_utf8 : (tags : List Tag) → AllByRecursion IsLabelTag tags → IsUtf8 (more_labels_text (map written_tag tags))
@@ -68,7 +69,7 @@ sample_utf8 point is =
     let number = value_number point.value is.value is.no_text in
     let time = canonical_number point.time (time_range point.time is.time) in
     IsUtf8-append (sample_text (sample_of point)) (10 ∷ [])
-    (IsUtf8-append point.family _ (name_utf8 ends_name name_low point.family (is.family).clean)
+    (IsUtf8-append point.family _ (name_utf8 ends_name (alphabet_low Samples) point.family (is.family).clean)
     (IsUtf8-append (braces_text (in_braces point.labels)) _ (braces_utf8 point.labels is.labels)
     (first_ascii 32 _ (omega arith) (IsUtf8-append (number_text point.value) _ (number_utf8 (number_text point.value) number)
     (first_ascii 32 _ (omega arith) (IsUtf8-append (canonical_text point.time) [] (number_utf8 (canonical_text point.time) time) IsUtf8-nil))))))
@@ -78,7 +79,7 @@ type_utf8 : (family : List ℕ) → HasNone ends_name family → IsUtf8 (with_ne
 type_utf8 family is =
     IsUtf8-append (line_text (TypeLine family (codes "unknown"))) (10 ∷ [])
     (IsUtf8-append (codes "# TYPE ") _ (clean_words (codes "# TYPE ") (search rules))
-    (IsUtf8-append family (codes " unknown") (name_utf8 ends_name name_low family is) (clean_words (codes " unknown") (search rules))))
+    (IsUtf8-append family (codes " unknown") (name_utf8 ends_name (alphabet_low Samples) family is) (clean_words (codes " unknown") (search rules))))
     (one_ascii 10 (omega arith))
   where
     clean_words : (text : List ℕ) → AllByRecursion (λ b. b < 128) text → IsUtf8 text

@@ -4,6 +4,8 @@ use Rattle.std.specs.Char.{is_ascii_alphabetic, is_ascii_digit}
 use Rattle.std.specs.List.{position_or_len, list_all}
 use Rattle.text_parts.specs.Bytes.{underscore}
 use Rattle.metric.specs.Draft.{Tag}
+use Rattle.openmetrics_text.specs.declared.names.Alphabet.{Alphabet}
+use Rattle.openmetrics_text.specs.declared.names.Alphabet.TheVariants.{Labels, Samples}
 use Rattle.openmetrics_text.specs.Bytes.{colon}
 
 -- letters, digits and underscores are of the alphabet of labels; a colon is of that of samples too
@@ -13,12 +15,19 @@ is_label_byte b = is_ascii_alphabetic b || is_ascii_digit b || b == underscore
 abbrev pub is_name_byte : ℕ → Bool
 is_name_byte b = is_label_byte b || b == colon
 
--- what ends the name of a label, and of a sample
+abbrev pub is_of : Alphabet → ℕ → Bool
+is_of Labels b = is_label_byte b
+is_of Samples b = is_name_byte b
+
+-- what ends a name in an alphabet: that of a label, and of a sample
+abbrev pub ends : Alphabet → ℕ → Bool
+ends alphabet b = not (is_of alphabet b)
+
 abbrev pub ends_label : ℕ → Bool
-ends_label b = not (is_label_byte b)
+ends_label b = ends Labels b
 
 abbrev pub ends_name : ℕ → Bool
-ends_name b = not (is_name_byte b)
+ends_name b = ends Samples b
 
 -- how many bytes the name has that a text begins with: all before the first one that isn't of the alphabet,
 -- and none where the first is a digit

@@ -19,9 +19,13 @@ suffixes =
     codes "_total" ∷ codes "_created" ∷ codes "_bucket" ∷ codes "_count"
     ∷ codes "_sum" ∷ codes "_gcount" ∷ codes "_gsum" ∷ codes "_info" ∷ []
 
+-- a name is that of a sample without one of some suffixes
+abbrev pub has_suffix_of : List ℕ → List (List ℕ) → List ℕ → Bool
+has_suffix_of sample suffixes name = list_any (λ suffix. bytes_eq (name ++ suffix) sample) suffixes
+
 -- a name is that of a sample, or that without one suffix
 abbrev pub is_family_of : List ℕ → List ℕ → Bool
-is_family_of sample name = bytes_eq name sample || list_any (λ suffix. bytes_eq (name ++ suffix) sample) suffixes
+is_family_of sample name = bytes_eq name sample || has_suffix_of sample suffixes name
 
 -- the type of the last of these names that is that of a sample, or that without one suffix; without one, what
 -- was found before

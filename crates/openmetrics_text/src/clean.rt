@@ -2,13 +2,13 @@
 //! front.
 ghost use Rattle.std.specs.Prelude.{◌≡◌, IfOk, OnOk, map};
 ghost use Rattle.text_parts.specs.Adds.{Adds};
-ghost use Rattle.openmetrics_text.specs.Names.{ends_label, ends_name};
+ghost use Rattle.openmetrics_text.specs.Names.{ends, ends_label, ends_name};
 ghost use Rattle.openmetrics_text.specs.Writing.{clean_byte, digit_mark, cleaned, family_words, family_of};
 
-use crate::names::begins_with_digit;
+use crate::names::{Alphabet, begins_with_digit};
 use fixed_num::OutOfMemory;
 use std::alloc::Global;
-use text_parts::append_words;
+use text_parts::{append_words, translate};
 
 /// Each byte as it stands in the name of a label: a letter, a digit or `_`, or `_` for another.
 static LABEL_BYTES: [u8; 256] = *b"\
@@ -32,37 +32,13 @@ static NAME_BYTES: [u8; 256] = *b"\
     ________________________________\
     ________________________________";
 
-/// A byte as it stands in the name of a label.
-#[inline(always)]
-fn label_byte(byte: u8) -> u8
-    ensures { result ≡ clean_byte ends_label byte }
+/// Puts each byte as it stands in a name in an alphabet.
+fn clean(alphabet: Alphabet, bytes: &mut [u8])
+    ensures { bytes.new ≡ map (clean_byte (ends alphabet)) bytes.old }
 {
-    LABEL_BYTES[byte as usize]
-}
-
-/// A byte as it stands in the name of a sample.
-#[inline(always)]
-fn name_byte(byte: u8) -> u8
-    ensures { result ≡ clean_byte ends_name byte }
-{
-    NAME_BYTES[byte as usize]
-}
-
-/// Puts each byte as it stands in the name of a label.
-fn clean_label(bytes: &mut [u8])
-    ensures { bytes.new ≡ map (clean_byte ends_label) bytes.old }
-{
-    for byte in bytes.iter_mut() {
-        *byte = label_byte(*byte);
-    }
-}
-
-/// Puts each byte as it stands in the name of a sample.
-fn clean_name(bytes: &mut [u8])
-    ensures { bytes.new ≡ map (clean_byte ends_name) bytes.old }
-{
-    for byte in bytes.iter_mut() {
-        *byte = name_byte(*byte);
+    match alphabet {
+        Alphabet::Labels => translate(&LABEL_BYTES, bytes),
+        Alphabet::Samples => translate(&NAME_BYTES, bytes),
     }
 }
 
@@ -97,15 +73,15 @@ pub(crate) fn label_name(alloc: Global, key: &str) -> Result<Vec<u8>, OutOfMemor
     let mut name = Vec::with_capacity(alloc, key.len().saturating_add(1))?;
     append_mark(&mut name, key)?;
     append_words(&mut name, key)?;
-    clean_label(&mut name);
+    clean(Alphabet::Labels, &mut name);
     Ok(name)
 }
 
 /// Puts each byte of a family as it stands in the name of a sample.
-fn clean(family: &mut Vec<u8>)
+fn clean_family(family: &mut Vec<u8>)
     ensures { family.new.items ≡ map (clean_byte ends_name) family.old.items }
 {
-    clean_name(family);
+    clean(Alphabet::Samples, family);
 }
 
 /// Writes the family of a field, in place of what stood there.
@@ -115,6 +91,6 @@ pub(crate) fn write_family(family: &mut Vec<u8>, name: &str, key: &str) -> Resul
     family.clear();
     append_mark(family, name)?;
     append_family_words(family, name, key)?;
-    clean(family);
+    clean_family(family);
     Ok(())
 }

@@ -1,8 +1,8 @@
 //! What the lines of an exposition have said so far.
 ghost use Rattle.std.specs.Prelude.{◌≡◌, ◌<◌, ◌++◌, true, [], ◌∷◌, List, ℤ, Bool, length, map, OnOk, IfOk};
 ghost use Rattle.metric.specs.Draft.{Tag};
-ghost use Rattle.metric.specs.Pairs.{with_values, with_sorted, in_key_order, in_key_order_on};
-ghost use Rattle.openmetrics_text.specs.Collecting.{HaveSaid, IsReady};
+ghost use Rattle.metric.specs.Pairs.{in_key_order, in_key_order_on, with_sorted};
+ghost use Rattle.openmetrics_text.specs.Collecting.{HaveSaid};
 ghost use Rattle.openmetrics_text.specs.Lines.{LineSays, Typed, Sampled};
 ghost use Rattle.openmetrics_text.specs.Reading.{content_of, or_moment, type_tags};
 ghost use Rattle.openmetrics_text.specs.Types.{types_in, type_of};
@@ -13,45 +13,74 @@ use crate::line::Line;
 use crate::sample::Sample;
 use crate::types::Types;
 use fixed_num::{Fixed, Moment, OutOfMemory};
-use metric::{BuildFault, Builder, Metric, Value};
+use metric::{Builder, Metric, Text, Value};
 use std::alloc::Global;
 
 /// The metrics of the samples so far, how many were passed over, and the types so far.
 #[derive(Drop)]
 pub(crate) struct Collected<'a> {
+    alloc: Global,
+    /// The time of a sample without one: nanoseconds since 1970.
+    moment: Moment,
+    /// Whether a metric has the tag of its type.
+    typed: bool,
     pub(crate) metrics: Vec<Metric>,
     pub(crate) passed: u32,
     types: Types<'a>,
 }
 
-/// The metric at a time, of a builder with a name, a field and no empty key.
-fn finish(builder: Builder, time: Moment) -> Result<Metric, OutOfMemory>
-    requires { IsReady builder }
-    ensures { IfOk result (λ metric. metric ≡ record {
-      name = builder.name;
-      tags = with_values builder.tags;
-      fields = builder.fields;
-      time = time;
-    }) }
+/// Puts a label with a long text into a builder. A long text shares its bytes with that of the label's tag among those
+/// of the last metric, where it is equal.
+fn put_long(
+    alloc: Global,
+    builder: &mut Builder,
+    name: &str,
+    value: &str,
+    last: &[(Text, Text)],
+) -> Result<(), OutOfMemory>
+    ensures { OnOk result (builder.new
+        ≡ record builder.old { tags = with_sorted builder.old.tags name.now value.now }) }
 {
-    match builder.finish(time) {
-        Ok(metric) => Ok(metric),
-        Err(fault) => match fault {
-            BuildFault::OutOfMemory => Err(OutOfMemory),
-            _ => unreachable!(),
-        },
-    }
+    let like = last.iter().find(|tag| tag.0.as_str() == name);
+    let key = Text::sharing(alloc, like.map(|tag| &tag.0), name)?;
+    let value = Text::sharing(alloc, like.map(|tag| &tag.1), value)?;
+    builder.tag_of(key, value)?;
+    Ok(())
 }
 
-/// Puts labels into a builder that has no tags.
-fn put_labels(builder: &mut Builder, labels: &[Label]) -> Result<(), OutOfMemory>
+/// Puts a label into a builder. The last metric has these tags.
+fn put_label(
+    alloc: Global,
+    builder: &mut Builder,
+    label: &Label,
+    last: &[(Text, Text)],
+) -> Result<(), OutOfMemory>
+    ensures { OnOk result (builder.new ≡ record builder.old {
+      tags = with_sorted builder.old.tags (label_view label.now).0 (label_view label.now).1;
+    }) }
+{
+    let value = label.value.as_str();
+    if Text::is_short(label.name) && Text::is_short(value) {
+        builder.tag(label.name, value)?;
+        return Ok(());
+    }
+    put_long(alloc, builder, label.name, value, last)
+}
+
+/// Puts labels into a builder that has no tags. The last metric has these tags.
+fn put_labels(
+    alloc: Global,
+    builder: &mut Builder,
+    labels: &[Label],
+    last: &[(Text, Text)],
+) -> Result<(), OutOfMemory>
     requires none { builder.old.tags ≡ [] }
     ensures name { OnOk result (builder.new.name ≡ builder.old.name) }
     ensures tags { OnOk result (builder.new.tags ≡ in_key_order (map label_view labels.now)) }
     ensures fields { OnOk result (builder.new.fields ≡ builder.old.fields) }
 {
     for label in labels {
-        builder.tag(label.name, label.value.as_str())?;
+        put_label(alloc, builder, label, last)?;
     }
     Ok(())
 }
@@ -89,33 +118,15 @@ fn tags_of(labels: usize, typed: bool) -> usize {
     labels
 }
 
-/// The metric of a sample whose number is a decimal.
-fn metric_of(
-    alloc: Global,
-    sample: &Sample,
-    number: Fixed,
-    typed: bool,
-    kind: &str,
-    moment: Moment,
-) -> Result<Metric, OutOfMemory>
-    requires { IsFilled sample.now }
-    ensures { IfOk result
-        (λ metric. metric ≡ content_of moment typed kind.now (sample_view sample.now) number) }
-{
-    let tags = tags_of(sample.labels.len(), typed);
-    let mut builder = Builder::with_room(alloc, sample.name, tags, 1)?;
-    put_labels(&mut builder, sample.labels.as_slice())?;
-    put_type(&mut builder, typed, kind)?;
-    builder.field("value", Value::Fixed(number))?;
-    finish(builder, or_moment(moment, sample.time))
-}
-
 impl<'a> Collected<'a> {
     /// No line has said anything.
-    pub(crate) fn new(alloc: Global) -> Collected<'a>
-        ensures { (moment : ℤ) (typed : Bool) → HaveSaid moment typed result [] }
+    pub(crate) fn new(alloc: Global, moment: Moment, typed: bool) -> Collected<'a>
+        ensures { HaveSaid moment typed result [] }
     {
         Collected {
+            alloc,
+            moment,
+            typed,
             metrics: Vec::new(alloc),
             passed: 0,
             types: Types::new(alloc),
@@ -123,32 +134,64 @@ impl<'a> Collected<'a> {
     }
 
     // The type of a sample, where it is asked for.
-    fn kind_of(&self, typed: bool, name: &str) -> &'a str
-        ensures { (lines : List LineSays) (moment : ℤ) → HaveSaid moment typed self.now lines
+    fn kind_of(&self, name: &str) -> &'a str
+        ensures { (lines : List LineSays) (moment : ℤ) (typed : Bool) → HaveSaid moment typed self.now lines
             → typed ≡ true → result.now ≡ type_of name.now (types_in lines) }
     {
-        if typed {
+        if self.typed {
             return self.types.type_of(name);
         }
         ""
     }
 
-    // One more sample.
-    fn add_sample(
-        &mut self,
-        alloc: Global,
-        sample: &Sample,
-        moment: Moment,
-        typed: bool,
-    ) -> Result<(), OutOfMemory>
+    // The name of the last metric.
+    fn last_name(&self) -> Option<&Text> {
+        match self.metrics.last() {
+            Some(metric) => Some(metric.name()),
+            None => None,
+        }
+    }
+
+    // The tags of the last metric.
+    fn last_tags(&self) -> &[(Text, Text)] {
+        match self.metrics.last() {
+            Some(metric) => metric.tags(),
+            None => &[],
+        }
+    }
+
+    // The metric of a sample whose number is a decimal. Long texts share their bytes with those of the last metric,
+    // where they are equal.
+    fn metric_of(&self, sample: &Sample, number: Fixed, kind: &str) -> Result<Metric, OutOfMemory>
         requires { IsFilled sample.now }
-        ensures { OnOk result ((lines : List LineSays) → HaveSaid moment typed self.old lines
+        ensures { IfOk result (λ metric. metric
+            ≡ content_of self.now.moment self.now.typed kind.now (sample_view sample.now) number) }
+    {
+        let name = Text::sharing(self.alloc, self.last_name(), sample.name)?;
+        let tags = tags_of(sample.labels.len(), self.typed);
+        let mut builder = Builder::with_room_of(self.alloc, name, tags, 1)?;
+        put_labels(
+            self.alloc,
+            &mut builder,
+            sample.labels.as_slice(),
+            self.last_tags(),
+        )?;
+        put_type(&mut builder, self.typed, kind)?;
+        builder.field("value", Value::Fixed(number))?;
+        builder.complete(or_moment(self.moment, sample.time))
+    }
+
+    // One more sample.
+    fn add_sample(&mut self, sample: &Sample) -> Result<(), OutOfMemory>
+        requires { IsFilled sample.now }
+        ensures { OnOk result ((lines : List LineSays) (moment : ℤ) (typed : Bool)
+            → HaveSaid moment typed self.old lines
             → HaveSaid moment typed self.new (lines ++ Sampled (sample_view sample.now) ∷ [])) }
     {
         match sample.value {
             Some(number) => {
-                let kind = self.kind_of(typed, sample.name);
-                let metric = metric_of(alloc, sample, number, typed, kind, moment)?;
+                let kind = self.kind_of(sample.name);
+                let metric = self.metric_of(sample, number, kind)?;
                 self.metrics.push(metric)?;
                 Ok(())
             }
@@ -160,11 +203,12 @@ impl<'a> Collected<'a> {
     }
 
     // One more TYPE line.
-    fn add_type(&mut self, name: &'a str, kind: &'a str, typed: bool) -> Result<(), OutOfMemory>
-        ensures { OnOk result ((lines : List LineSays) (moment : ℤ) → HaveSaid moment typed self.old lines
+    fn add_type(&mut self, name: &'a str, kind: &'a str) -> Result<(), OutOfMemory>
+        ensures { OnOk result ((lines : List LineSays) (moment : ℤ) (typed : Bool)
+            → HaveSaid moment typed self.old lines
             → HaveSaid moment typed self.new (lines ++ Typed name.now kind.now ∷ [])) }
     {
-        if typed {
+        if self.typed {
             self.types.add(name, kind)?;
             return Ok(());
         }
@@ -174,17 +218,15 @@ impl<'a> Collected<'a> {
     // One more sample, whose labels leave their room.
     fn add_and_free(
         &mut self,
-        alloc: Global,
         sample: Sample<'a>,
         room: &mut Vec<Label<'a>>,
-        moment: Moment,
-        typed: bool,
     ) -> Result<(), OutOfMemory>
         requires { IsFilled sample }
-        ensures { OnOk result ((lines : List LineSays) → HaveSaid moment typed self.old lines
+        ensures { OnOk result ((lines : List LineSays) (moment : ℤ) (typed : Bool)
+            → HaveSaid moment typed self.old lines
             → HaveSaid moment typed self.new (lines ++ Sampled (sample_view sample.entry) ∷ [])) }
     {
-        self.add_sample(alloc, &sample, moment, typed)?;
+        self.add_sample(&sample)?;
         let Sample { labels, .. } = sample;
         *room = labels;
         Ok(())
@@ -193,20 +235,18 @@ impl<'a> Collected<'a> {
     /// One more line. The labels of a sample leave their room.
     pub(crate) fn add(
         &mut self,
-        alloc: Global,
         line: Line<'a>,
         room: &mut Vec<Label<'a>>,
-        moment: Moment,
-        typed: bool,
     ) -> Result<(), OutOfMemory>
         requires { IsFilledLine line }
-        ensures { OnOk result ((lines : List LineSays) → HaveSaid moment typed self.old lines
+        ensures { OnOk result ((lines : List LineSays) (moment : ℤ) (typed : Bool)
+            → HaveSaid moment typed self.old lines
             → HaveSaid moment typed self.new (lines ++ line_view line.entry ∷ [])) }
     {
         match line {
-            Line::Typed(name, kind) => self.add_type(name, kind, typed),
+            Line::Typed(name, kind) => self.add_type(name, kind),
             Line::Nothing => Ok(()),
-            Line::Sampled(sample) => self.add_and_free(alloc, sample, room, moment, typed),
+            Line::Sampled(sample) => self.add_and_free(sample, room),
         }
     }
 }

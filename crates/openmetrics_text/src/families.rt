@@ -45,20 +45,7 @@ fn append_all(out: &mut Vec<u8>, lines: &Lines) -> Result<(), OutOfMemory>
     Ok(())
 }
 
-/// Appends the lines of the samples of a series by their times.
-fn append_by_time(
-    alloc: Global,
-    out: &mut Vec<u8>,
-    samples: &[SampleLine],
-) -> Result<(), OutOfMemory>
-    ensures { Adds result out.old.items out.new.items (series_text (map line_view samples.now)) }
-{
-    let lines = lines_of(alloc, samples)?;
-    append_all(out, &lines)?;
-    Ok(())
-}
-
-/// Appends the lines of the samples of a series. Most series of a batch have one.
+/// Appends the lines of the samples of a series by their times. Most series of a batch have one.
 fn append_series(
     alloc: Global,
     out: &mut Vec<u8>,
@@ -66,10 +53,12 @@ fn append_series(
 ) -> Result<(), OutOfMemory>
     ensures { Adds result out.old.items out.new.items (series_text (map line_view samples.now)) }
 {
-    match samples {
-        [sample] => append_bytes(out, sample.text),
-        _ => append_by_time(alloc, out, samples),
+    if let [sample] = samples {
+        return append_bytes(out, sample.text);
     }
+    let lines = lines_of(alloc, samples)?;
+    append_all(out, &lines)?;
+    Ok(())
 }
 
 /// The samples of a family by their series.
@@ -93,31 +82,17 @@ fn append_each_series(alloc: Global, out: &mut Vec<u8>, groups: &[Group]) -> Res
     Ok(())
 }
 
-/// Appends the lines of the samples of a family, series by series.
-fn append_by_series(
-    alloc: Global,
-    out: &mut Vec<u8>,
-    samples: &[SampleLine],
-) -> Result<(), OutOfMemory>
-    ensures { Adds result out.old.items out.new.items (samples_text (map line_view samples.now)) }
+/// Appends the lines of a family, series by series. Most families have one sample.
+fn append_samples(alloc: Global, out: &mut Vec<u8>, family: &Group) -> Result<(), OutOfMemory>
+    ensures { Adds result out.old.items out.new.items (samples_text (group_view family.now).1) }
 {
+    let samples = family.samples.as_slice();
+    if let [sample] = samples {
+        return append_bytes(out, sample.text);
+    }
     let groups = series_of(alloc, samples)?;
     append_each_series(alloc, out, groups.as_slice())?;
     Ok(())
-}
-
-/// Appends the lines of the samples of a family.
-fn append_samples(
-    alloc: Global,
-    out: &mut Vec<u8>,
-    samples: &[SampleLine],
-) -> Result<(), OutOfMemory>
-    ensures { Adds result out.old.items out.new.items (samples_text (map line_view samples.now)) }
-{
-    match samples {
-        [sample] => append_bytes(out, sample.text),
-        _ => append_by_series(alloc, out, samples),
-    }
 }
 
 /// Appends the line of a family's type.
@@ -135,7 +110,7 @@ fn append_family(alloc: Global, out: &mut Vec<u8>, group: &Group) -> Result<(), 
     ensures { Adds result out.old.items out.new.items (family_group (group_view group.now)) }
 {
     append_type(out, group.key)?;
-    append_samples(alloc, out, group.samples.as_slice())?;
+    append_samples(alloc, out, group)?;
     Ok(())
 }
 

@@ -11,7 +11,7 @@ ghost use Rattle.openmetrics_text.specs.Labels.{AreNamed};
 ghost use Rattle.openmetrics_text.specs.Views.{text_view, label_view};
 
 use crate::fault::{ExpositionKind, fault};
-use crate::names::label_len;
+use crate::names::{Alphabet, name_len};
 use fixed_num::OutOfMemory;
 use std::alloc::{AllocError, Global};
 use std::collections::BTreeMap;
@@ -82,7 +82,7 @@ fn label_name_at<'a>(line: &'a str, i: usize) -> Result<&'a str, ReadError<Expos
     ensures behind { IfOk result (λ name. IsCharBoundary line.now (i + length name.now + 2)) }
 {
     let (_, rest) = line.split_at(i);
-    let n = label_len(rest.as_bytes());
+    let n = name_len(Alphabet::Labels, rest.as_bytes());
     if n == 0 || !is_opened_at(line, i + n) {
         return Err(fault(ExpositionKind::BadLabel));
     }

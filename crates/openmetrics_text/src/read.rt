@@ -83,7 +83,7 @@ fn read_lines<'a>(
     ensures { Gives said_view result
         (lines_reading moment typed (option_map (λ text. text.now) text.entry)) }
 {
-    let mut collected = Collected::new(alloc);
+    let mut collected = Collected::new(alloc, moment, typed);
     let Some(text) = text else {
         return Ok(collected);
     };
@@ -91,7 +91,7 @@ fn read_lines<'a>(
     let mut lines = Separated::of(b'\n', Placed { place: 0, text });
     while let Some(line) = lines.next() {
         let says = line_at(alloc, &line, &mut room)?;
-        collected.add(alloc, says, &mut room, moment, typed)?;
+        collected.add(says, &mut room)?;
     }
     Ok(collected)
 }
@@ -145,6 +145,7 @@ fn read_piece(
 /// number is an infinity or NaN is passed over and counted. Without a time the metric's time is the moment. With
 /// `type_tag` a metric has the tag `om_type`, over a label of that name: the type of the last TYPE line before the
 /// sample whose name is the sample's, or that without one of the suffixes that OpenMetrics gives, else `unknown`.
+/// Metrics one behind the other share long texts that are equal.
 ///
 /// `NotUtf8` comes before all else, then `NoEof`, then the first line with a fault. In a line a fault in the name
 /// or between the braces comes first; then `BadLine`, where the line has another shape, then `BadNumber`,

@@ -11,7 +11,7 @@ ghost use Rattle.openmetrics_text.specs.Views.{IsFilled};
 
 use crate::fault::{ExpositionKind, fault};
 use crate::labels::{Label, is_at, labels_at};
-use crate::names::name_len;
+use crate::names::{Alphabet, name_len};
 use crate::number::{Number, Time, number_of, time_of};
 use fixed_num::{Fixed, Moment};
 use std::alloc::Global;
@@ -66,7 +66,7 @@ fn head_of<'a>(
     ensures labels { IfOk result (λ head. AreNamed (map label_view head.labels.items)) }
     ensures behind { IfOk result (λ head. head.behind ≤ length line.now) }
 {
-    let n = name_len(line.as_bytes());
+    let n = name_len(Alphabet::Samples, line.as_bytes());
     if n == 0 {
         return Err(fault(ExpositionKind::BadLine));
     }

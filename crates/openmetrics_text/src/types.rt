@@ -2,12 +2,24 @@
 ghost use Rattle.std.specs.Prelude.{◌≡◌, ◌++◌, [], ◌∷◌, codes, OnOk, List, map, slice_index_or};
 ghost use Rattle.std.specs.Str.{bytes_eq};
 ghost use Rattle.metric.specs.Draft.{Tag};
-ghost use Rattle.openmetrics_text.specs.Types.{last_of, later, type_of, is_family_of};
+ghost use Rattle.openmetrics_text.specs.Types.{last_of, later, type_of, has_suffix_of, is_family_of};
 ghost use Rattle.openmetrics_text.specs.TypeViews.{HaveTypes};
 
 use fixed_num::OutOfMemory;
 use std::alloc::Global;
 use std::collections::BTreeMap;
+
+/// What a sample's name may have behind the name of its family.
+static SUFFIXES: [&[u8]; 8] = [
+    b"_total",
+    b"_created",
+    b"_bucket",
+    b"_count",
+    b"_sum",
+    b"_gcount",
+    b"_gsum",
+    b"_info",
+];
 
 /// The types of the TYPE lines that were read, and for each of their names the place of its last one.
 #[derive(Drop)]
@@ -69,20 +81,24 @@ impl<'a> Types<'a> {
         }
     }
 
+    // The place of the last TYPE line of a sample's name without one of some suffixes.
+    fn last_with(&self, name: &[u8], suffixes: &[&[u8]]) -> Option<usize>
+        ensures { (pairs : List Tag) → HaveTypes self.now pairs
+            → result ≡ last_of (has_suffix_of name.now (map (λ suffix. suffix.now) suffixes.now)) pairs }
+    {
+        let mut last = None;
+        for suffix in suffixes {
+            last = later(last, self.last_without(name, suffix));
+        }
+        last
+    }
+
     // The place of the last TYPE line of a sample's name, or that without one suffix.
     fn last_for(&self, name: &[u8]) -> Option<usize>
         ensures { (pairs : List Tag) → HaveTypes self.now pairs
             → result ≡ last_of (is_family_of name.now) pairs }
     {
-        let info = self.last_without(name, b"_info");
-        let gsum = later(self.last_without(name, b"_gsum"), info);
-        let gcount = later(self.last_without(name, b"_gcount"), gsum);
-        let sum = later(self.last_without(name, b"_sum"), gcount);
-        let count = later(self.last_without(name, b"_count"), sum);
-        let bucket = later(self.last_without(name, b"_bucket"), count);
-        let created = later(self.last_without(name, b"_created"), bucket);
-        let total = later(self.last_without(name, b"_total"), created);
-        later(self.last_of(name), total)
+        later(self.last_of(name), self.last_with(name, &SUFFIXES))
     }
 
     // The type at a place.

@@ -2,7 +2,7 @@
 ghost use Rattle.std.specs.Prelude.{◌≡◌, ◌++◌, [], ◌∷◌, codes, flat_map, IfOk, OnOk, OnErr};
 ghost use Rattle.fixed_num.specs.Canonical.{canonical_text};
 ghost use Rattle.text_parts.specs.Adds.{Adds};
-ghost use Rattle.metric.specs.Numbers.{is_text, number_text};
+ghost use Rattle.metric.specs.Numbers.{number_text};
 ghost use Rattle.openmetrics_text.specs.Writing.{labels_of, written_labels, point_of};
 ghost use Rattle.openmetrics_text.specs.Writing.{points_of_field, points_of_metric, points_of};
 ghost use Rattle.openmetrics_text.specs.Writing.{batch_text};
@@ -16,30 +16,7 @@ use crate::texts::{Place, Row, Texts, families_of};
 use fixed_num::{Fixed, Moment, OutOfMemory};
 use metric::{Metric, Text, Value};
 use std::alloc::Global;
-use text_parts::{append_bytes, append_int, append_uint, append_words, settle};
-
-/// Whether a value is a text.
-fn is_text(value: &Value) -> bool
-    ensures { result ≡ is_text value.now }
-{
-    matches!(value, Value::Text(_))
-}
-
-/// Appends a number.
-#[tactic(auto, unfolding(metric::specs::Numbers::number_text))]
-fn append_value(alloc: Global, out: &mut Vec<u8>, value: &Value) -> Result<(), OutOfMemory>
-    ensures { Adds result out.old.items out.new.items (number_text value.now) }
-{
-    match value {
-        Value::Int(n) => append_int(out, n)?,
-        Value::Uint(n) => append_uint(out, *n)?,
-        Value::Fixed(n) => n.append(alloc, out)?,
-        Value::Bool(true) => append_words(out, "1")?,
-        Value::Bool(false) => append_words(out, "0")?,
-        Value::Text(_) => {}
-    }
-    Ok(())
-}
+use text_parts::{append_bytes, append_words, settle};
 
 /// A time as seconds.
 fn seconds_of(time: &Moment) -> Fixed
@@ -69,7 +46,7 @@ fn append_numbers(
     ensures { Adds result out.old.items out.new.items
         (number_text value.now ++ codes " " ++ canonical_text time.now) }
 {
-    append_value(alloc, out, value)?;
+    value.append_number(alloc, out)?;
     append_words(out, " ")?;
     append_time(alloc, out, time)?;
     Ok(())
@@ -150,7 +127,7 @@ fn put_field(
     requires series { IsAt texts.old.bytes.items series (series_key (labels_of metric.now.tags)) }
     ensures { OnOk result (Puts texts.old texts.new (points_of_field metric.now field.now)) }
 {
-    if is_text(&field.1) {
+    if field.1.is_text() {
         return Ok(());
     }
     write_family(family, metric.name().as_str(), field.0.as_str())?;

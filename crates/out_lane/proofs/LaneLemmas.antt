@@ -1,5 +1,5 @@
 -- The laws of the calls.
-use Rattle.std.proofs.Common.{◌≡◌, ℕ, ◌+◌, ◌-◌, ◌<◌, ◌≤◌, ◌==◌, eqb, leb, min, max, true, false, ◌||◌, ◌↔◌}
+use Rattle.std.proofs.Common.{◌≡◌, ℕ, ◌+◌, ◌-◌, ◌<◌, ◌≤◌, ◌==◌, eqb, leb, min, max, Bool, true, false, ◌||◌, ◌↔◌}
 use Rattle.std.proofs.Common.{inl, inr, List, [], ◌∷◌, ◌++◌, length, take, drop, slice_get, is_some, IsSome}
 use Rattle.std.proofs.Common.{if◌then◌else◌, Option, Some, None, Result, Ok, Err, refl, sym, ◌∙◌, ap, subst}
 use Rattle.std.proofs.Common.{arith, length-drop}
@@ -245,86 +245,100 @@ module _ {X : Type 0} where
   open_range None offers lane f h = absurd (none_flies lane.flight f h)
   open_range (Some range) offers lane f h = (range, refl)
 
-  pub accept_meets : (batch limit : ℕ) (es : List LaneEvent) (offers : List X) (lane : LaneState X) →
-      IsLaneOf batch limit es offers lane → IsSome lane.flight → Accepts batch limit es offers lane
-  accept_meets batch limit es offers lane a g =
+  -- the range of a batch in flight: what the lane and the tests of positions say of it
+  record HasOpen (limit : ℕ) (r : Ranges) (offers : List X) (lane : LaneState X) : Type 0 where
+    range : ℕ × ℕ
+    opened : r.begun ≡ Some range
+    inside : OpenIn limit r.pushed r.written_to range
+    flight : IsFlight (Some range) offers lane
+    end : open_end r.begun ≡ range.1
+    offered : length offers ≡ r.pushed
+    is_open : IsOpen r.begun
+    was : (p : ℕ) → buffered_by limit r p ≡ (holds p range || leb (oldest_waiting limit r) p)
+
+  has_open : (batch limit : ℕ) (es : List LaneEvent) (offers : List X) (lane : LaneState X) →
+      IsLaneOf batch limit es offers lane → IsSome lane.flight → HasOpen limit (ranges_of es) offers lane
+  has_open batch limit es offers lane a g =
       let r : Ranges = ranges_of es in
       let s : Steady limit r = steady_of batch limit es offers lane a in
-      let n : length offers ≡ r.pushed = a.state.offered in
       let flew = open_range r.begun offers lane a.state.flight g in
-      let range : ℕ × ℕ = flew.0 in
-      let opened : r.begun ≡ Some range = flew.1 in
-      let open_in : OpenIn limit r.pushed r.written_to range = subst (λ (o : Option (ℕ × ℕ)). IsOpenIn limit r.pushed r.written_to o) opened s.open_range in
-      let flight : IsFlight (Some range) offers lane = subst (λ (o : Option (ℕ × ℕ)). IsFlight o offers lane) opened a.state.flight in
-      let end : open_end r.begun ≡ range.1 = ap open_end opened in
-      let wrote : reached true r.written_to r.begun ≡ range.1 = ap (λ (o : Option (ℕ × ℕ)). reached true r.written_to o) opened in
+      let opened : r.begun ≡ Some flew.0 = flew.1 in
+      record {
+        range = flew.0;
+        opened = opened;
+        inside = subst (λ (o : Option (ℕ × ℕ)). IsOpenIn limit r.pushed r.written_to o) opened s.open_range;
+        flight = subst (λ (o : Option (ℕ × ℕ)). IsFlight o offers lane) opened a.state.flight;
+        end = ap open_end opened;
+        offered = a.state.offered;
+        is_open = subst IsOpen (sym opened) tt;
+        was = λ p. ap (λ (o : Option (ℕ × ℕ)). is_in_open p o || leb (oldest_waiting limit r) p) opened;
+      }
+
+  -- the lane behind a batch that is done, where these items wait
+  done_lane : (batch limit : ℕ) (es : List LaneEvent) (ok : Bool) (offers : List X) (lane : LaneState X) (waiting : List X) → IsLaneOf batch limit es offers lane → IsOpen (ranges_of es).begun → waiting ≡ drop (oldest_waiting limit (ranges_after (ranges_of es) (Done ok))) offers → IsLaneOf batch limit (es ++ Done ok ∷ []) offers (record lane { flight = None; waiting = waiting })
+  done_lane batch limit es ok offers lane waiting a m w =
+      next_lane batch limit es (Done ok) offers lane offers (record lane { flight = None; waiting = waiting }) a m (record {
+        batch = a.state.batch;
+        limit = a.state.limit;
+        pushed = a.state.pushed;
+        offered = a.state.offered;
+        flight = refl;
+        waiting = w;
+      })
+
+  accepts : (batch limit : ℕ) (es : List LaneEvent) (offers : List X) (lane : LaneState X) →
+      IsLaneOf batch limit es offers lane → HasOpen limit (ranges_of es) offers lane →
+      Accepts batch limit es offers lane
+  accepts batch limit es offers lane a o =
+      let r : Ranges = ranges_of es in
+      let range : ℕ × ℕ = o.range in
+      let wrote : reached true r.written_to r.begun ≡ range.1 = ap (λ (b : Option (ℕ × ℕ)). reached true r.written_to b) o.opened in
       let start : ℕ = oldest_waiting limit r in
       let next : ℕ = oldest_waiting limit (ranges_after r (Done true)) in
       let same : start ≡ next = omega arith in
       let new_is : (p : ℕ) → list_any (holds p) (newly r.begun (Done true)) ≡ holds p range =
-      λ p. ap (λ (o : Option (ℕ × ℕ)). list_any (holds p) (newly o (Done true))) opened ∙ once_any (holds p range) in
-      let was_is : (p : ℕ) → buffered_by limit r p ≡ (holds p range || leb start p) =
-      λ p. ap (λ (o : Option (ℕ × ℕ)). is_in_open p o || leb start p) opened in
-      let meets : IsOpen r.begun = subst IsOpen (sym opened) tt in
+      λ p. ap (λ (b : Option (ℕ × ℕ)). list_any (holds p) (newly b (Done true))) o.opened ∙ once_any (holds p range) in
       record {
-        meets = meets;
-        state = next_lane batch limit es (Done true) offers lane offers (after_accept lane) a meets (record {
-          batch = a.state.batch;
-          limit = a.state.limit;
-          pushed = a.state.pushed;
-          offered = a.state.offered;
-          flight = refl;
-          waiting = a.state.waiting ∙ ap (λ k. drop k offers) same;
-        });
+        meets = o.is_open;
+        state = done_lane batch limit es true offers lane lane.waiting a o.is_open (a.state.waiting ∙ ap (λ k. drop k offers) same);
         written = record {
           from = range.0;
           to = range.1;
           ordered = omega arith;
           within = omega arith;
-          are = ap batch_items flight;
-          were = λ p l m. was_buffered limit es p (is_unwritten batch limit es p a.some a.legal (omega arith)) (was_is p ∙ inside_is_buffered range.0 range.1 start p l m);
+          are = ap batch_items o.flight;
+          were = λ p l m. was_buffered limit es p (is_unwritten batch limit es p a.some a.legal (omega arith)) (o.was p ∙ inside_is_buffered range.0 range.1 start p l m);
           become = λ p l m. is_now_written limit es (Done true) p (new_is p ∙ holds_inside range.0 range.1 p l m);
-          others = λ p l o. stays limit es (Done true) p (new_is p ∙ outside_is_no_more range.0 range.1 p o) (accept_same range.0 range.1 start next p same o ∙ sym (was_is p));
+          others = λ p l m. stays limit es (Done true) p (new_is p ∙ outside_is_no_more range.0 range.1 p m) (accept_same range.0 range.1 start next p same m ∙ sym (o.was p));
         };
       }
 
-  pub fail_meets : (batch limit : ℕ) (es : List LaneEvent) (offers : List X) (lane : LaneState X) →
-      IsLaneOf batch limit es offers lane → IsSome lane.flight → Fails batch limit es offers lane
-  fail_meets batch limit es offers lane a g =
+  pub accept_meets : (batch limit : ℕ) (es : List LaneEvent) (offers : List X) (lane : LaneState X) →
+      IsLaneOf batch limit es offers lane → IsSome lane.flight → Accepts batch limit es offers lane
+  accept_meets batch limit es offers lane a g =
+      accepts batch limit es offers lane a (has_open batch limit es offers lane a g)
+
+  fails : (batch limit : ℕ) (es : List LaneEvent) (offers : List X) (lane : LaneState X) →
+      IsLaneOf batch limit es offers lane → HasOpen limit (ranges_of es) offers lane →
+      Fails batch limit es offers lane
+  fails batch limit es offers lane a o =
       let r : Ranges = ranges_of es in
-      let s : Steady limit r = steady_of batch limit es offers lane a in
-      let n : length offers ≡ r.pushed = a.state.offered in
-      let flew = open_range r.begun offers lane a.state.flight g in
-      let range : ℕ × ℕ = flew.0 in
-      let opened : r.begun ≡ Some range = flew.1 in
-      let open_in : OpenIn limit r.pushed r.written_to range = subst (λ (o : Option (ℕ × ℕ)). IsOpenIn limit r.pushed r.written_to o) opened s.open_range in
-      let flight : IsFlight (Some range) offers lane = subst (λ (o : Option (ℕ × ℕ)). IsFlight o offers lane) opened a.state.flight in
-      let end : open_end r.begun ≡ range.1 = ap open_end opened in
+      let range : ℕ × ℕ = o.range in
       let start : ℕ = oldest_waiting limit r in
       let next : ℕ = oldest_waiting limit (ranges_after r (Done false)) in
       let starts : start ≡ max range.1 (r.pushed - limit) = omega arith in
       let starts' : start ≡ max range.1 (length offers - limit) = omega arith in
       let nexts : next ≡ max range.0 (r.pushed - limit) = omega arith in
       let to : ℕ = min range.1 next in
-      let was_is : (p : ℕ) → buffered_by limit r p ≡ (holds p range || leb start p) =
-      λ p. ap (λ (o : Option (ℕ × ℕ)). is_in_open p o || leb start p) opened in
       let unwritten : (p : ℕ) → range.0 ≤ p → is_written es p ≡ false = λ p l. is_unwritten batch limit es p a.some a.legal (omega arith) in
-      let meets : IsOpen r.begun = subst IsOpen (sym opened) tt in
       record {
-        meets = meets;
-        state = next_lane batch limit es (Done false) offers lane offers (after_fail lane) a meets (record {
-          batch = a.state.batch;
-          limit = a.state.limit;
-          pushed = a.state.pushed;
-          offered = a.state.offered;
-          flight = refl;
-          waiting =
-              ap (λ k. newest k (flying lane ++ lane.waiting)) a.state.limit
-              ∙ ap (λ (xs : List X). newest limit (xs ++ lane.waiting)) (ap batch_items flight)
-              ∙ ap (λ (xs : List X). newest limit (items_between range.0 range.1 offers ++ xs)) a.state.waiting
-              ∙ newest_failed limit range.0 range.1 start offers (omega arith) (omega arith) starts'
-              ∙ ap (λ k. drop k offers) (let e : max range.0 (length offers - limit) ≡ next = omega arith in e);
-        });
+        meets = o.is_open;
+        state = done_lane batch limit es false offers lane (newest lane.limit (flying lane ++ lane.waiting)) a o.is_open
+            (ap (λ k. newest k (flying lane ++ lane.waiting)) a.state.limit
+            ∙ ap (λ (xs : List X). newest limit (xs ++ lane.waiting)) (ap batch_items o.flight)
+            ∙ ap (λ (xs : List X). newest limit (items_between range.0 range.1 offers ++ xs)) a.state.waiting
+            ∙ newest_failed limit range.0 range.1 start offers (omega arith) (omega arith) starts'
+            ∙ ap (λ k. drop k offers) (let e : max range.0 (length offers - limit) ≡ next = omega arith in e));
         dropped = record {
           from = range.0;
           to = to;
@@ -332,15 +346,20 @@ module _ {X : Type 0} where
           within = omega arith;
           are =
               ap (λ k. older k (flying lane ++ lane.waiting)) a.state.limit
-              ∙ ap (λ (xs : List X). older limit (xs ++ lane.waiting)) (ap batch_items flight)
+              ∙ ap (λ (xs : List X). older limit (xs ++ lane.waiting)) (ap batch_items o.flight)
               ∙ ap (λ (xs : List X). older limit (items_between range.0 range.1 offers ++ xs)) a.state.waiting
               ∙ older_failed limit range.0 range.1 start offers (omega arith) (omega arith) starts'
               ∙ ap (λ k. items_between range.0 k offers) (let e : min range.1 (max range.0 (length offers - limit)) ≡ to = omega arith in e);
-          were = λ p l m. was_buffered limit es p (unwritten p l) (was_is p ∙ inside_is_buffered range.0 range.1 start p l (omega arith));
+          were = λ p l m. was_buffered limit es p (unwritten p l) (o.was p ∙ inside_is_buffered range.0 range.1 start p l (omega arith));
           become = λ p l m. is_now limit es (Done false) p false (unwritten p l) refl (lt-leb next p (omega arith));
-          others = λ p l o. stays limit es (Done false) p refl (fail_same range.0 range.1 start next (r.pushed - limit) p (omega arith) starts nexts o ∙ sym (was_is p));
+          others = λ p l m. stays limit es (Done false) p refl (fail_same range.0 range.1 start next (r.pushed - limit) p (omega arith) starts nexts m ∙ sym (o.was p));
         };
       }
+
+  pub fail_meets : (batch limit : ℕ) (es : List LaneEvent) (offers : List X) (lane : LaneState X) →
+      IsLaneOf batch limit es offers lane → IsSome lane.flight → Fails batch limit es offers lane
+  fail_meets batch limit es offers lane a g =
+      fails batch limit es offers lane a (has_open batch limit es offers lane a g)
 
   -- what is kept is what is buffered
   kept_in_flight : (limit n w p : ℕ) (o : Option (ℕ × ℕ)) (offers : List X) (lane : LaneState X) →

@@ -2,23 +2,22 @@
 -- from the meanings: the reports stand in the entries, and the fates and numbers below.
 use Rattle.std.proofs.Common.{◌≡◌, ℕ, Bool, true, false, List, [], ◌∷◌, ◌++◌, map, refl}
 use Rattle.std.specs.Prelude.{pos}
-use Rattle.std.specs.declared.option.Option.{Option}
 use Rattle.std.specs.declared.option.Option.TheVariants.{Some, None}
 use Rattle.metric.specs.declared.metric.Content.{Content}
 use Rattle.account.specs.Setup.{Setup}
 use Rattle.account.specs.Says.{reports_of}
 use Rattle.account.specs.Items.{items, taken, routes}
-use Rattle.account.specs.Origins.{Origin, origins, raw_of, is_made, group_inputs, groups}
+use Rattle.account.specs.Numbers.{unread_input}
+use Rattle.account.specs.Origins.{origins, group_inputs}
 use Rattle.account.specs.declared.entry.Entry.{Entry}
 use Rattle.account.specs.declared.entry.Entry.TheVariants.{Gather, Take, Route, Begin, Done}
 use Rattle.account.specs.declared.entry.Report.{Report}
 use Rattle.account.specs.declared.entry.Verdict.TheVariants.{Passes, Removed}
-use Rattle.account.specs.declared.numbers.InputNumbers.{InputNumbers}
 use Rattle.out_lane.specs.LaneEvents.{ranges_from, accepted_from}
 use Rattle.pipeline_core.specs.Offers.{offers, lane_events}
 use Rattle.pipeline_core.specs.Fates.{Fate, ItemFate, item_fates, fates_from}
 use Rattle.pipeline_core.specs.Fates as fate
-use Rattle.pipeline_core.specs.Groups.{copies, live_count, reports_at}
+use Rattle.pipeline_core.specs.Groups.{reports_at}
 use Rattle.pipeline_core.specs.Totals.{input_total, input_total_from, reported_with}
 
 -- an input that may have five live groups; an output with batches of two and room for two, and one with batches
@@ -87,14 +86,15 @@ journal m =
     ∷ Done 0 true (told 6 true ∷ [])
     ∷ []
 
--- the reports of each of the entries, which come after those before them, by the definition
-unfoldable pub settled : List Entry → List Entry → List (List Report)
-settled before [] = []
-settled before (e ∷ es) = reports_at setup before e ∷ settled (before ++ e ∷ []) es
+-- what each of these entries has by a definition, where they come after those before them
+module _ {X : Type 0} (value : List Entry → Entry → X) where
+  unfoldable pub each : List Entry → List Entry → List X
+  each before [] = []
+  each before (e ∷ es) = value before e ∷ each (before ++ e ∷ []) es
 
 -- each entry has the reports that the definition gives it
-pub each_is_told : (m : Content) → settled [] (journal m) ≡ map reports_of (journal m)
-unfolding settled reports_at origins items taken routes group_inputs offers lane_events fates_from ranges_from accepted_from
+pub each_is_told : (m : Content) → each (reports_at setup) [] (journal m) ≡ map reports_of (journal m)
+unfolding each reports_at origins items taken routes group_inputs offers lane_events fates_from ranges_from accepted_from
 each_is_told m = refl
 
 -- an item and its fate
@@ -116,17 +116,7 @@ unfolding offers lane_events fates_from ranges_from accepted_from
 fates_at_second m = refl
 
 -- of the seven groups three were delivered and four rejected, and none is live
-pub counts : (m : Content) → input_total 0 true (journal m) ≡ record {
-  tracked = true;
-  pieces = 7;
-  refused = 0;
-  passed = 0;
-  filtered = 0;
-  gathered = 8;
-  has_ended = false;
-  delivered = 3;
-  rejected = 4;
-  undelivered = 0;
-}
+pub counts : (m : Content) →
+    input_total 0 true (journal m) ≡ record (unread_input true) { pieces = 7; gathered = 8; delivered = 3; rejected = 4 }
 unfolding input_total_from reported_with
 counts m = refl

@@ -15,8 +15,10 @@ use Rattle.std.specs.declared.option.Option.{Option}
 use Rattle.std.specs.declared.option.Option.TheVariants.{Some, None}
 use Rattle.metric.specs.declared.metric.Content.{Content}
 use Rattle.account.specs.declared.entry.Entry.{Entry}
+use Rattle.account.specs.declared.entry.Verdict.{Verdict}
+use Rattle.account.specs.declared.entry.Verdict.TheVariants as verdicts
 use Rattle.account.specs.Numbers.{Numbers, output_numbers, unread_input, no_numbers, unreached_output}
-use Rattle.account.specs.Numbers.{with_output}
+use Rattle.account.specs.Numbers.{with_output, sum_of_fates}
 use Rattle.account.specs.declared.numbers.InputNumbers.{InputNumbers}
 use Rattle.account.specs.declared.numbers.OutputNumbers.{OutputNumbers}
 use Rattle.out_lane.specs.Lane.{LaneState, empty_lane}
@@ -29,12 +31,12 @@ use Rattle.pipeline_core.specs.declared.setup.CoreSetup.{CoreSetup}
 use Rattle.pipeline_core.specs.declared.setup.InSetup.{InSetup}
 use Rattle.pipeline_core.specs.declared.setup.OutSetup.{OutSetup}
 use Rattle.pipeline_core.specs.CoreState.{setup_of, lane_of, sizes, most_undelivered, is_tracked, CoreState}
-use Rattle.pipeline_core.specs.CoreState.{IsCore, IsOutput, InputsAgree, sizes_at, flights, in_flight}
+use Rattle.pipeline_core.specs.CoreState.{IsCore, IsOutput, OutputsAgree, InputsAgree, ItemsAgree, sizes_at, flights, in_flight}
 use Rattle.pipeline_core.specs.CoreState.{held_count, lane_at}
 use Rattle.pipeline_core.specs.declared.gathering.Gathered.{Gathered}
 use Rattle.pipeline_core.specs.Steps.{after_gather, after_ended, after_take, lanes_routed, numbers_routed}
 use Rattle.pipeline_core.specs.Steps.{HasFew, lane_with, numbers_with, buffered_more, lane_done, count_done}
-use Rattle.pipeline_core.specs.Steps.{counted_done, HasNumbers, HasItems}
+use Rattle.pipeline_core.specs.Steps.{counted_done, late_more, consumed_more, HasNumbers, HasItems}
 
 in_flight-le : (x : LaneState Offer) → in_flight x ≤ 1
 in_flight-le x = elim (is_some x.flight) as (λ b. (if b then 1 else 0) ≤ 1) [ true ↦ omega arith | false ↦ omega arith ]
@@ -46,7 +48,7 @@ flights-le lanes = omega (arith, sum_by-le in_flight 1 lanes (λ k d h. in_fligh
 -- entries, the moment and the stop have no part in it
 pub kept_entries : (s : CoreState) (stored : List Entry) (counted : ℤ) (stopped : Bool) → IsCore s → IsCore (record s { stored = stored; counted = counted; stopped = stopped })
 kept_entries s stored counted stopped h =
-    record { outputs = h.outputs; inputs = h.inputs; items = h.items; untracked = h.untracked; no_aggs = h.no_aggs }
+    record { outputs = h.outputs; inputs = h.inputs; items = h.items; plain = h.plain }
 
 -- an input's numbers have no part in the others
 inputs_kept : (inputs : List (Option ℕ)) (numbers : List InputNumbers) (ended : List Bool) (i : ℕ) (x : InputNumbers) → InputsAgree inputs numbers ended → InputsAgree inputs (set numbers i x) ended
@@ -63,8 +65,7 @@ kept_gather s g stored h few items =
         few_gathered = few;
         gone = h.items.gone;
       };
-      untracked = h.untracked;
-      no_aggs = h.no_aggs;
+      plain = h.plain;
     }
 
 pub kept_ended : (s : CoreState) (input : ℕ) (stored : List Entry) → IsCore s → IsCore (record (after_ended s input) { stored = stored })
@@ -73,8 +74,7 @@ kept_ended s input stored h =
       outputs = h.outputs;
       inputs = record { number_count = length-set s.numbers.inputs _ _ ∙ h.inputs.number_count; ended_count = length-set s.ended _ _ ∙ h.inputs.ended_count };
       items = h.items;
-      untracked = h.untracked;
-      no_aggs = h.no_aggs;
+      plain = h.plain;
     }
 
 pub kept_take : (s : CoreState) (stored : List Entry) → IsCore s → s.held ≡ None → 0 < length s.raw → IsCore (record (after_take s) { stored = stored })
@@ -88,8 +88,7 @@ kept_take s stored h empty some =
         few_gathered = h.items.few_gathered;
         gone = omega (arith, h.items.gone, ap held_count empty);
       };
-      untracked = h.untracked;
-      no_aggs = h.no_aggs;
+      plain = h.plain;
     }
 
 -- there are few enough items that one more may be routed
@@ -128,10 +127,15 @@ output_pushed_full size routed x at view h e =
     rw (full (length at.waiting) at.limit e)
     (record { batch = h.batch; limit = h.limit; some = h.some; fits = h.fits; waits = omega (arith, kept); flies = h.flies; buffered = omega (arith, kept, whole, e, h.buffered); all = omega (arith, h.all); pushed = omega (arith, h.pushed) })
 
+-- an output agrees once a metric was kept from it
+output_kept : (size : ℕ × ℕ) (routed : ℕ) (x y : OutputNumbers) (at : LaneState Offer) → y.buffered ≡ x.buffered → sum_of_fates y ≡ sum_of_fates x + 1 →
+    IsOutput size routed x at → IsOutput size (routed + 1) y at
+output_kept size routed x y at same more h =
+    record { batch = h.batch; limit = h.limit; some = h.some; fits = h.fits; waits = h.waits; flies = h.flies; buffered = same ∙ h.buffered; all = omega (arith, h.all, more); pushed = omega (arith, h.pushed) }
+
 -- an output agrees once a view was offered to it
 pub output_offered : (size : ℕ × ℕ) (routed : ℕ) (x : OutputNumbers) (at : LaneState Offer) (item : ℕ) (view : Option Content) → IsOutput size routed x at → IsOutput size (routed + 1) (numbers_with view at x) (lane_with item view at)
-output_offered size routed x at item None h =
-    record { batch = h.batch; limit = h.limit; some = h.some; fits = h.fits; waits = h.waits; flies = h.flies; buffered = h.buffered; all = omega (arith, h.all); pushed = omega (arith, h.pushed) }
+output_offered size routed x at item None h = output_kept size routed x (numbers_with None at x) at refl (omega arith) h
 output_offered size routed x at item (Some view) h =
     elim (eq-or-lt_of_le h.waits) [
       | inl e ↦ output_pushed_full size routed x at (record { item = item; view = view }) h e
@@ -171,24 +175,34 @@ each_with sizes routed all lanes o x at a b h new k c =
       ]
     ]
 
--- an item is counted, and offered to the outputs unless it was removed
-kept_as : (whole : Option Content) (s : CoreState) (outs : List (Option Content)) (item : ℕ) (stored : List Entry) → s.held ≡ Some item → IsCore s →
+-- an item that was in hand is routed
+routed_items : (s : CoreState) (item : ℕ) → s.held ≡ Some item → IsCore s →
+    ItemsAgree (length s.raw) s.taken 0 s.gathered s.numbers.made s.numbers.removed (s.numbers.routed + 1)
+routed_items s item held h =
+    record { come = h.items.come; few = h.items.few; few_gathered = h.items.few_gathered; gone = omega (arith, h.items.gone, ap held_count held) }
+
+-- an item is counted at each output
+counted_at_each : (more : OutputNumbers → OutputNumbers) (s : CoreState) → ((o : ℕ) → o < length s.setup.outputs →
+    IsOutput (sizes_at s.setup o) (s.numbers.routed + 1) (more (output_numbers s.numbers o)) (lane_at s.lanes o)) → IsCore s →
+    OutputsAgree s.setup.outputs (s.numbers.routed + 1) (map more s.numbers.outputs) s.lanes
+counted_at_each more s each h =
+    record {
+      lane_count = h.outputs.lane_count;
+      number_count = length-map s.numbers.outputs more ∙ h.outputs.number_count;
+      few = h.outputs.few;
+      each = λ o b. rw (get_or-map more s.numbers.outputs o unreached_output unreached_output (omega (arith, b, h.outputs.number_count))) (each o b);
+    }
+
+-- an item is offered and counted by its verdict
+kept_as : (verdict : Verdict) (s : CoreState) (outs : List (Option Content)) (item : ℕ) (stored : List Entry) → s.held ≡ Some item → IsCore s →
     IsCore (record s {
       held =
           None;
-      lanes = lanes_routed item whole outs s.lanes;
-      numbers = numbers_routed whole outs s.lanes s.numbers;
+      lanes = lanes_routed item verdict outs s.lanes;
+      numbers = numbers_routed verdict outs s.lanes s.numbers;
       stored = stored;
     })
-kept_as None s outs item stored held h =
-    record {
-      outputs = h.outputs;
-      inputs = h.inputs;
-      items = record { come = h.items.come; few = h.items.few; few_gathered = h.items.few_gathered; gone = omega (arith, h.items.gone, ap held_count held) };
-      untracked = h.untracked;
-      no_aggs = h.no_aggs;
-    }
-kept_as (Some whole) s outs item stored held h =
+kept_as verdicts.Passes s outs item stored held h =
     record {
       outputs = record {
         lane_count = length-lanes_with item outs s.lanes ∙ h.outputs.lane_count;
@@ -199,27 +213,49 @@ kept_as (Some whole) s outs item stored held h =
             (output_offered (sizes_at s.setup o) s.numbers.routed (output_numbers s.numbers o) (lane_at s.lanes o) item (view_at o outs) (h.outputs.each o b));
       };
       inputs = h.inputs;
+      items = routed_items s item held h;
+      plain = h.plain;
+    }
+kept_as verdicts.Consumed s outs item stored held h =
+    record {
+      outputs = counted_at_each consumed_more s (λ o b. output_kept (sizes_at s.setup o) s.numbers.routed (output_numbers s.numbers o) (consumed_more (output_numbers s.numbers o)) (lane_at s.lanes o) refl (omega arith) (h.outputs.each o b)) h;
+      inputs = h.inputs;
+      items = routed_items s item held h;
+      plain = h.plain;
+    }
+kept_as verdicts.Late s outs item stored held h =
+    record {
+      outputs = counted_at_each late_more s (λ o b. output_kept (sizes_at s.setup o) s.numbers.routed (output_numbers s.numbers o) (late_more (output_numbers s.numbers o)) (lane_at s.lanes o) refl (omega arith) (h.outputs.each o b)) h;
+      inputs = h.inputs;
+      items = routed_items s item held h;
+      plain = h.plain;
+    }
+kept_as verdicts.Removed s outs item stored held h =
+    record {
+      outputs = h.outputs;
+      inputs = h.inputs;
       items = record { come = h.items.come; few = h.items.few; few_gathered = h.items.few_gathered; gone = omega (arith, h.items.gone, ap held_count held) };
-      untracked = h.untracked;
-      no_aggs = h.no_aggs;
+      plain = h.plain;
     }
 
-pub length-lanes_routed : (item : ℕ) (whole : Option Content) (outs : List (Option Content)) (lanes : List (LaneState Offer)) → length (lanes_routed item whole outs lanes) ≡ length lanes
-length-lanes_routed item None outs lanes = refl
-length-lanes_routed item (Some whole) outs lanes = length-lanes_with item outs lanes
+pub length-lanes_routed : (item : ℕ) (verdict : Verdict) (outs : List (Option Content)) (lanes : List (LaneState Offer)) → length (lanes_routed item verdict outs lanes) ≡ length lanes
+length-lanes_routed item verdicts.Passes outs lanes = length-lanes_with item outs lanes
+length-lanes_routed item verdicts.Consumed outs lanes = refl
+length-lanes_routed item verdicts.Late outs lanes = refl
+length-lanes_routed item verdicts.Removed outs lanes = refl
 
-pub kept_route : (s : CoreState) (whole : Option Content) (outs : List (Option Content)) (item : ℕ) (lanes : List (LaneState Offer)) (numbers : Numbers) (stored : List Entry) → s.held ≡ Some item →
-    lanes ≡ lanes_routed item whole outs s.lanes → numbers ≡ numbers_routed whole outs s.lanes s.numbers → IsCore s → IsCore (record s {
+pub kept_route : (s : CoreState) (verdict : Verdict) (outs : List (Option Content)) (item : ℕ) (lanes : List (LaneState Offer)) (numbers : Numbers) (stored : List Entry) → s.held ≡ Some item →
+    lanes ≡ lanes_routed item verdict outs s.lanes → numbers ≡ numbers_routed verdict outs s.lanes s.numbers → IsCore s → IsCore (record s {
       held =
           None;
       lanes = lanes;
       numbers = numbers;
       stored = stored;
     })
-kept_route s whole outs item lanes numbers stored held l n h =
+kept_route s verdict outs item lanes numbers stored held l n h =
     subst (λ (x : List (LaneState Offer)). IsCore (record s { held = None; lanes = x; numbers = numbers; stored = stored })) (sym l)
-    (subst (λ (x : Numbers). IsCore (record s { held = None; lanes = lanes_routed item whole outs s.lanes; numbers = x; stored = stored })) (sym n)
-    (kept_as whole s outs item stored held h))
+    (subst (λ (x : Numbers). IsCore (record s { held = None; lanes = lanes_routed item verdict outs s.lanes; numbers = x; stored = stored })) (sym n)
+    (kept_as verdict s outs item stored held h))
 
 -- few enough metrics came to each output that one more may
 pub has_few : (s : CoreState) → IsCore s → (o : ℕ) → o < length s.lanes →
@@ -244,8 +280,7 @@ kept_begin s o at stored b none e h =
       };
       inputs = h.inputs;
       items = h.items;
-      untracked = h.untracked;
-      no_aggs = h.no_aggs;
+      plain = h.plain;
     }
 
 -- a batch is done
@@ -270,8 +305,7 @@ kept_done s o ok at numbers stored b e n h =
       };
       inputs = h.inputs;
       items = h.items;
-      untracked = h.untracked;
-      no_aggs = h.no_aggs;
+      plain = h.plain;
     })
 
 -- one batch fewer is in flight
@@ -339,8 +373,7 @@ kept_first setup raw lanes numbers stored counted ended few untracked sized r l 
         ended_count = length-replicate (length setup.inputs) false ∙ sym (length-map setup.inputs most_undelivered);
       };
       items = record { come = refl; few = omega arith; few_gathered = omega arith; gone = refl };
-      untracked = record { none = untracked_at_first setup.inputs untracked };
-      no_aggs = record { none = refl };
+      plain = record { untracked = untracked_at_first setup.inputs untracked; no_aggs = refl };
     })
 
 pub kept_gathered : (s : CoreState) (g : Gathered) (raw : List Content) (numbers : Numbers) (gathered : ℕ) (stored : List Entry) → IsCore s → HasNumbers s g → HasItems s g →

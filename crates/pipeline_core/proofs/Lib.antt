@@ -11,6 +11,8 @@ pub mod StandsSteps
 pub mod StandsLanes
 pub mod StandsCuts
 pub mod GroupExamples
+pub mod TrackedExamples
+pub mod MadeExamples
 pub mod StopLemmas
 pub mod RouteLemmas
 pub mod OrderLemmas

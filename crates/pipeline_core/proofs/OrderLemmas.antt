@@ -1,8 +1,10 @@
 -- What is sent before more is gathered, with one entry more.
-use Rattle.std.proofs.Common.{List, [], ◌∷◌, ◌++◌, sym, subst, append_assoc, append-nil}
+use Rattle.std.proofs.Common.{◌≡◌, ◌<◌, ◌⊎◌, ℕ, List, [], ◌∷◌, ◌++◌, length, sym, subst, append_assoc, append-nil}
 use Rattle.account.specs.Setup.{Setup}
+use Rattle.account.specs.Origins.{raw_of}
 use Rattle.account.specs.declared.entry.Entry.{Entry}
-use Rattle.pipeline_core.specs.Order.{IsOrderly, AreOrderly, InOrder}
+use Rattle.pipeline_core.specs.Offers.{lane_events}
+use Rattle.pipeline_core.specs.Order.{NothingBuffered, EndsFailed, IsTicked, IsDrained, IsOrderly, AreOrderly, InOrder}
 
 AreOrderly-push : (setup : Setup) (before es : List Entry) (e : Entry) → AreOrderly setup before es → IsOrderly setup (before ++ es) e → AreOrderly setup before (es ++ e ∷ [])
 unfolding AreOrderly
@@ -16,3 +18,13 @@ in_order-push setup journal e h o = AreOrderly-push setup [] journal e h o
 pub in_order_first : (setup : Setup) → InOrder setup []
 unfolding AreOrderly
 in_order_first setup = tt
+
+-- without aggregators no Tick has to come
+pub ticked_plain : (setup : Setup) (before : List Entry) → setup.aggs ≡ [] → IsTicked setup before
+ticked_plain setup before none some = absurd (some none)
+
+-- without aggregators it is enough that no item of the input is raw, and that all was sent or the last batch failed
+pub drained_plain : (setup : Setup) (before : List Entry) (input : ℕ) → setup.aggs ≡ [] → raw_of input before ≡ [] → ((output : ℕ) → output < length setup.outputs → NothingBuffered setup before output ⊎ EndsFailed (lane_events output before))
+    → IsDrained setup before input
+drained_plain setup before input none none_raw each =
+    record { none_raw = none_raw; each = each; ticked = ticked_plain setup before none }

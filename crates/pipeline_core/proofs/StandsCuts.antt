@@ -21,7 +21,6 @@ use Rattle.pipeline_core.specs.CoreState.{most_undelivered, is_tracked}
 use Rattle.pipeline_core.specs.Stands.{Stands}
 use Rattle.pipeline_core.specs.Steps.{after_cut}
 use Rattle.pipeline_core.specs.declared.setup.CoreSetup.{CoreSetup}
-use Rattle.pipeline_core.specs.declared.setup.InSetup.{InSetup}
 use Rattle.pipeline_core.specs.declared.setup.OutSetup.{OutSetup}
 use Rattle.pipeline_core.proofs.TotalPush.{inputs-at, outputs-at, length-inputs, length-outputs}
 use Rattle.pipeline_core.proofs.OutputPush.{same_totals}

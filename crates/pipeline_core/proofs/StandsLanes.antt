@@ -1,12 +1,12 @@
 -- A core that stands for a journal stands for it once an item was routed, or a batch was begun or done.
 use Rattle.std.proofs.Common.{◌≡◌, ◌≢◌, ◌<◌, ◌≤◌, ℕ, ◌+◌, Bool, true, false, List, [], ◌∷◌, ◌++◌, length, min}
-use Rattle.std.proofs.Common.{inl, inr, refl, sym, ap, ◌∙◌, subst, arith, append-nil, set, get_or, IsSome}
+use Rattle.std.proofs.Common.{inl, inr, refl, sym, ap, ◌∙◌, subst, arith, append-nil, set, get_or, map, IsSome}
 use Rattle.std.proofs.Common.{if◌then◌else◌}
 use Rattle.std.proofs.Math.Bool.{or-false}
 use Rattle.std.proofs.Math.Nat.{eq-or-lt_of_le}
 use Rattle.std.proofs.lemmas.Bool.{cases_lt}
 use Rattle.std.proofs.lemmas.Option.{slice_get-get_or}
-use Rattle.std.proofs.lemmas.List.{get_or-set_same, get_or-set_other, length-set}
+use Rattle.std.proofs.lemmas.List.{get_or-set_same, get_or-set_other, length-set, length-map, get_or-map}
 use Rattle.std.specs.List.{AllByRecursion}
 use Rattle.std.specs.declared.option.Option.{Option}
 use Rattle.std.specs.declared.option.Option.TheVariants.{Some, None}
@@ -19,31 +19,35 @@ use Rattle.out_lane.specs.LaneEvents.{LaneEvent, Ranges, ranges_of, IsOpen}
 use Rattle.out_lane.specs.LaneEvents as events
 use Rattle.out_lane.specs.Lane.{LaneState, empty_lane, waiting_from, begin_answer}
 use Rattle.out_lane.specs.Lane as lane
-use Rattle.out_lane.specs.LaneLaws.{IsLaneOf, Answers, Begins}
+use Rattle.out_lane.specs.LaneLaws.{IsLaneOf, Answers, Begins, Becomes}
 use Rattle.out_lane.proofs.LaneLemmas.{begun_answer, push_meets, begin_meets, accept_meets, fail_meets}
 use Rattle.pipeline_core.specs.Fates.{Fate}
 use Rattle.pipeline_core.specs.Offers.{offers, offer_of, offered_by, lane_events, lane_events_by, view_at}
 use Rattle.pipeline_core.specs.Offers.{pushes}
 use Rattle.pipeline_core.specs.declared.output.Offer.{Offer}
 use Rattle.account.specs.Views.{HasViews}
-use Rattle.pipeline_core.specs.Windows.{verdict_of, judged}
+use Rattle.pipeline_core.specs.Windows.{judged}
 use Rattle.pipeline_core.specs.Totals.{totals, output_total}
 use Rattle.pipeline_core.specs.CoreState.{CoreState, IsCore, lane_at, sizes_at}
 use Rattle.pipeline_core.specs.Stands.{Stands, Continues}
 use Rattle.pipeline_core.specs.Steps.{after_begin, after_done, after_route, route_entry, lane_with}
-use Rattle.pipeline_core.specs.Steps.{numbers_with, lanes_with, outputs_with, lanes_routed, numbers_routed}
-use Rattle.pipeline_core.specs.Steps.{lane_done, count_done, counted_done, done_entry}
+use Rattle.pipeline_core.specs.Steps.{numbers_with, outputs_with, lanes_routed, numbers_routed}
+use Rattle.pipeline_core.specs.Steps.{lane_done, count_done, counted_done, done_entry, route_verdict}
+use Rattle.pipeline_core.specs.Steps.{late_more, consumed_more}
 use Rattle.pipeline_core.specs.declared.routing.Routed.{Routed}
+use Rattle.account.specs.declared.entry.Verdict.{Verdict}
 use Rattle.account.specs.declared.entry.Verdict.TheVariants as verdicts
-use Rattle.pipeline_core.proofs.FateCounts.{kept_out, kept_out_by}
-use Rattle.pipeline_core.proofs.Offering.{lanes_with-at, outputs_with-at, length-lanes_with}
+use Rattle.pipeline_core.proofs.FateCounts.{kept_out_by}
+use Rattle.pipeline_core.proofs.Offering.{lanes_with-at, outputs_with-at}
 use Rattle.pipeline_core.proofs.Offering.{length-outputs_with}
-use Rattle.pipeline_core.proofs.TotalPush.{inputs-same, outputs-same, outputs-set, outputs-as, outputs-at}
-use Rattle.pipeline_core.proofs.OutputPush.{output_stays, output_filters, output_begins, output_pushes}
-use Rattle.pipeline_core.proofs.OutputPush.{output_accepts, output_fails, totals-push}
+use Rattle.pipeline_core.proofs.TotalPush.{outputs-same, outputs-set, outputs-as, outputs-at}
+use Rattle.pipeline_core.proofs.Keeping.{length-lanes_routed}
+use Rattle.pipeline_core.proofs.ShapeLemmas.{nothing-aggregates}
+use Rattle.pipeline_core.proofs.OutputPush.{output_stays, output_filters, output_lates, output_consumes, output_begins}
+use Rattle.pipeline_core.proofs.OutputPush.{output_pushes, fate_done, views_done, output_ends, totals-push}
 use Rattle.pipeline_core.proofs.Standing.{stands_grows, lanes_stay, ended_stays}
 use Rattle.pipeline_core.proofs.StandsSteps.{differs, same_number, outputs_stay, nil_of_length}
-use Rattle.pipeline_core.proofs.StandsSteps.{nothing_reported, settles_none}
+use Rattle.pipeline_core.proofs.StandsSteps.{nothing_reported, inputs_stay, settles_none}
 
 -- a batch that is done, at its output's lane
 lane_is_done : (ok : Bool) (b l : ℕ) (es : List LaneEvent) (offs : List Offer) (x : LaneState Offer) →
@@ -103,7 +107,7 @@ stands_begin s o from to core b none some f t journal h =
       lanes = lanes_one s journal e o (lane.after_begin x) (events.Begin from to) h b here others (λ k. refl) got.state;
       lane_count = length-set s.lanes o (lane.after_begin x);
       numbers =
-          totals-push s.setup journal e s.numbers s.numbers h.numbers (ap (λ (n : Numbers). n.inputs) h.numbers ∙ sym (inputs-same s.setup journal e (λ i y. nothing_reported i y))) (omega arith) (omega arith) (omega arith)
+          totals-push s.setup journal e s.numbers s.numbers h.numbers (inputs_stay s journal e h (λ i y. nothing_reported i y)) (omega arith) (omega arith) (omega arith)
           (ap (λ (n : Numbers). n.outputs) h.numbers ∙ sym (outputs-same s.setup journal e totals_stay));
       stored = refl;
       gathered = omega arith;
@@ -113,15 +117,11 @@ stands_begin s o from to core b none some f t journal h =
       stopped = sym (or-false s.stopped);
     })
 
--- the numbers of a batch that is done
-total_is_done : (ok : Bool) (b l o : ℕ) (journal : List Entry) (e : Entry) (x : LaneState Offer) →
-    lane_events_by o e ≡ events.Done ok ∷ [] → offered_by o e ≡ [] →
-    ((t : Fate → Bool) → kept_out t o e ≡ 0) →
-    IsSome x.flight → IsLaneOf b l (lane_events o journal) (offers o journal) x → output_total l o (journal ++ e ∷ []) ≡ counted_done ok (count_done ok x) (output_total l o journal)
-total_is_done true b l o journal e x v w k some h =
-    output_accepts b l o journal e x v w k (accept_meets b l (lane_events o journal) (offers o journal) x h some)
-total_is_done false b l o journal e x v w k some h =
-    output_fails b l o journal e x v w k (fail_meets b l (lane_events o journal) (offers o journal) x h some)
+-- what becomes of the views of a batch that is done
+views_end : (ok : Bool) (b l : ℕ) (es : List LaneEvent) (offs : List Offer) (x : LaneState Offer) → IsSome x.flight →
+    IsLaneOf b l es offs x → Becomes l es (es ++ events.Done ok ∷ []) offs (fate_done ok) (views_done ok x)
+views_end true b l es offs x some h = (accept_meets b l es offs x h some).written
+views_end false b l es offs x some h = (fail_meets b l es offs x h some).dropped
 
 pub stands_done : (s : CoreState) (o : ℕ) (ok : Bool) → IsCore s → o < length s.setup.outputs →
     IsSome (lane_at s.lanes o).flight → Continues s (after_done s o ok) (done_entry s o ok)
@@ -143,10 +143,10 @@ stands_done s o ok core b some journal h =
       lanes = lanes_one s journal e o (lane_done ok x) (events.Done ok) h b here others (λ k. refl) (lane_is_done ok batch limit (lane_events o journal) (offers o journal) x some (h.lanes o b));
       lane_count = length-set s.lanes o (lane_done ok x);
       numbers =
-          totals-push s.setup journal e s.numbers (after_done s o ok).numbers h.numbers (ap (λ (n : Numbers). n.inputs) h.numbers ∙ sym (inputs-same s.setup journal e (λ i y. nothing_reported i y))) (omega arith) (omega arith) (omega arith)
+          totals-push s.setup journal e s.numbers (after_done s o ok).numbers h.numbers (inputs_stay s journal e h (λ i y. nothing_reported i y)) (omega arith) (omega arith) (omega arith)
           (ap (λ (n : Numbers). set n.outputs o (counted_done ok (count_done ok x) (get_or n.outputs o unreached_output))) h.numbers
           ∙ sym (outputs-set s.setup journal e o (counted_done ok (count_done ok x) old) b (λ k c d. output_stays (sizes_at s.setup k).1 k journal e (others k d) refl (λ t. refl))
-          (total_is_done ok batch limit o journal e x here refl (λ t. refl) some (h.lanes o b) ∙ ap (counted_done ok (count_done ok x)) (sym (outputs-at s.setup journal o b)))));
+          (output_ends ok limit o journal e x here refl (λ t. refl) (views_end ok batch limit (lane_events o journal) (offers o journal) x some (h.lanes o b)) ∙ ap (counted_done ok (count_done ok x)) (sym (outputs-at s.setup journal o b)))));
       stored = refl;
       gathered = omega arith;
       counted = refl;
@@ -160,7 +160,7 @@ no_views : (s : CoreState) (aggs : List (Option Content)) → IsCore s → lengt
     AllByRecursion (λ (view : Option Content). view ≡ None) aggs
 no_views s aggs core number =
     subst (AllByRecursion (λ (view : Option Content). view ≡ None))
-    (sym (nil_of_length aggs (number ∙ ap length core.no_aggs.none))) tt
+    (sym (nil_of_length aggs (number ∙ ap length core.plain.no_aggs))) tt
 
 -- a view that is offered, at its output's lane
 lane_is_offered : (item : ℕ) (view : Option Content) (b l : ℕ) (es : List LaneEvent) (offs : List Offer) (x : LaneState Offer) → IsLaneOf b l es offs x → IsLaneOf b l (es ++ pushes (offer_of item view)) (offs ++ offer_of item view) (lane_with item view x)
@@ -172,74 +172,89 @@ abbrev kept_view : (Fate → Bool) → Option Content → ℕ
 kept_view t view = kept_out_by t verdicts.Passes view
 
 -- and its numbers
-total_is_offered : (view : Option Content) (b l o : ℕ) (journal : List Entry) (item : ℕ) (whole : Content) (aggs outs : List (Option Content)) (x : LaneState Offer) → view_at o outs ≡ view → 1 ≤ x.limit → length x.waiting ≤ x.limit →
-    IsLaneOf b l (lane_events o journal) (offers o journal) x → output_total l o (journal ++ Route item (Some whole) (verdict_of (Some whole)) aggs outs [] ∷ []) ≡ numbers_with view x (output_total l o journal)
+total_is_offered : (view : Option Content) (b l o : ℕ) (journal : List Entry) (item : ℕ) (whole : Option Content) (aggs outs : List (Option Content)) (x : LaneState Offer) → view_at o outs ≡ view → 1 ≤ x.limit → length x.waiting ≤ x.limit →
+    IsLaneOf b l (lane_events o journal) (offers o journal) x → output_total l o (journal ++ Route item whole verdicts.Passes aggs outs [] ∷ []) ≡ numbers_with view x (output_total l o journal)
 total_is_offered None b l o journal item whole aggs outs x v some most h =
-    let e : Entry = Route item (Some whole) (verdict_of (Some whole)) aggs outs [] in
+    let e : Entry = Route item whole verdicts.Passes aggs outs [] in
     output_filters l o journal e (ap (λ (w : Option Content). pushes (offer_of item w)) v) (ap (offer_of item) v) (λ t. ap (kept_view t) v)
 total_is_offered (Some view) b l o journal item whole aggs outs x v some most h =
-    let e : Entry = Route item (Some whole) (verdict_of (Some whole)) aggs outs [] in
+    let e : Entry = Route item whole verdicts.Passes aggs outs [] in
     output_pushes b l o journal e (record { item = item; view = view }) x (ap (λ (w : Option Content). pushes (offer_of item w)) v) (ap (offer_of item) v) (λ t. ap (kept_view t) v) some most (push_meets b l (lane_events o journal) (offers o journal) x (record { item = item; view = view }) h)
 
-stands_routed : (whole : Option Content) (s : CoreState) (item : ℕ) (aggs outs : List (Option Content)) →
+-- the lanes, once an item was routed with a verdict
+lanes_grow : (verdict : Verdict) (s : CoreState) (journal : List Entry) (item : ℕ) (whole : Option Content) (aggs outs : List (Option Content)) → Stands s journal →
+    let e : Entry = Route item whole verdict aggs outs [] in
+    (o : ℕ) → o < length s.setup.outputs →
+    IsLaneOf (sizes_at s.setup o).0 (sizes_at s.setup o).1 (lane_events o journal ++ lane_events_by o e) (offers o journal ++ offered_by o e) (lane_at (lanes_routed item verdict outs s.lanes) o)
+lanes_grow verdicts.Passes s journal item whole aggs outs h o b =
+    subst (IsLaneOf (sizes_at s.setup o).0 (sizes_at s.setup o).1 (lane_events o journal ++ pushes (offer_of item (view_at o outs))) (offers o journal ++ offer_of item (view_at o outs))) (sym (lanes_with-at item outs s.lanes o (omega (arith, b, h.lane_count))))
+    (lane_is_offered item (view_at o outs) (sizes_at s.setup o).0 (sizes_at s.setup o).1 (lane_events o journal) (offers o journal) (lane_at s.lanes o) (h.lanes o b))
+lanes_grow verdicts.Consumed s journal item whole aggs outs h o b = lanes_stay s journal h o b
+lanes_grow verdicts.Late s journal item whole aggs outs h o b = lanes_stay s journal h o b
+lanes_grow verdicts.Removed s journal item whole aggs outs h o b = lanes_stay s journal h o b
+
+-- an item is counted at each output
+counted_at_each : (more : OutputNumbers → OutputNumbers) (s : CoreState) (journal : List Entry) (e : Entry) → IsCore s → Stands s journal →
+    ((l o : ℕ) → output_total l o (journal ++ e ∷ []) ≡ more (output_total l o journal)) →
+    map more s.numbers.outputs ≡ (totals s.setup (journal ++ e ∷ [])).outputs
+counted_at_each more s journal e core h each =
+    sym (outputs-as s.setup journal e (map more s.numbers.outputs) (length-map s.numbers.outputs more ∙ core.outputs.number_count)
+    (λ o b. each (sizes_at s.setup o).1 o
+    ∙ ap more (sym (ap (λ (n : Numbers). get_or n.outputs o unreached_output) h.numbers ∙ outputs-at s.setup journal o b))
+    ∙ sym (get_or-map more s.numbers.outputs o unreached_output unreached_output (omega (arith, b, core.outputs.number_count)))))
+
+-- the numbers, once an item was routed with a verdict
+numbers_grow : (verdict : Verdict) (s : CoreState) (journal : List Entry) (item : ℕ) (whole : Option Content) (aggs outs : List (Option Content)) → IsCore s → Stands s journal →
+    let e : Entry = Route item whole verdict aggs outs [] in
+    numbers_routed verdict outs s.lanes s.numbers ≡ totals s.setup (journal ++ e ∷ [])
+numbers_grow verdicts.Passes s journal item whole aggs outs core h =
+    let e : Entry = Route item whole verdicts.Passes aggs outs [] in
+    totals-push s.setup journal e s.numbers (numbers_routed verdicts.Passes outs s.lanes s.numbers) h.numbers (inputs_stay s journal e h (λ i y. nothing_reported i y)) (omega arith) (omega arith) (omega arith)
+    (sym (outputs-as s.setup journal e (outputs_with outs s.lanes s.numbers.outputs) (length-outputs_with outs s.lanes s.numbers.outputs ∙ core.outputs.number_count)
+    (λ o b. total_is_offered (view_at o outs) (sizes_at s.setup o).0 (sizes_at s.setup o).1 o journal item whole aggs outs (lane_at s.lanes o) refl (omega (arith, (core.outputs.each o b).some, (core.outputs.each o b).fits)) (core.outputs.each o b).waits (h.lanes o b)
+    ∙ ap (numbers_with (view_at o outs) (lane_at s.lanes o)) (sym (ap (λ (n : Numbers). get_or n.outputs o unreached_output) h.numbers ∙ outputs-at s.setup journal o b))
+    ∙ sym (outputs_with-at outs s.lanes s.numbers.outputs o (omega (arith, core.outputs.number_count))))))
+numbers_grow verdicts.Consumed s journal item whole aggs outs core h =
+    let e : Entry = Route item whole verdicts.Consumed aggs outs [] in
+    totals-push s.setup journal e s.numbers (numbers_routed verdicts.Consumed outs s.lanes s.numbers) h.numbers (inputs_stay s journal e h (λ i y. nothing_reported i y)) (omega arith) (omega arith) (omega arith)
+    (counted_at_each consumed_more s journal e core h (λ l o. output_consumes l o journal e refl refl (λ t. refl)))
+numbers_grow verdicts.Late s journal item whole aggs outs core h =
+    let e : Entry = Route item whole verdicts.Late aggs outs [] in
+    totals-push s.setup journal e s.numbers (numbers_routed verdicts.Late outs s.lanes s.numbers) h.numbers (inputs_stay s journal e h (λ i y. nothing_reported i y)) (omega arith) (omega arith) (omega arith)
+    (counted_at_each late_more s journal e core h (λ l o. output_lates l o journal e refl refl (λ t. refl)))
+numbers_grow verdicts.Removed s journal item whole aggs outs core h =
+    let e : Entry = Route item whole verdicts.Removed aggs outs [] in
+    totals-push s.setup journal e s.numbers (numbers_routed verdicts.Removed outs s.lanes s.numbers) h.numbers (inputs_stay s journal e h (λ i y. nothing_reported i y)) (omega arith) (omega arith) (omega arith)
+    (ap (λ (n : Numbers). n.outputs) h.numbers ∙ sym (outputs_stay s.setup journal e (λ o. refl) (λ o. refl) (λ o t. refl)))
+
+-- an item is routed with the verdict of the windows
+stands_routed : (verdict : Verdict) (whole : Option Content) (s : CoreState) (item : ℕ) (aggs outs : List (Option Content)) →
     IsCore s → s.held ≡ Some item → length aggs ≡ length s.setup.aggs → length outs ≡ length s.setup.outputs → HasViews whole (aggs ++ outs) →
+    ((journal : List Entry) → Stands s journal → verdict ≡ judged s.setup journal whole aggs) →
     Continues s (record s {
       held =
           None;
-      lanes = lanes_routed item whole outs s.lanes;
-      numbers = numbers_routed whole outs s.lanes s.numbers;
-      stored = s.stored ++ Route item whole (verdict_of whole) aggs outs [] ∷ [];
-    }) (Route item whole (verdict_of whole) aggs outs [])
-unfolding judged
-stands_routed None s item aggs outs core held number count views journal h =
-    let e : Entry = Route item None (verdict_of None) aggs outs [] in
+      lanes = lanes_routed item verdict outs s.lanes;
+      numbers = numbers_routed verdict outs s.lanes s.numbers;
+      stored = s.stored ++ Route item whole verdict aggs outs [] ∷ [];
+    }) (Route item whole verdict aggs outs [])
+stands_routed verdict whole s item aggs outs core held number count views is journal h =
+    let e : Entry = Route item whole verdict aggs outs [] in
     stands_grows s (record s {
       held =
           None;
-      numbers = numbers_routed None outs s.lanes s.numbers;
+      lanes = lanes_routed item verdict outs s.lanes;
+      numbers = numbers_routed verdict outs s.lanes s.numbers;
       stored = s.stored ++ e ∷ [];
     }) journal e h
     (record {
-      meets = record { line = record { held = sym h.held ∙ held; aggregators = number; outputs = count; views = views; made = λ m. no_views s aggs core number; verdict_is = refl }; reports = settles_none s journal e core h refl refl };
+      meets = record { line = record { held = sym h.held ∙ held; aggregators = number; outputs = count; views = views; made = λ m. no_views s aggs core number; verdict_is = is journal h }; reports = settles_none s journal e core h refl refl };
       raw = sym (append-nil s.raw);
       taken_is = omega arith;
       held = refl;
-      lanes = lanes_stay s journal h;
-      lane_count = refl;
-      numbers =
-          totals-push s.setup journal e s.numbers (numbers_routed None outs s.lanes s.numbers) h.numbers (ap (λ (n : Numbers). n.inputs) h.numbers ∙ sym (inputs-same s.setup journal e (λ i y. nothing_reported i y))) (omega arith) (omega arith) (omega arith)
-          (ap (λ (n : Numbers). n.outputs) h.numbers ∙ sym (outputs_stay s.setup journal e (λ o. refl) (λ o. refl) (λ o t. refl)));
-      stored = refl;
-      gathered = omega arith;
-      counted = refl;
-      ended = ended_stays s journal h;
-      ended_count = refl;
-      stopped = sym (or-false s.stopped);
-    })
-stands_routed (Some whole) s item aggs outs core held number count views journal h =
-    let e : Entry = Route item (Some whole) (verdict_of (Some whole)) aggs outs [] in
-    stands_grows s (record s {
-      held =
-          None;
-      lanes = lanes_with item outs s.lanes;
-      numbers = numbers_routed (Some whole) outs s.lanes s.numbers;
-      stored = s.stored ++ e ∷ [];
-    }) journal e h
-    (record {
-      meets = record { line = record { held = sym h.held ∙ held; aggregators = number; outputs = count; views = views; made = λ m. no_views s aggs core number; verdict_is = refl }; reports = settles_none s journal e core h refl refl };
-      raw = sym (append-nil s.raw);
-      taken_is = omega arith;
-      held = refl;
-      lanes =
-          λ o b. subst (IsLaneOf (sizes_at s.setup o).0 (sizes_at s.setup o).1 (lane_events o journal ++ pushes (offer_of item (view_at o outs))) (offers o journal ++ offer_of item (view_at o outs))) (sym (lanes_with-at item outs s.lanes o (omega (arith, h.lane_count))))
-          (lane_is_offered item (view_at o outs) (sizes_at s.setup o).0 (sizes_at s.setup o).1 (lane_events o journal) (offers o journal) (lane_at s.lanes o) (h.lanes o b));
-      lane_count = length-lanes_with item outs s.lanes;
-      numbers =
-          totals-push s.setup journal e s.numbers (numbers_routed (Some whole) outs s.lanes s.numbers) h.numbers (ap (λ (n : Numbers). n.inputs) h.numbers ∙ sym (inputs-same s.setup journal e (λ i y. nothing_reported i y))) (omega arith) (omega arith) (omega arith)
-          (sym (outputs-as s.setup journal e (outputs_with outs s.lanes s.numbers.outputs) (length-outputs_with outs s.lanes s.numbers.outputs ∙ core.outputs.number_count)
-          (λ o b. total_is_offered (view_at o outs) (sizes_at s.setup o).0 (sizes_at s.setup o).1 o journal item whole aggs outs (lane_at s.lanes o) refl (omega (arith, (core.outputs.each o b).some, (core.outputs.each o b).fits)) (core.outputs.each o b).waits (h.lanes o b)
-          ∙ ap (numbers_with (view_at o outs) (lane_at s.lanes o)) (sym (ap (λ (n : Numbers). get_or n.outputs o unreached_output) h.numbers ∙ outputs-at s.setup journal o b))
-          ∙ sym (outputs_with-at outs s.lanes s.numbers.outputs o (omega (arith, core.outputs.number_count))))));
+      lanes = lanes_grow verdict s journal item whole aggs outs h;
+      lane_count = length-lanes_routed item verdict outs s.lanes;
+      numbers = numbers_grow verdict s journal item whole aggs outs core h;
       stored = refl;
       gathered = omega arith;
       counted = refl;
@@ -253,7 +268,9 @@ pub route_stands : (s n : CoreState) (r : Routed) → n ≡ after_route s r → 
     HasViews r.whole (r.aggs ++ r.outs) → Continues s n (route_entry s r)
 unfolding route_entry
 route_stands s n r q core held number count views =
-    subst (λ (m : CoreState). Continues s m (route_entry s r)) (sym q) (stands_routed r.whole s r.item r.aggs r.outs core held number count views)
+    subst (λ (m : CoreState). Continues s m (route_entry s r)) (sym q)
+    (stands_routed (route_verdict s r) r.whole s r.item r.aggs r.outs core held number count views
+    (λ journal h. sym (nothing-aggregates.verdicts s.setup journal r.whole r.aggs core.plain.no_aggs)))
 
 pub begin_stands : (s n : CoreState) (o from to : ℕ) → n ≡ after_begin s o from to → IsCore s →
     o < length s.setup.outputs → (lane_at s.lanes o).flight ≡ None → 0 < length (lane_at s.lanes o).waiting →

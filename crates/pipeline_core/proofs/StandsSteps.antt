@@ -23,18 +23,20 @@ use Rattle.account.specs.declared.entry.Entry.TheVariants.{Ended, Take, Stop}
 use Rattle.pipeline_core.specs.Fates.{Fate}
 use Rattle.pipeline_core.specs.Offers.{offered_by, lane_events_by}
 use Rattle.pipeline_core.specs.Legal.{has_ended}
-use Rattle.pipeline_core.specs.Totals.{totals, reported_with, gathered_with, gathers_too, group_count}
+use Rattle.pipeline_core.specs.Totals.{totals, reported_with, gathered_with, gathers_too, group_count, input_with}
+use Rattle.pipeline_core.specs.Totals.{made_by, removed_by, routed_by}
 use Rattle.pipeline_core.specs.Groups.{reports_at}
 use Rattle.pipeline_core.specs.Windows.{made_by_stop}
 use Rattle.pipeline_core.specs.CoreState.{CoreState, IsCore, sizes_at}
 use Rattle.pipeline_core.specs.Stands.{Stands, Continues}
 use Rattle.pipeline_core.specs.Steps.{after_gather, after_ended, after_take, after_stop, gather_entry}
-use Rattle.pipeline_core.specs.Steps.{stop_entry}
+use Rattle.pipeline_core.specs.Steps.{stop_entry, stop_made, with_made, moment_at}
 use Rattle.pipeline_core.specs.Steps.{HasNumbers, HasPlace}
 use Rattle.pipeline_core.specs.declared.gathering.Gathered.{Gathered}
 use Rattle.std.proofs.lemmas.Bool.Decides.{nat_tests}
 use Rattle.std.proofs.lemmas.Int.{ints}
 use Rattle.pipeline_core.proofs.GroupLemmas.{nothing_settles}
+use Rattle.pipeline_core.proofs.ShapeLemmas.{nothing-aggregates}
 use Rattle.pipeline_core.proofs.Keeping.{full}
 use Rattle.pipeline_core.proofs.FateCounts.{kept_out}
 use Rattle.pipeline_core.proofs.TotalPush.{inputs-same, inputs-set, outputs-same}
@@ -75,7 +77,7 @@ nothing_reported input x = refl
 pub settles_none : (s : CoreState) (journal : List Entry) (e : Entry) → IsCore s → Stands s journal →
     group_inputs_said (gather_of e) ≡ [] → reports_of e ≡ [] → reports_of e ≡ reports_at s.setup journal e
 settles_none s journal e core h none quiet =
-    quiet ∙ sym (nothing_settles s.setup journal e core.untracked.none h.legal none)
+    quiet ∙ sym (nothing_settles s.setup journal e core.plain.untracked h.legal none)
 
 -- an input's numbers with those of a Gather that has no group
 ungrouped_more : (x : InputNumbers) (says : GatherSays) → says.group ≡ None → gathers_too x says ≡ gathered_more x says.pieces says.refused says.passed says.filtered (length says.metrics)
@@ -90,6 +92,22 @@ pub outputs_stay : (setup : Setup) (journal : List Entry) (e : Entry) → ((o : 
 outputs_stay setup journal e l v k =
     outputs-same setup journal e (λ o b. output_stays (sizes_at setup o).1 o journal e (l o) (v o) (k o))
 
+-- an entry that says nothing of inputs
+pub inputs_stay : (s : CoreState) (journal : List Entry) (e : Entry) → Stands s journal →
+    ((i : ℕ) (x : InputNumbers) → input_with i x e ≡ x) → s.numbers.inputs ≡ (totals s.setup (journal ++ e ∷ [])).inputs
+inputs_stay s journal e h none =
+    ap (λ (n : Numbers). n.inputs) h.numbers ∙ sym (inputs-same s.setup journal e none)
+
+-- an entry that says nothing of inputs and outputs, and by which so many metrics are made
+totals_stay : (s : CoreState) (journal : List Entry) (e : Entry) (more : ℕ) → Stands s journal →
+    ((i : ℕ) (x : InputNumbers) → input_with i x e ≡ x) → ((o : ℕ) → lane_events_by o e ≡ []) →
+    ((o : ℕ) → offered_by o e ≡ []) → ((o : ℕ) (t : Fate → Bool) → kept_out t o e ≡ 0) →
+    more ≡ s.numbers.made + made_by e → removed_by e ≡ 0 → routed_by e ≡ 0 →
+    record s.numbers { made = more } ≡ totals s.setup (journal ++ e ∷ [])
+totals_stay s journal e more h none l v k made removed routed =
+    totals-push s.setup journal e s.numbers (record s.numbers { made = more }) h.numbers (inputs_stay s journal e h none) made (omega (arith, removed)) (omega (arith, routed))
+    (ap (λ (n : Numbers). n.outputs) h.numbers ∙ sym (outputs_stay s.setup journal e l v k))
+
 pub stands_take : (s : CoreState) → IsCore s → s.held ≡ None → 0 < length s.raw →
     Continues s (after_take s) (Take s.taken)
 stands_take s core none some journal h =
@@ -102,9 +120,7 @@ stands_take s core none some journal h =
       held = refl;
       lanes = lanes_stay s journal h;
       lane_count = refl;
-      numbers =
-          totals-push s.setup journal e s.numbers s.numbers h.numbers (ap (λ (n : Numbers). n.inputs) h.numbers ∙ sym (inputs-same s.setup journal e (λ i x. nothing_reported i x))) (omega arith) (omega arith) (omega arith)
-          (ap (λ (n : Numbers). n.outputs) h.numbers ∙ sym (outputs_stay s.setup journal e (λ o. refl) (λ o. refl) (λ o t. refl)));
+      numbers = totals_stay s journal e s.numbers.made h (λ i x. nothing_reported i x) (λ o. refl) (λ o. refl) (λ o t. refl) (omega arith) refl refl;
       stored = refl;
       gathered = omega arith;
       counted = refl;
@@ -113,29 +129,46 @@ stands_take s core none some journal h =
       stopped = sym (or-false s.stopped);
     })
 
-pub stands_stop : (s : CoreState) (moment : ℤ) → IsCore s → s.stopped ≡ false →
-    Continues s (after_stop s moment) (stop_entry s moment)
-unfolding stop_entry made_by_stop
-stands_stop s moment core going journal h =
-    let e : Entry = Stop (int_max moment s.counted) [] in
-    stands_grows s (after_stop s moment) journal e h
+-- what is made, as it stands in the state
+made_as : (made : List Content) (s : CoreState) → with_made made s ≡ record s { raw = s.raw ++ made; numbers = record s.numbers { made = s.numbers.made + length made } }
+made_as [] s =
+    ap (λ (raw : List Content). record s { raw = raw }) (sym (append-nil s.raw))
+    ∙ ap (λ (n : ℕ). record s { raw = s.raw ++ []; numbers = record s.numbers { made = n } }) (let e : s.numbers.made ≡ s.numbers.made + 0 = omega arith in e)
+made_as (metric ∷ others) s = refl
+
+-- the run is stopped, and what the windows make as it stops become items
+stands_stopped : (made : List Content) (s : CoreState) (moment : ℤ) → IsCore s → s.stopped ≡ false →
+    ((journal : List Entry) → Stands s journal → made ≡ made_by_stop s.setup journal (moment_at s moment)) →
+    Continues s (with_made made (record s { stored = s.stored ++ Stop (moment_at s moment) made ∷ []; counted = moment_at s moment; stopped = true })) (Stop (moment_at s moment) made)
+stands_stopped made s moment core going is journal h =
+    let e : Entry = Stop (moment_at s moment) made in
+    let t : CoreState = record s { stored = s.stored ++ e ∷ []; counted = moment_at s moment; stopped = true } in
+    subst (λ (n : CoreState). Stands n (journal ++ e ∷ [])) (sym (made_as made t))
+    (stands_grows s (record t { raw = s.raw ++ made; numbers = record s.numbers { made = s.numbers.made + length made } }) journal e h
     (record {
-      meets = record { line = record { going = sym h.stopped ∙ going; later = subst (λ (m : ℤ). m ≤ℤ int_max moment s.counted) h.counted (below_max moment s.counted); all_made = refl }; reports = settles_none s journal e core h refl refl };
-      raw = sym (append-nil s.raw);
+      meets = record {
+        line = record { going = sym h.stopped ∙ going; later = subst (λ (m : ℤ). m ≤ℤ moment_at s moment) h.counted (below_max moment s.counted); all_made = is journal h };
+        reports = settles_none s journal e core h refl refl;
+      };
+      raw = refl;
       taken_is = omega arith;
       held = refl;
       lanes = lanes_stay s journal h;
       lane_count = refl;
-      numbers =
-          totals-push s.setup journal e s.numbers s.numbers h.numbers (ap (λ (n : Numbers). n.inputs) h.numbers ∙ sym (inputs-same s.setup journal e (λ i x. nothing_reported i x))) (omega arith) (omega arith) (omega arith)
-          (ap (λ (n : Numbers). n.outputs) h.numbers ∙ sym (outputs_stay s.setup journal e (λ o. refl) (λ o. refl) (λ o t. refl)));
+      numbers = totals_stay s journal e (s.numbers.made + length made) h (λ i x. nothing_reported i x) (λ o. refl) (λ o. refl) (λ o t. refl) refl refl refl;
       stored = refl;
       gathered = omega arith;
       counted = refl;
       ended = ended_stays s journal h;
       ended_count = refl;
       stopped = ap (λ (b : Bool). b || true) (sym going);
-    })
+    }))
+
+pub stands_stop : (s : CoreState) (moment : ℤ) → IsCore s → s.stopped ≡ false →
+    Continues s (after_stop s moment) (stop_entry s moment)
+unfolding stop_entry
+stands_stop s moment core going =
+    stands_stopped (stop_made s moment) s moment core going (λ journal h. sym (nothing-aggregates.stops s.setup journal (moment_at s moment) core.plain.no_aggs))
 
 -- which inputs have ended with one more
 ended_more : (s : CoreState) (journal : List Entry) (input : ℕ) → slice_get s.ended input ≡ Some false →
@@ -196,7 +229,7 @@ stands_gather s g core reading going few place journal h =
       meets = record {
         line = record {
           most = None;
-          known = slice_get-get_or s.setup.inputs g.input None n ∙ ap Some (core.untracked.none g.input None n);
+          known = slice_get-get_or s.setup.inputs g.input None n ∙ ap Some (core.plain.untracked g.input None n);
           going = sym h.stopped ∙ going;
           reading = some_same (has_ended g.input journal) false (sym (h.ended g.input n) ∙ reading);
           fits = omega (arith, h.gathered, few);

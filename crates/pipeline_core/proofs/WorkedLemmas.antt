@@ -1,10 +1,15 @@
--- What the processors made of each item, with one entry more.
-use Rattle.std.proofs.Common.{◌≡◌, ℕ, zero, suc, List, [], ◌∷◌, ◌++◌, drop, refl, sym, ap, ◌∙◌, subst}
-use Rattle.std.specs.Prelude.{slice_get}
+-- What the work of a run makes of each item, with one entry more.
+use Rattle.std.proofs.Common.{◌≡◌, ◌<◌, ℕ, zero, suc, Bool, true, false, List, [], ◌∷◌, ◌++◌, map, take, drop, length}
+use Rattle.std.proofs.Common.{refl, sym, ap, ◌∙◌, arith, ◌+◌, ◌&&◌, if◌then◌else◌}
+use Rattle.std.proofs.lemmas.List.{take-append-le, get_or_append_left}
+use Rattle.std.proofs.lemmas.Option.{slice_get_within}
+use Rattle.std.specs.Prelude.{slice_get, slice_index_or, is_none}
+use Rattle.std.specs.List.{filter, zip, last_or}
 use Rattle.std.specs.declared.option.Option.{Option}
 use Rattle.std.specs.declared.option.Option.TheVariants.{Some, None}
 use Rattle.metric.specs.declared.metric.Content.{Content}
 use Rattle.account.specs.Items.{items, taken, named_by}
+use Rattle.account.specs.Origins.{Origin, made, origins, origins_by, is_made}
 use Rattle.account.specs.declared.entry.Entry.{Entry}
 use Rattle.account.specs.declared.entry.Entry.TheVariants.{Gather, Ended, Take, Route, Tick, Stop, Begin, Done}
 use Rattle.account.specs.declared.entry.Report.{Report}
@@ -12,7 +17,9 @@ use Rattle.account.specs.declared.entry.Verdict.{Verdict}
 use Rattle.pipeline_core.specs.CoreState.{CoreState}
 use Rattle.pipeline_core.specs.Stands.{Stands}
 use Rattle.account.proofs.ItemLemmas.{items-push}
-use Rattle.pipeline_core.specs.Worked.{WorkedBy, AreWorked, Worked, views_of}
+use Rattle.account.proofs.OriginLemmas.{origins-match, origins-push}
+use Rattle.pipeline_core.specs.Work.{Work}
+use Rattle.pipeline_core.specs.Worked.{WorkedBy, AreWorked, Worked, views_of, last_of, is_pushed, pushed, whole_of, seen_of}
 
 -- an item keeps its number as more come
 pub slice_get-append : (xs ys : List Content) (k : ℕ) (m : Content) → slice_get xs k ≡ Some m → slice_get (xs ++ ys) k ≡ Some m
@@ -20,44 +27,126 @@ slice_get-append [] ys k m e = absurd (let x : None ≡ Some m = e in cc)
 slice_get-append (x ∷ xs) ys zero m e = e
 slice_get-append (x ∷ xs) ys (suc k) m e = slice_get-append xs ys k m e
 
-module _ (outs : List (Content → Option Content)) where
-  WorkedBy-more : (all more : List Content) (e : Entry) → WorkedBy outs all e → WorkedBy outs (all ++ more) e
-  WorkedBy-more all more (Gather input moment pieces refused passed filtered metrics group reports) w = tt
-  WorkedBy-more all more (Ended input) w = tt
-  WorkedBy-more all more (Take item) w = tt
-  WorkedBy-more all more (Route item whole verdict aggs views reports) w =
-      record { metric = w.metric; is_item = slice_get-append all more item w.metric w.is_item; is_whole = w.is_whole; views_are = w.views_are }
-  WorkedBy-more all more (Tick moment made) w = tt
-  WorkedBy-more all more (Stop moment made) w = tt
-  WorkedBy-more all more (Begin output from to) w = tt
-  WorkedBy-more all more (Done output ok reports) w = tt
+-- an item is still the one with its number after an entry
+pub item_stays : (journal : List Entry) (e : Entry) (item : ℕ) (metric : Content) → slice_get (items journal) item ≡ Some metric → slice_get (items (journal ++ e ∷ [])) item ≡ Some metric
+item_stays journal e item metric at = ap (λ (xs : List Content). slice_get xs item) (items-push journal e) ∙ slice_get-append (items journal) (named_by e) item metric at
 
-  AreWorked-more : (all more : List Content) (es : List Entry) → AreWorked outs all es → AreWorked outs (all ++ more) es
-  unfolding AreWorked
-  AreWorked-more all more [] w = tt
-  AreWorked-more all more (e ∷ es) w = (WorkedBy-more all more e w.0, AreWorked-more all more es w.1)
+-- and where it came from
+pub made_stays : (journal : List Entry) (e : Entry) (item : ℕ) → item < length (items journal) → is_made (journal ++ e ∷ []) item ≡ is_made journal item
+made_stays journal e item within =
+    ap (λ (origin : Origin). is_none origin.input)
+    (ap (λ (xs : List Origin). slice_index_or xs item made) (origins-push journal e)
+    ∙ get_or_append_left (origins journal) (origins_by e) made item (omega (arith, within, origins-match journal)))
 
-  AreWorked-push : (all : List Content) (es : List Entry) (e : Entry) → AreWorked outs all es → WorkedBy outs all e → AreWorked outs all (es ++ e ∷ [])
+-- lists side by side, each with more behind it
+zip-append : (xs ys : List Content) (us vs : List Origin) → length xs ≡ length us → zip (xs ++ ys) (us ++ vs) ≡ zip xs us ++ zip ys vs
+zip-append [] ys [] vs l = refl
+zip-append [] ys (u ∷ us) vs l = absurd (omega (arith, l))
+zip-append (x ∷ xs) ys [] vs l = absurd (omega (arith, l))
+zip-append (x ∷ xs) ys (u ∷ us) vs l = ap (λ (all : List (Content × Origin)). (x, u) ∷ all) (zip-append xs ys us vs (omega (arith, l)))
+
+length-zip : (xs : List Content) (us : List Origin) → length xs ≡ length us → length (zip xs us) ≡ length xs
+length-zip [] us l = refl
+length-zip (x ∷ xs) [] l = absurd (omega (arith, l))
+length-zip (x ∷ xs) (u ∷ us) l = omega (arith, length-zip xs us (omega (arith, l)))
+
+-- what was pushed up to an item is so after an entry
+pushed_stays : (skip : Bool) (journal : List Entry) (e : Entry) (item : ℕ) → item < length (items journal) → pushed skip (journal ++ e ∷ []) item ≡ pushed skip journal item
+pushed_stays skip journal e item within =
+    let match : length (items journal) ≡ length (origins journal) = sym (origins-match journal) in
+    ap (λ (all : List (Content × Origin)). map (λ (x : Content × Origin). x.0) (filter (λ (x : Content × Origin). is_pushed skip x.1) (take (item + 1) all)))
+    (ap (λ (xs : List Content). zip xs (origins (journal ++ e ∷ []))) (items-push journal e)
+    ∙ ap (zip (items journal ++ named_by e)) (origins-push journal e)
+    ∙ zip-append (items journal) (named_by e) (origins journal) (origins_by e) match)
+    ∙ ap (λ (all : List (Content × Origin)). map (λ (x : Content × Origin). x.0) (filter (λ (x : Content × Origin). is_pushed skip x.1) all))
+    (take-append-le (item + 1) (zip (items journal) (origins journal)) (zip (named_by e) (origins_by e)) (omega (arith, within, length-zip (items journal) (origins journal) match)))
+
+-- where no item passes the processors by, all up to an item were pushed
+all_pushed : (n : ℕ) (xs : List Content) (us : List Origin) → length xs ≡ length us →
+    map (λ (x : Content × Origin). x.0) (filter (λ (x : Content × Origin). is_pushed false x.1) (take n (zip xs us))) ≡ take n xs
+all_pushed zero xs us l = refl
+all_pushed (suc n) [] us l = refl
+all_pushed (suc n) (x ∷ xs) [] l = absurd (omega (arith, l))
+all_pushed (suc n) (x ∷ xs) (u ∷ us) l = ap (λ (all : List Content). x ∷ all) (all_pushed n xs us (omega (arith, l)))
+
+-- and the last one of these is the item
+last_taken : (before : Option Content) (xs : List Content) (k : ℕ) (m : Content) → slice_get xs k ≡ Some m → last_or before (take (suc k) xs) ≡ Some m
+last_taken before [] k m e = absurd (let x : None ≡ Some m = e in cc)
+last_taken before (x ∷ xs) zero m e = e
+last_taken before (x ∷ xs) (suc k) m e = last_taken (Some x) xs k m e
+
+last_pushed : (journal : List Entry) (item : ℕ) (metric : Content) → slice_get (items journal) item ≡ Some metric → last_of (pushed false journal item) ≡ Some metric
+last_pushed journal item metric at =
+    let next : item + 1 ≡ suc item = omega arith in
+    ap last_of (all_pushed (item + 1) (items journal) (origins journal) (sym (origins-match journal)) ∙ ap (λ (n : ℕ). take n (items journal)) next)
+    ∙ last_taken None (items journal) item metric at
+
+same_either : {A : Type 0} (b : Bool) (x : A) → (if b then x else x) ≡ x
+same_either b x = elim b as (λ (c : Bool). (if c then x else x) ≡ x) [ true ↦ refl | false ↦ refl ]
+
+module _ (work : Work) where
+  WorkedBy-more : (journal : List Entry) (more e : Entry) → WorkedBy work journal e → WorkedBy work (journal ++ more ∷ []) e
+  WorkedBy-more journal more (Gather input moment pieces refused passed filtered metrics group reports) w = tt
+  WorkedBy-more journal more (Ended input) w = tt
+  WorkedBy-more journal more (Take item) w = tt
+  WorkedBy-more journal more (Route item whole verdict aggs outs reports) w =
+      let within : item < length (items journal) = slice_get_within (items journal) item w.metric w.is_item in
+      let same : is_made (journal ++ more ∷ []) item ≡ is_made journal item = made_stays journal more item within in
+      record {
+        metric = w.metric;
+        is_item = item_stays journal more item w.metric w.is_item;
+        is_whole =
+            w.is_whole
+            ∙ ap (λ (b : Bool). if work.skip && b then Some w.metric else work.whole (pushed work.skip journal item)) (sym same)
+            ∙ ap (λ (all : List Content). if work.skip && is_made (journal ++ more ∷ []) item then Some w.metric else work.whole all) (sym (pushed_stays work.skip journal more item within));
+        aggs_are = w.aggs_are ∙ ap (λ (b : Bool). if b then views_of work.aggs None else views_of work.aggs whole) (sym same);
+        outs_are = w.outs_are;
+      }
+  WorkedBy-more journal more (Tick moment metrics) w = tt
+  WorkedBy-more journal more (Stop moment metrics) w = tt
+  WorkedBy-more journal more (Begin output from to) w = tt
+  WorkedBy-more journal more (Done output ok reports) w = tt
+
+  AreWorked-more : (journal : List Entry) (more : Entry) (es : List Entry) → AreWorked work journal es → AreWorked work (journal ++ more ∷ []) es
   unfolding AreWorked
-  AreWorked-push all [] e w h = (h, tt)
-  AreWorked-push all (d ∷ es) e w h = (w.0, AreWorked-push all es e w.1 h)
+  AreWorked-more journal more [] w = tt
+  AreWorked-more journal more (e ∷ es) w = (WorkedBy-more journal more e w.0, AreWorked-more journal more es w.1)
+
+  AreWorked-push : (journal es : List Entry) (e : Entry) → AreWorked work journal es → WorkedBy work journal e → AreWorked work journal (es ++ e ∷ [])
+  unfolding AreWorked
+  AreWorked-push journal [] e w h = (h, tt)
+  AreWorked-push journal (d ∷ es) e w h = (w.0, AreWorked-push journal es e w.1 h)
 
   -- nothing happened
-  pub worked_first : Worked outs []
+  pub worked_first : Worked work []
   unfolding AreWorked
   worked_first = tt
 
   -- one entry more
-  pub worked-push : (journal : List Entry) (e : Entry) → WorkedBy outs (items journal) e → Worked outs journal → Worked outs (journal ++ e ∷ [])
+  pub worked-push : (journal : List Entry) (e : Entry) → WorkedBy work journal e → Worked work journal → Worked work (journal ++ e ∷ [])
   worked-push journal e h w =
-      subst (λ (all : List Content). AreWorked outs all (journal ++ e ∷ [])) (sym (items-push journal e))
-      (AreWorked-push (items journal ++ named_by e) journal e (AreWorked-more (items journal) (named_by e) journal w) (WorkedBy-more (items journal) (named_by e) e h))
+      AreWorked-push (journal ++ e ∷ []) journal e (AreWorked-more journal e journal w) (WorkedBy-more journal e e h)
 
   -- an item that was routed
-  pub worked_route : (journal : List Entry) (item : ℕ) (metric : Content) (verdict : Verdict) (aggs : List (Option Content)) (reports : List Report) → slice_get (items journal) item ≡ Some metric →
-      Worked outs journal → Worked outs (journal ++ Route item (Some metric) verdict aggs (views_of outs metric) reports ∷ [])
-  worked_route journal item metric verdict aggs reports at w =
-      worked-push journal (Route item (Some metric) verdict aggs (views_of outs metric) reports) (record { metric = metric; is_item = at; is_whole = refl; views_are = refl }) w
+  pub worked_route : (journal : List Entry) (item : ℕ) (metric : Content) (whole : Option Content) (verdict : Verdict) (aggs : List (Option Content)) (reports : List Report) → slice_get (items journal) item ≡ Some metric →
+      whole ≡ whole_of work journal item metric → aggs ≡ seen_of work journal item whole → Worked work journal → Worked work (journal ++ Route item whole verdict aggs (views_of work.outs whole) reports ∷ [])
+  worked_route journal item metric whole verdict aggs reports at is seen w =
+      worked-push journal (Route item whole verdict aggs (views_of work.outs whole) reports) (record { metric = metric; is_item = at; is_whole = is; aggs_are = seen; outs_are = refl }) w
+
+  -- an item that was routed as it is, without processors and aggregators
+  pub worked_plain : (journal : List Entry) (item : ℕ) (metric : Content) (verdict : Verdict) (reports : List Report) → work.skip ≡ false → work.whole ≡ last_of → work.aggs ≡ [] → slice_get (items journal) item ≡ Some metric →
+      Worked work journal → Worked work (journal ++ Route item (Some metric) verdict [] (views_of work.outs (Some metric)) reports ∷ [])
+  worked_plain journal item metric verdict reports skip whole aggs at w =
+      worked_route journal item metric (Some metric) verdict [] reports at
+      (sym (
+      ap (λ (b : Bool). if b && is_made journal item then Some metric else work.whole (pushed b journal item)) skip
+      ∙ ap (λ (f : List Content → Option Content). f (pushed false journal item)) whole
+      ∙ last_pushed journal item metric at
+      ))
+      (sym (
+      ap (λ (fs : List (Content → Option Content)). if is_made journal item then views_of fs None else views_of fs (Some metric)) aggs
+      ∙ same_either (is_made journal item) []
+      )) w
 
 first_behind : (k : ℕ) (xs : List Content) → slice_get (drop k xs) 0 ≡ slice_get xs k
 first_behind zero [] = refl
@@ -72,7 +161,3 @@ first_raw core journal metric h e =
     ∙ sym (first_behind (taken journal) (items journal))
     ∙ ap (λ (xs : List Content). slice_get xs 0) (sym h.raw)
     ∙ e
-
--- an item is still the one with its number after an entry
-pub item_stays : (journal : List Entry) (e : Entry) (item : ℕ) (metric : Content) → slice_get (items journal) item ≡ Some metric → slice_get (items (journal ++ e ∷ [])) item ≡ Some metric
-item_stays journal e item metric at = ap (λ (xs : List Content). slice_get xs item) (items-push journal e) ∙ slice_get-append (items journal) (named_by e) item metric at

@@ -135,13 +135,10 @@ pub record ItemsAgree (raw taken held gathered made removed routed : ℕ) : Type
   pub few_gathered : gathered < 2 ^ 32
   pub gone : removed + routed + held ≡ taken
 
--- no input is tracked
-pub record IsUntracked (setup : Setup) : Type 0 where
-  pub none : All (λ x. x ≡ None) setup.inputs
-
--- there are no aggregators
-pub record HasNoAggs (setup : Setup) : Type 0 where
-  pub none : setup.aggs ≡ []
+-- no input is tracked, and there are no aggregators
+pub record IsPlain (setup : Setup) : Type 0 where
+  pub untracked : All (λ x. x ≡ None) setup.inputs
+  pub no_aggs : setup.aggs ≡ []
 
 -- what a core keeps agrees
 pub record IsCore (state : CoreState) : Type 0 where
@@ -151,5 +148,4 @@ pub record IsCore (state : CoreState) : Type 0 where
   pub items :
       ItemsAgree (length state.raw) state.taken (held_count state.held) state.gathered state.numbers.made
       state.numbers.removed state.numbers.routed
-  pub untracked : IsUntracked state.setup
-  pub no_aggs : HasNoAggs state.setup
+  pub plain : IsPlain state.setup

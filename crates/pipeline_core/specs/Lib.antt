@@ -15,4 +15,5 @@ pub mod Laws
 pub mod Stopped
 pub mod Order
 pub mod Sent
+pub mod Work
 pub mod Worked

@@ -12,6 +12,8 @@ use Rattle.account.specs.declared.numbers.OutputNumbers.{OutputNumbers}
 use Rattle.account.specs.Numbers.{with_output, output_numbers}
 use Rattle.account.specs.declared.entry.Entry.{Entry}
 use Rattle.account.specs.declared.entry.Entry.TheVariants as entries
+use Rattle.account.specs.declared.entry.Verdict.{Verdict}
+use Rattle.account.specs.declared.entry.Verdict.TheVariants as verdicts
 use Rattle.out_lane.specs.Lane.{LaneState}
 use Rattle.out_lane.specs.Lane as lane
 use Rattle.pipeline_core.specs.Offers.{view_at, views_of}
@@ -79,9 +81,13 @@ after_take state = record state {
   stored = state.stored ++ entries.Take state.taken ∷ [];
 }
 
--- the entry of what was routed: without aggregators it passes unless it was removed, and no group settles
+-- the verdict on what was routed: without aggregators it passes unless it was removed
+abbrev pub route_verdict : CoreState → Routed → Verdict
+route_verdict state r = verdict_of r.whole
+
+-- the entry of what was routed: no group settles, since no input is tracked
 unfoldable pub route_entry : CoreState → Routed → Entry
-route_entry state r = entries.Route r.item r.whole (verdict_of r.whole) r.aggs r.outs []
+route_entry state r = entries.Route r.item r.whole (route_verdict state r) r.aggs r.outs []
 
 -- an output's lane, once an item's view was offered
 abbrev pub lane_with : ℕ → Option Content → LaneState Offer → LaneState Offer
@@ -119,25 +125,36 @@ outputs_with outs lanes all =
     map (λ (x : ℕ × OutputNumbers). numbers_with (view_at x.0 outs) (lane_at lanes x.0) x.1)
     (enumerate_from 0 all)
 
--- the lanes, once an item was routed; a removed one is offered to none
-abbrev pub lanes_routed : ℕ → Option Content → List (Option Content) → List (LaneState Offer) →
+-- an output's numbers, once a metric came too late for a window, or an aggregator kept it
+abbrev pub late_more : OutputNumbers → OutputNumbers
+late_more x = record x { late = x.late + 1 }
+
+abbrev pub consumed_more : OutputNumbers → OutputNumbers
+consumed_more x = record x { consumed = x.consumed + 1 }
+
+-- the lanes, once an item was routed with a verdict: one that passes is offered to them
+abbrev pub lanes_routed : ℕ → Verdict → List (Option Content) → List (LaneState Offer) →
     List (LaneState Offer)
-lanes_routed item None outs lanes = lanes
-lanes_routed item (Some whole) outs lanes = lanes_with item outs lanes
+lanes_routed item verdicts.Passes outs lanes = lanes_with item outs lanes
+lanes_routed item _ outs lanes = lanes
 
--- the numbers, once an item was routed
-abbrev pub numbers_routed : Option Content → List (Option Content) → List (LaneState Offer) → Numbers →
-    Numbers
-numbers_routed None outs lanes numbers = record numbers { removed = numbers.removed + 1 }
-numbers_routed (Some whole) outs lanes numbers =
+-- the numbers, once an item was routed with a verdict: one that was removed counts as such, and another at
+-- each output
+abbrev pub numbers_routed : Verdict → List (Option Content) → List (LaneState Offer) → Numbers → Numbers
+numbers_routed verdicts.Passes outs lanes numbers =
     record numbers { routed = numbers.routed + 1; outputs = outputs_with outs lanes numbers.outputs }
+numbers_routed verdicts.Consumed outs lanes numbers =
+    record numbers { routed = numbers.routed + 1; outputs = map consumed_more numbers.outputs }
+numbers_routed verdicts.Late outs lanes numbers =
+    record numbers { routed = numbers.routed + 1; outputs = map late_more numbers.outputs }
+numbers_routed verdicts.Removed outs lanes numbers = record numbers { removed = numbers.removed + 1 }
 
--- nothing is in hand; a removed item counts as such, and the views of another are offered to the outputs
+-- nothing is in hand, and the item is offered and counted by its verdict
 abbrev pub after_route : CoreState → Routed → CoreState
 after_route state r = record state {
   held = None;
-  lanes = lanes_routed r.item r.whole r.outs state.lanes;
-  numbers = numbers_routed r.whole r.outs state.lanes state.numbers;
+  lanes = lanes_routed r.item (route_verdict state r) r.outs state.lanes;
+  numbers = numbers_routed (route_verdict state r) r.outs state.lanes state.numbers;
   stored = state.stored ++ route_entry state r ∷ [];
 }
 
@@ -149,17 +166,29 @@ moment_at state moment = int_max moment state.counted
 unfoldable pub tick_entry : CoreState → ℤ → Entry
 tick_entry state moment = entries.Tick (moment_at state moment) []
 
--- the entry of the stop at a moment: without aggregators nothing is made
+-- what is made as the run stops at a moment: without aggregators nothing
+abbrev pub stop_made : CoreState → ℤ → List Content
+stop_made state moment = []
+
+-- the entry of the stop at a moment
 unfoldable pub stop_entry : CoreState → ℤ → Entry
-stop_entry state moment = entries.Stop (moment_at state moment) []
+stop_entry state moment = entries.Stop (moment_at state moment) (stop_made state moment)
+
+-- what is made becomes raw items, where something is
+abbrev pub with_made : List Content → CoreState → CoreState
+with_made [] state = state
+with_made (metric ∷ others) state = record state {
+  raw = state.raw ++ metric ∷ others;
+  numbers = record state.numbers { made = state.numbers.made + length (metric ∷ others) };
+}
 
 -- nothing is gathered any more
 abbrev pub after_stop : CoreState → ℤ → CoreState
-after_stop state moment = record state {
+after_stop state moment = with_made (stop_made state moment) (record state {
   stored = state.stored ++ stop_entry state moment ∷ [];
   counted = moment_at state moment;
   stopped = true;
-}
+})
 
 -- the output's batch is in flight, of the positions from the first to before the second
 abbrev pub after_begin : CoreState → ℕ → ℕ → ℕ → CoreState

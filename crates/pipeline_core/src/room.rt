@@ -22,6 +22,9 @@ pub(crate) fn make_room(stored: &mut Vec<Entry>, outputs: usize) -> Result<(), O
     Ok(())
 }
 
+/// The most items for whose entries room is made before they are taken and routed.
+const MOST_AHEAD: usize = 65_536;
+
 /// The same, where so many items came: they will be taken and routed. So the entries of a round are moved to larger
 /// memory once, and not again and again.
 pub(crate) fn make_room_for(
@@ -36,7 +39,7 @@ pub(crate) fn make_room_for(
     ensures room { OnOk result (vec_len stored.new + (outputs + 1) ≤ vec_capacity stored.new) }
     ensures kept { vec_capacity stored.old ≤ vec_capacity stored.new }
 {
-    stored.reserve(outputs + 1 + 2 * items)?;
+    stored.reserve(outputs + 1 + 2 * items.min(MOST_AHEAD))?;
     Ok(())
 }
 

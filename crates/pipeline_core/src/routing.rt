@@ -91,8 +91,10 @@ fn hand_out(
     requires routed { account.old.routed < 2 ^ 63 }
     requires few { (output : ℕ) → output < length outputs.old.items →
         HasFew (output_numbers account.old output) (lane_at outputs.old.items output) }
-    ensures lanes { outputs.new.items ≡ lanes_routed item whole.now views.items outputs.old.items }
-    ensures account { account.new ≡ numbers_routed whole.now views.items outputs.old.items account.old }
+    ensures lanes { outputs.new.items
+        ≡ lanes_routed item (verdict_of whole.now) views.items outputs.old.items }
+    ensures account { account.new
+        ≡ numbers_routed (verdict_of whole.now) views.items outputs.old.items account.old }
 {
     if whole.is_none() {
         account.removed();

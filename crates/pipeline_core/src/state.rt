@@ -156,6 +156,7 @@ impl Core {
         ensures outputs { result ≡ length self.now.setup.outputs }
         ensures no_aggregators { self.now.setup.aggs ≡ [] }
     {
+        prove_eq!(self.setup.agg_count(), 0);
         self.outputs.len()
     }
 

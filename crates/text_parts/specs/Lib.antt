@@ -15,3 +15,4 @@ pub mod Escaped
 pub mod Marks
 pub mod Pairs
 pub mod Places
+pub mod Tables

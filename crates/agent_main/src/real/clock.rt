@@ -38,9 +38,7 @@ fn moment_of<R: std::rt::Clock>(rt: &R) -> Option<Moment> {
 }
 
 impl<R: std::rt::Clock> Clock for RealClock<'_, R> {
-    ghost moments = { λ _. None };
-
-    ghost place = { λ _. 0 };
+    ghost told = { λ _. record { moments = None; place = 0 } };
 
     ghost stopped = { λ _. false };
 

@@ -7,4 +7,4 @@ use Rattle.agent_config.proofs.places.add_places.Given as goal
 abbrev pub invariant-loop-plugin : goal.invariant-loop-plugin
 invariant-loop-plugin l =
     now_of l.places.items
-    ≡ now_of l.fn.places.items ++ map place_of (plugins_view (take l.plugin-index l.plugins))
+    ≡ now_of l.fn.places.items ++ map (place_of l.class) (plugins_view (take l.plugin-index l.plugins))

@@ -4,7 +4,7 @@ use Rattle.agent_config.specs.Faults.{plugins_of}
 use Rattle.agent_config.specs.Plugins.{plugins_view}
 use Rattle.agent_config.proofs.plugins.plugins_of.Given as goal
 
-abbrev pub invariant-loop-kind : goal.invariant-loop-kind
-invariant-loop-kind l =
-    plugins_view l.plugins.items ++ plugins_of (members_view l.kind-iterator)
+abbrev pub invariant-loop-name : goal.invariant-loop-name
+invariant-loop-name l =
+    plugins_view l.plugins.items ++ plugins_of (members_view l.name-iterator)
     ≡ plugins_of (members_view l.class.entries)

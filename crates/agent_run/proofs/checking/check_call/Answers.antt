@@ -11,11 +11,11 @@ returns-in-Ok-clause-checked g c =
     let old = g.W.World.view c.args.world.now in
     let last = g.W.World.view c.report_ok.new.world in
     record {
-      answer = read_checks c.report_ok.result place c.in-Ok._config old (g.W.World.view c.config_at.new.world) last c.in-Ok.ensures.read c.report_ok.ensures.ins c.report_ok.ensures.answer;
-      taken = subst (λ (p : Place). TakesAtMost most_taken (old.ins place).bytes p.bytes) (sym (c.report_ok.ensures.ins place)) c.config_at.ensures.taken;
-      other_ins = λ q ne. c.report_ok.ensures.ins q ∙ c.config_at.ensures.only.others q ne;
-      outs_same = λ q. c.report_ok.ensures.outs q ∙ c.config_at.ensures.only.outs q;
-      clocks = λ who. c.report_ok.ensures.moments who ∙ c.config_at.ensures.only.clocks who;
+      answer = read_checks c.report_ok.result place c.in-Ok._config old (g.W.World.view c.config_at.new.world) last c.in-Ok.ensures.read c.report_ok.ensures.only.ins c.report_ok.ensures.answer;
+      taken = subst (λ (p : Place). TakesAtMost most_taken (old.ins place).bytes p.bytes) (sym (c.report_ok.ensures.only.ins place)) c.config_at.ensures.taken;
+      other_ins = λ q ne. c.report_ok.ensures.only.ins q ∙ c.config_at.ensures.only.others q ne;
+      outs_same = λ q. c.report_ok.ensures.only.outs q ∙ c.config_at.ensures.only.outs q;
+      clocks = λ who. c.report_ok.ensures.only.clocks who ∙ c.config_at.ensures.only.clocks who;
     }
 
 pub returns-in-Err-clause-checked : goal.returns-in-Err-clause-checked
@@ -24,13 +24,13 @@ returns-in-Err-clause-checked g c =
     let old = g.W.World.view c.args.world.now in
     let last = g.W.World.view c.report_unread.new.world in
     let unread = c.in-Err.unread in
-    let but : SameBut place old.ins last.ins = λ q ne. c.report_unread.ensures.ins q ∙ c.config_at.ensures.only.others q ne in
+    let but : SameBut place old.ins last.ins = λ q ne. c.report_unread.ensures.only.ins q ∙ c.config_at.ensures.only.others q ne in
     record {
       answer = unread_checks c.report_unread.result unread place old.ins last.ins old.report last.report
-          (subst (λ (p : Place). IsUnready unread (old.ins place) p) (sym (c.report_unread.ensures.ins place)) c.in-Err.ensures.unread)
+          (subst (λ (p : Place). IsUnready unread (old.ins place) p) (sym (c.report_unread.ensures.only.ins place)) c.in-Err.ensures.unread)
           but (subst (λ (r : Rest). Tells c.report_unread.result unread place r last.report) c.config_at.ensures.only.report c.report_unread.ensures.answer);
-      taken = subst (λ (p : Place). TakesAtMost most_taken (old.ins place).bytes p.bytes) (sym (c.report_unread.ensures.ins place)) c.config_at.ensures.taken;
+      taken = subst (λ (p : Place). TakesAtMost most_taken (old.ins place).bytes p.bytes) (sym (c.report_unread.ensures.only.ins place)) c.config_at.ensures.taken;
       other_ins = but;
-      outs_same = λ q. c.report_unread.ensures.outs q ∙ c.config_at.ensures.only.outs q;
-      clocks = λ who. c.report_unread.ensures.moments who ∙ c.config_at.ensures.only.clocks who;
+      outs_same = λ q. c.report_unread.ensures.only.outs q ∙ c.config_at.ensures.only.outs q;
+      clocks = λ who. c.report_unread.ensures.only.clocks who ∙ c.config_at.ensures.only.clocks who;
     }

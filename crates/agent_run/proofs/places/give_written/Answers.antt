@@ -1,10 +1,9 @@
-use Rattle.std.proofs.Common.{◌∙◌, List, ℕ, ap, subst, sym, arith}
+use Rattle.std.proofs.Common.{◌∙◌, List, ℕ, ap, subst, sym, arith, map}
 use Rattle.std.proofs.lemmas.Map.Keys.{IsDistinct-tail}
 use Rattle.std.specs.List.{IsDistinct}
 use Rattle.std.specs.Str.{bytes_eq}
-use Rattle.agent_base.specs.Places.{Place}
-use Rattle.agent_run.specs.PlaceLists.{AreOut, TakesPart, places_out}
-use Rattle.agent_workers.specs.Opened.{all_carried, carried_of}
+use Rattle.agent_base.specs.Places.{Place, TakesIn}
+use Rattle.agent_run.specs.PlaceLists.{AreOut, places_out}
 use Rattle.agent_run.proofs.PartLemmas.{before_same, go_before, out_behind}
 use Rattle.agent_run.proofs.places.give_written.Goals as goal
 
@@ -20,12 +19,12 @@ give_each-requires-clause-out g c κs within =
 pub give_out-requires : goal.give_out-requires
 give_out-requires g c =
     let told = (g.W.World.view c.args.world.now).outs in
-    ap (λ (p : Place). p.is_out) (before_same TakesPart (places_out c.as_slice.result.now) (places_out c.args.config.now.outputs) (all_carried g.W.Out.Sink.held g.W.Out.Sink.faults c.args.outputs.items) c.as_str.result.now c.args.config.now.agent.journal
+    ap (λ (p : Place). p.is_out) (before_same TakesIn (places_out c.as_slice.result.now) (places_out c.args.config.now.outputs) (map g.W.Out.Sink.told c.args.outputs.items) c.as_str.result.now c.args.config.now.agent.journal
     told (g.W.World.view c.give_each.new.world).outs (ap places_out c.as_slice.ensures) c.as_str.ensures c.requires.apart c.give_each.ensures.given)
     ∙ ap (λ q. (told q).is_out) c.as_str.ensures ∙ c.requires.out 0 (omega arith)
 
 pub returns-clause-given : goal.returns-clause-given
 returns-clause-given g c =
-    go_before TakesPart (places_out c.as_slice.result.now) (places_out c.args.config.now.outputs) (all_carried g.W.Out.Sink.held g.W.Out.Sink.faults c.args.outputs.items) c.as_str.result.now c.args.config.now.agent.journal
-    (carried_of g.W.Out.Sink.held g.W.Out.Sink.faults c.args.journal) (g.W.World.view c.args.world.now).outs (g.W.World.view c.give_each.new.world).outs (g.W.World.view c.give_out.new.self).outs
+    go_before TakesIn (places_out c.as_slice.result.now) (places_out c.args.config.now.outputs) (map g.W.Out.Sink.told c.args.outputs.items) c.as_str.result.now c.args.config.now.agent.journal
+    (g.W.Out.Sink.told c.args.journal) (g.W.World.view c.args.world.now).outs (g.W.World.view c.give_each.new.world).outs (g.W.World.view c.give_out.new.self).outs
     (ap places_out c.as_slice.ensures) c.as_str.ensures c.requires.apart c.give_each.ensures.given c.give_out.ensures.given c.give_out.ensures.only.others

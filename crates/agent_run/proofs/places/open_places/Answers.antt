@@ -1,6 +1,5 @@
-use Rattle.std.proofs.Common.{◌∷◌, List, ℕ, ap, subst}
+use Rattle.std.proofs.Common.{◌∷◌, List, ℕ, ap, subst, map}
 use Rattle.agent_run.specs.PlaceLists.{AreGiven, AreOpened, in_places, out_places, places_in}
-use Rattle.agent_workers.specs.Opened.{all_carried, carried_of}
 use Rattle.agent_run.proofs.SideLemmas.{err_left, left_ins_home, left_outs_home, opens_all, written_refused}
 use Rattle.agent_run.proofs.places.open_places.Goals as goal
 
@@ -11,8 +10,8 @@ returns-in_err-inputs-clause-refused g c =
 
 pub returns-in-Ok-open_written-clause-opened : goal.returns-in-Ok-open_written-clause-opened
 returns-in-Ok-open_written-clause-opened g c =
-    let read = all_carried g.W.In.Source.left g.W.In.Source.faults c.in_ok-inputs.inputs.items in
-    let written = carried_of g.W.Out.Sink.held g.W.Out.Sink.faults c.in-Ok-open_written.journal ∷ all_carried g.W.Out.Sink.held g.W.Out.Sink.faults c.in-Ok-open_written.outputs.items in
+    let read = map g.W.In.Source.told c.in_ok-inputs.inputs.items in
+    let written = g.W.Out.Sink.told c.in-Ok-open_written.journal ∷ map g.W.Out.Sink.told c.in-Ok-open_written.outputs.items in
     let old = g.W.World.view c.args.world.now in
     let mid = g.W.World.view c.open_side.new.world in
     opens_all c.args.config.now read written old mid (g.W.World.view c.open_written.new.world)
@@ -21,7 +20,7 @@ returns-in-Ok-open_written-clause-opened g c =
 
 pub returns-in-Err-clause-refused : goal.returns-in-Err-clause-refused
 returns-in-Err-clause-refused g c =
-    let read = all_carried g.W.In.Source.left g.W.In.Source.faults c.in_ok-inputs.inputs.items in
+    let read = map g.W.In.Source.told c.in_ok-inputs.inputs.items in
     let old = g.W.World.view c.args.world.now in
     let mid = g.W.World.view c.open_side.new.world in
     let third = g.W.World.view c.open_written.new.world in

@@ -7,12 +7,12 @@ give_each-requires-clause-apart g c κs within = front_apart g.S.Side.place_of c
 
 pub give_each-requires-clause-out : goal.give_each-requires-clause-out
 give_each-requires-clause-out g c κs within =
-    front_out g.S.Side.place_of g.S.Side.bytes g.S.Side.faults c.args.confs.now c.requires.apart c.open_each.new.parts.items c.len.result (c.len.ensures ∙ c.open_each.new.parts.ok.0) c.in-Err.unopened
+    front_out g.S.Side.place_of g.S.Side.told c.args.confs.now c.requires.apart c.open_each.new.parts.items c.len.result (c.len.ensures ∙ c.open_each.new.parts.ok.0) c.in-Err.unopened
     (g.S.Side.places (g.W.World.view c.args.world.now)) (g.S.Side.places (g.W.World.view c.open_each.new.world)) c.in-Err.ensures.stopped
 
 pub returns-in-Err-clause-refused : goal.returns-in-Err-clause-refused
 returns-in-Err-clause-refused g c =
-    front_refused g.S.Side.place_of g.S.Side.bytes g.S.Side.faults c.args.confs.now c.requires.apart c.open_each.new.parts.items c.len.result (c.len.ensures ∙ c.open_each.new.parts.ok.0) c.in-Err.unopened
+    front_refused g.S.Side.place_of g.S.Side.told c.args.confs.now c.requires.apart c.open_each.new.parts.items c.len.result (c.len.ensures ∙ c.open_each.new.parts.ok.0) c.in-Err.unopened
     (g.S.Side.places (g.W.World.view c.args.world.now)) (g.S.Side.places (g.W.World.view c.open_each.new.world)) c.in-Err.ensures.stopped
     (g.S.Side.places (g.W.World.view c.give_each.new.world)) c.requires.home c.give_each.ensures.given
 

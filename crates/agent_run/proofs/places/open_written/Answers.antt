@@ -1,10 +1,9 @@
-use Rattle.std.proofs.Common.{◌∙◌, ap, subst, sym}
+use Rattle.std.proofs.Common.{◌∙◌, ap, subst, sym, map}
 use Rattle.std.proofs.lemmas.Map.Keys.{IsDistinct-tail}
 use Rattle.std.specs.List.{IsDistinct}
 use Rattle.std.specs.Str.{bytes_eq}
-use Rattle.agent_base.specs.Places.{Place}
-use Rattle.agent_run.specs.PlaceLists.{OpensPart, places_out}
-use Rattle.agent_workers.specs.Opened.{all_carried, carried_of}
+use Rattle.agent_base.specs.Places.{Place, Opens}
+use Rattle.agent_run.specs.PlaceLists.{places_out}
 use Rattle.agent_run.proofs.PartLemmas.{before_same, err_behind, first_refused, go_before, opened_out_still}
 use Rattle.agent_run.proofs.places.open_written.Goals as goal
 
@@ -19,7 +18,7 @@ returns-in_err-outputs-clause-refused g c =
 
 pub open_out-requires : goal.open_out-requires
 open_out-requires g c =
-    ap (λ (p : Place). p.is_out) (before_same OpensPart (places_out c.as_slice.result.now) (places_out c.args.config.now.outputs) (all_carried g.W.Out.Sink.held g.W.Out.Sink.faults c.in_ok-outputs.outputs.items) c.as_str-place.result.now c.args.config.now.agent.journal
+    ap (λ (p : Place). p.is_out) (before_same Opens (places_out c.as_slice.result.now) (places_out c.args.config.now.outputs) (map g.W.Out.Sink.told c.in_ok-outputs.outputs.items) c.as_str-place.result.now c.args.config.now.agent.journal
     (g.W.World.view c.args.world.now).outs (g.W.World.view c.open_side.new.world).outs (ap places_out c.as_slice.ensures) c.as_str-place.ensures c.requires.apart c.in_ok-outputs.ensures.opened)
     ∙ c.requires.home c.as_str-place.result.now
 
@@ -29,17 +28,17 @@ give_each-requires-clause-apart g c κs within =
 
 pub give_each-requires-clause-out : goal.give_each-requires-clause-out
 give_each-requires-clause-out g c κs within =
-    opened_out_still c.args.config.now.agent.journal (places_out c.args.config.now.outputs) (places_out c.as_slice.result.now) (places_out c.as_slice-in-Err.result.now) c.as_str-place.result.now (all_carried g.W.Out.Sink.held g.W.Out.Sink.faults c.in_ok-outputs.outputs.items)
+    opened_out_still c.args.config.now.agent.journal (places_out c.args.config.now.outputs) (places_out c.as_slice.result.now) (places_out c.as_slice-in-Err.result.now) c.as_str-place.result.now (map g.W.Out.Sink.told c.in_ok-outputs.outputs.items)
     (g.W.World.view c.args.world.now).outs (g.W.World.view c.open_side.new.world).outs (g.W.World.view c.open_out.new.self).outs (ap places_out c.as_slice.ensures) (ap places_out c.as_slice-in-Err.ensures) c.as_str-place.ensures c.requires.apart c.in_ok-outputs.ensures.opened c.open_out.ensures.only.others
 
 pub returns-in-Ok-clause-opened : goal.returns-in-Ok-clause-opened
 returns-in-Ok-clause-opened g c =
-    go_before OpensPart (places_out c.as_slice.result.now) (places_out c.args.config.now.outputs) (all_carried g.W.Out.Sink.held g.W.Out.Sink.faults c.in_ok-outputs.outputs.items) c.as_str-place.result.now c.args.config.now.agent.journal
-    (carried_of g.W.Out.Sink.held g.W.Out.Sink.faults c.in-Ok.journal) (g.W.World.view c.args.world.now).outs (g.W.World.view c.open_side.new.world).outs (g.W.World.view c.open_out.new.self).outs
+    go_before Opens (places_out c.as_slice.result.now) (places_out c.args.config.now.outputs) (map g.W.Out.Sink.told c.in_ok-outputs.outputs.items) c.as_str-place.result.now c.args.config.now.agent.journal
+    (g.W.Out.Sink.told c.in-Ok.journal) (g.W.World.view c.args.world.now).outs (g.W.World.view c.open_side.new.world).outs (g.W.World.view c.open_out.new.self).outs
     (ap places_out c.as_slice.ensures) c.as_str-place.ensures c.requires.apart c.in_ok-outputs.ensures.opened c.in-Ok.ensures.opened c.open_out.ensures.only.others
 
 pub returns-in-Err-clause-refused : goal.returns-in-Err-clause-refused
 returns-in-Err-clause-refused g c =
-    first_refused c.args.config.now.agent.journal (places_out c.args.config.now.outputs) (places_out c.as_slice.result.now) (places_out c.as_slice-in-Err.result.now) c.as_str-place.result.now (all_carried g.W.Out.Sink.held g.W.Out.Sink.faults c.in_ok-outputs.outputs.items)
+    first_refused c.args.config.now.agent.journal (places_out c.args.config.now.outputs) (places_out c.as_slice.result.now) (places_out c.as_slice-in-Err.result.now) c.as_str-place.result.now (map g.W.Out.Sink.told c.in_ok-outputs.outputs.items)
     (g.W.World.view c.args.world.now).outs (g.W.World.view c.open_side.new.world).outs (g.W.World.view c.open_out.new.self).outs (ap places_out c.as_slice.ensures) (ap places_out c.as_slice-in-Err.ensures) c.as_str-place.ensures c.requires.apart c.in_ok-outputs.ensures.opened c.open_out.ensures.only.others
     c.in-Err.fault c.unopened_at.result (g.W.World.view c.give_each.new.world).outs c.requires.home c.unopened_at.ensures c.in-Err.ensures.refused c.give_each.ensures.given

@@ -4,9 +4,9 @@ use Rattle.agent_run.proofs.reading.fill.Goals as goal
 
 pub loop-len-preserved : goal.loop-len-preserved
 loop-len-preserved g c =
-    let left = g.S.Source.left in record {
+    record {
       room = c.read_from.ensures.len ∙ c.loop-len.invariant.room;
       within = search rules;
-      taken = taken_more (left c.args.src.now) (left c.loop-len.src) (left c.read_from.new.src) c.loop-len.buf c.read_from.new.buf c.loop-len.len c.in-Ok.n c.loop-len.invariant.taken c.read_from.ensures.before c.in-Ok.ensures.bytes.0;
+      taken = taken_more (g.S.Source.told c.args.src.now).bytes (g.S.Source.told c.loop-len.src).bytes (g.S.Source.told c.read_from.new.src).bytes c.loop-len.buf c.read_from.new.buf c.loop-len.len c.in-Ok.n c.loop-len.invariant.taken c.read_from.ensures.before c.in-Ok.ensures.bytes.0;
       later = search rules;
     }

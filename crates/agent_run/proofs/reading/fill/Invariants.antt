@@ -6,8 +6,8 @@ abbrev pub invariant-loop-len : goal.invariant-loop-len
 invariant-loop-len g l = record {
   room : length l.buf ≡ length l.fn.buf;
   within : l.len ≤ length l.fn.buf;
-  taken : Consumes (g.S.Source.left l.fn.src) (g.S.Source.left l.src) (take l.len l.buf);
-  later : g.S.Source.faults l.fn.src ≤ g.S.Source.faults l.src;
+  taken : Consumes (g.S.Source.told l.fn.src).bytes (g.S.Source.told l.src).bytes (take l.len l.buf);
+  later : (g.S.Source.told l.fn.src).faults ≤ (g.S.Source.told l.src).faults;
 }
 
 abbrev pub decreases-loop-len : goal.decreases-loop-len

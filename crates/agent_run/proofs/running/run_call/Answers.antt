@@ -18,10 +18,10 @@ returns-in-Ok-clause-complete g c = λ nothing limit config.
 pub returns-in-Err-clause-ran : goal.returns-in-Err-clause-ran
 returns-in-Err-clause-ran g c =
     inl (unrun c.report_unread.result c.in-Err.unread c.args.place.now (g.W.World.view c.args.world.now) (g.W.World.view c.config_at.new.world) (g.W.World.view c.report_unread.new.world) c.in-Err.ensures.unread c.config_at.ensures.taken c.config_at.ensures.only
-    c.report_unread.ensures.ins c.report_unread.ensures.outs c.report_unread.ensures.moments c.report_unread.ensures.answer)
+    c.report_unread.ensures.only.ins c.report_unread.ensures.only.outs c.report_unread.ensures.only.clocks c.report_unread.ensures.answer)
 
 pub returns-in-Err-clause-complete : goal.returns-in-Err-clause-complete
 returns-in-Err-clause-complete g c = λ nothing limit config.
     let unrun_so = unrun c.report_unread.result c.in-Err.unread c.args.place.now (g.W.World.view c.args.world.now) (g.W.World.view c.config_at.new.world) (g.W.World.view c.report_unread.new.world) c.in-Err.ensures.unread c.config_at.ensures.taken c.config_at.ensures.only
-    c.report_unread.ensures.ins c.report_unread.ensures.outs c.report_unread.ensures.moments c.report_unread.ensures.answer in
+    c.report_unread.ensures.only.ins c.report_unread.ensures.only.outs c.report_unread.ensures.only.clocks c.report_unread.ensures.answer in
     unread_completes c.report_unread.result c.args.place.now (g.W.World.view c.args.world.now) (g.W.World.view c.report_unread.new.world) unrun_so.answer nothing config

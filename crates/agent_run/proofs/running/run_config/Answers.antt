@@ -1,5 +1,4 @@
-use Rattle.std.proofs.Common.{subst}
-use Rattle.agent_workers.specs.Opened.{all_carried, all_timed, carried_of}
+use Rattle.std.proofs.Common.{subst, map}
 use Rattle.agent_run.specs.PlaceLists.{IsLeftUnopened, in_places, out_places, read_parts}
 use Rattle.agent_run.specs.declared.places.Unopened.{Unopened}
 use Rattle.agent_run.proofs.RunningLemmas.{all_first, ins_home_but, only_named, opened_same, outs_home_but, refused_by, runs}
@@ -12,39 +11,39 @@ pub returns-in-Ok-open_places-clause-ends : goal.returns-in-Ok-open_places-claus
 returns-in-Ok-open_places-clause-ends g c = λ ne.
     let opened = c.in-Ok-open_places.opened in
     runs c.args.config.now c.run_opened.result (g.W.World.view c.args.world.now) (g.W.World.view c.open_places.new.world) (g.W.World.view c.clocks_of-clocks.new.world) (g.W.World.view c.run_opened.new.world)
-    (read_parts g.W.In.Source.left g.W.In.Source.faults opened) (carried_of g.W.Out.Sink.held g.W.Out.Sink.faults opened.journal) (all_carried g.W.Out.Sink.held g.W.Out.Sink.faults opened.outputs.items) c.in-Ok-open_places.ensures.opened
-    (all_timed g.W.Clk.Clock.moments g.W.Clk.Clock.place c.clocks_of-clocks.result.inputs.items) (g.W.Clk.Clock.moments c.clocks_of-clocks.result.timer) c.clocks_of-clocks.ensures.inputs c.clocks_of-clocks.ensures.timer_moments c.clocks_of-clocks.ensures.only.report
+    (read_parts g.W.In.Source.told opened) (g.W.Out.Sink.told opened.journal) (map g.W.Out.Sink.told opened.outputs.items) c.in-Ok-open_places.ensures.opened
+    (map g.W.Clk.Clock.told c.clocks_of-clocks.result.inputs.items) (g.W.Clk.Clock.told c.clocks_of-clocks.result.timer).moments c.clocks_of-clocks.ensures.inputs c.clocks_of-clocks.ensures.timer_moments c.clocks_of-clocks.ensures.only.report
     c.run_opened.ensures.ends
 
 pub returns-in-Ok-open_places-clause-only : goal.returns-in-Ok-open_places-clause-only
 returns-in-Ok-open_places-clause-only g c =
     let opened = c.in-Ok-open_places.opened in
     only_named c.args.config.now c.run_opened.result (g.W.World.view c.args.world.now) (g.W.World.view c.open_places.new.world) (g.W.World.view c.clocks_of-clocks.new.world) (g.W.World.view c.run_opened.new.world)
-    (read_parts g.W.In.Source.left g.W.In.Source.faults opened) (carried_of g.W.Out.Sink.held g.W.Out.Sink.faults opened.journal) (all_carried g.W.Out.Sink.held g.W.Out.Sink.faults opened.outputs.items) c.in-Ok-open_places.ensures.opened
+    (read_parts g.W.In.Source.told opened) (g.W.Out.Sink.told opened.journal) (map g.W.Out.Sink.told opened.outputs.items) c.in-Ok-open_places.ensures.opened
     c.clocks_of-clocks.ensures.only.ins c.clocks_of-clocks.ensures.only.outs c.clocks_of-clocks.ensures.others c.run_opened.ensures.ins c.run_opened.ensures.outs c.run_opened.ensures.clocks
 
 pub returns-in-Ok-open_places-clause-opened : goal.returns-in-Ok-open_places-clause-opened
 returns-in-Ok-open_places-clause-opened g c = λ other short.
     let opened = c.in-Ok-open_places.opened in
     opened_same c.args.config.now c.run_opened.result (g.W.World.view c.args.world.now) (g.W.World.view c.open_places.new.world) (g.W.World.view c.clocks_of-clocks.new.world) (g.W.World.view c.run_opened.new.world)
-    (read_parts g.W.In.Source.left g.W.In.Source.faults opened) (carried_of g.W.Out.Sink.held g.W.Out.Sink.faults opened.journal) (all_carried g.W.Out.Sink.held g.W.Out.Sink.faults opened.outputs.items) c.in-Ok-open_places.ensures.opened
+    (read_parts g.W.In.Source.told opened) (g.W.Out.Sink.told opened.journal) (map g.W.Out.Sink.told opened.outputs.items) c.in-Ok-open_places.ensures.opened
     c.clocks_of-clocks.ensures.only.ins c.clocks_of-clocks.ensures.only.outs c.run_opened.ensures.ins_opened c.run_opened.ensures.outs_opened
 
 pub returns-in-Ok-open_places-clause-ins_home : goal.returns-in-Ok-open_places-clause-ins_home
 returns-in-Ok-open_places-clause-ins_home g c =
     let opened = c.in-Ok-open_places.opened in
     c.run_opened.ensures.ins_home (ins_home_but c.args.config.now c.run_opened.result (g.W.World.view c.args.world.now) (g.W.World.view c.open_places.new.world) (g.W.World.view c.clocks_of-clocks.new.world) (g.W.World.view c.run_opened.new.world)
-    (read_parts g.W.In.Source.left g.W.In.Source.faults opened) (carried_of g.W.Out.Sink.held g.W.Out.Sink.faults opened.journal) (all_carried g.W.Out.Sink.held g.W.Out.Sink.faults opened.outputs.items) c.in-Ok-open_places.ensures.opened
+    (read_parts g.W.In.Source.told opened) (g.W.Out.Sink.told opened.journal) (map g.W.Out.Sink.told opened.outputs.items) c.in-Ok-open_places.ensures.opened
     c.requires.ins c.clocks_of-clocks.ensures.only.ins)
 
 pub returns-in-Ok-open_places-clause-outs_home : goal.returns-in-Ok-open_places-clause-outs_home
 returns-in-Ok-open_places-clause-outs_home g c =
     let opened = c.in-Ok-open_places.opened in
     c.run_opened.ensures.outs_home (outs_home_but c.args.config.now c.run_opened.result (g.W.World.view c.args.world.now) (g.W.World.view c.open_places.new.world) (g.W.World.view c.clocks_of-clocks.new.world) (g.W.World.view c.run_opened.new.world)
-    (read_parts g.W.In.Source.left g.W.In.Source.faults opened) (carried_of g.W.Out.Sink.held g.W.Out.Sink.faults opened.journal) (all_carried g.W.Out.Sink.held g.W.Out.Sink.faults opened.outputs.items) c.in-Ok-open_places.ensures.opened
+    (read_parts g.W.In.Source.told opened) (g.W.Out.Sink.told opened.journal) (map g.W.Out.Sink.told opened.outputs.items) c.in-Ok-open_places.ensures.opened
     c.requires.outs c.clocks_of-clocks.ensures.only.outs)
 
 pub returns-in-Err-Failed-clause-open : goal.returns-in-Err-Failed-clause-open
 returns-in-Err-Failed-clause-open g c = λ e.
     refused_by c.args.config.now c.report_open_fault.result c.in-Err-Failed.place.now (g.W.World.view c.args.world.now) (g.W.World.view c.open_places.new.world) (g.W.World.view c.report_open_fault.new.world)
-    (subst (λ (u : Unopened). IsLeftUnopened u (in_places c.args.config.now) (out_places c.args.config.now) (g.W.World.view c.args.world.now) (g.W.World.view c.open_places.new.world)) c.in-Err-Failed.field-0-is c.in-Err-Failed.ensures.refused) c.report_open_fault.ensures.ins c.report_open_fault.ensures.outs c.report_open_fault.ensures.answer e
+    (subst (λ (u : Unopened). IsLeftUnopened u (in_places c.args.config.now) (out_places c.args.config.now) (g.W.World.view c.args.world.now) (g.W.World.view c.open_places.new.world)) c.in-Err-Failed.field-0-is c.in-Err-Failed.ensures.refused) c.report_open_fault.ensures.only.ins c.report_open_fault.ensures.only.outs c.report_open_fault.ensures.answer e

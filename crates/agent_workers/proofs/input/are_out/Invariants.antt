@@ -3,4 +3,4 @@ use Rattle.agent_workers.specs.Inputs.{ins_of, in_at, IsOut}
 use Rattle.agent_workers.proofs.input.are_out.Given as goal
 
 abbrev pub invariant-loop-job : goal.invariant-loop-job
-invariant-loop-job g l = (k : ℕ) → k < l.job-index → IsOut (in_at (ins_of g.S.Source.left g.S.Source.faults g.C.Clock.moments g.C.Clock.place l.inputs) k)
+invariant-loop-job g l = (k : ℕ) → k < l.job-index → IsOut (in_at (ins_of g.S.Source.told g.C.Clock.told l.inputs) k)

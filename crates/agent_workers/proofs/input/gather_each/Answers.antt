@@ -11,10 +11,10 @@ use Rattle.agent_workers.proofs.input.gather_each.Goals as goal
 
 -- what the jobs tell
 abbrev part : (g : Over) → InJob g.row.S.Denot g.row.C.Denot → InPart
-part g = in_of g.S.Source.left g.S.Source.faults g.C.Clock.moments g.C.Clock.place
+part g = in_of g.S.Source.told g.C.Clock.told
 
 abbrev ins : (g : Over) → List (InJob g.row.S.Denot g.row.C.Denot) → List InPart
-ins g = ins_of g.S.Source.left g.S.Source.faults g.C.Clock.moments g.C.Clock.place
+ins g = ins_of g.S.Source.told g.C.Clock.told
 
 -- the job at its place had its turn
 here : (g : Over) (c : In_ok-turn g) → c.loop-job.job-index < length c.loop-job.inputs
@@ -24,10 +24,10 @@ within : (g : Over) (c : In_ok-turn g) → c.loop-job.job-index < length (ins g 
 within g c = omega (arith, here g c, length-map c.loop-job.inputs (part g))
 
 number : (g : Over) (c : In_ok-turn g) → (get_or c.loop-job.inputs c.loop-job.job-index c.job-item.result).input ≡ c.loop-job.job-index
-number g c = input_number g.S.Source.left g.S.Source.faults g.C.Clock.moments g.C.Clock.place c.loop-job.inputs c.loop-job.job-index c.job-item.result (length c.args.core.now.setup.inputs) c.loop-job.core.ended (here g c) c.loop-job.invariant.inputs
+number g c = input_number g.S.Source.told g.C.Clock.told c.loop-job.inputs c.loop-job.job-index c.job-item.result (length c.args.core.now.setup.inputs) c.loop-job.core.ended (here g c) c.loop-job.invariant.inputs
 
 at_place : (g : Over) (c : In_ok-turn g) → in_at (ins g c.loop-job.inputs) c.loop-job.job-index ≡ part g (get_or c.loop-job.inputs c.loop-job.job-index c.job-item.result)
-at_place g c = input_here g.S.Source.left g.S.Source.faults g.C.Clock.moments g.C.Clock.place c.loop-job.inputs c.loop-job.job-index c.job-item.result (here g c)
+at_place g c = input_here g.S.Source.told g.C.Clock.told c.loop-job.inputs c.loop-job.job-index c.job-item.result (here g c)
 
 are : (g : Over) (c : In_ok-turn g) → set (ins g c.loop-job.inputs) c.loop-job.job-index (part g c.turn.new.job) ≡ ins g (set c.loop-job.inputs c.loop-job.job-index c.turn.new.job)
 are g c = sym (map-set (part g) c.loop-job.inputs c.loop-job.job-index c.turn.new.job)
@@ -56,7 +56,7 @@ gathers g c =
 pub turn-requires-clause-fits : goal.turn-requires-clause-fits
 turn-requires-clause-fits g c =
     let b : c.loop-job.job-index < length c.loop-job.inputs = omega (arith, c.loop-job-test.true, c.loop-job.auto.inputs, c.loop-job.auto.job-index-end) in
-    fits_here g.S.Source.left g.S.Source.faults g.C.Clock.moments g.C.Clock.place c.loop-job.inputs c.loop-job.job-index c.job-item.result (length c.args.core.now.setup.inputs) c.loop-job.core.ended b c.loop-job.invariant.inputs
+    fits_here g.S.Source.told g.C.Clock.told c.loop-job.inputs c.loop-job.job-index c.job-item.result (length c.args.core.now.setup.inputs) c.loop-job.core.ended b c.loop-job.invariant.inputs
 
 pub loop-job-init : goal.loop-job-init
 loop-job-init g c = record {

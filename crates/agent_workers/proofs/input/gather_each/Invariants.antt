@@ -11,8 +11,8 @@ invariant-loop-job g l = record {
   going : l.core.stopped ≡ false;
   stands : HasJournal l.core;
   kept : IsGathered l.fn.core l.core;
-  inputs : AreInputs (length l.fn.core.setup.inputs) l.core.ended (ins_of g.S.Source.left g.S.Source.faults g.C.Clock.moments g.C.Clock.place l.inputs);
-  same : AreSameInputs (ins_of g.S.Source.left g.S.Source.faults g.C.Clock.moments g.C.Clock.place l.fn.inputs) (ins_of g.S.Source.left g.S.Source.faults g.C.Clock.moments g.C.Clock.place l.inputs);
-  turned : HasTurned l.job-index l.fn.core l.core (ins_of g.S.Source.left g.S.Source.faults g.C.Clock.moments g.C.Clock.place l.inputs);
-  gathers : GathersTo l.job-index l.fn.core l.core (ins_of g.S.Source.left g.S.Source.faults g.C.Clock.moments g.C.Clock.place l.fn.inputs) (ins_of g.S.Source.left g.S.Source.faults g.C.Clock.moments g.C.Clock.place l.inputs);
+  inputs : AreInputs (length l.fn.core.setup.inputs) l.core.ended (ins_of g.S.Source.told g.C.Clock.told l.inputs);
+  same : AreSameInputs (ins_of g.S.Source.told g.C.Clock.told l.fn.inputs) (ins_of g.S.Source.told g.C.Clock.told l.inputs);
+  turned : HasTurned l.job-index l.fn.core l.core (ins_of g.S.Source.told g.C.Clock.told l.inputs);
+  gathers : GathersTo l.job-index l.fn.core l.core (ins_of g.S.Source.told g.C.Clock.told l.fn.inputs) (ins_of g.S.Source.told g.C.Clock.told l.inputs);
 }

@@ -9,7 +9,7 @@ use Rattle.agent_workers.proofs.input.turn.Goals as goal
 
 -- what the job tells
 abbrev part : (g : Over) → InJob g.row.S.Denot g.row.C.Denot → InPart
-part g = in_of g.S.Source.left g.S.Source.faults g.C.Clock.moments g.C.Clock.place
+part g = in_of g.S.Source.told g.C.Clock.told
 
 pub offer-requires-clause-fits : goal.offer-requires-clause-fits
 offer-requires-clause-fits g c = fits_read c.args.core.now.ended (part g c.args.job.now) (part g c.read_where_free.new.job) c.requires.fits c.read_where_free.ensures.same c.in_ok-met.ensures.ended c.in_ok-met.ensures.cut_by c.in_ok-met.ensures.own c.in_ok-met.ensures.none_held

@@ -10,6 +10,6 @@ take-requires-clause-whole g c = cut_whole c.args.core.now c.in-Ok.entries.items
 
 pub returns-in_ok-take-in-Ok-clause-notes : goal.returns-in_ok-take-in-Ok-clause-notes
 returns-in_ok-take-in-Ok-clause-notes g c = λ start now w.
-    went_cut start c.args.core.now c.cut.new.self (part_of g.K.Sink.held g.K.Sink.faults c.args.journal.now) (part_of g.K.Sink.held g.K.Sink.faults c.take.new.self) now
+    went_cut start c.args.core.now c.cut.new.self (part_of g.K.Sink.told c.args.journal.now) (part_of g.K.Sink.told c.take.new.self) now
     c.cut.ensures.stands c.in-Ok.ensures.ok.1
-    (subst (λ (es : List Entry). NotesOn es (part_of g.K.Sink.held g.K.Sink.faults c.args.journal.now) (part_of g.K.Sink.held g.K.Sink.faults c.take.new.self)) c.in-Ok.ensures.ok.0 c.in_ok-take-in-Ok.ensures) w
+    (subst (λ (es : List Entry). NotesOn es (part_of g.K.Sink.told c.args.journal.now) (part_of g.K.Sink.told c.take.new.self)) c.in-Ok.ensures.ok.0 c.in_ok-take-in-Ok.ensures) w

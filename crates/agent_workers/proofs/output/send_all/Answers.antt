@@ -14,7 +14,7 @@ use Rattle.agent_workers.proofs.output.send_all.Goals as goal
 
 -- what the job tells
 abbrev part : (g : Over) → OutJob g.row.K.Denot g.row.C.Denot → OutPart
-part g = out_of g.K.Sink.held g.K.Sink.faults
+part g = out_of g.K.Sink.told
 
 -- one batch more was tried
 kept : (g : Over) (c : In_ok-send_next g) → IsSentAt c.args.job.now.output c.args.core.now c.send_next.new.core

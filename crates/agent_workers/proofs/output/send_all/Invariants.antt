@@ -12,5 +12,5 @@ invariant-loop-batch g l = record {
   first : l.batch ≡ 0 → l.job.failed_since ≡ l.fn.job.failed_since;
   waits : l.batch ≡ 0 → waiting_at l.core l.fn.job.output ≡ waiting_at l.fn.core l.fn.job.output;
   number : l.job.output ≡ l.fn.job.output;
-  sends : SendsAt l.fn.core l.core (out_of g.K.Sink.held g.K.Sink.faults l.fn.job) (out_of g.K.Sink.held g.K.Sink.faults l.job);
+  sends : SendsAt l.fn.core l.core (out_of g.K.Sink.told l.fn.job) (out_of g.K.Sink.told l.job);
 }

@@ -13,8 +13,8 @@ send_all-requires-clause-known g c =
     let jobs = c.loop-job.outputs in
     let i = c.loop-job.job-index in
     let b : i < length jobs = omega (arith, c.loop-job-test.true, c.loop-job.auto.outputs, c.loop-job.auto.job-index-end) in
-    let number = part_number g.K.Sink.held g.K.Sink.faults jobs i c.job-item.result (length c.args.core.now.setup.outputs) b c.loop-job.invariant.outputs in
-    omega (arith, number, b, c.loop-job.invariant.outputs.count_is, length-map jobs (out_of g.K.Sink.held g.K.Sink.faults), ap (λ (s : Setup). length s.outputs) c.loop-job.invariant.kept.setup)
+    let number = part_number g.K.Sink.told jobs i c.job-item.result (length c.args.core.now.setup.outputs) b c.loop-job.invariant.outputs in
+    omega (arith, number, b, c.loop-job.invariant.outputs.count_is, length-map jobs (out_of g.K.Sink.told), ap (λ (s : Setup). length s.outputs) c.loop-job.invariant.kept.setup)
 
 pub loop-job-preserved : goal.loop-job-preserved
 loop-job-preserved g c =
@@ -22,15 +22,15 @@ loop-job-preserved g c =
     let i = c.loop-job.job-index in
     let count = length c.args.core.now.setup.outputs in
     let b : i < length jobs = omega (arith, c.loop-job-test.true, c.loop-job.auto.outputs, c.loop-job.auto.job-index-end) in
-    let outs : List OutPart = outs_of g.K.Sink.held g.K.Sink.faults jobs in
-    let l : i < length outs = omega (arith, b, length-map jobs (out_of g.K.Sink.held g.K.Sink.faults)) in
+    let outs : List OutPart = outs_of g.K.Sink.told jobs in
+    let l : i < length outs = omega (arith, b, length-map jobs (out_of g.K.Sink.told)) in
     let old = get_or jobs i c.job-item.result in
-    let part : OutPart = out_of g.K.Sink.held g.K.Sink.faults old in
-    let new : OutPart = out_of g.K.Sink.held g.K.Sink.faults c.send_all.new.job in
-    let number = part_number g.K.Sink.held g.K.Sink.faults jobs i c.job-item.result count b c.loop-job.invariant.outputs in
-    let at = part_here g.K.Sink.held g.K.Sink.faults jobs i c.job-item.result b in
-    let are = map-set (out_of g.K.Sink.held g.K.Sink.faults) jobs i c.send_all.new.job in
-    let firsts : List OutPart = outs_of g.K.Sink.held g.K.Sink.faults c.args.outputs.now in
+    let part : OutPart = out_of g.K.Sink.told old in
+    let new : OutPart = out_of g.K.Sink.told c.send_all.new.job in
+    let number = part_number g.K.Sink.told jobs i c.job-item.result count b c.loop-job.invariant.outputs in
+    let at = part_here g.K.Sink.told jobs i c.job-item.result b in
+    let are = map-set (out_of g.K.Sink.told) jobs i c.send_all.new.job in
+    let firsts : List OutPart = outs_of g.K.Sink.told c.args.outputs.now in
     let sent = c.in_ok-flush.ensures.kept in
     let flush = c.in_ok-flush.flush in
     let more = sweeps_part i c.loop-job.sweep.emptied c.loop-job.sweep.accepted flush c.args.core.now c.loop-job.core c.send_all.new.core firsts outs part new l at number sent c.in_ok-flush.ensures.flushed c.loop-job.invariant.swept in
@@ -41,15 +41,15 @@ loop-job-preserved g c =
       ready = c.in_ok-flush.ensures.ready;
       kept = sent_on c.args.core.now c.loop-job.core c.send_all.new.core c.loop-job.invariant.kept sent.kept;
       stands = c.in_ok-flush.ensures.stands;
-      outputs = part_set g.K.Sink.held g.K.Sink.faults jobs i c.send_all.new.job count b (c.send_all.ensures.number ∙ number) c.loop-job.invariant.outputs;
+      outputs = part_set g.K.Sink.told jobs i c.send_all.new.job count b (c.send_all.ensures.number ∙ number) c.loop-job.invariant.outputs;
       swept = subst (Sweeping (i + 1) c.and-sweep.result.emptied c.and-sweep.result.accepted c.args.core.now c.send_all.new.core firsts) (sym are) swept_all;
       sends = subst (SendsOn c.args.core.now c.send_all.new.core firsts) (sym are) sends;
     }
 
 pub returns-clause-swept : goal.returns-clause-swept
 returns-clause-swept g c =
-    let firsts : List OutPart = outs_of g.K.Sink.held g.K.Sink.faults c.args.outputs.now in
-    let outs : List OutPart = outs_of g.K.Sink.held g.K.Sink.faults c.loop-job.outputs in
-    let same : length outs ≡ length firsts = omega (arith, length-map c.loop-job.outputs (out_of g.K.Sink.held g.K.Sink.faults), length-map c.args.outputs.now (out_of g.K.Sink.held g.K.Sink.faults), c.loop-job.auto.outputs) in
-    let all : length firsts ≤ c.loop-job.job-index = omega (arith, length-map c.args.outputs.now (out_of g.K.Sink.held g.K.Sink.faults), c.loop-job-test.false, c.loop-job.auto.job-index-end, c.loop-job.auto.outputs) in
+    let firsts : List OutPart = outs_of g.K.Sink.told c.args.outputs.now in
+    let outs : List OutPart = outs_of g.K.Sink.told c.loop-job.outputs in
+    let same : length outs ≡ length firsts = omega (arith, length-map c.loop-job.outputs (out_of g.K.Sink.told), length-map c.args.outputs.now (out_of g.K.Sink.told), c.loop-job.auto.outputs) in
+    let all : length firsts ≤ c.loop-job.job-index = omega (arith, length-map c.args.outputs.now (out_of g.K.Sink.told), c.loop-job-test.false, c.loop-job.auto.job-index-end, c.loop-job.auto.outputs) in
     swept c.loop-job.job-index c.loop-job.sweep c.args.core.now c.loop-job.core firsts outs all same c.loop-job.invariant.swept

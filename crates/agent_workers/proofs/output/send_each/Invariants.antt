@@ -10,7 +10,7 @@ invariant-loop-job g l = record {
   ready : IsReady l.core;
   kept : IsSentOn l.fn.core l.core;
   stands : HasJournal l.core;
-  outputs : AreOutputs (length l.fn.core.setup.outputs) (outs_of g.K.Sink.held g.K.Sink.faults l.outputs);
-  swept : Sweeping l.job-index l.sweep.emptied l.sweep.accepted l.fn.core l.core (outs_of g.K.Sink.held g.K.Sink.faults l.fn.outputs) (outs_of g.K.Sink.held g.K.Sink.faults l.outputs);
-  sends : SendsOn l.fn.core l.core (outs_of g.K.Sink.held g.K.Sink.faults l.fn.outputs) (outs_of g.K.Sink.held g.K.Sink.faults l.outputs);
+  outputs : AreOutputs (length l.fn.core.setup.outputs) (outs_of g.K.Sink.told l.outputs);
+  swept : Sweeping l.job-index l.sweep.emptied l.sweep.accepted l.fn.core l.core (outs_of g.K.Sink.told l.fn.outputs) (outs_of g.K.Sink.told l.outputs);
+  sends : SendsOn l.fn.core l.core (outs_of g.K.Sink.told l.fn.outputs) (outs_of g.K.Sink.told l.outputs);
 }

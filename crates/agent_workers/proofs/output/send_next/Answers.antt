@@ -36,8 +36,8 @@ returns-in-Err-Failed-clause-kept g c =
 pub returns-in-Ok-put-clause-sends : goal.returns-in-Ok-put-clause-sends
 returns-in-Ok-put-clause-sends g c = λ outs b at start now w.
     let text : c.deref.result.now ≡ batch_text c.args.job.now.format c.in-Ok.batch.metrics = c.deref.ensures.value ∙ c.in_ok-write_batch.ensures.ok ∙ ap (batch_text c.args.job.now.format) c.as_slice.ensures in
-    let old : OutPart = out_of g.K.Sink.held g.K.Sink.faults c.args.job.now in
-    let new : OutPart = record { output = c.args.job.now.output; format = c.args.job.now.format; held = g.K.Sink.held c.put.new.self; put_faults = g.K.Sink.faults c.put.new.self; failed = 0; failed_since = 0 } in
+    let old : OutPart = out_of g.K.Sink.told c.args.job.now in
+    let new : OutPart = record { output = c.args.job.now.output; format = c.args.job.now.format; held = (g.K.Sink.told c.put.new.self).bytes; put_faults = (g.K.Sink.told c.put.new.self).faults; failed = 0; failed_since = 0 } in
     let here : Surroundings = record now { outs = outs } in
     went_accepted start c.args.core.now c.begin.new.self c.done.new.self here old new c.in-Ok.batch c.deref.result.now c.requires.known c.requires.routed c.in-Ok.ensures.batch text refl c.in-Ok-put.ensures.cause.later c.in-Ok.ensures.ok c.in-Ok.ensures.stands b at
     refl refl c.done.ensures.after c.done.ensures.stands c.in-Ok-put.ensures.bytes w
@@ -45,8 +45,8 @@ returns-in-Ok-put-clause-sends g c = λ outs b at start now w.
 pub returns-in-Err-Failed-clause-sends : goal.returns-in-Err-Failed-clause-sends
 returns-in-Err-Failed-clause-sends g c = λ outs b at start now w.
     let text : c.deref.result.now ≡ batch_text c.args.job.now.format c.in-Ok.batch.metrics = c.deref.ensures.value ∙ c.in_ok-write_batch.ensures.ok ∙ ap (batch_text c.args.job.now.format) c.as_slice.ensures in
-    let old : OutPart = out_of g.K.Sink.held g.K.Sink.faults c.args.job.now in
-    let new : OutPart = record { output = c.args.job.now.output; format = c.args.job.now.format; held = g.K.Sink.held c.put.new.self; put_faults = g.K.Sink.faults c.put.new.self; failed = c.saturating_add-job.result; failed_since = c.saturating_add-job-in-Err-Failed.result } in
+    let old : OutPart = out_of g.K.Sink.told c.args.job.now in
+    let new : OutPart = record { output = c.args.job.now.output; format = c.args.job.now.format; held = (g.K.Sink.told c.put.new.self).bytes; put_faults = (g.K.Sink.told c.put.new.self).faults; failed = c.saturating_add-job.result; failed_since = c.saturating_add-job-in-Err-Failed.result } in
     let here : Surroundings = record now { outs = outs } in
     went_failed start c.args.core.now c.begin.new.self c.done-in-Err-Failed.new.self here old new c.in-Ok.batch c.deref.result.now c.requires.known c.requires.routed c.in-Ok.ensures.batch text refl c.in-Err-Failed.ensures.cause.later c.in-Ok.ensures.ok c.in-Ok.ensures.stands b at
     c.in-Err-Failed.field-0 c.in-Err-Failed.field-0-is (omega (arith, c.saturating_add-job.ensures)) (omega (arith, c.saturating_add-job-in-Err-Failed.ensures)) c.done-in-Err-Failed.ensures.after c.done-in-Err-Failed.ensures.stands c.in-Err-Failed.ensures.bytes (rw c.in-Err-Failed.field-0-is at c.in-Err-Failed.ensures.cause.failed) w

@@ -14,7 +14,7 @@ use Rattle.agent_workers.proofs.output.send_rest.Goals as goal
 
 -- what the jobs tell
 abbrev outs : (g : Over) → List (OutJob g.row.K.Denot g.row.C.Denot) → List OutPart
-outs g = outs_of g.K.Sink.held g.K.Sink.faults
+outs g = outs_of g.K.Sink.told
 
 -- each output had its turn once more
 sends : (g : Over) (c : In_ok-sweep g) → SendsOn c.args.core.now c.send_each.new.core (outs g c.args.outputs.now) (outs g c.send_each.new.outputs)
@@ -22,7 +22,7 @@ sends g c = sends_then c.args.core.now c.loop-repeat.core c.send_each.new.core (
 
 as_many : (g : Over) (c : In_ok-sweep g) → length (outs g c.send_each.new.outputs) ≡ length (outs g c.loop-repeat.outputs)
 as_many g c =
-    length-map c.send_each.new.outputs (out_of g.K.Sink.held g.K.Sink.faults) ∙ c.send_each.ensures.count ∙ sym (length-map c.loop-repeat.outputs (out_of g.K.Sink.held g.K.Sink.faults))
+    length-map c.send_each.new.outputs (out_of g.K.Sink.told) ∙ c.send_each.ensures.count ∙ sym (length-map c.loop-repeat.outputs (out_of g.K.Sink.told))
 
 failed : (g : Over) (c : After-tries_after-tries g) → length (outs g c.send_each.new.outputs) ≡ length (outs g c.loop-repeat.outputs) →
     HaveFailed c.tries_after-tries.result c.send_each.new.core (outs g c.send_each.new.outputs) × (1 ≤ c.tries_after-tries.result → AreLeft c.tries_after-tries.result c.send_each.new.core (outs g c.send_each.new.outputs))

@@ -9,9 +9,9 @@ invariant-loop-repeat g l = record {
   ready : IsReady l.core;
   kept : IsSentOn l.fn.core l.core;
   stands : HasJournal l.core;
-  outputs : AreOutputs (length l.fn.core.setup.outputs) (outs_of g.K.Sink.held g.K.Sink.faults l.outputs);
+  outputs : AreOutputs (length l.fn.core.setup.outputs) (outs_of g.K.Sink.told l.outputs);
   count : length l.outputs ≡ length l.fn.outputs;
   few : l.tries < l.fn.final_tries;
-  failed : HaveFailed l.tries l.core (outs_of g.K.Sink.held g.K.Sink.faults l.outputs);
-  sends : SendsOn l.fn.core l.core (outs_of g.K.Sink.held g.K.Sink.faults l.fn.outputs) (outs_of g.K.Sink.held g.K.Sink.faults l.outputs);
+  failed : HaveFailed l.tries l.core (outs_of g.K.Sink.told l.outputs);
+  sends : SendsOn l.fn.core l.core (outs_of g.K.Sink.told l.fn.outputs) (outs_of g.K.Sink.told l.outputs);
 }

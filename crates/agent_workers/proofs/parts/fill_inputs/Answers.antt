@@ -17,9 +17,9 @@ loop-conf-preserved g c =
     let conf_is : c.conf-item.result ≡ get_or confs n c.conf-item.result = search rules in
     record {
       made = rw (c.push_reserved.ensures.items, c.remove-source.ensures.items, c.remove-clock.ensures.items)
-          (in_filled g.S.Source.left g.S.Source.faults g.C.Clock.moments g.C.Clock.place c.args.config.now n confs c.loop-conf.jobs.items c.in_job.result c.loop-conf.sources.items c.loop-conf.clocks.items c.conf-item.result c.remove-source.result c.remove-clock.result _
+          (in_filled g.S.Source.told g.C.Clock.told c.args.config.now n confs c.loop-conf.jobs.items c.in_job.result c.loop-conf.sources.items c.loop-conf.clocks.items c.conf-item.result c.remove-source.result c.remove-clock.result _
           within (omega (arith, within, c.loop-conf.sources.ok, c.loop-conf.invariant.sources)) (omega (arith, within, c.loop-conf.clocks.ok, c.loop-conf.invariant.clocks))
-          (in_is g.S.Source.left g.S.Source.faults g.C.Clock.moments g.C.Clock.place c.args.config.now n confs c.in_job.result c.len-input.result c.conf-item.result c.remove-source.result c.remove-clock.result c.loop-conf.sources.items c.loop-conf.clocks.items
+          (in_is g.S.Source.told g.C.Clock.told c.args.config.now n confs c.in_job.result c.len-input.result c.conf-item.result c.remove-source.result c.remove-clock.result c.loop-conf.sources.items c.loop-conf.clocks.items
           c.in_job.ensures (omega (arith, c.len-input.ensures, c.loop-conf.invariant.jobs)) conf_is c.remove-source.ensures.value c.remove-clock.ensures.value)
           c.loop-conf.invariant.made);
       pieces = c.remove-taken.ensures.items ∙ hands_left n confs c.loop-conf.pieces.items c.conf-item.result within c.loop-conf.invariant.pieces;

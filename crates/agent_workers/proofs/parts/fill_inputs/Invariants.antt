@@ -1,14 +1,14 @@
-use Rattle.std.proofs.Common.{◌≡◌, ◌≤◌, ◌+◌, ◌++◌, length, drop}
+use Rattle.std.proofs.Common.{◌≡◌, ◌≤◌, ◌+◌, ◌++◌, length, drop, map}
 use Rattle.std.specs.Prelude.{vec_len, vec_capacity}
 use Rattle.agent_workers.specs.Inputs.{ins_of}
-use Rattle.agent_workers.specs.Opened.{all_carried, all_timed, empty_hands, fresh_ins}
+use Rattle.agent_workers.specs.Opened.{empty_hands, fresh_ins}
 use Rattle.agent_workers.proofs.parts.fill_inputs.Given as goal
 
 abbrev pub invariant-loop-conf : goal.invariant-loop-conf
 invariant-loop-conf g l = record {
-  made : ins_of g.S.Source.left g.S.Source.faults g.C.Clock.moments g.C.Clock.place l.jobs.items
-      ++ fresh_ins l.config l.conf-index (drop l.conf-index l.config.inputs) (all_carried g.S.Source.left g.S.Source.faults l.sources.items) (all_timed g.C.Clock.moments g.C.Clock.place l.clocks.items)
-      ≡ fresh_ins l.config 0 l.config.inputs (all_carried g.S.Source.left g.S.Source.faults l.fn.sources.items) (all_timed g.C.Clock.moments g.C.Clock.place l.fn.clocks.items);
+  made : ins_of g.S.Source.told g.C.Clock.told l.jobs.items
+      ++ fresh_ins l.config l.conf-index (drop l.conf-index l.config.inputs) (map g.S.Source.told l.sources.items) (map g.C.Clock.told l.clocks.items)
+      ≡ fresh_ins l.config 0 l.config.inputs (map g.S.Source.told l.fn.sources.items) (map g.C.Clock.told l.fn.clocks.items);
   pieces : l.pieces.items ≡ empty_hands (drop l.conf-index l.config.inputs);
   sources : vec_len l.sources + l.conf-index ≡ length l.config.inputs;
   clocks : vec_len l.clocks + l.conf-index ≡ length l.config.inputs;

@@ -11,9 +11,9 @@ loop-conf-preserved g c =
     let conf_is : c.conf-item.result ≡ get_or confs n c.conf-item.result = search rules in
     record {
       made = rw (c.push_reserved.ensures.items, c.remove-sink.ensures.items)
-          (out_filled g.K.Sink.held g.K.Sink.faults n confs c.loop-conf.jobs.items c.out_job.result c.loop-conf.sinks.items c.conf-item.result c.remove-sink.result _
+          (out_filled g.K.Sink.told n confs c.loop-conf.jobs.items c.out_job.result c.loop-conf.sinks.items c.conf-item.result c.remove-sink.result _
           within (omega (arith, within, c.loop-conf.sinks.ok, c.loop-conf.invariant.sinks))
-          (out_is g.K.Sink.held g.K.Sink.faults n confs c.out_job.result c.len-output.result c.conf-item.result c.remove-sink.result c.loop-conf.sinks.items
+          (out_is g.K.Sink.told n confs c.out_job.result c.len-output.result c.conf-item.result c.remove-sink.result c.loop-conf.sinks.items
           c.out_job.ensures (omega (arith, c.len-output.ensures, c.loop-conf.invariant.jobs)) conf_is c.remove-sink.ensures.value)
           c.loop-conf.invariant.made);
       sinks = omega (arith, within, c.remove-sink.ensures.len, c.loop-conf.invariant.sinks);

@@ -1,13 +1,13 @@
-use Rattle.std.proofs.Common.{◌≡◌, ◌≤◌, ◌+◌, ◌++◌, length, drop}
+use Rattle.std.proofs.Common.{◌≡◌, ◌≤◌, ◌+◌, ◌++◌, length, drop, map}
 use Rattle.std.specs.Prelude.{vec_len, vec_capacity}
-use Rattle.agent_workers.specs.Opened.{all_carried, fresh_outs}
+use Rattle.agent_workers.specs.Opened.{fresh_outs}
 use Rattle.agent_workers.specs.Output.{outs_of}
 use Rattle.agent_workers.proofs.parts.fill_outputs.Given as goal
 
 abbrev pub invariant-loop-conf : goal.invariant-loop-conf
 invariant-loop-conf g l = record {
-  made : outs_of g.K.Sink.held g.K.Sink.faults l.jobs.items ++ fresh_outs l.conf-index (drop l.conf-index l.config.outputs) (all_carried g.K.Sink.held g.K.Sink.faults l.sinks.items)
-      ≡ fresh_outs 0 l.config.outputs (all_carried g.K.Sink.held g.K.Sink.faults l.fn.sinks.items);
+  made : outs_of g.K.Sink.told l.jobs.items ++ fresh_outs l.conf-index (drop l.conf-index l.config.outputs) (map g.K.Sink.told l.sinks.items)
+      ≡ fresh_outs 0 l.config.outputs (map g.K.Sink.told l.fn.sinks.items);
   sinks : vec_len l.sinks + l.conf-index ≡ length l.config.outputs;
   clocks : vec_len l.clocks + l.conf-index ≡ length l.config.outputs;
   jobs : vec_len l.jobs ≡ l.conf-index;

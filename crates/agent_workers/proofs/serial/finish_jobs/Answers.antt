@@ -12,21 +12,21 @@ use Rattle.agent_workers.specs.Output.{OutPart, outs_of, AreOutputs}
 use Rattle.agent_workers.specs.Noted.{JournalPart, part_of}
 use Rattle.agent_workers.specs.PipeSetup.{journal_setup_of}
 use Rattle.agent_workers.specs.Progress.{Beginning, Surroundings}
-use Rattle.agent_workers.specs.Rules.{views_by}
+use Rattle.agent_workers.specs.Rules.{work_by}
 use Rattle.agent_workers.proofs.FinishSteps.{finished}
 use Rattle.agent_workers.proofs.ProgressLemmas.{stored_in_order}
 use Rattle.agent_workers.proofs.serial.finish_jobs.Goals as goal
 
 pub returns-clause-finished : goal.returns-clause-finished
 returns-clause-finished g c = λ start now starts_count outs_count settled w.
-    let begun : Beginning = record start { views = views_by c.args.confs.now } in
+    let begun : Beginning = record start { work = work_by c.args.confs.now } in
     let moment = to_z w64 (of_z w64 c.now-moment.result) in
     let same_moment : moment ≡ c.now-moment.result = to_z-of_z w64 c.now-moment.result (search rules) in
-    let ins : List InPart = ins_of g.S.Source.left g.S.Source.faults g.C.Clock.moments g.C.Clock.place c.rounds.new.inputs in
-    let outs : List OutPart = outs_of g.K.Sink.held g.K.Sink.faults c.stop_run.new.outputs in
-    let before : JournalPart = part_of g.K.Sink.held g.K.Sink.faults c.rounds.new.journal in
-    let after : JournalPart = part_of g.K.Sink.held g.K.Sink.faults c.end_journal.new.journal in
-    let timer : ClockRun = record { moments = g.C.Clock.moments c.args.timer.now; before = g.C.Clock.place c.args.timer.now; after = g.C.Clock.place c.now-moment.new.self } in
+    let ins : List InPart = ins_of g.S.Source.told g.C.Clock.told c.rounds.new.inputs in
+    let outs : List OutPart = outs_of g.K.Sink.told c.stop_run.new.outputs in
+    let before : JournalPart = part_of g.K.Sink.told c.rounds.new.journal in
+    let after : JournalPart = part_of g.K.Sink.told c.end_journal.new.journal in
+    let timer : ClockRun = record { moments = (g.C.Clock.told c.args.timer.now).moments; before = (g.C.Clock.told c.args.timer.now).place; after = (g.C.Clock.told c.now-moment.new.self).place } in
     let last = c.stop_run.new.core in
     let rounds = c.in_ok-rounds.ensures.runs start now settled w in
     let here : Surroundings = record now { ins = ins; next = 0; outs = outs; journal = before } in
@@ -44,4 +44,4 @@ returns-clause-finished g c = λ start now starts_count outs_count settled w.
     c.rounds.new.core.ended (subst (λ (k : ℕ). AreInputs k c.rounds.new.core.ended ins) number c.in_ok-rounds.ensures.inputs)
     (subst (λ (k : ℕ). AreOutputs k outs) (ap (λ (s : Setup). length s.outputs) (c.in_ok-rounds.ensures.setup ∙ w.text.setup_is)) c.in_ok-stop_run.ensures.outputs) over
     _ c.end_journal.new.core after now.counted_at timer moment c.in_ok-account.ensures.cut (rw same_moment c.now-moment.ensures.gives) refl
-    c.has_limit.ensures c.has_fault.ensures c.in_ok-account.ensures.left c.in_ok-account.ensures.account put_so
+    c.is_one_in.ensures c.is_one_in-2.ensures c.in_ok-account.ensures.left c.in_ok-account.ensures.account put_so

@@ -1,7 +1,7 @@
 use Rattle.std.proofs.Common.{◌≡◌, false, length}
 use Rattle.agent_workers.specs.Noted.{part_of}
 use Rattle.agent_workers.specs.Inputs.{ins_of, AreInputs, AreSameInputs}
-use Rattle.agent_workers.specs.Rules.{views_by}
+use Rattle.agent_workers.specs.Rules.{work_by}
 use Rattle.agent_workers.specs.Output.{outs_of, AreOutputs}
 use Rattle.agent_workers.specs.Progress.{RunsOn}
 use Rattle.agent_workers.specs.Running.{IsReady, HasJournal, AreSettled}
@@ -12,12 +12,12 @@ invariant-loop-round g l = record {
   ready : IsReady l.core;
   going : l.core.stopped ≡ false;
   setup : l.core.setup ≡ l.fn.core.setup;
-  inputs : AreInputs (length l.fn.core.setup.inputs) l.core.ended (ins_of g.S.Source.left g.S.Source.faults g.C.Clock.moments g.C.Clock.place l.inputs);
-  outputs : AreOutputs (length l.fn.core.setup.outputs) (outs_of g.K.Sink.held g.K.Sink.faults l.outputs);
-  settled : AreSettled l.fn.core (outs_of g.K.Sink.held g.K.Sink.faults l.fn.outputs) → AreSettled l.core (outs_of g.K.Sink.held g.K.Sink.faults l.outputs);
+  inputs : AreInputs (length l.fn.core.setup.inputs) l.core.ended (ins_of g.S.Source.told g.C.Clock.told l.inputs);
+  outputs : AreOutputs (length l.fn.core.setup.outputs) (outs_of g.K.Sink.told l.outputs);
+  settled : AreSettled l.fn.core (outs_of g.K.Sink.told l.fn.outputs) → AreSettled l.core (outs_of g.K.Sink.told l.outputs);
   stands : HasJournal l.core;
   in_count : length l.inputs ≡ length l.fn.inputs;
   count : length l.outputs ≡ length l.fn.outputs;
-  same : AreSameInputs (ins_of g.S.Source.left g.S.Source.faults g.C.Clock.moments g.C.Clock.place l.fn.inputs) (ins_of g.S.Source.left g.S.Source.faults g.C.Clock.moments g.C.Clock.place l.inputs);
-  runs : RunsOn (views_by l.confs) l.fn.core l.core (ins_of g.S.Source.left g.S.Source.faults g.C.Clock.moments g.C.Clock.place l.fn.inputs) (ins_of g.S.Source.left g.S.Source.faults g.C.Clock.moments g.C.Clock.place l.inputs) (outs_of g.K.Sink.held g.K.Sink.faults l.fn.outputs) (outs_of g.K.Sink.held g.K.Sink.faults l.outputs) (part_of g.K.Sink.held g.K.Sink.faults l.fn.journal) (part_of g.K.Sink.held g.K.Sink.faults l.journal);
+  same : AreSameInputs (ins_of g.S.Source.told g.C.Clock.told l.fn.inputs) (ins_of g.S.Source.told g.C.Clock.told l.inputs);
+  runs : RunsOn (work_by l.confs) l.fn.core l.core (ins_of g.S.Source.told g.C.Clock.told l.fn.inputs) (ins_of g.S.Source.told g.C.Clock.told l.inputs) (outs_of g.K.Sink.told l.fn.outputs) (outs_of g.K.Sink.told l.outputs) (part_of g.K.Sink.told l.fn.journal) (part_of g.K.Sink.told l.journal);
 }

@@ -1,13 +1,9 @@
-use Rattle.std.proofs.Common.{◌<◌, length, arith, subst, sym, map, take, drop, ◌≡◌, ◌++◌, ◌+◌, ℕ, set}
-use Rattle.std.proofs.lemmas.Grind.{get_or_default_zero}
-use Rattle.std.proofs.lemmas.List.Edits.{map_over_more}
+use Rattle.std.proofs.Common.{refl}
+use Rattle.fixed_num.proofs.ByteTables.{from_table}
+use Rattle.graphite_text.specs.declared.write.TheConstants.{VALUE_BYTES}
 use Rattle.graphite_text.specs.Writing.{value_byte}
 use Rattle.graphite_text.proofs.write.clean_value.Goals as goal
 
-pub loop-byte-preserved : goal.loop-byte-preserved
-loop-byte-preserved c =
-    let b : c.loop-byte.byte-index < length c.args.bytes.now = omega (arith, c.loop-byte-test.true, c.loop-byte.auto.byte-index-end) in
-    let i : c.loop-byte.byte-index < length c.loop-byte.bytes = omega (arith, c.loop-byte-test.true, c.loop-byte.auto.bytes, c.loop-byte.auto.byte-index-end) in
-    subst (λ (y : ℕ). set c.loop-byte.bytes c.loop-byte.byte-index y ≡ map value_byte (take (c.loop-byte.byte-index + 1) c.args.bytes.now) ++ drop (c.loop-byte.byte-index + 1) c.args.bytes.now) (sym c.value_byte.ensures)
-    (map_over_more value_byte c.args.bytes.now c.loop-byte.bytes c.loop-byte.byte-index _ b c.loop-byte.invariant
-    (sym (get_or_default_zero c.loop-byte.bytes c.loop-byte.byte-index _ i)))
+pub returns : goal.returns
+unfolding value_byte
+returns c = c.translate.ensures value_byte (record { at = λ b fits. from_table value_byte VALUE_BYTES b fits refl })

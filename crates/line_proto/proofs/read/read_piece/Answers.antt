@@ -1,7 +1,5 @@
-use Rattle.std.proofs.Common.{ℕ, Option, Result, subst, sym}
-use Rattle.text_parts.specs.Chain.{Gives}
-use Rattle.text_parts.proofs.Utf8Readings.{not_utf8, utf8_read}
-use Rattle.metric.specs.declared.metric.Content.{Content}
+use Rattle.std.proofs.Common.{ℕ}
+use Rattle.text_parts.proofs.Utf8Readings.{not_utf8, utf8_gives}
 use Rattle.line_proto.specs.declared.fault.LineFault.{LineFault}
 use Rattle.line_proto.specs.declared.fault.LineKind.TheVariants.{NotUtf8}
 use Rattle.line_proto.specs.Reading.{text_reading, reading}
@@ -10,9 +8,7 @@ use Rattle.line_proto.proofs.read.read_piece.Goals as goal
 pub returns-in-Ok : goal.returns-in-Ok
 unfolding reading
 returns-in-Ok c =
-    subst (λ (r : Result (Option Content) LineFault). Gives (λ x. x) c.read_text.result r)
-    (sym (utf8_read text_reading _ c.args.piece.now c.in-Ok.text.now c.args.moment c.in-Ok.ensures.1 c.in-Ok.ensures.0 c.ranges.moment))
-    c.read_text.ensures
+    utf8_gives (λ x. x) text_reading _ c.args.piece.now c.in-Ok.text.now c.args.moment c.read_text.result c.in-Ok.ensures c.ranges.moment c.read_text.ensures
 
 pub returns-in-Err : goal.returns-in-Err
 unfolding reading

@@ -7,8 +7,8 @@ returns c =
     let m = c.args.m.now in
     λ all.
     left_whole rules m
-    (carried _ _ rules.fieldinclude _ rules.fieldexclude _ m.fields c.keeps_fields.ensures
+    (carried _ _ rules.fieldinclude _ rules.fieldexclude _ m.fields c.keeps_each.ensures
     c.as_slice-include.ensures
-    c.as_slice-exclude.ensures c.fields.ensures c.if-not-keeps_fields.false)
-    (carried _ _ rules.taginclude _ rules.tagexclude _ m.tags c.keeps_tags.ensures c.as_slice.ensures
+    c.as_slice-exclude.ensures c.fields.ensures c.if-not-keeps_each.false)
+    (carried _ _ rules.taginclude _ rules.tagexclude _ m.tags c.keeps_each-2.ensures c.as_slice.ensures
     c.as_slice-2.ensures c.tags.ensures all)

@@ -14,7 +14,7 @@ of-requires-3 c =
     (rw c.of-2.ensures (grind (arith, common_steps)))
     (c.in_ok-copy.ensures ∙ c.name.ensures.name)
     (c.of.ensures
-    ∙ kept_carried _ _ rules_now.taginclude _ rules_now.tagexclude _ m.tags c.in_ok-kept_tags.ensures
+    ∙ kept_carried _ _ rules_now.taginclude _ rules_now.tagexclude _ m.tags c.in_ok-kept_pairs.ensures
     c.as_slice-include-2.ensures c.as_slice-exclude-2.ensures c.tags.ensures)
     (c.of-2.ensures
     ∙ kept_carried _ _ rules_now.fieldinclude _ rules_now.fieldexclude _ m.fields c.in_ok-fields.ensures

@@ -21,8 +21,8 @@ put_one labels old i label lt is so_far =
 
 pub loop-label-preserved : goal.loop-label-preserved
 loop-label-preserved c =
-    let put = c.in_ok-tag.ensures.ok in record {
+    let put = c.in_ok-put_label.ensures in record {
       name = ap (λ (b : Parts). b.name) put ∙ c.loop-label.invariant.name;
-      tags = ap (λ (b : Parts). b.tags) put ∙ rw c.as_str.ensures (put_one c.args.labels.now c.loop-label.builder.tags c.loop-label.label-index c.label-item.result c.loop-label-test.true c.label-item.is c.loop-label.invariant.tags);
+      tags = ap (λ (b : Parts). b.tags) put ∙ (put_one c.args.labels.now c.loop-label.builder.tags c.loop-label.label-index c.label-item.result c.loop-label-test.true c.label-item.is c.loop-label.invariant.tags);
       fields = ap (λ (b : Parts). b.fields) put ∙ c.loop-label.invariant.fields;
     }

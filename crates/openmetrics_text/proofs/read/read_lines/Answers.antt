@@ -16,10 +16,10 @@ text_is : (given : Option (Bor (List ℕ))) (text : Bor (List ℕ)) → given �
 text_is given text e = ap (option_map (λ (t : Bor (List ℕ)). t.now)) e
 
 pub returns-in_default : goal.returns-in_default
-returns-in_default c = rw c.in_default.is (lines_are c.args.moment c.args.typed None [] none_read ∙ ap (λ (e : Exposition). Ok e) (said_is c.args.moment c.args.typed c.new-collected.result [] (c.new-collected.ensures c.args.moment c.args.typed)))
+returns-in_default c = rw c.in_default.is (lines_are c.args.moment c.args.typed None [] none_read ∙ ap (λ (e : Exposition). Ok e) (said_is c.args.moment c.args.typed c.new-collected.result [] (rw (to_z-of_z w64 c.args.moment c.ranges.moment) at c.new-collected.ensures)))
 
 pub loop-line-init : goal.loop-line-init
-loop-line-init c = ([], nothing_read line_at c.of-lines.result, c.new-collected.ensures _ c.args.typed)
+loop-line-init c = ([], nothing_read line_at c.of-lines.result, c.new-collected.ensures)
 
 pub returns-in_err-says : goal.returns-in_err-says
 returns-in_err-says c =
@@ -32,7 +32,7 @@ loop-line-preserved c =
     let so_far = c.loop-line.invariant in (
       so_far.0 ++ line_view c.in_ok-says.says ∷ [],
       one_more line_at c.of-lines.result c.loop-line.lines so_far.0 (part_at c.in-Some-next.line) c.next.new.self (line_view c.in_ok-says.says) so_far.1 c.in-Some-next.ensures.next c.in_ok-says.ensures.gives,
-      c.in_ok-add.ensures so_far.0 so_far.2,
+      c.in_ok-add.ensures so_far.0 _ _ so_far.2,
     )
 
 pub returns : goal.returns

@@ -1,6 +1,5 @@
-use Rattle.std.proofs.Common.{ℕ, ℤ, List, Result, subst, sym}
-use Rattle.text_parts.specs.Chain.{Gives}
-use Rattle.text_parts.proofs.Utf8Readings.{not_utf8, utf8_read}
+use Rattle.std.proofs.Common.{ℕ, ℤ, List, Result}
+use Rattle.text_parts.proofs.Utf8Readings.{not_utf8, utf8_gives}
 use Rattle.openmetrics_text.specs.declared.exposition.Exposition.{Exposition}
 use Rattle.openmetrics_text.specs.declared.fault.ExpositionFault.{ExpositionFault}
 use Rattle.openmetrics_text.specs.declared.fault.ExpositionKind.TheVariants.{NotUtf8}
@@ -11,9 +10,7 @@ pub returns-in-Ok : goal.returns-in-Ok
 unfolding reading
 returns-in-Ok c =
     let read : List ℕ → ℤ → Result Exposition ExpositionFault = λ text moment. text_reading text moment c.args.typed in
-    subst (λ (r : Result Exposition ExpositionFault). Gives (λ x. x) c.read_text.result r)
-    (sym (utf8_read read _ c.args.piece.now c.in-Ok.text.now c.args.moment c.in-Ok.ensures.1 c.in-Ok.ensures.0 c.ranges.moment))
-    c.read_text.ensures
+    utf8_gives (λ x. x) read _ c.args.piece.now c.in-Ok.text.now c.args.moment c.read_text.result c.in-Ok.ensures c.ranges.moment c.read_text.ensures
 
 pub returns-in-Err : goal.returns-in-Err
 unfolding reading

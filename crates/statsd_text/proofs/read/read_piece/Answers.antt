@@ -1,7 +1,5 @@
-use Rattle.std.proofs.Common.{ℕ, List, Result, subst, sym}
-use Rattle.text_parts.specs.Chain.{Gives}
-use Rattle.text_parts.proofs.Utf8Readings.{not_utf8, utf8_read}
-use Rattle.metric.specs.declared.metric.Content.{Content}
+use Rattle.std.proofs.Common.{ℕ}
+use Rattle.text_parts.proofs.Utf8Readings.{not_utf8, utf8_gives}
 use Rattle.statsd_text.specs.declared.fault.StatsdFault.{StatsdFault}
 use Rattle.statsd_text.specs.declared.fault.StatsdKind.TheVariants.{NotUtf8}
 use Rattle.statsd_text.specs.Reading.{text_reading, reading}
@@ -10,9 +8,7 @@ use Rattle.statsd_text.proofs.read.read_piece.Goals as goal
 pub returns-in-Ok : goal.returns-in-Ok
 unfolding reading
 returns-in-Ok c =
-    subst (λ (r : Result (List Content) StatsdFault). Gives (λ metrics. metrics) c.read_text.result r)
-    (sym (utf8_read text_reading _ c.args.piece.now c.in-Ok.text.now c.args.moment c.in-Ok.ensures.1 c.in-Ok.ensures.0 c.ranges.moment))
-    c.read_text.ensures
+    utf8_gives (λ metrics. metrics) text_reading _ c.args.piece.now c.in-Ok.text.now c.args.moment c.read_text.result c.in-Ok.ensures c.ranges.moment c.read_text.ensures
 
 pub returns-in-Err : goal.returns-in-Err
 unfolding reading

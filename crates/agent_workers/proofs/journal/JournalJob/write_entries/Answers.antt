@@ -23,30 +23,29 @@ behind_one xs ys i e left lt same =
 
 pub loop-entry-init : goal.loop-entry-init
 loop-entry-init g c = record {
-  spelled = first_none c.args.entries.items (part_of g.K.Sink.held g.K.Sink.faults c.args.self.now) c.args.text.now.items;
+  spelled = first_none c.args.entries.items (part_of g.K.Sink.told c.args.self.now) c.args.text.now.items;
   behind = c.deref_mut-entry-items.ensures.value;
 }
 
 pub loop-entry-preserved : goal.loop-entry-preserved
 loop-entry-preserved g c =
     let lt : c.loop-entry.entry-index < length c.loop-entry.entry-items = omega (arith, c.loop-entry-test.true, c.loop-entry.auto.entry-items) in
-    let held = g.K.Sink.held in
-    let faults = g.K.Sink.faults in
+    let told = g.K.Sink.told in
     record {
       spelled =
-          first_more c.loop-entry.entry-index c.args.entries.items c.entry-item.result (part_of held faults c.args.self.now) (part_of held faults c.loop-entry.self) (part_of held faults c.write_one.new.self)
+          first_more c.loop-entry.entry-index c.args.entries.items c.entry-item.result (part_of told c.args.self.now) (part_of told c.loop-entry.self) (part_of told c.write_one.new.self)
           c.args.text.now.items c.loop-entry.text.items c.write_one.new.text.items
           (as_long c.loop-entry.entry-items c.args.entries.items c.loop-entry.entry-index lt c.loop-entry.invariant.behind)
           (same_at c.loop-entry.entry-items c.args.entries.items c.loop-entry.entry-index c.entry-item.result c.entry-item.is c.loop-entry.invariant.behind)
           c.loop-entry.invariant.spelled
-          (subst (λ (e : Entry). SpellsOut (e ∷ []) (part_of held faults c.loop-entry.self) (part_of held faults c.write_one.new.self) c.loop-entry.text.items c.write_one.new.text.items)
+          (subst (λ (e : Entry). SpellsOut (e ∷ []) (part_of told c.loop-entry.self) (part_of told c.write_one.new.self) c.loop-entry.text.items c.write_one.new.text.items)
           (sym c.entry-item.is) c.in_ok-write_one.ensures);
       behind = behind_one c.loop-entry.entry-items c.args.entries.items c.loop-entry.entry-index c.entry-item.result c.write_one.new.entry lt c.loop-entry.invariant.behind;
     }
 
 pub returns : goal.returns
 returns g c =
-    first_all c.loop-entry.entry-index c.args.entries.items (part_of g.K.Sink.held g.K.Sink.faults c.args.self.now) (part_of g.K.Sink.held g.K.Sink.faults c.loop-entry.self) c.args.text.now.items c.loop-entry.text.items
+    first_all c.loop-entry.entry-index c.args.entries.items (part_of g.K.Sink.told c.args.self.now) (part_of g.K.Sink.told c.loop-entry.self) c.args.text.now.items c.loop-entry.text.items
     (omega (arith, c.loop-entry-test.false, ap length c.deref_mut-entry-items.ensures.value)) c.loop-entry.invariant.spelled
 
 pub write_one-requires : goal.write_one-requires

@@ -9,8 +9,8 @@ use Rattle.agent_workers.proofs.journal.JournalJob.write_one.Goals as goal
 pub returns : goal.returns
 returns g c =
     let item : List Content = option_to_list c.in_ok-item.item in
-    let old : JournalPart = part_of g.K.Sink.held g.K.Sink.faults c.args.self.now in
-    let after : JournalPart = part_of g.K.Sink.held g.K.Sink.faults c.write_lines.new.self in
+    let old : JournalPart = part_of g.K.Sink.told c.args.self.now in
+    let after : JournalPart = part_of g.K.Sink.told c.write_lines.new.self in
     let mid : List Content = c.item_of.new.unrouted_items.items in
     let count : c.in_ok-self.field-0 ≡ after.entries + 1 = search rules in
     spells_one c.args.entry.now item mid c.keep_named.new.unrouted_items.items old after c.in_ok-self.field-0 c.args.text.now.items c.write_lines.new.text.items c.in_ok-item.ensures.one c.in_ok-item.ensures.rest

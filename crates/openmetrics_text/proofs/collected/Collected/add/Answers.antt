@@ -6,5 +6,5 @@ use Rattle.openmetrics_text.proofs.SaidLemmas.{said_nothing}
 use Rattle.openmetrics_text.proofs.collected.Collected.add.Goals as goal
 
 pub returns-in-Nothing : goal.returns-in-Nothing
-returns-in-Nothing c = λ lines h.
-    subst (λ (l : Line). HaveSaid c.args.moment c.args.typed c.args.self.now (lines ++ line_view l ∷ [])) (sym c.in-Nothing.is) (said_nothing c.args.moment c.args.typed c.args.self.now lines h)
+returns-in-Nothing c = λ lines moment typed h.
+    subst (λ (l : Line). HaveSaid moment typed c.args.self.now (lines ++ line_view l ∷ [])) (sym c.in-Nothing.is) (said_nothing moment typed c.args.self.now lines h)

@@ -1,0 +1,218 @@
+-- What is written in a text without faults counts.
+use Rattle.std.proofs.Common.{◌≡◌, ◌+◌, ℕ, ℤ, pos, negsuc, Bool, true, false, List, [], ◌∷◌, map, Option, Some, None, IfSome}
+use Rattle.std.proofs.Common.{refl, sym, ap, ◌∙◌, subst}
+use Rattle.std.proofs.lemmas.Map.Text.{is_eq-slice_cmp}
+use Rattle.std.proofs.lemmas.Slice.Eq.{bytes_eq-Decides}
+use Rattle.std.specs.List.{AllZip}
+use Rattle.std.specs.declared.cmp.Ordering.{Ordering}
+use Rattle.std.specs.declared.cmp.Ordering.TheVariants.{Less, Equal, Greater}
+use Rattle.std.specs.Ordering.{is_eq, match_ordering, nat_cmp}
+use Rattle.std.specs.Cmp.Lexicographic.{slice_cmp}
+use Rattle.std.specs.Prelude.{◌||◌, codes, if◌then◌else◌, is_some, option_and_then}
+use Rattle.std.specs.Str.{bytes_eq}
+use Rattle.toml.specs.Data.{Data, Members, no_members, member, get_member, as_integer, as_str, as_table}
+use Rattle.agent_config.specs.Faults.{Plugin, agent_faults, at, entry_faults, faults_by, faults_in, faults_of}
+use Rattle.agent_config.specs.Faults.{key_faults, keys_faults, number_faults, numbered}
+use Rattle.agent_config.specs.Faults.{plugin_faults, plugins_at}
+use Rattle.agent_config.specs.Faults.{unknown_faults}
+use Rattle.agent_config.specs.Kinds.{agent_limits, agent_number, kind_keys, kind_of, limits_faults}
+use Rattle.agent_config.specs.Kinds.{number_at, output_kind, own_limits, row_of, time_at}
+use Rattle.agent_config.specs.Rows.{count_row, counted_or, is_counted, is_long_enough, members_in, number_by}
+use Rattle.agent_config.specs.Rows.{table_at, time_in, timed_or}
+use Rattle.agent_config.specs.Unless.{unless}
+use Rattle.agent_config.specs.Values.{agent_of, config_of, output_of}
+use Rattle.agent_config.specs.Written.{AgentIsWritten, IsAsWritten, IsWritten, OutputIsWritten, SizeIsWritten}
+use Rattle.agent_config.specs.Written.{WrittenCounts, number_in}
+use Rattle.agent_config.specs.declared.fault.Class.TheVariants as class
+use Rattle.agent_config.specs.declared.fault.FaultKind.TheVariants as kinds
+use Rattle.agent_config.specs.declared.shapes.CountRow.{CountRow}
+use Rattle.agent_config.specs.declared.shapes.Shape.TheVariants.{Count, Time}
+use Rattle.agent_config.specs.declared.shapes.TimeRow.{TimeRow}
+use Rattle.agent_config.specs.declared.table.Keys.{Keys}
+use Rattle.agent_config.specs.declared.table.Keys.TheVariants as keys
+use Rattle.agent_config.specs.declared.table.Kind.TheVariants as kind
+use Rattle.agent_config.specs.declared.tables.Limits.{Limits}
+use Rattle.agent_config.proofs.FaultlessLemmas.{IsFaultless, faultless, front_none, holds, none_at, none_told, rest_none}
+
+-- ---- a key of a table without faults
+
+entry_at : (keys : Keys) (key l : List ℕ) (d value : Data) (rest : Option Data) (o : Ordering)
+    → slice_cmp nat_cmp key l ≡ o → match_ordering o rest (Some d) rest ≡ Some value
+    → entry_faults keys l d ≡ [] → (rest ≡ Some value → entry_faults keys key value ≡ [])
+    → entry_faults keys key value ≡ []
+entry_at keys key l d value rest Less c e here there = there e
+entry_at keys key l d value rest Greater c e here there = there e
+entry_at keys key l d value rest Equal c e here there =
+    let same : key ≡ l = (bytes_eq-Decides key l).0 (sym (is_eq-slice_cmp key l) ∙ ap is_eq c) in
+    let found : d ≡ value = cc in
+    ap (λ k. entry_faults keys k value) same ∙ ap (λ v. entry_faults keys l v) (sym found) ∙ here
+
+-- what stands at a key has no fault
+faultless_at : (keys : Keys) (key : List ℕ) (members : Members) (value : Data) → keys_faults keys members ≡ []
+    → get_member key members ≡ Some value → entry_faults keys key value ≡ []
+faultless_at keys key no_members value none e = cc
+faultless_at keys key (member l d members) value none e =
+    entry_at keys key l d value (get_member key members) (slice_cmp nat_cmp key l) refl e
+    (front_none (entry_faults keys l d) (keys_faults keys members) none)
+    (faultless_at keys key members value (rest_none (entry_faults keys l d) (keys_faults keys members) none))
+
+-- ---- numbers
+
+number_kept : (most other : ℕ) (number : Option ℤ) → number_faults most number ≡ []
+    → IfSome number (λ written. written ≡ pos (counted_or most other number))
+number_kept most other None e = tt
+number_kept most other (Some (pos n)) e =
+    sym (ap (λ test. pos (if test then n else other)) (holds (is_counted most (pos n)) kinds.OutOfRange e))
+number_kept most other (Some (negsuc n)) e = cc
+
+number_in_row : (keys : Keys) (key : List ℕ) (members : Members) (other : ℕ) (row : CountRow)
+    → row_of keys key ≡ Some (Count row) → keys_faults keys members ≡ [] → (found : Option Data)
+    → get_member key members ≡ found → IfSome (option_and_then as_integer found)
+    (λ written. written ≡ pos (counted_or row.most other (option_and_then as_integer found)))
+unfolding entry_faults
+number_in_row _ _ _ _ _ _ _ None _ = tt
+number_in_row keys key members other row is none (Some value) e =
+    number_kept row.most other (as_integer value)
+    (sym (ap (λ r. key_faults r value) is) ∙ faultless_at keys key members value none e)
+
+-- the number that is written at a key of a table without faults is the one that it has
+number_written : (keys : Keys) (key : List ℕ) (members : Members) (other : ℕ) (row : CountRow)
+    → row_of keys key ≡ Some (Count row) → keys_faults keys members ≡ []
+    → IsWritten key members (number_at keys key other members)
+unfolding number_at
+number_written keys key members other row is none =
+    subst (λ r. IfSome (number_in key members) (λ written. written ≡ pos (number_by (count_row r) other (number_in key members))))
+    (sym is) (number_in_row keys key members other row is none (get_member key members) refl)
+
+-- ---- times
+
+long_kept : (row : TimeRow) (time : Option ℤ) → is_long_enough row.least time ≡ true
+    → IfSome time (λ written. written ≡ timed_or row time)
+long_kept row None e = tt
+long_kept row (Some time) e = sym (ap (λ test. if test then time else row.usual) e)
+
+first_of_if : (test long : Bool) → (if test then unless long kinds.OutOfRange else kinds.WrongType ∷ []) ≡ []
+    → long ≡ true
+first_of_if true long e = holds long kinds.OutOfRange e
+first_of_if false long e = cc
+
+time_in_row : (keys : Keys) (key : List ℕ) (members : Members) (row : TimeRow)
+    → row_of keys key ≡ Some (Time row) → keys_faults keys members ≡ [] → (found : Option Data)
+    → get_member key members ≡ found → IfSome (option_and_then time_in found)
+    (λ written. written ≡ timed_or row (option_and_then time_in found))
+unfolding entry_faults
+time_in_row _ _ _ _ _ _ None _ = tt
+time_in_row keys key members row is none (Some value) e =
+    long_kept row (time_in value)
+    (first_of_if (is_some (as_integer value) || is_some (as_str value)) (is_long_enough row.least (time_in value))
+    (sym (ap (λ r. key_faults r value) is) ∙ faultless_at keys key members value none e))
+
+-- ---- the agent
+
+agent_written : (agent : Members) → agent_faults agent ≡ [] → AgentIsWritten agent (agent_of agent)
+unfolding agent_faults agent_number time_at
+agent_written agent e =
+    let none = front_none (keys_faults keys.Agent agent) (limits_faults (agent_limits agent)) e in record {
+      gather_pieces = number_written keys.Agent (codes "gather_pieces") agent 1000 _ refl none;
+      final_tries = number_written keys.Agent (codes "final_tries") agent 3 _ refl none;
+      flush_interval = time_in_row keys.Agent (codes "flush_interval") agent _ refl none (get_member (codes "flush_interval") agent) refl;
+    }
+
+-- ---- outputs
+
+other_by : (row : Option CountRow) (other : ℕ) → number_by row other None ≡ other
+other_by None other = refl
+other_by (Some row) other = refl
+
+-- a size that isn't written is another
+size_other : (keys : Keys) (key : List ℕ) (members : Members) (other : ℕ) → number_in key members ≡ None
+    → number_at keys key other members ≡ other
+unfolding number_at
+size_other keys key _ other none =
+    ap (number_by (count_row (row_of keys key)) other) none ∙ other_by (count_row (row_of keys key)) other
+
+size_written : (key : List ℕ) (agent members : Members) (other : ℕ) (row : CountRow)
+    → row_of (keys.Plugin kind.FileOutput) key ≡ Some (Count row)
+    → keys_faults (keys.Plugin kind.FileOutput) members ≡ [] → IsWritten key agent other
+    → SizeIsWritten key agent members (number_at (keys.Plugin kind.FileOutput) key other members)
+size_written key agent members other row is none agents = record {
+  own = number_written (keys.Plugin kind.FileOutput) key members other row is none;
+  agents = λ absent. subst (IsWritten key agent) (sym (size_other (keys.Plugin kind.FileOutput) key members other absent)) agents;
+}
+
+-- the sizes of `agent` are those that are written there
+record AreAgents (agent : Members) (limits : Limits) : Type 0 where
+  batch : IsWritten (codes "metric_batch_size") agent limits.batch
+  limit : IsWritten (codes "metric_buffer_limit") agent limits.limit
+
+agents_written : (agent : Members) → agent_faults agent ≡ [] → AreAgents agent (agent_limits agent)
+unfolding agent_faults agent_number
+agents_written agent e =
+    let none = front_none (keys_faults keys.Agent agent) (limits_faults (agent_limits agent)) e in record {
+      batch = number_written keys.Agent (codes "metric_batch_size") agent 1000 _ refl none;
+      limit = number_written keys.Agent (codes "metric_buffer_limit") agent 10000 _ refl none;
+    }
+
+-- those of an output of a kind
+record AreWritten (agent members : Members) (sizes : Limits) : Type 0 where
+  batch : SizeIsWritten (codes "metric_batch_size") agent members sizes.batch
+  limit : SizeIsWritten (codes "metric_buffer_limit") agent members sizes.limit
+
+file_written : (agent : Members) (limits : Limits) (value : Option Members) → AreAgents agent limits
+    → faults_by (Some kind.FileOutput) limits value ≡ []
+    → AreWritten agent (members_in value) (own_limits (keys.Plugin kind.FileOutput) limits (members_in value))
+file_written agent limits None agents e = cc
+file_written agent limits (Some members) agents e =
+    let none = front_none (keys_faults (keys.Plugin kind.FileOutput) members) _ e in record {
+      batch = size_written (codes "metric_batch_size") agent members limits.batch _ refl none agents.batch;
+      limit = size_written (codes "metric_buffer_limit") agent members limits.limit _ refl none agents.limit;
+    }
+
+kind_written : (agent : Members) (limits : Limits) (file : Bool) (value : Option Members) → AreAgents agent limits
+    → is_some (if file then Some kind.FileOutput else None) ≡ true
+    → faults_by (if file then Some kind.FileOutput else None) limits value ≡ []
+    → AreWritten agent (members_in value) (own_limits (kind_keys (if file then Some kind.FileOutput else None)) limits (members_in value))
+kind_written agent limits true value agents known e = file_written agent limits value agents e
+kind_written agent limits false value agents known e = cc
+
+output_written : (agent : Members) (limits : Limits) (plugin : Plugin) → AreAgents agent limits
+    → unknown_faults class.Outputs plugin ≡ [] → plugin_faults class.Outputs limits plugin ≡ []
+    → OutputIsWritten agent plugin (output_of limits plugin)
+unfolding kind_of plugin_faults
+output_written agent limits plugin agents known e =
+    let written = kind_written agent limits (bytes_eq plugin.name (codes "file")) (as_table plugin.value) agents
+    (holds (is_some (output_kind plugin.name)) kinds.UnknownKind known) e in
+    record { batch = written.batch; limit = written.limit }
+
+outputs_written : (agent : Members) (limits : Limits) (number : ℕ) (plugins : List Plugin) → AreAgents agent limits
+    → numbered class.Outputs (unknown_faults class.Outputs) number plugins ≡ []
+    → numbered class.Outputs (plugin_faults class.Outputs limits) number plugins ≡ []
+    → AllZip (OutputIsWritten agent) plugins (map (output_of limits) plugins)
+outputs_written agent limits number [] agents known e = tt
+outputs_written agent limits number (plugin ∷ plugins) agents known e =
+    let unknown = unknown_faults class.Outputs in
+    let wrong = plugin_faults class.Outputs limits in
+    let rest = numbered class.Outputs unknown (number + 1) plugins in
+    let others = numbered class.Outputs wrong (number + 1) plugins in (
+      output_written agent limits plugin agents
+          (none_at class.Outputs number (unknown plugin) (front_none (at class.Outputs number (unknown plugin)) rest known))
+          (none_at class.Outputs number (wrong plugin) (front_none (at class.Outputs number (wrong plugin)) others e)),
+      outputs_written agent limits (number + 1) plugins agents
+          (rest_none (at class.Outputs number (unknown plugin)) rest known)
+          (rest_none (at class.Outputs number (wrong plugin)) others e),
+    )
+
+-- ---- the whole
+
+root_written : (root : Members) → IsFaultless root → IsAsWritten root (config_of root)
+root_written root none =
+    let agent = table_at (codes "agent") root in record {
+      agent = agent_written agent none.agent;
+      outputs = outputs_written agent (agent_limits agent) 0 (plugins_at (codes "outputs") root)
+          (agents_written agent none.agent) none.outs.known none.outs.right;
+    }
+
+-- where a text has no fault, what is written counts
+pub written_counts : WrittenCounts
+written_counts text root there none =
+    root_written root (faultless root (none_told (faults_of root) (sym (ap faults_in there) ∙ none)))

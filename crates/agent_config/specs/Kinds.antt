@@ -1,0 +1,109 @@
+-- The kinds of plugins: by which class and name each is known, which keys it has and needs, where its place is, and
+-- which faults are its own.
+use Rattle.std.specs.Prelude.{ℕ, ℤ, Bool, List, [], ◌∷◌, codes, nat_le, Option, Some, None, if◌then◌else◌}
+use Rattle.std.specs.Str.{bytes_eq}
+use Rattle.toml.specs.Data.{Members}
+use Rattle.agent_config.specs.Keys.{agent_key, file_input_key, file_output_key}
+use Rattle.agent_config.specs.Rows.{count_row, row_number, row_text, row_time, row_truth, usual_of}
+use Rattle.agent_config.specs.Unless.{unless}
+use Rattle.agent_config.specs.declared.fault.Class.{Class}
+use Rattle.agent_config.specs.declared.fault.Class.TheVariants.{Inputs, Outputs}
+use Rattle.agent_config.specs.declared.fault.FaultKind.{FaultKind}
+use Rattle.agent_config.specs.declared.fault.FaultKind.TheVariants.{BatchAboveLimit}
+use Rattle.agent_config.specs.declared.shapes.Shape.{Shape}
+use Rattle.agent_config.specs.declared.table.Keys.{Keys}
+use Rattle.agent_config.specs.declared.table.Keys.TheVariants.{Agent, Plugin, Unknown}
+use Rattle.agent_config.specs.declared.table.Kind.{Kind}
+use Rattle.agent_config.specs.declared.table.Kind.TheVariants.{FileInput, FileOutput}
+use Rattle.agent_config.specs.declared.tables.Limits.{Limits}
+
+-- the kind of inputs, and that of outputs, of a name
+abbrev pub input_kind : List ℕ → Option Kind
+input_kind name = if bytes_eq name (codes "file") then Some FileInput else None
+
+abbrev pub output_kind : List ℕ → Option Kind
+output_kind name = if bytes_eq name (codes "file") then Some FileOutput else None
+
+-- the kind of a class that has a name
+unfoldable pub kind_of : Class → List ℕ → Option Kind
+kind_of Inputs name = input_kind name
+kind_of Outputs name = output_kind name
+kind_of class name = None
+
+-- what a key of a plugin of a kind takes
+abbrev pub kind_key : Kind → List ℕ → Option Shape
+kind_key FileInput key = file_input_key key
+kind_key FileOutput key = file_output_key key
+
+-- the keys that a plugin of a kind needs
+abbrev pub needs : Kind → List (List ℕ)
+needs FileInput = codes "files" ∷ []
+needs FileOutput = codes "files" ∷ []
+
+-- the key at which its place stands
+abbrev pub place_key : Kind → List ℕ
+place_key FileInput = codes "files"
+place_key FileOutput = codes "files"
+
+-- ---- the keys of tables
+
+-- the keys of a plugin of a kind; one that isn't known has none
+abbrev pub kind_keys : Option Kind → Keys
+kind_keys None = Unknown
+kind_keys (Some kind) = Plugin kind
+
+abbrev pub keys_of : Class → List ℕ → Keys
+keys_of class name = kind_keys (kind_of class name)
+
+-- what a key of a table takes; None where it isn't known
+abbrev pub row_of : Keys → List ℕ → Option Shape
+row_of Agent key = agent_key key
+row_of (Plugin kind) key = kind_key kind key
+row_of Unknown key = None
+
+-- the number at a key, or another where there is none that its row allows
+unfoldable pub number_at : Keys → List ℕ → ℕ → Members → ℕ
+number_at keys key other members = row_number (row_of keys key) key other members
+
+-- the number at a key of the table `agent`
+unfoldable pub agent_number : List ℕ → Members → ℕ
+agent_number key agent = number_at Agent key (usual_of (count_row (row_of Agent key))) agent
+
+-- the truth value at a key
+unfoldable pub truth_at : Keys → List ℕ → Members → Bool
+truth_at keys key members = row_truth (row_of keys key) key members
+
+-- the time at a key
+unfoldable pub time_at : Keys → List ℕ → Members → ℤ
+time_at keys key members = row_time (row_of keys key) key members
+
+-- the text at a key
+unfoldable pub text_at : Keys → List ℕ → Members → List ℕ
+text_at keys key members = row_text (row_of keys key) key members
+
+-- ---- sizes of outputs
+
+-- the batch size and the buffer limit of the table `agent`, which are those of an output that has none
+abbrev pub agent_limits : Members → Limits
+agent_limits agent = record {
+  batch = agent_number (codes "metric_batch_size") agent;
+  limit = agent_number (codes "metric_buffer_limit") agent;
+}
+
+-- those of an output with these keys
+abbrev pub own_limits : Keys → Limits → Members → Limits
+own_limits keys limits members = record {
+  batch = number_at keys (codes "metric_batch_size") limits.batch members;
+  limit = number_at keys (codes "metric_buffer_limit") limits.limit members;
+}
+
+-- may a batch hold more metrics than the buffer
+abbrev pub limits_faults : Limits → List FaultKind
+limits_faults limits = unless (nat_le limits.batch limits.limit) BatchAboveLimit
+
+-- ---- the faults of a kind
+
+-- the faults of a plugin of a kind that no key of it has alone
+abbrev pub own_faults : Kind → Limits → Members → List FaultKind
+own_faults FileInput _ _ = []
+own_faults FileOutput limits members = limits_faults (own_limits (Plugin FileOutput) limits members)

@@ -1,0 +1,44 @@
+-- Numbers and times that are written in a text without faults, and those of its configuration.
+use Rattle.std.specs.Prelude.{◌≡◌, ℕ, ℤ, pos, List, [], codes, Option, Some, None, IfSome, option_and_then}
+use Rattle.std.specs.List.{AllZip}
+use Rattle.toml.specs.Data.{Members, as_integer, get_member}
+use Rattle.agent_config.specs.Faults.{Plugin, plugins_at, text_faults, tree_of}
+use Rattle.agent_config.specs.Rows.{table_at, time_in}
+use Rattle.agent_config.specs.Values.{config_of, plugin_members}
+use Rattle.agent_config.specs.declared.config.AgentConf.{AgentConf}
+use Rattle.agent_config.specs.declared.config.Config.{Config}
+use Rattle.agent_config.specs.declared.config.OutputConf.{OutputConf}
+
+-- the whole number that stands at a key
+abbrev pub number_in : List ℕ → Members → Option ℤ
+number_in key members = option_and_then as_integer (get_member key members)
+
+-- where a whole number stands at a key, it is this one
+abbrev pub IsWritten : List ℕ → Members → ℕ → Type 0
+IsWritten key members n = IfSome (number_in key members) (λ written. written ≡ pos n)
+
+-- a size of an output is the one that stands at its key there, or else at that of `agent`
+pub record SizeIsWritten (key : List ℕ) (agent members : Members) (n : ℕ) : Type 0 where
+  pub own : IsWritten key members n
+  pub agents : number_in key members ≡ None → IsWritten key agent n
+
+pub record OutputIsWritten (agent : Members) (plugin : Plugin) (output : OutputConf) : Type 0 where
+  pub batch : SizeIsWritten (codes "metric_batch_size") agent (plugin_members plugin) output.batch
+  pub limit : SizeIsWritten (codes "metric_buffer_limit") agent (plugin_members plugin) output.limit
+
+pub record AgentIsWritten (agent : Members) (conf : AgentConf) : Type 0 where
+  pub gather_pieces : IsWritten (codes "gather_pieces") agent conf.gather_pieces
+  pub final_tries : IsWritten (codes "final_tries") agent conf.final_tries
+  pub flush_interval : IfSome (option_and_then time_in (get_member (codes "flush_interval") agent))
+      (λ time. time ≡ conf.flush_interval)
+
+pub record IsAsWritten (root : Members) (config : Config) : Type 0 where
+  pub agent : AgentIsWritten (table_at (codes "agent") root) config.agent
+  pub outputs : AllZip (OutputIsWritten (table_at (codes "agent") root)) (plugins_at (codes "outputs") root)
+      config.outputs
+
+-- where a text has no fault, a number or a time that is written is that of the configuration
+abbrev pub WrittenCounts : Type 0
+WrittenCounts =
+    (text : List ℕ) (root : Members) → tree_of text ≡ Some root → text_faults text ≡ []
+    → IsAsWritten root (config_of root)

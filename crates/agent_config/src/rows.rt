@@ -1,0 +1,205 @@
+//! What stands at a key of a table, by the key's row.
+ghost use Rattle.std.specs.Prelude.{◌≡◌, IfOk, Some};
+ghost use Rattle.toml.specs.View.{table_view};
+ghost use Rattle.agent_config.specs.Kinds.{agent_number, number_at, row_of, text_at, time_at, truth_at};
+ghost use Rattle.agent_config.specs.Rows.{count_row, counted_or, is_counted, time_row, timed_or, usual_of};
+ghost use Rattle.agent_config.specs.Rows.{text_or, usual_text, usual_truth};
+
+use crate::shapes::{CountRow, Shape, TimeRow};
+use crate::table::Keys;
+use crate::tables::value_at;
+use crate::times::time_in;
+use fixed_num::OutOfMemory;
+use std::alloc::Global;
+use toml::Table;
+
+/// Is the number from 1 to a greatest one?
+pub(crate) fn is_counted(most: u32, number: i64) -> bool
+    ensures { result ≡ is_counted most number }
+{
+    1 <= number && number <= i64::from(most)
+}
+
+/// The number, where it is from 1 to the greatest one, or another.
+fn counted_or(number: Option<i64>, most: u32, other: u32) -> u32
+    ensures { result ≡ counted_or most other number }
+{
+    match number {
+        Some(n) => { if is_counted(most, n) { n as u32 } else { other } }
+        None => other,
+    }
+}
+
+/// The row of a key that takes a number; None where it takes something else.
+fn count_row(keys: &Keys, key: &str) -> Option<CountRow>
+    ensures { result ≡ count_row (row_of keys.now key.now) }
+{
+    match keys.row_of(key) {
+        Some(shape) => count_in(&shape),
+        None => None,
+    }
+}
+
+/// The row of a number.
+fn count_in(shape: &Shape) -> Option<CountRow>
+    ensures { result ≡ count_row (Some shape.now) }
+{
+    match shape {
+        Shape::Count(row) => Some(*row),
+        _ => None,
+    }
+}
+
+/// The number at a key, or another where there is none that its row allows.
+#[tactic(auto, unfolding(crate::specs::Kinds::number_at))]
+pub(crate) fn number_at(keys: &Keys, table: &Table, key: &str, other: u32) -> u32
+    ensures { result ≡ number_at keys.now key.now other (table_view table.now) }
+{
+    let Some(row) = count_row(keys, key) else {
+        return other;
+    };
+    match value_at(table, key) {
+        Some(value) => counted_or(value.as_integer(), row.most, other),
+        None => other,
+    }
+}
+
+/// What a number of the table `agent` is where nothing is said; 0 for a key that takes no number.
+fn usual_number(key: &str) -> u32
+    ensures { result ≡ usual_of (count_row (row_of Keys.Agent key.now)) }
+{
+    match count_row(&Keys::Agent, key) {
+        Some(row) => row.usual,
+        None => 0,
+    }
+}
+
+/// The number at a key of the table `agent`.
+#[tactic(auto, unfolding(crate::specs::Kinds::agent_number))]
+pub(crate) fn agent_number(agent: &Table, key: &str) -> u32
+    ensures { result ≡ agent_number key.now (table_view agent.now) }
+{
+    number_at(&Keys::Agent, agent, key, usual_number(key))
+}
+
+/// What a truth value is where nothing is said.
+fn usual_truth(keys: &Keys, key: &str) -> bool
+    ensures { result ≡ usual_truth (row_of keys.now key.now) }
+{
+    match keys.row_of(key) {
+        Some(shape) => usual_truth_in(&shape),
+        None => false,
+    }
+}
+
+/// What a truth value of a row is where nothing is said.
+fn usual_truth_in(shape: &Shape) -> bool
+    ensures { result ≡ usual_truth (Some shape.now) }
+{
+    match shape {
+        Shape::Truth(usual) => *usual,
+        _ => false,
+    }
+}
+
+/// The truth value at a key.
+#[tactic(auto, unfolding(crate::specs::Kinds::truth_at))]
+pub(crate) fn truth_at(keys: &Keys, table: &Table, key: &str) -> bool
+    ensures { result ≡ truth_at keys.now key.now (table_view table.now) }
+{
+    let usual = usual_truth(keys, key);
+    match value_at(table, key) {
+        Some(value) => value.as_bool().unwrap_or(usual),
+        None => usual,
+    }
+}
+
+/// What a text is where nothing is said.
+fn usual_text(keys: &Keys, key: &str) -> &'static str
+    ensures { result.now ≡ usual_text (row_of keys.now key.now) }
+{
+    match keys.row_of(key) {
+        Some(shape) => usual_text_in(&shape),
+        None => "",
+    }
+}
+
+/// What a text of a row is where nothing is said.
+fn usual_text_in(shape: &Shape) -> &'static str
+    ensures { result.now ≡ usual_text (Some shape.now) }
+{
+    match shape {
+        Shape::Place(usual) => usual.text(),
+        Shape::AnyText(usual) => usual.text(),
+        Shape::OneOf(names) => names.usual(),
+        _ => "",
+    }
+}
+
+/// The text at a key.
+#[tactic(auto, unfolding(crate::specs::Kinds::text_at))]
+pub(crate) fn text_at<'a>(keys: &Keys, table: &'a Table, key: &str) -> &'a str
+    ensures { result.now ≡ text_at keys.now key.now (table_view table.now) }
+{
+    text_or(table, key, usual_text(keys, key))
+}
+
+/// The text at a key, or another where there is none.
+fn text_or<'a>(table: &'a Table, key: &str, other: &'a str) -> &'a str
+    ensures { result.now ≡ text_or key.now other.now (table_view table.now) }
+{
+    match value_at(table, key) {
+        Some(value) => value.as_str().unwrap_or(other),
+        None => other,
+    }
+}
+
+/// The row of a key that takes a time; None where it takes something else.
+fn time_row(keys: &Keys, key: &str) -> Option<TimeRow>
+    ensures { result ≡ time_row (row_of keys.now key.now) }
+{
+    match keys.row_of(key) {
+        Some(shape) => times_in(&shape),
+        None => None,
+    }
+}
+
+/// The row of a time.
+fn times_in(shape: &Shape) -> Option<TimeRow>
+    ensures { result ≡ time_row (Some shape.now) }
+{
+    match shape {
+        Shape::Time(row) => Some(*row),
+        _ => None,
+    }
+}
+
+/// A time that its row allows, or the one where nothing is said.
+fn timed_or(row: &TimeRow, time: Option<i64>) -> i64
+    ensures { result ≡ timed_or row.now time }
+{
+    match time {
+        Some(time) => { if row.least <= time { time } else { row.usual } }
+        None => row.usual,
+    }
+}
+
+/// The time at a key, in nanoseconds; 0 for a key that takes none.
+#[tactic(auto, unfolding(crate::specs::Kinds::time_at))]
+pub(crate) fn time_at(
+    alloc: Global,
+    keys: &Keys,
+    table: &Table,
+    key: &str,
+) -> Result<i64, OutOfMemory>
+    ensures { IfOk result (λ time. time ≡ time_at keys.now key.now (table_view table.now)) }
+{
+    let Some(row) = time_row(keys, key) else {
+        return Ok(0);
+    };
+    let Some(value) = value_at(table, key) else {
+        return Ok(row.usual);
+    };
+    let time = time_in(alloc, value)?;
+    Ok(timed_or(&row, time))
+}

@@ -1,7 +1,0 @@
-use Rattle.std.proofs.Common.{◌≡◌, ◌++◌, take, drop, map}
-use Rattle.graphite_text.specs.Writing.{name_byte}
-use Rattle.graphite_text.proofs.write.clean_name.Given as goal
-
-abbrev pub invariant-loop-byte : goal.invariant-loop-byte
-invariant-loop-byte l =
-    l.bytes ≡ map name_byte (take l.byte-index l.fn.bytes) ++ drop l.byte-index l.fn.bytes

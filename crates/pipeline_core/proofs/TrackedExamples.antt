@@ -1,0 +1,203 @@
+-- A journal of an input that isn't tracked and of one that is, with two outputs: that it is legal, what was counted
+-- behind each of its entries, and that a group more than the input may have is held. What is expected is written from
+-- the meanings: the reports stand in the entries, and the numbers below.
+use Rattle.std.proofs.Common.{◌≡◌, ◌<◌, ◌≤◌, ℕ, ◌+◌, Bool, true, false, List, [], ◌∷◌, ◌++◌, refl, sym, subst, inr, arith}
+use Rattle.std.proofs.lemmas.Int.{ints}
+use Rattle.std.specs.Prelude.{pos, ◌≤ℤ◌, IfSome}
+use Rattle.std.specs.declared.option.Option.{Option}
+use Rattle.std.specs.declared.option.Option.TheVariants.{Some, None}
+use Rattle.metric.specs.declared.metric.Content.{Content}
+use Rattle.account.specs.Setup.{Setup}
+use Rattle.account.specs.Items.{items, taken, routes, in_hand_from}
+use Rattle.account.specs.Numbers.{Numbers, unread_input, unreached_output}
+use Rattle.account.specs.Origins.{origins, group_inputs}
+use Rattle.account.specs.declared.entry.Entry.{Entry}
+use Rattle.account.specs.declared.entry.Entry.TheVariants.{Gather, Ended, Take, Route, Stop, Begin, Done}
+use Rattle.account.specs.declared.entry.Report.{Report}
+use Rattle.account.specs.declared.entry.Verdict.TheVariants.{Passes}
+use Rattle.account.specs.declared.numbers.InputNumbers.{InputNumbers}
+use Rattle.account.specs.declared.numbers.OutputNumbers.{OutputNumbers}
+use Rattle.out_lane.specs.LaneEvents.{ranges_from, accepted_from}
+use Rattle.pipeline_core.specs.Offers.{offers, lane_events}
+use Rattle.pipeline_core.specs.Fates.{fates_from}
+use Rattle.pipeline_core.specs.Groups.{live_count, reports_at}
+use Rattle.pipeline_core.specs.Legal.{Meets, AreLegal, IsLegal, has_stop, has_ended, gathered_count, counted_from}
+use Rattle.pipeline_core.specs.Totals.{totals, total_by, input_total_from, reported_with}
+use Rattle.pipeline_core.specs.Windows.{judged, made_by_stop}
+use Rattle.pipeline_core.proofs.JournalPush.{IsLegal-push}
+use Rattle.pipeline_core.proofs.GroupExamples.{both, first, each}
+
+-- an input that isn't tracked, and one that may have two live groups; an output with batches of one and room for one,
+-- and one with batches of two and room for two
+abbrev pub setup : Setup
+setup = record { start = pos 0; inputs = None ∷ Some 2 ∷ []; aggs = []; outputs = (1, 1) ∷ (2, 2) ∷ [] }
+
+-- a group with these metrics
+abbrev pub group : ℕ → List Content → Entry
+group number metrics = Gather 1 (pos 0) 1 0 0 0 metrics (Some number) []
+
+-- what was told of a group
+abbrev pub told : ℕ → Bool → List Report
+told number delivered = record { group = number; input = 1; delivered = delivered } ∷ []
+
+-- an item goes to the second output
+abbrev pub second : Content → ℕ → List Report → Entry
+second m item reports = Route item (Some m) Passes [] (None ∷ Some m ∷ []) reports
+
+-- The first entries: item 0 is of no group, item 1 is group 0, and items 2 and 3 are group 1.
+abbrev pub front : Content → List Entry
+front m = Gather 0 (pos 0) 5 1 2 3 (m ∷ []) None [] ∷ group 0 (m ∷ []) ∷ group 1 (m ∷ m ∷ []) ∷ []
+
+-- The others: items 2 and 3 come to the second output, so that item 0 is dropped there, and then item 1: group 0 is
+-- rejected. Group 2, which is item 4, comes in its place. The second output accepts items 2 and 3, which is all of
+-- group 1. Item 4 comes to the first output, where item 0 is dropped for it; its batch fails, goes back, and is
+-- accepted then.
+abbrev pub back : Content → List Entry
+back m =
+    Take 0
+    ∷ both m 0 []
+    ∷ Take 1
+    ∷ second m 1 []
+    ∷ Take 2
+    ∷ second m 2 []
+    ∷ Take 3
+    ∷ second m 3 (told 0 false)
+    ∷ group 2 (m ∷ [])
+    ∷ Begin 1 2 4
+    ∷ Done 1 true (told 1 true)
+    ∷ Take 4
+    ∷ first m 4 []
+    ∷ Begin 0 1 2
+    ∷ Done 0 false []
+    ∷ Begin 0 1 2
+    ∷ Done 0 true (told 2 true)
+    ∷ Ended 1
+    ∷ Ended 0
+    ∷ Stop (pos 7) []
+    ∷ []
+
+abbrev pub journal : Content → List Entry
+journal m = front m ++ back m
+
+below : (a more : ℕ) → a < a + 1 + more
+below a more = omega arith
+
+at_most : (a more : ℕ) → a ≤ a + more
+at_most a more = omega arith
+
+at_last : pos 0 ≤ℤ pos 7
+at_last = grind (arith, ints)
+
+-- nothing happened
+none_legal : IsLegal setup []
+unfolding AreLegal
+none_legal = tt
+
+-- the journal is legal, entry by entry
+pub legal : (m : Content) → IsLegal setup (journal m)
+unfolding reports_at origins items taken routes in_hand_from group_inputs offers lane_events fates_from ranges_from accepted_from has_stop has_ended gathered_count counted_from judged made_by_stop
+legal m =
+    let l1 = IsLegal-push setup [] (Gather 0 (pos 0) 5 1 2 3 (m ∷ []) None []) none_legal (record { line = record { most = None; known = refl; going = refl; reading = refl; fits = below 1 4294967294; room = inr (at_most 1 9999); few = tt; group = refl }; reports = refl }) in
+    let l2 = IsLegal-push setup _ (group 0 (m ∷ [])) l1 (record { line = record { most = Some 2; known = refl; going = refl; reading = refl; fits = below 2 4294967293; room = inr (at_most 2 9998); few = below 0 1; group = refl }; reports = refl }) in
+    let l3 = IsLegal-push setup _ (group 1 (m ∷ m ∷ [])) l2 (record { line = record { most = Some 2; known = refl; going = refl; reading = refl; fits = below 4 4294967291; room = inr (at_most 4 9996); few = below 1 0; group = refl }; reports = refl }) in
+    let l4 = IsLegal-push setup _ (Take 0) l3 (record { line = record { empty_handed = refl; first = refl; raw = below 0 3 }; reports = refl }) in
+    let l5 = IsLegal-push setup _ (both m 0 []) l4 (record { line = record { held = refl; aggregators = refl; outputs = refl; views = tt; made = λ e. tt; verdict_is = refl }; reports = refl }) in
+    let l6 = IsLegal-push setup _ (Take 1) l5 (record { line = record { empty_handed = refl; first = refl; raw = below 1 2 }; reports = refl }) in
+    let l7 = IsLegal-push setup _ (second m 1 []) l6 (record { line = record { held = refl; aggregators = refl; outputs = refl; views = tt; made = λ e. tt; verdict_is = refl }; reports = refl }) in
+    let l8 = IsLegal-push setup _ (Take 2) l7 (record { line = record { empty_handed = refl; first = refl; raw = below 2 1 }; reports = refl }) in
+    let l9 = IsLegal-push setup _ (second m 2 []) l8 (record { line = record { held = refl; aggregators = refl; outputs = refl; views = tt; made = λ e. tt; verdict_is = refl }; reports = refl }) in
+    let l10 = IsLegal-push setup _ (Take 3) l9 (record { line = record { empty_handed = refl; first = refl; raw = below 3 0 }; reports = refl }) in
+    let l11 = IsLegal-push setup _ (second m 3 (told 0 false)) l10 (record { line = record { held = refl; aggregators = refl; outputs = refl; views = tt; made = λ e. tt; verdict_is = refl }; reports = refl }) in
+    let l12 = IsLegal-push setup _ (group 2 (m ∷ [])) l11 (record { line = record { most = Some 2; known = refl; going = refl; reading = refl; fits = below 5 4294967290; room = inr (at_most 1 9999); few = below 1 0; group = refl }; reports = refl }) in
+    let l13 = IsLegal-push setup _ (Begin 1 2 4) l12 (record { line = record { batch = 2; limit = 2; known = refl; next = record { closed = refl; first = refl; end = refl; some = below 2 1 } }; reports = refl }) in
+    let l14 = IsLegal-push setup _ (Done 1 true (told 1 true)) l13 (record { line = record { known = below 1 0; begun = tt }; reports = refl }) in
+    let l15 = IsLegal-push setup _ (Take 4) l14 (record { line = record { empty_handed = refl; first = refl; raw = below 4 0 }; reports = refl }) in
+    let l16 = IsLegal-push setup _ (first m 4 []) l15 (record { line = record { held = refl; aggregators = refl; outputs = refl; views = tt; made = λ e. tt; verdict_is = refl }; reports = refl }) in
+    let l17 = IsLegal-push setup _ (Begin 0 1 2) l16 (record { line = record { batch = 1; limit = 1; known = refl; next = record { closed = refl; first = refl; end = refl; some = below 1 0 } }; reports = refl }) in
+    let l18 = IsLegal-push setup _ (Done 0 false []) l17 (record { line = record { known = below 0 1; begun = tt }; reports = refl }) in
+    let l19 = IsLegal-push setup _ (Begin 0 1 2) l18 (record { line = record { batch = 1; limit = 1; known = refl; next = record { closed = refl; first = refl; end = refl; some = below 1 0 } }; reports = refl }) in
+    let l20 = IsLegal-push setup _ (Done 0 true (told 2 true)) l19 (record { line = record { known = below 0 1; begun = tt }; reports = refl }) in
+    let l21 = IsLegal-push setup _ (Ended 1) l20 (record { line = record { known = below 1 0; going = refl; reading = refl }; reports = refl }) in
+    let l22 = IsLegal-push setup _ (Ended 0) l21 (record { line = record { known = below 0 1; going = refl; reading = refl }; reports = refl }) in
+    IsLegal-push setup _ (Stop (pos 7) []) l22 (record { line = record { going = refl; later = at_last; all_made = refl }; reports = refl })
+
+most_is : (most : Option ℕ) → Some (Some 2) ≡ Some most → Some 2 ≡ most
+most_is most h = cc
+
+-- a third group may not come while two are live
+pub third_is_held : (m : Content) → ¬ Meets setup (front m) (group 2 (m ∷ []))
+unfolding origins items taken routes group_inputs offers lane_events fates_from ranges_from accepted_from
+third_is_held m h =
+    let two : 2 < 2 = subst (λ (most : Option ℕ). IfSome most (λ (n : ℕ). 2 < n)) (sym (most_is h.line.most h.line.known)) h.line.few in
+    omega (arith, two)
+
+-- how many groups of two inputs are live behind an entry
+abbrev pub live_behind : Setup → List Entry → Entry → ℕ × ℕ
+live_behind setup before e = (live_count setup (before ++ e ∷ []) 0, live_count setup (before ++ e ∷ []) 1)
+
+pub live_behind_each : (m : Content) → each (live_behind setup) [] (journal m) ≡
+    (0, 0) ∷ (0, 1) ∷ (0, 2) ∷ (0, 2) ∷ (0, 2) ∷ (0, 2) ∷ (0, 2) ∷ (0, 2) ∷ (0, 2) ∷ (0, 2) ∷ (0, 1) ∷ (0, 2)
+    ∷ (0, 2) ∷ (0, 1) ∷ (0, 1) ∷ (0, 1) ∷ (0, 1) ∷ (0, 1) ∷ (0, 1) ∷ (0, 0) ∷ (0, 0) ∷ (0, 0) ∷ (0, 0) ∷ []
+unfolding each origins items taken routes group_inputs offers lane_events fates_from ranges_from accepted_from
+live_behind_each m = refl
+
+-- the numbers of the input that isn't tracked once it was read, and once it has ended
+abbrev pub plain : Bool → InputNumbers
+plain has_ended = record (unread_input false) {
+  pieces = 5;
+  refused = 1;
+  passed = 2;
+  filtered = 3;
+  gathered = 1;
+  has_ended = has_ended;
+}
+
+-- those of the tracked one, once so many groups with so many metrics came, by how many were delivered and rejected and
+-- how many haven't settled
+abbrev pub tracked : ℕ → ℕ → ℕ → ℕ → ℕ → Bool → InputNumbers
+tracked groups metrics delivered rejected undelivered has_ended = record (unread_input true) {
+  pieces = groups;
+  gathered = metrics;
+  has_ended = has_ended;
+  delivered = delivered;
+  rejected = rejected;
+  undelivered = undelivered;
+}
+
+-- those of an output, by how many metrics were filtered, written, buffered and dropped
+abbrev pub sent : ℕ → ℕ → ℕ → ℕ → OutputNumbers
+sent filtered written buffered dropped = record unreached_output {
+  filtered = filtered;
+  written = written;
+  buffered = buffered;
+  dropped = dropped;
+}
+
+-- the totals, by the numbers of both inputs, how many items were routed, and the numbers of both outputs
+abbrev pub all : InputNumbers → InputNumbers → ℕ → OutputNumbers → OutputNumbers → Numbers
+all x y routed out other =
+    record { inputs = x ∷ y ∷ []; made = 0; removed = 0; routed = routed; outputs = out ∷ other ∷ [] }
+
+-- those of the totals that change until an input has ended
+abbrev pub row : ℕ → ℕ → ℕ → ℕ → ℕ → ℕ → OutputNumbers → OutputNumbers → Numbers
+row groups metrics delivered rejected undelivered routed out other =
+    all (plain false) (tracked groups metrics delivered rejected undelivered false) routed out other
+
+-- the totals behind each entry
+pub totals_behind_each : (m : Content) → each (λ before e. totals setup (before ++ e ∷ [])) [] (journal m) ≡
+    row 0 0 0 0 0 0 (sent 0 0 0 0) (sent 0 0 0 0) ∷ row 1 1 0 0 1 0 (sent 0 0 0 0) (sent 0 0 0 0)
+    ∷ row 2 3 0 0 2 0 (sent 0 0 0 0) (sent 0 0 0 0) ∷ row 2 3 0 0 2 0 (sent 0 0 0 0) (sent 0 0 0 0)
+    ∷ row 2 3 0 0 2 1 (sent 0 0 1 0) (sent 0 0 1 0) ∷ row 2 3 0 0 2 1 (sent 0 0 1 0) (sent 0 0 1 0)
+    ∷ row 2 3 0 0 2 2 (sent 1 0 1 0) (sent 0 0 2 0) ∷ row 2 3 0 0 2 2 (sent 1 0 1 0) (sent 0 0 2 0)
+    ∷ row 2 3 0 0 2 3 (sent 2 0 1 0) (sent 0 0 2 1) ∷ row 2 3 0 0 2 3 (sent 2 0 1 0) (sent 0 0 2 1)
+    ∷ row 2 3 0 1 1 4 (sent 3 0 1 0) (sent 0 0 2 2) ∷ row 3 4 0 1 2 4 (sent 3 0 1 0) (sent 0 0 2 2)
+    ∷ row 3 4 0 1 2 4 (sent 3 0 1 0) (sent 0 0 2 2) ∷ row 3 4 1 1 1 4 (sent 3 0 1 0) (sent 0 2 0 2)
+    ∷ row 3 4 1 1 1 4 (sent 3 0 1 0) (sent 0 2 0 2) ∷ row 3 4 1 1 1 5 (sent 3 0 1 1) (sent 1 2 0 2)
+    ∷ row 3 4 1 1 1 5 (sent 3 0 1 1) (sent 1 2 0 2) ∷ row 3 4 1 1 1 5 (sent 3 0 1 1) (sent 1 2 0 2)
+    ∷ row 3 4 1 1 1 5 (sent 3 0 1 1) (sent 1 2 0 2) ∷ row 3 4 2 1 0 5 (sent 3 1 0 1) (sent 1 2 0 2)
+    ∷ all (plain false) (tracked 3 4 2 1 0 true) 5 (sent 3 1 0 1) (sent 1 2 0 2)
+    ∷ all (plain true) (tracked 3 4 2 1 0 true) 5 (sent 3 1 0 1) (sent 1 2 0 2)
+    ∷ all (plain true) (tracked 3 4 2 1 0 true) 5 (sent 3 1 0 1) (sent 1 2 0 2)
+    ∷ []
+unfolding each total_by input_total_from reported_with offers lane_events fates_from ranges_from accepted_from
+totals_behind_each m = refl

@@ -1,5 +1,5 @@
 -- The places of a configuration: lists of parts that were opened at them, and given back.
-use Rattle.std.specs.Prelude.{◌≡◌, ◌<◌, ◌⊎◌, ℕ, List, [], ◌∷◌, Option, None, Contains, map, length}
+use Rattle.std.specs.Prelude.{◌≡◌, ◌<◌, ◌⊎◌, ℕ, List, [], ◌∷◌, Contains, map, length}
 use Rattle.std.specs.Prelude.{slice_index_or, take, true, false, ⊤}
 use Rattle.agent_base.specs.Carried.{Carried, no_part}
 use Rattle.agent_base.specs.Places.{Place, Opens, TakesIn, FailsToOpen, SameAtAll}

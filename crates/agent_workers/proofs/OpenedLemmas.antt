@@ -5,30 +5,28 @@ use Rattle.std.specs.List.{remove}
 use Rattle.std.specs.declared.option.Option.{Option}
 use Rattle.std.proofs.lemmas.List.{length-map, map-append, drop_more, drop_all}
 use Rattle.fixed_num.specs.declared.memory.OutOfMemory.{OutOfMemory}
+use Rattle.agent_base.specs.Carried.{Carried, Timed}
 use Rattle.agent_base.specs.Hand.{Hand, empty_hand}
 use Rattle.agent_base.specs.Moments.{Moments, Gives}
 use Rattle.agent_config.specs.Sound.{IsSound}
 use Rattle.agent_config.specs.declared.config.Config.{Config}
 use Rattle.agent_config.specs.declared.config.InputConf.{InputConf}
 use Rattle.agent_config.specs.declared.config.OutputConf.{OutputConf}
-use Rattle.metric.specs.Metric.{IsFilledTag}
-use Rattle.pipeline_core.specs.CoreState.{CoreState}
-use Rattle.agent_workers.specs.Finished.{ClockRun, FinishesSo, begun, around}
-use Rattle.agent_workers.specs.Inputs.{InPart, in_of, ins_of, in_at, IsSameInput, AreSameInputs, AreFresh, IsFresh, IsReadable}
-use Rattle.agent_workers.specs.Noted.{JournalPart}
-use Rattle.agent_base.specs.Carried.{Carried, Timed}
-use Rattle.agent_workers.specs.Opened.{fresh_in, fresh_ins, fresh_out, fresh_outs, empty_hands, config_ins, config_outs, in_carried, out_carried, rule_by, sizes_of, conf_sizes, IsMadeOf, IsNewCore, RanBy}
-use Rattle.agent_workers.specs.Output.{OutPart, out_of, outs_of, out_at, AreOutputs, AreUnfailed, IsUnfailed}
-use Rattle.agent_workers.specs.PipeSetup.{run_setup, journal_setup_of}
 use Rattle.formats.specs.Reader.{kind_of}
-use Rattle.agent_workers.specs.Rules.{work_by}
-use Rattle.agent_workers.specs.Running.{IsReady, buffered_at}
-use Rattle.pipeline_core.specs.Stands.{Stands}
-use Rattle.agent_workers.specs.Run.{Change, change, InRun, in_run, in_runs, OutRun, out_run, out_runs, Ran}
+use Rattle.metric.specs.Metric.{IsFilledTag}
+use Rattle.agent_workers.specs.Finished.{FinishesSo, begun}
+use Rattle.agent_workers.specs.Inputs.{InPart, in_of, ins_of, in_at, IsSameInput, AreSameInputs, AreFresh, IsFresh, IsReadable}
+use Rattle.agent_workers.specs.Job.{Job, job_of, job_input, job_output, journal_setup_of, rule_by, setup_of, work_of}
+use Rattle.agent_workers.specs.Noted.{part_change}
+use Rattle.agent_workers.specs.Opened.{Carries, Times, fresh_in, fresh_ins, fresh_out, fresh_outs, empty_hands, config_ins, config_outs, in_carried, out_carried, change_by, IsMadeOf, IsNewCore}
+use Rattle.agent_workers.specs.Output.{OutPart, out_of, outs_of, out_at, AreOutputs, AreUnfailed, IsUnfailed}
+use Rattle.agent_workers.specs.Run.{Change, change, InRun, in_run, in_runs, OutRun, out_run, out_runs, RunChange, Ran}
+use Rattle.agent_workers.specs.Progress.{Progress}
+use Rattle.agent_workers.specs.RunState.{RunState}
 use Rattle.agent_workers.specs.declared.input.InJob.{InJob}
 use Rattle.agent_workers.specs.declared.output.OutJob.{OutJob}
-use Rattle.agent_workers.specs.declared.serial.Ending.{Ending}
-use Rattle.agent_workers.proofs.FinishSteps.{ran, is_set_up}
+use Rattle.agent_workers.specs.declared.rounds.Ending.{Ending}
+use Rattle.agent_workers.proofs.FinishSteps.{is_set_up, ran}
 
 -- ---- what a run begins with
 
@@ -80,26 +78,59 @@ unput_at n (conf ∷ confs) (sink ∷ sinks) zero l = record { numbered = omega 
 unput_at n (conf ∷ confs) (sink ∷ sinks) (suc k) l =
     subst (λ (i : ℕ). IsUnputAt i (out_at (fresh_outs (n + 1) confs sinks) k)) (omega arith) (unput_at (n + 1) confs sinks k (omega (arith, l)))
 
-pub are_outputs : (confs : List OutputConf) (sinks : List Carried) → length sinks ≡ length confs → AreOutputs (length (map conf_sizes confs)) (fresh_outs 0 confs sinks)
+are_outputs : (confs : List OutputConf) (sinks : List Carried) → length sinks ≡ length confs → AreOutputs (length confs) (fresh_outs 0 confs sinks)
 are_outputs confs sinks s =
     let count = length-fresh_outs 0 confs sinks s in
-    record { count_is = count ∙ sym (length-map confs conf_sizes); numbered = λ k l. (unput_at 0 confs sinks k (omega (arith, l, count, length-map confs conf_sizes))).numbered ∙ omega arith }
+    record { count_is = count; numbered = λ k l. (unput_at 0 confs sinks k (omega (arith, l, count))).numbered ∙ omega arith }
 
 pub are_unfailed : (confs : List OutputConf) (sinks : List Carried) → AreUnfailed (fresh_outs 0 confs sinks)
 are_unfailed confs sinks = λ k l. (unput_at 0 confs sinks k l).unfailed
 
+-- the parts of a run are those of a configuration
+pub record AreMade (config : Config) (start : ℤ) (opened : Carries) (times : Times) (now : RunState) : Type 0 where
+  pub sources : length opened.sources ≡ length config.inputs
+  pub clocks : length times.ins ≡ length config.inputs
+  pub sinks : length opened.sinks ≡ length config.outputs
+  pub first : All (λ (clock : Timed). clock.place ≡ 0) times.ins
+  pub ins_are : now.ins ≡ fresh_ins config 0 config.inputs opened.sources times.ins
+  pub outs_are : now.outs ≡ fresh_outs 0 config.outputs opened.sinks
+  pub filters : now.proc.outs ≡ config.outputs
+  pub about : now.journal.setup ≡ journal_setup_of (setup_of (job_of config) start)
+  pub kept : now.journal.kept ≡ []
+  pub entries : now.journal.entries ≡ 0
+  pub put : now.journal.failed ≡ false
+  pub counted : now.counted_at ≡ []
+  pub held : now.journal.held ≡ opened.journal.bytes
+  pub faults : now.journal.faults ≡ opened.journal.faults
+  pub timer : now.timer ≡ times.timer
+
 -- a run is set up
-pub is_made : (config : Config) (start : ℤ) (sources : List Carried) (clocks : List Timed) (sinks : List Carried) (core : CoreState) (ins : List InPart) (outs : List OutPart) (part : JournalPart) → IsSound config → length sources ≡ length config.inputs → length clocks ≡ length config.inputs → length sinks ≡ length config.outputs →
-    All (λ (clock : Timed). clock.place ≡ 0) clocks → IsNewCore config start core → ins ≡ fresh_ins config 0 config.inputs sources clocks → outs ≡ fresh_outs 0 config.outputs sinks → part.setup ≡ journal_setup_of (run_setup (length config.inputs) (map conf_sizes config.outputs) start) → part.kept ≡ [] → part.entries ≡ 0 → part.failed ≡ false →
-    IsMadeOf config start sources clocks sinks core ins outs part
-is_made config start sources clocks sinks core ins outs part sound s c k first new ins_are outs_are about kept entries going =
-    let count : length ins ≡ length config.inputs = ap (λ (xs : List InPart). length xs) ins_are ∙ length-fresh_ins config 0 config.inputs sources clocks s c in
+pub is_made : (config : Config) (start : ℤ) (opened : Carries) (times : Times) (now : RunState) → IsSound config → IsNewCore config start now.core → AreMade config start opened times now → IsMadeOf config start opened times now
+is_made config start opened times now sound new made =
+    let in_jobs = length-map config.inputs (job_input config) in
+    let out_jobs = length-map config.outputs job_output in
+    let count : length now.ins ≡ length config.inputs = ap (λ (xs : List InPart). length xs) made.ins_are ∙ length-fresh_ins config 0 config.inputs opened.sources times.ins made.sources made.clocks in
+    let outputs = subst (AreOutputs (length config.outputs)) (sym made.outs_are) (are_outputs config.outputs opened.sinks made.sinks) in
     record {
-      set_up = is_set_up (sizes_of config) start (length config.inputs) core ins outs part (sym count) (omega (arith, length-map config.outputs conf_sizes, sound.outputs.1)) new.ready new.going new.stands new.setup new.stored new.reading new.none_buffered
-          (subst AreFresh (sym ins_are) (are_fresh config sources clocks sound first)) (subst (AreOutputs (length (map conf_sizes config.outputs))) (sym outs_are) (are_outputs config.outputs sinks k)) (subst AreUnfailed (sym outs_are) (are_unfailed config.outputs sinks))
-          about kept entries going;
-      ins_are = ins_are;
-      outs_are = outs_are;
+      set_up = is_set_up (job_of config) start now (omega (arith, out_jobs, sound.outputs.1)) new.ready new.going new.stands new.setup new.stored (new.reading ∙ ap (λ (k : ℕ). replicate k false) (sym in_jobs)) new.none_buffered
+          (record {
+            in_count = count ∙ sym in_jobs;
+            fresh = subst AreFresh (sym made.ins_are) (are_fresh config opened.sources times.ins sound made.first);
+            outputs = subst (λ (k : ℕ). AreOutputs k now.outs) (sym out_jobs) outputs;
+            unfailed = subst AreUnfailed (sym made.outs_are) (are_unfailed config.outputs opened.sinks);
+            filters = ap length made.filters ∙ sym out_jobs;
+            work = ap work_of (sym made.filters);
+            about = made.about;
+            kept = made.kept;
+            entries = made.entries;
+            put = made.put;
+            counted = made.counted;
+          });
+      ins_are = made.ins_are;
+      outs_are = made.outs_are;
+      held = made.held;
+      faults = made.faults;
+      timer = made.timer;
     }
 
 -- ---- its jobs, one by one
@@ -180,34 +211,11 @@ hands_first n confs hands conf d b at e = ap (λ (hs : List Hand). get_or hs 0 d
 pub hands_left : (n : ℕ) (confs : List InputConf) (hands : List Hand) (conf : InputConf) → n < length confs → hands ≡ empty_hands (drop n confs) → remove hands 0 ≡ empty_hands (drop (n + 1) confs)
 hands_left n confs hands conf b e = ap (λ (hs : List Hand). remove hs 0) (e ∙ ap empty_hands (drop_more confs n conf b))
 
--- ---- a core in which nothing happened
-
-setup_same : (n m : ℕ) (confs others : List OutputConf) (first start : ℤ) → n ≡ m → confs ≡ others → first ≡ start → run_setup n (map conf_sizes confs) first ≡ run_setup m (map conf_sizes others) start
-setup_same n m confs others first start a b c = rw (a, b, c) refl
-
-pub is_new_core : (config : Config) (n : ℕ) (confs : List OutputConf) (start first : ℤ) (core : CoreState) → n ≡ length config.inputs → confs ≡ config.outputs → first ≡ start → IsReady core → core.ended ≡ replicate n false → core.stopped ≡ false → ((o : ℕ) → buffered_at core o ≡ 0) → Stands core [] → core.setup ≡ run_setup n (map conf_sizes confs) first → core.stored ≡ [] → IsNewCore config start core
-is_new_core config n confs start first core same are begin ready ended going none stands setup stored = record {
-  ready = ready;
-  reading = ended ∙ ap (λ (k : ℕ). replicate k false) same;
-  going = going;
-  none_buffered = none;
-  stands = stands;
-  setup = setup ∙ setup_same n (length config.inputs) confs config.outputs first start same are begin;
-  stored = stored;
-}
-
-pub about_same : (n m : ℕ) (confs others : List OutputConf) (first start : ℤ) → n ≡ m → confs ≡ others → first ≡ start → journal_setup_of (run_setup n (map conf_sizes confs) first) ≡ journal_setup_of (run_setup m (map conf_sizes others) start)
-about_same n m confs others first start a b c = rw (a, b, c) refl
-
 -- ---- what it leaves
 
 -- lists that tell the same are of one length
 pub same_count : {X Y Z : Type 0} (f : X → Z) (h : Y → Z) (xs : List X) (ys : List Y) → map f xs ≡ map h ys → length xs ≡ length ys
 same_count {X} {Y} {Z} f h xs ys e = sym (length-map xs f) ∙ ap (λ (zs : List Z). length zs) e ∙ length-map ys h
-
--- a change by other sinks that are the same
-pub sinks_change : {K : Type 0} (told : K → Carried) (a b x y : K) → a ≡ x → b ≡ y → change (told a).bytes (told b).bytes (told a).faults (told b).faults ≡ change (told x).bytes (told y).bytes (told x).faults (told y).faults
-sinks_change told a b x y e f = rw (e, f) refl
 
 same_tail : (old new : InPart) (olds news : List InPart) → AreSameInputs (old ∷ olds) (new ∷ news) → AreSameInputs olds news
 same_tail old new olds news h = record { count = omega (arith, h.count); each = λ k l. h.each (suc k) (omega (arith, l)) }
@@ -236,45 +244,57 @@ outs_left n (conf ∷ confs) (sink ∷ sinks) [] = refl
 outs_left n (conf ∷ confs) (sink ∷ sinks) (last ∷ lasts) = ap (λ (xs : List OutRun). out_run (fresh_out n conf sink) last ∷ xs) (outs_left (n + 1) confs sinks lasts)
 
 -- there are as many inputs and outputs as the configuration has
-pub ins_count : (config : Config) (start : ℤ) (sources : List Carried) (clocks : List Timed) (sinks : List Carried) (core : CoreState) (ins : List InPart) (outs : List OutPart) (part : JournalPart) → IsMadeOf config start sources clocks sinks core ins outs part → length sources ≡ length config.inputs → length clocks ≡ length config.inputs → length ins ≡ length config.inputs
-ins_count config start sources clocks sinks core ins outs part made s c = ap (λ (xs : List InPart). length xs) made.ins_are ∙ length-fresh_ins config 0 config.inputs sources clocks s c
+pub ins_count : (config : Config) (start : ℤ) (opened : Carries) (times : Times) (now : RunState) → IsMadeOf config start opened times now → length opened.sources ≡ length config.inputs → length times.ins ≡ length config.inputs → length now.ins ≡ length config.inputs
+ins_count config start opened times now made s c = ap (λ (xs : List InPart). length xs) made.ins_are ∙ length-fresh_ins config 0 config.inputs opened.sources times.ins s c
 
-pub outs_count : (config : Config) (start : ℤ) (sources : List Carried) (clocks : List Timed) (sinks : List Carried) (core : CoreState) (ins : List InPart) (outs : List OutPart) (part : JournalPart) → IsMadeOf config start sources clocks sinks core ins outs part → length sinks ≡ length config.outputs → length outs ≡ length config.outputs
-outs_count config start sources clocks sinks core ins outs part made k = ap (λ (xs : List OutPart). length xs) made.outs_are ∙ length-fresh_outs 0 config.outputs sinks k
+pub outs_count : (config : Config) (start : ℤ) (opened : Carries) (times : Times) (now : RunState) → IsMadeOf config start opened times now → length opened.sinks ≡ length config.outputs → length now.outs ≡ length config.outputs
+outs_count config start opened times now made k = ap (λ (xs : List OutPart). length xs) made.outs_are ∙ length-fresh_outs 0 config.outputs opened.sinks k
 
-module _ (config : Config) (start : ℤ) (sources : List Carried) (clocks : List Timed) (sinks : List Carried) (core : CoreState) (ins : List InPart) (outs : List OutPart) (part : JournalPart)
-    (made : IsMadeOf config start sources clocks sinks core ins outs part) (s : length sources ≡ length config.inputs) (c : length clocks ≡ length config.inputs)
-    (last : CoreState) (last_ins : List InPart) (last_outs : List OutPart) (last_part : JournalPart) (timer : ClockRun) (gives : Gives timer.moments 0 timer.before start) where
-  count_is : length ins ≡ length config.inputs
-  count_is = ins_count config start sources clocks sinks core ins outs part made s c
+-- a change by other terms
+change_is : (ins other_ins : List InRun) (outs other_outs : List OutRun) (journal other_journal : Change) (moments other_moments : Option Moments) → ins ≡ other_ins → outs ≡ other_outs → journal ≡ other_journal → moments ≡ other_moments →
+    (let x : RunChange = record { ins = ins; outs = outs; journal = journal; moments = moments } in
+    let y : RunChange = record { ins = other_ins; outs = other_outs; journal = other_journal; moments = other_moments } in x ≡ y)
+change_is ins other_ins outs other_outs journal other_journal moments other_moments a b c d = rw (a, b, c, d) refl
 
-  left_by : (ending : Ending) → AreSameInputs ins last_ins → FinishesSo (work_by config.outputs) config.agent.final_tries ending core last ins last_ins outs last_outs part last_part timer →
-      RanBy config ending (config_ins config config.inputs sources (map in_carried last_ins) clocks) (config_outs config.outputs sinks (map out_carried last_outs)) (change part.held last_part.held part.faults last_part.faults) timer.moments
-  left_by ending same ends =
-      let work = work_by config.outputs in
-      let finished = ends (begun (sizes_of config) start work ins outs part) (around ins outs part) refl refl (λ f. made.set_up.settled) (made.set_up.agrees work) in
-      let all = ran work config.agent.final_tries (length ins) (sizes_of config) start ins outs part.held part.faults ending last last_ins last_outs last_part timer gives same.count finished in
-      let ins_are : in_runs ins last_ins ≡ config_ins config config.inputs sources (map in_carried last_ins) clocks =
-      ap (λ (xs : List InPart). in_runs xs last_ins) made.ins_are ∙ ins_left config 0 config.inputs sources clocks last_ins (subst (λ (xs : List InPart). AreSameInputs xs last_ins) made.ins_are same) in
-      let outs_are : out_runs outs last_outs ≡ config_outs config.outputs sinks (map out_carried last_outs) =
-      ap (λ (xs : List OutPart). out_runs xs last_outs) made.outs_are ∙ outs_left 0 config.outputs sinks last_outs in
-      let noted = change part.held last_part.held part.faults last_part.faults in
-      subst (λ (n : ℕ). Ran work config.agent.final_tries n (sizes_of config) ending (config_ins config config.inputs sources (map in_carried last_ins) clocks) (config_outs config.outputs sinks (map out_carried last_outs)) noted timer.moments) count_is
-      (subst (λ (xs : List OutRun). Ran work config.agent.final_tries (length ins) (sizes_of config) ending (config_ins config config.inputs sources (map in_carried last_ins) clocks) xs noted timer.moments) outs_are
-      (subst (λ (xs : List InRun). Ran work config.agent.final_tries (length ins) (sizes_of config) ending xs (out_runs outs last_outs) noted timer.moments) ins_are all))
+-- what the parts carry at the end
+abbrev pub carried_at : RunState → Carries
+carried_at now = record { sources = map in_carried now.ins; sinks = map out_carried now.outs; journal = record { bytes = now.journal.held; faults = now.journal.faults } }
 
-  pub ran_by : (r : Result Ending OutOfMemory) (news new_sinks : List Carried) → news ≡ map in_carried last_ins → new_sinks ≡ map out_carried last_outs → OnOk r (AreSameInputs ins last_ins) → IfOk r (λ ending. FinishesSo (work_by config.outputs) config.agent.final_tries ending core last ins last_ins outs last_outs part last_part timer) →
-      IfOk r (λ ending. RanBy config ending (config_ins config config.inputs sources news clocks) (config_outs config.outputs sinks new_sinks) (change part.held last_part.held part.faults last_part.faults) timer.moments)
-  ran_by (Err fault) news new_sinks n k same ends = tt
-  ran_by (Ok ending) news new_sinks n k same ends = rw (n, k) (left_by ending same ends)
+left_by : (config : Config) (start : ℤ) (opened : Carries) (times : Times) (now last : RunState) (ending : Ending) → IsMadeOf config start opened times now → length opened.sources ≡ length config.inputs → length times.ins ≡ length config.inputs → now.counted_at ≡ [] → Gives now.timer.moments 0 now.timer.place start →
+    AreSameInputs now.ins last.ins → FinishesSo (job_of config) ending now last → Ran (job_of config) ending (change_by config opened (carried_at last) times)
+left_by config start opened times now last ending made s c none gives same ends =
+    let none_yet : RunState = record now { counted_at = [] } in
+    let agrees = subst (λ (ms : List ℤ). Progress (begun (job_of config) start now) (record now { counted_at = ms })) none made.set_up.agrees in
+    let finished = ends (begun (job_of config) start now) [] refl refl refl (λ f. made.set_up.settled) agrees in
+    let number : length last.ins ≡ length (job_of config).inputs = same.count ∙ ins_count config start opened times now made s c ∙ sym (length-map config.inputs (job_input config)) in
+    let all = ran (job_of config) start ending none_yet last gives refl number finished in
+    subst (Ran (job_of config) ending)
+    (change_is (in_runs now.ins last.ins) (config_ins config config.inputs opened.sources (map in_carried last.ins) times.ins) (out_runs now.outs last.outs) (config_outs config.outputs opened.sinks (map out_carried last.outs))
+    (part_change now.journal last.journal) (change opened.journal.bytes last.journal.held opened.journal.faults last.journal.faults) now.timer.moments times.timer.moments
+    (ap (λ (xs : List InPart). in_runs xs last.ins) made.ins_are ∙ ins_left config 0 config.inputs opened.sources times.ins last.ins (subst (λ (xs : List InPart). AreSameInputs xs last.ins) made.ins_are same))
+    (ap (λ (xs : List OutPart). out_runs xs last.outs) made.outs_are ∙ outs_left 0 config.outputs opened.sinks last.outs)
+    (rw (made.held, made.faults) refl)
+    (ap (λ (t : Timed). t.moments) made.timer))
+    all
 
-  -- the same by other terms
-  pub ran_with : (confs : List OutputConf) (tries : ℕ) → confs ≡ config.outputs → tries ≡ config.agent.final_tries → (r : Result Ending OutOfMemory) (news new_sinks : List Carried) → news ≡ map in_carried last_ins → new_sinks ≡ map out_carried last_outs → OnOk r (AreSameInputs ins last_ins) →
-      IfOk r (λ ending. FinishesSo (work_by confs) tries ending core last ins last_ins outs last_outs part last_part timer) → (noted : Change) (moments : Option Moments) → change part.held last_part.held part.faults last_part.faults ≡ noted → timer.moments ≡ moments →
-      IfOk r (λ ending. RanBy config ending (config_ins config config.inputs sources news clocks) (config_outs config.outputs sinks new_sinks) noted moments)
-  ran_with confs tries o t r news new_sinks n k same ends noted moments w m =
-      subst (λ (x : Option Moments). IfOk r (λ ending. RanBy config ending (config_ins config config.inputs sources news clocks) (config_outs config.outputs sinks new_sinks) noted x)) m
-      (subst (λ (x : Change). IfOk r (λ ending. RanBy config ending (config_ins config config.inputs sources news clocks) (config_outs config.outputs sinks new_sinks) x timer.moments)) w
-      (ran_by r news new_sinks n k same
-      (subst (λ (x : ℕ). IfOk r (λ ending. FinishesSo (work_by config.outputs) x ending core last ins last_ins outs last_outs part last_part timer)) t
-      (subst (λ (xs : List OutputConf). IfOk r (λ ending. FinishesSo (work_by xs) tries ending core last ins last_ins outs last_outs part last_part timer)) o ends))))
+-- the same of a result, and by other terms
+pub ran_by : (config : Config) (start : ℤ) (opened news : Carries) (times : Times) (now last : RunState) (r : Result Ending OutOfMemory) → IsMadeOf config start opened times now → length opened.sources ≡ length config.inputs → length times.ins ≡ length config.inputs → now.counted_at ≡ [] → Gives now.timer.moments 0 now.timer.place start →
+    news ≡ carried_at last → OnOk r (AreSameInputs now.ins last.ins) → IfOk r (λ ending. FinishesSo (job_of config) ending now last) → IfOk r (λ ending. Ran (job_of config) ending (change_by config opened news times))
+ran_by config start opened news times now last (Err fault) made s c none gives n same ends = tt
+ran_by config start opened news times now last (Ok ending) made s c none gives n same ends = subst (λ (x : Carries). Ran (job_of config) ending (change_by config opened x times)) (sym n) (left_by config start opened times now last ending made s c none gives same ends)
+
+-- what opened parts carry, by other terms
+pub carries_is : (sources other_sources sinks other_sinks : List Carried) (journal other : Carried) → sources ≡ other_sources → sinks ≡ other_sinks → journal ≡ other →
+    (let x : Carries = record { sources = sources; sinks = sinks; journal = journal } in
+    let y : Carries = record { sources = other_sources; sinks = other_sinks; journal = other } in x ≡ y)
+carries_is sources other_sources sinks other_sinks journal other a b c = rw (a, b, c) refl
+
+-- and by another clock with the same moments
+pub ran_timed : (config : Config) (opened news : Carries) (times : Times) (timer : Timed) (r : Result Ending OutOfMemory) → times.timer.moments ≡ timer.moments → IfOk r (λ ending. Ran (job_of config) ending (change_by config opened news times)) →
+    IfOk r (λ ending. Ran (job_of config) ending (change_by config opened news (record times { timer = timer })))
+ran_timed config opened news times timer r same h = subst (λ (m : Option Moments). IfOk r (λ ending. Ran (job_of config) ending (record (change_by config opened news times) { moments = m }))) same h
+
+-- a run that ends for each job that is tried so often ends for one
+pub finishes_as : (job : Job) (tries : ℕ) (now last : RunState) (r : Result Ending OutOfMemory) → job.tries ≡ tries → IfOk r (λ ending. (other : Job) → other.tries ≡ tries → FinishesSo other ending now last) → IfOk r (λ ending. FinishesSo job ending now last)
+finishes_as job tries now last (Err fault) same h = tt
+finishes_as job tries now last (Ok ending) same h = h job same

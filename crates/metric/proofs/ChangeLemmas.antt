@@ -1,5 +1,5 @@
 -- A metric is one after a change.
-use Rattle.std.proofs.Common.{◌≡◌, ◌≤◌, ◌<◌, ℕ, zero, suc, true, false, not, cond, ◌||◌, ◌&&◌, List, [], ◌∷◌, length, get_or, refl, sym, ap, subst, ◌∙◌, arith, Some, None}
+use Rattle.std.proofs.Common.{◌≡◌, ◌<◌, ℕ, zero, suc, true, false, not, cond, ◌||◌, ◌&&◌, List, [], ◌∷◌, length, get_or, refl, sym, ap, subst, ◌∙◌, arith, Some, None}
 use Rattle.std.specs.Prelude.{nat_eq, nat_lt, Option, Result, Ok, Err, OnOk, OnErr}
 use Rattle.std.specs.List.{IsDistinct, position, remove}
 use Rattle.std.specs.List.Sorted.{IsStrictlySortedBy}
@@ -113,11 +113,11 @@ tag_taken m own tags i key same taken sorted at =
     ∙ ap (λ (ts : List (List ℕ × List ℕ)). record m { tags = ts })
     (taken ∙ ap (λ (c : Content). remove c.tags i) same ∙ gone_at m.tags i key (ordered_distinct m.tags sorted) at)
 
-pub is_lost : (fields : List (List ℕ × Value)) (key : List ℕ) → has_key fields key ≡ true → 2 ≤ length fields → loses_field fields key ≡ true
-is_lost fields key has more = rw (has, lt-ltb 1 (length fields) (omega arith)) refl
+pub is_lost : (fields : List (List ℕ × Value)) (key : List ℕ) → has_key fields key ≡ true → 1 < length fields → loses_field fields key ≡ true
+is_lost fields key has more = rw (has, lt-ltb 1 (length fields) more) refl
 
 pub field_taken : (m own : Content) (fields : List (List ℕ × Value)) (i : ℕ) (key : List ℕ) → own ≡ m → fields ≡ remove own.fields i
-    → IsDistinct (pointwise nat_eq) (keys_of m.fields) → 2 ≤ length m.fields → position (λ field. bytes_eq field.0 key) m.fields ≡ Some i
+    → IsDistinct (pointwise nat_eq) (keys_of m.fields) → 1 < length m.fields → position (λ field. bytes_eq field.0 key) m.fields ≡ Some i
     → record own { fields = fields } ≡ record m { fields = without_field m.fields key }
 field_taken m own fields i key same taken distinct more at =
     ap (λ (c : Content). record c { fields = fields }) same

@@ -16,6 +16,9 @@ use fixed_num::OutOfMemory;
 use std::alloc::Global;
 use std::sync::Arc;
 
+/// So many fields a metric has at least.
+const LEAST_FIELDS: usize = 1;
+
 /// The content with this name.
 pub(crate) fn set_name(
     content: &mut Arc<Content>,
@@ -120,7 +123,7 @@ pub(crate) fn drop_field(
     ensures err { OnErr result (arc_value content.new ≡ arc_value content.old) }
 {
     let fields = content.fields.as_slice();
-    if fields.len() < 2 {
+    if fields.len() <= LEAST_FIELDS {
         return Ok(false);
     }
     let Some(at) = field_at(fields, key) else {

@@ -1,4 +1,4 @@
-use Rattle.std.proofs.Common.{◌≤◌, length, refl, sym, ◌∙◌, ap, subst, List, ℕ}
+use Rattle.std.proofs.Common.{◌<◌, length, refl, sym, ◌∙◌, ap, subst, List, ℕ}
 use Rattle.std.specs.Arc.{arc_value}
 use Rattle.metric.specs.declared.metric.Content.{Content}
 use Rattle.metric.specs.declared.value.Value.{Value}
@@ -19,12 +19,12 @@ returns-in_default-clause-ok c =
 pub returns-in-Some-get_mut-clause-gone : goal.returns-in-Some-get_mut-clause-gone
 returns-in-Some-get_mut-clause-gone c =
     let read = c.as_slice-fields.ensures ∙ ap (λ (m : Content). m.fields) c.deref.ensures in
-    let more = subst (λ (fields : List (List ℕ × Value)). 2 ≤ length fields) read c.if-fields-lt2.false in
+    let more = subst (λ (fields : List (List ℕ × Value)). 1 < length fields) read c.if-fields-le-LEAST_FIELDS.false in
     sym (is_lost _ _ (key_at (arc_value c.args.content.now).fields _ c.args.key.now (found_at _ _ _ _ _ read c.field_at.ensures c.in-Some.is)) more)
 
 pub returns-in-Some-get_mut-clause-ok : goal.returns-in-Some-get_mut-clause-ok
 returns-in-Some-get_mut-clause-ok c =
     let read = c.as_slice-fields.ensures ∙ ap (λ (m : Content). m.fields) c.deref.ensures in
-    let more = subst (λ (fields : List (List ℕ × Value)). 2 ≤ length fields) read c.if-fields-lt2.false in
+    let more = subst (λ (fields : List (List ℕ × Value)). 1 < length fields) read c.if-fields-le-LEAST_FIELDS.false in
     field_taken _ c.in-Some-get_mut.own.now _ _ _ (c.in-Some-get_mut.ensures.value ∙ c.unshare.ensures) c.remove.ensures c.requires more
     (found_at _ _ _ _ _ read c.field_at.ensures c.in-Some.is)

@@ -9,7 +9,7 @@ ghost use Rattle.journal_text.specs.JournalText.{report_line, report_lines, grou
 ghost use Rattle.journal_text.specs.JournalText.{gather_head, made_line, route_head, head_text, entry_text};
 ghost use Rattle.journal_text.specs.JournalText.{end_text, HasItem, IsWholeOrRemoved};
 
-use crate::metrics::append_metric;
+use crate::metrics::{append_byte, append_metric};
 use account::{Entry, Report, Verdict};
 use fixed_num::{Moment, OutOfMemory};
 use metric::Metric;
@@ -192,7 +192,7 @@ fn append_metric_line(alloc: Global, out: &mut Vec<u8>, metric: &Metric) -> Resu
 {
     append_words(out, "m ")?;
     append_metric(alloc, out, metric)?;
-    append_words(out, "\n")?;
+    append_byte(out, b'\n')?;
     Ok(())
 }
 

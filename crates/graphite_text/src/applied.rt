@@ -115,28 +115,35 @@ fn finish(draft: Draft, time: Moment) -> Result<Option<Metric>, ReadError<Graphi
     }
 }
 
+/// What a template makes metrics of: its parts, and its own tags.
+#[derive(Clone, Copy)]
+struct Naming<'a> {
+    parts: &'a [TemplatePart],
+    tags: &'a [(Text, Text)],
+}
+
 /// What a template's parts and its own tags make of a path, a value and a time.
 fn applied(
     alloc: Global,
-    parts: &[TemplatePart],
-    tags: &[(Text, Text)],
+    naming: &Naming,
     separator: &str,
     path: &Path,
     value: Fixed,
     time: Moment,
 ) -> Result<Option<Metric>, ReadError<GraphiteFault>>
-    requires named { AllByRecursion IsNamed parts.now }
-    requires keyed { AreKeyed tags.now }
+    requires named { AllByRecursion IsNamed naming.now.parts.now }
+    requires keyed { AreKeyed naming.now.tags.now }
     requires path { IsPath (path_view path.now) }
     ensures { Gives (λ x. x) result (limited (said_of separator.now
-        (record { filter = None; parts = parts.now; tags = tags.now }) (path_view path.now) value time)) }
+        (record { filter = None; parts = naming.now.parts.now; tags = naming.now.tags.now }) (path_view path.now)
+        value time)) }
 {
     let segments = path.segments.as_slice();
-    let name = name_of(alloc, separator, parts, segments)?;
-    let key = key_of(alloc, separator, parts, segments)?;
+    let name = name_of(alloc, separator, naming.parts, segments)?;
+    let key = key_of(alloc, separator, naming.parts, segments)?;
     let mut draft = Draft::new(alloc, name.as_str())?;
-    put_own(&mut draft, tags)?;
-    put_collected(alloc, &mut draft, separator, parts, segments)?;
+    put_own(&mut draft, naming.tags)?;
+    put_collected(alloc, &mut draft, separator, naming.parts, segments)?;
     put_given(&mut draft, path.tags.as_slice())?;
     draft.field(key.as_str(), Value::Fixed(value))?;
     finish(draft, time)
@@ -169,12 +176,19 @@ pub(crate) fn templated(
 {
     match used(templates, path.segments.as_slice()) {
         Some(template) => {
-            let (parts, tags) = (template.parts(), template.tags());
-            applied(alloc, parts, tags, separator, path, value, time)
+            let naming = Naming {
+                parts: template.parts(),
+                tags: template.tags(),
+            };
+            applied(alloc, &naming, separator, path, value, time)
         }
         None => {
             let parts = [TemplatePart::AllMeasurement];
-            applied(alloc, parts.as_slice(), &[], separator, path, value, time)
+            let naming = Naming {
+                parts: parts.as_slice(),
+                tags: &[],
+            };
+            applied(alloc, &naming, separator, path, value, time)
         }
     }
 }

@@ -13,7 +13,7 @@ ghost use Rattle.format_words.specs.Template.{IsNamed};
 ghost use Rattle.format_words.specs.Views.{now_of, tag_view};
 ghost use Rattle.graphite_text.specs.Views.{path_view};
 
-use crate::collected::{key_of, name_of, tag_value};
+use crate::collected::{Wanted, text_of};
 use crate::fault::{GraphiteFault, GraphiteKind, fault};
 use crate::path::Path;
 use fixed_num::{Fixed, Moment, OutOfMemory};
@@ -65,7 +65,8 @@ fn put_part(
         (given ++ tags_at separator.now parts.now (map now_of segments.now) part.now) []) }
 {
     if let TemplatePart::Tag(key) = part {
-        let value = tag_value(alloc, separator, key.as_str(), parts, segments)?;
+        let wanted = Wanted::TagOf(key.as_str());
+        let value = text_of(alloc, separator, &wanted, parts, segments)?;
         draft.tag(key.as_str(), value.as_str())?;
     }
     Ok(())
@@ -139,8 +140,8 @@ fn applied(
         value time)) }
 {
     let segments = path.segments.as_slice();
-    let name = name_of(alloc, separator, naming.parts, segments)?;
-    let key = key_of(alloc, separator, naming.parts, segments)?;
+    let name = text_of(alloc, separator, &Wanted::Name, naming.parts, segments)?;
+    let key = text_of(alloc, separator, &Wanted::Key, naming.parts, segments)?;
     let mut draft = Draft::new(alloc, name.as_str())?;
     put_own(&mut draft, naming.tags)?;
     put_collected(alloc, &mut draft, separator, naming.parts, segments)?;

@@ -13,16 +13,8 @@ use Rattle.line_proto.proofs.read.read_rest.Goals as goal
 rest_is : (r : Result ℤ (ReadError LineFault)) (draft : Drafted) (piece : List ℕ) (i : ℕ) (moment : ℤ) (tags : List Tag) (j : ℕ) (fields : List Field) (k : ℕ)
     → tags_at piece i ≡ Ok (tags, j) → spaced_fields_at piece j ≡ Ok (fields, k) → StandsFor draft tags fields → Gives (λ x. x) r (time_at piece k moment)
     → HasRest draft piece i moment r
-rest_is (Ok time) draft piece i moment tags j fields k t f stands h = record {
-  tags = tags;
-  behind_tags = j;
-  fields = fields;
-  behind_fields = k;
-  tags_read = t;
-  fields_read = f;
-  time_read = h;
-  drafted = stands;
-}
+rest_is (Ok time) draft piece i moment tags j fields k t f stands h =
+    record { tags = tags; behind_tags = j; fields = fields; behind_fields = k; tags_read = t; fields_read = f; time_read = h; drafted = stands }
 rest_is (Err e) draft piece i moment tags j fields k t f stands h = λ start name n. time_fails e piece start moment name i tags j fields k n t f h
 
 pub returns-in_err-i-clause-rest : goal.returns-in_err-i-clause-rest

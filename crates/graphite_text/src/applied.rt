@@ -1,9 +1,9 @@
 //! The metric that a template makes of a path, a value and a time.
-ghost use Rattle.std.specs.Prelude.{◌≡◌, ◌<◌, ◌++◌, List, [], ◌∷◌, length, map, flat_map, take, option_map};
+ghost use Rattle.std.specs.Prelude.{◌≡◌, ◌<◌, ◌++◌, List, [], ◌∷◌, map, option_map};
 ghost use Rattle.std.specs.Prelude.{IfOk, ℕ, ℤ, None};
 ghost use Rattle.std.specs.List.{find, AllByRecursion};
 ghost use Rattle.text_parts.specs.Chain.{Gives};
-ghost use Rattle.metric.specs.Draft.{Tag, Field, StandsFor, IsReady};
+ghost use Rattle.metric.specs.Draft.{Tag, StandsFor, IsReady};
 ghost use Rattle.format_words.specs.Serving.{serves};
 ghost use Rattle.graphite_text.specs.Applied.{tags_at, collected_tags, used};
 ghost use Rattle.format_words.specs.Segments.{AreKeyed};

@@ -2,11 +2,8 @@
 ghost use Rattle.std.specs.Prelude.{◌≡◌, ◌<◌, ℕ, List, [], ◌∷◌, length, map, flat_map, IfOk, OnOk};
 ghost use Rattle.std.specs.Prelude.{MatchOption};
 ghost use Rattle.std.specs.Prelude.{◌++◌, if◌then◌else◌};
-ghost use Rattle.std.specs.List.{AllByRecursion};
-ghost use Rattle.std.specs.Str.{bytes_eq};
 ghost use Rattle.std.specs.String.{string_bytes};
 ghost use Rattle.graphite_text.specs.Applied.{collected, joined, tag_share};
-ghost use Rattle.format_words.specs.Segments.{AreFilled};
 ghost use Rattle.graphite_text.specs.Taken.{joined_view, AreJoined, Takes};
 ghost use Rattle.format_words.specs.Views.{now_of, texts_view};
 ghost use Rattle.graphite_text.specs.Wanted.{share_of, text_of, text_without};

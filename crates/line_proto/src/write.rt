@@ -254,6 +254,7 @@ fn append_in_line(out: &mut Vec<u8>, marks: &Marks, text: &[u8]) -> Result<(), O
 }
 
 /// Appends a part of a text in one line with its marks escaped, of which a plain text has none.
+#[inline(always)]
 fn append_part(
     out: &mut Vec<u8>,
     marks: &Marks,

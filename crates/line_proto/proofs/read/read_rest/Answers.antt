@@ -1,4 +1,4 @@
-use Rattle.std.proofs.Common.{ℕ, ℤ, ◌≡◌, ◌∙◌, [], List, Result, Ok, Err, subst, sym}
+use Rattle.std.proofs.Common.{ℕ, ℤ, ◌≡◌, ◌∙◌, List, Result, Ok, Err, subst, sym}
 use Rattle.std.proofs.lemmas.Result.{err_from_is_err_and}
 use Rattle.text_parts.specs.Chain.{Fails, Gives}
 use Rattle.text_parts.specs.declared.error.ReadError.{ReadError}

@@ -20,7 +20,7 @@ use Rattle.agent_base.specs.Carried.{Carried, Timed}
 use Rattle.agent_workers.specs.Opened.{fresh_in, fresh_ins, fresh_out, fresh_outs, empty_hands, config_ins, config_outs, in_carried, out_carried, rule_by, sizes_of, conf_sizes, IsMadeOf, IsNewCore, RanBy}
 use Rattle.agent_workers.specs.Output.{OutPart, out_of, outs_of, out_at, AreOutputs, AreUnfailed, IsUnfailed}
 use Rattle.agent_workers.specs.PipeSetup.{run_setup, journal_setup_of}
-use Rattle.formats.specs.Reader.{kind_of}
+use Rattle.formats.specs.Reader.{cut_of}
 use Rattle.agent_workers.specs.Rules.{work_by}
 use Rattle.agent_workers.specs.Running.{IsReady, buffered_at}
 use Rattle.pipeline_core.specs.Stands.{Stands}
@@ -174,8 +174,8 @@ out_is {K} told n confs job number conf sink sinks h a b c =
     ∙ ap (λ (x : K). fresh_out n (get_or confs n conf) (told x)) c
 
 -- what is in hand of the first input that is left, and of the others
-pub hands_first : (n : ℕ) (confs : List InputConf) (hands : List Hand) (conf : InputConf) (d : Hand) → n < length confs → conf ≡ get_or confs n conf → hands ≡ empty_hands (drop n confs) → get_or hands 0 d ≡ empty_hand (kind_of conf.format)
-hands_first n confs hands conf d b at e = ap (λ (hs : List Hand). get_or hs 0 d) (e ∙ ap empty_hands (drop_more confs n conf b)) ∙ ap (λ (x : InputConf). empty_hand (kind_of x.format)) (sym at)
+pub hands_first : (n : ℕ) (confs : List InputConf) (hands : List Hand) (conf : InputConf) (d : Hand) → n < length confs → conf ≡ get_or confs n conf → hands ≡ empty_hands (drop n confs) → get_or hands 0 d ≡ empty_hand (cut_of conf.format)
+hands_first n confs hands conf d b at e = ap (λ (hs : List Hand). get_or hs 0 d) (e ∙ ap empty_hands (drop_more confs n conf b)) ∙ ap (λ (x : InputConf). empty_hand (cut_of x.format)) (sym at)
 
 pub hands_left : (n : ℕ) (confs : List InputConf) (hands : List Hand) (conf : InputConf) → n < length confs → hands ≡ empty_hands (drop n confs) → remove hands 0 ≡ empty_hands (drop (n + 1) confs)
 hands_left n confs hands conf b e = ap (λ (hs : List Hand). remove hs 0) (e ∙ ap empty_hands (drop_more confs n conf b))

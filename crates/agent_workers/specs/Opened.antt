@@ -16,7 +16,7 @@ use Rattle.agent_workers.specs.Inputs.{InPart}
 use Rattle.agent_workers.specs.Noted.{JournalPart}
 use Rattle.agent_workers.specs.Output.{OutPart}
 use Rattle.agent_workers.specs.PipeSetup.{run_setup}
-use Rattle.formats.specs.Reader.{InRule, in_rule, kind_of}
+use Rattle.formats.specs.Reader.{InRule, in_rule, cut_of}
 use Rattle.agent_workers.specs.Rules.{work_by}
 use Rattle.agent_workers.specs.Run.{Change, change, InRun, OutRun, Ran}
 use Rattle.agent_workers.specs.Running.{IsReady, buffered_at}
@@ -39,14 +39,14 @@ rule_by config conf = in_rule conf.format config.globals conf.filter config.agen
 
 -- what is in hand of inputs of which nothing was read
 abbrev pub empty_hands : List InputConf → List Hand
-empty_hands confs = map (λ (conf : InputConf). empty_hand (kind_of conf.format)) confs
+empty_hands confs = map (λ (conf : InputConf). empty_hand (cut_of conf.format)) confs
 
 -- an input of which nothing was read, with its number, its source and its clock
 abbrev pub fresh_in : Config → ℕ → InputConf → Carried → Timed → InPart
 fresh_in config number conf source clock = record {
   input = number;
   rule = rule_by config conf;
-  hand = empty_hand (kind_of conf.format);
+  hand = empty_hand (cut_of conf.format);
   left = source.bytes;
   read_faults = source.faults;
   moments = clock.moments;

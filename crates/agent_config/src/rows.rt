@@ -1,11 +1,11 @@
 //! What stands at a key of a table, by the key's row.
-ghost use Rattle.std.specs.Prelude.{◌≡◌, IfOk, Some};
+ghost use Rattle.std.specs.Prelude.{◌≡◌, IfOk};
 ghost use Rattle.toml.specs.View.{table_view};
 ghost use Rattle.agent_config.specs.Kinds.{agent_number, number_at, row_of, text_at, time_at, truth_at};
-ghost use Rattle.agent_config.specs.Rows.{count_row, counted_or, is_counted, time_row, timed_or, usual_of};
+ghost use Rattle.agent_config.specs.Rows.{count_row, counted_or, is_counted, timed_or, usual_of};
 ghost use Rattle.agent_config.specs.Rows.{text_or, usual_text, usual_truth};
 
-use crate::shapes::{CountRow, Shape, TimeRow};
+use crate::shapes::{Shape, TimeRow};
 use crate::table::Keys;
 use crate::tables::value_at;
 use crate::times::time_in;
@@ -30,32 +30,12 @@ fn counted_or(number: Option<i64>, most: u32, other: u32) -> u32
     }
 }
 
-/// The row of a key that takes a number; None where it takes something else.
-fn count_row(keys: &Keys, key: &str) -> Option<CountRow>
-    ensures { result ≡ count_row (row_of keys.now key.now) }
-{
-    match keys.row_of(key) {
-        Some(shape) => count_in(&shape),
-        None => None,
-    }
-}
-
-/// The row of a number.
-fn count_in(shape: &Shape) -> Option<CountRow>
-    ensures { result ≡ count_row (Some shape.now) }
-{
-    match shape {
-        Shape::Count(row) => Some(*row),
-        _ => None,
-    }
-}
-
 /// The number at a key, or another where there is none that its row allows.
 #[tactic(auto, unfolding(crate::specs::Kinds::number_at))]
 pub(crate) fn number_at(keys: &Keys, table: &Table, key: &str, other: u32) -> u32
     ensures { result ≡ number_at keys.now key.now other (table_view table.now) }
 {
-    let Some(row) = count_row(keys, key) else {
+    let Some(Shape::Count(row)) = keys.row_of(key) else {
         return other;
     };
     match value_at(table, key) {
@@ -68,9 +48,9 @@ pub(crate) fn number_at(keys: &Keys, table: &Table, key: &str, other: u32) -> u3
 fn usual_number(key: &str) -> u32
     ensures { result ≡ usual_of (count_row (row_of Keys.Agent key.now)) }
 {
-    match count_row(&Keys::Agent, key) {
-        Some(row) => row.usual,
-        None => 0,
+    match Keys::Agent.row_of(key) {
+        Some(Shape::Count(row)) => row.usual,
+        _ => 0,
     }
 }
 
@@ -87,17 +67,7 @@ fn usual_truth(keys: &Keys, key: &str) -> bool
     ensures { result ≡ usual_truth (row_of keys.now key.now) }
 {
     match keys.row_of(key) {
-        Some(shape) => usual_truth_in(&shape),
-        None => false,
-    }
-}
-
-/// What a truth value of a row is where nothing is said.
-fn usual_truth_in(shape: &Shape) -> bool
-    ensures { result ≡ usual_truth (Some shape.now) }
-{
-    match shape {
-        Shape::Truth(usual) => *usual,
+        Some(Shape::Truth(usual)) => usual,
         _ => false,
     }
 }
@@ -119,19 +89,9 @@ fn usual_text(keys: &Keys, key: &str) -> &'static str
     ensures { result.now ≡ usual_text (row_of keys.now key.now) }
 {
     match keys.row_of(key) {
-        Some(shape) => usual_text_in(&shape),
-        None => "",
-    }
-}
-
-/// What a text of a row is where nothing is said.
-fn usual_text_in(shape: &Shape) -> &'static str
-    ensures { result.now ≡ usual_text (Some shape.now) }
-{
-    match shape {
-        Shape::Place(usual) => usual.text(),
-        Shape::AnyText(usual) => usual.text(),
-        Shape::OneOf(names) => names.usual(),
+        Some(Shape::Place(usual)) => usual.text(),
+        Some(Shape::AnyText(usual)) => usual.text(),
+        Some(Shape::OneOf(names)) => names.usual(),
         _ => "",
     }
 }
@@ -151,26 +111,6 @@ fn text_or<'a>(table: &'a Table, key: &str, other: &'a str) -> &'a str
     match value_at(table, key) {
         Some(value) => value.as_str().unwrap_or(other),
         None => other,
-    }
-}
-
-/// The row of a key that takes a time; None where it takes something else.
-fn time_row(keys: &Keys, key: &str) -> Option<TimeRow>
-    ensures { result ≡ time_row (row_of keys.now key.now) }
-{
-    match keys.row_of(key) {
-        Some(shape) => times_in(&shape),
-        None => None,
-    }
-}
-
-/// The row of a time.
-fn times_in(shape: &Shape) -> Option<TimeRow>
-    ensures { result ≡ time_row (Some shape.now) }
-{
-    match shape {
-        Shape::Time(row) => Some(*row),
-        _ => None,
     }
 }
 
@@ -194,7 +134,7 @@ pub(crate) fn time_at(
 ) -> Result<i64, OutOfMemory>
     ensures { IfOk result (λ time. time ≡ time_at keys.now key.now (table_view table.now)) }
 {
-    let Some(row) = time_row(keys, key) else {
+    let Some(Shape::Time(row)) = keys.row_of(key) else {
         return Ok(0);
     };
     let Some(value) = value_at(table, key) else {

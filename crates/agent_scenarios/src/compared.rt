@@ -1,7 +1,7 @@
 //! What a run left beside what is wanted of it.
-use crate::laid::is_gone;
-use crate::marks::{mark_of, text_about};
+use crate::laid::{Places, places_laid};
 use crate::told::ToldWorld;
+use crate::wanted::{Start, Wanted, WantedText, end_wanted, texts_wanted};
 use agent_base::MemWorld;
 use scenario_tables::Part;
 use std::alloc::{AllocError, Global};
@@ -51,89 +51,56 @@ fn reported(world: &ToldWorld) -> &[u8] {
 }
 
 /// What of a text stands where so many bytes are wanted.
-fn looked_at<'a>(text: &'a [u8], how: &str, len: usize) -> Result<&'a [u8], Fail> {
-    let start = match how {
-        "" => return Ok(text),
-        "begins" => 0,
-        "ends" => text.len().saturating_sub(len),
-        from => from.strip_prefix("from ").unwrap_or(from).parse::<usize>()?,
+fn looked_at(text: &[u8], start: Start, len: usize) -> &[u8] {
+    let start = match start {
+        Start::Whole => return text,
+        Start::Behind(start) => start,
+        Start::AtTheEnd => text.len().saturating_sub(len),
     };
     let rest = text.get(start..).unwrap_or(b"");
-    Ok(rest.get(..len).unwrap_or(rest))
+    rest.get(..len).unwrap_or(rest)
 }
 
-/// Compares a text with what one mark wants of it.
+/// Compares a text that a run left with what is wanted of it.
 fn compare_text(
     alloc: Global,
-    parts: &[Part<'_>],
-    about: &str,
-    how: &str,
-    text: &[u8],
-    differences: &mut Differences,
-) -> Result<(), Fail> {
-    if let Some(count) = how.strip_suffix(" bytes") {
-        let len = format!(in alloc; "{}", text.len())?;
-        differences.compare(about, count.as_bytes(), len.as_bytes())?;
-        return Ok(());
-    }
-    let wanted = text_about(alloc, parts, "wanted", about)?;
-    let is = looked_at(text, how, wanted.len())?;
-    differences.compare(about, wanted.as_slice(), is)?;
-    Ok(())
-}
-
-/// Compares what a run left with what one mark wants of it.
-fn compare_part(
-    alloc: Global,
-    parts: &[Part<'_>],
-    part: &Part<'_>,
+    wanted: &Wanted<'_>,
     world: &ToldWorld,
     differences: &mut Differences,
-) -> Result<(), Fail> {
-    let about = mark_of(part)?.about;
-    let (what, how) = about.split_once(' ').unwrap_or((about, ""));
-    match what {
-        "status" | "ending" => Ok(()),
-        "report" => compare_text(alloc, parts, about, how, reported(world), differences),
-        place => compare_text(
-            alloc,
-            parts,
-            about,
-            how,
-            held(&world.parts, place),
-            differences,
-        ),
+) -> Result<(), AllocError> {
+    let text = match wanted.place {
+        "report" => reported(world),
+        place => held(&world.parts, place),
+    };
+    match &wanted.text {
+        WantedText::Bytes(count) => {
+            let len = format!(in alloc; "{}", text.len())?;
+            differences.compare(wanted.name, count.as_bytes(), len.as_bytes())
+        }
+        WantedText::Text(start, bytes) => {
+            let is = looked_at(text, *start, bytes.len());
+            differences.compare(wanted.name, bytes.as_slice(), is)
+        }
     }
 }
 
-/// Whether each place that a mark lays has its part again.
-fn are_home(parts: &[Part<'_>], part: &Part<'_>, world: &MemWorld) -> Result<bool, Fail> {
-    match part.key {
-        "in" => {
-            let place = mark_of(part)?.about;
-            Ok(is_gone(parts, place) || world.has_in(place))
-        }
-        "out" => Ok(
-            part.value
-                .split(' ')
-                .all(|place| is_gone(parts, place) || world.has_out(place)),
-        ),
-        _ => Ok(true),
-    }
-}
-
-/// Compares how a run ended, in its words.
-fn compare_end(parts: &[Part<'_>], end: &str, differences: &mut Differences) -> Result<bool, Fail> {
-    for part in parts {
-        if part.key == "wanted" {
-            let (what, how) = part.value.split_once(' ').unwrap_or((part.value, ""));
-            if what == "status" || what == "ending" {
-                differences.compare(what, how.as_bytes(), end.as_bytes())?;
-                return Ok(how == end);
-            }
+/// Compares whether each part is back at its place.
+fn compare_home(
+    places: &Places<'_>,
+    world: &MemWorld,
+    differences: &mut Differences,
+) -> Result<(), AllocError> {
+    for place in &places.ins {
+        if !world.has_in(place) {
+            differences.compare(place, b"the part is back", b"the part is out")?;
         }
     }
-    Err(Fail::new("no wanted status or ending"))
+    for place in &places.outs {
+        if !world.has_out(place) {
+            differences.compare(place, b"the part is back", b"the part is out")?;
+        }
+    }
+    Ok(())
 }
 
 /// What a run left that is otherwise than its row wants it. Where the run ended otherwise, that alone is said.
@@ -147,16 +114,14 @@ pub fn compare(
         wanted: Vec::new(alloc),
         is: Vec::new(alloc),
     };
-    if !compare_end(parts, end, &mut differences)? {
+    let (what, how) = end_wanted(parts)?;
+    if how != end {
+        differences.compare(what, how.as_bytes(), end.as_bytes())?;
         return Ok(differences);
     }
-    for part in parts {
-        if part.key == "wanted" {
-            compare_part(alloc, parts, part, world, &mut differences)?;
-        }
-        if !are_home(parts, part, &world.parts)? {
-            differences.compare(part.value, b"each part is back", b"a part is out")?;
-        }
+    for wanted in &texts_wanted(alloc, parts)? {
+        compare_text(alloc, wanted, world, &mut differences)?;
     }
+    compare_home(&places_laid(alloc, parts)?, &world.parts, &mut differences)?;
     Ok(differences)
 }

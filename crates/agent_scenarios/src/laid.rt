@@ -36,8 +36,38 @@ pub fn sink_at(alloc: Global, parts: &[Part<'_>], place: &str) -> Result<MemSink
     Ok(MemSink::new(alloc, failing(alloc, parts, "puts", place)?))
 }
 
+/// The places at which a row lays parts.
+#[derive(Drop)]
+pub struct Places<'a> {
+    /// Those that are read.
+    pub ins: Vec<&'a str>,
+    /// Those that are written.
+    pub outs: Vec<&'a str>,
+}
+
+/// The places at which a row lays parts, but those that aren't there after all.
+pub fn places_laid<'a>(alloc: Global, parts: &[Part<'a>]) -> Result<Places<'a>, Fail> {
+    let (mut ins, mut outs) = (Vec::new(alloc), Vec::new(alloc));
+    for part in parts {
+        if part.key == "in" {
+            let place = mark_of(part)?.about;
+            if !is_gone(parts, place) {
+                ins.push(place)?;
+            }
+        }
+        if part.key == "out" {
+            for place in part.value.split(' ') {
+                if !is_gone(parts, place) {
+                    outs.push(place)?;
+                }
+            }
+        }
+    }
+    Ok(Places { ins, outs })
+}
+
 /// Whether a place isn't there after all.
-pub fn is_gone(parts: &[Part<'_>], place: &str) -> bool {
+fn is_gone(parts: &[Part<'_>], place: &str) -> bool {
     parts
         .iter()
         .any(|part| part.key == "gone" && part.value == place)

@@ -6,54 +6,19 @@
 mod compared;
 mod laid;
 mod marks;
+mod rows;
 mod run;
+mod to_run;
 mod told;
+mod wanted;
 
 use compared::compare;
 use laid::{Scene, lay};
+use rows::{Asked, TABLES, parts_of};
 use run::run_row;
-use scenario_tables::{Part, Row, Table, Tally};
-use std::alloc::Global;
+use scenario_tables::{Part, Table, Tally};
 use std::env;
 use std::test::Fail;
-
-/// The tables, each a file of the current folder.
-const TABLES: &str =
-    "pipes clocks rounds commands faults single_faults last_tries journals reports checks failed_checks runs \
-    run_faults settings formats parts";
-
-/// The name of the row whose parts each row of its table begins with.
-const EACH: &str = "in each row";
-
-/// What of a table is looked at: each row, or the one of this name, which may be laid alone.
-#[derive(Clone, Copy)]
-enum Asked<'a> {
-    All,
-    Run(&'a str),
-    Lay(&'a str),
-}
-
-impl Asked<'_> {
-    /// Whether the row of this name is looked at.
-    fn is_about(self, row: &str) -> bool {
-        match self {
-            Asked::All => row != EACH,
-            Asked::Run(name) | Asked::Lay(name) => row == name,
-        }
-    }
-}
-
-/// The parts of a row, behind those that each row begins with.
-fn parts_of<'a>(alloc: Global, rows: &[Row<'a>], row: &Row<'a>) -> Result<Vec<Part<'a>>, Fail> {
-    let mut parts = Vec::new(alloc);
-    if let Some(first) = rows.first() {
-        if first.name == EACH {
-            parts.extend_from_slice(first.parts.as_slice())?;
-        }
-    }
-    parts.extend_from_slice(row.parts.as_slice())?;
-    Ok(parts)
-}
 
 /// Looks at one row.
 fn look_at(

@@ -4,13 +4,12 @@ ghost use Rattle.std.specs.Prelude.{◌≡◌, All, IfOk, map};
 ghost use Rattle.agent_base.specs.Places.{AreHome};
 ghost use Rattle.agent_base.specs.Carried.{Timed};
 
-use crate::laid::{sink_at, source_at};
-use crate::marks::{failing, text_about};
+use crate::to_run::{config_of, opened_by, report_fails, words_of};
 use crate::told::ToldWorld;
-use agent_base::{Clock, MemClock, MemSink, MemSource, World};
-use agent_config::{Config, read_config};
+use agent_base::{Clock, MemClock, World};
+use agent_config::Config;
 use agent_run::{Status, agent};
-use agent_workers::{Clocks, Ending, Opened, run};
+use agent_workers::{Clocks, Ending, run};
 use scenario_tables::Part;
 use std::alloc::{AllocError, Global};
 use std::test::Fail;
@@ -20,24 +19,14 @@ pub fn run_row(alloc: Global, parts: &[Part<'_>], world: &mut ToldWorld) -> Resu
     requires ins { AreHome (⟦<ToldWorld as World>⟧.view world.old).ins }
     requires outs { AreHome (⟦<ToldWorld as World>⟧.view world.old).outs }
 {
-    match parts.iter().find(|part| part.key == "words") {
+    match words_of(alloc, parts)? {
         Some(words) => {
-            let words = words_of(alloc, words.value)?;
-            let is_told = !failing(alloc, parts, "puts", "report")?.is_empty();
+            let is_told = report_fails(alloc, parts)?;
             let status = status_of(alloc, words.as_slice(), is_told, world);
             Ok(format!(in alloc; "{}", status.code())?)
         }
         None => run_parts(alloc, parts, world),
     }
-}
-
-/// The words of a line.
-fn words_of(alloc: Global, line: &str) -> Result<Vec<String>, AllocError> {
-    let mut words = Vec::new(alloc);
-    for word in line.split_whitespace() {
-        words.push(String::from_str(alloc, word)?)?;
-    }
-    Ok(words)
 }
 
 /// Runs the command that the words are, over the world, or over its parts alone where its report doesn't fail.
@@ -54,8 +43,7 @@ fn status_of(alloc: Global, words: &[String], is_told: bool, world: &mut ToldWor
 
 /// Runs the configuration that stands at the place of `parts`, over the parts at the places that it names.
 fn run_parts(alloc: Global, parts: &[Part<'_>], world: &mut ToldWorld) -> Result<String, Fail> {
-    let text = text_about(alloc, parts, "in", "c")?;
-    let config = read_config(alloc, text.as_slice())?;
+    let config = config_of(alloc, parts)?;
     let opened = opened_by(alloc, parts, &config)?;
     let clocks = clocks_by(alloc, &config)?;
     if opened.inputs.len() != config.inputs.as_slice().len()
@@ -73,27 +61,6 @@ fn run_parts(alloc: Global, parts: &[Part<'_>], world: &mut ToldWorld) -> Result
         .parts
         .add_out(config.agent.journal.as_str(), left.journal)?;
     Ok(ending_words(alloc, &ran?)?)
-}
-
-/// The parts at the places that a configuration names.
-fn opened_by(
-    alloc: Global,
-    parts: &[Part<'_>],
-    config: &Config,
-) -> Result<Opened<MemSource, MemSink>, Fail> {
-    let mut inputs = Vec::new(alloc);
-    for input in config.inputs.as_slice() {
-        inputs.push(source_at(alloc, parts, input.place.as_str())?)?;
-    }
-    let mut outputs = Vec::new(alloc);
-    for output in config.outputs.as_slice() {
-        outputs.push(sink_at(alloc, parts, output.place.as_str())?)?;
-    }
-    Ok(Opened {
-        inputs,
-        outputs,
-        journal: sink_at(alloc, parts, config.agent.journal.as_str())?,
-    })
 }
 
 /// A clock without moments.

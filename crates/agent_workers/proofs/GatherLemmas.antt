@@ -13,7 +13,7 @@ use Rattle.pipeline_core.proofs.JournalPush.{has_ended-push}
 use Rattle.pipeline_core.specs.declared.gathering.Gathered.{Gathered}
 use Rattle.account.specs.Says.{GatherSays}
 use Rattle.account.specs.Gathers.{gathers_by, gathers}
-use Rattle.formats.specs.Reader.{InRule, kind_of}
+use Rattle.formats.specs.Reader.{InRule, cut_of}
 use Rattle.agent_workers.specs.Inputs.{says_of}
 use Rattle.agent_workers.specs.Input.{IsGroup, AreGroups, AreFull, AllFull, joined, Naming, Gathering, GatheredTo}
 
@@ -108,11 +108,11 @@ group_said rule g number reports group h = record { pieces = h.pieces; refused =
 -- ---- what Gathers name
 
 -- nothing was gathered
-pub naming_starts : (rule : InRule) (input : ℕ) (text : List ℕ) → Naming rule (gathers input []) text (to_come (empty_hand (kind_of rule.format)) text)
+pub naming_starts : (rule : InRule) (input : ℕ) (text : List ℕ) → Naming rule (gathers input []) text (to_come (empty_hand (cut_of rule.format)) text)
 unfolding gathers AreGroups joined
 naming_starts rule input text = record { groups = []; consecutive = refl; named = tt }
 
-pub gathering_starts : (rule : InRule) (input : ℕ) (text : List ℕ) → Gathering rule (gathers input []) text (to_come (empty_hand (kind_of rule.format)) text)
+pub gathering_starts : (rule : InRule) (input : ℕ) (text : List ℕ) → Gathering rule (gathers input []) text (to_come (empty_hand (cut_of rule.format)) text)
 unfolding gathers AreGroups joined AllFull naming_starts
 gathering_starts rule input text = record { naming = naming_starts rule input text; full = inl tt }
 

@@ -28,7 +28,7 @@ use Rattle.pipeline_core.specs.declared.gathering.Gathered.{Gathered}
 use Rattle.formats.specs.declared.reading.Group.{Group}
 use Rattle.formats.specs.declared.pieces.InState.{InState}
 use Rattle.formats.specs.declared.pieces.InState.TheVariants as states
-use Rattle.formats.specs.Reader.{InRule, kind_of, most_said, FitsGather}
+use Rattle.formats.specs.Reader.{InRule, cut_of, most_said, FitsGather}
 use Rattle.agent_workers.specs.Input.{IsGroup, AreGroups, Naming, Gathering, GatheredTo, Gathered as AreGathered, IsNextGroup, IsFull}
 use Rattle.agent_workers.specs.Inputs.{InPart, IsFresh, says_of, heard_of, is_ended, HoldsTooMany, HoldsNoEnd}
 use Rattle.formats.specs.Groups.{ReadsGroup}
@@ -352,7 +352,7 @@ none_gathered : (input : ℕ) → moments_of (gathers input []) ≡ []
 unfolding gathers
 none_gathered input = refl
 
-heard_new : (part : InPart) (input : ℕ) → part.hand ≡ empty_hand (kind_of part.rule.format) → part.place ≡ 0 → Heard part (record part { state = states.Reading; held = None }) input []
+heard_new : (part : InPart) (input : ℕ) → part.hand ≡ empty_hand (cut_of part.rule.format) → part.place ≡ 0 → Heard part (record part { state = states.Reading; held = None }) input []
 heard_new part input empty place = record {
   named = told_self part.left (λ xs ys. Gathering part.rule (gathers input []) xs (to_come part.hand ys)) (λ xs. rw empty (gathering_starts part.rule input xs));
   of_taken = told_names_start part.rule input part.hand part.left empty;

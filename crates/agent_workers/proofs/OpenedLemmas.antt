@@ -12,7 +12,7 @@ use Rattle.agent_config.specs.Sound.{IsSound}
 use Rattle.agent_config.specs.declared.config.Config.{Config}
 use Rattle.agent_config.specs.declared.config.InputConf.{InputConf}
 use Rattle.agent_config.specs.declared.config.OutputConf.{OutputConf}
-use Rattle.formats.specs.Reader.{kind_of}
+use Rattle.formats.specs.Reader.{cut_of}
 use Rattle.metric.specs.Metric.{IsFilledTag}
 use Rattle.agent_workers.specs.Finished.{FinishesSo, begun}
 use Rattle.agent_workers.specs.Inputs.{InPart, in_of, ins_of, in_at, IsSameInput, AreSameInputs, AreFresh, IsFresh, IsReadable}
@@ -205,8 +205,8 @@ out_is {K} told n confs job number conf sink sinks h a b c =
     ∙ ap (λ (x : K). fresh_out n (get_or confs n conf) (told x)) c
 
 -- what is in hand of the first input that is left, and of the others
-pub hands_first : (n : ℕ) (confs : List InputConf) (hands : List Hand) (conf : InputConf) (d : Hand) → n < length confs → conf ≡ get_or confs n conf → hands ≡ empty_hands (drop n confs) → get_or hands 0 d ≡ empty_hand (kind_of conf.format)
-hands_first n confs hands conf d b at e = ap (λ (hs : List Hand). get_or hs 0 d) (e ∙ ap empty_hands (drop_more confs n conf b)) ∙ ap (λ (x : InputConf). empty_hand (kind_of x.format)) (sym at)
+pub hands_first : (n : ℕ) (confs : List InputConf) (hands : List Hand) (conf : InputConf) (d : Hand) → n < length confs → conf ≡ get_or confs n conf → hands ≡ empty_hands (drop n confs) → get_or hands 0 d ≡ empty_hand (cut_of conf.format)
+hands_first n confs hands conf d b at e = ap (λ (hs : List Hand). get_or hs 0 d) (e ∙ ap empty_hands (drop_more confs n conf b)) ∙ ap (λ (x : InputConf). empty_hand (cut_of x.format)) (sym at)
 
 pub hands_left : (n : ℕ) (confs : List InputConf) (hands : List Hand) (conf : InputConf) → n < length confs → hands ≡ empty_hands (drop n confs) → remove hands 0 ≡ empty_hands (drop (n + 1) confs)
 hands_left n confs hands conf b e = ap (λ (hs : List Hand). remove hs 0) (e ∙ ap empty_hands (drop_more confs n conf b))

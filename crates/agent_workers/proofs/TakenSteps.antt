@@ -9,7 +9,7 @@ use Rattle.agent_base.proofs.FrontLemmas.{all_but_rest}
 use Rattle.agent_base.specs.Told.{Told}
 use Rattle.account.specs.Says.{GatherSays}
 use Rattle.account.specs.Gathers.{gathers}
-use Rattle.formats.specs.Reader.{InRule, kind_of}
+use Rattle.formats.specs.Reader.{InRule, cut_of}
 use Rattle.formats.specs.declared.reading.Group.{Group}
 use Rattle.agent_workers.specs.Input.{IsGroup, AreGroups, joined, Naming, NamesTaken, NamesSoFar}
 use Rattle.formats.specs.Groups.{Reads, TakesPieces}
@@ -19,10 +19,10 @@ use Rattle.agent_workers.proofs.GatherLemmas.{AreGroups-push, joined-push, namin
 -- ---- the start
 
 -- nothing was read or gathered
-names_start : (rule : InRule) (input : ℕ) (text : List ℕ) → NamesSoFar rule (gathers input []) (empty_hand (kind_of rule.format)) text text
+names_start : (rule : InRule) (input : ℕ) (text : List ℕ) → NamesSoFar rule (gathers input []) (empty_hand (cut_of rule.format)) text text
 names_start rule input text = record { taken = []; split = refl; named = inr (λ more. naming_starts rule input more) }
 
-pub told_names_start : (rule : InRule) (input : ℕ) (hand : Hand) (text : Option (List ℕ)) → hand ≡ empty_hand (kind_of rule.format) → Told text text (NamesSoFar rule (gathers input []) hand)
+pub told_names_start : (rule : InRule) (input : ℕ) (hand : Hand) (text : Option (List ℕ)) → hand ≡ empty_hand (cut_of rule.format) → Told text text (NamesSoFar rule (gathers input []) hand)
 told_names_start rule input hand text empty = told_self text (NamesSoFar rule (gathers input []) hand) (λ xs. rw empty (names_start rule input xs))
 
 -- ---- Gathers that name the same groups
@@ -116,11 +116,11 @@ names_all rule all read hand text left h whole = go h.named
 
 -- the named groups and the pieces that were read are all pieces of the bytes taken but that of their last line
 all_but : (rule : InRule) (all : List GatherSays) (read : List Cut) (hand : Hand) (text left : List ℕ) (h : NamesAll rule all read hand text left) → length (to_come hand []) ≤ 1 → length (to_come hand (10 ∷ [])) ≤ 1
-    → AreAllButRest (kind_of rule.format) h.taken (joined h.named.groups ++ read)
+    → AreAllButRest (cut_of rule.format) h.taken (joined h.named.groups ++ read)
 all_but rule all read hand text left h one line =
-    all_but_rest (kind_of rule.format) h.taken (joined h.named.groups ++ read) (to_come hand []) (h.named.consecutive ∙ sym (append_assoc (joined h.named.groups) read (to_come hand []))) one (go h.followed)
+    all_but_rest (cut_of rule.format) h.taken (joined h.named.groups ++ read) (to_come hand []) (h.named.consecutive ∙ sym (append_assoc (joined h.named.groups) read (to_come hand []))) one (go h.followed)
   where
-    go : (to_come hand [] ≡ []) ⊎ ((more : List ℕ) → Naming rule all (h.taken ++ more) (read ++ to_come hand more)) → (to_come hand [] ≡ []) ⊎ (length (cut (kind_of rule.format) (h.taken ++ 10 ∷ [])) ≤ length (joined h.named.groups ++ read) + 1)
+    go : (to_come hand [] ≡ []) ⊎ ((more : List ℕ) → Naming rule all (h.taken ++ more) (read ++ to_come hand more)) → (to_come hand [] ≡ []) ⊎ (length (cut (cut_of rule.format) (h.taken ++ 10 ∷ [])) ≤ length (joined h.named.groups ++ read) + 1)
     go (inl none) = inl none
     go (inr more) =
         let g = more (10 ∷ []) in
@@ -141,7 +141,7 @@ taken_of rule all hand text left one line h = record {
   split = h.split;
   groups = h.named.groups;
   named = h.named.named;
-  rest = subst (AreAllButRest (kind_of rule.format) h.taken) (append-nil (joined h.named.groups)) (all_but rule all [] hand text left h one line);
+  rest = subst (AreAllButRest (cut_of rule.format) h.taken) (append-nil (joined h.named.groups)) (all_but rule all [] hand text left h one line);
 }
 
 -- one Gather more, of any length
@@ -152,7 +152,7 @@ taken_more rule all group hand text left says is one line h = record {
   split = h.split;
   groups = h.named.groups ++ group ∷ [];
   named = AreGroups-push rule h.named.groups all group says h.named.named is;
-  rest = subst (AreAllButRest (kind_of rule.format) h.taken) (sym (joined-push h.named.groups group)) (all_but rule all group hand text left h one line);
+  rest = subst (AreAllButRest (cut_of rule.format) h.taken) (sym (joined-push h.named.groups group)) (all_but rule all group hand text left h one line);
 }
 
 -- ---- a group that was read, where the text of the source is told

@@ -11,7 +11,7 @@ use Rattle.account.specs.Says.{GatherSays}
 use Rattle.pipeline_core.specs.Legal.{has_ended, gathered_count}
 use Rattle.account.specs.Gathers.{gathers}
 use Rattle.agent_base.specs.Told.{Told}
-use Rattle.formats.specs.Reader.{InRule, reader_of, kind_of, is_refused, passed_over, filtered_of, kept_of}
+use Rattle.formats.specs.Reader.{InRule, reader_of, cut_of, is_refused, passed_over, filtered_of, kept_of}
 use Rattle.formats.specs.Reader.{capped, FitsGather}
 
 -- a Gather names a group of pieces: how many they are, how many of them are refused, how many samples of the
@@ -80,7 +80,7 @@ pub record NamesTaken (rule : InRule) (all : List GatherSays) (text left : List 
   pub split : text ≡ taken ++ left
   pub groups : List (List Cut)
   pub named : AreGroups rule groups all
-  pub rest : AreAllButRest (kind_of rule.format) taken (joined groups)
+  pub rest : AreAllButRest (cut_of rule.format) taken (joined groups)
 
 -- so far Gathers name groups of the bytes that were taken of a text, whatever follows them; or nothing is left
 -- and no piece is to come

@@ -13,7 +13,7 @@ use Rattle.agent_base.specs.Told.{Told}
 use Rattle.agent_base.specs.declared.piece.CutKind.TheVariants.{Lines}
 use Rattle.metric.specs.Metric.{IsFilledTag}
 use Rattle.pipeline_core.specs.declared.gathering.Gathered.{Gathered}
-use Rattle.formats.specs.Reader.{InRule, in_rule, plain_rule, kind_of, FitsGather}
+use Rattle.formats.specs.Reader.{InRule, in_rule, plain_rule, cut_of, FitsGather}
 use Rattle.agent_workers.specs.declared.input.InJob.{InJob}
 use Rattle.formats.specs.declared.pieces.InState.{InState}
 use Rattle.formats.specs.declared.pieces.InState.TheVariants as states
@@ -124,7 +124,7 @@ HoldsOwn part = IfSome part.held (λ g. (g.input ≡ part.input) × FitsGather p
 
 -- the bytes in hand of an input are cut as its format is
 abbrev pub IsCutBy : InPart → Type 0
-IsCutBy part = part.hand.kind ≡ kind_of part.rule.format
+IsCutBy part = part.hand.kind ≡ cut_of part.rule.format
 
 -- an input can be read: a gather has a piece, and no tag that is added is empty
 pub record IsReadable (rule : InRule) : Type 0 where
@@ -185,7 +185,7 @@ IsOneIn state ins is = IsOneOf state (length ins) (λ input. (in_at ins input).s
 
 -- nothing was read of an input, which can be read
 pub record IsFresh (part : InPart) : Type 0 where
-  pub hand : part.hand ≡ empty_hand (kind_of part.rule.format)
+  pub hand : part.hand ≡ empty_hand (cut_of part.rule.format)
   pub place : part.place ≡ 0
   pub none_held : part.held ≡ None
   pub reading : part.state ≡ states.Reading

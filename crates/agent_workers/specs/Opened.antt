@@ -10,7 +10,7 @@ use Rattle.pipeline_core.specs.CoreState.{CoreState}
 use Rattle.pipeline_core.specs.Stands.{Stands}
 use Rattle.pipeline_core.specs.declared.setup.InSetup.{InSetup}
 use Rattle.pipeline_core.specs.declared.setup.OutSetup.{OutSetup}
-use Rattle.formats.specs.Reader.{kind_of}
+use Rattle.formats.specs.Reader.{cut_of}
 use Rattle.formats.specs.declared.pieces.InState.TheVariants as states
 use Rattle.agent_workers.specs.Finished.{IsSetUp}
 use Rattle.agent_workers.specs.Inputs.{InPart}
@@ -64,14 +64,14 @@ pub record HasRoom {S K C : Type 0} (parts : Parts S K C) : Type 0 where
 
 -- what is in hand of inputs of which nothing was read
 abbrev pub empty_hands : List InputConf → List Hand
-empty_hands confs = map (λ (conf : InputConf). empty_hand (kind_of conf.format)) confs
+empty_hands confs = map (λ (conf : InputConf). empty_hand (cut_of conf.format)) confs
 
 -- an input of which nothing was read, with its number, its source and its clock
 abbrev pub fresh_in : Config → ℕ → InputConf → Carried → Timed → InPart
 fresh_in config number conf source clock = record {
   input = number;
   rule = rule_by config conf;
-  hand = empty_hand (kind_of conf.format);
+  hand = empty_hand (cut_of conf.format);
   left = source.bytes;
   read_faults = source.faults;
   moments = clock.moments;

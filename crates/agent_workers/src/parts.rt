@@ -10,7 +10,7 @@ ghost use Rattle.agent_workers.specs.Opened.{fresh_in, fresh_ins, fresh_out, fre
 ghost use Rattle.agent_workers.specs.Opened.{AreFor, HasRoom, IsMadeOf, IsNewCore};
 ghost use Rattle.agent_workers.specs.Output.{out_of, outs_of};
 ghost use Rattle.agent_workers.specs.RunState.{state_of};
-ghost use Rattle.formats.specs.Reader.{kind_of};
+ghost use Rattle.formats.specs.Reader.{cut_of};
 
 use crate::input::InJob;
 use crate::item::ProcJob;
@@ -20,7 +20,7 @@ use crate::setup::{journal_setup, new_core};
 use agent_base::{Clock, Pieces, Sink, Source};
 use agent_config::{Config, InputConf, OutputConf};
 use fixed_num::{Moment, OutOfMemory};
-use formats::{InState, kind_of};
+use formats::{InState, cut_of};
 use journal_text::JournalSetup;
 use pipeline_core::Core;
 use std::alloc::Global;
@@ -91,7 +91,7 @@ fn empty_pieces(alloc: Global, confs: &[InputConf]) -> Result<Vec<Pieces>, OutOf
 {
     let mut pieces = Vec::with_capacity(alloc, confs.len())?;
     for conf in confs {
-        pieces.push(Pieces::new(alloc, kind_of(&conf.format))?)?;
+        pieces.push(Pieces::new(alloc, cut_of(&conf.format))?)?;
     }
     Ok(pieces)
 }
@@ -133,7 +133,7 @@ fn in_job<'a, S: Source + Drop, C: Clock + Drop>(
     clock: C,
 ) -> InJob<'a, S, C>
     requires few { input < 2 ^ 32 }
-    requires none_read { pieces ≡ empty_hand (kind_of conf.now.format) }
+    requires none_read { pieces ≡ empty_hand (cut_of conf.now.format) }
     ensures { in_of S.told C.told result
         ≡ fresh_in config.now input conf.now (S.told source) (C.told clock) }
 {

@@ -1,6 +1,6 @@
 //! Numbers with nine decimals.
 ghost use Rattle.std.specs.Prelude.{◌≡◌, ◌<◌, ◌+◌, ◌++◌, length, vec_len, vec_capacity, OnOk, OnErr, SomeIff};
-ghost use Rattle.std.specs.Prelude.{pos};
+ghost use Rattle.std.specs.Prelude.{pos, ◌+ℤ◌};
 ghost use Rattle.fixed_num.specs.Quotient.{is_negative, divided};
 ghost use Rattle.fixed_num.specs.Range.{InRange};
 
@@ -127,6 +127,13 @@ impl Fixed {
         Some(Fixed {
             billionths: if negative { -value } else { value },
         })
+    }
+
+    /// The sum of the number and another. None exactly where it is out of range.
+    pub fn add(self, other: Fixed) -> Option<Fixed>
+        ensures { SomeIff result (InRange (self +ℤ other)) (self +ℤ other) }
+    {
+        Fixed::of_billionths(self.billionths + other.billionths)
     }
 
     /// Appends the canonical text: `-` where the number is negative, the whole digits without leading zeros

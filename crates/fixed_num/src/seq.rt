@@ -1,5 +1,6 @@
 //! A vector that contracts see as its list.
 ghost use Rattle.std.specs.Prelude.{◌≡◌, ◌≤◌, ◌<◌, [], ◌∷◌, ◌++◌, length, insert, slice_set};
+ghost use Rattle.std.specs.List.{remove};
 ghost use Rattle.std.specs.Prelude.{IfOk, IfErr, IsTrue, OnErr, OnOk, vec_capacity};
 ghost use Rattle.std.specs.Cmp.Lexicographic.{pointwise, lists_per, lists_equiv, slice_cmp};
 ghost use Rattle.std.specs.Cmp.Lexicographic.{slice_partial_cmp, lists_agrees, lists_total, lists_ties};
@@ -79,7 +80,7 @@ impl<T: Drop> Seq<T> {
     {
         if let Kept::Many(items) = &mut self.kept {
             if items.capacity() > 0 {
-                items.insert(at, item)?;
+                put_at(items, at, item)?;
                 return Ok(());
             }
         }
@@ -114,6 +115,14 @@ impl<T: Drop> Seq<T> {
             Kept::One(one) => one[0] = item,
             Kept::Many(items) => items[at] = item,
         }
+    }
+
+    /// Takes an element out; those behind it move up.
+    pub fn remove(&mut self, alloc: Global, at: usize)
+        requires { at < length self.old }
+        ensures { self.new ≡ remove self.old at }
+    {
+        take_out(&mut self.kept, alloc, at);
     }
 
     /// The elements, in order. A single one in place takes memory.
@@ -179,6 +188,35 @@ fn take_all<T: Drop>(kept: &mut Kept<T>, alloc: Global) -> Result<Vec<T>, OutOfM
                 Err(OutOfMemory)
             }
         },
+    }
+}
+
+/// One more element of a vector, at a place. Most come behind the others.
+#[inline(always)]
+fn put_at<T: Drop>(items: &mut Vec<T>, at: usize, item: T) -> Result<(), OutOfMemory>
+    requires { at ≤ length items.old.items }
+    ensures ok { OnOk result (items.new.items ≡ insert items.old.items at item) }
+    ensures err { OnErr result (items.new.items ≡ items.old.items) }
+{
+    if at == items.len() {
+        items.push(item)?;
+    } else {
+        items.insert(at, item)?;
+    }
+    Ok(())
+}
+
+/// Takes an element out.
+fn take_out<T: Drop>(kept: &mut Kept<T>, alloc: Global, at: usize)
+    requires { at < length (kept_items kept.old) }
+    ensures { kept_items kept.new ≡ remove (kept_items kept.old) at }
+{
+    match mem::replace(kept, Kept::Many(Vec::new(alloc))) {
+        Kept::One([_only]) => {}
+        Kept::Many(mut items) => {
+            items.remove(at);
+            *kept = Kept::Many(items);
+        }
     }
 }
 

@@ -1,8 +1,9 @@
 -- Groups with one piece more.
 use Rattle.std.proofs.Common.{◌≡◌, ◌<◌, ◌+◌, ◌⊎◌, ℕ, suc, ℤ, cond, List, [], ◌∷◌, ◌++◌, refl, sym, ap, subst, inl, inr, ◌∙◌, arith, append_assoc, append-nil, length-append}
-use Rattle.std.specs.Prelude.{count_by, ◌≤◌, ◌*◌, length}
+use Rattle.std.specs.Prelude.{count_by, ◌≤◌, ◌*◌, ◌/◌, length, IfOk, Result, Ok, Err}
 use Rattle.std.specs.List.{flat_map, sum_by, cons_option, AllByRecursion}
-use Rattle.std.proofs.Math.Nat.{suc-mul}
+use Rattle.std.specs.Option.{option_to_list}
+use Rattle.std.proofs.Math.Nat.{suc-mul, div-mul-le_self}
 use Rattle.std.specs.declared.option.Option.{Option}
 use Rattle.std.specs.declared.option.Option.TheVariants.{Some, None}
 use Rattle.std.proofs.lemmas.Int.{to_z-of_z}
@@ -11,15 +12,25 @@ use mir.Val.{SFits, of_z, to_z}
 use Rattle.std.proofs.lemmas.List.Sums.{sum_by-append}
 use Rattle.std.proofs.lemmas.Grind.{flat_map-append}
 use Rattle.metric.specs.declared.metric.Content.{Content}
-use Rattle.agent_base.specs.Cut.{Cut, TooLong, Whole}
+use Rattle.agent_base.specs.Cut.{Cut, TooLong, Whole, most_bytes}
 use Rattle.agent_base.specs.Hand.{Hand, to_come}
 use Rattle.agent_base.specs.Taken.{IsSpent}
 use Rattle.agent_base.specs.Told.{Told}
 use Rattle.formats.specs.declared.reading.Group.{Group}
 use Rattle.formats.specs.declared.pieces.InState.{InState}
 use Rattle.formats.specs.declared.pieces.InState.TheVariants as states
-use Rattle.formats.specs.Reader.{InRule, is_refused, passed_over, filtered_of, kept_of, kept, keeps, capped, metrics_of, say_in, most_said}
-use Rattle.formats.proofs.MostLemmas.{says_most}
+use Rattle.formats.specs.Reader.{InRule, is_refused, passed_over, filtered_of, kept_of, kept, keeps, capped, metrics_of, line_says, parts_say, exposition_says, say_in, cut_of, most_said}
+use Rattle.format_words.specs.declared.format.InFormat.{InFormat}
+use Rattle.format_words.specs.declared.format.InFormat.TheVariants.{Influx, Statsd, Graphite, Openmetrics}
+use Rattle.openmetrics_text.specs.declared.exposition.Exposition.{Exposition}
+use Rattle.line_proto.specs.Reading as influx
+use Rattle.statsd_text.specs.Reading as statsd
+use Rattle.graphite_text.specs.Reading as graphite
+use Rattle.openmetrics_text.specs.Reading as openmetrics
+use Rattle.line_proto.proofs.MostLemmas as line_most
+use Rattle.statsd_text.proofs.MostLemmas as parts_most
+use Rattle.graphite_text.proofs.MostLemmas as graphite_most
+use Rattle.openmetrics_text.proofs.MostLemmas as exposition_most
 use Rattle.std.proofs.lemmas.List.Concat.{flat_map-cons, length-flat_map}
 use Rattle.formats.specs.Groups.{IsShort, TakesPieces, ReadsPiece, ReadsNone, ReadsNext, IsAllRead, Reads, ReadsGroup}
 
@@ -108,9 +119,30 @@ kept_fewer : (rule : InRule) (metrics : List Content) → length (kept rule metr
 kept_fewer rule [] = omega arith
 kept_fewer rule (metric ∷ metrics) = one_more (keeps rule metric) (kept rule metrics) (length metrics) (kept_fewer rule metrics)
 
+-- what a reading says, of which the law of its format is known
+line_few : {F : Type 0} (r : Result (Option Content) F) → IfOk r (λ metric. length (option_to_list metric) ≤ 1) → length (metrics_of (line_says r)) ≤ 1
+line_few (Ok None) h = h
+line_few (Ok (Some metric)) h = h
+line_few (Err fault) h = omega arith
+
+parts_few : {F : Type 0} (r : Result (List Content) F) (size : ℕ) → size ≤ 65536 → IfOk r (λ metrics. length metrics ≤ size / 3) → length (metrics_of (parts_say r)) ≤ 21845
+parts_few (Ok metrics) size short h = omega (arith, short, h, div-mul-le_self size 3)
+parts_few (Err fault) size short h = omega arith
+
+exposition_few : {F : Type 0} (r : Result Exposition F) (size : ℕ) → size ≤ 4194304 → IfOk r (λ exposition. length exposition.metrics ≤ size / 4) → length (metrics_of (exposition_says r)) ≤ 1048576
+exposition_few (Ok exposition) size short h = omega (arith, short, h, div-mul-le_self size 4)
+exposition_few (Err fault) size short h = omega arith
+
+-- a piece of any format
+says_few : (format : InFormat) (moment : ℤ) (piece : List ℕ) → length piece ≤ most_bytes (cut_of format) → length (metrics_of (say_in format moment piece)) ≤ most_said format
+says_few Influx moment piece short = line_few (influx.reading piece moment) (line_most.says_at_most piece moment)
+says_few Statsd moment piece short = parts_few (statsd.reading piece moment) (length piece) short (parts_most.says_at_most piece moment)
+says_few (Graphite templates separator) moment piece short = line_few (graphite.reading templates separator piece moment) (graphite_most.says_at_most templates separator piece moment)
+says_few (Openmetrics type_tag) moment piece short = exposition_few (openmetrics.reading piece moment type_tag) (length piece) short (exposition_most.says_at_most piece moment type_tag)
+
 few_of : (rule : InRule) (moment : ℤ) (piece : Cut) → IsShort rule piece → length (kept_of rule moment piece) ≤ most_said rule.format
 few_of rule moment TooLong short = omega arith
-few_of rule moment (Whole piece) short = omega (arith, kept_fewer rule (metrics_of (say_in rule.format moment piece)), says_most rule.format moment piece short)
+few_of rule moment (Whole piece) short = omega (arith, kept_fewer rule (metrics_of (say_in rule.format moment piece)), says_few rule.format moment piece short)
 
 -- at most as many metrics are kept of pieces as they may say
 pub few_kept : (rule : InRule) (moment : ℤ) (pieces : List Cut) → AllByRecursion (IsShort rule) pieces → length (flat_map (kept_of rule moment) pieces) ≤ length pieces * most_said rule.format

@@ -1,16 +1,17 @@
 -- What the next pieces of an input say, and which pieces of its text they are.
-use Rattle.std.specs.Prelude.{◌≡◌, ◌≤◌, ◌⊎◌, ℕ, ℤ, ◌+◌, List, [], ◌∷◌, ◌++◌}
+use Rattle.std.specs.Prelude.{◌≡◌, ◌<◌, ◌≤◌, ◌⊎◌, ℕ, ℤ, ◌+◌, ◌^◌, List, [], ◌∷◌, ◌++◌}
 use Rattle.std.specs.Prelude.{length, count_by, if◌then◌else◌}
 use Rattle.std.specs.List.{flat_map, sum_by, AllByRecursion}
 use Rattle.std.specs.declared.option.Option.{Option}
 use Rattle.agent_base.specs.Cut.{Cut, TooLong, Whole, most_bytes}
+use Rattle.agent_base.specs.Counts.{Rose}
 use Rattle.agent_base.specs.Hand.{Hand, to_come}
 use Rattle.agent_base.specs.Taken.{IsSpent}
 use Rattle.agent_base.specs.Told.{Told}
 use Rattle.formats.specs.declared.reading.Group.{Group}
 use Rattle.formats.specs.declared.pieces.InState.{InState}
 use Rattle.formats.specs.declared.pieces.InState.TheVariants as states
-use Rattle.formats.specs.Reader.{InRule, PieceSays, says, kind_of, is_refusal, metrics_of, passed_of, kept}
+use Rattle.formats.specs.Reader.{InRule, PieceSays, says, cut_of, is_refusal, metrics_of, passed_of, kept}
 use Rattle.formats.specs.Reader.{filtered_out, is_refused, passed_over, filtered_of, kept_of, capped}
 
 -- what a piece says is counted: that it is refused; or the samples that are passed over, what is kept of its
@@ -29,7 +30,7 @@ pub record CountsPiece (rule : InRule) (moment : ℤ) (piece : Cut) (old new : G
 -- a piece that isn't too long has at most as many bytes as its kind allows
 abbrev pub IsShort : InRule → Cut → Type 0
 IsShort rule TooLong = Unit {0}
-IsShort rule (Whole piece) = length piece ≤ most_bytes (kind_of rule.format)
+IsShort rule (Whole piece) = length piece ≤ most_bytes (cut_of rule.format)
 
 -- bytes were taken of those that were left, and these pieces are the first to come whatever stands behind the
 -- bytes taken; or nothing is left and no piece is to come
@@ -65,6 +66,16 @@ ReadsNext rule states.Faulted moment old new before after left_before left_after
     left_before left_after
 ReadsNext rule states.LimitReached moment old new before after left_before left_after = ReadsNone old new before
     after left_before left_after
+
+-- what is known by whether the input is read on: after a failed read the count of faults rose, and of the bytes that were
+-- taken one piece at most is to come, though a newline follows; where a limit was reached all bytes were taken that an
+-- input may have, else fewer
+pub record KnownBy (state : InState) (after : Hand) (faults_before faults_after : ℕ) : Type 0 where
+  pub failed : state ≡ states.Faulted → Rose faults_before faults_after
+  pub one : state ≡ states.Faulted → length (to_come after []) ≤ 1
+  pub line : state ≡ states.Faulted → length (to_come after (10 ∷ [])) ≤ 1
+  pub limit : state ≡ states.LimitReached → after.taken ≡ 2 ^ 40
+  pub below : (state ≡ states.LimitReached → ⊥) → after.taken < 2 ^ 40
 
 -- no piece is to come
 abbrev pub IsAllRead : Option (List ℕ) → Option (List ℕ) → Hand → Type 0

@@ -9,10 +9,14 @@ use Rattle.agent_base.specs.declared.piece.CutKind.{CutKind}
 use Rattle.agent_base.specs.declared.piece.CutKind.TheVariants.{Lines, Expositions}
 use Rattle.format_words.specs.declared.format.InFormat.{InFormat}
 use Rattle.format_words.specs.declared.format.InFormat.TheVariants.{Influx, Statsd, Graphite, Openmetrics}
+use Rattle.graphite_text.specs.Grammar as graphite_most
 use Rattle.graphite_text.specs.Reading as graphite
+use Rattle.line_proto.specs.Grammar as line_most
 use Rattle.line_proto.specs.Reading.{reading}
+use Rattle.openmetrics_text.specs.Grammar as exposition_most
 use Rattle.openmetrics_text.specs.Reading as openmetrics
 use Rattle.openmetrics_text.specs.declared.exposition.Exposition.{Exposition}
+use Rattle.statsd_text.specs.Grammar as parts_most
 use Rattle.statsd_text.specs.Reading as statsd
 use Rattle.metric.specs.Pairs.{with_all_missing}
 use Rattle.metric.specs.declared.metric.Content.{Content}
@@ -54,24 +58,23 @@ say_in (Graphite templates separator) moment piece = line_says (graphite.reading
 say_in (Openmetrics type_tag) moment piece = exposition_says (openmetrics.reading piece moment type_tag)
 
 -- how the text of an input is cut: into expositions in OpenMetrics, else into lines
-abbrev pub kind_of : InFormat → CutKind
-kind_of Influx = Lines
-kind_of Statsd = Lines
-kind_of (Graphite templates separator) = Lines
-kind_of (Openmetrics type_tag) = Expositions
+abbrev pub cut_of : InFormat → CutKind
+cut_of Influx = Lines
+cut_of Statsd = Lines
+cut_of (Graphite templates separator) = Lines
+cut_of (Openmetrics type_tag) = Expositions
 
 -- the reader of a format
 abbrev pub reader_of : InFormat → Reader
-reader_of format = record { cut = lines.cut (kind_of format); say = say_in format }
+reader_of format = record { cut = lines.cut (cut_of format); say = say_in format }
 
--- how many metrics a piece says at most: one; but in StatsD one for each 3 bytes of the longest line, since a part
--- has its colon, a bar and a type; and in OpenMetrics one for each 4 bytes of the longest exposition, since a sample
--- has a name, a space, a number and its newline
+-- how many metrics a piece says at most: what is so in its format, of the longest line or the longest exposition. In
+-- line protocol and Graphite that is 1, in StatsD 21,845, in OpenMetrics 1,048,576
 abbrev pub most_said : InFormat → ℕ
-most_said Influx = 1
-most_said Statsd = 21845
-most_said (Graphite templates separator) = 1
-most_said (Openmetrics type_tag) = 1048576
+most_said Influx = line_most.most_said
+most_said Statsd = parts_most.most_said (lines.most_bytes Lines)
+most_said (Graphite templates separator) = graphite_most.most_said
+most_said (Openmetrics type_tag) = exposition_most.most_said (lines.most_bytes Expositions)
 
 -- by what rule an input is read: its format, the tags that each metric gets that lacks them, what is kept of a
 -- metric, and how many pieces a gather has at most

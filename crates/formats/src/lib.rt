@@ -5,6 +5,6 @@ mod pieces;
 mod reading;
 mod writing;
 
-pub use pieces::{InState, kind_of, read_group};
+pub use pieces::{InState, cut_of, read_group};
 pub use reading::{Group, ReadRule};
 pub use writing::write_batch;

@@ -4,8 +4,8 @@ ghost use Rattle.agent_base.specs.Hand.{to_come};
 ghost use Rattle.agent_base.specs.Told.{Told};
 ghost use Rattle.agent_base.specs.Counts.{Rose};
 ghost use Rattle.metric.specs.Metric.{IsFilledTag};
-ghost use Rattle.formats.specs.Groups.{IsAllRead, ReadsGroup, ReadsNext};
-ghost use Rattle.formats.specs.Reader.{kind_of, rule_view};
+ghost use Rattle.formats.specs.Groups.{IsAllRead, KnownBy, ReadsGroup, ReadsNext};
+ghost use Rattle.formats.specs.Reader.{cut_of, rule_view};
 
 use crate::reading::{Group, ReadRule};
 use agent_base::{CutKind, PieceFault, Pieces, Source};
@@ -27,8 +27,8 @@ pub enum InState {
 }
 
 /// How the text of an input is cut.
-pub fn kind_of(format: &InFormat) -> CutKind
-    ensures { result ≡ kind_of format.now }
+pub fn cut_of(format: &InFormat) -> CutKind
+    ensures { result ≡ cut_of format.now }
 {
     match format {
         InFormat::Influx => CutKind::Lines,
@@ -51,19 +51,14 @@ fn read_next<S: Source>(
     requires few { group.old.pieces < 2 ^ 32 - 1 }
     requires some { group.old.refused ≤ group.old.pieces }
     requires filled { All IsFilledTag rule.now.globals.now }
-    requires cut_by { pieces.old.kind ≡ kind_of rule.now.format.now }
+    requires cut_by { pieces.old.kind ≡ cut_of rule.now.format.now }
     ensures next { IfOk result
         (λ state. ReadsNext (rule_view rule.now) state moment group.old group.new pieces.old pieces.new
         (S.told source.old).bytes (S.told source.new).bytes) }
     ensures all { IfOk result (λ state. state ≡ InState.Ended
         → IsAllRead (S.told source.old).bytes (S.told source.new).bytes pieces.new) }
-    ensures failed { IfOk result (λ state. state ≡ InState.Faulted
-        → Rose (S.told source.old).faults (S.told source.new).faults) }
-    ensures limit { IfOk result (λ state. state ≡ InState.LimitReached → pieces.new.taken ≡ 2 ^ 40) }
-    ensures below { IfOk result (λ state. (state ≡ InState.LimitReached → ⊥) → pieces.new.taken < 2 ^ 40) }
-    ensures one { IfOk result (λ state. state ≡ InState.Faulted → length (to_come pieces.new []) ≤ 1) }
-    ensures line { IfOk result (λ state. state ≡ InState.Faulted
-        → length (to_come pieces.new (10 ∷ [])) ≤ 1) }
+    ensures known { IfOk result
+        (λ state. KnownBy state pieces.new (S.told source.old).faults (S.told source.new).faults) }
     ensures counted { Told (S.told source.old).bytes (S.told source.new).bytes
         (λ xs ys. pieces.old.taken + length xs ≡ pieces.new.taken + length ys) }
     ensures faults { (S.told source.old).faults ≤ (S.told source.new).faults }
@@ -102,7 +97,7 @@ pub fn read_group<S: Source>(
 ) -> Result<(Group, InState), OutOfMemory>
     requires some { 1 ≤ rule.now.most }
     requires filled { All IsFilledTag rule.now.globals.now }
-    requires cut_by { pieces.old.kind ≡ kind_of rule.now.format.now }
+    requires cut_by { pieces.old.kind ≡ cut_of rule.now.format.now }
     ensures reads { IfOk result
         (λ answer. ReadsGroup (rule_view rule.now) moment answer.0 answer.1 pieces.old pieces.new (S.told source.old).bytes
         (S.told source.new).bytes) }

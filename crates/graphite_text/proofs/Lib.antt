@@ -8,3 +8,4 @@ pub mod Writtens
 pub mod Bytes
 pub mod Back
 pub mod Telling
+pub mod MostLemmas

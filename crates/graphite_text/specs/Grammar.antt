@@ -1,8 +1,9 @@
 -- Lines as they are written.
 use Rattle.std.specs.Prelude.{◌≡◌, ◌⊎◌, ℕ, ℤ, Bool, true, false, List, [], ◌∷◌, ◌++◌, length, map}
 use Rattle.std.specs.Prelude.{flat_map, nat_lt}
-use Rattle.std.specs.Prelude.{Option, Some, None, Ok}
+use Rattle.std.specs.Prelude.{Option, Some, None, Ok, ◌≤◌, IfOk}
 use Rattle.std.specs.List.{AllByRecursion}
+use Rattle.std.specs.Option.{option_to_list}
 use Rattle.std.specs.Str.{IsUtf8}
 use Rattle.text_parts.specs.Grammar.{HasNone}
 use Rattle.text_parts.specs.Pairs.{pair_text}
@@ -99,3 +100,14 @@ ReadIsWritten = (templates : List Shape) (separator piece : List ℕ) (moment : 
     × IsLine w moment value time
     × (has_too_many (said_in templates separator w value time) ≡ false)
     × (metric ≡ content_of (said_in templates separator w value time))
+
+-- ---- how many metrics are said
+
+-- one
+abbrev pub most_said : ℕ
+most_said = 1
+
+-- no piece says more
+abbrev pub SaysAtMost : Type 0
+SaysAtMost = (templates : List Shape) (separator piece : List ℕ) (moment : ℤ)
+    → IfOk (reading templates separator piece moment) (λ metric. length (option_to_list metric) ≤ most_said)

@@ -1,9 +1,9 @@
 //! The metric that a template makes of a path, a value and a time.
-ghost use Rattle.std.specs.Prelude.{◌≡◌, ◌<◌, ◌++◌, List, [], ◌∷◌, length, map, flat_map, take, option_map};
+ghost use Rattle.std.specs.Prelude.{◌≡◌, ◌<◌, ◌++◌, List, [], ◌∷◌, map, option_map};
 ghost use Rattle.std.specs.Prelude.{IfOk, ℕ, ℤ, None};
 ghost use Rattle.std.specs.List.{find, AllByRecursion};
 ghost use Rattle.text_parts.specs.Chain.{Gives};
-ghost use Rattle.metric.specs.Draft.{Tag, Field, StandsFor, IsReady};
+ghost use Rattle.metric.specs.Draft.{Tag, StandsFor, IsReady};
 ghost use Rattle.format_words.specs.Serving.{serves};
 ghost use Rattle.graphite_text.specs.Applied.{tags_at, collected_tags, used};
 ghost use Rattle.format_words.specs.Segments.{AreKeyed};
@@ -13,7 +13,7 @@ ghost use Rattle.format_words.specs.Template.{IsNamed};
 ghost use Rattle.format_words.specs.Views.{now_of, tag_view};
 ghost use Rattle.graphite_text.specs.Views.{path_view};
 
-use crate::collected::{key_of, name_of, tag_value};
+use crate::collected::{Wanted, text_of};
 use crate::fault::{GraphiteFault, GraphiteKind, fault};
 use crate::path::Path;
 use fixed_num::{Fixed, Moment, OutOfMemory};
@@ -65,7 +65,8 @@ fn put_part(
         (given ++ tags_at separator.now parts.now (map now_of segments.now) part.now) []) }
 {
     if let TemplatePart::Tag(key) = part {
-        let value = tag_value(alloc, separator, key.as_str(), parts, segments)?;
+        let wanted = Wanted::TagOf(key.as_str());
+        let value = text_of(alloc, separator, &wanted, parts, segments)?;
         draft.tag(key.as_str(), value.as_str())?;
     }
     Ok(())
@@ -115,28 +116,35 @@ fn finish(draft: Draft, time: Moment) -> Result<Option<Metric>, ReadError<Graphi
     }
 }
 
+/// What a template makes metrics of: its parts, and its own tags.
+#[derive(Clone, Copy)]
+struct Naming<'a> {
+    parts: &'a [TemplatePart],
+    tags: &'a [(Text, Text)],
+}
+
 /// What a template's parts and its own tags make of a path, a value and a time.
 fn applied(
     alloc: Global,
-    parts: &[TemplatePart],
-    tags: &[(Text, Text)],
+    naming: &Naming,
     separator: &str,
     path: &Path,
     value: Fixed,
     time: Moment,
 ) -> Result<Option<Metric>, ReadError<GraphiteFault>>
-    requires named { AllByRecursion IsNamed parts.now }
-    requires keyed { AreKeyed tags.now }
+    requires named { AllByRecursion IsNamed naming.now.parts.now }
+    requires keyed { AreKeyed naming.now.tags.now }
     requires path { IsPath (path_view path.now) }
     ensures { Gives (λ x. x) result (limited (said_of separator.now
-        (record { filter = None; parts = parts.now; tags = tags.now }) (path_view path.now) value time)) }
+        (record { filter = None; parts = naming.now.parts.now; tags = naming.now.tags.now }) (path_view path.now)
+        value time)) }
 {
     let segments = path.segments.as_slice();
-    let name = name_of(alloc, separator, parts, segments)?;
-    let key = key_of(alloc, separator, parts, segments)?;
+    let name = text_of(alloc, separator, &Wanted::Name, naming.parts, segments)?;
+    let key = text_of(alloc, separator, &Wanted::Key, naming.parts, segments)?;
     let mut draft = Draft::new(alloc, name.as_str())?;
-    put_own(&mut draft, tags)?;
-    put_collected(alloc, &mut draft, separator, parts, segments)?;
+    put_own(&mut draft, naming.tags)?;
+    put_collected(alloc, &mut draft, separator, naming.parts, segments)?;
     put_given(&mut draft, path.tags.as_slice())?;
     draft.field(key.as_str(), Value::Fixed(value))?;
     finish(draft, time)
@@ -169,12 +177,19 @@ pub(crate) fn templated(
 {
     match used(templates, path.segments.as_slice()) {
         Some(template) => {
-            let (parts, tags) = (template.parts(), template.tags());
-            applied(alloc, parts, tags, separator, path, value, time)
+            let naming = Naming {
+                parts: template.parts(),
+                tags: template.tags(),
+            };
+            applied(alloc, &naming, separator, path, value, time)
         }
         None => {
             let parts = [TemplatePart::AllMeasurement];
-            applied(alloc, parts.as_slice(), &[], separator, path, value, time)
+            let naming = Naming {
+                parts: parts.as_slice(),
+                tags: &[],
+            };
+            applied(alloc, &naming, separator, path, value, time)
         }
     }
 }

@@ -2,14 +2,11 @@
 ghost use Rattle.std.specs.Prelude.{◌≡◌, ◌<◌, ℕ, List, [], ◌∷◌, length, map, flat_map, IfOk, OnOk};
 ghost use Rattle.std.specs.Prelude.{MatchOption};
 ghost use Rattle.std.specs.Prelude.{◌++◌, if◌then◌else◌};
-ghost use Rattle.std.specs.List.{AllByRecursion};
-ghost use Rattle.std.specs.Str.{bytes_eq};
 ghost use Rattle.std.specs.String.{string_bytes};
-ghost use Rattle.graphite_text.specs.Applied.{collected, joined, name_of, key_of, tag_share};
-ghost use Rattle.format_words.specs.Segments.{AreFilled};
+ghost use Rattle.graphite_text.specs.Applied.{collected, joined, tag_share};
 ghost use Rattle.graphite_text.specs.Taken.{joined_view, AreJoined, Takes};
 ghost use Rattle.format_words.specs.Views.{now_of, texts_view};
-ghost use Rattle.graphite_text.specs.Wanted.{share_of};
+ghost use Rattle.graphite_text.specs.Wanted.{share_of, text_of, text_without};
 
 use fixed_num::OutOfMemory;
 use format_words::TemplatePart;
@@ -252,51 +249,38 @@ fn joined_taken<'a>(
     }
 }
 
-/// The name of a path's metric.
-pub(crate) fn name_of<'a>(
+/// The text of a thing to which the parts give nothing: all segments are the name, the key is `value`, a tag has none.
+#[inline(always)]
+fn text_without<'a>(
     alloc: Global,
     separator: &str,
-    parts: &[TemplatePart],
+    wanted: &Wanted,
     segments: &[&'a str],
 ) -> Result<JoinedText<'a>, OutOfMemory>
-    ensures { IfOk result (λ name. joined_view name
-        ≡ name_of separator.now parts.now (map now_of segments.now)) }
+    ensures { IfOk result (λ text. joined_view text
+        ≡ text_without wanted.now separator.now (map now_of segments.now)) }
 {
-    match joined_taken(alloc, separator, &Wanted::Name, parts, segments)? {
-        Some(text) => Ok(text),
-        None => joined(alloc, separator, segments),
+    match wanted {
+        Wanted::Name => joined(alloc, separator, segments),
+        Wanted::Key => Ok(JoinedText::Whole("value")),
+        Wanted::TagOf(_) => Ok(JoinedText::Whole("")),
     }
 }
 
-/// The key of its field.
-pub(crate) fn key_of<'a>(
+/// The text of a thing: the metric's name, the key of its field, or the value of a tag.
+#[inline(always)]
+pub(crate) fn text_of<'a>(
     alloc: Global,
     separator: &str,
+    wanted: &Wanted,
     parts: &[TemplatePart],
     segments: &[&'a str],
 ) -> Result<JoinedText<'a>, OutOfMemory>
-    ensures { IfOk result (λ key. joined_view key
-        ≡ key_of separator.now parts.now (map now_of segments.now)) }
+    ensures { IfOk result (λ text. joined_view text
+        ≡ text_of wanted.now separator.now parts.now (map now_of segments.now)) }
 {
-    match joined_taken(alloc, separator, &Wanted::Key, parts, segments)? {
+    match joined_taken(alloc, separator, wanted, parts, segments)? {
         Some(text) => Ok(text),
-        None => Ok(JoinedText::Whole("value")),
-    }
-}
-
-/// The value of the tag of a key.
-pub(crate) fn tag_value<'a>(
-    alloc: Global,
-    separator: &str,
-    key: &str,
-    parts: &[TemplatePart],
-    segments: &[&'a str],
-) -> Result<JoinedText<'a>, OutOfMemory>
-    ensures { IfOk result (λ value. joined_view value
-        ≡ joined separator.now (collected (tag_share key.now) parts.now (map now_of segments.now))) }
-{
-    match joined_taken(alloc, separator, &Wanted::TagOf(key), parts, segments)? {
-        Some(text) => Ok(text),
-        None => Ok(JoinedText::Whole("")),
+        None => text_without(alloc, separator, wanted, segments),
     }
 }

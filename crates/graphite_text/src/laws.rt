@@ -1,6 +1,6 @@
 //! Laws of readings.
 ghost use Rattle.graphite_text.specs.Faults.{FaultIsWithin, FaultSays};
-ghost use Rattle.graphite_text.specs.Grammar.{WrittenIsRead, ReadIsWritten};
+ghost use Rattle.graphite_text.specs.Grammar.{WrittenIsRead, ReadIsWritten, SaysAtMost};
 ghost use Rattle.graphite_text.specs.RoundTrip.{WrittenIsReadBack};
 
 /// What is written as a line is read as its metric.
@@ -28,4 +28,9 @@ pub fn fault_is_within()
 /// A fault's kind says what stands in the piece, at its place where it has one.
 pub fn fault_says()
     ensures { FaultSays }
+{}
+
+/// A line says at most one metric.
+pub fn says_at_most()
+    ensures { SaysAtMost }
 {}

@@ -12,7 +12,8 @@ mod write;
 
 pub use fault::{GraphiteFault, GraphiteKind};
 pub use laws::{
-    fault_is_within, fault_says, read_is_written, written_is_read, written_is_read_back,
+    fault_is_within, fault_says, read_is_written, says_at_most, written_is_read,
+    written_is_read_back,
 };
 pub use read::read_line;
 pub use write::write_metric;

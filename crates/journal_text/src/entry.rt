@@ -9,7 +9,7 @@ ghost use Rattle.journal_text.specs.JournalText.{report_line, report_lines, grou
 ghost use Rattle.journal_text.specs.JournalText.{gather_head, made_line, route_head, head_text, entry_text};
 ghost use Rattle.journal_text.specs.JournalText.{end_text, HasItem, IsWholeOrRemoved};
 
-use crate::metrics::append_metric;
+use crate::metrics::{append_byte, append_metric};
 use account::{Entry, Report, Verdict};
 use fixed_num::{Moment, OutOfMemory};
 use metric::Metric;
@@ -138,22 +138,25 @@ fn is_one_equal(whole: &Metric, views: &[Option<Metric>]) -> bool
     }
 }
 
+// The views of the whole of a Route.
+#[derive(Clone, Copy)]
+struct Views<'a> {
+    // At the aggregators.
+    aggs: &'a [Option<Metric>],
+    // At the outputs.
+    outs: &'a [Option<Metric>],
+}
+
 // Whether an item went on as it was, to one output and no aggregator: most do.
 #[tactic(auto, unfolding(crate::specs::JournalText::routed_text))]
-fn is_as_it_was(
-    item: &[Metric],
-    whole: &Metric,
-    verdict: Verdict,
-    aggs: &[Option<Metric>],
-    outs: &[Option<Metric>],
-) -> bool
-    ensures { result ≡ true
-        → routed_text item.now (Some whole.now) verdict aggs.now outs.now ≡ codes " = passes / =\n" }
+fn is_as_it_was(item: &[Metric], whole: &Metric, verdict: Verdict, views: &Views) -> bool
+    ensures { result ≡ true → routed_text item.now (Some whole.now) verdict views.now.aggs.now views.now.outs.now
+        ≡ codes " = passes / =\n" }
 {
     verdict == Verdict::Passes
-        && aggs.is_empty()
+        && views.aggs.is_empty()
         && equals_item(item, whole)
-        && is_one_equal(whole, outs)
+        && is_one_equal(whole, views.outs)
 }
 
 // Appends what a Route says behind its item.
@@ -164,25 +167,24 @@ fn append_routed(
     item: &[Metric],
     whole: &Option<Metric>,
     verdict: Verdict,
-    aggs: &[Option<Metric>],
-    outs: &[Option<Metric>],
+    views: &Views,
 ) -> Result<(), OutOfMemory>
     ensures { Adds result out.old.items out.new.items
-        (routed_text item.now whole.now verdict aggs.now outs.now) }
+        (routed_text item.now whole.now verdict views.now.aggs.now views.now.outs.now) }
 {
     let Some(whole) = whole else {
         append_words(out, " - removed\n")?;
         return Ok(());
     };
-    if is_as_it_was(item, whole, verdict, aggs, outs) {
+    if is_as_it_was(item, whole, verdict, views) {
         append_words(out, " = passes / =\n")?;
         return Ok(());
     }
     append_words(out, " ")?;
     append_whole(alloc, out, item, whole)?;
     append_words(out, word_of(verdict))?;
-    append_views(alloc, out, whole, aggs)?;
-    append_outs(alloc, out, whole, outs)?;
+    append_views(alloc, out, whole, views.aggs)?;
+    append_outs(alloc, out, whole, views.outs)?;
     Ok(())
 }
 
@@ -192,7 +194,7 @@ fn append_metric_line(alloc: Global, out: &mut Vec<u8>, metric: &Metric) -> Resu
 {
     append_words(out, "m ")?;
     append_metric(alloc, out, metric)?;
-    append_words(out, "\n")?;
+    append_byte(out, b'\n')?;
     Ok(())
 }
 
@@ -352,9 +354,12 @@ fn append_route(
     else {
         return Ok(());
     };
-    let (aggs, outs) = (aggs.as_slice(), outs.as_slice());
+    let views = Views {
+        aggs: aggs.as_slice(),
+        outs: outs.as_slice(),
+    };
     append_unsigned(out, "route ", *number)?;
-    append_routed(alloc, out, item, whole, *verdict, aggs, outs)?;
+    append_routed(alloc, out, item, whole, *verdict, &views)?;
     Ok(())
 }
 

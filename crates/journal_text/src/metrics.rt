@@ -1,5 +1,5 @@
 //! The text of a metric.
-ghost use Rattle.std.specs.Prelude.{◌≡◌, ◌++◌, ◌<◌, ◌≤◌, false, OnOk, length, codes};
+ghost use Rattle.std.specs.Prelude.{◌≡◌, ◌++◌, ◌∷◌, [], ◌<◌, ◌≤◌, false, OnOk, length, codes};
 ghost use Rattle.std.specs.List.{flat_map, prefix_len};
 ghost use Rattle.text_parts.specs.Adds.{Adds};
 ghost use Rattle.metric.specs.Plain.{is_plain};
@@ -18,6 +18,15 @@ fn hex_digit(n: u8) -> u8
     ensures { result ≡ hex_digit n }
 {
     if n < 10 { b'0' + n } else { b'A' - 10 + n }
+}
+
+// Appends a byte.
+#[inline(always)]
+pub fn append_byte(out: &mut Vec<u8>, byte: u8) -> Result<(), OutOfMemory>
+    ensures { Adds result out.old.items out.new.items (byte ∷ []) }
+{
+    out.push(byte)?;
+    Ok(())
 }
 
 // Appends `%` and the two hexadecimal digits of a byte that isn't plain.
@@ -100,9 +109,9 @@ fn append_value(alloc: Global, out: &mut Vec<u8>, value: &Value) -> Result<(), O
 fn append_tag(out: &mut Vec<u8>, key: &Text, value: &Text) -> Result<(), OutOfMemory>
     ensures { Adds result out.old.items out.new.items (tag_text (key.now, value.now)) }
 {
-    append_words(out, ";")?;
+    append_byte(out, b';')?;
     append_text(out, key)?;
-    append_words(out, "=")?;
+    append_byte(out, b'=')?;
     append_text(out, value)?;
     Ok(())
 }
@@ -118,7 +127,7 @@ fn append_field(
     ensures { Adds result out.old.items out.new.items (field_text (key.now, value.now)) }
 {
     append_text(out, key)?;
-    append_words(out, "=")?;
+    append_byte(out, b'=')?;
     append_value(alloc, out, value)?;
     Ok(())
 }
@@ -143,7 +152,7 @@ fn append_other_fields(
         (flat_map (λ other. codes ";" ++ field_text other) fields.now) }
 {
     for (key, value) in fields {
-        append_words(out, ";")?;
+        append_byte(out, b';')?;
         append_field(alloc, out, key, value)?;
     }
     Ok(())
@@ -172,7 +181,7 @@ pub fn append_metric(alloc: Global, out: &mut Vec<u8>, metric: &Metric) -> Resul
 {
     append_text(out, metric.name())?;
     append_tags(out, metric.tags())?;
-    append_words(out, "|")?;
+    append_byte(out, b'|')?;
     append_fields(alloc, out, metric.fields())?;
     append_signed(out, "|", &metric.time())?;
     Ok(())

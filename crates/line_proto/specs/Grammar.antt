@@ -1,6 +1,7 @@
 -- Lines as they are written.
 use Rattle.std.specs.Prelude.{◌≡◌, ◌<◌, ℕ, ℤ, ◌==◌, ◌||◌, Bool, false, List, [], ◌∷◌, ◌++◌, replicate}
-use Rattle.std.specs.Prelude.{Option, Some, None, Ok, ◌⊎◌}
+use Rattle.std.specs.Prelude.{Option, Some, None, Ok, ◌⊎◌, ◌≤◌, length, IfOk}
+use Rattle.std.specs.Option.{option_to_list}
 use Rattle.std.specs.Str.{IsUtf8}
 use Rattle.text_parts.specs.Bytes.{space, double_quote, hash, comma, equals_sign}
 use Rattle.text_parts.specs.Grammar.{Mark, spelled, meant, IsPart, HasNone, IsWritten}
@@ -111,3 +112,14 @@ abbrev pub ReadIsWritten : Type 0
 ReadIsWritten = (piece : List ℕ) (moment : ℤ) (content : Content) → reading piece moment ≡ Ok (Some content)
     → (w : Written) × (line : Line) × (piece ≡ line_spelling w) × IsUtf8 piece × IsLine w line moment
     × (has_too_many line.tags line.fields ≡ false) × (content ≡ content_of line)
+
+-- ---- how many metrics are said
+
+-- one
+abbrev pub most_said : ℕ
+most_said = 1
+
+-- no piece says more
+abbrev pub SaysAtMost : Type 0
+SaysAtMost = (piece : List ℕ) (moment : ℤ)
+    → IfOk (reading piece moment) (λ metric. length (option_to_list metric) ≤ most_said)

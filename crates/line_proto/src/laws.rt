@@ -1,6 +1,6 @@
 //! Laws of readings and lines.
 ghost use Rattle.line_proto.specs.Faults.{FaultIsWithin, FaultSays};
-ghost use Rattle.line_proto.specs.Grammar.{WrittenIsRead, ReadIsWritten};
+ghost use Rattle.line_proto.specs.Grammar.{WrittenIsRead, ReadIsWritten, SaysAtMost};
 ghost use Rattle.line_proto.specs.OneLine.{MetricIsOneLine};
 ghost use Rattle.line_proto.specs.RoundTrip.{MetricIsReadBack, ReadIsPlain};
 
@@ -37,4 +37,9 @@ pub fn fault_says()
 /// What is read of a piece without a newline and a carriage return is plain: its line is read as it.
 pub fn read_is_plain()
     ensures { ReadIsPlain }
+{}
+
+/// A line says at most one metric.
+pub fn says_at_most()
+    ensures { SaysAtMost }
 {}

@@ -1,10 +1,10 @@
 //! Reading a line.
-ghost use Rattle.std.specs.Prelude.{◌≡◌, ◌≤◌, List, [], length, IfOk};
+ghost use Rattle.std.specs.Prelude.{◌≡◌, List, [], IfOk, IfErr};
 ghost use Rattle.std.specs.Str.{IsCharBoundary};
-ghost use Rattle.text_parts.specs.Chain.{Gives};
+ghost use Rattle.text_parts.specs.Chain.{Fails, Gives};
 ghost use Rattle.metric.specs.Draft.{Tag, Field, StandsFor, IsReady};
-ghost use Rattle.line_proto.specs.Draft.{HasFields, HasRest};
-ghost use Rattle.line_proto.specs.Reading.{spaced_fields_at, limited, metric_at, text_reading, reading};
+ghost use Rattle.line_proto.specs.Draft.{HasRest};
+ghost use Rattle.line_proto.specs.Reading.{fields_at, spaced_fields_at, limited, metric_at, text_reading, reading};
 ghost use Rattle.line_proto.specs.Views.{Answers};
 
 use crate::fault::{LineFault, LineKind, NO_MEMORY};
@@ -16,25 +16,19 @@ use metric::{Draft, DraftFault, Metric};
 use std::alloc::Global;
 use text_parts::{ReadError, answer, utf8_text};
 
-/// Puts the fields behind the spaces at a place into a draft, and gives the place behind them.
+/// The place of the fields behind the spaces at a place.
 #[tactic(auto, unfolding(crate::specs::Reading::spaced_fields_at))]
-fn read_spaced_fields(
-    alloc: Global,
-    piece: &str,
-    i: usize,
-    draft: &mut Draft,
-) -> Result<usize, ReadError<LineFault>>
-    requires boundary { IsCharBoundary piece.now i }
-    ensures name { draft.new.parts.name ≡ draft.old.parts.name }
-    ensures fields { (tags : List Tag) → StandsFor draft.old tags []
-        → HasFields draft.new tags result (spaced_fields_at piece.now i) }
-    ensures behind { IfOk result (λ x. x ≤ length piece.now) }
+fn fields_start(piece: &str, i: usize) -> Result<usize, ReadError<LineFault>>
+    requires { IsCharBoundary piece.now i }
+    ensures boundary { IfOk result (λ start. IsCharBoundary piece.now start) }
+    ensures there { IfOk result (λ start. spaced_fields_at piece.now i ≡ fields_at piece.now start) }
+    ensures none { IfErr result (λ e. Fails e (spaced_fields_at piece.now i)) }
 {
     let start = behind_spaces(piece.as_bytes(), i);
     if start == piece.len() {
         return Err(fault(LineKind::NoFields, start));
     }
-    read_fields(alloc, piece, start, draft)
+    Ok(start)
 }
 
 /// The metric of a draft at a time, unless there are too many tags or fields.
@@ -67,7 +61,8 @@ fn read_rest(
     ensures rest { HasRest draft.new piece.now i moment result }
 {
     let i = read_tags(alloc, piece, i, draft)?;
-    let i = read_spaced_fields(alloc, piece, i, draft)?;
+    let start = fields_start(piece, i)?;
+    let i = read_fields(alloc, piece, start, draft)?;
     time_at(piece.as_bytes(), i, moment)
 }
 

@@ -1,6 +1,7 @@
 //! Metrics as lines of InfluxDB line protocol.
-ghost use Rattle.std.specs.Prelude.{◌≡◌, ◌++◌, not, flat_map, codes, OnOk, OnErr};
+ghost use Rattle.std.specs.Prelude.{◌≡◌, ◌++◌, not, true, flat_map, codes, OnOk, OnErr};
 ghost use Rattle.std.specs.List.{list_all, join_by};
+ghost use Rattle.metric.specs.Plain.{is_plain};
 ghost use Rattle.line_proto.specs.OneLine.{ends_line};
 ghost use Rattle.line_proto.specs.LineText.{spaced, on_one_line, trimmed, text_escapes};
 ghost use Rattle.text_parts.specs.Escaped.{escaped};
@@ -155,15 +156,11 @@ fn append_quoted(text: &Text, out: &mut Vec<u8>) -> Result<(), OutOfMemory>
     Ok(())
 }
 
-/// Appends a text as it stands between double quotes. A plain one needs no escapes.
+/// Appends a text as it stands between double quotes.
 fn append_inside(text: &Text, out: &mut Vec<u8>) -> Result<(), OutOfMemory>
     ensures { Adds result out.old.items out.new.items (escaped text_escapes (on_one_line text.now)) }
 {
-    let bytes = text.as_str().as_bytes();
-    if text.is_known_plain() {
-        return Ok(out.extend_from_slice(bytes)?);
-    }
-    append_in_line(out, &TEXT_MARKS, bytes)
+    append_part(out, &TEXT_MARKS, text, text.as_str().as_bytes())
 }
 
 /// Appends a measurement.
@@ -179,10 +176,7 @@ fn append_name(name: &Text, out: &mut Vec<u8>) -> Result<(), OutOfMemory>
         out.push(b'_')?;
         return append_in_line(out, &NAME_MARKS, &kept[1..]);
     }
-    if name.is_known_plain() {
-        return Ok(out.extend_from_slice(kept)?);
-    }
-    append_in_line(out, &NAME_MARKS, kept)
+    append_part(out, &NAME_MARKS, name, kept)
 }
 
 /// Appends a key or the value of a tag.
@@ -194,10 +188,7 @@ fn append_key(key: &Text, out: &mut Vec<u8>) -> Result<(), OutOfMemory>
     if kept.is_empty() {
         return Ok(out.push(b'_')?);
     }
-    if key.is_known_plain() {
-        return Ok(out.extend_from_slice(kept)?);
-    }
-    append_in_line(out, &KEY_MARKS, kept)
+    append_part(out, &KEY_MARKS, key, kept)
 }
 
 /// The text without the backslashes at its end.
@@ -260,4 +251,23 @@ fn append_in_line(out: &mut Vec<u8>, marks: &Marks, text: &[u8]) -> Result<(), O
         append_escaped_byte(out, marks, spaced(*byte))?;
     }
     Ok(())
+}
+
+/// Appends a part of a text in one line with its marks escaped, of which a plain text has none.
+#[inline(always)]
+fn append_part(
+    out: &mut Vec<u8>,
+    marks: &Marks,
+    text: &Text,
+    part: &[u8],
+) -> Result<(), OutOfMemory>
+    requires { list_all is_plain text.now ≡ true
+        → escaped (escapes_of marks.now) (on_one_line part.now) ≡ part.now }
+    ensures { Adds result out.old.items out.new.items
+        (escaped (escapes_of marks.now) (on_one_line part.now)) }
+{
+    if text.is_known_plain() {
+        return Ok(out.extend_from_slice(part)?);
+    }
+    append_in_line(out, marks, part)
 }

@@ -14,7 +14,7 @@ use Rattle.metric.specs.declared.metric.Content.{Content}
 use Rattle.metric.proofs.PairLemmas.{AllKeys}
 
 module _ {X : Type 0} (test : List ℕ × X → Bool) where
-  kept_each : (P : List ℕ × X → Type 0) (pairs : List (List ℕ × X)) → AllByRecursion P pairs
+  pub kept_each : (P : List ℕ × X → Type 0) (pairs : List (List ℕ × X)) → AllByRecursion P pairs
       → AllByRecursion P (filter test pairs)
   kept_each P [] h = tt
   kept_each P (pair ∷ pairs) h =
@@ -28,7 +28,7 @@ module _ {X : Type 0} (test : List ℕ × X → Bool) where
       elim (test pair) as (λ t. AllKeys P (cond t (pair ∷ filter test pairs) (filter test pairs)))
       [ true ↦ (h.0, kept_keys P pairs h.1) | false ↦ kept_keys P pairs h.1 ]
 
-kept_sorted : {X : Type 0} (test : List ℕ × X → Bool) (pairs : List (List ℕ × X)) → IsInKeyOrder pairs
+pub kept_sorted : {X : Type 0} (test : List ℕ × X → Bool) (pairs : List (List ℕ × X)) → IsInKeyOrder pairs
     → IsInKeyOrder (filter test pairs)
 unfolding IsStrictlySortedBy
 kept_sorted test [] h = tt
@@ -38,7 +38,7 @@ kept_sorted test (pair ∷ pairs) h =
       | false ↦ kept_sorted test pairs h.1
     ]
 
-kept_distinct : {X : Type 0} (test : List ℕ × X → Bool) (pairs : List (List ℕ × X))
+pub kept_distinct : {X : Type 0} (test : List ℕ × X → Bool) (pairs : List (List ℕ × X))
     → IsDistinct (pointwise nat_eq) (keys_of pairs)
     → IsDistinct (pointwise nat_eq) (keys_of (filter test pairs))
 unfolding IsDistinct

@@ -2,6 +2,7 @@ pub mod PairLemmas
 pub mod MetricLemmas
 pub mod SameLemmas
 pub mod LawLemmas
+pub mod ChangeLemmas
 pub mod GlobLemmas
 pub mod GlobScanLemmas
 pub mod GlobTextLemmas

@@ -1,4 +1,5 @@
 pub mod Building
+pub mod Changing
 pub mod Draft
 pub mod Glob
 pub mod GlobScan
@@ -6,5 +7,6 @@ pub mod Metric
 pub mod Numbers
 pub mod Pairs
 pub mod Plain
+pub mod Series
 pub mod InPlace
 pub mod Text

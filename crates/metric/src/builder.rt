@@ -229,7 +229,7 @@ fn complete(alloc: Global, content: &mut Content, time: Moment) -> Result<(), Bu
 
 /// Says that a value is in the range of its type, and UTF-8 where it is a text.
 #[inline(always)]
-fn shows_in_range(value: &Value)
+pub(crate) fn shows_in_range(value: &Value)
     ensures { IsValue value.now }
 {
     match value {
@@ -250,7 +250,7 @@ fn shows_in_range(value: &Value)
 }
 
 /// One more tag among tags sorted by key.
-fn put_tag(
+pub(crate) fn put_tag(
     alloc: Global,
     tags: &mut Seq<(Text, Text)>,
     key: &str,
@@ -282,7 +282,7 @@ pub(crate) fn put_texts(
 }
 
 /// One more field.
-fn put_field(
+pub(crate) fn put_field(
     alloc: Global,
     fields: &mut Seq<(Text, Value)>,
     key: &str,
@@ -317,7 +317,7 @@ fn place_of(tags: &[(Text, Text)], key: &str) -> Result<usize, usize>
 }
 
 /// Where the field of a key stands.
-fn field_at(fields: &[(Text, Value)], key: &str) -> Option<usize>
+pub(crate) fn field_at(fields: &[(Text, Value)], key: &str) -> Option<usize>
     ensures { result ≡ position (λ field. bytes_eq field.0 key.now) fields.now }
 {
     fields.iter().position(|field| field.0.as_str() == key)

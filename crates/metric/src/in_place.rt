@@ -13,7 +13,7 @@ pub(crate) struct InPlace {
     /// Its bytes, with zeros behind them.
     cells: [u8; MOST],
     /// How many bytes it has.
-    len: u8,
+    len: u32,
 }
 
 impl Model for InPlace {
@@ -36,7 +36,7 @@ impl InPlace {
     {
         InPlace {
             cells: filled(s.as_bytes()),
-            len: s.len() as u8,
+            len: s.len() as u32,
         }
     }
 
@@ -45,7 +45,7 @@ impl InPlace {
     pub fn as_str(&self) -> &str
         ensures { result.now ≡ self.now }
     {
-        let (bytes, _) = self.cells.split_at(usize::from(self.len));
+        let (bytes, _) = self.cells.split_at(self.len as usize);
         unsafe { str::from_utf8_unchecked(bytes) }
     }
 

@@ -2,6 +2,7 @@
 #![tactic(auto)]
 
 mod builder;
+mod change;
 mod draft;
 mod glob;
 mod glob_scan;
@@ -10,7 +11,9 @@ mod in_place;
 mod laws;
 mod metric;
 mod missing;
+mod part;
 mod plain;
+mod series;
 mod text;
 mod value;
 
@@ -20,6 +23,8 @@ pub use glob::{Element, Glob, GlobFault, tests_matches};
 pub use laws::{first_order, growth, key_order};
 pub use metric::{Content, Metric};
 pub use missing::are_filled;
+pub use part::Part;
 pub use plain::is_plain;
+pub use series::Series;
 pub use text::Text;
 pub use value::Value;

@@ -1,13 +1,15 @@
 //! Metrics.
-ghost use Rattle.std.specs.Prelude.{◌≡◌, ◌≤◌, ◌↔◌, All, IfOk, IsTrue, drop, length};
+ghost use Rattle.std.specs.Prelude.{◌≡◌, ◌≤◌, ◌↔◌, All, IfOk, IsTrue, OnErr, OnOk, drop, length};
 ghost use Rattle.std.proofs.Common.{rules};
 ghost use Rattle.std.specs.Cmp.Rules.{comparing};
 ghost use Rattle.std.specs.Option.{option_copied};
 ghost use Rattle.metric.specs.Metric.{IsFilled, IsFilledTag, IsMetric};
-ghost use Rattle.metric.specs.Pairs.{value_at, with_all_missing};
+ghost use Rattle.metric.specs.Changing.{loses_field, without_field, without_key};
+ghost use Rattle.metric.specs.Pairs.{has_key, value_at, with_all_missing, with_pair, with_sorted};
 
+use crate::builder::shows_in_range;
 use crate::missing::{add_missing, behind_known, field_copies, tag_copies};
-use crate::{Text, Value};
+use crate::{Series, Text, Value, change};
 use fixed_num::{Moment, OutOfMemory, Seq};
 use std::alloc::Global;
 use std::marker::Model;
@@ -125,10 +127,68 @@ impl Metric {
         let content = Content {
             name: self.name().copy()?,
             tags,
-            fields: Seq::of(field_copies(alloc, self.fields())?),
+            fields: field_copies(alloc, self.fields())?,
             time: self.time(),
         };
         Metric::of(alloc, content)
+    }
+
+    /// The name is another, which isn't empty. After an error the metric is as before.
+    ///
+    /// A content that other metrics share is copied before it is changed, here and by the other calls that change a
+    /// metric: no other metric changes, and a content that none shares is changed where it is.
+    pub fn set_name(&mut self, alloc: Global, name: &str) -> Result<(), OutOfMemory>
+        requires { IsFilled name.now }
+        ensures ok { OnOk result (self.new ≡ record self.old { name = name.now }) }
+        ensures err { OnErr result (self.new ≡ self.old) }
+    {
+        change::set_name(&mut self.content, alloc, name)
+    }
+
+    /// The tag of a key has this value: a key that is there keeps its place, another stands at its place by key. There
+    /// is no bound on the number of tags. After an error the metric is as before.
+    pub fn set_tag(&mut self, alloc: Global, key: &str, value: &str) -> Result<(), OutOfMemory>
+        requires key { IsFilled key.now }
+        requires value { IsFilled value.now }
+        ensures ok { OnOk result
+            (self.new ≡ record self.old { tags = with_sorted self.old.tags key.now value.now }) }
+        ensures err { OnErr result (self.new ≡ self.old) }
+    {
+        change::set_tag(&mut self.content, alloc, key, value)
+    }
+
+    /// The field of a key has this value: a key that is there keeps its place, another goes behind the others. There is
+    /// no bound on the number of fields. After an error the metric is as before.
+    pub fn set_field(&mut self, alloc: Global, key: &str, value: Value) -> Result<(), OutOfMemory>
+        requires { IsFilled key.now }
+        ensures ok { OnOk result
+            (self.new ≡ record self.old { fields = with_pair self.old.fields key.now value }) }
+        ensures err { OnErr result (self.new ≡ self.old) }
+    {
+        shows_in_range(&value);
+        change::set_field(&mut self.content, alloc, key, value)
+    }
+
+    /// The tag of a key goes: true exactly where there was one. After an error, which comes where the content is shared,
+    /// the metric is as before.
+    pub fn drop_tag(&mut self, alloc: Global, key: &str) -> Result<bool, OutOfMemory>
+        ensures gone { IfOk result (λ gone. gone ≡ has_key self.old.tags key.now) }
+        ensures ok { OnOk result
+            (self.new ≡ record self.old { tags = without_key self.old.tags key.now }) }
+        ensures err { OnErr result (self.new ≡ self.old) }
+    {
+        change::drop_tag(&mut self.content, alloc, key)
+    }
+
+    /// The field of a key goes, unless it is the only one: true exactly where it went. After an error, which comes where
+    /// the content is shared, the metric is as before.
+    pub fn drop_field(&mut self, alloc: Global, key: &str) -> Result<bool, OutOfMemory>
+        ensures gone { IfOk result (λ gone. gone ≡ loses_field self.old.fields key.now) }
+        ensures ok { OnOk result
+            (self.new ≡ record self.old { fields = without_field self.old.fields key.now }) }
+        ensures err { OnErr result (self.new ≡ self.old) }
+    {
+        change::drop_field(&mut self.content, alloc, key)
     }
 
     /// The fields, in order.
@@ -159,6 +219,13 @@ impl Metric {
         Ok(Metric {
             content: self.content.clone()?,
         })
+    }
+
+    /// The series: the name and the tags. It shares the content.
+    pub fn series(&self) -> Result<Series, OutOfMemory>
+        ensures { IfOk result (λ series. series ≡ (self.now.name, self.now.tags)) }
+    {
+        Ok(Series::of(self.copy()?))
     }
 }
 

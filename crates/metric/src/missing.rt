@@ -90,23 +90,23 @@ pub(crate) fn tag_copies(
 ) -> Result<Seq<(Text, Text)>, OutOfMemory>
     ensures { IfOk result (λ copies. copies ≡ tags.now) }
 {
-    let mut copies = Vec::with_capacity(alloc, tags.len().saturating_add(more))?;
+    let mut copies = Seq::with_room(alloc, tags.len().saturating_add(more))?;
     for tag in tags {
-        copies.push((tag.0.copy()?, tag.1.copy()?))?;
+        copies.push(alloc, (tag.0.copy()?, tag.1.copy()?))?;
     }
-    Ok(Seq::of(copies))
+    Ok(copies)
 }
 
 /// The same fields.
 pub(crate) fn field_copies(
     alloc: Global,
     fields: &[(Text, Value)],
-) -> Result<Vec<(Text, Value)>, OutOfMemory>
-    ensures { IfOk result (λ copies. copies.items ≡ fields.now) }
+) -> Result<Seq<(Text, Value)>, OutOfMemory>
+    ensures { IfOk result (λ copies. copies ≡ fields.now) }
 {
-    let mut copies = Vec::with_capacity(alloc, fields.len())?;
+    let mut copies = Seq::with_room(alloc, fields.len())?;
     for field in fields {
-        copies.push((field.0.copy()?, field.1.copy()?))?;
+        copies.push(alloc, (field.0.copy()?, field.1.copy()?))?;
     }
     Ok(copies)
 }

@@ -26,3 +26,4 @@ pub mod MarkTexts
 pub mod PutLemmas
 pub mod StayLemmas
 pub mod Telling
+pub mod MostLemmas

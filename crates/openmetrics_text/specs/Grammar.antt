@@ -1,6 +1,6 @@
 -- Expositions as they are written.
 use Rattle.std.specs.Prelude.{◌≡◌, ◌<◌, ◌≤◌, ℕ, ℤ, Bool, true, false, List, [], ◌∷◌, ◌++◌, length, codes, Option}
-use Rattle.std.specs.Prelude.{Some, None, Ok, slice_index}
+use Rattle.std.specs.Prelude.{Some, None, Ok, slice_index, ◌/◌, IfOk}
 use Rattle.std.specs.Char.{is_ascii_digit}
 use Rattle.std.specs.List.{flat_map}
 use Rattle.std.specs.Str.{IsUtf8}
@@ -170,3 +170,14 @@ ReadIsWritten = (piece : List ℕ) (moment : ℤ) (typed : Bool) (exposition : E
     → (lines : List WrittenLine) × (says : List LineSays) × (ended : Bool)
     × (piece ≡ exposition_text lines ended) × IsUtf8 piece × AreLines lines says
     × (exposition ≡ exposition_of moment typed says)
+
+-- ---- how many metrics are said
+
+-- in so many bytes: one for each four, since a sample has a name, a space, a number and its newline
+abbrev pub most_said : ℕ → ℕ
+most_said size = size / 4
+
+-- no piece says more
+abbrev pub SaysAtMost : Type 0
+SaysAtMost = (piece : List ℕ) (moment : ℤ) (typed : Bool)
+    → IfOk (reading piece moment typed) (λ exposition. length exposition.metrics ≤ most_said (length piece))

@@ -1,6 +1,6 @@
 //! Laws of readings.
 ghost use Rattle.openmetrics_text.specs.FaultLines.{FaultSays};
-ghost use Rattle.openmetrics_text.specs.Grammar.{WrittenIsRead, ReadIsWritten};
+ghost use Rattle.openmetrics_text.specs.Grammar.{WrittenIsRead, ReadIsWritten, SaysAtMost};
 ghost use Rattle.openmetrics_text.specs.RoundTrip.{WrittenIsReadBack};
 
 /// An exposition that is written is read as what its lines say.
@@ -22,4 +22,9 @@ pub fn written_is_read_back()
 /// A fault's kind says what stands in the line that begins at its place, or in the piece.
 pub fn fault_says()
     ensures { FaultSays }
+{}
+
+/// An exposition says at most one metric for each four of its bytes.
+pub fn says_at_most()
+    ensures { SaysAtMost }
 {}

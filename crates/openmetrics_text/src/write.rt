@@ -81,28 +81,40 @@ fn append_point(
     Ok(())
 }
 
-/// Puts the sample of a field among others, given the text of its family and of its labels, and where that stands
-/// which stands for its labels.
+/// The series of samples: the text of their labels, and where that stands which stands for the set of these.
+#[derive(Clone, Copy)]
+struct Series<'a> {
+    labels: &'a [u8],
+    place: Place,
+}
+
+/// Puts the sample of a field among others, given the text of its family and its series.
 fn put_line(
     alloc: Global,
     texts: &mut Texts,
     family: &[u8],
-    labels: &[u8],
-    series: Place,
+    series: &Series,
     metric: &Metric,
     field: &(Text, Value),
 ) -> Result<(), OutOfMemory>
     requires family { family.now ≡ (point_of metric.now field.now).family }
-    requires labels { labels.now ≡ written_labels (labels_of metric.now.tags) }
-    requires series { IsAt texts.old.bytes.items series (series_key (labels_of metric.now.tags)) }
+    requires labels { series.now.labels.now ≡ written_labels (labels_of metric.now.tags) }
+    requires series { IsAt texts.old.bytes.items series.now.place (series_key (labels_of metric.now.tags)) }
     ensures { OnOk result (Puts texts.old texts.new (point_of metric.now field.now ∷ [])) }
 {
     let from = texts.bytes.len();
     let time = metric.time();
-    append_point(alloc, &mut texts.bytes, family, labels, &field.1, &time)?;
+    append_point(
+        alloc,
+        &mut texts.bytes,
+        family,
+        series.labels,
+        &field.1,
+        &time,
+    )?;
     texts.rows.push(Row {
         family: family.len(),
-        series,
+        series: series.place,
         time,
         line: Place {
             from,
@@ -118,28 +130,19 @@ fn put_field(
     alloc: Global,
     texts: &mut Texts,
     family: &mut Vec<u8>,
-    labels: &[u8],
-    series: Place,
+    series: &Series,
     metric: &Metric,
     field: &(Text, Value),
 ) -> Result<(), OutOfMemory>
-    requires labels { labels.now ≡ written_labels (labels_of metric.now.tags) }
-    requires series { IsAt texts.old.bytes.items series (series_key (labels_of metric.now.tags)) }
+    requires labels { series.now.labels.now ≡ written_labels (labels_of metric.now.tags) }
+    requires series { IsAt texts.old.bytes.items series.now.place (series_key (labels_of metric.now.tags)) }
     ensures { OnOk result (Puts texts.old texts.new (points_of_field metric.now field.now)) }
 {
     if field.1.is_text() {
         return Ok(());
     }
     write_family(family, metric.name().as_str(), field.0.as_str())?;
-    put_line(
-        alloc,
-        texts,
-        family.as_slice(),
-        labels,
-        series,
-        metric,
-        field,
-    )?;
+    put_line(alloc, texts, family.as_slice(), series, metric, field)?;
     Ok(())
 }
 
@@ -148,18 +151,17 @@ fn put_fields(
     alloc: Global,
     texts: &mut Texts,
     family: &mut Vec<u8>,
-    labels: &[u8],
-    series: Place,
+    series: &Series,
     metric: &Metric,
     fields: &[(Text, Value)],
 ) -> Result<(), OutOfMemory>
-    requires labels { labels.now ≡ written_labels (labels_of metric.now.tags) }
-    requires series { IsAt texts.old.bytes.items series (series_key (labels_of metric.now.tags)) }
+    requires labels { series.now.labels.now ≡ written_labels (labels_of metric.now.tags) }
+    requires series { IsAt texts.old.bytes.items series.now.place (series_key (labels_of metric.now.tags)) }
     ensures { OnOk result
         (Puts texts.old texts.new (flat_map (points_of_field metric.now) fields.now)) }
 {
     for field in fields {
-        put_field(alloc, texts, family, labels, series, metric, field)?;
+        put_field(alloc, texts, family, series, metric, field)?;
     }
     Ok(())
 }
@@ -190,16 +192,11 @@ fn put_metric(
     ensures { OnOk result (Puts texts.old texts.new (points_of_metric metric.now)) }
 {
     label_texts(alloc, metric, labels)?;
-    let series = put_series(texts, labels.key.as_slice())?;
-    put_fields(
-        alloc,
-        texts,
-        family,
-        labels.written.as_slice(),
-        series,
-        metric,
-        metric.fields(),
-    )?;
+    let series = Series {
+        labels: labels.written.as_slice(),
+        place: put_series(texts, labels.key.as_slice())?,
+    };
+    put_fields(alloc, texts, family, &series, metric, metric.fields())?;
     Ok(())
 }
 

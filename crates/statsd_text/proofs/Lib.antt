@@ -5,3 +5,4 @@ pub mod Spells
 pub mod Founds
 pub mod Chains
 pub mod Telling
+pub mod MostLemmas

@@ -1,6 +1,6 @@
 -- Lines as they are written.
 use Rattle.std.specs.Prelude.{◌≡◌, ◌<◌, ℕ, ℤ, ◌==◌, ◌||◌, Bool, true, false, List, [], ◌∷◌, ◌++◌, length, map}
-use Rattle.std.specs.Prelude.{codes, Option, Some, None, Ok}
+use Rattle.std.specs.Prelude.{codes, Option, Some, None, Ok, ◌≤◌, ◌/◌, IfOk}
 use Rattle.std.specs.List.{AllByRecursion, join_with_byte, list_any}
 use Rattle.std.specs.Str.{IsUtf8}
 use Rattle.text_parts.specs.Bytes.{hash, comma, colon, equals_sign, at_sign, bar}
@@ -155,3 +155,14 @@ ReadIsWritten = (piece : List ℕ) (moment : ℤ) (metrics : List Content) → i
     → reading piece moment ≡ Ok metrics
     → (w : Written) × (said : List Said) × (piece ≡ line_spelling w) × IsUtf8 piece × IsLine w said
     × (list_any has_too_many metrics ≡ false) × (metrics ≡ metrics_of w said moment)
+
+-- ---- how many metrics are said
+
+-- in so many bytes: one for each three, since a part has its colon, a bar and a type
+abbrev pub most_said : ℕ → ℕ
+most_said size = size / 3
+
+-- no piece says more
+abbrev pub SaysAtMost : Type 0
+SaysAtMost = (piece : List ℕ) (moment : ℤ)
+    → IfOk (reading piece moment) (λ metrics. length metrics ≤ most_said (length piece))

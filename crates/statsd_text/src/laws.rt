@@ -1,6 +1,6 @@
 //! Laws of readings.
 ghost use Rattle.statsd_text.specs.Faults.{FaultIsWithin, FaultSays};
-ghost use Rattle.statsd_text.specs.Grammar.{WrittenIsRead, ReadIsWritten};
+ghost use Rattle.statsd_text.specs.Grammar.{WrittenIsRead, ReadIsWritten, SaysAtMost};
 
 /// What is written as a line is read as its metrics.
 pub fn written_is_read()
@@ -20,4 +20,9 @@ pub fn fault_is_within()
 /// A fault's kind says what stands in the piece, at its place where it has one.
 pub fn fault_says()
     ensures { FaultSays }
+{}
+
+/// A line says at most one metric for each three of its bytes.
+pub fn says_at_most()
+    ensures { SaysAtMost }
 {}

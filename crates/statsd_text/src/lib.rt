@@ -10,5 +10,5 @@ mod sections;
 mod tags;
 
 pub use fault::{StatsdFault, StatsdKind};
-pub use laws::{fault_is_within, fault_says, read_is_written, written_is_read};
+pub use laws::{fault_is_within, fault_says, read_is_written, says_at_most, written_is_read};
 pub use read::read_line;

@@ -1,10 +1,14 @@
 //! Which call a piece is put to.
+use crate::changes::{append_changed, append_series};
 use crate::configurations::{append_configuration, append_interval};
 use crate::formats::{
     append_exposition, append_graphite, append_influx, append_statsd, append_template,
 };
 use crate::metrics::{append_filtered, append_glob, append_left, append_metric};
-use crate::numbers::{append_decimal, append_grown, append_one, append_quotient, append_whole};
+use crate::numbers::{
+    append_decimal, append_grown, append_left_of, append_one, append_quotient, append_sum,
+    append_whole,
+};
 use crate::parts::{
     LABEL, append_cut, append_key, append_part, append_places, append_separated, append_text,
     append_written_label,
@@ -53,11 +57,15 @@ fn answer_text(
         "graphite_written" => append_lines(alloc, piece, out),
         "openmetrics_written" => append_batch(alloc, piece, out),
         "metrics" => append_metric(alloc, row, piece, out),
+        "changed" => append_changed(alloc, piece, out),
+        "series" => append_series(alloc, piece, out),
         "globs" => append_glob(alloc, piece, out),
         "filtered" => append_filtered(alloc, row, piece, out),
         "left" => append_left(alloc, row, piece, out),
         "quotients" => append_quotient(alloc, piece, out),
+        "sums" => append_sum(alloc, piece, out),
         "rooms" => append_grown(alloc, piece, out),
+        "taken" => append_left_of(alloc, piece, out),
         "alone" => append_one(alloc, piece, out),
         "keys" => append_key(alloc, piece, out),
         "separated" => append_separated(piece, out),

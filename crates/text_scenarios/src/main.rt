@@ -5,6 +5,7 @@
 #![tactic(auto)]
 
 mod answers;
+mod changes;
 mod configurations;
 mod formats;
 mod metrics;
@@ -20,7 +21,7 @@ use std::test::Fail;
 
 /// The tables, each a file in `data/`.
 const TABLES: &str =
-    "numbers lists text_parts metrics globs filters influx_read influx_written statsd_read \
+    "numbers lists text_parts metrics changes globs filters influx_read influx_written statsd_read \
     graphite_read graphite_templates graphite_written openmetrics_read openmetrics_written configurations times";
 
 /// Compares what comes of each piece of a row.

@@ -20,18 +20,36 @@ pub fn append_decimal(alloc: Global, text: &[u8], out: &mut Vec<u8>) -> Result<(
     }
 }
 
-/// Appends the quotient of two decimals with ` / ` between them; `none` where there is none.
-pub fn append_quotient(alloc: Global, text: &str, out: &mut Vec<u8>) -> Result<(), Fail> {
-    let (number, by) = cut(text, " / ")?;
-    let number = Fixed::read(number.as_bytes());
-    let by = Fixed::read(by.as_bytes());
-    let (Ok(number), Ok(by)) = (number, by) else {
-        return Err(Fail::new("no numbers"));
-    };
-    match number.divide(by) {
-        Some(quotient) => append_number(alloc, quotient, out),
+/// Two decimals with a mark between them.
+fn two_numbers(text: &str, mark: &str) -> Result<(Fixed, Fixed), Fail> {
+    let (first, second) = cut(text, mark)?;
+    match (
+        Fixed::read(first.as_bytes()),
+        Fixed::read(second.as_bytes()),
+    ) {
+        (Ok(first), Ok(second)) => Ok((first, second)),
+        _ => Err(Fail::new("no numbers")),
+    }
+}
+
+/// Appends a number, or `none`.
+fn append_maybe(alloc: Global, number: Option<Fixed>, out: &mut Vec<u8>) -> Result<(), Fail> {
+    match number {
+        Some(number) => append_number(alloc, number, out),
         None => put(out, "none\n"),
     }
+}
+
+/// Appends the quotient of two decimals with ` / ` between them; `none` where there is none.
+pub fn append_quotient(alloc: Global, text: &str, out: &mut Vec<u8>) -> Result<(), Fail> {
+    let (number, by) = two_numbers(text, " / ")?;
+    append_maybe(alloc, number.divide(by), out)
+}
+
+/// Appends the sum of two decimals with ` + ` between them; `none` where it is out of range.
+pub fn append_sum(alloc: Global, text: &str, out: &mut Vec<u8>) -> Result<(), Fail> {
+    let (first, second) = two_numbers(text, " + ")?;
+    append_maybe(alloc, first.add(second), out)
 }
 
 /// Appends the whole number that was read, or its fault.
@@ -85,4 +103,21 @@ pub fn append_one(alloc: Global, element: &str, out: &mut Vec<u8>) -> Result<(),
     let list = Seq::of_one(element).into_vec(alloc)?;
     put(out, format_args!("vector {list:?}\n"))?;
     append_only(Seq::of_one(element), out)
+}
+
+/// A list without the element at a place, where it has one there.
+fn without(alloc: Global, mut list: Seq<u32>, at: usize) -> Seq<u32> {
+    if at < list.as_slice().len() {
+        list.remove(alloc, at);
+    }
+    list
+}
+
+/// Appends what is left of the list with room for so many without its second element, and of one of one element
+/// without that.
+pub fn append_left_of(alloc: Global, room: &str, out: &mut Vec<u8>) -> Result<(), Fail> {
+    let list = without(alloc, grown(alloc, room.parse()?)?, 1);
+    put(out, format_args!("{:?}\n", list.as_slice()))?;
+    let one = without(alloc, Seq::of_one(5), 0);
+    put(out, format_args!("{:?}\n", one.as_slice()))
 }

@@ -18,7 +18,7 @@ loop-piece-preserved g c =
       reads = reads_next _ _ _ _ _ _ _ _ _ _ _ c.loop-piece.invariant.reads c.in_ok-state.ensures.next;
       count = next_pieces _ _ _ _ _ _ _ _ _ c.in_ok-state.ensures.next same ∙ omega (arith, c.loop-piece.invariant.count);
       counted = search rules;
-      below = inr (c.in_ok-state.ensures.below (reading_on c.in_ok-state.state same));
+      below = inr (c.in_ok-state.ensures.known.below (reading_on c.in_ok-state.state same));
       faults = search rules;
       kind = c.read_next.ensures.kind ∙ c.loop-piece.invariant.kind;
     }

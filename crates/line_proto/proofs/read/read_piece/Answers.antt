@@ -5,6 +5,10 @@ use Rattle.line_proto.specs.declared.fault.LineKind.TheVariants.{NotUtf8}
 use Rattle.line_proto.specs.Reading.{text_reading, reading}
 use Rattle.line_proto.proofs.read.read_piece.Goals as goal
 
+-- the fault of a piece that is no UTF-8 from a place on
+abbrev not_utf8_at : ℕ → LineFault
+not_utf8_at place = record { kind = NotUtf8; place = place }
+
 pub returns-in-Ok : goal.returns-in-Ok
 unfolding reading
 returns-in-Ok c =
@@ -12,6 +16,4 @@ returns-in-Ok c =
 
 pub returns-in-Err : goal.returns-in-Err
 unfolding reading
-returns-in-Err c =
-    let fault : ℕ → LineFault = λ n. record { kind = NotUtf8; place = n } in
-    rw c.fault.ensures (not_utf8 c.args.piece.now c.in-Err.place fault _ c.in-Err.ensures.1 c.in-Err.ensures.0)
+returns-in-Err c = rw c.fault.ensures (not_utf8 c.args.piece.now c.in-Err.place not_utf8_at _ c.in-Err.ensures.1 c.in-Err.ensures.0)

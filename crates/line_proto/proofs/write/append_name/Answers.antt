@@ -27,16 +27,16 @@ returns-then-kept-eq35 c =
     (adds_after c.append_in_line.result old c.push-then-kept-eq35.new.self.items c.append_in_line.new.out.items (95 ∷ []) rest c.in_ok-push-2.ensures.items
     (subst (λ (text : List ℕ). Adds c.append_in_line.result c.push-then-kept-eq35.new.self.items c.append_in_line.new.out.items text) (name_same (on_one_line (take (length kept - 1) (drop 1 kept)))) c.append_in_line.ensures))
 
-pub returns-then-is_known_plain : goal.returns-then-is_known_plain
-returns-then-is_known_plain c =
+pub append_part-requires : goal.append_part-requires
+append_part-requires c = λ plain.
     let is = c.trim-kept.ensures ∙ ap trimmed (c.as_bytes.ensures.value ∙ c.as_str.ensures) in
     let some : length c.trim-kept.result.now ≡ 0 → ⊥ = eqb-false _ _ (sym c.is_empty.ensures ∙ c.if-is_empty.false) in
-    c.in_ok-extend_from_slice.ensures.items ∙ ap (λ text. c.args.out.now.items ++ text)
-    (word_name c.args.name.now c.trim-kept.result.now is (omega arith) (ne_eqb _ _ c.if-kept-eq35.false) (c.is_known_plain.ensures c.if-is_known_plain.true))
+    let no_hash = ne_eqb _ _ c.if-kept-eq35.false in
+    name_same (on_one_line c.trim-kept.result.now) ∙ kept_name c.args.name.now c.trim-kept.result.now 0 is (omega arith) no_hash ∙ sym (word_name c.args.name.now c.trim-kept.result.now is (omega arith) no_hash plain)
 
 pub returns : goal.returns
 returns c =
     let is = c.trim-kept.ensures ∙ ap trimmed (c.as_bytes.ensures.value ∙ c.as_str.ensures) in
     let some : length c.trim-kept.result.now ≡ 0 → ⊥ = eqb-false _ _ (sym c.is_empty.ensures ∙ c.if-is_empty.false) in
-    subst (λ (text : List ℕ). Adds c.append_in_line-2.result c.args.out.now.items c.append_in_line-2.new.out.items text)
-    (name_same (on_one_line c.trim-kept.result.now) ∙ kept_name c.args.name.now c.trim-kept.result.now 0 is (omega arith) (ne_eqb _ _ c.if-kept-eq35.false)) c.append_in_line-2.ensures
+    subst (λ (text : List ℕ). Adds c.append_part.result c.args.out.now.items c.append_part.new.out.items text)
+    (name_same (on_one_line c.trim-kept.result.now) ∙ kept_name c.args.name.now c.trim-kept.result.now 0 is (omega arith) (ne_eqb _ _ c.if-kept-eq35.false)) c.append_part.ensures

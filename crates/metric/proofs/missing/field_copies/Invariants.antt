@@ -2,4 +2,4 @@ use Rattle.std.proofs.Common.{◌≡◌, take}
 use Rattle.metric.proofs.missing.field_copies.Given as goal
 
 abbrev pub invariant-loop-field : goal.invariant-loop-field
-invariant-loop-field l = l.copies.items ≡ take l.field-index l.fields
+invariant-loop-field l = l.copies ≡ take l.field-index l.fields

@@ -2,4 +2,4 @@ use Rattle.std.proofs.Common.{◌≡◌, take}
 use Rattle.metric.proofs.missing.tag_copies.Given as goal
 
 abbrev pub invariant-loop-tag : goal.invariant-loop-tag
-invariant-loop-tag l = l.copies.items ≡ take l.tag-index l.tags
+invariant-loop-tag l = l.copies ≡ take l.tag-index l.tags

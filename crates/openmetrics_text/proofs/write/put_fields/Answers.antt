@@ -6,7 +6,7 @@ pub loop-field-init : goal.loop-field-init
 loop-field-init c = puts_none c.args.texts.now
 
 pub put_field-requires-clause-series : goal.put_field-requires-clause-series
-put_field-requires-clause-series c = puts_at c.args.texts.now c.loop-field.texts _ c.args.series _ c.loop-field.invariant c.requires.series
+put_field-requires-clause-series c = puts_at c.args.texts.now c.loop-field.texts _ c.args.series.now.place _ c.loop-field.invariant c.requires.series
 
 pub loop-field-preserved : goal.loop-field-preserved
 loop-field-preserved c =

@@ -1,7 +1,6 @@
 -- What a run of a configuration begins with, and what it leaves.
 use Rattle.std.proofs.Common.{◌≡◌, ◌<◌, ◌≤◌, ◌+◌, ℕ, zero, suc, ℤ, false, List, [], ◌∷◌, ◌++◌, length, get_or, drop, replicate, refl, sym, ap, ◌∙◌, subst, arith, append_assoc, append-nil}
 use Rattle.std.specs.Prelude.{map, All, IfOk, OnOk, Result, Ok, Err}
-use Rattle.std.specs.List.{remove}
 use Rattle.std.specs.declared.option.Option.{Option}
 use Rattle.std.proofs.lemmas.List.{length-map, map-append, drop_more, drop_all}
 use Rattle.fixed_num.specs.declared.memory.OutOfMemory.{OutOfMemory}
@@ -135,27 +134,19 @@ is_made config start opened times now sound new made =
 
 -- ---- its jobs, one by one
 
--- one job more, of the first source and the first clock that are left
+-- one job more, of the next source and the next clock
 module _ {S C : Type 0} (told : S → Carried) (timed : C → Timed) (config : Config) where
-  in_step : (n : ℕ) (conf : InputConf) (confs : List InputConf) (sources : List S) (clocks : List C) (d : S) (e : C) → 1 ≤ length sources → 1 ≤ length clocks →
-      fresh_ins config n (conf ∷ confs) (map told sources) (map timed clocks)
-      ≡ fresh_in config n conf (told (get_or sources 0 d)) (timed (get_or clocks 0 e)) ∷ fresh_ins config (n + 1) confs (map told (remove sources 0)) (map timed (remove clocks 0))
+  pub in_filled : (n number : ℕ) (confs : List InputConf) (jobs : List (InJob S C)) (job : InJob S C) (source : S) (sources : List S) (clock : C) (clocks : List C) (conf : InputConf) (all : List InPart) → n < length confs → number ≡ n → conf ≡ get_or confs n conf →
+      in_of told timed job ≡ fresh_in config number conf (told source) (timed clock) →
+      ins_of told timed jobs ++ fresh_ins config n (drop n confs) (map told (source ∷ sources)) (map timed (clock ∷ clocks)) ≡ all →
+      ins_of told timed (jobs ++ job ∷ []) ++ fresh_ins config (n + 1) (drop (n + 1) confs) (map told sources) (map timed clocks) ≡ all
   unfolding fresh_ins
-  in_step n conf confs [] clocks d e a b = absurd (omega (arith, a))
-  in_step n conf confs (source ∷ sources) [] d e a b = absurd (omega (arith, b))
-  in_step n conf confs (source ∷ sources) (clock ∷ clocks) d e a b = refl
-
-  pub in_filled : (n : ℕ) (confs : List InputConf) (jobs : List (InJob S C)) (job : InJob S C) (sources : List S) (clocks : List C) (conf : InputConf) (d : S) (e : C) (all : List InPart) → n < length confs → 1 ≤ length sources → 1 ≤ length clocks →
-      in_of told timed job ≡ fresh_in config n (get_or confs n conf) (told (get_or sources 0 d)) (timed (get_or clocks 0 e)) →
-      ins_of told timed jobs ++ fresh_ins config n (drop n confs) (map told sources) (map timed clocks) ≡ all →
-      ins_of told timed (jobs ++ job ∷ []) ++ fresh_ins config (n + 1) (drop (n + 1) confs) (map told (remove sources 0)) (map timed (remove clocks 0)) ≡ all
-  in_filled n confs jobs job sources clocks conf d e all b s c is h =
-      let rest : List InPart = fresh_ins config (n + 1) (drop (n + 1) confs) (map told (remove sources 0)) (map timed (remove clocks 0)) in
+  in_filled n number confs jobs job source sources clock clocks conf all b at here is h =
+      let rest : List InPart = fresh_ins config (n + 1) (drop (n + 1) confs) (map told sources) (map timed clocks) in
       ap (λ (xs : List InPart). xs ++ rest) (map-append (in_of told timed) jobs (job ∷ []))
       ∙ append_assoc (ins_of told timed jobs) (in_of told timed job ∷ []) rest
-      ∙ ap (λ (x : InPart). ins_of told timed jobs ++ x ∷ rest) is
-      ∙ ap (λ (xs : List InPart). ins_of told timed jobs ++ xs)
-      (sym (ap (λ (xs : List InputConf). fresh_ins config n xs (map told sources) (map timed clocks)) (drop_more confs n conf b) ∙ in_step n (get_or confs n conf) (drop (n + 1) confs) sources clocks d e s c))
+      ∙ ap (λ (x : InPart). ins_of told timed jobs ++ x ∷ rest) (is ∙ ap (λ (k : ℕ). fresh_in config k conf (told source) (timed clock)) at ∙ ap (λ (x : InputConf). fresh_in config n x (told source) (timed clock)) here)
+      ∙ ap (λ (xs : List InputConf). ins_of told timed jobs ++ fresh_ins config n xs (map told (source ∷ sources)) (map timed (clock ∷ clocks))) (sym (drop_more confs n conf b))
       ∙ h
 
 -- all are filled
@@ -164,54 +155,47 @@ unfolding fresh_ins
 in_filled_all config n confs sources clocks ins all b h = sym (append-nil ins) ∙ ap (λ (xs : List InputConf). ins ++ fresh_ins config n xs sources clocks) (sym (drop_all n confs b)) ∙ h
 
 module _ {K : Type 0} (told : K → Carried) where
-  out_step : (n : ℕ) (conf : OutputConf) (confs : List OutputConf) (sinks : List K) (d : K) → 1 ≤ length sinks →
-      fresh_outs n (conf ∷ confs) (map told sinks) ≡ fresh_out n conf (told (get_or sinks 0 d)) ∷ fresh_outs (n + 1) confs (map told (remove sinks 0))
+  pub out_filled : {C : Type 0} (n number : ℕ) (confs : List OutputConf) (jobs : List (OutJob K C)) (job : OutJob K C) (sink : K) (sinks : List K) (conf : OutputConf) (all : List OutPart) → n < length confs → number ≡ n → conf ≡ get_or confs n conf →
+      out_of told job ≡ fresh_out number conf (told sink) →
+      outs_of told jobs ++ fresh_outs n (drop n confs) (map told (sink ∷ sinks)) ≡ all →
+      outs_of told (jobs ++ job ∷ []) ++ fresh_outs (n + 1) (drop (n + 1) confs) (map told sinks) ≡ all
   unfolding fresh_outs
-  out_step n conf confs [] d a = absurd (omega (arith, a))
-  out_step n conf confs (sink ∷ sinks) d a = refl
-
-  pub out_filled : {C : Type 0} (n : ℕ) (confs : List OutputConf) (jobs : List (OutJob K C)) (job : OutJob K C) (sinks : List K) (conf : OutputConf) (d : K) (all : List OutPart) → n < length confs → 1 ≤ length sinks →
-      out_of told job ≡ fresh_out n (get_or confs n conf) (told (get_or sinks 0 d)) →
-      outs_of told jobs ++ fresh_outs n (drop n confs) (map told sinks) ≡ all →
-      outs_of told (jobs ++ job ∷ []) ++ fresh_outs (n + 1) (drop (n + 1) confs) (map told (remove sinks 0)) ≡ all
-  out_filled n confs jobs job sinks conf d all b s is h =
-      let rest : List OutPart = fresh_outs (n + 1) (drop (n + 1) confs) (map told (remove sinks 0)) in
+  out_filled n number confs jobs job sink sinks conf all b at here is h =
+      let rest : List OutPart = fresh_outs (n + 1) (drop (n + 1) confs) (map told sinks) in
       ap (λ (xs : List OutPart). xs ++ rest) (map-append (out_of told) jobs (job ∷ []))
       ∙ append_assoc (outs_of told jobs) (out_of told job ∷ []) rest
-      ∙ ap (λ (x : OutPart). outs_of told jobs ++ x ∷ rest) is
-      ∙ ap (λ (xs : List OutPart). outs_of told jobs ++ xs)
-      (sym (ap (λ (xs : List OutputConf). fresh_outs n xs (map told sinks)) (drop_more confs n conf b) ∙ out_step n (get_or confs n conf) (drop (n + 1) confs) sinks d s))
+      ∙ ap (λ (x : OutPart). outs_of told jobs ++ x ∷ rest) (is ∙ ap (λ (k : ℕ). fresh_out k conf (told sink)) at ∙ ap (λ (x : OutputConf). fresh_out n x (told sink)) here)
+      ∙ ap (λ (xs : List OutputConf). outs_of told jobs ++ fresh_outs n xs (map told (sink ∷ sinks))) (sym (drop_more confs n conf b))
       ∙ h
 
 pub out_filled_all : (n : ℕ) (confs : List OutputConf) (sinks : List Carried) (outs all : List OutPart) → length confs ≤ n → outs ++ fresh_outs n (drop n confs) sinks ≡ all → outs ≡ all
 unfolding fresh_outs
 out_filled_all n confs sinks outs all b h = sym (append-nil outs) ∙ ap (λ (xs : List OutputConf). outs ++ fresh_outs n xs sinks) (sym (drop_all n confs b)) ∙ h
 
--- a job by other terms
-pub in_is : {S C : Type 0} (told : S → Carried) (timed : C → Timed) (config : Config) (n : ℕ) (confs : List InputConf) (job : InJob S C) (number : ℕ) (conf : InputConf) (source : S) (clock : C) (sources : List S) (clocks : List C) →
-    in_of told timed job ≡ fresh_in config number conf (told source) (timed clock) → number ≡ n → conf ≡ get_or confs n conf → source ≡ get_or sources 0 source → clock ≡ get_or clocks 0 clock →
-    in_of told timed job ≡ fresh_in config n (get_or confs n conf) (told (get_or sources 0 source)) (timed (get_or clocks 0 clock))
-in_is {S} {C} told timed config n confs job number conf source clock sources clocks h a b c d =
-    h ∙ ap (λ (k : ℕ). fresh_in config k conf (told source) (timed clock)) a
-    ∙ ap (λ (x : InputConf). fresh_in config n x (told source) (timed clock)) b
-    ∙ ap (λ (x : S). fresh_in config n (get_or confs n conf) (told x) (timed clock)) c
-    ∙ ap (λ (x : C). fresh_in config n (get_or confs n conf) (told (get_or sources 0 source)) (timed x)) d
-
-pub out_is : {K C : Type 0} (told : K → Carried) (n : ℕ) (confs : List OutputConf) (job : OutJob K C) (number : ℕ) (conf : OutputConf) (sink : K) (sinks : List K) →
-    out_of told job ≡ fresh_out number conf (told sink) → number ≡ n → conf ≡ get_or confs n conf → sink ≡ get_or sinks 0 sink → out_of told job ≡ fresh_out n (get_or confs n conf) (told (get_or sinks 0 sink))
-out_is {K} told n confs job number conf sink sinks h a b c =
-    h ∙ ap (λ (k : ℕ). fresh_out k conf (told sink)) a
-    ∙ ap (λ (x : OutputConf). fresh_out n x (told sink)) b
-    ∙ ap (λ (x : K). fresh_out n (get_or confs n conf) (told x)) c
-
--- what is in hand of the first input that is left, and of the others
-pub hands_first : (n : ℕ) (confs : List InputConf) (hands : List Hand) (conf : InputConf) (d : Hand) → n < length confs → conf ≡ get_or confs n conf → hands ≡ empty_hands (drop n confs) → get_or hands 0 d ≡ empty_hand (cut_of conf.format)
-hands_first n confs hands conf d b at e = ap (λ (hs : List Hand). get_or hs 0 d) (e ∙ ap empty_hands (drop_more confs n conf b)) ∙ ap (λ (x : InputConf). empty_hand (cut_of x.format)) (sym at)
-
-pub hands_left : (n : ℕ) (confs : List InputConf) (hands : List Hand) (conf : InputConf) → n < length confs → hands ≡ empty_hands (drop n confs) → remove hands 0 ≡ empty_hands (drop (n + 1) confs)
-hands_left n confs hands conf b e = ap (λ (hs : List Hand). remove hs 0) (e ∙ ap empty_hands (drop_more confs n conf b))
+-- what is in hand of the next input, and of the others
+pub hands_next : (n : ℕ) (confs : List InputConf) (hand : Hand) (hands : List Hand) (conf : InputConf) → n < length confs → conf ≡ get_or confs n conf → hand ∷ hands ≡ empty_hands (drop n confs) → (hand ≡ empty_hand (cut_of conf.format)) × (hands ≡ empty_hands (drop (n + 1) confs))
+hands_next n confs hand hands conf b here e =
+    let all : hand ∷ hands ≡ empty_hands (get_or confs n conf ∷ drop (n + 1) confs) = e ∙ ap empty_hands (drop_more confs n conf b) in
+    (ap (λ (hs : List Hand). get_or hs 0 hand) all ∙ ap (λ (x : InputConf). empty_hand (cut_of x.format)) (sym here), ap (drop 1) all)
 
 -- ---- what it leaves
+
+-- what is next comes after what came, within all
+pub is_one_of : {X : Type 0} (came : List X) (x : X) (rest all : List X) → came ++ x ∷ rest ≡ all → length came < length all
+is_one_of [] x rest all e = omega (arith, ap (λ (xs : List _). length xs) e)
+is_one_of (y ∷ came) x rest [] e = omega (arith, ap (λ (xs : List _). length xs) e)
+is_one_of (y ∷ came) x rest (z ∷ all) e = omega (arith, is_one_of came x rest all (ap (drop 1) e))
+
+-- what came is all, where nothing is left
+pub is_all : {X : Type 0} (came rest all : List X) → length rest ≡ 0 → came ++ rest ≡ all → came ≡ all
+is_all came [] all none e = sym (append-nil came) ∙ e
+is_all came (x ∷ rest) all none e = absurd (omega (arith, none))
+
+-- one source more is taken out of its job
+pub in_taken : {S C : Type 0} (told : S → Carried) (timed : C → Timed) (sources : List S) (jobs : List (InJob S C)) (job : InJob S C) → map told sources ≡ map in_carried (ins_of told timed jobs) → map told (sources ++ job.source ∷ []) ≡ map in_carried (ins_of told timed (jobs ++ job ∷ []))
+in_taken told timed sources jobs job h =
+    map-append told sources (job.source ∷ []) ∙ ap (λ (xs : List Carried). xs ++ told job.source ∷ []) h
+    ∙ sym (ap (map in_carried) (map-append (in_of told timed) jobs (job ∷ [])) ∙ map-append in_carried (ins_of told timed jobs) (in_of told timed job ∷ []))
 
 -- lists that tell the same are of one length
 pub same_count : {X Y Z : Type 0} (f : X → Z) (h : Y → Z) (xs : List X) (ys : List Y) → map f xs ≡ map h ys → length xs ≡ length ys

@@ -19,6 +19,7 @@ use Rattle.agent_workers.specs.Output.{OutPart}
 use Rattle.agent_workers.specs.Run.{carried_change, InRun, OutRun, RunChange}
 use Rattle.agent_workers.specs.RunState.{RunState}
 use Rattle.agent_workers.specs.Running.{IsReady, buffered_at}
+use Rattle.agent_workers.specs.declared.parts.Back.{Back}
 use Rattle.agent_workers.specs.declared.parts.Clocks.{Clocks}
 use Rattle.agent_workers.specs.declared.parts.Opened.{Opened}
 use Rattle.agent_workers.specs.declared.parts.Parts.{Parts}
@@ -55,12 +56,19 @@ pub record AreFor {S K C : Type 0} (config : Config) (opened : Opened S K) (cloc
   pub sinks : vec_len opened.outputs ≡ length config.outputs
   pub out_clocks : vec_len clocks.outputs ≡ length config.outputs
 
--- the lists in which sources and sinks came are empty, and have room for those of the jobs
+-- two lists are empty, and have room for the sources and the sinks of a configuration
+pub record HasRoomFor {S K : Type 0} (config : Config) (back : Back S K) : Type 0 where
+  pub no_source : back.sources.items ≡ []
+  pub source_room : length config.inputs ≤ vec_capacity back.sources
+  pub no_sink : back.sinks.items ≡ []
+  pub sink_room : length config.outputs ≤ vec_capacity back.sinks
+
+-- the lists in which sources and sinks are given back are empty, and have room for those of the jobs
 pub record HasRoom {S K C : Type 0} (parts : Parts S K C) : Type 0 where
-  pub no_source : parts.emptied.sources.items ≡ []
-  pub source_room : vec_len parts.inputs ≤ vec_capacity parts.emptied.sources
-  pub no_sink : parts.emptied.sinks.items ≡ []
-  pub sink_room : vec_len parts.outputs ≤ vec_capacity parts.emptied.sinks
+  pub no_source : parts.back.sources.items ≡ []
+  pub source_room : vec_len parts.inputs ≤ vec_capacity parts.back.sources
+  pub no_sink : parts.back.sinks.items ≡ []
+  pub sink_room : vec_len parts.outputs ≤ vec_capacity parts.back.sinks
 
 -- what is in hand of inputs of which nothing was read
 abbrev pub empty_hands : List InputConf → List Hand

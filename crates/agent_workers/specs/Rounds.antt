@@ -5,12 +5,12 @@ use Rattle.agent_workers.specs.RunState.{RunState}
 use Rattle.agent_workers.specs.Running.{AreLeft}
 use Rattle.agent_workers.specs.declared.parts.Parts.{Parts}
 
--- there are as many jobs as before, which are tried as often at the end, and the lists in which sources and sinks came are as they were
+-- there are as many jobs as before, which are tried as often at the end, and the lists in which sources and sinks are given back are as they were
 pub record AreSameParts {S K C : Type 0} (old new : Parts S K C) : Type 0 where
   pub in_count : vec_len new.inputs ≡ vec_len old.inputs
   pub count : vec_len new.outputs ≡ vec_len old.outputs
   pub tries : new.final_tries ≡ old.final_tries
-  pub emptied : new.emptied ≡ old.emptied
+  pub back : new.back ≡ old.back
 
 -- no round follows: the run is full, or each input is read no more and holds nothing
 abbrev pub IsOver : RunState → Type 0

@@ -7,7 +7,7 @@ ghost use Rattle.agent_workers.specs.Inputs.{in_of, ins_of};
 ghost use Rattle.agent_workers.specs.Job.{job_of, journal_setup_of, setup_of};
 ghost use Rattle.agent_workers.specs.Opened.{carried_by, timed_by, empty_hands, in_carried, out_carried};
 ghost use Rattle.agent_workers.specs.Opened.{fresh_in, fresh_ins, fresh_out, fresh_outs};
-ghost use Rattle.agent_workers.specs.Opened.{AreFor, HasRoom, IsMadeOf, IsNewCore};
+ghost use Rattle.agent_workers.specs.Opened.{AreFor, HasRoom, HasRoomFor, IsMadeOf, IsNewCore};
 ghost use Rattle.agent_workers.specs.Output.{out_of, outs_of};
 ghost use Rattle.agent_workers.specs.RunState.{state_of};
 ghost use Rattle.formats.specs.Reader.{cut_of};
@@ -51,9 +51,9 @@ pub struct Clocks<C: Drop> {
     pub outputs: Vec<C>,
 }
 
-/// The lists in which the sources and the sinks of a run came, without them: they are given back in these, which takes no memory.
+/// Empty lists with room for the sources and the sinks of a run: they are given back in these, which takes no memory.
 #[derive(Drop)]
-pub struct Emptied<S: Drop, K: Drop> {
+pub struct Back<S: Drop, K: Drop> {
     pub sources: Vec<S>,
     pub sinks: Vec<K>,
 }
@@ -71,8 +71,8 @@ pub struct Parts<'a, S: Drop, K: Drop, C: Drop> {
     pub journal: JournalJob<K, C>,
     /// How often in succession a repeat that had no batch accepted is tried at the end.
     pub final_tries: u32,
-    /// The lists in which its sources and sinks came.
-    pub emptied: Emptied<S, K>,
+    /// The lists in which its sources and sinks are given back.
+    pub back: Back<S, K>,
 }
 
 /// All that a run takes memory for at its begin: its core, what its journal is about, and room for its jobs.
@@ -83,6 +83,7 @@ struct Room<'a, S: Drop, K: Drop, C: Drop> {
     pieces: Vec<Pieces>,
     inputs: Vec<InJob<'a, S, C>>,
     outputs: Vec<OutJob<K, C>>,
+    back: Back<S, K>,
 }
 
 /// What was taken of inputs of which nothing was read.
@@ -110,16 +111,23 @@ fn make_room<'a, S: Source + Drop, K: Sink + Drop, C: Clock + Drop>(
     ensures in_room { IfOk result (λ room. length config.now.inputs ≤ vec_capacity room.inputs) }
     ensures outputs { IfOk result (λ room. room.outputs.items ≡ []) }
     ensures out_room { IfOk result (λ room. length config.now.outputs ≤ vec_capacity room.outputs) }
+    ensures back { IfOk result (λ room. HasRoomFor config.now room.back) }
 {
     let core = new_core(alloc, config, start)?;
     let about = journal_setup(alloc, config, start)?;
     let pieces = empty_pieces(alloc, config.inputs.as_slice())?;
+    let (in_count, out_count) = (config.inputs.as_slice().len(), config.outputs.as_slice().len());
+    let back = Back {
+        sources: Vec::with_capacity(alloc, in_count)?,
+        sinks: Vec::with_capacity(alloc, out_count)?,
+    };
     Ok(Room {
         core,
         about,
         pieces,
-        inputs: Vec::with_capacity(alloc, config.inputs.as_slice().len())?,
-        outputs: Vec::with_capacity(alloc, config.outputs.as_slice().len())?,
+        inputs: Vec::with_capacity(alloc, in_count)?,
+        outputs: Vec::with_capacity(alloc, out_count)?,
+        back,
     })
 }
 
@@ -152,30 +160,37 @@ fn in_job<'a, S: Source + Drop, C: Clock + Drop>(
     }
 }
 
-/// Makes the job of each input, of its source, its clock and what is taken of it.
+/// Makes the job of each input, of its source, its clock and what is taken of it, in their order.
 fn fill_inputs<'a, S: Source + Drop, C: Clock + Drop>(
     config: &'a Config,
-    pieces: &mut Vec<Pieces>,
-    sources: &mut Vec<S>,
-    clocks: &mut Vec<C>,
+    pieces: Vec<Pieces>,
+    sources: Vec<S>,
+    clocks: Vec<C>,
     jobs: &mut Vec<InJob<'a, S, C>>,
 )
     requires sound { IsSound config.now }
-    requires pieces { pieces.old.items ≡ empty_hands config.now.inputs }
-    requires sources { vec_len sources.old ≡ length config.now.inputs }
-    requires clocks { vec_len clocks.old ≡ length config.now.inputs }
+    requires pieces { pieces.items ≡ empty_hands config.now.inputs }
+    requires sources { vec_len sources ≡ length config.now.inputs }
+    requires clocks { vec_len clocks ≡ length config.now.inputs }
     requires none { jobs.old.items ≡ [] }
     requires room { length config.now.inputs ≤ vec_capacity jobs.old }
-    ensures made { ins_of S.told C.told jobs.new.items ≡ fresh_ins config.now 0 config.now.inputs
-        (map S.told sources.old.items) (map C.told clocks.old.items) }
-    ensures left { sources.new.items ≡ [] }
-    ensures room_left { vec_capacity sources.new ≡ vec_capacity sources.old }
+    ensures { ins_of S.told C.told jobs.new.items ≡ fresh_ins config.now 0 config.now.inputs
+        (map S.told sources.items) (map C.told clocks.items) }
 {
+    let mut pieces = pieces.into_iter();
+    let mut sources = sources.into_iter();
+    let mut clocks = clocks.into_iter();
     for conf in config.inputs.as_slice() {
+        let Some(taken) = pieces.next() else {
+            unreachable!()
+        };
+        let Some(source) = sources.next() else {
+            unreachable!()
+        };
+        let Some(clock) = clocks.next() else {
+            unreachable!()
+        };
         let input = jobs.len();
-        let source = sources.remove(0);
-        let taken = pieces.remove(0);
-        let clock = clocks.remove(0);
         jobs.push_reserved(in_job(config, conf, input, source, taken, clock));
     }
 }
@@ -200,27 +215,30 @@ fn out_job<K: Sink + Drop, C: Drop>(
     }
 }
 
-/// Makes the job of each output, of its sink and its clock.
+/// Makes the job of each output, of its sink and its clock, in their order.
 fn fill_outputs<K: Sink + Drop, C: Drop>(
     config: &Config,
-    sinks: &mut Vec<K>,
-    clocks: &mut Vec<C>,
+    sinks: Vec<K>,
+    clocks: Vec<C>,
     jobs: &mut Vec<OutJob<K, C>>,
 )
     requires sound { IsSound config.now }
-    requires sinks { vec_len sinks.old ≡ length config.now.outputs }
-    requires clocks { vec_len clocks.old ≡ length config.now.outputs }
+    requires sinks { vec_len sinks ≡ length config.now.outputs }
+    requires clocks { vec_len clocks ≡ length config.now.outputs }
     requires none { jobs.old.items ≡ [] }
     requires room { length config.now.outputs ≤ vec_capacity jobs.old }
-    ensures made { outs_of K.told jobs.new.items
-        ≡ fresh_outs 0 config.now.outputs (map K.told sinks.old.items) }
-    ensures left { sinks.new.items ≡ [] }
-    ensures room_left { vec_capacity sinks.new ≡ vec_capacity sinks.old }
+    ensures { outs_of K.told jobs.new.items ≡ fresh_outs 0 config.now.outputs (map K.told sinks.items) }
 {
+    let mut sinks = sinks.into_iter();
+    let mut clocks = clocks.into_iter();
     for conf in config.outputs.as_slice() {
+        let Some(sink) = sinks.next() else {
+            unreachable!()
+        };
+        let Some(clock) = clocks.next() else {
+            unreachable!()
+        };
         let output = jobs.len();
-        let sink = sinks.remove(0);
-        let clock = clocks.remove(0);
         jobs.push_reserved(out_job(conf, output, sink, clock));
     }
 }
@@ -246,33 +264,28 @@ pub fn set_up<'a, S: Source + Drop, K: Sink + Drop, C: Clock + Drop>(
     let Room {
         core,
         about,
-        mut pieces,
+        pieces,
         inputs: mut in_jobs,
         outputs: mut out_jobs,
+        back,
     } = match make_room(alloc, config, start) {
         Ok(room) => room,
         Err(_) => return Err(opened),
     };
     let Opened {
-        inputs: mut sources,
-        outputs: mut sinks,
+        inputs: sources,
+        outputs: sinks,
         journal,
     } = opened;
     let Clocks {
         timer,
         proc,
         journal: journal_clock,
-        inputs: mut in_clocks,
-        outputs: mut out_clocks,
+        inputs: in_clocks,
+        outputs: out_clocks,
     } = clocks;
-    fill_inputs(
-        config,
-        &mut pieces,
-        &mut sources,
-        &mut in_clocks,
-        &mut in_jobs,
-    );
-    fill_outputs(config, &mut sinks, &mut out_clocks, &mut out_jobs);
+    fill_inputs(config, pieces, sources, in_clocks, &mut in_jobs);
+    fill_outputs(config, sinks, out_clocks, &mut out_jobs);
     let parts = Parts {
         inputs: in_jobs,
         timer,
@@ -283,41 +296,36 @@ pub fn set_up<'a, S: Source + Drop, K: Sink + Drop, C: Clock + Drop>(
         outputs: out_jobs,
         journal: JournalJob::new(alloc, about, journal, journal_clock),
         final_tries: config.agent.final_tries,
-        emptied: Emptied { sources, sinks },
+        back,
     };
     Ok((core, parts))
 }
 
 /// Takes the sources out of the jobs of inputs, in their order.
-fn empty_inputs<S: Source + Drop, C: Clock + Drop>(
-    mut jobs: Vec<InJob<'_, S, C>>,
-    sources: &mut Vec<S>,
-)
+fn empty_inputs<S: Source + Drop, C: Clock + Drop>(jobs: Vec<InJob<'_, S, C>>, sources: &mut Vec<S>)
     requires none { sources.old.items ≡ [] }
     requires room { vec_len jobs ≤ vec_capacity sources.old }
     ensures { map S.told sources.new.items
         ≡ map in_carried (ins_of S.told C.told jobs.entry.items) }
 {
-    for _input in 0..jobs.len() {
-        let job = jobs.remove(0);
+    for job in jobs {
         sources.push_reserved(job.source);
     }
 }
 
 /// Takes the sinks out of the jobs of outputs, in their order.
-fn empty_outputs<K: Sink + Drop, C: Drop>(mut jobs: Vec<OutJob<K, C>>, sinks: &mut Vec<K>)
+fn empty_outputs<K: Sink + Drop, C: Drop>(jobs: Vec<OutJob<K, C>>, sinks: &mut Vec<K>)
     requires none { sinks.old.items ≡ [] }
     requires room { vec_len jobs ≤ vec_capacity sinks.old }
     ensures { map K.told sinks.new.items ≡ map out_carried (outs_of K.told jobs.items) }
 {
-    for _output in 0..jobs.len() {
-        let job = jobs.remove(0);
+    for job in jobs {
         sinks.push_reserved(job.sink);
     }
 }
 
 impl<'a, S: Source + Drop, K: Sink + Drop, C: Clock + Drop> Parts<'a, S, K, C> {
-    /// Takes the parts out of the jobs, in their order, in the lists in which they came.
+    /// Takes the parts out of the jobs, in their order.
     pub fn take_apart(self) -> Opened<S, K>
         requires { HasRoom self }
         ensures sources { map S.told result.inputs.items
@@ -330,13 +338,13 @@ impl<'a, S: Source + Drop, K: Sink + Drop, C: Clock + Drop> Parts<'a, S, K, C> {
             inputs: in_jobs,
             outputs: out_jobs,
             journal,
-            emptied,
+            back,
             ..
         } = self;
-        let Emptied {
+        let Back {
             mut sources,
             mut sinks,
-        } = emptied;
+        } = back;
         empty_inputs(in_jobs, &mut sources);
         empty_outputs(out_jobs, &mut sinks);
         Opened {

@@ -127,7 +127,7 @@ send_each-requires-clause-outputs g c =
 pub loop-round-init : goal.loop-round-init
 loop-round-init g c = record {
   running = c.requires.running;
-  parts = record { in_count = refl; count = refl; tries = refl; emptied = refl };
+  parts = record { in_count = refl; count = refl; tries = refl; back = refl };
   fit = c.requires.fit;
   about = record { setup = refl; inputs = inputs_themselves (ins g c.args.self.now.inputs.items); proc = refl; timer = refl };
   settled = λ s. s;
@@ -139,7 +139,7 @@ loop-round-preserved g c =
     let k = (goal.at.loop-round-preserved g c).In_ok-note in
     record {
       running = running g k;
-      parts = record { in_count = c.loop-round.invariant.parts.in_count; count = c.loop-round.invariant.parts.count; tries = c.loop-round.invariant.parts.tries; emptied = c.loop-round.invariant.parts.emptied };
+      parts = record { in_count = c.loop-round.invariant.parts.in_count; count = c.loop-round.invariant.parts.count; tries = c.loop-round.invariant.parts.tries; back = c.loop-round.invariant.parts.back };
       fit = subst AreFit (sym (is_last g k)) (fit g k);
       about = subst (IsAboutSame (state g c.args.core.now c.args.self.now)) (sym (is_last g k)) (about g k);
       settled = λ s. subst (λ (jobs : List (OutJob g.row.K.Denot g.row.C.Denot)). AreSettled c.note.new.core (outs g jobs)) (sym (out_jobs g k)) (settled_still c.send_each.new.core c.note.new.core (outs g c.send_each.new.outputs) c.in_ok-note.ensures.noted c.in_ok-send_each.ensures.swept.settled);

@@ -9,7 +9,8 @@ use Rattle.turnstile.specs.declared.history.Phase.TheVariants.{Idle, Holding}
 use Rattle.turnstile.specs.History.{call_of, calls_by, replay, IsLegal}
 use Rattle.turnstile.specs.Numbers.{times, numbers_of}
 
-module _ {S O A : Type 0} (allows : S → O → A → Type 0) (next : S → O → A → S) (dial_of : S → ℕ → ℕ) (start : S) where
+module _ {S O A : Type 0} (allows : S → O → A → Type 0) (next : S → O → A → S) (dial_of : S → ℕ → ℕ)
+    (start : S) where
   -- a pass that had the view v has the turn: it has seen the whole history, its calls in it are those that it made,
   -- and with it is the machine as the history left it
   pub record HasTurn (v : View O A) (me : Me (Option S) (View O A)) : Type 0 where

@@ -26,6 +26,11 @@ module _ {S O A : Type 0} where
     pub behind : (id : ℕ) (v : View O A) → LivesAt views id v → has_turn v.phase ≡ false
         → (i : ℕ) → i < dials → dial_of (replay next start v.seen) i ≤ slice_index words (3 + i)
 
+  -- no dial fell by the last call
+  abbrev pub NoneFell : (S → O → A → S) → (S → ℕ → ℕ) → S → List (Call O A) → Type 0
+  NoneFell next dial_of start history = (i : ℕ)
+      → dial_of (replay next start (but_last history)) i ≤ dial_of (replay next start history) i
+
   -- a step finds that the dial which is published next still shows the state before the last call
   abbrev pub Found : (S → O → A → S) → (S → ℕ → ℕ) → Option S
       → Step (Option S) → Me (Option S) (View O A) → ℕ → Me (Option S) (View O A) → Type 0

@@ -22,7 +22,8 @@ pub record AreOpening (words : List ℕ) (dials : ℕ) : Type 0 where
   pub next : slice_index words 2 ≡ 1
   pub zeros : (i : ℕ) → i < dials → slice_index words (3 + i) ≡ 0
 
-module _ {S O A : Type 0} (allows : S → O → A → Type 0) (next : S → O → A → S) (dial_of : S → ℕ → ℕ) (start : S) (dials : ℕ) where
+module _ {S O A : Type 0} (allows : S → O → A → Type 0) (next : S → O → A → S) (dial_of : S → ℕ → ℕ)
+    (start : S) (dials : ℕ) where
   -- there is one legal history, of which the words, the machine's home and what each pass knows are parts
   pub record IsKept (s : State (Option S) (View O A)) : Type 0 where
     pub history : List (Call O A)

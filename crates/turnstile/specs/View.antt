@@ -1,5 +1,6 @@
 -- What a pass knows, and what contracts see of a pass and of a turnstile.
-use Rattle.std.specs.Prelude.{◌≡◌, ◌==◌, if◌then◌else◌, ℕ, List, [], ◌∷◌, ◌++◌, replicate, max, Option, Bool, true, false}
+use Rattle.std.specs.Prelude.{◌≡◌, ◌==◌, if◌then◌else◌, ℕ, List, [], ◌∷◌, ◌++◌, replicate, max, Option}
+use Rattle.std.specs.Prelude.{Bool, true, false}
 use lib.ListN.{get_elem?}
 use mathlib.Core.Option.{some}
 use Rattle.atomic_table.specs.Seated.{TableId}

@@ -1,9 +1,10 @@
 //! What a pass does at the shared words: its calls, its glances, and how it is split and joined.
 ghost use Rattle.std.specs.Prelude.{◌≡◌, ℕ, ◌<◌, ◌≤◌, ◌+◌, ◌%◌, ◌^◌, Some, length, slice_index, slice_set};
 ghost use Rattle.turnstile.specs.declared.history.Phase.TheVariants.{Holding, Publishing};
-ghost use Rattle.turnstile.specs.History.{replay, call_of, but_last};
+ghost use Rattle.turnstile.specs.History.{replay, call_of};
 ghost use Rattle.turnstile.specs.View.{Rests, with_call, joined_with, IsSplit};
 ghost use Rattle.turnstile.specs.Calls.{Calls};
+ghost use Rattle.turnstile.specs.Dials.{NoneFell};
 ghost use Rattle.turnstile.specs.Rule.{IsSized};
 
 use crate::machine::Machine;
@@ -28,8 +29,10 @@ fn commit<M: Machine, C: CommittedCall<M::Op, M::Answer>>(
     requires holding { seat.old.me.0.phase ≡ Holding }
     requires call { C.call ≡ Some (op.now.value, answer.now) }
     requires allowed { M.allows (replay M.next table.now.key.0.value seat.old.me.0.seen) op.now.value answer.now }
-    ensures place { (seat.new.table_id ≡ seat.old.table_id) × (seat.new.id ≡ seat.old.id) × (seat.new.me.1 ≡ seat.old.me.1) }
-    ensures committed { seat.new.me.0 ≡ with_call (call_of seat.old.me.0.number (op.now.value, answer.now)) seat.old.me.0 }
+    ensures place { (seat.new.table_id ≡ seat.old.table_id) × (seat.new.id ≡ seat.old.id)
+        × (seat.new.me.1 ≡ seat.old.me.1) }
+    ensures committed { seat.new.me.0
+        ≡ with_call (call_of seat.old.me.0.number (op.now.value, answer.now)) seat.old.me.0 }
     ensures number { result ≡ length seat.new.me.0.seen % 2 ^ 64 }
 {
     let found = table.fetch_add::<Commits<C>>(seat, LENGTH, 1);
@@ -48,9 +51,9 @@ fn publish<M: Machine, B: FirstState<M>>(
     requires known { B.start ≡ Some table.now.key.0.value }
     requires next { (seat.old.me.0.phase ≡ Publishing dial) × (dial < table.now.key.1) }
     requires machine { machine.now ≡ replay M.next table.now.key.0.value seat.old.me.0.seen }
-    requires rise { (i : ℕ) → M.dial_of (replay M.next table.now.key.0.value (but_last seat.old.me.0.seen)) i
-        ≤ M.dial_of (replay M.next table.now.key.0.value seat.old.me.0.seen) i }
-    ensures place { (seat.new.table_id ≡ seat.old.table_id) × (seat.new.id ≡ seat.old.id) × (seat.new.me.1 ≡ seat.old.me.1) }
+    requires none_fell { NoneFell M.next M.dial_of table.now.key.0.value seat.old.me.0.seen }
+    ensures place { (seat.new.table_id ≡ seat.old.table_id) × (seat.new.id ≡ seat.old.id)
+        × (seat.new.me.1 ≡ seat.old.me.1) }
     ensures published { seat.new.me.0 ≡ record seat.old.me.0 { phase = Publishing (dial + 1) } }
 {
     let word = FIRST_DIAL + dial as usize;
@@ -66,9 +69,9 @@ fn publish_all<M: Machine>(table: &TurnTable<M>, seat: &mut TurnSeat<M>, machine
     requires place { seat.old.table_id ≡ table.now.table_id }
     requires next { seat.old.me.0.phase ≡ Publishing 0 }
     requires machine { machine.now ≡ replay M.next table.now.key.0.value seat.old.me.0.seen }
-    requires rise { (i : ℕ) → M.dial_of (replay M.next table.now.key.0.value (but_last seat.old.me.0.seen)) i
-        ≤ M.dial_of (replay M.next table.now.key.0.value seat.old.me.0.seen) i }
-    ensures place { (seat.new.table_id ≡ seat.old.table_id) × (seat.new.id ≡ seat.old.id) × (seat.new.me.1 ≡ seat.old.me.1) }
+    requires none_fell { NoneFell M.next M.dial_of table.now.key.0.value seat.old.me.0.seen }
+    ensures place { (seat.new.table_id ≡ seat.old.table_id) × (seat.new.id ≡ seat.old.id)
+        × (seat.new.me.1 ≡ seat.old.me.1) }
     ensures published { seat.new.me.0 ≡ record seat.old.me.0 { phase = Publishing table.now.key.1 } }
 {
     for dial in 0..dials {
@@ -89,7 +92,8 @@ pub(crate) fn call<M: Machine, R: Wait>(
     requires place { seat.old.table_id ≡ table.now.table_id }
     requires rests { Rests seat.old.me }
     ensures place { (seat.new.table_id ≡ seat.old.table_id) × (seat.new.id ≡ seat.old.id) × Rests seat.new.me }
-    ensures call { Calls M.allows M.next M.dial_of table.now.key.0.value seat.old.me.0 op result.0 result.1 seat.new.me.0 }
+    ensures call { Calls M.allows M.next M.dial_of table.now.key.0.value seat.old.me.0 op
+        result.0 result.1 seat.new.me.0 }
 {
     acquire(table, rt, seat, dials);
     let mut machine = table.exchange(seat, HOME, None).unwrap();

@@ -1,5 +1,5 @@
 -- What the dials show stays as it is, or is raised.
-use Rattle.std.proofs.Common.{◌≡◌, ◌≢◌, ◌⊎◌, ℕ, ◌+◌, ◌<◌, ◌≤◌, List, length, get_or, set, sym, ap, ◌∙◌, subst}
+use Rattle.std.proofs.Common.{◌≡◌, ◌≢◌, ℕ, ◌+◌, ◌<◌, ◌≤◌, List, length, get_or, set, sym, ap, ◌∙◌, subst}
 use Rattle.std.proofs.Common.{⊎_elim, arith, true, false, get_or-set_other}
 use mathlib.Core.Logic.{dite}
 use native.Mathlib.Decide.{dec_le}
@@ -15,6 +15,7 @@ pub apart_words : (words : List ℕ) (k x : ℕ) → k < 3 → (i : ℕ)
     → get_or (set words k x) (3 + i) 0 ≡ get_or words (3 + i) 0
 apart_words words k x h i = get_or-set_other words k (3 + i) x 0 (λ e. omega arith)
 
+-- and so no dial falls
 pub unraised : (dials : ℕ) (words : List ℕ) (k x : ℕ) → k < 3 → (i : ℕ) → i < dials
     → get_or words (3 + i) 0 ≤ get_or (set words k x) (3 + i) 0
 unraised dials words k x h i l = let e = apart_words words k x h i in omega arith

@@ -1,5 +1,5 @@
 -- Looking at a dial and publishing one keep the rule.
-use Rattle.std.proofs.Common.{◌≡◌, ◌≢◌, ◌⊎◌, ℕ, ◌+◌, ◌%◌, ◌^◌, ◌<◌, ◌≤◌, List, length, get_or, set, sym, refl, ap}
+use Rattle.std.proofs.Common.{◌≡◌, ◌≢◌, ℕ, ◌+◌, ◌%◌, ◌^◌, ◌<◌, ◌≤◌, List, length, get_or, set, sym, refl, ap}
 use Rattle.std.proofs.Common.{◌∙◌, subst, ⊎_elim, arith, Option, Some, true, false, length-set, get_or-set_other}
 use Rattle.std.proofs.Common.{get_or-set_same}
 use mathlib.Core.Option.{none, some}
@@ -24,6 +24,7 @@ use Rattle.turnstile.proofs.DialLemmas.{dial_word, low_set, behind_set, shows_st
 
 module _ {S O A : Type 0} (allows : S → O → A → Type 0) (next : S → O → A → S) (dial_of : S → ℕ
     → ℕ) (start : S) (dials : ℕ) where
+  -- a word and a view that are written as they were change nothing
   same_state : (s : State (Option S) (View O A)) (r : IsKept allows next dial_of start dials s) (i id : ℕ)
       (v : View O A) → get_elem? s.views id ≡ some v
       → IsKept allows next dial_of start dials record {
@@ -38,6 +39,7 @@ module _ {S O A : Type 0} (allows : S → O → A → Type 0) (next : S → O �
         views = t.1;
       }) (λ k. (sym (set-get_or s.words i 0) k, sym (set_again s.views id v at) k)) r
 
+  -- the dial that is published next is looked at
   pub finds : (slots id p : ℕ) (me : Me (Option S) (View O A)) (told : Option S) → told ≡ Some start
       → me.0.phase ≡ Publishing p → p < dials
       → Allows (IsKept allows next dial_of start dials) slots id me (3 + p)
@@ -61,6 +63,7 @@ module _ {S O A : Type 0} (allows : S → O → A → Type 0) (next : S → O �
         ),
       )
 
+  -- a dial rises to what it is after the last call
   pub publishes : (slots id p k : ℕ) (me : Me (Option S) (View O A)) → me.0.phase ≡ Publishing p → p < dials
       → k + dial_of (replay next start (but_last me.0.seen)) p ≡ dial_of (replay next start me.0.seen) p
       → dial_of (replay next start me.0.seen) p < 2 ^ 64
@@ -163,6 +166,7 @@ module _ {S O A : Type 0} (allows : S → O → A → Type 0) (next : S → O �
         ),
       )
 
+  -- a dial is looked at without the turn
   pub glances : (slots id i : ℕ) (me : Me (Option S) (View O A)) (told : Option S) → told ≡ Some start
       → me.0.phase ≡ Idle → i < dials
       → Allows (IsKept allows next dial_of start dials) slots id me (3 + i)

@@ -22,16 +22,19 @@ use Rattle.turnstile.proofs.PassNumbers.{first_place, is_first}
 
 module _ {S O A : Type 0} (allows : S → O → A → Type 0) (next : S → O → A → S) (dial_of : S → ℕ
     → ℕ) (start : S) (dials : ℕ) where
+  -- at first there is one pass
   at_start : (id : ℕ) (v : View O A) → get_elem? (first_view {O = O} {A = A} dials ∷ []) id ≡ some v
       → (id ≡ 0) × (first_view dials ≡ v)
   at_start zero v e = (refl, some-injective (first_view dials) v e)
   at_start (suc id) v e = absurd (some-ne-none v (sym e))
 
+  -- nothing was glanced at yet
   zeros : (n i : ℕ) → ◌≡◌ {A = ℕ} (get_or (replicate n 0) i 0) 0
   zeros zero i = refl
   zeros (suc n) zero = refl
   zeros (suc n) (suc i) = zeros n i
 
+  -- a machine whose dials are all 0 begins a turnstile
   pub opens : (words : List ℕ) → length words ≡ 4 + dials → get_or words 0 0 ≡ 0 → get_or words 1 0 ≡ 0
       → get_or words 2 0 ≡ 1 → ((i : ℕ) → i < dials → get_or words (3 + i) 0 ≡ 0)
       → ((i : ℕ) → i < dials → dial_of start i ≡ 0)

@@ -30,10 +30,12 @@ module _ {O A : Type 0} (history : List (Call O A)) (drawn : ℕ) (views : List 
       let e : times v.number r.top.split ≡ times 0 r.top.split = ap (λ (n : ℕ). times n r.top.split) z in
       absurd (omega arith))
 
+  -- and its view is that of the first pass
   pub is_first : (id : ℕ) (v : View O A) → LivesAt views id v → v.number ≡ 0 → v ≡ r.top
   is_first id v l z =
       same_view views 0 v r.top (subst (λ (k : ℕ). get_elem? views k ≡ some v) (first_place id v l z) l.0) r.top_is.0
 
+  -- numbers stay apart where one view keeps its number
   apart_set : (id : ℕ) (v w : View O A) → LivesAt views id v → w.number ≡ v.number → (i j : ℕ) (a b : View O A)
       → LivesAt (set views id w) i a → LivesAt (set views id w) j b → i ≢ j → a.number ≢ b.number
   apart_set id v w l num i j a b p q ne = ⊎_elim
@@ -46,14 +48,17 @@ module _ {O A : Type 0} (history : List (Call O A)) (drawn : ℕ) (views : List 
       (λ (u : (j ≢ id) × LivesAt views j b). r.apart i j a b t.1 u.1 ne) (live_set views id j w b q))
       (live_set views id i w a p)
 
+  -- each view fits the history where the changed one does
   fits_set : (id : ℕ) (w : View O A) → Fits history w → (j : ℕ) (u : View O A) → LivesAt (set views id w) j u
       → Fits history u
   fits_set id w f j u h = ⊎_elim (λ (t : (j ≡ id) × (w ≡ u)). subst (λ (x : View O A). Fits history x) t.1 f)
       (λ (t : (j ≢ id) × LivesAt views j u). r.fits j u t.1) (live_set views id j w u h)
 
+  -- the first pass with one number more drawn
   abbrev drawer : View O A
   drawer = record r.top { split = r.top.split ++ drawn ∷ []; phase = Drawn }
 
+  -- after a number was drawn
   pub draws_number : Numbers history (drawn + 1) (set views 0 drawer)
   draws_number = let t = r.top in let at = r.top_is.0 in let room = r.room in let f = r.fits 0 t r.top_is in
       let tz : t.number ≡ 0 = r.top_zero in record {
@@ -88,6 +93,7 @@ module _ {O A : Type 0} (history : List (Call O A)) (drawn : ℕ) (views : List 
         );
       }
 
+  -- after the pass with this number was split off
   pub splits_number : r.top.phase ≡ Drawn
       → Numbers history drawn (set views 0 (at_rest r.top) ++ split_view r.top ∷ [])
   splits_number ph = let t = r.top in let a : View O A = at_rest t in let b : View O A = split_view t in
@@ -164,6 +170,7 @@ module _ {O A : Type 0} (history : List (Call O A)) (drawn : ℕ) (views : List 
       either_way true = q
       either_way false = p
 
+  -- a pass whose calls stand all in the first of two beginnings has them all in the longer
   longer_left : (n : ℕ) (xs ys cs : List (Call O A)) → IsPrefix xs history → IsPrefix ys history
       → calls_by n xs ≡ cs → calls_by n history ≡ cs → calls_by n (longer xs ys) ≡ cs
   longer_left n xs ys cs p q e f = either_way (Rattle.std.proofs.Common.nat_lt (length xs) (length ys)) refl
@@ -174,6 +181,7 @@ module _ {O A : Type 0} (history : List (Call O A)) (drawn : ℕ) (views : List 
           between n xs ys history cs p q (omega arith) e f
       either_way false h = e
 
+  -- and so where they stand all in the second
   longer_right : (n : ℕ) (xs ys cs : List (Call O A)) → IsPrefix xs history → IsPrefix ys history
       → calls_by n ys ≡ cs → calls_by n history ≡ cs → calls_by n (longer xs ys) ≡ cs
   longer_right n xs ys cs p q e f = either_way (Rattle.std.proofs.Common.nat_lt (length xs) (length ys)) refl
@@ -184,6 +192,7 @@ module _ {O A : Type 0} (history : List (Call O A)) (drawn : ℕ) (views : List 
       either_way false h = let le : length ys ≤ length xs = ltb-false (length xs) (length ys) h in
           between n ys xs history cs q p le e f
 
+  -- after a pass was joined back
   pub joins_number : (other : ℕ) (w : View O A) → LivesAt views other w → other ≢ 0 → r.top.phase ≡ Idle
       → Numbers history drawn (set (set views 0 (joined_with r.top w)) other spent_view)
   joins_number other w l nz idle = let t = r.top in let b : View O A = joined_with t w in

@@ -23,6 +23,7 @@ use Rattle.turnstile.proofs.PassNumbers.{first_place, is_first, draws_number, sp
 
 module _ {S O A : Type 0} (allows : S → O → A → Type 0) (next : S → O → A → S) (dial_of : S → ℕ
     → ℕ) (start : S) (dials : ℕ) where
+  -- a number is drawn
   pub draws : (slots id : ℕ) (me : Me (Option S) (View O A)) → me.0.phase ≡ Idle → me.0.number ≡ 0
       → length me.0.split + length me.0.joined < 2 ^ 32
       → Allows (IsKept allows next dial_of start dials) slots id me 2
@@ -67,6 +68,7 @@ module _ {S O A : Type 0} (allows : S → O → A → Type 0) (next : S → O �
         (refl, refl),
       )
 
+  -- a pass is split off with the number that was drawn
   pub splits : (id : ℕ) (v : View O A) → v.phase ≡ Drawn → v.number ≡ 0
       → Splits (IsKept allows next dial_of start dials) id v (at_rest v) (split_view v)
   splits id v drawn zero_is s r at = let live : is_live v.phase ≡ true = ap is_live drawn in
@@ -126,6 +128,7 @@ module _ {S O A : Type 0} (allows : S → O → A → Type 0) (next : S → O �
         };
       }
 
+  -- a pass is joined back
   pub joins : (id other : ℕ) (v w : View O A) → v.phase ≡ Idle → v.number ≡ 0 → w.phase ≡ Idle
       → Joins (IsKept allows next dial_of start dials) id v other w (joined_with v w) spent_view
   joins id other v w idle zero_is idle' s r at apart at' = let live : is_live v.phase ≡ true =

@@ -1,5 +1,5 @@
 -- Taking the turn, adding a call, giving the turn up, and counting who waits keep the rule.
-use Rattle.std.proofs.Common.{◌≡◌, ◌≢◌, ◌⊎◌, ℕ, ◌+◌, ◌%◌, ◌^◌, ◌<◌, ◌≤◌, eqb, List, [], ◌∷◌, ◌++◌, length, get_or}
+use Rattle.std.proofs.Common.{◌≡◌, ◌≢◌, ℕ, ◌+◌, ◌%◌, ◌^◌, ◌<◌, ◌≤◌, eqb, List, [], ◌∷◌, ◌++◌, length, get_or}
 use Rattle.std.proofs.Common.{set, sym, refl, ap, ◌∙◌, subst, ⊎_elim, arith, Option, Some, true, false, length-set}
 use Rattle.std.proofs.Common.{length-append, get_or-set_other, get_or-set_same}
 use mathlib.Core.Option.{none, some}
@@ -31,9 +31,11 @@ use Rattle.turnstile.proofs.DialLemmas.{apart_words, unraised, low_set, behind_s
 
 module _ {S O A : Type 0} (allows : S → O → A → Type 0) (next : S → O → A → S) (dial_of : S → ℕ
     → ℕ) (start : S) (dials : ℕ) where
+  -- the rule
   abbrev pub Ruled : State (Option S) (View O A) → Type 0
   Ruled = IsKept allows next dial_of start dials
 
+  -- the turn is taken where it is free
   pub acquires : (slots id : ℕ) (me : Me (Option S) (View O A)) (told : Option S) → told ≡ Some start
       → is_live me.0.phase ≡ true → me.1 ≡ []
       → Allows (IsKept allows next dial_of start dials) slots id me 0
@@ -155,6 +157,7 @@ module _ {S O A : Type 0} (allows : S → O → A → Type 0) (next : S → O �
         λ s' is'. (λ z. absurd (nz z), λ _. refl),
       )
 
+  -- a call is added to the history
   pub commits : (slots id : ℕ) (me : Me (Option S) (View O A)) (said : Option (O × A)) (t : O × A)
       → said ≡ Some t → me.0.phase ≡ Holding → allows (replay next start me.0.seen) t.0 t.1
       → ((x : S) (o : O) (a : A) (n : ℕ) → allows x o a → dial_of x n ≤ dial_of (next x o a) n)
@@ -268,6 +271,7 @@ module _ {S O A : Type 0} (allows : S → O → A → Type 0) (next : S → O �
         ),
       )
 
+  -- the turn is given up, with the machine as the history left it
   pub releases : (slots id : ℕ) (me : Me (Option S) (View O A)) (y : S) (p n : ℕ) → me.0.phase ≡ Publishing p
       → dials ≤ p → me.1 ≡ (0, Some y) ∷ [] → y ≡ replay next start me.0.seen
       → Allows (IsKept allows next dial_of start dials) slots id me 0 (λ _. 0)

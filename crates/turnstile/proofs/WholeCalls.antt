@@ -12,6 +12,7 @@ use Rattle.turnstile.specs.Dials.{NoneFell}
 use Rattle.turnstile.proofs.CallerLemmas.{calls_by-append, replay-append, legal-append}
 use Rattle.turnstile.proofs.HistoryLemmas.{calls_by-own, but_last-snoc}
 
+-- the value of the slot that was taken last
 first_value : {S : Type 0} → List (ℕ × Option S) → Option S
 first_value [] = None
 first_value (x ∷ xs) = x.1
@@ -49,6 +50,7 @@ module _ {S O A : Type 0} (allows : S → O → A → Type 0) (next : S → O �
       let high : dial_of (replay next start w2.seen) i ≡ dial_of (next y o a) i = ap
       (λ (x : S). dial_of x i) (sym m_is ∙ em) in let u = up i in omega arith
 
+  -- all steps of a call together
   pub called : (v w1 w2 w3 : View O A) (more : List (Call O A)) (o o' : O) (a : A) (number k : ℕ)
       → w1 ≡ record v { seen = v.seen ++ more; phase = Holding }
       → IsLegal allows next start (v.seen ++ more) → calls_by v.number (v.seen ++ more) ≡ v.mine

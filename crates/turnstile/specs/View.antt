@@ -8,7 +8,7 @@ use Rattle.atomic_table.specs.Table.{Me}
 use Rattle.turnstile.specs.declared.history.Call.{Call}
 use Rattle.turnstile.specs.declared.history.View.{View}
 use Rattle.turnstile.specs.declared.history.Phase.{Phase}
-use Rattle.turnstile.specs.declared.history.Phase.TheVariants.{Idle, Drawn, Holding, Publishing, Spent}
+use Rattle.turnstile.specs.declared.history.Phase.TheVariants.{Idle, Holding, Publishing, Spent}
 use Rattle.turnstile.specs.History.{longer}
 
 -- a turnstile: which table it has, the state before the history, and how many dials there are

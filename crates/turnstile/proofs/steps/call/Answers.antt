@@ -1,4 +1,4 @@
-use Rattle.std.proofs.Common.{◌≡◌, ◌≤◌, ℕ, ◌%◌, ◌^◌, List, [], ◌∷◌, length, get_or, Some, None, Option}
+use Rattle.std.proofs.Common.{◌≤◌, ℕ, ◌%◌, ◌^◌, List, [], ◌∷◌, length, get_or, Some, None, Option}
 use Rattle.std.proofs.Common.{refl, sym, ap, ◌∙◌, subst, rules}
 use Rattle.atomic_table.specs.Table.{rest}
 use Rattle.turnstile.specs.declared.history.View.{View}

@@ -1,4 +1,4 @@
-use Rattle.std.proofs.Common.{◌≡◌, ℕ, List, [], ◌∷◌, ◌++◌, arith, ap, sym, ◌∙◌, rules}
+use Rattle.std.proofs.Common.{◌≡◌, ℕ, [], ◌∷◌, ◌++◌, arith, ap, sym, ◌∙◌, rules}
 use Rattle.turnstile.specs.declared.history.View.{View}
 use Rattle.turnstile.specs.declared.history.Phase.{Phase}
 use Rattle.turnstile.specs.declared.history.Phase.TheVariants.{Idle, Drawn}

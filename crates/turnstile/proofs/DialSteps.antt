@@ -8,7 +8,7 @@ use native.Mathlib.Decide.{ℕ_discrete}
 use lib.ListN.{get_elem?}
 use lib.Seq.{set-get_or}
 use Rattle.std.proofs.Math.Nat.{mod-eq_of_lt}
-use Rattle.atomic_table.specs.Table.{State, Me, step, keeps, Allows}
+use Rattle.atomic_table.specs.Table.{State, Me, step, Act, keeps, stepped, carried_after, Valid, Allows}
 use Rattle.atomic_table.proofs.Lists.{set_here, set_again}
 use Rattle.turnstile.specs.declared.history.Call.{Call}
 use Rattle.turnstile.specs.declared.history.View.{View}
@@ -38,30 +38,6 @@ module _ {S O A : Type 0} (allows : S → O → A → Type 0) (next : S → O �
         homes = s.homes;
         views = t.1;
       }) (λ k. (sym (set-get_or s.words i 0) k, sym (set_again s.views id v at) k)) r
-
-  -- the dial that is published next is looked at
-  pub finds : (slots id p : ℕ) (me : Me (Option S) (View O A)) (told : Option S) → told ≡ Some start
-      → me.0.phase ≡ Publishing p → p < dials
-      → Allows (IsKept allows next dial_of start dials) slots id me (3 + p)
-      (λ n. n) (Found next dial_of told (step slots (3 + p) 0 0 none) me)
-  finds slots id p me told is publishing inside s r long at small = let v : View O A = me.0 in
-      let live : is_live v.phase ≡ true = ap is_live publishing in
-      let d = r.shows.publishing id p v (at, live) publishing in
-      let seen : v.seen ≡ r.history = (r.turns.held id v (at, live) (ap has_turn publishing)).2 in (
-        v,
-        keeps,
-        tt,
-        same_state s r (3 + p) id v at,
-        (
-          refl,
-          λ s' q is' h at_word. let same : start ≡ s' = cc in let pq : q ≡ p = omega arith in
-              subst (λ (z : S × ℕ). get_or s.words (3 + p) 0 ≡ dial_of (replay next z.0 (but_last v.seen)) z.1)
-              (λ k. (same k, sym pq k))
-              ((r.shows.shown p inside).1 (let e : r.done ≡ p = d.0 in omega arith)
-              ∙ ap (λ (l : List (Call O A)). dial_of (replay next start l) p) (d.1
-              ∙ ap (λ (l : List (Call O A)). but_last l) (sym seen))),
-        ),
-      )
 
   -- a dial rises to what it is after the last call
   pub publishes : (slots id p k : ℕ) (me : Me (Option S) (View O A)) → me.0.phase ≡ Publishing p → p < dials
@@ -163,6 +139,88 @@ module _ {S O A : Type 0} (allows : S → O → A → Type 0) (next : S → O �
           refl,
           λ q h. let same : p ≡ q = cc in
               ap (λ (m : ℕ). let z : View O A = record v { phase = Publishing (m + 1) } in z) same,
+        ),
+      )
+
+  -- the dial that is published next is looked at, and is published where it shows what it is to show
+  pub finds : (slots id p new : ℕ) (me : Me (Option S) (View O A)) (told : Option S) (value : Option ℕ)
+      → told ≡ Some start → value ≡ Some new → me.0.phase ≡ Publishing p → p < dials
+      → new ≡ dial_of (replay next start me.0.seen) p → new < 2 ^ 64
+      → Allows (IsKept allows next dial_of start dials) slots id me (3 + p) (λ n. n)
+      (Found next dial_of told value (step slots (3 + p) 0 0 none) me)
+  finds slots id p new me told value is aims publishing inside shows fits s r long at small =
+      dite (ℕ_discrete n new) shown unshown
+    where
+      n : ℕ
+      n = get_or s.words (3 + p) 0
+
+      v : View O A
+      v = me.0
+
+      -- the word still shows the state before the last call
+      old : n ≡ dial_of (replay next start (but_last v.seen)) p
+      old =
+          let live : is_live v.phase ≡ true = ap is_live publishing in
+          let d = r.shows.publishing id p v (at, live) publishing in
+          let seen : v.seen ≡ r.history = (r.turns.held id v (at, live) (ap has_turn publishing)).2 in
+          let here : r.done ≤ p = let e : r.done ≡ p = d.0 in omega arith in
+          (r.shows.shown p inside).1 here
+          ∙ ap (λ (l : List (Call O A)). dial_of (replay next start l) p)
+          (d.1 ∙ ap (λ (l : List (Call O A)). but_last l) (sym seen))
+
+      Then : View O A → Act (Option S) → Type 0
+      Then w a = Found next dial_of told value (step slots (3 + p) 0 0 none) me n (w, carried_after me.1 a)
+
+      Goal : Type 0
+      Goal = (w : View O A) × (a : Act (Option S)) × Valid s.homes me.1 a
+          × IsKept allows next dial_of start dials (stepped s (3 + p) n id me.1 w a)
+          × Found next dial_of told value (step slots (3 + p) 0 0 none) me n (w, carried_after me.1 a)
+
+      -- what was found stands for the given state and dial
+      found_at : (s' : S) (q new' : ℕ) → told ≡ Some s' → value ≡ Some new' → v.phase ≡ Publishing q → 3 + p ≡ 3 + q
+          → (n ≡ dial_of (replay next s' (but_last v.seen)) q) × (p ≡ q) × (new ≡ new')
+      found_at s' q new' is' aims' h at_word =
+          let same : start ≡ s' = cc in
+          let pq : p ≡ q = omega arith in
+          let nn : new ≡ new' = cc in (
+            subst (λ (z : S × ℕ). n ≡ dial_of (replay next z.0 (but_last v.seen)) z.1) (λ k. (same k, pq k)) old,
+            pq,
+            nn,
+          )
+
+      shown : n ≡ new → Goal
+      shown e =
+          let none_added : 0 + dial_of (replay next start (but_last v.seen)) p ≡ dial_of
+          (replay next start v.seen) p =
+          omega (arith, sym old ∙ (e ∙ shows)) in
+          let q = publishes slots id p 0 me publishing inside none_added (omega (
+            arith,
+            sym shows,
+          )) s r long at small in
+          let same_word : (n + 0) % 2 ^ 64 ≡ n = mod-eq_of_lt (let z : n + 0 < 2 ^ 64 = omega arith in z)
+          ∙ omega arith in (
+            q.0,
+            q.1,
+            q.2,
+            subst (λ (x : ℕ). IsKept allows next dial_of start dials
+                (stepped s (3 + p) x id me.1 q.0 q.1)) same_word q.3,
+            (
+              q.4.0,
+              λ s' j new' is' aims' h at_word. let f = found_at s' j new' is' aims' h at_word in
+                  (f.0, λ hit. q.4.1 j h, λ miss. absurd (miss (e ∙ f.2))),
+            ),
+          )
+
+      unshown : n ≢ new → Goal
+      unshown ne = (
+        v,
+        keeps,
+        tt,
+        same_state s r (3 + p) id v at,
+        (
+          refl,
+          λ s' j new' is' aims' h at_word. let f = found_at s' j new' is' aims' h at_word in
+              (f.0, λ hit. absurd (ne (hit ∙ sym f.2)), λ miss. refl),
         ),
       )
 

@@ -1,5 +1,5 @@
 -- The part of the rule on what the dials show.
-use Rattle.std.specs.Prelude.{◌≡◌, ℕ, ◌+◌, ◌<◌, ◌≤◌, List, length, slice_index, slice_set, Option, Some, false}
+use Rattle.std.specs.Prelude.{◌≡◌, ◌≢◌, ℕ, ◌+◌, ◌<◌, ◌≤◌, List, length, slice_index, slice_set, Option, Some, false}
 use Rattle.atomic_table.specs.Table.{Me, Step}
 use Rattle.turnstile.specs.declared.history.Call.{Call}
 use Rattle.turnstile.specs.declared.history.View.{View}
@@ -31,13 +31,16 @@ module _ {S O A : Type 0} where
   NoneFell next dial_of start history = (i : ℕ)
       → dial_of (replay next start (but_last history)) i ≤ dial_of (replay next start history) i
 
-  -- a step finds that the dial which is published next still shows the state before the last call
-  abbrev pub Found : (S → O → A → S) → (S → ℕ → ℕ) → Option S
+  -- a step finds that the dial which is published next still shows the state before the last call; where that is what
+  -- it is to show, the dial is published by it
+  abbrev pub Found : (S → O → A → S) → (S → ℕ → ℕ) → Option S → Option ℕ
       → Step (Option S) → Me (Option S) (View O A) → ℕ → Me (Option S) (View O A) → Type 0
-  Found next dial_of start st me found me' =
-      (me' ≡ me)
-      × ((s : S) (p : ℕ) → start ≡ Some s → me.0.phase ≡ Publishing p → st.word ≡ 3 + p
-      → found ≡ dial_of (replay next s (but_last me.0.seen)) p)
+  Found next dial_of start value st me found me' =
+      (me'.1 ≡ me.1)
+      × ((s : S) (p new : ℕ) → start ≡ Some s → value ≡ Some new → me.0.phase ≡ Publishing p → st.word ≡ 3 + p
+      → (found ≡ dial_of (replay next s (but_last me.0.seen)) p)
+      × (found ≡ new → me'.0 ≡ record me.0 { phase = Publishing (p + 1) })
+      × (found ≢ new → me'.0 ≡ me.0))
 
   -- a step publishes the next dial
   abbrev pub Published : Step (Option S) → Me (Option S) (View O A) → ℕ → Me (Option S) (View O A) → Type 0

@@ -70,6 +70,23 @@ impl<S> FirstState<S> for Brand {
     ghost start = { None };
 }
 
+/// The same, and what the dial that is published next is to show.
+pub(crate) trait NextDial<S> {
+    ghost use Rattle.std.specs.Prelude.{ℕ, Option};
+
+    ghost start: { Option S };
+
+    ghost value: { Option ℕ };
+}
+
+impl<S> NextDial<S> for Brand {
+    ghost use Rattle.std.specs.Prelude.{None};
+
+    ghost start = { None };
+
+    ghost value = { None };
+}
+
 /// Takes the turn where it is free, and the machine with it.
 pub(crate) struct Acquires<B>(PhantomData<B>);
 
@@ -107,13 +124,13 @@ impl<M: Machine> Play<Option<M>, View<M::Op, M::Answer>> for Waits {
     ghost then = { Waited };
 }
 
-/// Looks at a dial before it is published.
+/// Looks at a dial before it is published, and publishes it where it shows already what it is to show.
 pub(crate) struct Finds<B>(PhantomData<B>);
 
-impl<M: Machine, B: FirstState<M>> Play<Option<M>, View<M::Op, M::Answer>> for Finds<B> {
+impl<M: Machine, B: NextDial<M>> Play<Option<M>, View<M::Op, M::Answer>> for Finds<B> {
     ghost use Rattle.turnstile.specs.Dials.{Found};
 
-    ghost then = { Found M.next M.dial_of B.start };
+    ghost then = { Found M.next M.dial_of B.start B.value };
 }
 
 /// Lets a dial show the state after the last call.

@@ -1,7 +1,7 @@
 //! What a pass does at the shared words: its calls, its glances, and how it is split and joined.
-ghost use Rattle.std.specs.Prelude.{◌≡◌, ℕ, ◌<◌, ◌≤◌, ◌+◌, ◌%◌, ◌^◌, Some, length, slice_index, slice_set};
+ghost use Rattle.std.specs.Prelude.{◌≡◌, ◌≢◌, ℕ, ◌<◌, ◌≤◌, ◌+◌, ◌%◌, ◌^◌, Some, length, slice_index, slice_set};
 ghost use Rattle.turnstile.specs.declared.history.Phase.TheVariants.{Holding, Publishing};
-ghost use Rattle.turnstile.specs.History.{replay, call_of};
+ghost use Rattle.turnstile.specs.History.{replay, but_last, call_of};
 ghost use Rattle.turnstile.specs.View.{Rests, with_call, joined_with, IsSplit};
 ghost use Rattle.turnstile.specs.Calls.{Calls};
 ghost use Rattle.turnstile.specs.Dials.{NoneFell};
@@ -10,7 +10,7 @@ ghost use Rattle.turnstile.specs.Rule.{IsSized};
 use crate::machine::Machine;
 use crate::rule::{
     Commits, CommittedCall, Draws, FIRST_DIAL, Finds, FirstState, Glances, HOME, LENGTH,
-    NEXT_NUMBER, Parts, Publishes, TurnSeat, TurnTable,
+    NEXT_NUMBER, NextDial, Parts, Publishes, TurnSeat, TurnTable,
 };
 use crate::waiting::{acquire, release};
 use std::marker::Brand;
@@ -39,16 +39,31 @@ fn commit<M: Machine, C: CommittedCall<M::Op, M::Answer>>(
     found.wrapping_add(1)
 }
 
-/// Lets a dial show the machine as it is.
-fn publish<M: Machine, B: FirstState<M>>(
+/// Looks at the dial that is published next, and publishes it where it shows already what it is to show.
+fn find<M: Machine, B: NextDial<M>>(
     table: &TurnTable<M>,
     seat: &mut TurnSeat<M>,
-    machine: &M,
     dial: u32,
-)
+    new: u64,
+) -> u64
     requires sized { IsSized table.now.table_id table.now.key.1 }
     requires place { seat.old.table_id ≡ table.now.table_id }
-    requires known { B.start ≡ Some table.now.key.0.value }
+    requires known { (B.start ≡ Some table.now.key.0.value) × (B.value ≡ Some new) }
+    requires next { (seat.old.me.0.phase ≡ Publishing dial) × (dial < table.now.key.1) }
+    requires shows { new ≡ M.dial_of (replay M.next table.now.key.0.value seat.old.me.0.seen) dial }
+    ensures place { (seat.new.table_id ≡ seat.old.table_id) × (seat.new.id ≡ seat.old.id)
+        × (seat.new.me.1 ≡ seat.old.me.1) }
+    ensures found { result ≡ M.dial_of (replay M.next table.now.key.0.value (but_last seat.old.me.0.seen)) dial }
+    ensures shown { result ≡ new → seat.new.me.0 ≡ record seat.old.me.0 { phase = Publishing (dial + 1) } }
+    ensures unshown { result ≢ new → seat.new.me.0 ≡ seat.old.me.0 }
+{
+    table.load::<Finds<B>>(seat, FIRST_DIAL + dial as usize)
+}
+
+/// Lets a dial show the machine as it is. Where it does so already, its word is only looked at.
+fn publish<M: Machine>(table: &TurnTable<M>, seat: &mut TurnSeat<M>, machine: &M, dial: u32)
+    requires sized { IsSized table.now.table_id table.now.key.1 }
+    requires place { seat.old.table_id ≡ table.now.table_id }
     requires next { (seat.old.me.0.phase ≡ Publishing dial) × (dial < table.now.key.1) }
     requires machine { machine.now ≡ replay M.next table.now.key.0.value seat.old.me.0.seen }
     requires none_fell { NoneFell M.next M.dial_of table.now.key.0.value seat.old.me.0.seen }
@@ -56,10 +71,11 @@ fn publish<M: Machine, B: FirstState<M>>(
         × (seat.new.me.1 ≡ seat.old.me.1) }
     ensures published { seat.new.me.0 ≡ record seat.old.me.0 { phase = Publishing (dial + 1) } }
 {
-    let word = FIRST_DIAL + dial as usize;
-    let old = table.load::<Finds<B>>(seat, word);
     let new = machine.dial(dial);
-    table.fetch_add::<Publishes>(seat, word, new - old);
+    let old = find::<M, Brand>(table, seat, dial, new);
+    if old != new {
+        table.fetch_add::<Publishes>(seat, FIRST_DIAL + dial as usize, new - old);
+    }
 }
 
 /// Lets each dial show the machine as it is, the first one first.
@@ -75,7 +91,7 @@ fn publish_all<M: Machine>(table: &TurnTable<M>, seat: &mut TurnSeat<M>, machine
     ensures published { seat.new.me.0 ≡ record seat.old.me.0 { phase = Publishing table.now.key.1 } }
 {
     for dial in 0..dials {
-        publish::<M, Brand>(table, seat, machine, dial);
+        publish(table, seat, machine, dial);
     }
 }
 

@@ -104,6 +104,21 @@ pub fn add_while_watched<R: Threads + Wait + Sync>(
     Some((last, stile.close(first).total))
 }
 
+/// Adds a number so many times.
+#[derive(Drop)]
+pub struct Adder {
+    pub n: u64,
+    pub times: u32,
+}
+
+impl Work<Sum> for Adder {
+    fn run<T: Wait>(&mut self, rt: &T, stile: &Turnstile<Sum>, pass: &mut Pass<Sum>) {
+        for _ in 0..self.times {
+            stile.call(rt, pass, self.n);
+        }
+    }
+}
+
 /// Adds 1 so many times, and keeps the numbers of its calls.
 #[derive(Drop)]
 pub struct Counter {
@@ -144,17 +159,18 @@ fn run_each<T: Threads + Wait + Sync, W: Work<Sum> + Send>(
     Ok(ended)
 }
 
-/// Lets passes of a sum that begins at 0 do these works, each in a thread of its own. The sum is then as one legal
-/// history of their calls leaves it. Where memory is short the works are let go.
+/// Lets passes of a sum that begins at 0, with so many dials, do these works, each in a thread of its own. The sum is
+/// then as one legal history of their calls leaves it. Where memory is short the works are let go.
 pub fn work_at_sum<T: Threads + Wait + Sync, W: Work<Sum> + Send>(
     rt: &T,
     alloc: Global,
+    dials: u32,
     works: Vec<W>,
 ) -> Result<(Sum, Vec<W>), OutOfMemory>
     requires { length works.items < 2 ^ 32 }
     ensures { IfOk result (λ r. HasEnded is_added added (record { total = 0 }) r.0) }
 {
-    let Ok((stile, mut first)) = Turnstile::new(alloc, Sum { total: 0 }, 1) else {
+    let Ok((stile, mut first)) = Turnstile::new(alloc, Sum { total: 0 }, dials) else {
         return Err(OutOfMemory);
     };
     let jobs = split_each(alloc, &stile, &mut first, works)?;

@@ -9,7 +9,7 @@ mod sum;
 mod tests;
 mod workers;
 
-pub use adders::{Counter, add_in_two, add_while_watched, work_at_sum};
+pub use adders::{Adder, Counter, add_in_two, add_while_watched, work_at_sum};
 pub use jobs::{Job, Work, done, join_each, split_each};
 pub use shelf::{Answer, Op, Shelf};
 pub use sum::Sum;

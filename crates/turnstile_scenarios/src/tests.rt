@@ -79,7 +79,7 @@ fn order(rt: HostRuntime) -> Result<(), Fail> {
         })?;
     }
     assert_eq!(rt; works.len(), 4);
-    let (sum, works) = work_at_sum(&rt, alloc, works)?;
+    let (sum, works) = work_at_sum(&rt, alloc, 1, works)?;
     assert_eq!(rt; sum.total, 4_000);
     let mut all = Vec::new(alloc);
     for work in &works {

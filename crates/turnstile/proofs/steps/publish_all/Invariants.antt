@@ -1,4 +1,4 @@
-use Rattle.std.proofs.Common.{◌≡◌, Some}
+use Rattle.std.proofs.Common.{◌≡◌}
 use Rattle.turnstile.specs.declared.history.Phase.TheVariants.{Publishing}
 use Rattle.turnstile.proofs.steps.publish_all.Given as goal
 
@@ -7,6 +7,3 @@ invariant-loop-dial g l = record {
   place : (l.seat.table_id ≡ l.fn.seat.table_id) × (l.seat.id ≡ l.fn.seat.id) × (l.seat.me.1 ≡ l.fn.seat.me.1);
   published : l.seat.me.0 ≡ record l.fn.seat.me.0 { phase = Publishing l.dial };
 }
-
-abbrev pub ghosts-publish : goal.ghosts-publish
-ghosts-publish g a = record { start = Some a.table.now.key.0.value }

@@ -16,7 +16,7 @@ use Rattle.agent_workers.specs.Run.{Ran, Change, change, InRun, OutRun, IsPutSo}
 use Rattle.agent_workers.specs.declared.rounds.Ending.{Ending}
 use Rattle.agent_run.specs.ClockLists.{HasInputClocks, clock_count, from_first, timed_at}
 use Rattle.agent_run.specs.Headline.{Ends, place_change, report_change, status_of, world_change, world_ins, world_outs, input_clock, run_clock}
-use Rattle.agent_run.specs.PlaceLists.{GoEach, AreOpened, AreGiven, AreHomeBut, AreOut, IsInUnopened, IsOutUnopened, OpensAll, carried_at, in_places, out_places, place_at, places_in, places_out}
+use Rattle.agent_run.specs.PlaceLists.{GoEach, AreOpened, AreGiven, AreHomeBut, PartsAreOut, IsInUnopened, IsOutUnopened, OpensAll, carried_at, in_places, out_places, place_at, places_in, places_out}
 use Rattle.agent_run.specs.Places.{AreOpensSame, ReportsLine, open_fault_line}
 use Rattle.agent_run.specs.Running.{given_back, IsOpenedSame, IsRefusedBy, OnlyNamed, told, told_at}
 use Rattle.agent_run.specs.declared.status.Status.{Status}
@@ -144,11 +144,11 @@ home_but places w0 w1 home same = λ q away. ap (λ (p : Place). p.is_out) (same
 pub home_but_along : (places : List (List ℕ)) (w0 w1 : List ℕ → Place) → AreHomeBut places w0 → SameAtAll w0 w1 → AreHomeBut places w1
 home_but_along places w0 w1 home same = λ q away. ap (λ (p : Place). p.is_out) (same q) ∙ home q away
 
-pub out_along : (places : List (List ℕ)) (w0 w1 : List ℕ → Place) → AreOut places w0 → SameAtAll w0 w1 → AreOut places w1
+pub out_along : (places : List (List ℕ)) (w0 w1 : List ℕ → Place) → PartsAreOut places w0 → SameAtAll w0 w1 → PartsAreOut places w1
 out_along places w0 w1 out same = λ k l. ap (λ (p : Place). p.is_out) (same (place_at places k)) ∙ out k l
 
 -- the places at which parts were opened are out
-pub are_out : (places : List (List ℕ)) (parts : List Carried) (w0 w1 : List ℕ → Place) → AreOpened places parts w0 w1 → AreOut places w1
+pub are_out : (places : List (List ℕ)) (parts : List Carried) (w0 w1 : List ℕ → Place) → AreOpened places parts w0 w1 → PartsAreOut places w1
 are_out places parts w0 w1 h = λ k l. (h.each k l).is_out
 
 -- ---- a run over opened parts

@@ -5,7 +5,7 @@ use Rattle.agent_base.specs.Places.{SameAtAll}
 use Rattle.agent_base.specs.Views.{WorldView}
 use Rattle.agent_config.specs.Faults.{text_faults}
 use Rattle.agent_run.specs.Command.{IsCheck, IsNoCommand, IsPipe, IsRunAt, pipe_config}
-use Rattle.agent_run.specs.Configured.{IsUnfailed}
+use Rattle.agent_run.specs.Configured.{NeitherFailed}
 use Rattle.agent_run.specs.Places.{IsUnused}
 use Rattle.agent_run.specs.Running.{IsRefusedBy}
 use Rattle.agent_run.specs.declared.status.Status.{Status}
@@ -28,7 +28,7 @@ pub record SaysUsage (status : Status) (words : List (String Global)) (old new :
 pub record SaysFaulty (status : Status) (words : List (String Global)) (old new : WorldView) : Type 0 where
   pub only : status ≡ Config → (place : List ℕ) × NamesConfig words place
   pub always : (place bytes : List ℕ) → NamesConfig words place → (old.ins place).bytes ≡ Some bytes → (text_faults bytes ≢ [])
-      → IsUnfailed (old.ins place) (new.ins place) → (status ≡ Config) ⊎ (status ≡ OutOfMemory)
+      → NeitherFailed (old.ins place) (new.ins place) → (status ≡ Config) ⊎ (status ≡ OutOfMemory)
 
 -- OpenFault of a pipe comes only where one of its three places wasn't opened: that is counted there, and all else is as before. What it
 -- says of a check and of a run stands there.

@@ -55,8 +55,8 @@ abbrev pub AreGiven : List (List ℕ) → List Carried → (List ℕ → Place) 
 AreGiven places parts old new = GoEach TakesIn places parts old new
 
 -- at each of the places a part is out
-abbrev pub AreOut : List (List ℕ) → (List ℕ → Place) → Type 0
-AreOut places told = (k : ℕ) → k < length places → (told (place_at places k)).is_out ≡ true
+abbrev pub PartsAreOut : List (List ℕ) → (List ℕ → Place) → Type 0
+PartsAreOut places told = (k : ℕ) → k < length places → (told (place_at places k)).is_out ≡ true
 
 -- input places changed at most
 pub record OnlyIns (old new : WorldView) : Type 0 where

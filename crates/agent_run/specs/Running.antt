@@ -6,7 +6,7 @@ use Rattle.agent_config.specs.declared.config.Config.{Config}
 use Rattle.agent_base.specs.Carried.{Carried}
 use Rattle.agent_workers.specs.Opened.{Carries}
 use Rattle.agent_run.specs.ClockLists.{clock_count}
-use Rattle.agent_run.specs.PlaceLists.{AreOut, in_places, out_places, places_out}
+use Rattle.agent_run.specs.PlaceLists.{PartsAreOut, in_places, out_places, places_out}
 use Rattle.agent_run.specs.Places.{AreOpensSame, IsUnopened, ReportsLine, open_fault_line}
 
 -- what a part that is opened at a place carries, and one that was given back there carried
@@ -40,8 +40,8 @@ given_back config world = record {
 
 -- at each place of a configuration a part is out
 pub record AreItsOut (config : Config) (world : WorldView) : Type 0 where
-  pub ins : AreOut (in_places config) world.ins
-  pub outs : AreOut (out_places config) world.outs
+  pub ins : PartsAreOut (in_places config) world.ins
+  pub outs : PartsAreOut (out_places config) world.outs
 
 -- no place changed but those of a configuration, and no clock
 pub record OnlyIts (config : Config) (old new : WorldView) : Type 0 where

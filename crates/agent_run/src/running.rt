@@ -4,7 +4,7 @@ ghost use Rattle.agent_base.specs.Carried.{Timed};
 ghost use Rattle.agent_base.specs.Places.{AreHome};
 ghost use Rattle.agent_base.specs.Views.{OnlyReport};
 ghost use Rattle.agent_config.specs.Sound.{IsSound};
-ghost use Rattle.agent_run.specs.Configured.{HasRun};
+ghost use Rattle.agent_run.specs.Configured.{SaysRun};
 ghost use Rattle.agent_run.specs.Headline.{Ends, NothingRose, report_change, status_of, world_change};
 ghost use Rattle.agent_run.specs.PlaceLists.{AreHomeBut, in_places, out_places};
 ghost use Rattle.agent_run.specs.Running.{given_back, AreItsOut, IsOpenedSame, IsRefusedBy, OnlyIts, OnlyNamed};
@@ -102,7 +102,7 @@ pub(crate) fn run_config<W: World>(alloc: Global, config: &Config, world: &mut W
 pub(crate) fn run_call<W: World>(alloc: Global, world: &mut W, place: &str) -> Status
     requires ins { AreHome (W.view world.old).ins }
     requires outs { AreHome (W.view world.old).outs }
-    ensures ran { HasRun result place.now (W.view world.old) (W.view world.new) }
+    ensures ran { SaysRun result place.now (W.view world.old) (W.view world.new) }
     ensures complete { NothingRose (W.view world.old) (W.view world.new) → (result ≢ Status.Limit)
         → (result ≢ Status.Config) → (result ≡ Status.Done) ⊎ (result ≡ Status.OutOfMemory) }
     ensures ins_home { AreHome (W.view world.new).ins }

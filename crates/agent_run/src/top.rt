@@ -4,7 +4,7 @@ ghost use Rattle.agent_base.specs.Places.{AreHome};
 ghost use Rattle.agent_run.specs.Agent.{SaysFaulty, SaysUnopened, SaysUsage};
 ghost use Rattle.agent_run.specs.Checking.{HasChecked};
 ghost use Rattle.agent_run.specs.Command.{IsCheck, IsNoCommand, IsPipe, IsRunAt, journal_place, pipe_config};
-ghost use Rattle.agent_run.specs.Configured.{HasRun, IsRunUnread, RunEnds};
+ghost use Rattle.agent_run.specs.Configured.{SaysRun, IsRunUnread, RunEnds};
 ghost use Rattle.agent_run.specs.Headline.{Ends, NothingRose, PipeEnds, world_change};
 ghost use Rattle.agent_run.specs.Running.{IsOpenedSame, IsRefusedBy, OnlyNamed};
 
@@ -66,7 +66,7 @@ pub fn agent<W: World>(alloc: Global, words: &[String], world: &mut W) -> Status
 
     // A run of a configuration: each status says what it says, and no place changed that the configuration
     // doesn't name, and no clock that it doesn't take.
-    ensures run { (place : List ℕ) → IsRunAt words.now place → HasRun result place (W.view world.old) (W.view world.new) }
+    ensures run { (place : List ℕ) → IsRunAt words.now place → SaysRun result place (W.view world.old) (W.view world.new) }
 
     // Config comes only of a check or a run, where the configuration has a fault. A command on a configuration with a
     // fault comes to it, where neither opening nor reading its place failed.

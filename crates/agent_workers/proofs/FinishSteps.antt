@@ -34,7 +34,7 @@ use Rattle.agent_workers.specs.Noted.{JournalPart, Notes, part_change}
 use Rattle.agent_workers.specs.Job.{Job, journal_setup_of, limit_of, setup_of, sizes_of, work_of}
 use Rattle.agent_workers.specs.RunState.{RunState, Beginning, setup_at}
 use Rattle.agent_workers.specs.Progress.{HasText, Heard, Said, Progress, GoesOn, RoutesOn, SendsOn, GathersOn, RunsOn, NotesRun}
-use Rattle.agent_workers.specs.Running.{IsReady, AreSettled, AreLeft, IsLeftOver, buffered_at}
+use Rattle.agent_workers.specs.Running.{IsReady, AreSettled, AreLeft, SomeIsBuffered, buffered_at}
 use Rattle.formats.specs.Batches.{batch_text}
 use Rattle.agent_workers.specs.Output.{OutPart, out_at, anew, AreAnew, AreOutputs, IsUnfailed, AreUnfailed}
 use Rattle.formats.specs.declared.pieces.InState.{InState}
@@ -170,7 +170,7 @@ counted_all : (all : Option Moments) (place last : ℕ) (start : ℤ) (ms : List
 counted_all None place last start ms g h = tt
 counted_all (Some moments) place last start ms g h = counted_wider moments (min 1 moments.last) place last moments.last start ms (omega (arith, g.next)) h.0 h.1
 
-left_is : (left : Bool) (start : Beginning) (core : CoreState) (part : JournalPart) (journal : List Entry) → HasText start core part journal → IsLeftOver left core → IsLeft left (setup_at start) journal
+left_is : (left : Bool) (start : Beginning) (core : CoreState) (part : JournalPart) (journal : List Entry) → HasText start core part journal → SomeIsBuffered left core → IsLeft left (setup_at start) journal
 left_is false start core part journal h none = λ o l. sym (buffered_is start core part journal h o) ∙ none o (omega (arith, l, ap (λ (s : Setup). length s.outputs) h.setup_is))
 left_is true start core part journal h some =
     (some.0, omega (arith, some.1, ap (λ (s : Setup). length s.outputs) h.setup_is), λ z. some.2 (buffered_is start core part journal h some.0 ∙ z))
@@ -308,7 +308,7 @@ module _ (start : Beginning) (now : RunState) where
     }
 
     pub finished : (ending : Ending) (old : RunState) (last : CoreState) (part : JournalPart) (timer : Timed) (moment : ℤ) → last ≡ after_cut now.core → Gives old.timer.moments old.timer.place timer.place moment → now.counted_at ≡ old.counted_at ++ int_max moment (last_of start.start old.counted_at) ∷ [] →
-        IsOneIn states.LimitReached now.ins ending.limit → IsOneIn states.Faulted now.ins ending.read_fault → IsLeftOver ending.left now.core → ending.account.items ≡ account_text now.core.numbers →
+        IsOneIn states.LimitReached now.ins ending.limit → IsOneIn states.Faulted now.ins ending.read_fault → SomeIsBuffered ending.left now.core → ending.account.items ≡ account_text now.core.numbers →
         IsPutSo ending.journal_fault (change start.noted part.held start.note_faults part.faults) (journal_text (journal_setup_of (setup_at start)) (w.text.written ++ now.core.stored) (account_text now.core.numbers)) → Finished start ending old (record now { core = last; journal = part; timer = timer; counted_at = [] })
     unfolding has_run
     finished ending old last part timer moment cut gives counts limit fault left account_is noted =

@@ -17,7 +17,7 @@ use Rattle.agent_base.specs.Told.{Told}
 use Rattle.journal_text.specs.JournalText.{journal_text}
 use Rattle.pipeline_core.specs.Legal.{IsLegal, has_ended, has_stop}
 use Rattle.pipeline_core.specs.Totals.{totals}
-use Rattle.agent_workers.specs.Input.{IsFull, Gathered, NamesTaken}
+use Rattle.agent_workers.specs.Input.{IsFull, AreGathered, NamesTaken}
 use Rattle.account.specs.Gathers.{gathers}
 use Rattle.account.specs.Dones.{dones, failed_count, LastFailed}
 use Rattle.pipeline_core.specs.Stopped.{behind_stop}
@@ -146,7 +146,7 @@ IsUnread ins number input taken journal = IsCutShort number input journal ⊎ (t
 pub record IsReadFrom (ins : List InRun) (journal : List Entry) (number : ℕ) (input : InRun) (taken : ℕ)
     : Type 0 where
   -- the Gathers name the pieces of what was left at the input's place
-  pub gathered : Told input.place.before input.place.after (λ xs ys. Gathered input.rule journal number xs)
+  pub gathered : Told input.place.before input.place.after (λ xs ys. AreGathered input.rule journal number xs)
   -- their moments are those of the input's clock
   pub clocked : IfSome input.moments
       (λ moments. Clocked moments 0 moments.last (gather_moments number journal))

@@ -173,6 +173,6 @@ AreLeft tries core outs = (output : ℕ) → output < length outs →
     (buffered_at core output ≡ 0) ⊎ (tries ≤ (out_at outs output).failed_since)
 
 -- whether a metric is buffered at an output
-abbrev pub IsLeftOver : Bool → CoreState → Type 0
-IsLeftOver false core = (output : ℕ) → output < length core.setup.outputs → buffered_at core output ≡ 0
-IsLeftOver true core = (output : ℕ) × (output < length core.setup.outputs) × (buffered_at core output ≢ 0)
+abbrev pub SomeIsBuffered : Bool → CoreState → Type 0
+SomeIsBuffered false core = (output : ℕ) → output < length core.setup.outputs → buffered_at core output ≡ 0
+SomeIsBuffered true core = (output : ℕ) × (output < length core.setup.outputs) × (buffered_at core output ≢ 0)

@@ -116,7 +116,10 @@ fn make_room<'a, S: Source + Drop, K: Sink + Drop, C: Clock + Drop>(
     let core = new_core(alloc, config, start)?;
     let about = journal_setup(alloc, config, start)?;
     let pieces = empty_pieces(alloc, config.inputs.as_slice())?;
-    let (in_count, out_count) = (config.inputs.as_slice().len(), config.outputs.as_slice().len());
+    let (in_count, out_count) = (
+        config.inputs.as_slice().len(),
+        config.outputs.as_slice().len(),
+    );
     let back = Back {
         sources: Vec::with_capacity(alloc, in_count)?,
         sinks: Vec::with_capacity(alloc, out_count)?,

@@ -11,7 +11,7 @@ ghost use Rattle.agent_workers.specs.Noted.{part_of, EndsOn};
 ghost use Rattle.agent_workers.specs.Progress.{RoutesOn, RunsOn, StopsAt};
 ghost use Rattle.agent_workers.specs.Rounds.{AreSameParts, HasStopped, IsOver};
 ghost use Rattle.agent_workers.specs.RunState.{state_of, AreFit, IsAboutSame};
-ghost use Rattle.agent_workers.specs.Running.{IsAtRest, IsLeftOver, IsRoutable, IsRunning};
+ghost use Rattle.agent_workers.specs.Running.{IsAtRest, SomeIsBuffered, IsRoutable, IsRunning};
 
 use crate::input::{InJob, are_out, gather_each, is_one_in};
 use crate::item::{ProcJob, route_all, route_some};
@@ -170,7 +170,7 @@ fn is_over<S: Source + Drop, C: Clock + Drop>(full: bool, inputs: &[InJob<'_, S,
 /// Whether a metric is buffered at one of so many outputs.
 fn is_left(core: &Core, outputs: u32) -> bool
     requires { outputs ≡ length core.now.setup.outputs }
-    ensures { IsLeftOver result core.now }
+    ensures { SomeIsBuffered result core.now }
 {
     for output in 0..outputs {
         if core.buffered(output) != 0 {
@@ -190,7 +190,7 @@ fn end_journal<K: Sink + Drop, C: Drop>(
 ) -> Result<(Vec<u8>, bool), OutOfMemory>
     requires rests { IsAtRest core.old }
     requires outputs { outputs ≡ length core.old.setup.outputs }
-    ensures left { IfOk result (λ end. IsLeftOver end.1 core.old) }
+    ensures left { IfOk result (λ end. SomeIsBuffered end.1 core.old) }
     ensures account { IfOk result (λ end. end.0.items ≡ account_text core.old.numbers) }
     ensures cut { OnOk result (core.new ≡ after_cut core.old) }
     ensures ends { OnOk result

@@ -331,7 +331,7 @@ FAULTS = [
 
 CONFIGURED = [*RUNS_WELL, *REFUSED_BY_PLACES, *FAULTS]
 
-# The example of docs/configuration.md with all four formats, and its inputs.
+# The example of docs/users/configuration.md with all four formats, and its inputs.
 DATA = os.path.join(os.path.dirname(os.path.realpath(__file__)), "..", "crates", "agent_main", "data")
 FORMAT_FILES = ["formats.toml", "cpu.lp", "counts.statsd", "paths.graphite", "node.om"]
 FORMATS_WRITTEN = {

@@ -1,4 +1,4 @@
-"""Graphite's lines and templates as docs/formats.md has them, in plain Python: reading, writing, seeded texts.
+"""Graphite's lines and templates as docs/users/formats.md has them, in plain Python: reading, writing, seeded texts.
 
 Nothing here was taken from the program: where the two differ, one of them or the document is wrong. Metrics
 are those of format_influx, and decimals are read as in format_statsd.

@@ -1,4 +1,4 @@
-"""InfluxDB's line protocol as docs/formats.md has it, in plain Python: reading, writing, and seeded lines.
+"""InfluxDB's line protocol as docs/users/formats.md has it, in plain Python: reading, writing, and seeded lines.
 
 Nothing here was taken from the program: where the two differ, one of them or the document is wrong.
 """

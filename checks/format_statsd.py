@@ -1,4 +1,4 @@
-"""StatsD lines as docs/formats.md has them, in plain Python: reading, and seeded lines.
+"""StatsD lines as docs/users/formats.md has them, in plain Python: reading, and seeded lines.
 
 Nothing here was taken from the program: where the two differ, one of them or the document is wrong. Metrics
 are those of format_influx, which writes them; numbers are read in another way than there.

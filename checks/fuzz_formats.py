@@ -3,7 +3,7 @@
     fuzz_formats.py FORMAT COUNT SEED PROBE PROGRAM
 
 PROBE is format_probe: each piece that it reads must give the line, or the fault and its place, that the
-module format_FORMAT gives, which follows docs/formats.md alone. Where the format is line protocol PROGRAM is the
+module format_FORMAT gives, which follows docs/users/formats.md alone. Where the format is line protocol PROGRAM is the
 agent: `pipe` must write these lines too, and what it wrote must be read by `pipe` without a refusal and written
 again, as the same line; where the document itself has another line, that one must come, and the number of these
 lines is printed. Graphite is read with seeded separators and templates, written too, also from line protocol, and
@@ -190,7 +190,7 @@ def compare_graphite(reader, rng, count, probe):
     setups = [(list(graphite_ways(reader, *words)), lines) for *words, lines in reader.setups(rng, count, LINES_EACH)]
     shown = [[(ways[at], lines) for ways, lines in setups] for at in range(2)]
     found = compare_reading(way_of(reader, "graphite"), reader.EXAMPLES[0], shown[0], probe)
-    report("graphite, %d lines, beside a reading by docs/formats.md" % count, found)
+    report("graphite, %d lines, beside a reading by docs/users/formats.md" % count, found)
     written = compare_lines(shown[1], probe)
     report("graphite, %d lines, written as Graphite" % count, written)
     lines = list(reader.written_lines(rng, count // 2)) + list(format_influx.lines(rng, count - count // 2))
@@ -295,7 +295,7 @@ def compare_openmetrics(reader, rng, count, probe):
     parts = [part for at, way in enumerate(ways) for part in chunks(way, ended[at::2])]
     parts += [(ways[at % 2], [text]) for at, text in enumerate(alone)]
     found = compare_lines(parts, probe, b"")
-    report("openmetrics, %d texts, beside a reading by docs/formats.md" % count, found)
+    report("openmetrics, %d texts, beside a reading by docs/users/formats.md" % count, found)
     way = Way(["openmetrics", "openmetrics"], reader.read, reader.write, reader.pieces_of)
     again, _ = compare_batches(chunks(way, ended), probe)
     report("openmetrics, %d texts, written as expositions" % len(ended), again)
@@ -405,7 +405,7 @@ def main(form, count, seed, probe, program):
         return 1 if compare(reader, rng, count, probe) else 0
     lines, way = list(reader.lines(rng, count)), way_of(reader, form)
     reading = compare_reading(way, reader.EXAMPLES[0], chunks(way, lines), probe)
-    report("%s, %d lines, beside a reading by docs/formats.md" % (form, count), reading)
+    report("%s, %d lines, beside a reading by docs/users/formats.md" % (form, count), reading)
     # The agent reads line protocol alone.
     return 1 if reading + (compare_pipe(reader, form, lines, program) if form == "influx" else []) else 0
 

@@ -1,4 +1,4 @@
-"""A plain reading of configurations, by docs/configuration.md and docs/formats.md alone: the first fault of a text."""
+"""A plain reading of configurations, by docs/users/configuration.md and docs/users/formats.md alone: the first fault of a text."""
 
 import re
 import tomllib

@@ -1,6 +1,6 @@
 """Runs the program and reads agent.journal while the run goes on, after it was killed, and after its end.
 
-`Reader` reads a journal as docs/journal.md has it, whole or as far as it goes, and raises Fault at the first
+`Reader` reads a journal as docs/users/journal.md has it, whole or as far as it goes, and raises Fault at the first
 line that has no place there. A run that is killed reads a file, whose lines are gathered 1,000 at a time, so
 that its journal must be a front of that of a run that wasn't, byte for byte but for the moments.
 """

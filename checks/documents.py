@@ -1,7 +1,8 @@
 """Runs the commands of the documents, and compares what they print and leave: documents.py PROGRAM [PAGE..].
 
-Without a PAGE it takes README.md and docs/users/*.md. A block of a page (lines with four spaces in front, or a fenced one) is
-looked at where a mark stands before it, an HTML comment in a line of its own with nothing but empty lines behind it:
+Without a PAGE it takes README.md and docs/users/*.md. A block of a page (lines with four spaces in front, or a fenced
+one) is looked at where a mark stands before it, an HTML comment in a line of its own with nothing but empty lines
+behind it:
 
   <!-- folder -->            what follows has a new folder; a page begins with one. `hogzent` in it is the program
   <!-- file: NAME -->        the block is written to the file NAME
@@ -147,7 +148,8 @@ class Page:
         else:
             self.compared += 1
             is_out = mark.kind == "prints"
-            compare("standard output" if is_out else "standard error", mark.block, self.last.out if is_out else self.last.err)
+            what, text = ("standard output", self.last.out) if is_out else ("standard error", self.last.err)
+            compare(what, mark.block, text)
 
     def run(self):
         """Does what all marks say, and prints each difference."""

@@ -1,6 +1,6 @@
 #!/usr/bin/env python3
-"""Draws the way of a metric through a run, for README.md: docs/picture.py writes picture-light.svg and picture-dark.svg beside
-itself, the same bytes each time. It needs Python 3.
+"""Draws the way of a metric through a run, for README.md: docs/picture.py writes picture-light.svg and picture-dark.svg
+beside itself, the same bytes each time. It needs Python 3.
 
 A text that could be wider than its box (each character is counted as 0.6 of the size) ends the script with an error.
 """
@@ -10,12 +10,13 @@ from xml.sax.saxutils import escape
 
 HERE = os.path.dirname(os.path.realpath(__file__))
 WIDTH, HEIGHT = 1034, 464
-TITLE = "The way of a metric: inputs, reader, input's filter, outputs' filters, lanes, outputs; the core, its journal and its account"
+TITLE = ("The way of a metric: inputs, reader, input's filter, outputs' filters, lanes, outputs; "
+         "the core, its journal and its account")
 COLOURS = {
-    "light": {"back": "#ffffff", "box": "#f3f5f8", "core": "#dfeaf7", "told": "#e6f2e6", "edge": "#5a6775", "text": "#17202a",
-              "faint": "#4a5663"},
-    "dark": {"back": "#0d1117", "box": "#1b222c", "core": "#18324f", "told": "#1b3a24", "edge": "#8b98a7", "text": "#e8edf2",
-             "faint": "#b3beca"},
+    "light": {"back": "#ffffff", "box": "#f3f5f8", "core": "#dfeaf7", "told": "#e6f2e6", "edge": "#5a6775",
+              "text": "#17202a", "faint": "#4a5663"},
+    "dark": {"back": "#0d1117", "box": "#1b222c", "core": "#18324f", "told": "#1b3a24", "edge": "#8b98a7",
+             "text": "#e8edf2", "faint": "#b3beca"},
 }
 LARGE, SMALL, CHARACTER = 14, 12, 0.6
 
@@ -53,8 +54,8 @@ class Drawing:
 
     def svg(self):
         return "\n".join([
-            f'<svg xmlns="http://www.w3.org/2000/svg" viewBox="0 0 {WIDTH} {HEIGHT}" width="{WIDTH}" height="{HEIGHT}" role="img" '
-            'font-family="system-ui, -apple-system, \'Segoe UI\', Roboto, \'DejaVu Sans\', Arial, sans-serif">',
+            f'<svg xmlns="http://www.w3.org/2000/svg" viewBox="0 0 {WIDTH} {HEIGHT}" width="{WIDTH}" height="{HEIGHT}" '
+            'role="img" font-family="system-ui, -apple-system, \'Segoe UI\', Roboto, \'DejaVu Sans\', Arial, sans-serif">',
             f"<title>{escape(TITLE)}</title>",
             '<defs><marker id="head" viewBox="0 0 10 10" refX="9" refY="5" markerWidth="7" markerHeight="7" '
             f'orient="auto-start-reverse"><path d="M0,0 L10,5 L0,10 z" fill="{self.colours["edge"]}"/></marker></defs>',

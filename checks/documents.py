@@ -21,6 +21,7 @@ byte for byte. Commands have no input but what they name. Blocks without a mark 
 import glob
 import os
 import re
+import signal
 import subprocess
 import sys
 import tempfile
@@ -95,14 +96,16 @@ def compare(what, block, text):
 
 
 def do(command, folder):
-    """Runs a command in a folder."""
-    try:
-        done = subprocess.run(
-            ["bash", "-c", command], cwd=folder, stdin=subprocess.DEVNULL, capture_output=True, timeout=SECONDS,
-            env={**os.environ, "LC_ALL": "C"})
-    except subprocess.TimeoutExpired:
-        raise Differs(f"it didn't end in {SECONDS} seconds: {command.strip()}") from None
-    return Did(done.returncode, *(it.decode(errors="backslashreplace") for it in (done.stdout, done.stderr)))
+    """Runs a command in a folder; one that doesn't end in time is ended, with what it started."""
+    env = {**os.environ, "LC_ALL": "C"}
+    with subprocess.Popen(["bash", "-c", command], cwd=folder, env=env, stdin=subprocess.DEVNULL, stdout=subprocess.PIPE,
+                          stderr=subprocess.PIPE, start_new_session=True) as started:
+        try:
+            told = started.communicate(timeout=SECONDS)
+        except subprocess.TimeoutExpired:
+            os.killpg(started.pid, signal.SIGKILL)
+            raise Differs(f"it didn't end in {SECONDS} seconds: {command.strip()}") from None
+    return Did(started.returncode, *(it.decode(errors="backslashreplace") for it in told))
 
 
 class Page:
@@ -110,6 +113,7 @@ class Page:
 
     def __init__(self, path, program):
         self.path, self.program, self.folders, self.last = path, program, [], None
+        self.name = os.path.relpath(path, TOP) if path.startswith(TOP + os.sep) else path
         self.ran = self.compared = self.differ = 0
 
     def begin_folder(self):
@@ -132,7 +136,7 @@ class Page:
             with open(self.place(mark.name), "w", encoding="utf-8") as file:
                 file.write(mark.block)
         elif mark.kind == "run":
-            self.ran, command = self.ran + 1, mark.command or mark.block
+            self.ran, self.last, command = self.ran + 1, None, mark.command or mark.block
             self.last = do(command, self.folders[-1].name)
             if self.last.status != mark.status:
                 raise Differs(f"the status is {self.last.status}, not {mark.status}, of\n      {command.strip()}\n    "
@@ -160,7 +164,7 @@ class Page:
                     self.take(mark)
                 except Differs as fault:
                     self.differ += 1
-                    print(f"{os.path.relpath(self.path, TOP)}:{mark.line}: {fault}")
+                    print(f"{self.name}:{mark.line}: {fault}")
         finally:
             for folder in self.folders:
                 folder.cleanup()
@@ -168,7 +172,8 @@ class Page:
 
 def main():
     program, pages = os.path.realpath(sys.argv[1]), sys.argv[2:]
-    pages = pages or [os.path.join(TOP, "README.md"), *sorted(glob.glob(os.path.join(TOP, "docs/users/*.md")))]
+    users = os.path.join(TOP, "docs/users/*.md")
+    pages = pages or [os.path.join(TOP, "README.md"), *(sorted(glob.glob(users)) or [users])]
     missing = [it for it in pages if not os.path.isfile(it)]
     for path in missing:
         print(f"there is no page {path}")
@@ -177,7 +182,7 @@ def main():
     for path in (it for it in pages if it not in missing):
         page = Page(os.path.abspath(path), program)
         page.run()
-        print(f"{os.path.relpath(page.path, TOP)}: {page.ran} commands, {page.compared} blocks, {page.differ} differ")
+        print(f"{page.name}: {page.ran} commands, {page.compared} blocks, {page.differ} differ")
         ran, compared, differ = ran + page.ran, compared + page.compared, differ + page.differ
     if not ran:
         print("nothing was run")

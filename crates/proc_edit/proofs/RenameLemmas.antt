@@ -1,6 +1,6 @@
 -- A metric is one after its parts are renamed.
 use Rattle.std.proofs.Common.{◌≡◌, ◌<◌, ℕ, ℤ, true, false, not, cond, ◌||◌, List, [], ◌∷◌, length, refl, sym, ap, subst, ◌∙◌, arith, Some, map}
-use Rattle.std.specs.Prelude.{nat_eq, Option, find, option_map}
+use Rattle.std.specs.Prelude.{nat_eq, find, option_map}
 use Rattle.std.specs.List.{AllByRecursion, IsDistinct}
 use Rattle.std.specs.Map.{keys_of}
 use Rattle.std.specs.Str.{bytes_eq, IsUtf8}

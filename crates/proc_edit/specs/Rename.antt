@@ -1,5 +1,5 @@
 -- What renaming makes of a metric.
-use Rattle.std.specs.Prelude.{ℕ, List, Option, Some, None, map, if◌then◌else◌}
+use Rattle.std.specs.Prelude.{◌==◌, ℕ, Bool, not, length, List, Option, Some, None, map, if◌then◌else◌}
 use Rattle.std.specs.List.{fold}
 use Rattle.std.specs.Str.{bytes_eq}
 use Rattle.metric.specs.Changing.{without_key}
@@ -14,6 +14,9 @@ use Rattle.proc_edit.specs.declared.rename.RenameRule.{RenameRule}
 -- what a rule puts in the place of a name or key isn't empty
 abbrev pub HasDest : RenameRule → Type 0
 HasDest rule = IsFilled rule.dest
+
+abbrev pub has_dest : RenameRule → Bool
+has_dest rule = not (length rule.dest == 0)
 
 -- a name or key that is the old one becomes the new one
 abbrev pub renamed_key : List ℕ → List ℕ → List ℕ → List ℕ

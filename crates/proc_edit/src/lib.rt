@@ -8,5 +8,5 @@ mod target;
 mod value;
 
 pub use convert::{Convert, ConvertRules};
-pub use rename::{Rename, RenameRule};
+pub use rename::{Rename, RenameRule, have_dests};
 pub use target::Target;

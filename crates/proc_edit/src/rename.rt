@@ -1,11 +1,11 @@
 //! Renaming.
-ghost use Rattle.std.specs.Prelude.{◌≡◌, All, IfOk, OnOk};
+ghost use Rattle.std.specs.Prelude.{◌≡◌, false, All, IfOk, IsTrue, OnOk};
 ghost use Rattle.metric.specs.Metric.{IsFilled};
 ghost use Rattle.metric.specs.Pairs.{has_key};
 ghost use Rattle.proc_edit.specs.Rename.{moved_fields, moved_tags, renamed, renamed_by, renamed_key};
-ghost use Rattle.proc_edit.specs.Rename.{with_key_renamed, HasDest};
-ghost use Rattle.std.specs.Prelude.{false};
+ghost use Rattle.proc_edit.specs.Rename.{has_dest, with_key_renamed, HasDest};
 ghost use Rattle.std.specs.Str.{bytes_eq};
+ghost use Rattle.std.specs.List.{list_all};
 
 use fixed_num::{OutOfMemory, Seq};
 use metric::{Content, Metric, Part, Text, Value};
@@ -21,6 +21,14 @@ pub struct RenameRule {
     pub from: Text,
     /// The one in its place.
     pub dest: Text,
+}
+
+/// Has each rule something to put in the place of the name or key?
+pub fn have_dests(rules: &[RenameRule]) -> bool
+    ensures each { result ≡ list_all has_dest rules.now }
+    ensures all { IsTrue result → All HasDest rules.now }
+{
+    rules.iter().all(|rule| !rule.dest.as_str().is_empty())
 }
 
 /// Rules by which names and keys are replaced (as Telegraf's processor rename does).
@@ -43,7 +51,7 @@ impl Model for Rename {
 }
 
 impl Rename {
-    /// The renaming by these rules, in order. No `dest` is empty.
+    /// The renaming by these rules, in order. No `dest` is empty (`have_dests` tells).
     pub fn new(alloc: Global, rules: Vec<RenameRule>) -> Rename
         requires { All HasDest rules.items }
         ensures { result ≡ rules.items }

@@ -1,7 +1,8 @@
 //! Values that are converted.
-ghost use Rattle.std.specs.Prelude.{◌≡◌, IfOk};
+ghost use Rattle.std.specs.Prelude.{◌≡◌, false, IfOk};
 ghost use Rattle.proc_edit.specs.Convert.{converted, text_of};
-ghost use Rattle.metric.specs.Numbers.{number_text};
+ghost use Rattle.metric.specs.Numbers.{is_text, number_text};
+ghost use Rattle.metric.specs.Metric.{IsValue};
 
 use crate::Target;
 use crate::number::{fixed_of, int_of, truth_of, uint_of};
@@ -18,19 +19,42 @@ pub(crate) fn text_of(alloc: Global, value: &Value) -> Result<Text, OutOfMemory>
         Value::Text(text) => text.copy(),
         Value::Bool(true) => Text::of(alloc, "true"),
         Value::Bool(false) => Text::of(alloc, "false"),
-        number => number_text(alloc, number),
+        Value::Int(_) | Value::Uint(_) | Value::Fixed(_) => number_text(alloc, value),
     }
 }
 
 /// The digits of a number.
 fn number_text(alloc: Global, number: &Value) -> Result<Text, OutOfMemory>
+    requires { is_text number.now ≡ false }
     ensures { IfOk result (λ text. text ≡ number_text number.now) }
 {
+    shows_in_range(number);
     let mut digits = Vec::new(alloc);
     number.append_number(alloc, &mut digits)?;
     match str::from_utf8(digits.as_slice()) {
         Ok(text) => Text::of(alloc, text),
-        Err(_) => Err(OutOfMemory),
+        Err(_) => unreachable!(),
+    }
+}
+
+/// Says that a value is in the range of its type, and UTF-8 where it is a text.
+fn shows_in_range(value: &Value)
+    ensures { IsValue value.now }
+{
+    match value {
+        Value::Int(n) => {
+            let _n = *n;
+        }
+        Value::Uint(n) => {
+            let _n = *n;
+        }
+        Value::Fixed(n) => {
+            let _n = n.billionths();
+        }
+        Value::Bool(_) => {}
+        Value::Text(text) => {
+            let _text = text.as_str();
+        }
     }
 }
 

@@ -34,6 +34,7 @@ has_fields fields wanted = list_all (has_field fields) wanted
 abbrev pub repeats_one : ℤ → Content → Content → Bool
 repeats_one interval last m = int_lt (m.time -ℤ last.time) interval && has_fields last.fields m.fields
 
+-- it repeats the one that is there, if any
 abbrev pub repeats : ℤ → Option Content → Content → Bool
 repeats interval None m = false
 repeats interval (Some last) m = repeats_one interval last m

@@ -60,12 +60,14 @@ impl Dedup {
     }
 
     /// Whether the metric would be removed if it came next; else what is to be kept of it. Nothing changes by it but that
-    /// there is room for one more series.
+    /// there is room for one more series: where it would be removed, all is already as behind it.
     pub fn look(&mut self, m: &Metric) -> Result<Sight, OutOfMemory>
         ensures sight { (interval : ℤ) (list : List Content) → StandsFor interval list self.old
             → IfOk result (λ sight. sight ≡ sight_of interval list m.now) }
         ensures stands { (interval : ℤ) (list : List Content) → StandsFor interval list self.old
             → StandsFor interval list self.new }
+        ensures repeated { (interval : ℤ) (list : List Content) → StandsFor interval list self.old
+            → IfOk result (λ sight. sight ≡ Repeated → StandsFor interval (list ++ m.now ∷ []) self.new) }
         ensures room { IfOk result (λ sight. CanKeep self.new.kept sight) }
     {
         let fresh = Fresh::of(m)?;

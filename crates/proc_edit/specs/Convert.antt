@@ -20,7 +20,7 @@ use Rattle.proc_edit.specs.declared.target.Target.TheVariants.{Tag, Text as ToTe
 
 -- ---- which target counts
 
--- the targets in their order
+-- the place of a target in the order
 abbrev pub place_of : Target → ℕ
 place_of Tag = 0
 place_of ToText = 1
@@ -29,6 +29,7 @@ place_of ToUint = 3
 place_of ToBool = 4
 place_of ToFixed = 5
 
+-- the targets in their order
 abbrev pub all_targets : List Target
 all_targets = Tag ∷ ToText ∷ ToInt ∷ ToUint ∷ ToBool ∷ ToFixed ∷ []
 
@@ -58,17 +59,20 @@ whole_of (Fixed n) = Some (cut n)
 whole_of (Truth b) = Some (pos (if b then 1 else 0))
 whole_of (Text text) = option_map cut (read_of text)
 
--- a whole number in the range of signed ones, or of unsigned ones
+-- a whole number in the range of signed ones
 abbrev pub fitting_int : ℤ → Option ℤ
 fitting_int n = if int_le (neg_ℤ (pos (2 ^ 63))) n && int_lt n (pos (2 ^ 63)) then Some n else None
 
+-- a whole number in the range of unsigned ones
 abbrev pub fitting_uint : ℤ → Option ℕ
 fitting_uint (pos n) = if nat_lt n (2 ^ 64) then Some n else None
 fitting_uint (negsuc n) = None
 
+-- a value as a signed whole number
 abbrev pub int_of : Value → Option ℤ
 int_of value = option_and_then fitting_int (whole_of value)
 
+-- a value as an unsigned whole number
 abbrev pub uint_of : Value → Option ℕ
 uint_of value = option_and_then fitting_uint (whole_of value)
 
@@ -77,10 +81,11 @@ abbrev pub fixed_of : Value → Option ℤ
 fixed_of (Text text) = read_of text
 fixed_of value = Some (billionths_of value)
 
--- the texts that stand for true, and for false
+-- the texts that stand for true
 abbrev pub true_words : List (List ℕ)
 true_words = codes "1" ∷ codes "t" ∷ codes "T" ∷ codes "true" ∷ codes "TRUE" ∷ codes "True" ∷ []
 
+-- the texts that stand for false
 abbrev pub false_words : List (List ℕ)
 false_words = codes "0" ∷ codes "f" ∷ codes "F" ∷ codes "false" ∷ codes "FALSE" ∷ codes "False" ∷ []
 
@@ -88,6 +93,7 @@ false_words = codes "0" ∷ codes "f" ∷ codes "F" ∷ codes "false" ∷ codes 
 abbrev pub is_one_of : List (List ℕ) → List ℕ → Bool
 is_one_of words text = list_any (bytes_eq text) words
 
+-- the truth value for which a text stands
 unfoldable pub truth_of_text : List ℕ → Option Bool
 truth_of_text text =
     if is_one_of true_words text then Some true else if is_one_of false_words text then Some false else None
@@ -145,22 +151,26 @@ abbrev pub tag_as : Content → List ℕ → List ℕ → Option Target → Cont
 tag_as m key text None = m
 tag_as m key text (Some target) = as_field m key (converted target (Text text))
 
+-- with a field converted to the target that counts for its key
 abbrev pub with_field_converted : List (Target × List Element) → Content → List ℕ × Value → Content
 with_field_converted rules m field = field_as m field.0 field.1 (target_of rules field.0)
 
+-- with a tag converted to the target that counts for its key
 abbrev pub with_tag_converted : List (Target × List Element) → Content → List ℕ × List ℕ → Content
 with_tag_converted rules m tag = tag_as m tag.0 tag.1 (target_of rules tag.0)
 
--- fields converted one after the other, and tags
+-- with fields converted, one after the other
 abbrev pub fields_converted : List (Target × List Element) → Content → List (List ℕ × Value) → Content
 fields_converted rules m fields = fold (with_field_converted rules) m fields
 
+-- with tags converted, one after the other
 abbrev pub tags_converted : List (Target × List Element) → Content → List (List ℕ × List ℕ) → Content
 tags_converted rules m tags = fold (with_tag_converted rules) m tags
 
--- the fields first, and then the tags that are there by then
+-- with the tags converted that are there
 abbrev pub with_tags_behind : List (Target × List Element) → Content → Content
 with_tags_behind rules m = tags_converted rules m m.tags
 
+-- with the fields converted first, and then the tags that are there by then
 abbrev pub whole_converted : ConvertRules → Content → Content
 whole_converted rules m = with_tags_behind rules.tags (fields_converted rules.fields m m.fields)

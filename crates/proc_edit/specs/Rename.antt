@@ -15,6 +15,7 @@ use Rattle.proc_edit.specs.declared.rename.RenameRule.{RenameRule}
 abbrev pub HasDest : RenameRule → Type 0
 HasDest rule = IsFilled rule.dest
 
+-- the same as a test
 abbrev pub has_dest : RenameRule → Bool
 has_dest rule = not (length rule.dest == 0)
 

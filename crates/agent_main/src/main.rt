@@ -10,13 +10,16 @@ mod shown;
 use agent_run::{Status, agent};
 use fixed_num::OutOfMemory;
 use losses::losses;
-use real::{Outside, RealWorld, Refusal, open_standard};
+use real::{RealWorld, Refusal, open_standard};
 use reasons::{reason, text_at};
 use shown::Shown;
 use std::alloc::Global;
 use std::env;
+use std::fs::File;
 use std::io::ErrorKind;
 use std::process::ExitCode;
+use std::rt::{Clock, Files};
+use std::thread::Threads;
 
 /// What standard error is told of an end that isn't Done.
 fn advice(status: Status) -> &'static str {
@@ -52,7 +55,7 @@ fn losses_in(alloc: Global, account: &[u8]) -> Option<String> {
 
 /// What standard error is told of a configuration that was refused: its first fault, where its file can be
 /// read once more.
-fn refusal<R: Outside>(rt: &R, alloc: Global, place: &str) -> Option<String> {
+fn refusal<R: Files<File = File>>(rt: &R, alloc: Global, place: &str) -> Option<String> {
     let text = text_at(rt, alloc, place)?;
     let reason = reason(alloc, text.as_slice()).ok()??;
     let (place, reason) = (Shown(place), Shown(reason.as_str()));
@@ -121,7 +124,13 @@ fn tell_unopened(rt: &impl Eprint, words: &[String], refusal: Refusal, report: &
 }
 
 /// Tells standard error of an end that isn't Done, given what was reported.
-fn tell<R: Outside>(rt: &R, alloc: Global, words: &[String], status: Status, report: &[u8]) {
+fn tell<R: Files<File = File> + Eprint>(
+    rt: &R,
+    alloc: Global,
+    words: &[String],
+    status: Status,
+    report: &[u8],
+) {
     let [command, place] = words else {
         let _ = rt.eprintln(advice(status));
         return;
@@ -151,7 +160,7 @@ fn words_of(rt: &HostRuntime, alloc: Global) -> Result<Vec<String>, OutOfMemory>
 
 /// Runs the words in the real world, and tells standard error of an end that isn't Done, or of what was
 /// refused or dropped.
-fn run_words<R: Outside>(
+fn run_words<R: Files<File = File> + Clock + Eprint + Threads + Sync>(
     rt: &R,
     alloc: Global,
     words: &[String],
@@ -181,6 +190,6 @@ fn main(rt: HostRuntime) -> ExitCode {
         let _ = rt.eprintln(advice(Status::OutOfMemory));
         return ExitCode::from(Status::OutOfMemory.code());
     };
-    let world = RealWorld::new(&rt, alloc, rt.stdin(), rt.stdout(), standard);
+    let world = RealWorld::new(&rt, alloc, rt.stdin(), rt.stdout(), rt.stderr(), standard);
     ExitCode::from(run_words(&rt, alloc, words.as_slice(), world).code())
 }

@@ -14,9 +14,11 @@ pub use files::open_standard;
 use files::{OpenFiles, StandardStreams};
 pub use opening::Refusal;
 use opening::{reader_at, standard_writer, writer_at};
-pub use pipes::Outside;
 use std::alloc::Global;
-use std::io::{self, Stdin, Stdout};
+use std::fs::File;
+use std::io::{self, Stderr, Stdin, Stdout};
+use std::rt::Files;
+use std::thread::Threads;
 use streams::{Reader, Writer};
 
 /// A part whose file is made empty, if it wasn't yet; and how that failed.
@@ -46,6 +48,7 @@ pub struct RealWorld<'r, R> {
     rt: &'r R,
     stdin: Stdin,
     stdout: Stdout,
+    stderr: Stderr,
     files: OpenFiles,
     /// A clock was asked for, which a run does once all its places are open, and a start that is refused
     /// never does.
@@ -56,7 +59,7 @@ pub struct RealWorld<'r, R> {
     report: StdSink<Writer>,
 }
 
-impl<'r, R: Outside> RealWorld<'r, R> {
+impl<'r, R: Files<File = File> + std::rt::Clock + Threads + Sync> RealWorld<'r, R> {
     ghost use Rattle.agent_base.specs.Places.{AreHome};
 
     /// The world in which nothing is opened yet but the standard streams.
@@ -65,6 +68,7 @@ impl<'r, R: Outside> RealWorld<'r, R> {
         alloc: Global,
         stdin: Stdin,
         stdout: Stdout,
+        stderr: Stderr,
         standard: StandardStreams,
     ) -> RealWorld<'r, R>
         ensures ins { AreHome (⟦<RealWorld<'r, R> as World>⟧.view result).ins }
@@ -74,6 +78,7 @@ impl<'r, R: Outside> RealWorld<'r, R> {
             rt,
             stdin,
             stdout,
+            stderr,
             files: OpenFiles::new(alloc, standard),
             has_begun: false,
             refused: None,
@@ -93,7 +98,7 @@ impl<'r, R: Outside> RealWorld<'r, R> {
     }
 }
 
-impl<'r, R: Outside> World for RealWorld<'r, R> {
+impl<'r, R: Files<File = File> + std::rt::Clock + Threads + Sync> World for RealWorld<'r, R> {
     type In = StdSource<Reader>;
 
     type Out = StdSink<Writer>;
@@ -125,7 +130,7 @@ impl<'r, R: Outside> World for RealWorld<'r, R> {
 
     fn open_out(&mut self, place: &str) -> Result<StdSink<Writer>, OpenFault> {
         if !self.parts.has_out(place) {
-            match writer_at(self.rt, self.stdout, &self.files, place) {
+            match writer_at(self.rt, self.stdout, self.stderr, &self.files, place) {
                 Ok(opened) => {
                     let noted = self.files.add(opened.file);
                     let sink = StdSink::new(opened.stream);
@@ -150,7 +155,7 @@ impl<'r, R: Outside> World for RealWorld<'r, R> {
         }
         let (part, fault) = emptied(part);
         if let Some(fault) = fault {
-            let _ = eprintln!(self.rt;
+            let _ = eprintln!(self.stderr;
                 "hogzent: {} could not be made empty: {fault}",
                 Shown(place)
             );

@@ -2,13 +2,14 @@
 ghost use Rattle.std.specs.Prelude.{◌≡◌, ◌≢◌, Some, Contains, IfOk, IfSome, IsErr, codes, true};
 
 use super::files::{FileIdentity, OpenFiles, STANDARD_OUTPUT, StandardStream};
-use super::pipes::{Outside, open_pipe};
+use super::pipes::open_pipe;
 use super::streams::{Reader, Writer};
 use std::fmt;
 use std::fs::{self, File, OpenOptions, TryLockError};
-use std::io::{self, ErrorKind, Stdin, Stdout};
+use std::io::{self, ErrorKind, Stderr, Stdin, Stdout};
 use std::os::unix::fs::FileTypeExt;
 use std::rt::Files;
+use std::thread::Threads;
 
 /// Why a place isn't opened.
 #[derive(Clone, Copy, Debug)]
@@ -113,13 +114,17 @@ pub fn standard_writer<R: Files<File = File>>(
 }
 
 /// Opens what is written at its end, and makes it where it isn't there: a named pipe once something reads it.
-fn open_at_end<R: Outside>(rt: &R, place: &str) -> io::Result<File> {
+fn open_at_end<R: Files<File = File> + Threads>(
+    rt: &R,
+    stderr: Stderr,
+    place: &str,
+) -> io::Result<File> {
     let is_pipe = match fs::metadata(rt, place) {
         Ok(found) => found.file_type().is_fifo(),
         Err(_) => false,
     };
     if is_pipe {
-        return open_pipe(rt, place);
+        return open_pipe(rt, stderr, place);
     }
     OpenOptions::new().append(true).create(true).open(rt, place)
 }
@@ -132,9 +137,10 @@ fn is_anothers(file: &File) -> bool {
 
 /// What is written at a place, where it can be opened, and is no regular file that is open, here or in another
 /// run. No byte of a file that is there changes.
-pub fn writer_at<R: Outside>(
+pub fn writer_at<R: Files<File = File> + Threads>(
     rt: &R,
     stdout: Stdout,
+    stderr: Stderr,
     files: &OpenFiles,
     place: &str,
 ) -> Result<Opened<Writer>, Refusal>
@@ -159,7 +165,7 @@ pub fn writer_at<R: Outside>(
             file: output.file,
         });
     }
-    let opened = open_at_end(rt, place)?;
+    let opened = open_at_end(rt, stderr, place)?;
     let file = FileIdentity::of(&opened.metadata()?);
     if files.is_open(file) {
         return Err(Refusal::IsOpen);

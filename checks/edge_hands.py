@@ -24,6 +24,7 @@ from edge_kit import (
     SECONDS,
     Case,
     Holding,
+    Link,
     account_of,
     differences,
     found_in,
@@ -56,6 +57,12 @@ HANDS = [
         status=3,
         report=b"config: UnknownKey agent 0\n",
         told=rb'hogzent: the configuration c\x0ad was refused: [agent], "x": there is no such key' + b"\n",
+    ),
+    Case(
+        "a link at the journal's place is followed",
+        "hogzent pipe in out 10 100",
+        {"in": LINES, "there": OLD, "agent.journal": Link("there")},
+        {"out": LINES, "there": JOURNAL},
     ),
     Case(
         "too many files are open",
@@ -244,6 +251,31 @@ def limit_of_files(folder, program):
     )
 
 
+def ended_by(number):
+    """A signal ends the run at once: what was put stays, without a stop, an account or a report."""
+
+    def run(folder, program):
+        lines = numbered_lines(0, 1_500)
+        lay(folder, {})
+        started = begin(program, folder, "pipe", "stdin", "out", "100", "10000")
+        os.write(started.stdin.fileno(), lines)
+        wait_until(lambda: size_of(folder, "agent.journal") > 0)
+        wait_for_input(started, started.stdin.fileno())
+        started.send_signal(number)
+        report, told = started.communicate(timeout=SECONDS)
+        left = found_in(folder)
+        return differences(
+            ("status", started.returncode, -number),
+            ("standard output", report, b""),
+            ("standard error", told, b""),
+            ("out", left["out"], shortest(numbered_lines(0, 1_000))),
+            ("the journal's begin", left["agent.journal"][:10], b"journal 1\n"),
+            ("the journal's end", left["agent.journal"][-34:], b"done 0 ok\nbegin 0 900 1000\ndone 0 ok\n"[-34:]),
+        )
+
+    return run
+
+
 HANDS_RUNS = [
     ("a second run in one folder", two_runs),
     ("an input that another has the lock of", locked_input),
@@ -262,4 +294,6 @@ HANDS_RUNS = [
     ),
     ("a named pipe that nothing reads yet", pipe_without_reader),
     ("a limit on the sizes of files", limit_of_files),
+    ("SIGTERM while the run goes on", ended_by(signal.SIGTERM)),
+    ("SIGINT while the run goes on", ended_by(signal.SIGINT)),
 ]

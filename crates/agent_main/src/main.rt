@@ -10,7 +10,7 @@ mod shown;
 use agent_run::{Status, agent};
 use fixed_num::OutOfMemory;
 use losses::losses;
-use real::{RealWorld, Refusal, open_standard};
+use real::{RealWorld, Refusal, StandardStreams, StreamHandles, open_standard};
 use reasons::{reason, text_at};
 use shown::Shown;
 use std::alloc::Global;
@@ -158,14 +158,16 @@ fn words_of(rt: &HostRuntime, alloc: Global) -> Result<Vec<String>, OutOfMemory>
     }
 }
 
-/// Runs the words in the real world, and tells standard error of an end that isn't Done, or of what was
-/// refused or dropped.
+/// Runs the words in the real world, given what stands behind the standard streams, and tells standard error
+/// of an end that isn't Done, or of what was refused or dropped.
 fn run_words<R: Files<File = File> + Clock + Eprint + Threads + Sync>(
     rt: &R,
     alloc: Global,
     words: &[String],
-    mut world: RealWorld<'_, R>,
+    streams: StreamHandles,
+    standard: StandardStreams,
 ) -> Status {
+    let mut world = RealWorld::new(rt, alloc, streams, standard);
     let status = agent(alloc, words, &mut world);
     if let (Status::OpenFault, Some(refusal)) = (status, world.refused()) {
         tell_unopened(rt, words, refusal, world.reported());
@@ -190,6 +192,11 @@ fn main(rt: HostRuntime) -> ExitCode {
         let _ = rt.eprintln(advice(Status::OutOfMemory));
         return ExitCode::from(Status::OutOfMemory.code());
     };
-    let world = RealWorld::new(&rt, alloc, rt.stdin(), rt.stdout(), rt.stderr(), standard);
-    ExitCode::from(run_words(&rt, alloc, words.as_slice(), world).code())
+    let streams = StreamHandles {
+        input: rt.stdin(),
+        output: rt.stdout(),
+        error: rt.stderr(),
+    };
+    let status = run_words(&rt, alloc, words.as_slice(), streams, standard);
+    ExitCode::from(status.code())
 }

@@ -10,8 +10,8 @@ mod streams;
 use crate::shown::Shown;
 use agent_base::{MemWorld, OpenFault, PutFault, Sink, StdSink, StdSource, World};
 pub use clock::RealClock;
-pub use files::open_standard;
-use files::{OpenFiles, StandardStreams};
+use files::OpenFiles;
+pub use files::{StandardStreams, open_standard};
 pub use opening::Refusal;
 use opening::{reader_at, standard_writer, writer_at};
 use std::alloc::Global;
@@ -20,6 +20,14 @@ use std::io::{self, Stderr, Stdin, Stdout};
 use std::rt::Files;
 use std::thread::Threads;
 use streams::{Reader, Writer};
+
+/// The runtime's handles of the standard streams.
+#[derive(Clone, Copy)]
+pub struct StreamHandles {
+    pub input: Stdin,
+    pub output: Stdout,
+    pub error: Stderr,
+}
 
 /// A part whose file is made empty, if it wasn't yet; and how that failed.
 fn emptied(part: StdSink<Writer>) -> (StdSink<Writer>, Option<io::Error>)
@@ -46,9 +54,7 @@ fn emptied(part: StdSink<Writer>) -> (StdSink<Writer>, Option<io::Error>)
 #[derive(Drop)]
 pub struct RealWorld<'r, R> {
     rt: &'r R,
-    stdin: Stdin,
-    stdout: Stdout,
-    stderr: Stderr,
+    streams: StreamHandles,
     files: OpenFiles,
     /// A clock was asked for, which a run does once all its places are open, and a start that is refused
     /// never does.
@@ -66,9 +72,7 @@ impl<'r, R: Files<File = File> + std::rt::Clock + Threads + Sync> RealWorld<'r, 
     pub fn new(
         rt: &'r R,
         alloc: Global,
-        stdin: Stdin,
-        stdout: Stdout,
-        stderr: Stderr,
+        streams: StreamHandles,
         standard: StandardStreams,
     ) -> RealWorld<'r, R>
         ensures ins { AreHome (⟦<RealWorld<'r, R> as World>⟧.view result).ins }
@@ -76,14 +80,12 @@ impl<'r, R: Files<File = File> + std::rt::Clock + Threads + Sync> RealWorld<'r, 
     {
         RealWorld {
             rt,
-            stdin,
-            stdout,
-            stderr,
+            streams,
             files: OpenFiles::new(alloc, standard),
             has_begun: false,
             refused: None,
             parts: MemWorld::new(alloc),
-            report: StdSink::new(standard_writer(rt, stdout, standard.output)),
+            report: StdSink::new(standard_writer(rt, streams.output, standard.output)),
         }
     }
 
@@ -114,7 +116,7 @@ impl<'r, R: Files<File = File> + std::rt::Clock + Threads + Sync> World for Real
 
     fn open_in(&mut self, place: &str) -> Result<StdSource<Reader>, OpenFault> {
         if !self.parts.has_in(place) {
-            match reader_at(self.rt, self.stdin, &self.files, place) {
+            match reader_at(self.rt, self.streams.input, &self.files, place) {
                 Ok(opened) => {
                     let noted = self.files.add(opened.file);
                     let source = StdSource::new(opened.stream);
@@ -130,7 +132,13 @@ impl<'r, R: Files<File = File> + std::rt::Clock + Threads + Sync> World for Real
 
     fn open_out(&mut self, place: &str) -> Result<StdSink<Writer>, OpenFault> {
         if !self.parts.has_out(place) {
-            match writer_at(self.rt, self.stdout, self.stderr, &self.files, place) {
+            match writer_at(
+                self.rt,
+                self.streams.output,
+                self.streams.error,
+                &self.files,
+                place,
+            ) {
                 Ok(opened) => {
                     let noted = self.files.add(opened.file);
                     let sink = StdSink::new(opened.stream);
@@ -155,7 +163,7 @@ impl<'r, R: Files<File = File> + std::rt::Clock + Threads + Sync> World for Real
         }
         let (part, fault) = emptied(part);
         if let Some(fault) = fault {
-            let _ = eprintln!(self.stderr;
+            let _ = eprintln!(self.streams.error;
                 "hogzent: {} could not be made empty: {fault}",
                 Shown(place)
             );

@@ -17,9 +17,9 @@ pub enum Refusal {
     /// It is a folder.
     Folder,
     /// It is a regular file that this run has open already.
-    IsOpen,
-    /// It is a regular file that another run writes.
-    IsAnothers,
+    OpenHere,
+    /// It is a regular file that another run has, as an output or as its journal.
+    OpenElsewhere,
     /// It is a standard stream that was closed as the run began.
     WasClosed,
     /// The system refused it.
@@ -47,8 +47,8 @@ impl fmt::Display for Refusal {
     fn fmt<W: fmt::Write>(&self, f: &mut fmt::Formatter<W>) -> fmt::Result {
         match self {
             Refusal::Folder => f.write_str("it is a folder"),
-            Refusal::IsOpen => f.write_str("this run has that file open already"),
-            Refusal::IsAnothers => f.write_str("another run has it"),
+            Refusal::OpenHere => f.write_str("this run has that file open already"),
+            Refusal::OpenElsewhere => f.write_str("another run has it"),
             Refusal::WasClosed => f.write_str("it was closed as the run began"),
             Refusal::System(fault) => match words_of(fault) {
                 Some(words) => f.write_str(words),
@@ -131,7 +131,7 @@ fn open_at_end<R: Files<File = File> + Threads>(
 
 /// Whether another open of a file has its lock; else this one has it from here on. Where the file system has
 /// no locks, none has.
-fn is_anothers(file: &File) -> bool {
+fn is_locked_elsewhere(file: &File) -> bool {
     matches!(file.try_lock(), Err(TryLockError::WouldBlock))
 }
 
@@ -158,7 +158,7 @@ pub fn writer_at<R: Files<File = File> + Threads>(
             return Err(Refusal::WasClosed);
         }
         if files.is_place(output.file) {
-            return Err(Refusal::IsOpen);
+            return Err(Refusal::OpenHere);
         }
         return Ok(Opened {
             stream: standard_writer(rt, stdout, output),
@@ -168,10 +168,10 @@ pub fn writer_at<R: Files<File = File> + Threads>(
     let opened = open_at_end(rt, stderr, place)?;
     let file = FileIdentity::of(&opened.metadata()?);
     if files.is_open(file) {
-        return Err(Refusal::IsOpen);
+        return Err(Refusal::OpenHere);
     }
-    if file.is_some() && is_anothers(&opened) {
-        return Err(Refusal::IsAnothers);
+    if file.is_some() && is_locked_elsewhere(&opened) {
+        return Err(Refusal::OpenElsewhere);
     }
     Ok(Opened {
         stream: Writer::file(opened, file.is_some()),

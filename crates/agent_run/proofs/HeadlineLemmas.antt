@@ -10,16 +10,14 @@ use Rattle.account.specs.Dones.{dones, failed_count, LastFailed}
 use Rattle.pipeline_core.specs.Legal.{has_ended}
 use Rattle.pipeline_core.specs.Stopped.{behind_stop}
 use Rattle.pipeline_core.proofs.StopLemmas.{behind_fewer}
-use Rattle.std.specs.declared.option.Option.{Option}
 use Rattle.std.proofs.lemmas.List.{length-map}
-use Rattle.agent_base.specs.Moments.{Moments}
-use Rattle.agent_workers.specs.Opened.{RanBy, conf_sizes}
+use Rattle.agent_workers.specs.Job.{job_of, job_input, job_output, setup_of, sizes_of}
 use Rattle.agent_workers.specs.Inputs.{IsOneOf}
-use Rattle.agent_workers.specs.Run.{Change, InRun, run_at, OutRun, out_run_at, RunsFull, SomeIsFull, EndsSo, IsPutSo, IsLeft, account_of, text_of}
+use Rattle.agent_workers.specs.Run.{Change, run_at, out_run_at, Ran, RunChange, RunsFull, SomeIsFull, EndsSo, IsPutSo, IsLeft, account_of, text_of}
 use Rattle.formats.specs.declared.pieces.InState.{InState}
 use Rattle.formats.specs.declared.pieces.InState.TheVariants as states
-use Rattle.agent_workers.specs.declared.serial.Ending.{Ending}
-use Rattle.agent_run.specs.Headline.{RunChange, IsRunOf, Headline, IsWhole, IsBroken, IsReportFault, Ends, NothingRose, config_setup, status_of, place_change, world_change, world_ins, world_outs}
+use Rattle.agent_workers.specs.declared.rounds.Ending.{Ending}
+use Rattle.agent_run.specs.Headline.{WorldChange, IsRunOf, Headline, IsWhole, IsBroken, IsReportFault, Ends, NothingRose, status_of, place_change, world_change, world_ins, world_outs}
 use Rattle.agent_base.specs.Views.{WorldView}
 use Rattle.agent_config.specs.declared.config.InputConf.{InputConf}
 use Rattle.agent_config.specs.declared.config.OutputConf.{OutputConf}
@@ -28,34 +26,34 @@ use Rattle.agent_run.specs.Running.{IsRefusedBy}
 use Rattle.agent_run.specs.declared.status.Status.{Status}
 use Rattle.agent_run.specs.declared.status.Status.TheVariants as statuses
 
-module _ (config : Config) (x : RunChange) where
+module _ (config : Config) (x : WorldChange) where
   module _ (start : ℤ) (journal : List Entry) (run : IsRunOf config x start journal) where
-    headline_of : (journal_failed report_failed : Bool) → IsPutSo journal_failed x.journal (text_of (config_setup config start) journal) → IsPutSo report_failed x.report (account_of (config_setup config start) journal) → Headline config x journal_failed report_failed
+    headline_of : (journal_failed report_failed : Bool) → IsPutSo journal_failed x.run.journal (text_of (setup_of (job_of config) start) journal) → IsPutSo report_failed x.report (account_of (setup_of (job_of config) start) journal) → Headline config x journal_failed report_failed
     headline_of journal_failed report_failed put report = record { start = start; journal = journal; run = run; noted = put; reported = report }
 
     -- the run isn't full where no limit was reached
-    not_full : RunsFull false x.ins journal → ⊥
+    not_full : RunsFull false x.run.ins journal → ⊥
     not_full h = let e : false ≡ true = h.0 in cc
 
-    limited : (k : ℕ) (state : InState) → state ≡ states.LimitReached → EndsSo true x.ins k state (run_at x.ins k) (run.has.taken k) journal → (has_ended k journal ≡ false) × ((run.has.taken k ≡ 2 ^ 40) ⊎ SomeIsFull x.ins journal)
+    limited : (k : ℕ) (state : InState) → state ≡ states.LimitReached → EndsSo true x.run.ins k state (run.has.taken k) journal → (has_ended k journal ≡ false) × ((run.has.taken k ≡ 2 ^ 40) ⊎ SomeIsFull x.run.ins journal)
     limited k states.LimitReached e h = (h.0, elim h.1 [ inl many ↦ inl many | inr full ↦ inr full.1 ])
     limited k states.Reading e h = absurd (let y : states.Reading ≡ states.LimitReached = e in cc)
     limited k states.Ended e h = absurd (let y : states.Ended ≡ states.LimitReached = e in cc)
     limited k states.Faulted e h = absurd (let y : states.Faulted ≡ states.LimitReached = e in cc)
 
-    broken : (k : ℕ) (state : InState) → state ≡ states.Faulted → EndsSo false x.ins k state (run_at x.ins k) (run.has.taken k) journal → IsBroken config x run.has.taken journal k
+    broken : (k : ℕ) (state : InState) → state ≡ states.Faulted → EndsSo false x.run.ins k state (run.has.taken k) journal → IsBroken config x run.has.taken journal k
     broken k states.Faulted e h = record { few = h.0; unended = h.1; cut_short = elim h.2 [ inl short ↦ short | inr full ↦ absurd (not_full full) ] }
     broken k states.Reading e h = absurd (let y : states.Reading ≡ states.Faulted = e in cc)
     broken k states.Ended e h = absurd (let y : states.Ended ≡ states.Faulted = e in cc)
     broken k states.LimitReached e h = absurd (let y : states.LimitReached ≡ states.Faulted = e in cc)
 
-    whole : (k : ℕ) (state : InState) → (state ≢ states.LimitReached) → (state ≢ states.Faulted) → EndsSo false x.ins k state (run_at x.ins k) (run.has.taken k) journal → IsWhole config x run.has.taken journal k
+    whole : (k : ℕ) (state : InState) → (state ≢ states.LimitReached) → (state ≢ states.Faulted) → EndsSo false x.run.ins k state (run.has.taken k) journal → IsWhole config x run.has.taken journal k
     whole k states.Ended l f h = record { few = h.0; ended = h.1 }
     whole k states.Reading l f h = absurd (not_full h)
     whole k states.Faulted l f h = absurd (f refl)
     whole k states.LimitReached l f h = absurd (l refl)
 
-    whole_or_broken : (k : ℕ) (state : InState) → (state ≢ states.LimitReached) → EndsSo false x.ins k state (run_at x.ins k) (run.has.taken k) journal → IsWhole config x run.has.taken journal k ⊎ IsBroken config x run.has.taken journal k
+    whole_or_broken : (k : ℕ) (state : InState) → (state ≢ states.LimitReached) → EndsSo false x.run.ins k state (run.has.taken k) journal → IsWhole config x run.has.taken journal k ⊎ IsBroken config x run.has.taken journal k
     whole_or_broken k states.Ended l h = inl (record { few = h.0; ended = h.1 })
     whole_or_broken k states.Faulted l h = inr (broken k states.Faulted refl h)
     whole_or_broken k states.Reading l h = absurd (not_full h)
@@ -65,7 +63,7 @@ module _ (config : Config) (x : RunChange) where
     few_of k (inl h) = h.few
     few_of k (inr h) = h.few
 
-    report_fault : (journal_failed report_failed : Bool) → (journal_failed ≡ true) ⊎ (report_failed ≡ true) → IsPutSo journal_failed x.journal (text_of (config_setup config start) journal) → IsPutSo report_failed x.report (account_of (config_setup config start) journal)
+    report_fault : (journal_failed report_failed : Bool) → (journal_failed ≡ true) ⊎ (report_failed ≡ true) → IsPutSo journal_failed x.run.journal (text_of (setup_of (job_of config) start) journal) → IsPutSo report_failed x.report (account_of (setup_of (job_of config) start) journal)
         → ((k : ℕ) → k < length config.inputs → run.has.taken k < 2 ^ 40) → IsReportFault config x
     unfolding headline_of
     report_fault journal_failed report_failed either put report few = record {
@@ -77,16 +75,16 @@ module _ (config : Config) (x : RunChange) where
     }
 
     -- how many outputs the set-up has
-    within : (o : ℕ) → o < length config.outputs → o < length (config_setup config start).outputs
-    within o b = omega (arith, b, length-map config.outputs conf_sizes)
+    within : (o : ℕ) → o < length config.outputs → o < length (setup_of (job_of config) start).outputs
+    within o b = omega (arith, b, length-map config.outputs job_output, length-map (job_of config).outputs sizes_of)
 
-    within_back : (o : ℕ) → o < length (config_setup config start).outputs → o < length config.outputs
-    within_back o b = omega (arith, b, length-map config.outputs conf_sizes)
+    within_back : (o : ℕ) → o < length (setup_of (job_of config) start).outputs → o < length config.outputs
+    within_back o b = omega (arith, b, length-map config.outputs job_output, length-map (job_of config).outputs sizes_of)
 
     -- the status that a run ends with says what it left
     pub ends_of : (limit_reached fault : Bool) (state : ℕ → InState) (journal_failed failed left : Bool) → IsOneOf states.LimitReached (length config.inputs) state limit_reached → IsOneOf states.Faulted (length config.inputs) state fault →
-        ((k : ℕ) → k < length config.inputs → EndsSo limit_reached x.ins k (state k) (run_at x.ins k) (run.has.taken k) journal) → IsLeft left (config_setup config start) journal → IsPutSo journal_failed x.journal (text_of (config_setup config start) journal)
-        → IsPutSo failed x.report (account_of (config_setup config start) journal) → Ends config x (status_of limit_reached fault (journal_failed || failed) left)
+        ((k : ℕ) → k < length config.inputs → EndsSo limit_reached x.run.ins k (state k) (run.has.taken k) journal) → IsLeft left (setup_of (job_of config) start) journal → IsPutSo journal_failed x.run.journal (text_of (setup_of (job_of config) start) journal)
+        → IsPutSo failed x.report (account_of (setup_of (job_of config) start) journal) → Ends config x (status_of limit_reached fault (journal_failed || failed) left)
     unfolding headline_of
     ends_of true fault state journal_failed failed left one some e l put report =
         let h = limited one.0 (state one.0) one.2 (e one.0 one.1) in
@@ -116,24 +114,27 @@ module _ (config : Config) (x : RunChange) where
     }
 
 -- a run that was reported
-module _ (config : Config) (ins : List InRun) (outs : List OutRun) (noted reported : Change) (moments : Option Moments) where
+module _ (config : Config) (run : RunChange) (reported : Change) where
   -- what it left
-  abbrev pub left : RunChange
-  left = record { ins = ins; outs = outs; journal = noted; report = reported; moments = moments }
+  abbrev pub left : WorldChange
+  left = record { run = run; report = reported }
 
-  ran_ends : (ending : Ending) (failed : Bool) → RanBy config ending ins outs noted moments → IsPutSo failed reported ending.account.items → Ends config left (status_of ending.limit ending.read_fault (ending.journal_fault || failed) ending.left)
+  ran_ends : (ending : Ending) (failed : Bool) → Ran (job_of config) ending run → IsPutSo failed reported ending.account.items → Ends config left (status_of ending.limit ending.read_fault (ending.journal_fault || failed) ending.left)
   ran_ends ending failed r report =
-      ends_of config left r.start r.journal r.run ending.limit ending.read_fault r.state ending.journal_fault failed ending.left r.limit r.read_fault r.ends r.left r.noted (subst (IsPutSo failed reported) r.account report)
+      let same : length (job_of config).inputs ≡ length config.inputs = length-map config.inputs (job_input config) in
+      ends_of config left r.start r.journal r.run ending.limit ending.read_fault r.state ending.journal_fault failed ending.left
+      (subst (λ (n : ℕ). IsOneOf states.LimitReached n r.state ending.limit) same r.limit) (subst (λ (n : ℕ). IsOneOf states.Faulted n r.state ending.read_fault) same r.read_fault)
+      (λ k b. r.ends k (omega (arith, b, same))) r.left r.noted (subst (IsPutSo failed reported) r.account report)
 
-  pub reported_ends : (ending : Ending) (status : Status) → RanBy config ending ins outs noted moments →
+  pub reported_ends : (ending : Ending) (status : Status) → Ran (job_of config) ending run →
       (status ≡ statuses.OutOfMemory) ⊎ ((failed : Bool) × (status ≡ status_of ending.limit ending.read_fault (ending.journal_fault || failed) ending.left) × IsPutSo failed reported ending.account.items)
       → Ends config left status
   reported_ends ending status r (inl short) = rw short tt
   reported_ends ending status r (inr so) = rw so.1 (ran_ends ending so.0 r so.2)
 
 -- of a run that ended
-pub ran_ok : (config : Config) (r : Result Ending OutOfMemory) (ending : Ending) (ins : List InRun) (outs : List OutRun) (noted : Change) (moments : Option Moments) → r ≡ Ok ending → IfOk r (λ e. RanBy config e ins outs noted moments) → RanBy config ending ins outs noted moments
-ran_ok config r ending ins outs noted moments is h = subst (λ (x : Result Ending OutOfMemory). IfOk x (λ e. RanBy config e ins outs noted moments)) is h
+pub ran_ok : (config : Config) (r : Result Ending OutOfMemory) (ending : Ending) (run : RunChange) → r ≡ Ok ending → IfOk r (λ e. Ran (job_of config) e run) → Ran (job_of config) ending run
+ran_ok config r ending run is h = subst (λ (x : Result Ending OutOfMemory). IfOk x (λ e. Ran (job_of config) e run)) is h
 
 -- ---- without a count that rose
 
@@ -148,13 +149,13 @@ rose_of : (n a b : ℕ) → 1 ≤ n → RoseBy n a b → Rose a b
 rose_of n a b some r = omega arith
 
 -- no count of what a run touches rose
-pub record NoneRose (config : Config) (x : RunChange) : Type 0 where
-  pub ins : (k : ℕ) → k < length config.inputs → Rose (run_at x.ins k).place.faults_before (run_at x.ins k).place.faults_after → ⊥
-  pub outs : (o : ℕ) → o < length config.outputs → Rose (out_run_at x.outs o).place.faults_before (out_run_at x.outs o).place.faults_after → ⊥
-  pub journal : Rose x.journal.faults_before x.journal.faults_after → ⊥
+pub record NoneRose (config : Config) (x : WorldChange) : Type 0 where
+  pub ins : (k : ℕ) → k < length config.inputs → Rose (run_at x.run.ins k).place.faults_before (run_at x.run.ins k).place.faults_after → ⊥
+  pub outs : (o : ℕ) → o < length config.outputs → Rose (out_run_at x.run.outs o).place.faults_before (out_run_at x.run.outs o).place.faults_after → ⊥
+  pub journal : Rose x.run.journal.faults_before x.run.journal.faults_after → ⊥
   pub report : Rose x.report.faults_before x.report.faults_after → ⊥
 
-module _ (config : Config) (x : RunChange) (sound : 1 ≤ config.agent.final_tries) (none : NoneRose config x) where
+module _ (config : Config) (x : WorldChange) (sound : 1 ≤ config.agent.final_tries) (none : NoneRose config x) where
   -- without a count that rose and without a limit a run is done, or memory was short
   pub done_or_short : (status : Status) → Ends config x status → (status ≢ statuses.Limit) → (status ≡ statuses.Done) ⊎ (status ≡ statuses.OutOfMemory)
   done_or_short statuses.Done e l = inl refl
@@ -162,22 +163,22 @@ module _ (config : Config) (x : RunChange) (sound : 1 ≤ config.agent.final_tri
   done_or_short statuses.Left e l =
       let journal : List Entry = e.headline.journal in
       let o : ℕ = e.output in
-      let sent = e.headline.run.has.sent_to o (omega (arith, e.known, length-map config.outputs conf_sizes)) in
+      let sent = e.headline.run.has.sent_to o (omega (arith, e.known, length-map config.outputs job_output, length-map (job_of config).outputs sizes_of)) in
       let behind : 1 ≤ failed_count o (behind_stop journal) = failed_some config.agent.final_tries (dones o (behind_stop journal)) sound (sent.left e.some_left) in
       let many : 1 ≤ failed_count o journal = omega (arith, behind, behind_fewer o journal) in
-      absurd (none.outs o e.known (rose_of (failed_count o journal) (out_run_at x.outs o).place.faults_before (out_run_at x.outs o).place.faults_after many sent.put_faults))
+      absurd (none.outs o e.known (rose_of (failed_count o journal) (out_run_at x.run.outs o).place.faults_before (out_run_at x.run.outs o).place.faults_after many sent.put_faults))
   done_or_short statuses.ReadFault e l = absurd (none.ins e.number e.known e.broken.cut_short.0)
   done_or_short statuses.ReportFault e l =
       elim e.failed [
-        | inl j ↦ absurd (none.journal (subst (λ (b : Bool). IsPutSo b x.journal (text_of (config_setup config e.headline.start) e.headline.journal)) j e.headline.noted).0)
-        | inr j ↦ absurd (none.report (subst (λ (b : Bool). IsPutSo b x.report (account_of (config_setup config e.headline.start) e.headline.journal)) j e.headline.reported).0)
+        | inl j ↦ absurd (none.journal (subst (λ (b : Bool). IsPutSo b x.run.journal (text_of (setup_of (job_of config) e.headline.start) e.headline.journal)) j e.headline.noted).0)
+        | inr j ↦ absurd (none.report (subst (λ (b : Bool). IsPutSo b x.report (account_of (setup_of (job_of config) e.headline.start) e.headline.journal)) j e.headline.reported).0)
       ]
   done_or_short statuses.Limit e l = absurd (l refl)
   done_or_short statuses.Usage e l = absurd e
   done_or_short statuses.Config e l = absurd e
   done_or_short statuses.OpenFault e l = absurd e
 
-module _ (config : Config) (x : RunChange) (status : Status) where
+module _ (config : Config) (x : WorldChange) (status : Status) where
   -- a run doesn't end so
   pub never_open : Ends config x status → status ≡ statuses.OpenFault → ⊥
   never_open h e = subst (Ends config x) e h

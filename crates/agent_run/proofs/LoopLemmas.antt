@@ -14,7 +14,7 @@ use Rattle.std.proofs.lemmas.List.{length-map, length_push, take-map}
 use Rattle.agent_base.specs.Carried.{Carried}
 use Rattle.agent_base.specs.Places.{Place, Refuses, SameBut, AreHome, Opens, TakesIn}
 use Rattle.agent_base.specs.declared.world.OpenFault.{OpenFault}
-use Rattle.agent_run.specs.PlaceLists.{AreOpened, AreGiven, AreOut, AreRefused, IsUnopenedBy, StopsAt, place_at}
+use Rattle.agent_run.specs.PlaceLists.{AreOpened, AreGiven, PartsAreOut, AreRefused, IsUnopenedBy, StopsAt, place_at}
 use Rattle.agent_run.specs.declared.places.Unopened.{Unopened}
 use Rattle.agent_run.proofs.PartLemmas.{distinct_take, give_next, go_all, go_next, next_same, place_here, stopped_out, stopped_refused, stops_at}
 use Rattle.agent_run.proofs.ZipLemmas.{turn, ended}
@@ -52,8 +52,8 @@ module _ {X P : Type 0} (place_of : X → List ℕ) (told : P → Carried) (xs :
   carried = count ∙ sym (length-map parts told)
 
   -- they are out
-  pub front_out : AreOut (map place_of (take n xs)) w1
-  front_out = subst (λ (ps : List (List ℕ)). AreOut ps w1) (take-map place_of n xs) (stopped_out unopened (map place_of xs) (map told parts) n w0 w1 apart stopped carried)
+  pub front_out : PartsAreOut (map place_of (take n xs)) w1
+  front_out = subst (λ (ps : List (List ℕ)). PartsAreOut ps w1) (take-map place_of n xs) (stopped_out unopened (map place_of xs) (map told parts) n w0 w1 apart stopped carried)
 
   -- they are given back
   pub front_refused : (w2 : List ℕ → Place) → AreHome w0 → AreGiven (map place_of (take n xs)) (map told parts) w1 w2 → AreRefused unopened (map place_of xs) w0 w2
@@ -77,7 +77,7 @@ module _ {X P Z : Type 0} (place_of : X → List ℕ) (told : P → Carried) (xs
     here_turn = named ∙ place_here place_of xs (length yielded) x.now at_turn.0 at_turn.1
 
     -- the part of the next place is out
-    pub gives_from : AreOut (map place_of xs) w0 → (w1 place).is_out ≡ true
+    pub gives_from : PartsAreOut (map place_of xs) w0 → (w1 place).is_out ≡ true
     gives_from out =
         ap (λ (q : Place). q.is_out) (next_same TakesIn (map place_of xs) apart (length yielded) within_turn (take (length yielded) (map told ps)) place w0 w1 here_turn h)
         ∙ ap (λ q. (w0 q).is_out) here_turn ∙ out (length yielded) within_turn

@@ -1,5 +1,5 @@
 -- Lists of parts that are opened at their places, or given back, one after the other.
-use Rattle.std.proofs.Common.{◌≡◌, ◌≢◌, ◌<◌, ◌+◌, ◌++◌, ℕ, zero, suc, Bool, true, false, List, [], ◌∷◌, length, take, get_or, map, refl, sym, ap, ◌∙◌, subst, inl, inr, arith, Option}
+use Rattle.std.proofs.Common.{◌≡◌, ◌≢◌, ◌<◌, ◌+◌, ◌++◌, ℕ, zero, suc, Bool, true, false, List, [], ◌∷◌, length, take, get_or, map, refl, sym, ap, ◌∙◌, subst, inl, inr, arith}
 use Rattle.std.specs.Prelude.{◌⊎◌, Contains, IfErr, IsErrAnd}
 use Rattle.std.specs.declared.result.Result.{Result}
 use Rattle.std.specs.declared.result.Result.TheVariants.{Ok, Err}
@@ -13,7 +13,7 @@ use Rattle.std.proofs.lemmas.Slice.Eq.{bytes_eq-Decides}
 use Rattle.agent_base.specs.Places.{Place, Refuses, SameBut, SameAtAll, AreHome}
 use Rattle.agent_base.specs.declared.world.OpenFault.{OpenFault}
 use Rattle.agent_base.specs.declared.world.OpenFault.TheVariants as faults
-use Rattle.agent_run.specs.PlaceLists.{GoEach, AreOpened, AreGiven, AreHomeBut, AreOut, AreRefused, IsRefusedAt, IsUnopenedBy, StopsAt, carried_at, place_at}
+use Rattle.agent_run.specs.PlaceLists.{GoEach, AreOpened, AreGiven, AreHomeBut, PartsAreOut, AreRefused, IsRefusedAt, IsUnopenedBy, StopsAt, carried_at, place_at}
 use Rattle.agent_base.specs.Carried.{no_part, Carried}
 use Rattle.agent_run.specs.Places.{IsUnopened}
 use Rattle.agent_run.specs.declared.places.Unopened.{Unopened}
@@ -192,7 +192,7 @@ among (Failed named) places place old new c r = (subst (Contains places) (sym r.
 -- ---- parts that are out, and at home
 
 -- where parts were opened they are out
-pub opened_out : (places : List (List ℕ)) (parts : List Carried) (w0 w1 w2 : List ℕ → Place) → AreOpened places parts w0 w1 → ((k : ℕ) → k < length places → w2 (place_at places k) ≡ w1 (place_at places k)) → AreOut places w2
+pub opened_out : (places : List (List ℕ)) (parts : List Carried) (w0 w1 w2 : List ℕ → Place) → AreOpened places parts w0 w1 → ((k : ℕ) → k < length places → w2 (place_at places k) ≡ w1 (place_at places k)) → PartsAreOut places w2
 opened_out places parts w0 w1 w2 h same = λ k l. ap (λ (p : Place). p.is_out) (same k l) ∙ (h.each k l).is_out
 
 -- a place that wasn't opened leaves every other as it was
@@ -210,7 +210,7 @@ distinct_take n places apart =
 
 module _ (unopened : Unopened) (places : List (List ℕ)) (parts : List Carried) (n : ℕ) (w0 w1 : List ℕ → Place) (apart : IsDistinct bytes_eq places) (stopped : StopsAt unopened places parts w0 w1) (len : n ≡ length parts) where
   -- the parts that were opened are out where the next place wasn't opened
-  pub stopped_out : AreOut (take n places) w1
+  pub stopped_out : PartsAreOut (take n places) w1
   stopped_out = rw len (opened_out (take (length parts) places) parts w0 stopped.mid w1 stopped.opened
       (λ k l. refused_others unopened (place_at places (length parts)) stopped.mid w1 stopped.refused (place_at (take (length parts) places) k)
       (λ e. not_before places (length parts) apart stopped.within (subst (Contains (take (length parts) places)) e (at_contained (take (length parts) places) k l)))))
@@ -253,7 +253,7 @@ first_apart place places apart c =
     AllPairs-from_IsDistinct bytes_eq-Decides (place ∷ places) apart 0 (suc c.0) [] (omega arith) (omega (arith, c.1)) (sym (get_or_default places c.0 [] place c.1 ∙ c.2))
 
 -- the parts behind the first place are out
-pub out_behind : (place : List ℕ) (places : List (List ℕ)) (told : List ℕ → Place) → AreOut (place ∷ places) told → AreOut places told
+pub out_behind : (place : List ℕ) (places : List (List ℕ)) (told : List ℕ → Place) → PartsAreOut (place ∷ places) told → PartsAreOut places told
 out_behind place places told out = λ k l. out (suc k) (omega (arith, l))
 
 -- an answer that is handed on
@@ -277,8 +277,8 @@ before_same Goes seen places parts named place w0 w1 e d apart h = h.others name
 -- all behind the first were opened, by other terms; the first wasn't
 module _ (place : List ℕ) (places seen again : List (List ℕ)) (named : List ℕ) (parts : List Carried) (w0 w1 w2 : List ℕ → Place) (e : seen ≡ places) (f : again ≡ places) (d : named ≡ place) (apart : IsDistinct bytes_eq (place ∷ places)) (opened : AreOpened seen parts w0 w1) (same : SameBut named w1 w2) where
   -- the parts are out
-  pub opened_out_still : AreOut again w2
-  opened_out_still = subst (λ (ps : List (List ℕ)). AreOut ps w2) (e ∙ sym f)
+  pub opened_out_still : PartsAreOut again w2
+  opened_out_still = subst (λ (ps : List (List ℕ)). PartsAreOut ps w2) (e ∙ sym f)
       (opened_out seen parts w0 w1 w2 opened (λ k l. same (place_at seen k) (λ x. first_apart place places apart (subst (λ (ps : List (List ℕ)). Contains ps place) e (subst (Contains seen) (x ∙ d) (at_contained seen k l))))))
 
   -- and they were given back

@@ -12,7 +12,7 @@ use Rattle.agent_config.specs.Faults.{faults_in, text_faults}
 use Rattle.agent_config.specs.declared.config.Config.{Config}
 use Rattle.agent_run.specs.Checking.{Approves, ChecksAs, IsJudged, IsUnread, Judges, TakesAtMost, TakesText, most_taken}
 use Rattle.agent_run.specs.Command.{IsCheck, IsPipe, IsRunAt}
-use Rattle.agent_run.specs.Configured.{HasRun, IsReadAt, IsRunUnread, IsUnfailed, IsUnready, IsUnrun, IsUnsaid, RunEnds, SaysConfig, UnreadAs, unread_line, unread_status}
+use Rattle.agent_run.specs.Configured.{SaysRun, IsReadAt, IsRunUnread, NeitherFailed, IsUnready, IsUnrun, IsUnsaid, RunEnds, SaysConfig, UnreadAs, unread_line, unread_status}
 use Rattle.agent_run.specs.Headline.{Ends, NothingRose, world_change}
 use Rattle.agent_run.specs.Places.{ReportsLine, RoseToOpen, RoseToUse}
 use Rattle.agent_run.specs.Running.{IsOpenedSame, IsRefusedBy, OnlyNamed}
@@ -125,7 +125,7 @@ module _ (status : Status) (place : List ℕ) (config : Config) (old mid last : 
   ]
 
   pub ran : (status ≡ statuses.OpenFault → IsRefusedBy config mid last) → ((status ≢ statuses.OpenFault) → Ends config (world_change config mid last) status) → ((status ≢ statuses.OpenFault) → (status ≢ statuses.OutOfMemory) → IsOpenedSame mid last) →
-      OnlyNamed config mid last → HasRun status place old last
+      OnlyNamed config mid last → SaysRun status place old last
   ran refused ends opened only = inr (record {
     config = config;
     mid = mid;
@@ -150,7 +150,7 @@ module _ (status : Status) (place : List ℕ) (config : Config) (old mid last : 
 
 -- ---- a command
 
-pub run_never_usage : (status : Status) (place : List ℕ) (old last : WorldView) → HasRun status place old last → status ≡ statuses.Usage → ⊥
+pub run_never_usage : (status : Status) (place : List ℕ) (old last : WorldView) → SaysRun status place old last → status ≡ statuses.Usage → ⊥
 run_never_usage status place old last (inl h) e = subst (λ (s : Status). UnreadAs s place old last) e h.answer
 run_never_usage status place old last (inr h) e =
     never_usage h.config (world_change h.config h.mid last) status (h.ends (λ o. let x : statuses.Usage ≡ statuses.OpenFault = sym e ∙ o in cc)) e
@@ -173,7 +173,7 @@ run_completes status place config old mid last some read refused ends nothing li
     completes config mid last status some refused ends (nothing_since status place config old mid last read nothing) limit
 
 -- a text with a fault, that no failure kept from being read
-unread_faulty : (status : Status) (place : List ℕ) (old last : WorldView) → UnreadAs status place old last → IsUnfailed (old.ins place) (last.ins place) → (status ≡ statuses.Config) ⊎ (status ≡ statuses.OutOfMemory)
+unread_faulty : (status : Status) (place : List ℕ) (old last : WorldView) → UnreadAs status place old last → NeitherFailed (old.ins place) (last.ins place) → (status ≡ statuses.Config) ⊎ (status ≡ statuses.OutOfMemory)
 unread_faulty statuses.Config place old last h n = inl refl
 unread_faulty statuses.OutOfMemory place old last h n = inr refl
 unread_faulty statuses.OpenFault place old last h n = absurd (n.opened h.0.failed.rose)
@@ -184,7 +184,7 @@ unread_faulty statuses.Usage place old last h n = absurd h
 unread_faulty statuses.Left place old last h n = absurd h
 unread_faulty statuses.Limit place old last h n = absurd h
 
-pub run_faulty : (status : Status) (place bytes : List ℕ) (old last : WorldView) → HasRun status place old last → (old.ins place).bytes ≡ Some bytes → (text_faults bytes ≢ []) → IsUnfailed (old.ins place) (last.ins place) → (status ≡ statuses.Config) ⊎ (status ≡ statuses.OutOfMemory)
+pub run_faulty : (status : Status) (place bytes : List ℕ) (old last : WorldView) → SaysRun status place old last → (old.ins place).bytes ≡ Some bytes → (text_faults bytes ≢ []) → NeitherFailed (old.ins place) (last.ins place) → (status ≡ statuses.Config) ⊎ (status ≡ statuses.OutOfMemory)
 run_faulty status place bytes old last (inl h) told faulty n = unread_faulty status place old last h.answer n
 run_faulty status place bytes old last (inr h) told faulty n =
     absurd (faulty (subst (λ (b : Option (List ℕ)). IfSome b (λ xs. text_faults xs ≡ text_faults h.read.text)) told (told_faults (old.ins place).bytes (h.mid.ins place).bytes h.read.text h.read.taken) ∙ h.read.says.0))
@@ -195,7 +195,7 @@ judged_faulty status bytes old new rest new_rest h none told faulty =
     faulty (subst (λ (b : Option (List ℕ)). IfSome b (λ xs. text_faults xs ≡ text_faults h.text)) told h.faults ∙ none h.text h.judged)
 
 pub check_faulty : (status : Status) (place bytes : List ℕ) (ins new_ins : List ℕ → Place) (rest new_rest : Rest) → ChecksAs status place ins new_ins rest new_rest → (ins place).bytes ≡ Some bytes → (text_faults bytes ≢ [])
-    → IsUnfailed (ins place) (new_ins place) → (status ≡ statuses.Config) ⊎ (status ≡ statuses.OutOfMemory)
+    → NeitherFailed (ins place) (new_ins place) → (status ≡ statuses.Config) ⊎ (status ≡ statuses.OutOfMemory)
 check_faulty statuses.Config place bytes ins new_ins rest new_rest h told faulty n = inl refl
 check_faulty statuses.OutOfMemory place bytes ins new_ins rest new_rest h told faulty n = inr refl
 check_faulty statuses.OpenFault place bytes ins new_ins rest new_rest h told faulty n = absurd (n.opened h.0.failed.rose)
@@ -220,7 +220,7 @@ unread_run statuses.Left words place old last command h config shut short = absu
 unread_run statuses.Limit words place old last command h config shut short = absurd h.answer
 
 -- what a run left that wasn't refused
-pub run_ends : (status : Status) (words : List (String Global)) (place : List ℕ) (old last : WorldView) → IsRunAt words place → HasRun status place old last → (status ≢ statuses.Config) → (status ≢ statuses.OpenFault) → (status ≢ statuses.OutOfMemory)
+pub run_ends : (status : Status) (words : List (String Global)) (place : List ℕ) (old last : WorldView) → IsRunAt words place → SaysRun status place old last → (status ≢ statuses.Config) → (status ≢ statuses.OpenFault) → (status ≢ statuses.OutOfMemory)
     → RunEnds status words old last ⊎ IsRunUnread status words old last
 run_ends status words place old last command (inr h) config shut short = inl (record { place = place; command = command; ran = h })
 run_ends status words place old last command (inl h) config shut short = inr (unread_run status words place old last command h config shut short)

@@ -9,14 +9,16 @@ use Rattle.agent_config.specs.declared.config.Config.{Config}
 use Rattle.agent_config.specs.declared.config.InputConf.{InputConf}
 use Rattle.agent_config.specs.declared.config.OutputConf.{OutputConf}
 use Rattle.agent_base.specs.Carried.{no_part, Carried, Timed}
-use Rattle.agent_workers.specs.Opened.{RanBy, config_ins, config_outs, rule_by}
-use Rattle.agent_workers.specs.Run.{Change, change, InRun, OutRun, IsPutSo}
-use Rattle.agent_workers.specs.declared.serial.Ending.{Ending}
+use Rattle.agent_workers.specs.Job.{job_of, rule_by}
+use Rattle.agent_workers.specs.Opened.{Carries, Times, change_by, config_ins, config_outs}
+use Rattle.agent_workers.proofs.OpenedLemmas.{carries_is}
+use Rattle.agent_workers.specs.Run.{Ran, Change, change, InRun, OutRun, IsPutSo}
+use Rattle.agent_workers.specs.declared.rounds.Ending.{Ending}
 use Rattle.agent_run.specs.ClockLists.{HasInputClocks, clock_count, from_first, timed_at}
 use Rattle.agent_run.specs.Headline.{Ends, place_change, report_change, status_of, world_change, world_ins, world_outs, input_clock, run_clock}
-use Rattle.agent_run.specs.PlaceLists.{GoEach, AreOpened, AreGiven, AreHomeBut, AreOut, IsInUnopened, IsOutUnopened, OpensAll, carried_at, in_places, out_places, place_at, places_in, places_out}
+use Rattle.agent_run.specs.PlaceLists.{GoEach, AreOpened, AreGiven, AreHomeBut, PartsAreOut, IsInUnopened, IsOutUnopened, OpensAll, carried_at, in_places, out_places, place_at, places_in, places_out}
 use Rattle.agent_run.specs.Places.{AreOpensSame, ReportsLine, open_fault_line}
-use Rattle.agent_run.specs.Running.{IsOpenedSame, IsRefusedBy, OnlyNamed, told, told_at}
+use Rattle.agent_run.specs.Running.{given_back, IsOpenedSame, IsRefusedBy, OnlyNamed, told, told_at}
 use Rattle.agent_run.specs.declared.status.Status.{Status}
 use Rattle.agent_run.specs.declared.status.Status.TheVariants as statuses
 use Rattle.agent_run.proofs.HeadlineLemmas.{reported_ends}
@@ -94,14 +96,14 @@ tail_is x y xs ys e = ap rest e
 
 -- ---- what a run left, by other terms
 
-pub change_of : (config : Config) (status : Status) (ins other_ins : List InRun) (outs other_outs : List OutRun) (noted other_noted reported other_reported : Change) (moments other_moments : Option Moments) → ins ≡ other_ins → outs ≡ other_outs → noted ≡ other_noted → reported ≡ other_reported → moments ≡ other_moments →
-    Ends config (record { ins = ins; outs = outs; journal = noted; report = reported; moments = moments }) status → Ends config (record { ins = other_ins; outs = other_outs; journal = other_noted; report = other_reported; moments = other_moments }) status
+change_of : (config : Config) (status : Status) (ins other_ins : List InRun) (outs other_outs : List OutRun) (noted other_noted reported other_reported : Change) (moments other_moments : Option Moments) → ins ≡ other_ins → outs ≡ other_outs → noted ≡ other_noted → reported ≡ other_reported → moments ≡ other_moments →
+    Ends config (record { run = record { ins = ins; outs = outs; journal = noted; moments = moments }; report = reported }) status → Ends config (record { run = record { ins = other_ins; outs = other_outs; journal = other_noted; moments = other_moments }; report = other_reported }) status
 change_of config status ins other_ins outs other_outs noted other_noted reported other_reported moments other_moments a b c d e h =
-    subst (λ (x : Option Moments). Ends config (record { ins = other_ins; outs = other_outs; journal = other_noted; report = other_reported; moments = x }) status) e
-    (subst (λ (x : Change). Ends config (record { ins = other_ins; outs = other_outs; journal = other_noted; report = x; moments = moments }) status) d
-    (subst (λ (x : Change). Ends config (record { ins = other_ins; outs = other_outs; journal = x; report = reported; moments = moments }) status) c
-    (subst (λ (x : List OutRun). Ends config (record { ins = other_ins; outs = x; journal = noted; report = reported; moments = moments }) status) b
-    (subst (λ (x : List InRun). Ends config (record { ins = x; outs = outs; journal = noted; report = reported; moments = moments }) status) a h))))
+    subst (λ (x : Option Moments). Ends config (record { run = record { ins = other_ins; outs = other_outs; journal = other_noted; moments = x }; report = other_reported }) status) e
+    (subst (λ (x : Change). Ends config (record { run = record { ins = other_ins; outs = other_outs; journal = other_noted; moments = moments }; report = x }) status) d
+    (subst (λ (x : Change). Ends config (record { run = record { ins = other_ins; outs = other_outs; journal = x; moments = moments }; report = reported }) status) c
+    (subst (λ (x : List OutRun). Ends config (record { run = record { ins = other_ins; outs = x; journal = noted; moments = moments }; report = reported }) status) b
+    (subst (λ (x : List InRun). Ends config (record { run = record { ins = x; outs = outs; journal = noted; moments = moments }; report = reported }) status) a h))))
 
 pub change_told : (a b : Carried) (before after : Place) → a ≡ told before → b ≡ told after → change a.bytes b.bytes a.faults b.faults ≡ place_change before after
 change_told a b before after e f = rw (e, f) refl
@@ -142,39 +144,30 @@ home_but places w0 w1 home same = λ q away. ap (λ (p : Place). p.is_out) (same
 pub home_but_along : (places : List (List ℕ)) (w0 w1 : List ℕ → Place) → AreHomeBut places w0 → SameAtAll w0 w1 → AreHomeBut places w1
 home_but_along places w0 w1 home same = λ q away. ap (λ (p : Place). p.is_out) (same q) ∙ home q away
 
-pub out_along : (places : List (List ℕ)) (w0 w1 : List ℕ → Place) → AreOut places w0 → SameAtAll w0 w1 → AreOut places w1
+pub out_along : (places : List (List ℕ)) (w0 w1 : List ℕ → Place) → PartsAreOut places w0 → SameAtAll w0 w1 → PartsAreOut places w1
 out_along places w0 w1 out same = λ k l. ap (λ (p : Place). p.is_out) (same (place_at places k)) ∙ out k l
 
 -- the places at which parts were opened are out
-pub are_out : (places : List (List ℕ)) (parts : List Carried) (w0 w1 : List ℕ → Place) → AreOpened places parts w0 w1 → AreOut places w1
+pub are_out : (places : List (List ℕ)) (parts : List Carried) (w0 w1 : List ℕ → Place) → AreOpened places parts w0 w1 → PartsAreOut places w1
 are_out places parts w0 w1 h = λ k l. (h.each k l).is_out
 
 -- ---- a run over opened parts
 
 module _ (config : Config) (status : Status) (old mid last : WorldView) where
   -- what it left, as the world tells it behind the report
-  pub leaves : (ending : Ending) (read new_read : List Carried) (journal new_journal : Carried) (written new_written : List Carried) (timed : List Timed) (moments : Option Moments) →
-      AreGiven (in_places config) new_read old.ins mid.ins → AreGiven (out_places config) (new_journal ∷ new_written) old.outs mid.outs → mid.report ≡ old.report → SameAtAll mid.ins last.ins → SameAtAll mid.outs last.outs →
-      RanBy config ending (config_ins config config.inputs read new_read timed) (config_outs config.outputs written new_written) (change journal.bytes new_journal.bytes journal.faults new_journal.faults) moments →
+  pub leaves : (ending : Ending) (opened left : Carries) (times : Times) → AreGiven (in_places config) left.sources old.ins mid.ins → AreGiven (out_places config) (left.journal ∷ left.sinks) old.outs mid.outs → mid.report ≡ old.report → SameAtAll mid.ins last.ins → SameAtAll mid.outs last.outs →
+      Ran (job_of config) ending (change_by config opened left times) →
       (status ≡ statuses.OutOfMemory) ⊎ ((failed : Bool) × (status ≡ status_of ending.limit ending.read_fault (ending.journal_fault || failed) ending.left) × IsPutSo failed (report_change mid.report last.report) ending.account.items) →
-      Ends config (record {
-        ins = config_ins config config.inputs read (told_at (in_places config) last.ins) timed;
-        outs = config_outs config.outputs written (told_at (places_out config.outputs) last.outs);
-        journal = change journal.bytes (last.outs config.agent.journal).bytes journal.faults (last.outs config.agent.journal).part_faults;
-        report = report_change old.report last.report;
-        moments = moments;
-      }) status
-  leaves ending read new_read journal new_journal written new_written timed moments ins outs report ins_same outs_same ran answer =
-      let read_is : new_read ≡ told_at (in_places config) last.ins = given_told (in_places config) new_read old.ins mid.ins ins ∙ sym (told_same (in_places config) mid.ins last.ins ins_same) in
-      let all_is : new_journal ∷ new_written ≡ told_at (out_places config) last.outs = given_told (out_places config) (new_journal ∷ new_written) old.outs mid.outs outs ∙ sym (told_same (out_places config) mid.outs last.outs outs_same) in
-      let journal_is : new_journal ≡ told (last.outs config.agent.journal) = head_is new_journal (told (last.outs config.agent.journal)) new_written (told_at (places_out config.outputs) last.outs) all_is in
-      let written_is : new_written ≡ told_at (places_out config.outputs) last.outs = tail_is new_journal (told (last.outs config.agent.journal)) new_written (told_at (places_out config.outputs) last.outs) all_is in
-      change_of config status _ _ _ _ _ _ _ _ moments moments
-      (ap (λ (xs : List Carried). config_ins config config.inputs read xs timed) read_is)
-      (ap (λ (xs : List Carried). config_outs config.outputs written xs) written_is)
-      (ap (λ (x : Carried). change journal.bytes x.bytes journal.faults x.faults) journal_is)
-      (reports_same old.report mid.report last.report report) refl
-      (reported_ends config (config_ins config config.inputs read new_read timed) (config_outs config.outputs written new_written) (change journal.bytes new_journal.bytes journal.faults new_journal.faults) (report_change mid.report last.report) moments ending status ran answer)
+      Ends config (record { run = change_by config opened (given_back config last) times; report = report_change old.report last.report }) status
+  leaves ending opened left times ins outs report ins_same outs_same ran answer =
+      let read_is : left.sources ≡ told_at (in_places config) last.ins = given_told (in_places config) left.sources old.ins mid.ins ins ∙ sym (told_same (in_places config) mid.ins last.ins ins_same) in
+      let all_is : left.journal ∷ left.sinks ≡ told_at (out_places config) last.outs = given_told (out_places config) (left.journal ∷ left.sinks) old.outs mid.outs outs ∙ sym (told_same (out_places config) mid.outs last.outs outs_same) in
+      let journal_is : left.journal ≡ told (last.outs config.agent.journal) = head_is left.journal (told (last.outs config.agent.journal)) left.sinks (told_at (places_out config.outputs) last.outs) all_is in
+      let written_is : left.sinks ≡ told_at (places_out config.outputs) last.outs = tail_is left.journal (told (last.outs config.agent.journal)) left.sinks (told_at (places_out config.outputs) last.outs) all_is in
+      subst (λ (x : Carries). Ends config (record { run = change_by config opened x times; report = report_change old.report last.report }) status)
+      (carries_is left.sources (told_at (in_places config) last.ins) left.sinks (told_at (places_out config.outputs) last.outs) left.journal (told (last.outs config.agent.journal)) read_is written_is journal_is)
+      (subst (λ (x : Change). Ends config (record { run = change_by config opened left times; report = x }) status) (reports_same old.report mid.report last.report report)
+      (reported_ends config (change_by config opened left times) (report_change mid.report last.report) ending status ran answer))
 
 -- ---- a run of a configuration
 
@@ -187,23 +180,17 @@ pub all_first : (config : Config) (timed : List Timed) (told_of : ℕ → Option
 all_first config timed told_of h = λ k d l.
     ap (λ (t : Timed). t.place) (get_or_default timed k d (from_first None) l ∙ h.each k (omega (arith, l, h.count_is)))
 
-module _ (config : Config) (status : Status) (start opened_at mid last : WorldView) (read : List Carried) (journal : Carried) (written : List Carried) (opens : OpensAll config read (journal ∷ written) start opened_at) where
-  pub runs : (timed : List Timed) (moments : Option Moments) → HasInputClocks config timed opened_at.clocks → moments ≡ opened_at.clocks run_clock → mid.report ≡ opened_at.report →
-      Ends config (record {
-        ins = config_ins config config.inputs read (told_at (in_places config) last.ins) timed;
-        outs = config_outs config.outputs written (told_at (places_out config.outputs) last.outs);
-        journal = change journal.bytes (last.outs config.agent.journal).bytes journal.faults (last.outs config.agent.journal).part_faults;
-        report = report_change mid.report last.report;
-        moments = moments;
-      }) status → Ends config (world_change config start last) status
-  runs timed moments clocks moments_are report ends =
-      let read_is : read ≡ told_at (in_places config) start.ins = opened_told (in_places config) read start.ins opened_at.ins opens.inputs in
-      let all_is : journal ∷ written ≡ told_at (out_places config) start.outs = opened_told (out_places config) (journal ∷ written) start.outs opened_at.outs opens.outputs in
-      let journal_is : journal ≡ told (start.outs config.agent.journal) = head_is journal (told (start.outs config.agent.journal)) written (told_at (places_out config.outputs) start.outs) all_is in
-      let written_is : written ≡ told_at (places_out config.outputs) start.outs = tail_is journal (told (start.outs config.agent.journal)) written (told_at (places_out config.outputs) start.outs) all_is in
+module _ (config : Config) (status : Status) (start opened_at mid last : WorldView) (opened : Carries) (opens : OpensAll config opened.sources (opened.journal ∷ opened.sinks) start opened_at) where
+  pub runs : (times : Times) → HasInputClocks config times.ins opened_at.clocks → times.timer.moments ≡ opened_at.clocks run_clock → mid.report ≡ opened_at.report →
+      Ends config (record { run = change_by config opened (given_back config last) times; report = report_change mid.report last.report }) status → Ends config (world_change config start last) status
+  runs times clocks moments_are report ends =
+      let read_is : opened.sources ≡ told_at (in_places config) start.ins = opened_told (in_places config) opened.sources start.ins opened_at.ins opens.inputs in
+      let all_is : opened.journal ∷ opened.sinks ≡ told_at (out_places config) start.outs = opened_told (out_places config) (opened.journal ∷ opened.sinks) start.outs opened_at.outs opens.outputs in
+      let journal_is : opened.journal ≡ told (start.outs config.agent.journal) = head_is opened.journal (told (start.outs config.agent.journal)) opened.sinks (told_at (places_out config.outputs) start.outs) all_is in
+      let written_is : opened.sinks ≡ told_at (places_out config.outputs) start.outs = tail_is opened.journal (told (start.outs config.agent.journal)) opened.sinks (told_at (places_out config.outputs) start.outs) all_is in
       let after : Place = last.outs config.agent.journal in
-      change_of config status _ _ _ _ _ _ _ _ moments (start.clocks run_clock)
-      (ap (λ (xs : List Carried). config_ins config config.inputs xs (told_at (in_places config) last.ins) timed) read_is ∙ ins_told config 0 config.inputs timed start last clocks.count_is (input_number config timed opened_at start clocks opens.only.clocks))
+      change_of config status _ _ _ _ _ _ _ _ times.timer.moments (start.clocks run_clock)
+      (ap (λ (xs : List Carried). config_ins config config.inputs xs (told_at (in_places config) last.ins) times.ins) read_is ∙ ins_told config 0 config.inputs times.ins start last clocks.count_is (input_number config times.ins opened_at start clocks opens.only.clocks))
       (ap (λ (xs : List Carried). config_outs config.outputs xs (told_at (places_out config.outputs) last.outs)) written_is ∙ outs_told config.outputs start last)
       (ap (λ (x : Carried). change x.bytes after.bytes x.faults after.part_faults) journal_is)
       (reports_same start.report mid.report last.report (report ∙ opens.only.report))
@@ -219,8 +206,8 @@ module _ (config : Config) (status : Status) (start opened_at mid last : WorldVi
 
   pub opened_same : SameAtAll opened_at.ins mid.ins → SameAtAll opened_at.outs mid.outs → AreOpensSame mid.ins last.ins → AreOpensSame mid.outs last.outs → IsOpenedSame start last
   opened_same ins outs last_ins last_outs = record {
-    ins = opens_then start.ins mid.ins last.ins (opens_along start.ins opened_at.ins mid.ins (opened_opens (in_places config) read start.ins opened_at.ins opens.inputs) ins) last_ins;
-    outs = opens_then start.outs mid.outs last.outs (opens_along start.outs opened_at.outs mid.outs (opened_opens (out_places config) (journal ∷ written) start.outs opened_at.outs opens.outputs) outs) last_outs;
+    ins = opens_then start.ins mid.ins last.ins (opens_along start.ins opened_at.ins mid.ins (opened_opens (in_places config) opened.sources start.ins opened_at.ins opens.inputs) ins) last_ins;
+    outs = opens_then start.outs mid.outs last.outs (opens_along start.outs opened_at.outs mid.outs (opened_opens (out_places config) (opened.journal ∷ opened.sinks) start.outs opened_at.outs opens.outputs) outs) last_outs;
   }
 
   pub ins_home_but : AreHome start.ins → SameAtAll opened_at.ins mid.ins → AreHomeBut (in_places config) mid.ins

@@ -3,7 +3,7 @@ use Rattle.std.specs.Prelude.{◌≡◌, ◌≤◌, ◌<◌, ◌++◌, ℕ, List
 use Rattle.std.specs.Fmt.{decimal}
 use Rattle.std.specs.Io.KnownBytes.{Consumes, IsAtEnd}
 use Rattle.agent_base.specs.Counts.{Rose}
-use Rattle.agent_base.specs.Moments.{Moments}
+use Rattle.agent_base.specs.Views.{WorldView}
 use Rattle.agent_base.specs.Places.{Place, Rest, FailsToOpen, SameBut, SameAtAll}
 use Rattle.agent_config.specs.Faults.{first, text_faults}
 use Rattle.agent_config.specs.declared.fault.Class.{Class}
@@ -134,10 +134,9 @@ ChecksAs status place ins new_ins rest new_rest = ⊥
 
 -- a place was checked with this status: what the status says, and, whatever it is, that a front of its bytes
 -- was taken and everything else but the report is as before
-pub record HasChecked (status : Status) (place : List ℕ) (ins new_ins outs new_outs : List ℕ → Place)
-    (rest new_rest : Rest) (moments new_moments : ℕ → Option Moments) : Type 0 where
-  pub answer : ChecksAs status place ins new_ins rest new_rest
-  pub taken : TakesAtMost most_taken (ins place).bytes (new_ins place).bytes
-  pub other_ins : SameBut place ins new_ins
-  pub outs_same : SameAtAll outs new_outs
-  pub clocks : SameAtAll moments new_moments
+pub record HasChecked (status : Status) (place : List ℕ) (old new : WorldView) : Type 0 where
+  pub answer : ChecksAs status place old.ins new.ins old.report new.report
+  pub taken : TakesAtMost most_taken (old.ins place).bytes (new.ins place).bytes
+  pub other_ins : SameBut place old.ins new.ins
+  pub outs : SameAtAll old.outs new.outs
+  pub clocks : SameAtAll old.clocks new.clocks

@@ -103,11 +103,11 @@ pub record IsRunThere (status : Status) (place : List ℕ) (old new : WorldView)
   pub only : OnlyNamed config mid new
 
 -- what a run of the configuration of a place came to
-abbrev pub HasRun : Status → List ℕ → WorldView → WorldView → Type 0
-HasRun status place old new = IsUnrun status place old new ⊎ IsRunThere status place old new
+abbrev pub SaysRun : Status → List ℕ → WorldView → WorldView → Type 0
+SaysRun status place old new = IsUnrun status place old new ⊎ IsRunThere status place old new
 
 -- neither opening a place nor reading it failed
-pub record IsUnfailed (old new : Place) : Type 0 where
+pub record NeitherFailed (old new : Place) : Type 0 where
   pub opened : RoseToOpen old new → ⊥
   pub used : RoseToUse old new → ⊥
 

@@ -2,21 +2,16 @@
 -- its totals.
 use Rattle.std.specs.Prelude.{◌≡◌, ◌≢◌, ◌<◌, ◌⊎◌, ◌+◌, ◌^◌, ℕ, ℤ, if◌then◌else◌, Bool, true, false, List, []}
 use Rattle.std.specs.Prelude.{◌∷◌, length, String}
-use Rattle.account.specs.Setup.{Setup}
 use Rattle.account.specs.declared.entry.Entry.{Entry}
 use Rattle.std.specs.declared.alloc.Global.{Global}
-use Rattle.std.specs.declared.option.Option.{Option}
-use Rattle.agent_base.specs.Moments.{Moments}
 use Rattle.agent_base.specs.Places.{Place, Rest}
 use Rattle.agent_base.specs.Views.{WorldView}
 use Rattle.agent_config.specs.declared.config.Config.{Config}
 use Rattle.agent_config.specs.declared.config.InputConf.{InputConf}
 use Rattle.agent_config.specs.declared.config.OutputConf.{OutputConf}
 use Rattle.pipeline_core.specs.Legal.{has_ended}
-use Rattle.agent_workers.specs.Opened.{rule_by, sizes_of}
-use Rattle.agent_workers.specs.PipeSetup.{run_setup}
-use Rattle.agent_workers.specs.Rules.{work_by}
-use Rattle.agent_workers.specs.Run.{Change, change, InRun, OutRun, run_at, buffered_at_end, account_of, text_of}
+use Rattle.agent_workers.specs.Job.{job_of, rule_by, setup_of}
+use Rattle.agent_workers.specs.Run.{Change, change, InRun, OutRun, RunChange, run_at, buffered_at_end, account_of, text_of}
 use Rattle.agent_workers.specs.Run.{IsRun, IsPutSo, IsCutShort, SomeIsFull}
 use Rattle.agent_base.specs.Counts.{Rose}
 use Rattle.agent_run.specs.Command.{IsPipe, pipe_config}
@@ -64,45 +59,39 @@ world_outs (conf ∷ confs) old new = record {
   place = place_change (old.outs conf.place) (new.outs conf.place);
 } ∷ world_outs confs old new
 
--- what a run of a configuration is about
-abbrev pub config_setup : Config → ℤ → Setup
-config_setup config start = run_setup (length config.inputs) (sizes_of config) start
-
--- what a run left: the change of the place of each input and of each output, by their numbers, of the journal's
--- place, and of the report; and the moments of the run's clock
-pub record RunChange : Type 0 where
-  pub ins : List InRun
-  pub outs : List OutRun
-  pub journal : Change
+-- what a run left in a world: what it says of the places and of the run's clock, and the change of the report
+pub record WorldChange : Type 0 where
+  pub run : RunChange
   pub report : Change
-  pub moments : Option Moments
 
--- so it is in a world that was so before and is so now
-abbrev pub world_change : Config → WorldView → WorldView → RunChange
+-- so it is in a world that was so before and is so now: the change of the place of each input and of each output, by their numbers,
+-- of the journal's place, and of the report
+abbrev pub world_change : Config → WorldView → WorldView → WorldChange
 world_change config old new = record {
-  ins = world_ins config 0 config.inputs old new;
-  outs = world_outs config.outputs old new;
-  journal = place_change (old.outs config.agent.journal) (new.outs config.agent.journal);
+  run = record {
+    ins = world_ins config 0 config.inputs old new;
+    outs = world_outs config.outputs old new;
+    journal = place_change (old.outs config.agent.journal) (new.outs config.agent.journal);
+    moments = old.clocks run_clock;
+  };
   report = report_change old.report new.report;
-  moments = old.clocks run_clock;
 }
 
 -- a journal is that of a run of the configuration
-abbrev pub IsRunOf : Config → RunChange → ℤ → List Entry → Type 0
-IsRunOf config x start journal = IsRun (work_by config.outputs) config.agent.final_tries
-    (config_setup config start) x.ins x.outs x.moments journal
+abbrev pub IsRunOf : Config → WorldChange → ℤ → List Entry → Type 0
+IsRunOf config x start journal = IsRun (job_of config) start x.run journal
 
 -- The headline of a run: the journal is a legal history of what the inputs said and the outputs were sent, its
 -- text stands at the journal's place, and the account that was reported is its totals; where the put of the
 -- journal or of the report failed, a prefix of the text.
-pub record Headline (config : Config) (x : RunChange) (journal_failed report_failed : Bool) : Type 0 where
+pub record Headline (config : Config) (x : WorldChange) (journal_failed report_failed : Bool) : Type 0 where
   pub start : ℤ
   pub journal : List Entry
   pub run : IsRunOf config x start journal
-  pub noted : IsPutSo journal_failed x.journal (text_of (config_setup config start) journal)
-  pub reported : IsPutSo report_failed x.report (account_of (config_setup config start) journal)
+  pub noted : IsPutSo journal_failed x.run.journal (text_of (setup_of (job_of config) start) journal)
+  pub reported : IsPutSo report_failed x.report (account_of (setup_of (job_of config) start) journal)
 
-module _ (config : Config) (x : RunChange) where
+module _ (config : Config) (x : WorldChange) where
   -- an input was read to its end
   pub record IsWhole (taken : ℕ → ℕ) (journal : List Entry) (number : ℕ) : Type 0 where
     pub few : taken number < 2 ^ 40
@@ -112,14 +101,14 @@ module _ (config : Config) (x : RunChange) where
   pub record IsBroken (taken : ℕ → ℕ) (journal : List Entry) (number : ℕ) : Type 0 where
     pub few : taken number < 2 ^ 40
     pub unended : has_ended number journal ≡ false
-    pub cut_short : IsCutShort number (run_at x.ins number) journal
+    pub cut_short : IsCutShort number (run_at x.run.ins number) journal
 
   -- each input was read to its end, and nothing is buffered
   pub record IsDone : Type 0 where
     pub headline : Headline config x false false
     pub whole : (number : ℕ) → number < length config.inputs → IsWhole headline.run.has.taken headline.journal number
     pub none_left : (output : ℕ) → output < length config.outputs →
-        buffered_at_end (config_setup config headline.start) headline.journal output ≡ 0
+        buffered_at_end (setup_of (job_of config) headline.start) headline.journal output ≡ 0
 
   -- each input was read to its end, and a metric is buffered at some output
   pub record IsLeftOver : Type 0 where
@@ -127,7 +116,7 @@ module _ (config : Config) (x : RunChange) where
     pub whole : (number : ℕ) → number < length config.inputs → IsWhole headline.run.has.taken headline.journal number
     pub output : ℕ
     pub known : output < length config.outputs
-    pub some_left : buffered_at_end (config_setup config headline.start) headline.journal output ≢ 0
+    pub some_left : buffered_at_end (setup_of (job_of config) headline.start) headline.journal output ≢ 0
 
   -- a read of some input failed, and it wasn't read to its end; so it is with each that wasn't
   pub record IsReadFault : Type 0 where
@@ -154,7 +143,7 @@ module _ (config : Config) (x : RunChange) where
     pub number : ℕ
     pub known : number < length config.inputs
     pub unended : has_ended number headline.journal ≡ false
-    pub reached : (headline.run.has.taken number ≡ 2 ^ 40) ⊎ SomeIsFull x.ins headline.journal
+    pub reached : (headline.run.has.taken number ≡ 2 ^ 40) ⊎ SomeIsFull x.run.ins headline.journal
 
   -- what each status of a run says; nothing is promised where memory was short
   abbrev pub Ends : Status → Type 0

@@ -3,6 +3,7 @@ pub mod Command
 pub mod Configured
 pub mod Places
 pub mod Headline
+pub mod Agent
 pub mod Checking
 pub mod PlaceLists
 pub mod ClockLists

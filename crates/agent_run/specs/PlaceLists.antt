@@ -1,5 +1,5 @@
 -- The places of a configuration: lists of parts that were opened at them, and given back.
-use Rattle.std.specs.Prelude.{◌≡◌, ◌<◌, ◌⊎◌, ℕ, List, [], ◌∷◌, Option, None, Contains, map, length}
+use Rattle.std.specs.Prelude.{◌≡◌, ◌<◌, ◌⊎◌, ℕ, List, [], ◌∷◌, Contains, map, length}
 use Rattle.std.specs.Prelude.{slice_index_or, take, true, false, ⊤}
 use Rattle.agent_base.specs.Carried.{Carried, no_part}
 use Rattle.agent_base.specs.Places.{Place, Opens, TakesIn, FailsToOpen, SameAtAll}
@@ -55,8 +55,8 @@ abbrev pub AreGiven : List (List ℕ) → List Carried → (List ℕ → Place) 
 AreGiven places parts old new = GoEach TakesIn places parts old new
 
 -- at each of the places a part is out
-abbrev pub AreOut : List (List ℕ) → (List ℕ → Place) → Type 0
-AreOut places told = (k : ℕ) → k < length places → (told (place_at places k)).is_out ≡ true
+abbrev pub PartsAreOut : List (List ℕ) → (List ℕ → Place) → Type 0
+PartsAreOut places told = (k : ℕ) → k < length places → (told (place_at places k)).is_out ≡ true
 
 -- input places changed at most
 pub record OnlyIns (old new : WorldView) : Type 0 where

@@ -4,8 +4,9 @@ use Rattle.agent_base.specs.Places.{Place, SameAtAll}
 use Rattle.agent_base.specs.Views.{WorldView, SameButAt}
 use Rattle.agent_config.specs.declared.config.Config.{Config}
 use Rattle.agent_base.specs.Carried.{Carried}
+use Rattle.agent_workers.specs.Opened.{Carries}
 use Rattle.agent_run.specs.ClockLists.{clock_count}
-use Rattle.agent_run.specs.PlaceLists.{in_places, out_places}
+use Rattle.agent_run.specs.PlaceLists.{PartsAreOut, in_places, out_places, places_out}
 use Rattle.agent_run.specs.Places.{AreOpensSame, IsUnopened, ReportsLine, open_fault_line}
 
 -- what a part that is opened at a place carries, and one that was given back there carried
@@ -28,6 +29,25 @@ pub record OnlyNamed (config : Config) (old new : WorldView) : Type 0 where
   pub ins : SameButAt (in_places config) old.ins new.ins
   pub outs : SameButAt (out_places config) old.outs new.outs
   pub clocks : (who : ℕ) → clock_count config ≤ who → new.clocks who ≡ old.clocks who
+
+-- what the parts of a configuration carry that were given back in a world
+abbrev pub given_back : Config → WorldView → Carries
+given_back config world = record {
+  sources = told_at (in_places config) world.ins;
+  sinks = told_at (places_out config.outputs) world.outs;
+  journal = told (world.outs config.agent.journal);
+}
+
+-- at each place of a configuration a part is out
+pub record AreItsOut (config : Config) (world : WorldView) : Type 0 where
+  pub ins : PartsAreOut (in_places config) world.ins
+  pub outs : PartsAreOut (out_places config) world.outs
+
+-- no place changed but those of a configuration, and no clock
+pub record OnlyIts (config : Config) (old new : WorldView) : Type 0 where
+  pub ins : SameButAt (in_places config) old.ins new.ins
+  pub outs : SameButAt (out_places config) old.outs new.outs
+  pub clocks : SameAtAll old.clocks new.clocks
 
 -- no count of failed opens changed
 pub record IsOpenedSame (old new : WorldView) : Type 0 where

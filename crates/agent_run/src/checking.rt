@@ -106,9 +106,7 @@ pub(crate) fn report_unread<W: World>(
 /// The place is read to its end, or to one byte above 1 MiB, and given back.
 pub(crate) fn check_call<W: World>(alloc: Global, world: &mut W, place: &str) -> Status
     requires ins { AreHome (W.view world.old).ins }
-    ensures checked { HasChecked result place.now (W.view world.old).ins (W.view world.new).ins (W.view world.old).outs
-        (W.view world.new).outs (W.view world.old).report (W.view world.new).report (W.view world.old).clocks
-        (W.view world.new).clocks }
+    ensures checked { HasChecked result place.now (W.view world.old) (W.view world.new) }
     ensures home { AreHome (W.view world.new).ins }
 {
     match config_at(alloc, world, place) {

@@ -6,7 +6,7 @@ ghost use Rattle.agent_base.specs.Carried.{Carried};
 ghost use Rattle.agent_base.specs.Places.{AreHome, Opens, Place, Refuses, SameBut, TakesIn};
 ghost use Rattle.agent_base.specs.Views.{WorldView};
 ghost use Rattle.std.proofs.Common.{◌∙◌};
-ghost use Rattle.agent_run.specs.PlaceLists.{AreGiven, AreHomeBut, AreOpened, AreOut, AreRefused, GivesAll, IsLeftUnopened, IsUnopenedBy};
+ghost use Rattle.agent_run.specs.PlaceLists.{AreGiven, AreHomeBut, AreOpened, PartsAreOut, AreRefused, GivesAll, IsLeftUnopened, IsUnopenedBy};
 ghost use Rattle.agent_run.specs.PlaceLists.{OnlyIns, OnlyOuts, OpensAll, StopsAt};
 ghost use Rattle.agent_run.specs.PlaceLists.{in_places, out_places, places_in, places_out, read_parts};
 ghost use Rattle.agent_run.specs.PlaceLists.{written_parts};
@@ -188,7 +188,7 @@ fn open_each<'a, W: World, S: Side<W>>(
 fn give_each<W: World, S: Side<W>>(world: &mut W, confs: &[S::Conf], parts: Vec<S::Part>)
     requires count { length parts.items ≡ length confs.now }
     requires apart { IsDistinct bytes_eq (map S.place_of confs.now) }
-    requires out { AreOut (map S.place_of confs.now) (S.places (W.view world.old)) }
+    requires out { PartsAreOut (map S.place_of confs.now) (S.places (W.view world.old)) }
     ensures given { AreGiven (map S.place_of confs.now) (map S.told parts.items)
         (S.places (W.view world.old)) (S.places (W.view world.new)) }
     ensures only { S.only (W.view world.old) (W.view world.new) }
@@ -259,7 +259,7 @@ fn open_written<'a, W: World>(
 fn give_written<W: World>(world: &mut W, config: &Config, outputs: Vec<W::Out>, journal: W::Out)
     requires count { length outputs.items ≡ length config.now.outputs }
     requires apart { IsDistinct bytes_eq (out_places config.now) }
-    requires out { AreOut (out_places config.now) (W.view world.old).outs }
+    requires out { PartsAreOut (out_places config.now) (W.view world.old).outs }
     ensures given { AreGiven (out_places config.now)
         (W.Out.told journal ∷ map W.Out.told outputs.items)
         (W.view world.old).outs (W.view world.new).outs }
@@ -317,8 +317,8 @@ pub(crate) fn give_back<W: World>(world: &mut W, config: &Config, opened: Opened
     requires outputs { length opened.outputs.items ≡ length config.now.outputs }
     requires inputs_apart { IsDistinct bytes_eq (in_places config.now) }
     requires outputs_apart { IsDistinct bytes_eq (out_places config.now) }
-    requires inputs_out { AreOut (in_places config.now) (W.view world.old).ins }
-    requires outputs_out { AreOut (out_places config.now) (W.view world.old).outs }
+    requires inputs_out { PartsAreOut (in_places config.now) (W.view world.old).ins }
+    requires outputs_out { PartsAreOut (out_places config.now) (W.view world.old).outs }
     ensures given { GivesAll config.now (read_parts W.In.told opened)
         (written_parts W.Out.told opened) (W.view world.old) (W.view world.new) }
     ensures ins_home { AreHomeBut (in_places config.now) (W.view world.old).ins

@@ -1,16 +1,15 @@
 //! Running a configuration over a world.
-ghost use Rattle.std.specs.Prelude.{◌≡◌, ◌≢◌, ◌⊎◌, ◌||◌, Bool, All, length, vec_len, map};
-ghost use Rattle.agent_base.specs.Places.{AreHome, SameAtAll};
-ghost use Rattle.agent_base.specs.Views.{OnlyReport, SameButAt};
-ghost use Rattle.agent_config.specs.Sound.{IsSound};
-ghost use Rattle.agent_run.specs.Configured.{HasRun};
-ghost use Rattle.agent_run.specs.Headline.{Ends, NothingRose, report_change, status_of, world_change};
-ghost use Rattle.agent_run.specs.PlaceLists.{AreHomeBut, AreOut, in_places, out_places, places_out, read_parts};
-ghost use Rattle.agent_run.specs.Places.{AreOpensSame};
-ghost use Rattle.agent_run.specs.Running.{IsOpenedSame, IsRefusedBy, OnlyNamed, told_at};
+ghost use Rattle.std.specs.Prelude.{◌≡◌, ◌≢◌, ◌⊎◌, ◌||◌, Bool, All, map};
 ghost use Rattle.agent_base.specs.Carried.{Timed};
-ghost use Rattle.agent_workers.specs.Opened.{config_ins, config_outs};
-ghost use Rattle.agent_workers.specs.Run.{IsPutSo, change};
+ghost use Rattle.agent_base.specs.Places.{AreHome};
+ghost use Rattle.agent_base.specs.Views.{OnlyReport};
+ghost use Rattle.agent_config.specs.Sound.{IsSound};
+ghost use Rattle.agent_run.specs.Configured.{SaysRun};
+ghost use Rattle.agent_run.specs.Headline.{Ends, NothingRose, report_change, status_of, world_change};
+ghost use Rattle.agent_run.specs.PlaceLists.{AreHomeBut, in_places, out_places};
+ghost use Rattle.agent_run.specs.Running.{given_back, AreItsOut, IsOpenedSame, IsRefusedBy, OnlyIts, OnlyNamed};
+ghost use Rattle.agent_workers.specs.Opened.{carried_by, change_by, timed_by, AreFor};
+ghost use Rattle.agent_workers.specs.Run.{IsPutSo};
 
 use crate::checking::report_unread;
 use crate::clocks::{clock_room, clocks_of};
@@ -48,29 +47,17 @@ fn run_opened<W: World>(
     world: &mut W,
 ) -> Status
     requires sound { IsSound config.now }
-    requires inputs { vec_len opened.inputs ≡ length config.now.inputs }
-    requires in_clocks { vec_len clocks.inputs ≡ length config.now.inputs }
-    requires outputs { vec_len opened.outputs ≡ length config.now.outputs }
-    requires out_clocks { vec_len clocks.outputs ≡ length config.now.outputs }
+    requires parts { AreFor config.now opened clocks }
     requires first { All (λ (clock : Timed). clock.place ≡ 0) (map W.Clk.told clocks.inputs.items) }
     requires timer_first { (W.Clk.told clocks.timer).place ≡ 0 }
-    requires inputs_out { AreOut (in_places config.now) (W.view world.old).ins }
-    requires outputs_out { AreOut (out_places config.now) (W.view world.old).outs }
+    requires out { AreItsOut config.now (W.view world.old) }
     ensures ends { Ends config.now (record {
-      ins = config_ins config.now config.now.inputs (read_parts W.In.told opened)
-          (told_at (in_places config.now) (W.view world.new).ins) (map W.Clk.told clocks.inputs.items);
-      outs = config_outs config.now.outputs (map W.Out.told opened.outputs.items)
-          (told_at (places_out config.now.outputs) (W.view world.new).outs);
-      journal = change (W.Out.told opened.journal).bytes ((W.view world.new).outs config.now.agent.journal).bytes
-          (W.Out.told opened.journal).faults ((W.view world.new).outs config.now.agent.journal).part_faults;
+      run = change_by config.now (carried_by W.In.told W.Out.told opened) (given_back config.now (W.view world.new))
+          (timed_by W.Clk.told clocks);
       report = report_change (W.view world.old).report (W.view world.new).report;
-      moments = (W.Clk.told clocks.timer).moments;
     }) result }
-    ensures ins { SameButAt (in_places config.now) (W.view world.old).ins (W.view world.new).ins }
-    ensures outs { SameButAt (out_places config.now) (W.view world.old).outs (W.view world.new).outs }
-    ensures clocks { SameAtAll (W.view world.old).clocks (W.view world.new).clocks }
-    ensures ins_opened { AreOpensSame (W.view world.old).ins (W.view world.new).ins }
-    ensures outs_opened { AreOpensSame (W.view world.old).outs (W.view world.new).outs }
+    ensures only { OnlyIts config.now (W.view world.old) (W.view world.new) }
+    ensures opened { IsOpenedSame (W.view world.old) (W.view world.new) }
     ensures ins_home { AreHomeBut (in_places config.now) (W.view world.old).ins → AreHome (W.view world.new).ins }
     ensures outs_home { AreHomeBut (out_places config.now) (W.view world.old).outs → AreHome (W.view world.new).outs }
 {
@@ -115,7 +102,7 @@ pub(crate) fn run_config<W: World>(alloc: Global, config: &Config, world: &mut W
 pub(crate) fn run_call<W: World>(alloc: Global, world: &mut W, place: &str) -> Status
     requires ins { AreHome (W.view world.old).ins }
     requires outs { AreHome (W.view world.old).outs }
-    ensures ran { HasRun result place.now (W.view world.old) (W.view world.new) }
+    ensures ran { SaysRun result place.now (W.view world.old) (W.view world.new) }
     ensures complete { NothingRose (W.view world.old) (W.view world.new) → (result ≢ Status.Limit)
         → (result ≢ Status.Config) → (result ≡ Status.Done) ⊎ (result ≡ Status.OutOfMemory) }
     ensures ins_home { AreHome (W.view world.new).ins }

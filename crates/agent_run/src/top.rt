@@ -1,12 +1,11 @@
 //! The top call.
-ghost use Rattle.std.specs.Prelude.{◌≡◌, ◌≢◌, ◌≤◌, ◌⊎◌, ℕ, List, [], Some};
-ghost use Rattle.agent_base.specs.Places.{AreHome, SameAtAll};
+ghost use Rattle.std.specs.Prelude.{◌≡◌, ◌≢◌, ◌≤◌, ◌⊎◌, ℕ, List};
+ghost use Rattle.agent_base.specs.Places.{AreHome};
+ghost use Rattle.agent_run.specs.Agent.{SaysFaulty, SaysUnopened, SaysUsage};
 ghost use Rattle.agent_run.specs.Checking.{HasChecked};
-ghost use Rattle.agent_config.specs.Faults.{text_faults};
 ghost use Rattle.agent_run.specs.Command.{IsCheck, IsNoCommand, IsPipe, IsRunAt, journal_place, pipe_config};
-ghost use Rattle.agent_run.specs.Configured.{HasRun, IsRunUnread, IsUnfailed, RunEnds};
+ghost use Rattle.agent_run.specs.Configured.{SaysRun, IsRunUnread, RunEnds};
 ghost use Rattle.agent_run.specs.Headline.{Ends, NothingRose, PipeEnds, world_change};
-ghost use Rattle.agent_run.specs.Places.{IsUnused};
 ghost use Rattle.agent_run.specs.Running.{IsOpenedSame, IsRefusedBy, OnlyNamed};
 
 use crate::checking::check_call;
@@ -58,37 +57,24 @@ pub fn agent<W: World>(alloc: Global, words: &[String], world: &mut W) -> Status
     requires ins { AreHome (W.view world.old).ins }
     requires outs { AreHome (W.view world.old).outs }
 
-    // Usage comes exactly where the words are no command, but for want of memory; nothing else changes.
-    ensures usage { result ≡ Status.Usage → IsNoCommand words.now }
-    ensures no_command { IsNoCommand words.now → (result ≡ Status.Usage) ⊎ (result ≡ Status.OutOfMemory) }
-    ensures usage_leaves { result ≡ Status.Usage
-        → IsUnused (W.view world.old).ins (W.view world.new).ins (W.view world.old).outs (W.view world.new).outs
-        (W.view world.old).report (W.view world.new).report }
+    // Usage comes exactly where the words are no command, but for want of memory; such words change nothing but the report.
+    ensures usage { SaysUsage result words.now (W.view world.old) (W.view world.new) }
 
     // A check of a configuration: each status says what it says, and all else but the report is as before.
     ensures check { (place : List ℕ) → IsCheck words.now place
-        → HasChecked result place (W.view world.old).ins (W.view world.new).ins (W.view world.old).outs
-        (W.view world.new).outs (W.view world.old).report (W.view world.new).report (W.view world.old).clocks
-        (W.view world.new).clocks }
+        → HasChecked result place (W.view world.old) (W.view world.new) }
 
     // A run of a configuration: each status says what it says, and no place changed that the configuration
     // doesn't name, and no clock that it doesn't take.
-    ensures run { (place : List ℕ) → IsRunAt words.now place → HasRun result place (W.view world.old) (W.view world.new) }
+    ensures run { (place : List ℕ) → IsRunAt words.now place → SaysRun result place (W.view world.old) (W.view world.new) }
 
     // Config comes only of a check or a run, where the configuration has a fault. A command on a configuration with a
     // fault comes to it, where neither opening nor reading its place failed.
-    ensures config { result ≡ Status.Config → (place : List ℕ) × (IsCheck words.now place ⊎ IsRunAt words.now place) }
-    ensures faulty { (place bytes : List ℕ) → (IsCheck words.now place ⊎ IsRunAt words.now place)
-        → ((W.view world.old).ins place).bytes ≡ Some bytes → (text_faults bytes ≢ [])
-        → IsUnfailed ((W.view world.old).ins place) ((W.view world.new).ins place)
-        → (result ≡ Status.Config) ⊎ (result ≡ Status.OutOfMemory) }
+    ensures faulty { SaysFaulty result words.now (W.view world.old) (W.view world.new) }
 
     // OpenFault of a pipe comes only where one of its three places wasn't opened: that is counted there, and
     // all else is as before. What it says of a check and of a run stands there.
-    ensures open { result ≡ Status.OpenFault → ((place : List ℕ) × (IsCheck words.now place ⊎ IsRunAt words.now place))
-        ⊎ ((input output : List ℕ) × (batch limit : ℕ)
-        × IsPipe words.now input output batch limit
-        × IsRefusedBy (pipe_config input output batch limit) (W.view world.old) (W.view world.new)) }
+    ensures open { SaysUnopened result words.now (W.view world.old) (W.view world.new) }
 
     // The headline: what a run that ended with one of the other statuses left behind.
     ensures headline { ((place : List ℕ) → IsCheck words.now place → ⊥)
@@ -104,12 +90,7 @@ pub fn agent<W: World>(alloc: Global, words: &[String], world: &mut W) -> Status
         (result ≢ Status.Limit) → (result ≢ Status.Config)
         → (result ≡ Status.Done) ⊎ (result ≡ Status.OutOfMemory) }
 
-    // Whatever the status: words that are no command change nothing but the report, and a pipe leaves every
-    // place that it doesn't name and every clock that it doesn't take as it was.
-    ensures no_command_leaves { IsNoCommand words.now →
-        SameAtAll (W.view world.old).ins (W.view world.new).ins
-        × SameAtAll (W.view world.old).outs (W.view world.new).outs
-        × SameAtAll (W.view world.old).clocks (W.view world.new).clocks }
+    // Whatever the status: a pipe leaves every place that it doesn't name and every clock that it doesn't take as it was.
     ensures pipe_leaves { (input output : List ℕ) (batch limit : ℕ) → IsPipe words.now input output batch limit
         → OnlyNamed (pipe_config input output batch limit) (W.view world.old) (W.view world.new) }
 

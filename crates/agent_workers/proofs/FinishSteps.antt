@@ -1,19 +1,19 @@
 -- What a run leaves at its end, and what it begins with.
 use Rattle.std.proofs.Common.{◌≡◌, ◌≢◌, ◌≤◌, ◌<◌, ℕ, zero, suc, ℤ, ◌^◌, min, Bool, true, false, List, [], ◌∷◌, ◌++◌, length, take, replicate, refl, sym, ap, ◌∙◌, subst, inl, inr, arith}
 use Rattle.std.specs.Prelude.{IfSome, not, ◌⊎◌, count_by, map}
-use Rattle.std.proofs.lemmas.List.{length-replicate}
+use Rattle.std.proofs.lemmas.List.{length-map}
 use Rattle.std.specs.Int.{int_max}
 use Rattle.std.specs.declared.option.Option.{Option}
 use Rattle.std.specs.declared.option.Option.TheVariants.{Some, None}
 use Rattle.account.specs.AccountText.{account_text}
 use Rattle.account.specs.Setup.{Setup}
 use Rattle.account.specs.declared.entry.Entry.{Entry}
-use Rattle.metric.specs.declared.metric.Content.{Content}
 use Rattle.agent_base.specs.Clocked.{Counted, last_of}
 use Rattle.agent_base.specs.Moments.{Moments, Gives}
 use Rattle.agent_base.proofs.ClockLemmas.{counted_joined, counted_one_over, counted_wider}
 use Rattle.journal_text.specs.JournalText.{journal_text}
-use Rattle.pipeline_core.specs.Work.{Work}
+use Rattle.agent_base.specs.Carried.{Timed}
+use Rattle.agent_workers.specs.Item.{ProcPart}
 use Rattle.pipeline_core.specs.CoreState.{CoreState}
 use Rattle.pipeline_core.specs.Legal.{IsLegal, has_ended, gathered_count}
 use Rattle.pipeline_core.specs.Stands.{Stands}
@@ -27,18 +27,19 @@ use Rattle.account.specs.EntryMoments.{counted_moments}
 use Rattle.account.specs.Items.{raw_items, items, taken}
 use Rattle.agent_workers.specs.Input.{IsFull}
 use Rattle.formats.specs.Reader.{InRule, FitsGather}
-use Rattle.agent_workers.specs.Inputs.{InPart, in_at, AreSameInputs, HoldsTooMany, AreInputs, AreOut, OneIsFull, IsOneOf, IsOneIn, IsFresh, AreFresh}
-use Rattle.agent_workers.specs.Run.{change, InRun, in_run, in_runs, run_at, out_run, out_run_at, out_runs, SomeIsFull, RunsFull, IsUnread, IsReadFrom, IsSentTo, HasRun, EndsSo, IsPutSo, IsLeft, Ran, buffered_at_end, account_of}
-use Rattle.agent_workers.specs.Finished.{ClockRun, IsCounted, Finished, FinishesSo, begun, IsSetUp}
-use Rattle.agent_workers.specs.Noted.{JournalPart, Notes}
-use Rattle.agent_workers.specs.PipeSetup.{run_setup, journal_setup_of}
-use Rattle.agent_workers.specs.Progress.{Beginning, Surroundings, HasText, Heard, Said, Progress, GoesOn, RoutesOn, SendsOn, GathersOn, RunsOn, NotesRun}
-use Rattle.agent_workers.specs.Running.{IsReady, AreSettled, AreLeft, IsLeftOver, buffered_at}
+use Rattle.agent_workers.specs.Inputs.{InPart, in_at, HoldsTooMany, AreInputs, AreOut, OneIsFull, IsOneOf, IsOneIn, IsFresh, AreFresh}
+use Rattle.agent_workers.specs.Run.{change, InRun, in_run, in_runs, run_at, out_run, out_run_at, out_runs, SomeIsFull, RunsFull, IsCutShort, IsUnread, IsReadFrom, IsSentTo, HasRun, EndsSo, IsPutSo, IsLeft, Ran, buffered_at_end, account_of}
+use Rattle.agent_workers.specs.Finished.{IsCounted, Finished, begun, IsSetUp}
+use Rattle.agent_workers.specs.Noted.{JournalPart, Notes, part_change}
+use Rattle.agent_workers.specs.Job.{Job, journal_setup_of, limit_of, setup_of, sizes_of, work_of}
+use Rattle.agent_workers.specs.RunState.{RunState, Beginning, setup_at}
+use Rattle.agent_workers.specs.Progress.{HasText, Heard, Said, Progress, GoesOn, RoutesOn, SendsOn, GathersOn, RunsOn, NotesRun}
+use Rattle.agent_workers.specs.Running.{IsReady, AreSettled, AreLeft, SomeIsBuffered, buffered_at}
 use Rattle.formats.specs.Batches.{batch_text}
 use Rattle.agent_workers.specs.Output.{OutPart, out_at, anew, AreAnew, AreOutputs, IsUnfailed, AreUnfailed}
 use Rattle.formats.specs.declared.pieces.InState.{InState}
 use Rattle.formats.specs.declared.pieces.InState.TheVariants as states
-use Rattle.agent_workers.specs.declared.serial.Ending.{Ending}
+use Rattle.agent_workers.specs.declared.rounds.Ending.{Ending}
 use Rattle.account.proofs.DoneLemmas.{dones_none, last_none, last_fewer}
 use Rattle.account.proofs.MomentLemmas.{counted_none}
 use Rattle.agent_workers.proofs.FailedLemmas.{failed_first}
@@ -50,15 +51,11 @@ use Rattle.agent_workers.proofs.HeardLemmas.{heard_first, gathered_at_end, clock
 use Rattle.agent_workers.proofs.InLemmas.{fit_first}
 use Rattle.agent_workers.proofs.NotedLemmas.{notes_none}
 use Rattle.agent_workers.proofs.OutLemmas.{are_anew}
-use Rattle.agent_workers.proofs.ProgressLemmas.{buffered_is, went_anew, went_next}
+use Rattle.agent_workers.proofs.ProgressLemmas.{buffered_is, went_anew, went_next, went_timed}
 use Rattle.agent_workers.proofs.RoseLemmas.{rose_none}
 use Rattle.agent_workers.proofs.SentLemmas.{sent_first}
 
 -- ---- the beginning
-
--- nothing was put yet
-abbrev pub first_surroundings : Beginning → JournalPart → Surroundings
-first_surroundings start part = record { ins = start.ins; next = 0; outs = start.outs; journal = part; counted_at = [] }
 
 none_raw_first : raw_items [] ≡ []
 unfolding items taken
@@ -76,43 +73,56 @@ said_first start output none = record {
 }
 
 -- nothing happened
-pub went_first : (start : Beginning) (core : CoreState) (part : JournalPart) → Stands core [] → core.setup ≡ start.setup → core.stored ≡ [] → Notes (journal_setup_of start.setup) start.noted start.note_faults [] part → start.front ≡ [] →
-    length start.ins ≡ length start.setup.inputs → ((k : ℕ) → k < length start.ins → IsFresh (in_at start.ins k)) → AreUnfailed start.outs → length start.outs ≡ length start.setup.outputs → Progress start core (first_surroundings start part)
-went_first start core part stands setup stored notes front in_count fresh unfailed count = record {
+went_first : (job : Job) (start : ℤ) (now : RunState) → Stands now.core [] → now.core.setup ≡ setup_of job start → now.core.stored ≡ [] → Notes (journal_setup_of (setup_of job start)) now.journal.held now.journal.faults [] now.journal → now.counted_at ≡ [] →
+    length now.ins ≡ length job.inputs → ((k : ℕ) → k < length now.ins → IsFresh (in_at now.ins k)) → AreUnfailed now.outs → length now.outs ≡ length job.outputs → job.work ≡ work_of now.proc.outs → Progress (begun job start now) now
+went_first job start now stands setup stored notes none in_count fresh unfailed count work = record {
   journal = [];
-  text = record { stands = stands; setup_is = setup; more = []; goes_on = ap (λ (es : List Entry). es ++ []) (sym front); written = []; split = sym stored; notes = notes };
+  text = record { stands = stands; setup_is = setup; more = []; goes_on = refl; written = []; split = sym stored; notes = notes };
   in_count = in_count;
-  heard = λ k l. heard_first (in_at start.ins k) k (fresh k l);
+  heard = λ k l. heard_first (in_at now.ins k) k (fresh k l);
   out_count = count;
-  said = λ o l. said_first (out_at start.outs o) o (unfailed o l);
-  worked = worked_first start.work;
-  order = record { in_order = λ f. in_order_first start.setup; none_raw = λ f k l. raw_of-none k [] none_raw_first };
-  counted_at = counted_none;
+  said = λ o l. said_first (out_at now.outs o) o (unfailed o l);
+  work_is = work;
+  worked = worked_first job.work;
+  order = record { in_order = λ f. in_order_first (setup_of job start); none_raw = λ f k l. raw_of-none k [] none_raw_first };
+  counted_at = counted_none ∙ sym none;
 }
 
 -- where nothing is buffered the outputs are settled
 pub none_buffered : (core : CoreState) (outs : List OutPart) → ((o : ℕ) → buffered_at core o ≡ 0) → AreSettled core outs
 none_buffered core outs none = λ o l. inl (none o)
 
+-- what is given of the parts of a run that is set up
+pub record AreNew (job : Job) (start : ℤ) (now : RunState) : Type 0 where
+  pub in_count : length now.ins ≡ length job.inputs
+  pub fresh : AreFresh now.ins
+  pub outputs : AreOutputs (length job.outputs) now.outs
+  pub unfailed : AreUnfailed now.outs
+  pub filters : length now.proc.outs ≡ length job.outputs
+  pub work : job.work ≡ work_of now.proc.outs
+  pub about : now.journal.setup ≡ journal_setup_of (setup_of job start)
+  pub kept : now.journal.kept ≡ []
+  pub entries : now.journal.entries ≡ 0
+  pub put : now.journal.failed ≡ false
+  pub counted : now.counted_at ≡ []
+
 -- a run is set up
-pub is_set_up : (sizes : List (ℕ × ℕ)) (start : ℤ) (n : ℕ) (core : CoreState) (ins : List InPart) (outs : List OutPart) (part : JournalPart) → n ≡ length ins → length sizes ≤ 16 → IsReady core → core.stopped ≡ false → Stands core [] → core.setup ≡ run_setup n sizes start → core.stored ≡ [] →
-    core.ended ≡ replicate n false → ((o : ℕ) → buffered_at core o ≡ 0) → AreFresh ins → AreOutputs (length sizes) outs → AreUnfailed outs → part.setup ≡ journal_setup_of (run_setup n sizes start) → part.kept ≡ [] → part.entries ≡ 0 → part.failed ≡ false → IsSetUp sizes start core ins outs part
-is_set_up sizes start n core ins outs part number few ready going stands setup stored ended none fresh are none_failed about kept entries unfailed =
-    let setup_is : core.setup ≡ run_setup (length ins) sizes start = setup ∙ ap (λ (k : ℕ). run_setup k sizes start) number in
-    let about_is : part.setup ≡ journal_setup_of (run_setup (length ins) sizes start) = about ∙ ap (λ (k : ℕ). journal_setup_of (run_setup k sizes start)) number in
-    let outputs_are : length core.setup.outputs ≡ length sizes = ap (λ (s : Setup). length s.outputs) setup in
-    let inputs_are : length core.setup.inputs ≡ n = ap (λ (s : Setup). length s.inputs) setup ∙ length-replicate {A = Option ℕ} n None in
+pub is_set_up : (job : Job) (start : ℤ) (now : RunState) → length job.outputs ≤ 16 → IsReady now.core → now.core.stopped ≡ false → Stands now.core [] → now.core.setup ≡ setup_of job start → now.core.stored ≡ [] →
+    now.core.ended ≡ replicate (length job.inputs) false → ((o : ℕ) → buffered_at now.core o ≡ 0) → AreNew job start now → IsSetUp job start now
+is_set_up job start now few ready going stands setup stored ended none new =
+    let outputs_are : length now.core.setup.outputs ≡ length job.outputs = ap (λ (s : Setup). length s.outputs) setup ∙ length-map job.outputs sizes_of in
+    let inputs_are : length now.core.setup.inputs ≡ length job.inputs = ap (λ (s : Setup). length s.inputs) setup ∙ length-map job.inputs limit_of in
     record {
       few = omega (arith, outputs_are, few);
-      ready = ready;
-      going = going;
-      stands = record { journal = []; stands = stands };
-      outputs_are = outputs_are;
-      inputs = fit_first n (length core.setup.inputs) core.ended ins inputs_are (sym number) ended fresh;
-      outputs = subst (λ (k : ℕ). AreOutputs k outs) (sym outputs_are) are;
-      settled = none_buffered core outs none;
-      agrees = λ work. went_first (begun sizes start work ins outs part) core part stands setup_is stored (notes_none (journal_setup_of (run_setup (length ins) sizes start)) part about_is kept entries unfailed) refl
-          (sym (length-replicate {A = Option ℕ} (length ins) None)) fresh.fresh none_failed are.count_is;
+      running = record { ready = ready; stands = record { journal = []; stands = stands }; going = going };
+      fit = record {
+        inputs = fit_first (length job.inputs) (length now.core.setup.inputs) now.core.ended now.ins inputs_are new.in_count ended new.fresh;
+        outputs = subst (λ (k : ℕ). AreOutputs k now.outs) (sym outputs_are) new.outputs;
+        filters = new.filters ∙ sym outputs_are;
+      };
+      settled = none_buffered now.core now.outs none;
+      agrees = went_first job start now stands setup stored (notes_none (journal_setup_of (setup_of job start)) now.journal new.about new.kept new.entries new.put) new.counted
+          new.in_count new.fresh.fresh new.unfailed new.outputs.count_is new.work;
     }
 
 -- ---- the end
@@ -160,7 +170,7 @@ counted_all : (all : Option Moments) (place last : ℕ) (start : ℤ) (ms : List
 counted_all None place last start ms g h = tt
 counted_all (Some moments) place last start ms g h = counted_wider moments (min 1 moments.last) place last moments.last start ms (omega (arith, g.next)) h.0 h.1
 
-left_is : (left : Bool) (start : Beginning) (core : CoreState) (part : JournalPart) (journal : List Entry) → HasText start core part journal → IsLeftOver left core → IsLeft left start.setup journal
+left_is : (left : Bool) (start : Beginning) (core : CoreState) (part : JournalPart) (journal : List Entry) → HasText start core part journal → SomeIsBuffered left core → IsLeft left (setup_at start) journal
 left_is false start core part journal h none = λ o l. sym (buffered_is start core part journal h o) ∙ none o (omega (arith, l, ap (λ (s : Setup). length s.outputs) h.setup_is))
 left_is true start core part journal h some =
     (some.0, omega (arith, some.1, ap (λ (s : Setup). length s.outputs) h.setup_is), λ z. some.2 (buffered_is start core part journal h some.0 ∙ z))
@@ -173,23 +183,23 @@ taken_only limit ins taken gathered journal (inl many) = inl many
 taken_only limit ins taken gathered journal (inr many) = absurd many
 
 -- what the state of an input says, where the run is full or the input is out
-ends_by : (limit : Bool) (ins : List InRun) (state : InState) (held : Option Gathered) (start part : InPart) (k : ℕ) (journal : List Entry) → RunsFull limit ins journal ⊎ ((state ≢ states.Reading) × (held ≡ None)) → Heard start (record part { state = state; held = held }) k journal
-    → EndsSo limit ins k state (in_run start part) part.hand.taken journal
-ends_by limit ins states.Reading held start part k journal (inl full) h = full
-ends_by limit ins states.Reading held start part k journal (inr out) h = absurd (out.0 refl)
-ends_by limit ins states.Ended held start part k journal why h = (h.state, h.ended)
-ends_by limit ins states.Faulted held start part k journal (inl full) h = (h.state.0, h.ended, inr full)
-ends_by limit ins states.Faulted None start part k journal (inr out) h = (h.state.0, h.ended, inl (h.state.1, h.of_taken))
-ends_by limit ins states.Faulted (Some g) start part k journal (inr out) h = absurd (some_none g out.1)
-ends_by limit ins states.LimitReached held start part k journal (inl full) h = (h.ended, inr full)
-ends_by limit ins states.LimitReached None start part k journal (inr out) h = (h.ended, taken_only limit ins part.hand.taken (gathered_count journal) journal h.state)
-ends_by limit ins states.LimitReached (Some g) start part k journal (inr out) h = absurd (some_none g out.1)
+ends_by : (limit : Bool) (ins : List InRun) (state : InState) (held : Option Gathered) (start part : InPart) (k : ℕ) (journal : List Entry) → run_at ins k ≡ in_run start part → RunsFull limit ins journal ⊎ ((state ≢ states.Reading) × (held ≡ None)) → Heard start (record part { state = state; held = held }) k journal
+    → EndsSo limit ins k state part.hand.taken journal
+ends_by limit ins states.Reading held start part k journal at (inl full) h = full
+ends_by limit ins states.Reading held start part k journal at (inr out) h = absurd (out.0 refl)
+ends_by limit ins states.Ended held start part k journal at why h = (h.state, h.ended)
+ends_by limit ins states.Faulted held start part k journal at (inl full) h = (h.state.0, h.ended, inr full)
+ends_by limit ins states.Faulted None start part k journal at (inr out) h = (h.state.0, h.ended, inl (subst (λ (x : InRun). IsCutShort k x journal) (sym at) (h.state.1, h.of_taken)))
+ends_by limit ins states.Faulted (Some g) start part k journal at (inr out) h = absurd (some_none g out.1)
+ends_by limit ins states.LimitReached held start part k journal at (inl full) h = (h.ended, inr full)
+ends_by limit ins states.LimitReached None start part k journal at (inr out) h = (h.ended, taken_only limit ins part.hand.taken (gathered_count journal) journal h.state)
+ends_by limit ins states.LimitReached (Some g) start part k journal at (inr out) h = absurd (some_none g out.1)
 
-unread_by : (limit : Bool) (ins : List InRun) (state : InState) (input : InRun) (taken k : ℕ) (journal : List Entry) → EndsSo limit ins k state input taken journal → has_ended k journal ≡ false → IsUnread ins k input taken journal
-unread_by limit ins states.Reading input taken k journal h e = inr (inr h.1)
-unread_by limit ins states.Ended input taken k journal h e = absurd (let x : true ≡ false = sym h.1 ∙ e in cc)
-unread_by limit ins states.Faulted input taken k journal h e = elim h.2 [ inl short ↦ inl short | inr full ↦ inr (inr full.1) ]
-unread_by limit ins states.LimitReached input taken k journal h e = elim h.1 [ inl many ↦ inr (inl many) | inr full ↦ inr (inr full.1) ]
+unread_by : (limit : Bool) (ins : List InRun) (state : InState) (taken k : ℕ) (journal : List Entry) → EndsSo limit ins k state taken journal → has_ended k journal ≡ false → IsUnread ins k (run_at ins k) taken journal
+unread_by limit ins states.Reading taken k journal h e = inr (inr h.1)
+unread_by limit ins states.Ended taken k journal h e = absurd (let x : true ≡ false = sym h.1 ∙ e in cc)
+unread_by limit ins states.Faulted taken k journal h e = elim h.2 [ inl short ↦ inl short | inr full ↦ inr (inr full.1) ]
+unread_by limit ins states.LimitReached taken k journal h e = elim h.1 [ inl many ↦ inr (inl many) | inr full ↦ inr (inr full.1) ]
 
 few_of : (held : Option Gathered) (i : ℕ) (rule : InRule) → IfSome held (λ g. (g.input ≡ i) × FitsGather rule (length g.metrics)) → IfSome held (λ g. FitsGather rule (length g.metrics))
 few_of None i rule h = tt
@@ -200,34 +210,34 @@ limit_by : (limit : Bool) (gathered : ℕ) (ins : List InPart) → IsOneIn state
 limit_by true gathered ins one full = refl
 limit_by false gathered ins none full = absurd (none full.0 full.1 full.2.limit)
 
-module _ (start : Beginning) (tries : ℕ) (core : CoreState) (now : Surroundings) where
-  module _ (w : Progress start core now) (stopped : core.stopped ≡ true) (raw : core.raw ≡ []) (none_held : core.held ≡ None) (starts_count : length start.ins ≡ length start.setup.inputs) (outs_count : length start.outs ≡ length start.setup.outputs) (rest : AreLeft tries core now.outs)
-      (ended : List Bool) (fit : AreInputs (length start.setup.inputs) ended now.ins) (outputs_fit : AreOutputs (length start.setup.outputs) now.outs) (why : OneIsFull core.gathered now.ins ⊎ AreOut now.ins) where
-    left_failed : (o : ℕ) → o < length now.outs → (buffered_at core o ≡ 0) ⊎ (tries ≤ (out_at now.outs o).failed_since) → buffered_at_end start.setup w.journal o ≢ 0 → LastFailed tries (dones o (behind_stop w.journal))
-    left_failed o l (inl none) some = absurd (some (sym (buffered_is start core now.journal w.journal w.text o) ∙ none))
-    left_failed o l (inr many) some = last_fewer tries (out_at now.outs o).failed_since (dones o (behind_stop w.journal)) many ((w.said o l).last (sym w.text.stands.stopped ∙ stopped))
+module _ (start : Beginning) (now : RunState) where
+  module _ (w : Progress start now) (stopped : now.core.stopped ≡ true) (raw : now.core.raw ≡ []) (none_held : now.core.held ≡ None) (starts_count : length start.ins ≡ length start.job.inputs) (outs_count : length start.outs ≡ length start.job.outputs) (rest : AreLeft start.job.tries now.core now.outs)
+      (ended : List Bool) (fit : AreInputs (length start.job.inputs) ended now.ins) (outputs_fit : AreOutputs (length start.job.outputs) now.outs) (why : OneIsFull now.core.gathered now.ins ⊎ AreOut now.ins) where
+    left_failed : (o : ℕ) → o < length now.outs → (buffered_at now.core o ≡ 0) ⊎ (start.job.tries ≤ (out_at now.outs o).failed_since) → buffered_at_end (setup_at start) w.journal o ≢ 0 → LastFailed start.job.tries (dones o (behind_stop w.journal))
+    left_failed o l (inl none) some = absurd (some (sym (buffered_is start now.core now.journal w.journal w.text o) ∙ none))
+    left_failed o l (inr many) some = last_fewer start.job.tries (out_at now.outs o).failed_since (dones o (behind_stop w.journal)) many ((w.said o l).last (sym w.text.stands.stopped ∙ stopped))
 
-    sent_to : (o : ℕ) → o < length start.setup.outputs → IsSentTo tries start.setup w.journal o (out_run_at (out_runs start.outs now.outs) o)
+    sent_to : (o : ℕ) → o < length start.job.outputs → IsSentTo start.job.tries (setup_at start) w.journal o (out_run_at (out_runs start.outs now.outs) o)
     sent_to o within =
         let l : o < length now.outs = omega (arith, within, w.out_count) in
         let said = w.said o l in
-        let is : IsSentTo tries start.setup w.journal o (out_run (out_at start.outs o) (out_at now.outs o)) =
+        let is : IsSentTo start.job.tries (setup_at start) w.journal o (out_run (out_at start.outs o) (out_at now.outs o)) =
         record { sent = said.sent; put_faults = said.put_faults; left = left_failed o l (rest o l) } in
-        subst (IsSentTo tries start.setup w.journal o) (sym (out_runs_at start.outs now.outs o (omega (arith, w.out_count, outs_count)) (omega (arith, within, outs_count)))) is
+        subst (IsSentTo start.job.tries (setup_at start) w.journal o) (sym (out_runs_at start.outs now.outs o (omega (arith, w.out_count, outs_count)) (omega (arith, within, outs_count)))) is
 
     same_count : length now.ins ≡ length start.ins
     same_count = fit.count_is ∙ sym starts_count
 
-    within_ins : (k : ℕ) → k < length start.setup.inputs → k < length now.ins
+    within_ins : (k : ℕ) → k < length start.job.inputs → k < length now.ins
     within_ins k l = omega (arith, l, fit.count_is)
 
-    at_place : (k : ℕ) → k < length start.setup.inputs → run_at (in_runs start.ins now.ins) k ≡ in_run (in_at start.ins k) (in_at now.ins k)
+    at_place : (k : ℕ) → k < length start.job.inputs → run_at (in_runs start.ins now.ins) k ≡ in_run (in_at start.ins k) (in_at now.ins k)
     at_place k l = runs_at start.ins now.ins k same_count (omega (arith, l, starts_count))
 
-    is_full : OneIsFull core.gathered now.ins → SomeIsFull (in_runs start.ins now.ins) w.journal
+    is_full : OneIsFull now.core.gathered now.ins → SomeIsFull (in_runs start.ins now.ins) w.journal
     is_full full =
         let k : ℕ = full.0 in
-        let l : k < length start.setup.inputs = omega (arith, full.1, fit.count_is) in
+        let l : k < length start.job.inputs = omega (arith, full.1, fit.count_is) in
         let part : InPart = in_at now.ins k in
         let f = fit.each k l in
         let many : HoldsTooMany part.held (gathered_count w.journal) = subst (HoldsTooMany part.held) w.text.stands.gathered full.2.many in
@@ -240,23 +250,23 @@ module _ (start : Beginning) (tries : ℕ) (core : CoreState) (now : Surrounding
     why_by : (limit : Bool) → IsOneIn states.LimitReached now.ins limit → (k : ℕ) → k < length now.ins → RunsFull limit (in_runs start.ins now.ins) w.journal ⊎ (((in_at now.ins k).state ≢ states.Reading) × ((in_at now.ins k).held ≡ None))
     why_by limit one k l =
         elim why [
-          | inl full ↦ inl (limit_by limit core.gathered now.ins one full, is_full full)
+          | inl full ↦ inl (limit_by limit now.core.gathered now.ins one full, is_full full)
           | inr out ↦ inr ((out k l).read, (out k l).none_held)
         ]
 
-    ends_at : (limit : Bool) → IsOneIn states.LimitReached now.ins limit → (k : ℕ) → k < length start.setup.inputs → EndsSo limit (in_runs start.ins now.ins) k (in_at now.ins k).state (in_run (in_at start.ins k) (in_at now.ins k)) (in_at now.ins k).hand.taken w.journal
+    ends_at : (limit : Bool) → IsOneIn states.LimitReached now.ins limit → (k : ℕ) → k < length start.job.inputs → EndsSo limit (in_runs start.ins now.ins) k (in_at now.ins k).state (in_at now.ins k).hand.taken w.journal
     ends_at limit one k l =
-        ends_by limit (in_runs start.ins now.ins) (in_at now.ins k).state (in_at now.ins k).held (in_at start.ins k) (in_at now.ins k) k w.journal (why_by limit one k (within_ins k l)) (w.heard k (within_ins k l))
+        ends_by limit (in_runs start.ins now.ins) (in_at now.ins k).state (in_at now.ins k).held (in_at start.ins k) (in_at now.ins k) k w.journal (at_place k l) (why_by limit one k (within_ins k l)) (w.heard k (within_ins k l))
 
-    unread : (k : ℕ) → k < length start.setup.inputs → has_ended k w.journal ≡ false → IsUnread (in_runs start.ins now.ins) k (in_run (in_at start.ins k) (in_at now.ins k)) (in_at now.ins k).hand.taken w.journal
+    unread : (k : ℕ) → k < length start.job.inputs → has_ended k w.journal ≡ false → IsUnread (in_runs start.ins now.ins) k (run_at (in_runs start.ins now.ins) k) (in_at now.ins k).hand.taken w.journal
     unread k l =
         elim why [
           | inl full ↦ λ e. inr (inr (is_full full))
-          | inr out ↦ unread_by false (in_runs start.ins now.ins) (in_at now.ins k).state (in_run (in_at start.ins k) (in_at now.ins k)) (in_at now.ins k).hand.taken k w.journal
-              (ends_by false (in_runs start.ins now.ins) (in_at now.ins k).state (in_at now.ins k).held (in_at start.ins k) (in_at now.ins k) k w.journal (inr ((out k (within_ins k l)).read, (out k (within_ins k l)).none_held)) (w.heard k (within_ins k l)))
+          | inr out ↦ unread_by false (in_runs start.ins now.ins) (in_at now.ins k).state (in_at now.ins k).hand.taken k w.journal
+              (ends_by false (in_runs start.ins now.ins) (in_at now.ins k).state (in_at now.ins k).held (in_at start.ins k) (in_at now.ins k) k w.journal (at_place k l) (inr ((out k (within_ins k l)).read, (out k (within_ins k l)).none_held)) (w.heard k (within_ins k l)))
         ]
 
-    read_of : (k : ℕ) → k < length start.setup.inputs → IsReadFrom (in_runs start.ins now.ins) w.journal k (in_run (in_at start.ins k) (in_at now.ins k)) (in_at now.ins k).hand.taken
+    read_of : (k : ℕ) → k < length start.job.inputs → IsReadFrom (in_runs start.ins now.ins) w.journal k (in_run (in_at start.ins k) (in_at now.ins k)) (in_at now.ins k).hand.taken
     read_of k l =
         let part : InPart = in_at now.ins k in
         let f = fit.each k l in
@@ -265,10 +275,10 @@ module _ (start : Beginning) (tries : ℕ) (core : CoreState) (now : Surrounding
           gathered = gathered_at_end (in_at start.ins k) part part.held k w.journal f.readable.some f.none_held h;
           clocked = clocked_at_end (in_at start.ins k) part part.held k w.journal h;
           bytes_taken = h.counted;
-          unread = unread k l;
+          unread = subst (λ (x : InRun). has_ended k w.journal ≡ false → IsUnread (in_runs start.ins now.ins) k x part.hand.taken w.journal) (at_place k l) (unread k l);
         }
 
-    pub has_run : HasRun start.work tries start.setup (in_runs start.ins now.ins) (out_runs start.outs now.outs) w.journal
+    pub has_run : HasRun start.job start.start (in_runs start.ins now.ins) (out_runs start.outs now.outs) w.journal
     has_run = record {
       legal = subst (λ (s : Setup). IsLegal s w.journal) w.text.setup_is w.text.stands.legal;
       taken = λ k. (in_at now.ins k).hand.taken;
@@ -281,12 +291,12 @@ module _ (start : Beginning) (tries : ℕ) (core : CoreState) (now : Surrounding
     }
 
     -- the inputs fit the core still
-    fit_still : AreInputs (length start.setup.inputs) core.ended now.ins
+    fit_still : AreInputs (length start.job.inputs) now.core.ended now.ins
     fit_still = record {
       count_is = fit.count_is;
       each = λ k l.
           let f = fit.each k l in
-          let within : k < length core.setup.inputs = omega (arith, l, ap (λ (s : Setup). length s.inputs) w.text.setup_is) in
+          let within : k < length now.core.setup.inputs = omega (arith, l, ap (λ (s : Setup). length s.inputs) w.text.setup_is, length-map start.job.inputs limit_of) in
           record {
             number = f.number;
             readable = f.readable;
@@ -297,32 +307,32 @@ module _ (start : Beginning) (tries : ℕ) (core : CoreState) (now : Surrounding
           };
     }
 
-    pub finished : (ending : Ending) (last : CoreState) (part : JournalPart) (olds : List ℤ) (timer : ClockRun) (moment : ℤ) → last ≡ after_cut core → Gives timer.moments timer.before timer.after moment → now.counted_at ≡ olds ++ int_max moment (last_of start.setup.start olds) ∷ [] →
-        IsOneIn states.LimitReached now.ins ending.limit → IsOneIn states.Faulted now.ins ending.read_fault → IsLeftOver ending.left core → ending.account.items ≡ account_text core.numbers →
-        IsPutSo ending.journal_fault (change start.noted part.held start.note_faults part.faults) (journal_text (journal_setup_of start.setup) (w.text.written ++ core.stored) (account_text core.numbers)) → Finished start tries ending last now.ins now.outs part olds timer
+    pub finished : (ending : Ending) (old : RunState) (last : CoreState) (part : JournalPart) (timer : Timed) (moment : ℤ) → last ≡ after_cut now.core → Gives old.timer.moments old.timer.place timer.place moment → now.counted_at ≡ old.counted_at ++ int_max moment (last_of start.start old.counted_at) ∷ [] →
+        IsOneIn states.LimitReached now.ins ending.limit → IsOneIn states.Faulted now.ins ending.read_fault → SomeIsBuffered ending.left now.core → ending.account.items ≡ account_text now.core.numbers →
+        IsPutSo ending.journal_fault (change start.noted part.held start.note_faults part.faults) (journal_text (journal_setup_of (setup_at start)) (w.text.written ++ now.core.stored) (account_text now.core.numbers)) → Finished start ending old (record now { core = last; journal = part; timer = timer; counted_at = [] })
     unfolding has_run
-    finished ending last part olds timer moment cut gives counts limit fault left account_is noted =
-        let totals_are : core.numbers ≡ totals start.setup w.journal = w.text.stands.numbers ∙ ap (λ (s : Setup). totals s w.journal) w.text.setup_is in
-        let same : account_text core.numbers ≡ account_of start.setup w.journal = ap account_text totals_are in
+    finished ending old last part timer moment cut gives counts limit fault left account_is noted =
+        let totals_are : now.core.numbers ≡ totals (setup_at start) w.journal = w.text.stands.numbers ∙ ap (λ (s : Setup). totals s w.journal) w.text.setup_is in
+        let same : account_text now.core.numbers ≡ account_of (setup_at start) w.journal = ap account_text totals_are in
         record {
           journal = w.journal;
-          stands = cut_stands core last cut w.journal w.text.stands;
+          stands = cut_stands now.core last cut w.journal w.text.stands;
           more = w.text.more;
           goes_on = w.text.goes_on;
           run = has_run;
-          fit = subst (λ (s : CoreState). AreInputs (length start.setup.inputs) s.ended now.ins) (sym cut) fit_still;
+          fit = subst (λ (s : CoreState). AreInputs (length start.job.inputs) s.ended now.ins) (sym cut) fit_still;
           outputs_fit = outputs_fit;
           heard = w.heard;
           said = w.said;
-          counted = λ first. counted_on timer.moments first timer.before timer.after start.setup.start moment olds (counted_moments w.journal) gives (w.counted_at ∙ counts);
+          counted = λ first. counted_on old.timer.moments first old.timer.place timer.place start.start moment old.counted_at (counted_moments w.journal) gives (w.counted_at ∙ counts);
           in_order = w.order.in_order;
-          ends = λ k l. subst (λ (x : InRun). EndsSo ending.limit (in_runs start.ins now.ins) k (in_at now.ins k).state x (in_at now.ins k).hand.taken w.journal) (sym (at_place k l)) (ends_at ending.limit limit k l);
+          ends = λ k l. ends_at ending.limit limit k l;
           limit = limit;
           read_fault = fault;
-          left = left_is ending.left start core now.journal w.journal w.text left;
+          left = left_is ending.left start now.core now.journal w.journal w.text left;
           account = account_is ∙ same;
-          noted = subst (λ (account : List ℕ). IsPutSo ending.journal_fault (change start.noted part.held start.note_faults part.faults) (journal_text (journal_setup_of start.setup) w.journal account)) same
-              (subst (λ (es : List Entry). IsPutSo ending.journal_fault (change start.noted part.held start.note_faults part.faults) (journal_text (journal_setup_of start.setup) es (account_text core.numbers))) (sym w.text.split) noted);
+          noted = subst (λ (account : List ℕ). IsPutSo ending.journal_fault (change start.noted part.held start.note_faults part.faults) (journal_text (journal_setup_of (setup_at start)) w.journal account)) same
+              (subst (λ (es : List Entry). IsPutSo ending.journal_fault (change start.noted part.held start.note_faults part.faults) (journal_text (journal_setup_of (setup_at start)) es (account_text now.core.numbers))) (sym w.text.split) noted);
         }
 
 -- a list that was written over another one of its length
@@ -332,67 +342,59 @@ taken_front (suc n) [] rest e = absurd (omega (arith, e))
 taken_front zero (x ∷ news) rest e = absurd (omega (arith, e))
 taken_front {X} (suc n) (x ∷ news) rest e = ap (λ (xs : List X). x ∷ xs) (taken_front n news rest (omega (arith, e)))
 
--- a run ends, by other terms
-pub finishes_by : (work : Work) (tries : ℕ) (ending : Ending) (old new : CoreState) (ins last_ins ins_by last_ins_by : List InPart) (outs last_outs outs_by last_outs_by : List OutPart) (part last_part : JournalPart) (timer : ClockRun) →
-    ins_by ≡ ins → last_ins_by ≡ last_ins → outs_by ≡ outs → last_outs_by ≡ last_outs → FinishesSo work tries ending old new ins last_ins outs last_outs part last_part timer
-    → FinishesSo work tries ending old new ins_by last_ins_by outs_by last_outs_by part last_part timer
-finishes_by work tries ending old new ins last_ins ins_by last_ins_by outs last_outs outs_by last_outs_by part last_part timer a b d e h = rw (a, b, d, e) h
-
--- its inputs are the same, by other terms
-pub same_by : (ins last_ins ins_by last_ins_by : List InPart) → ins_by ≡ ins → last_ins_by ≡ last_ins → AreSameInputs ins last_ins → AreSameInputs ins_by last_ins_by
-same_by ins last_ins ins_by last_ins_by a b h = rw (a, b) h
-
 -- a run that began with nothing
-module _ (work : Work) (tries count : ℕ) (sizes : List (ℕ × ℕ)) (start : ℤ) (starts : List InPart) (outs : List OutPart) (noted : Option (List ℕ)) (note_faults : ℕ) where
-  -- what it began with
-  abbrev pub beginning : Beginning
-  beginning = record { setup = run_setup count sizes start; work = work; ins = starts; outs = outs; noted = noted; note_faults = note_faults; front = [] }
-
-  pub ran : (ending : Ending) (core : CoreState) (ins : List InPart) (new_outs : List OutPart) (part : JournalPart) (timer : ClockRun) → Gives timer.moments 0 timer.before start → length ins ≡ count → Finished beginning tries ending core ins new_outs part [] timer
-      → Ran work tries count sizes ending (in_runs starts ins) (out_runs outs new_outs) (change noted part.held note_faults part.faults) timer.moments
-  ran ending core ins new_outs part timer gives number f = record {
-    start = start;
-    journal = f.journal;
-    run = record {
-      has = f.run;
-      start = start_at timer.moments timer.before start gives;
-      counted = counted_all timer.moments timer.before timer.after start (counted_moments f.journal) gives (f.counted timer.before (counted_first timer.moments timer.before start));
-      in_order = f.in_order refl;
-    };
-    state = λ k. (in_at ins k).state;
-    ends = λ k l. f.ends k (omega (arith, l, length-replicate {A = Option ℕ} count None));
-    limit = subst (λ (n : ℕ). IsOneOf states.LimitReached n (λ k. (in_at ins k).state) ending.limit) number f.limit;
-    read_fault = subst (λ (n : ℕ). IsOneOf states.Faulted n (λ k. (in_at ins k).state) ending.read_fault) number f.read_fault;
-    left = f.left;
-    account = f.account;
-    noted = f.noted;
-  }
+pub ran : (job : Job) (start : ℤ) (ending : Ending) (old new : RunState) → Gives old.timer.moments 0 old.timer.place start → old.counted_at ≡ [] → length new.ins ≡ length job.inputs → Finished (begun job start old) ending old new →
+    Ran job ending (record { ins = in_runs old.ins new.ins; outs = out_runs old.outs new.outs; journal = part_change old.journal new.journal; moments = old.timer.moments })
+ran job start ending old new gives none number f =
+    let counts : IfSome old.timer.moments (λ moments. Counted moments old.timer.place old.timer.place start old.counted_at) =
+    subst (λ (ms : List ℤ). IfSome old.timer.moments (λ moments. Counted moments old.timer.place old.timer.place start ms)) (sym none) (counted_first old.timer.moments old.timer.place start) in
+    record {
+      start = start;
+      journal = f.journal;
+      run = record {
+        has = f.run;
+        start_is = start_at old.timer.moments old.timer.place start gives;
+        counted = counted_all old.timer.moments old.timer.place new.timer.place start (counted_moments f.journal) gives (f.counted old.timer.place counts);
+        in_order = f.in_order refl;
+      };
+      state = λ k. (in_at new.ins k).state;
+      ends = f.ends;
+      limit = subst (λ (n : ℕ). IsOneOf states.LimitReached n (λ k. (in_at new.ins k).state) ending.limit) number f.limit;
+      read_fault = subst (λ (n : ℕ). IsOneOf states.Faulted n (λ k. (in_at new.ins k).state) ending.read_fault) number f.read_fault;
+      left = f.left;
+      account = f.account;
+      noted = f.noted;
+    }
 
 -- ---- rounds
 
 -- more items were routed, and the entries spelled
-pub routes_more : (work : Work) (first old routed new : CoreState) (part0 part new_part : JournalPart) → RoutesOn work first old part0 part → GoesOn work old routed → NotesRun routed new part new_part → RoutesOn work first new part0 new_part
-routes_more work first old routed new part0 part new_part routes goes notes = λ start now anew w.
-    notes (record start { work = work }) now (goes start (record now { journal = part }) anew (routes start now anew w))
+pub routes_more : (first old routed new : CoreState) (proc0 proc new_proc : ProcPart) (part0 part new_part : JournalPart) → RoutesOn first old proc0 proc part0 part → GoesOn old routed proc new_proc → NotesRun routed new part new_part → RoutesOn first new proc0 new_proc part0 new_part
+routes_more first old routed new proc0 proc new_proc part0 part new_part routes goes notes = λ start now anew w.
+    notes start (record now { proc = new_proc }) (goes start (record now { journal = part }) anew (routes start now anew w))
 
 -- the last items were routed
-pub routes_last : (work : Work) (first old new : CoreState) (part0 part : JournalPart) → RoutesOn work first old part0 part → GoesOn work old new → RoutesOn work first new part0 part
-routes_last work first old new part0 part routes goes = λ start now anew w. goes start (record now { journal = part }) anew (routes start now anew w)
+pub routes_last : (first old new : CoreState) (proc0 proc new_proc : ProcPart) (part0 part : JournalPart) → RoutesOn first old proc0 proc part0 part → GoesOn old new proc new_proc → RoutesOn first new proc0 new_proc part0 part
+routes_last first old new proc0 proc new_proc part0 part routes goes = λ start now anew w. goes start (record now { journal = part }) anew (routes start now anew w)
 
 -- one round more: inputs were gathered, the items were routed, batches were sent, and the entries spelled
-pub runs_more : (work : Work) (first old gathered routed sent new : CoreState) (ins0 ins new_ins : List InPart) (outs0 outs fresh new_outs : List OutPart) (part0 part mid_part new_part : JournalPart) → RunsOn work first old ins0 ins outs0 outs part0 part → (AreSettled first outs0 → AreSettled old outs) →
-    GathersOn old gathered ins new_ins → fresh ≡ map anew outs → RoutesOn work gathered routed part mid_part → routed.raw ≡ [] → SendsOn routed sent fresh new_outs → NotesRun sent new mid_part new_part → RunsOn work first new ins0 new_ins outs0 new_outs part0 new_part
-runs_more work first old gathered routed sent new ins0 ins new_ins outs0 outs fresh new_outs part0 part mid_part new_part runs settles gathers anews routes none sends notes = λ start now settled w.
-    let s : Beginning = record start { work = work } in
-    let after : Surroundings = record now { ins = new_ins; next = length ins } in
-    let last : Surroundings = record now { ins = new_ins; next = 0 } in
-    let a = runs start now settled w in
-    let b = gathers s (record now { outs = outs; journal = part }) (λ f. settles (settled f)) a in
-    let c = went_anew s gathered (record after { journal = part }) outs fresh anews b in
-    let d = routes start (record after { outs = fresh }) (subst AreAnew (sym anews) (are_anew outs)) c in
-    let n = went_next s routed (record after { outs = fresh; journal = mid_part }) 0 none d in
-    let e = sends s (record last { journal = mid_part }) n in
-    notes s (record last { outs = new_outs }) e
+pub runs_more : (first old last : RunState) (gathered routed sent : CoreState) (fresh : List OutPart) (mid_part : JournalPart) → RunsOn first old → (AreSettled first.core first.outs → AreSettled old.core old.outs) →
+    old.next ≡ 0 → last.next ≡ 0 → GathersOn old.core gathered old.ins last.ins → fresh ≡ map anew old.outs → RoutesOn gathered routed old.proc last.proc old.journal mid_part → routed.raw ≡ [] → SendsOn routed sent fresh last.outs → NotesRun sent last.core mid_part last.journal → RunsOn first last
+runs_more first old last gathered routed sent fresh mid_part runs settles at_first at_last gathers anews routes none sends notes = λ start counted settled w.
+    let here : RunState = record old { counted_at = counted } in
+    let a = runs start counted settled w in
+    let a0 = subst (λ (k : ℕ). Progress start (record here { next = k })) at_first a in
+    let b = gathers start here (λ f. settles (settled f)) a0 in
+    let after : RunState = record here { ins = last.ins; next = length old.ins } in
+    let c = went_anew start gathered after old.outs fresh anews b in
+    let d = routes start (record after { outs = fresh }) (subst AreAnew (sym anews) (are_anew old.outs)) c in
+    let went : RunState = record after { outs = fresh; proc = last.proc; journal = mid_part } in
+    let n = went_next start routed went 0 none d in
+    let zero : RunState = record went { next = 0 } in
+    let e = sends start zero n in
+    let f = notes start (record zero { outs = last.outs }) e in
+    let last_zero : RunState = record zero { core = last.core; outs = last.outs; journal = last.journal } in
+    subst (λ (k : ℕ). Progress start (record last { next = k; counted_at = counted })) (sym at_last) (went_timed start last_zero last.timer f)
 
 -- the outputs are settled still, once the entries were spelled
 pub settled_still : (sent new : CoreState) (outs : List OutPart) → new ≡ after_cut sent → AreSettled sent outs → AreSettled new outs

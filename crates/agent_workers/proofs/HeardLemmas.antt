@@ -29,7 +29,7 @@ use Rattle.formats.specs.declared.reading.Group.{Group}
 use Rattle.formats.specs.declared.pieces.InState.{InState}
 use Rattle.formats.specs.declared.pieces.InState.TheVariants as states
 use Rattle.formats.specs.Reader.{InRule, cut_of, most_said, FitsGather}
-use Rattle.agent_workers.specs.Input.{IsGroup, AreGroups, Naming, Gathering, GatheredTo, Gathered as AreGathered, IsNextGroup, IsFull}
+use Rattle.agent_workers.specs.Input.{IsGroup, AreGroups, Naming, Gathering, GatheredTo, AreGathered, IsNextGroup, IsFull}
 use Rattle.agent_workers.specs.Inputs.{InPart, IsFresh, says_of, heard_of, is_ended, HoldsTooMany, HoldsNoEnd}
 use Rattle.formats.specs.Groups.{ReadsGroup}
 use Rattle.agent_workers.specs.Inputs.{gathered_of, read_state}

@@ -8,7 +8,6 @@ use Rattle.agent_base.specs.Carried.{Timed, Carried}
 use Rattle.account.specs.Numbers.{unreached_output}
 use Rattle.account.specs.declared.numbers.OutputNumbers.{OutputNumbers}
 use Rattle.agent_base.specs.Hand.{Hand}
-use Rattle.agent_base.specs.Moments.{Moments}
 use Rattle.account.specs.declared.entry.Entry.TheVariants.{Ended}
 use Rattle.pipeline_core.specs.CoreState.{CoreState}
 use Rattle.pipeline_core.specs.Steps.{after_gather, after_ended, gather_entry}
@@ -80,8 +79,8 @@ settled_gathered old new outs h s = λ o l.
 -- one input more had its turn
 pub gathers_then : (n : ℕ) (old mid new : CoreState) (ins mid_ins : List InPart) (part new_part : InPart) → IsGathered old mid → part.input ≡ n → n < length mid_ins → in_at mid_ins n ≡ part → GathersAt mid new part new_part → GathersTo n old mid ins mid_ins → GathersTo (n + 1) old new ins (set mid_ins n new_part)
 gathers_then n old mid new ins mid_ins part new_part kept number b at turn h = λ start now settled w.
-    let from : Progress start mid (record now { ins = mid_ins; next = part.input }) = subst (λ (k : ℕ). Progress start mid (record now { ins = mid_ins; next = k })) (sym number) (h start now settled w) in
-    subst (λ (k : ℕ). Progress start new (record now { ins = set mid_ins k new_part; next = k + 1 })) number
+    let from : Progress start (record now { core = mid; ins = mid_ins; next = part.input }) = subst (λ (k : ℕ). Progress start (record now { core = mid; ins = mid_ins; next = k })) (sym number) (h start now settled w) in
+    subst (λ (k : ℕ). Progress start (record now { core = new; ins = set mid_ins k new_part; next = k + 1 })) number
     (turn mid_ins (omega (arith, b, number)) (ap (in_at mid_ins) number ∙ at) start now (λ f. settled_gathered old mid now.outs kept (settled f)) from)
 
 -- the others had none

@@ -8,6 +8,7 @@ pub mod MomentLemmas
 pub mod NotedLemmas
 pub mod OpenedLemmas
 pub mod OutLemmas
+pub mod PartsLemmas
 pub mod ProgressLemmas
 pub mod RoseLemmas
 pub mod SendSteps

@@ -62,15 +62,15 @@ rose_from a b c l r = omega arith
 
 -- ---- puts, one after the other
 
-nothing_put : (was : Bool) (held : Option (List ℕ)) (faults : ℕ) → IsPartPut was was [] held held faults faults
+nothing_put : (was : Bool) (held : Option (List ℕ)) (faults : ℕ) → IsPartPut was was (change held held faults faults) []
 nothing_put true held faults = (refl, refl, refl)
 nothing_put false held faults = (appends_none held, omega arith)
 
 -- two puts are one of both texts: where the first failed the second wasn't made
 parts_put : (was then now : Bool) (first second : List ℕ) (held mid_held new_held : Option (List ℕ)) (faults mid_faults new_faults : ℕ) →
-    IsPartPut was then first held mid_held faults mid_faults → IsPartPut then now second mid_held new_held mid_faults new_faults → IsPartPut was now (first ++ second) held new_held faults new_faults
+    IsPartPut was then (change held mid_held faults mid_faults) first → IsPartPut then now (change mid_held new_held mid_faults new_faults) second → IsPartPut was now (change held new_held faults new_faults) (first ++ second)
 parts_put true then now first second held mid_held new_held faults mid_faults new_faults h k =
-    let none = subst (λ (b : Bool). IsPartPut b now second mid_held new_held mid_faults new_faults) h.0 k in
+    let none = subst (λ (b : Bool). IsPartPut b now (change mid_held new_held mid_faults new_faults) second) h.0 k in
     (none.0, none.1 ∙ h.1, none.2 ∙ h.2)
 parts_put false true now first second held mid_held new_held faults mid_faults new_faults h k =
     let p = prefix_more h.0.1.0 first second in
@@ -92,9 +92,9 @@ parts_put false false false first second held mid_held new_held faults mid_fault
     (appends_then held mid_held new_held first second h.0 k.0, omega (arith, h.1, k.1))
 
 put_as : (was now : Bool) (text other : List ℕ) (held new_held : Option (List ℕ)) (faults new_faults : ℕ) → text ≡ other →
-    IsPartPut was now text held new_held faults new_faults → IsPartPut was now other held new_held faults new_faults
+    IsPartPut was now (change held new_held faults new_faults) text → IsPartPut was now (change held new_held faults new_faults) other
 put_as was now text other held new_held faults new_faults same put =
-    subst (λ (xs : List ℕ). IsPartPut was now xs held new_held faults new_faults) same put
+    subst (λ (xs : List ℕ). IsPartPut was now (change held new_held faults new_faults) xs) same put
 
 -- ---- a text that waits
 
@@ -110,7 +110,7 @@ wrote part waiting added rest is = record {
 }
 
 -- all that waits is put
-pub put_whole : (old : JournalPart) (failed : Bool) (held : Option (List ℕ)) (faults : ℕ) (text waiting rest : List ℕ) → text ≡ waiting → rest ≡ [] → IsPartPut old.failed failed text old.held held old.faults faults →
+pub put_whole : (old : JournalPart) (failed : Bool) (held : Option (List ℕ)) (faults : ℕ) (text waiting rest : List ℕ) → text ≡ waiting → rest ≡ [] → IsPartPut old.failed failed (change old.held held old.faults faults) text →
     GoesOut old (record old { failed = failed; held = held; faults = faults }) waiting [] rest
 put_whole old failed held faults text waiting rest is none put = record {
   front = waiting;
@@ -183,7 +183,7 @@ spells_behind entries kept left front text new_text spells journal kept_is order
 pub record FirstOut (n : ℕ) (entries : List Entry) (old now : JournalPart) (waiting rest : List ℕ) : Type 0 where
   pub front : List ℕ
   pub spelled : SpellsFirst n entries old.kept now.kept waiting (front ++ rest)
-  pub put : IsPartPut old.failed now.failed front old.held now.held old.faults now.faults
+  pub put : IsPartPut old.failed now.failed (change old.held now.held old.faults now.faults) front
   pub about : now.setup ≡ old.setup
   pub counted : now.entries ≡ old.entries + length (take n entries)
 
@@ -222,7 +222,7 @@ first_all n entries old new waiting rest most h = record {
 
 -- what was put of entries, and then all that waits
 put_all : (entries : List Entry) (old mid new : JournalPart) (first rest waiting left : List ℕ) (s : SpellsOut entries old mid first rest) → GoesOut mid new waiting [] left → left ≡ [] →
-    IsPartPut old.failed new.failed (s.front ++ waiting) old.held new.held old.faults new.faults
+    IsPartPut old.failed new.failed (change old.held new.held old.faults new.faults) (s.front ++ waiting)
 put_all entries old mid new first rest waiting left s k none =
     let is : k.front ≡ waiting = sym (append-nil k.front) ∙ ap (λ (t : List ℕ). k.front ++ t) (sym none) ∙ k.all ∙ append-nil waiting in
     put_as old.failed new.failed (s.front ++ k.front) (s.front ++ waiting) old.held new.held old.faults new.faults (ap (λ (t : List ℕ). s.front ++ t) is)
@@ -246,7 +246,7 @@ notes_none setup part about kept entries going = record {
 module _ (entries : List Entry) (old : JournalPart) (setup : JournalSetup) (held : Option (List ℕ)) (faults : ℕ) (journal : List Entry) (h : Notes setup held faults journal old) where
   -- whatever was put before, a text that goes on with the journal's is put so now
   put_more : (was now : Bool) (text whole : List ℕ) (new_held : Option (List ℕ)) (new_faults : ℕ) → was ≡ old.failed → noted_text setup journal ++ text ≡ whole → ((rest : List ℕ) × (whole ≡ text_so_far setup journal ++ rest)) →
-      IsPartPut was now text old.held new_held old.faults new_faults → IsPutSo now (change held new_held faults new_faults) whole × (faults ≤ new_faults)
+      IsPartPut was now (change old.held new_held old.faults new_faults) text → IsPutSo now (change held new_held faults new_faults) whole × (faults ≤ new_faults)
   put_more true now text whole new_held new_faults was is rest put =
       let before = subst (λ (failed : Bool). IsNotedSo failed (change held old.held faults old.faults) setup journal) (sym was) h.put in
       let later : faults ≤ new_faults = omega (arith, h.later, put.2) in

@@ -1,34 +1,31 @@
 -- What a run of a configuration begins with, and what it leaves.
 use Rattle.std.proofs.Common.{◌≡◌, ◌<◌, ◌≤◌, ◌+◌, ℕ, zero, suc, ℤ, false, List, [], ◌∷◌, ◌++◌, length, get_or, drop, replicate, refl, sym, ap, ◌∙◌, subst, arith, append_assoc, append-nil}
 use Rattle.std.specs.Prelude.{map, All, IfOk, OnOk, Result, Ok, Err}
-use Rattle.std.specs.List.{remove}
 use Rattle.std.specs.declared.option.Option.{Option}
 use Rattle.std.proofs.lemmas.List.{length-map, map-append, drop_more, drop_all}
 use Rattle.fixed_num.specs.declared.memory.OutOfMemory.{OutOfMemory}
+use Rattle.agent_base.specs.Carried.{Carried, Timed}
 use Rattle.agent_base.specs.Hand.{Hand, empty_hand}
 use Rattle.agent_base.specs.Moments.{Moments, Gives}
 use Rattle.agent_config.specs.Sound.{IsSound}
 use Rattle.agent_config.specs.declared.config.Config.{Config}
 use Rattle.agent_config.specs.declared.config.InputConf.{InputConf}
 use Rattle.agent_config.specs.declared.config.OutputConf.{OutputConf}
-use Rattle.metric.specs.Metric.{IsFilledTag}
-use Rattle.pipeline_core.specs.CoreState.{CoreState}
-use Rattle.agent_workers.specs.Finished.{ClockRun, FinishesSo, begun, around}
-use Rattle.agent_workers.specs.Inputs.{InPart, in_of, ins_of, in_at, IsSameInput, AreSameInputs, AreFresh, IsFresh, IsReadable}
-use Rattle.agent_workers.specs.Noted.{JournalPart}
-use Rattle.agent_base.specs.Carried.{Carried, Timed}
-use Rattle.agent_workers.specs.Opened.{fresh_in, fresh_ins, fresh_out, fresh_outs, empty_hands, config_ins, config_outs, in_carried, out_carried, rule_by, sizes_of, conf_sizes, IsMadeOf, IsNewCore, RanBy}
-use Rattle.agent_workers.specs.Output.{OutPart, out_of, outs_of, out_at, AreOutputs, AreUnfailed, IsUnfailed}
-use Rattle.agent_workers.specs.PipeSetup.{run_setup, journal_setup_of}
 use Rattle.formats.specs.Reader.{cut_of}
-use Rattle.agent_workers.specs.Rules.{work_by}
-use Rattle.agent_workers.specs.Running.{IsReady, buffered_at}
-use Rattle.pipeline_core.specs.Stands.{Stands}
-use Rattle.agent_workers.specs.Run.{Change, change, InRun, in_run, in_runs, OutRun, out_run, out_runs, Ran}
+use Rattle.metric.specs.Metric.{IsFilledTag}
+use Rattle.agent_workers.specs.Finished.{FinishesSo, begun}
+use Rattle.agent_workers.specs.Inputs.{InPart, in_of, ins_of, in_at, IsSameInput, AreSameInputs, AreFresh, IsFresh, IsReadable}
+use Rattle.agent_workers.specs.Job.{Job, job_of, job_input, job_output, journal_setup_of, rule_by, setup_of, work_of}
+use Rattle.agent_workers.specs.Noted.{part_change}
+use Rattle.agent_workers.specs.Opened.{Carries, Times, fresh_in, fresh_ins, fresh_out, fresh_outs, empty_hands, config_ins, config_outs, in_carried, out_carried, change_by, IsMadeOf, IsNewCore}
+use Rattle.agent_workers.specs.Output.{OutPart, out_of, outs_of, out_at, AreOutputs, AreUnfailed, IsUnfailed}
+use Rattle.agent_workers.specs.Run.{Change, change, InRun, in_run, in_runs, OutRun, out_run, out_runs, RunChange, Ran}
+use Rattle.agent_workers.specs.Progress.{Progress}
+use Rattle.agent_workers.specs.RunState.{RunState}
 use Rattle.agent_workers.specs.declared.input.InJob.{InJob}
 use Rattle.agent_workers.specs.declared.output.OutJob.{OutJob}
-use Rattle.agent_workers.specs.declared.serial.Ending.{Ending}
-use Rattle.agent_workers.proofs.FinishSteps.{ran, is_set_up}
+use Rattle.agent_workers.specs.declared.rounds.Ending.{Ending}
+use Rattle.agent_workers.proofs.FinishSteps.{is_set_up, ran}
 
 -- ---- what a run begins with
 
@@ -80,51 +77,76 @@ unput_at n (conf ∷ confs) (sink ∷ sinks) zero l = record { numbered = omega 
 unput_at n (conf ∷ confs) (sink ∷ sinks) (suc k) l =
     subst (λ (i : ℕ). IsUnputAt i (out_at (fresh_outs (n + 1) confs sinks) k)) (omega arith) (unput_at (n + 1) confs sinks k (omega (arith, l)))
 
-pub are_outputs : (confs : List OutputConf) (sinks : List Carried) → length sinks ≡ length confs → AreOutputs (length (map conf_sizes confs)) (fresh_outs 0 confs sinks)
+are_outputs : (confs : List OutputConf) (sinks : List Carried) → length sinks ≡ length confs → AreOutputs (length confs) (fresh_outs 0 confs sinks)
 are_outputs confs sinks s =
     let count = length-fresh_outs 0 confs sinks s in
-    record { count_is = count ∙ sym (length-map confs conf_sizes); numbered = λ k l. (unput_at 0 confs sinks k (omega (arith, l, count, length-map confs conf_sizes))).numbered ∙ omega arith }
+    record { count_is = count; numbered = λ k l. (unput_at 0 confs sinks k (omega (arith, l, count))).numbered ∙ omega arith }
 
 pub are_unfailed : (confs : List OutputConf) (sinks : List Carried) → AreUnfailed (fresh_outs 0 confs sinks)
 are_unfailed confs sinks = λ k l. (unput_at 0 confs sinks k l).unfailed
 
+-- the parts of a run are those of a configuration
+pub record AreMade (config : Config) (start : ℤ) (opened : Carries) (times : Times) (now : RunState) : Type 0 where
+  pub sources : length opened.sources ≡ length config.inputs
+  pub clocks : length times.ins ≡ length config.inputs
+  pub sinks : length opened.sinks ≡ length config.outputs
+  pub first : All (λ (clock : Timed). clock.place ≡ 0) times.ins
+  pub ins_are : now.ins ≡ fresh_ins config 0 config.inputs opened.sources times.ins
+  pub outs_are : now.outs ≡ fresh_outs 0 config.outputs opened.sinks
+  pub filters : now.proc.outs ≡ config.outputs
+  pub about : now.journal.setup ≡ journal_setup_of (setup_of (job_of config) start)
+  pub kept : now.journal.kept ≡ []
+  pub entries : now.journal.entries ≡ 0
+  pub put : now.journal.failed ≡ false
+  pub counted : now.counted_at ≡ []
+  pub held : now.journal.held ≡ opened.journal.bytes
+  pub faults : now.journal.faults ≡ opened.journal.faults
+  pub timer : now.timer ≡ times.timer
+
 -- a run is set up
-pub is_made : (config : Config) (start : ℤ) (sources : List Carried) (clocks : List Timed) (sinks : List Carried) (core : CoreState) (ins : List InPart) (outs : List OutPart) (part : JournalPart) → IsSound config → length sources ≡ length config.inputs → length clocks ≡ length config.inputs → length sinks ≡ length config.outputs →
-    All (λ (clock : Timed). clock.place ≡ 0) clocks → IsNewCore config start core → ins ≡ fresh_ins config 0 config.inputs sources clocks → outs ≡ fresh_outs 0 config.outputs sinks → part.setup ≡ journal_setup_of (run_setup (length config.inputs) (map conf_sizes config.outputs) start) → part.kept ≡ [] → part.entries ≡ 0 → part.failed ≡ false →
-    IsMadeOf config start sources clocks sinks core ins outs part
-is_made config start sources clocks sinks core ins outs part sound s c k first new ins_are outs_are about kept entries going =
-    let count : length ins ≡ length config.inputs = ap (λ (xs : List InPart). length xs) ins_are ∙ length-fresh_ins config 0 config.inputs sources clocks s c in
+pub is_made : (config : Config) (start : ℤ) (opened : Carries) (times : Times) (now : RunState) → IsSound config → IsNewCore config start now.core → AreMade config start opened times now → IsMadeOf config start opened times now
+is_made config start opened times now sound new made =
+    let in_jobs = length-map config.inputs (job_input config) in
+    let out_jobs = length-map config.outputs job_output in
+    let count : length now.ins ≡ length config.inputs = ap (λ (xs : List InPart). length xs) made.ins_are ∙ length-fresh_ins config 0 config.inputs opened.sources times.ins made.sources made.clocks in
+    let outputs = subst (AreOutputs (length config.outputs)) (sym made.outs_are) (are_outputs config.outputs opened.sinks made.sinks) in
     record {
-      set_up = is_set_up (sizes_of config) start (length config.inputs) core ins outs part (sym count) (omega (arith, length-map config.outputs conf_sizes, sound.outputs.1)) new.ready new.going new.stands new.setup new.stored new.reading new.none_buffered
-          (subst AreFresh (sym ins_are) (are_fresh config sources clocks sound first)) (subst (AreOutputs (length (map conf_sizes config.outputs))) (sym outs_are) (are_outputs config.outputs sinks k)) (subst AreUnfailed (sym outs_are) (are_unfailed config.outputs sinks))
-          about kept entries going;
-      ins_are = ins_are;
-      outs_are = outs_are;
+      set_up = is_set_up (job_of config) start now (omega (arith, out_jobs, sound.outputs.1)) new.ready new.going new.stands new.setup new.stored (new.reading ∙ ap (λ (k : ℕ). replicate k false) (sym in_jobs)) new.none_buffered
+          (record {
+            in_count = count ∙ sym in_jobs;
+            fresh = subst AreFresh (sym made.ins_are) (are_fresh config opened.sources times.ins sound made.first);
+            outputs = subst (λ (k : ℕ). AreOutputs k now.outs) (sym out_jobs) outputs;
+            unfailed = subst AreUnfailed (sym made.outs_are) (are_unfailed config.outputs opened.sinks);
+            filters = ap length made.filters ∙ sym out_jobs;
+            work = ap work_of (sym made.filters);
+            about = made.about;
+            kept = made.kept;
+            entries = made.entries;
+            put = made.put;
+            counted = made.counted;
+          });
+      ins_are = made.ins_are;
+      outs_are = made.outs_are;
+      held = made.held;
+      faults = made.faults;
+      timer = made.timer;
     }
 
 -- ---- its jobs, one by one
 
--- one job more, of the first source and the first clock that are left
+-- one job more, of the next source and the next clock
 module _ {S C : Type 0} (told : S → Carried) (timed : C → Timed) (config : Config) where
-  in_step : (n : ℕ) (conf : InputConf) (confs : List InputConf) (sources : List S) (clocks : List C) (d : S) (e : C) → 1 ≤ length sources → 1 ≤ length clocks →
-      fresh_ins config n (conf ∷ confs) (map told sources) (map timed clocks)
-      ≡ fresh_in config n conf (told (get_or sources 0 d)) (timed (get_or clocks 0 e)) ∷ fresh_ins config (n + 1) confs (map told (remove sources 0)) (map timed (remove clocks 0))
+  pub in_filled : (n number : ℕ) (confs : List InputConf) (jobs : List (InJob S C)) (job : InJob S C) (source : S) (sources : List S) (clock : C) (clocks : List C) (conf : InputConf) (all : List InPart) → n < length confs → number ≡ n → conf ≡ get_or confs n conf →
+      in_of told timed job ≡ fresh_in config number conf (told source) (timed clock) →
+      ins_of told timed jobs ++ fresh_ins config n (drop n confs) (map told (source ∷ sources)) (map timed (clock ∷ clocks)) ≡ all →
+      ins_of told timed (jobs ++ job ∷ []) ++ fresh_ins config (n + 1) (drop (n + 1) confs) (map told sources) (map timed clocks) ≡ all
   unfolding fresh_ins
-  in_step n conf confs [] clocks d e a b = absurd (omega (arith, a))
-  in_step n conf confs (source ∷ sources) [] d e a b = absurd (omega (arith, b))
-  in_step n conf confs (source ∷ sources) (clock ∷ clocks) d e a b = refl
-
-  pub in_filled : (n : ℕ) (confs : List InputConf) (jobs : List (InJob S C)) (job : InJob S C) (sources : List S) (clocks : List C) (conf : InputConf) (d : S) (e : C) (all : List InPart) → n < length confs → 1 ≤ length sources → 1 ≤ length clocks →
-      in_of told timed job ≡ fresh_in config n (get_or confs n conf) (told (get_or sources 0 d)) (timed (get_or clocks 0 e)) →
-      ins_of told timed jobs ++ fresh_ins config n (drop n confs) (map told sources) (map timed clocks) ≡ all →
-      ins_of told timed (jobs ++ job ∷ []) ++ fresh_ins config (n + 1) (drop (n + 1) confs) (map told (remove sources 0)) (map timed (remove clocks 0)) ≡ all
-  in_filled n confs jobs job sources clocks conf d e all b s c is h =
-      let rest : List InPart = fresh_ins config (n + 1) (drop (n + 1) confs) (map told (remove sources 0)) (map timed (remove clocks 0)) in
+  in_filled n number confs jobs job source sources clock clocks conf all b at here is h =
+      let rest : List InPart = fresh_ins config (n + 1) (drop (n + 1) confs) (map told sources) (map timed clocks) in
       ap (λ (xs : List InPart). xs ++ rest) (map-append (in_of told timed) jobs (job ∷ []))
       ∙ append_assoc (ins_of told timed jobs) (in_of told timed job ∷ []) rest
-      ∙ ap (λ (x : InPart). ins_of told timed jobs ++ x ∷ rest) is
-      ∙ ap (λ (xs : List InPart). ins_of told timed jobs ++ xs)
-      (sym (ap (λ (xs : List InputConf). fresh_ins config n xs (map told sources) (map timed clocks)) (drop_more confs n conf b) ∙ in_step n (get_or confs n conf) (drop (n + 1) confs) sources clocks d e s c))
+      ∙ ap (λ (x : InPart). ins_of told timed jobs ++ x ∷ rest) (is ∙ ap (λ (k : ℕ). fresh_in config k conf (told source) (timed clock)) at ∙ ap (λ (x : InputConf). fresh_in config n x (told source) (timed clock)) here)
+      ∙ ap (λ (xs : List InputConf). ins_of told timed jobs ++ fresh_ins config n xs (map told (source ∷ sources)) (map timed (clock ∷ clocks))) (sym (drop_more confs n conf b))
       ∙ h
 
 -- all are filled
@@ -133,81 +155,51 @@ unfolding fresh_ins
 in_filled_all config n confs sources clocks ins all b h = sym (append-nil ins) ∙ ap (λ (xs : List InputConf). ins ++ fresh_ins config n xs sources clocks) (sym (drop_all n confs b)) ∙ h
 
 module _ {K : Type 0} (told : K → Carried) where
-  out_step : (n : ℕ) (conf : OutputConf) (confs : List OutputConf) (sinks : List K) (d : K) → 1 ≤ length sinks →
-      fresh_outs n (conf ∷ confs) (map told sinks) ≡ fresh_out n conf (told (get_or sinks 0 d)) ∷ fresh_outs (n + 1) confs (map told (remove sinks 0))
+  pub out_filled : {C : Type 0} (n number : ℕ) (confs : List OutputConf) (jobs : List (OutJob K C)) (job : OutJob K C) (sink : K) (sinks : List K) (conf : OutputConf) (all : List OutPart) → n < length confs → number ≡ n → conf ≡ get_or confs n conf →
+      out_of told job ≡ fresh_out number conf (told sink) →
+      outs_of told jobs ++ fresh_outs n (drop n confs) (map told (sink ∷ sinks)) ≡ all →
+      outs_of told (jobs ++ job ∷ []) ++ fresh_outs (n + 1) (drop (n + 1) confs) (map told sinks) ≡ all
   unfolding fresh_outs
-  out_step n conf confs [] d a = absurd (omega (arith, a))
-  out_step n conf confs (sink ∷ sinks) d a = refl
-
-  pub out_filled : {C : Type 0} (n : ℕ) (confs : List OutputConf) (jobs : List (OutJob K C)) (job : OutJob K C) (sinks : List K) (conf : OutputConf) (d : K) (all : List OutPart) → n < length confs → 1 ≤ length sinks →
-      out_of told job ≡ fresh_out n (get_or confs n conf) (told (get_or sinks 0 d)) →
-      outs_of told jobs ++ fresh_outs n (drop n confs) (map told sinks) ≡ all →
-      outs_of told (jobs ++ job ∷ []) ++ fresh_outs (n + 1) (drop (n + 1) confs) (map told (remove sinks 0)) ≡ all
-  out_filled n confs jobs job sinks conf d all b s is h =
-      let rest : List OutPart = fresh_outs (n + 1) (drop (n + 1) confs) (map told (remove sinks 0)) in
+  out_filled n number confs jobs job sink sinks conf all b at here is h =
+      let rest : List OutPart = fresh_outs (n + 1) (drop (n + 1) confs) (map told sinks) in
       ap (λ (xs : List OutPart). xs ++ rest) (map-append (out_of told) jobs (job ∷ []))
       ∙ append_assoc (outs_of told jobs) (out_of told job ∷ []) rest
-      ∙ ap (λ (x : OutPart). outs_of told jobs ++ x ∷ rest) is
-      ∙ ap (λ (xs : List OutPart). outs_of told jobs ++ xs)
-      (sym (ap (λ (xs : List OutputConf). fresh_outs n xs (map told sinks)) (drop_more confs n conf b) ∙ out_step n (get_or confs n conf) (drop (n + 1) confs) sinks d s))
+      ∙ ap (λ (x : OutPart). outs_of told jobs ++ x ∷ rest) (is ∙ ap (λ (k : ℕ). fresh_out k conf (told sink)) at ∙ ap (λ (x : OutputConf). fresh_out n x (told sink)) here)
+      ∙ ap (λ (xs : List OutputConf). outs_of told jobs ++ fresh_outs n xs (map told (sink ∷ sinks))) (sym (drop_more confs n conf b))
       ∙ h
 
 pub out_filled_all : (n : ℕ) (confs : List OutputConf) (sinks : List Carried) (outs all : List OutPart) → length confs ≤ n → outs ++ fresh_outs n (drop n confs) sinks ≡ all → outs ≡ all
 unfolding fresh_outs
 out_filled_all n confs sinks outs all b h = sym (append-nil outs) ∙ ap (λ (xs : List OutputConf). outs ++ fresh_outs n xs sinks) (sym (drop_all n confs b)) ∙ h
 
--- a job by other terms
-pub in_is : {S C : Type 0} (told : S → Carried) (timed : C → Timed) (config : Config) (n : ℕ) (confs : List InputConf) (job : InJob S C) (number : ℕ) (conf : InputConf) (source : S) (clock : C) (sources : List S) (clocks : List C) →
-    in_of told timed job ≡ fresh_in config number conf (told source) (timed clock) → number ≡ n → conf ≡ get_or confs n conf → source ≡ get_or sources 0 source → clock ≡ get_or clocks 0 clock →
-    in_of told timed job ≡ fresh_in config n (get_or confs n conf) (told (get_or sources 0 source)) (timed (get_or clocks 0 clock))
-in_is {S} {C} told timed config n confs job number conf source clock sources clocks h a b c d =
-    h ∙ ap (λ (k : ℕ). fresh_in config k conf (told source) (timed clock)) a
-    ∙ ap (λ (x : InputConf). fresh_in config n x (told source) (timed clock)) b
-    ∙ ap (λ (x : S). fresh_in config n (get_or confs n conf) (told x) (timed clock)) c
-    ∙ ap (λ (x : C). fresh_in config n (get_or confs n conf) (told (get_or sources 0 source)) (timed x)) d
-
-pub out_is : {K C : Type 0} (told : K → Carried) (n : ℕ) (confs : List OutputConf) (job : OutJob K C) (number : ℕ) (conf : OutputConf) (sink : K) (sinks : List K) →
-    out_of told job ≡ fresh_out number conf (told sink) → number ≡ n → conf ≡ get_or confs n conf → sink ≡ get_or sinks 0 sink → out_of told job ≡ fresh_out n (get_or confs n conf) (told (get_or sinks 0 sink))
-out_is {K} told n confs job number conf sink sinks h a b c =
-    h ∙ ap (λ (k : ℕ). fresh_out k conf (told sink)) a
-    ∙ ap (λ (x : OutputConf). fresh_out n x (told sink)) b
-    ∙ ap (λ (x : K). fresh_out n (get_or confs n conf) (told x)) c
-
--- what is in hand of the first input that is left, and of the others
-pub hands_first : (n : ℕ) (confs : List InputConf) (hands : List Hand) (conf : InputConf) (d : Hand) → n < length confs → conf ≡ get_or confs n conf → hands ≡ empty_hands (drop n confs) → get_or hands 0 d ≡ empty_hand (cut_of conf.format)
-hands_first n confs hands conf d b at e = ap (λ (hs : List Hand). get_or hs 0 d) (e ∙ ap empty_hands (drop_more confs n conf b)) ∙ ap (λ (x : InputConf). empty_hand (cut_of x.format)) (sym at)
-
-pub hands_left : (n : ℕ) (confs : List InputConf) (hands : List Hand) (conf : InputConf) → n < length confs → hands ≡ empty_hands (drop n confs) → remove hands 0 ≡ empty_hands (drop (n + 1) confs)
-hands_left n confs hands conf b e = ap (λ (hs : List Hand). remove hs 0) (e ∙ ap empty_hands (drop_more confs n conf b))
-
--- ---- a core in which nothing happened
-
-setup_same : (n m : ℕ) (confs others : List OutputConf) (first start : ℤ) → n ≡ m → confs ≡ others → first ≡ start → run_setup n (map conf_sizes confs) first ≡ run_setup m (map conf_sizes others) start
-setup_same n m confs others first start a b c = rw (a, b, c) refl
-
-pub is_new_core : (config : Config) (n : ℕ) (confs : List OutputConf) (start first : ℤ) (core : CoreState) → n ≡ length config.inputs → confs ≡ config.outputs → first ≡ start → IsReady core → core.ended ≡ replicate n false → core.stopped ≡ false → ((o : ℕ) → buffered_at core o ≡ 0) → Stands core [] → core.setup ≡ run_setup n (map conf_sizes confs) first → core.stored ≡ [] → IsNewCore config start core
-is_new_core config n confs start first core same are begin ready ended going none stands setup stored = record {
-  ready = ready;
-  reading = ended ∙ ap (λ (k : ℕ). replicate k false) same;
-  going = going;
-  none_buffered = none;
-  stands = stands;
-  setup = setup ∙ setup_same n (length config.inputs) confs config.outputs first start same are begin;
-  stored = stored;
-}
-
-pub about_same : (n m : ℕ) (confs others : List OutputConf) (first start : ℤ) → n ≡ m → confs ≡ others → first ≡ start → journal_setup_of (run_setup n (map conf_sizes confs) first) ≡ journal_setup_of (run_setup m (map conf_sizes others) start)
-about_same n m confs others first start a b c = rw (a, b, c) refl
+-- what is in hand of the next input, and of the others
+pub hands_next : (n : ℕ) (confs : List InputConf) (hand : Hand) (hands : List Hand) (conf : InputConf) → n < length confs → conf ≡ get_or confs n conf → hand ∷ hands ≡ empty_hands (drop n confs) → (hand ≡ empty_hand (cut_of conf.format)) × (hands ≡ empty_hands (drop (n + 1) confs))
+hands_next n confs hand hands conf b here e =
+    let all : hand ∷ hands ≡ empty_hands (get_or confs n conf ∷ drop (n + 1) confs) = e ∙ ap empty_hands (drop_more confs n conf b) in
+    (ap (λ (hs : List Hand). get_or hs 0 hand) all ∙ ap (λ (x : InputConf). empty_hand (cut_of x.format)) (sym here), ap (drop 1) all)
 
 -- ---- what it leaves
+
+-- what is next comes after what came, within all
+pub is_one_of : {X : Type 0} (came : List X) (x : X) (rest all : List X) → came ++ x ∷ rest ≡ all → length came < length all
+is_one_of [] x rest all e = omega (arith, ap (λ (xs : List _). length xs) e)
+is_one_of (y ∷ came) x rest [] e = omega (arith, ap (λ (xs : List _). length xs) e)
+is_one_of (y ∷ came) x rest (z ∷ all) e = omega (arith, is_one_of came x rest all (ap (drop 1) e))
+
+-- what came is all, where nothing is left
+pub is_all : {X : Type 0} (came rest all : List X) → length rest ≡ 0 → came ++ rest ≡ all → came ≡ all
+is_all came [] all none e = sym (append-nil came) ∙ e
+is_all came (x ∷ rest) all none e = absurd (omega (arith, none))
+
+-- one source more is taken out of its job
+pub in_taken : {S C : Type 0} (told : S → Carried) (timed : C → Timed) (sources : List S) (jobs : List (InJob S C)) (job : InJob S C) → map told sources ≡ map in_carried (ins_of told timed jobs) → map told (sources ++ job.source ∷ []) ≡ map in_carried (ins_of told timed (jobs ++ job ∷ []))
+in_taken told timed sources jobs job h =
+    map-append told sources (job.source ∷ []) ∙ ap (λ (xs : List Carried). xs ++ told job.source ∷ []) h
+    ∙ sym (ap (map in_carried) (map-append (in_of told timed) jobs (job ∷ [])) ∙ map-append in_carried (ins_of told timed jobs) (in_of told timed job ∷ []))
 
 -- lists that tell the same are of one length
 pub same_count : {X Y Z : Type 0} (f : X → Z) (h : Y → Z) (xs : List X) (ys : List Y) → map f xs ≡ map h ys → length xs ≡ length ys
 same_count {X} {Y} {Z} f h xs ys e = sym (length-map xs f) ∙ ap (λ (zs : List Z). length zs) e ∙ length-map ys h
-
--- a change by other sinks that are the same
-pub sinks_change : {K : Type 0} (told : K → Carried) (a b x y : K) → a ≡ x → b ≡ y → change (told a).bytes (told b).bytes (told a).faults (told b).faults ≡ change (told x).bytes (told y).bytes (told x).faults (told y).faults
-sinks_change told a b x y e f = rw (e, f) refl
 
 same_tail : (old new : InPart) (olds news : List InPart) → AreSameInputs (old ∷ olds) (new ∷ news) → AreSameInputs olds news
 same_tail old new olds news h = record { count = omega (arith, h.count); each = λ k l. h.each (suc k) (omega (arith, l)) }
@@ -236,45 +228,57 @@ outs_left n (conf ∷ confs) (sink ∷ sinks) [] = refl
 outs_left n (conf ∷ confs) (sink ∷ sinks) (last ∷ lasts) = ap (λ (xs : List OutRun). out_run (fresh_out n conf sink) last ∷ xs) (outs_left (n + 1) confs sinks lasts)
 
 -- there are as many inputs and outputs as the configuration has
-pub ins_count : (config : Config) (start : ℤ) (sources : List Carried) (clocks : List Timed) (sinks : List Carried) (core : CoreState) (ins : List InPart) (outs : List OutPart) (part : JournalPart) → IsMadeOf config start sources clocks sinks core ins outs part → length sources ≡ length config.inputs → length clocks ≡ length config.inputs → length ins ≡ length config.inputs
-ins_count config start sources clocks sinks core ins outs part made s c = ap (λ (xs : List InPart). length xs) made.ins_are ∙ length-fresh_ins config 0 config.inputs sources clocks s c
+pub ins_count : (config : Config) (start : ℤ) (opened : Carries) (times : Times) (now : RunState) → IsMadeOf config start opened times now → length opened.sources ≡ length config.inputs → length times.ins ≡ length config.inputs → length now.ins ≡ length config.inputs
+ins_count config start opened times now made s c = ap (λ (xs : List InPart). length xs) made.ins_are ∙ length-fresh_ins config 0 config.inputs opened.sources times.ins s c
 
-pub outs_count : (config : Config) (start : ℤ) (sources : List Carried) (clocks : List Timed) (sinks : List Carried) (core : CoreState) (ins : List InPart) (outs : List OutPart) (part : JournalPart) → IsMadeOf config start sources clocks sinks core ins outs part → length sinks ≡ length config.outputs → length outs ≡ length config.outputs
-outs_count config start sources clocks sinks core ins outs part made k = ap (λ (xs : List OutPart). length xs) made.outs_are ∙ length-fresh_outs 0 config.outputs sinks k
+pub outs_count : (config : Config) (start : ℤ) (opened : Carries) (times : Times) (now : RunState) → IsMadeOf config start opened times now → length opened.sinks ≡ length config.outputs → length now.outs ≡ length config.outputs
+outs_count config start opened times now made k = ap (λ (xs : List OutPart). length xs) made.outs_are ∙ length-fresh_outs 0 config.outputs opened.sinks k
 
-module _ (config : Config) (start : ℤ) (sources : List Carried) (clocks : List Timed) (sinks : List Carried) (core : CoreState) (ins : List InPart) (outs : List OutPart) (part : JournalPart)
-    (made : IsMadeOf config start sources clocks sinks core ins outs part) (s : length sources ≡ length config.inputs) (c : length clocks ≡ length config.inputs)
-    (last : CoreState) (last_ins : List InPart) (last_outs : List OutPart) (last_part : JournalPart) (timer : ClockRun) (gives : Gives timer.moments 0 timer.before start) where
-  count_is : length ins ≡ length config.inputs
-  count_is = ins_count config start sources clocks sinks core ins outs part made s c
+-- a change by other terms
+change_is : (ins other_ins : List InRun) (outs other_outs : List OutRun) (journal other_journal : Change) (moments other_moments : Option Moments) → ins ≡ other_ins → outs ≡ other_outs → journal ≡ other_journal → moments ≡ other_moments →
+    (let x : RunChange = record { ins = ins; outs = outs; journal = journal; moments = moments } in
+    let y : RunChange = record { ins = other_ins; outs = other_outs; journal = other_journal; moments = other_moments } in x ≡ y)
+change_is ins other_ins outs other_outs journal other_journal moments other_moments a b c d = rw (a, b, c, d) refl
 
-  left_by : (ending : Ending) → AreSameInputs ins last_ins → FinishesSo (work_by config.outputs) config.agent.final_tries ending core last ins last_ins outs last_outs part last_part timer →
-      RanBy config ending (config_ins config config.inputs sources (map in_carried last_ins) clocks) (config_outs config.outputs sinks (map out_carried last_outs)) (change part.held last_part.held part.faults last_part.faults) timer.moments
-  left_by ending same ends =
-      let work = work_by config.outputs in
-      let finished = ends (begun (sizes_of config) start work ins outs part) (around ins outs part) refl refl (λ f. made.set_up.settled) (made.set_up.agrees work) in
-      let all = ran work config.agent.final_tries (length ins) (sizes_of config) start ins outs part.held part.faults ending last last_ins last_outs last_part timer gives same.count finished in
-      let ins_are : in_runs ins last_ins ≡ config_ins config config.inputs sources (map in_carried last_ins) clocks =
-      ap (λ (xs : List InPart). in_runs xs last_ins) made.ins_are ∙ ins_left config 0 config.inputs sources clocks last_ins (subst (λ (xs : List InPart). AreSameInputs xs last_ins) made.ins_are same) in
-      let outs_are : out_runs outs last_outs ≡ config_outs config.outputs sinks (map out_carried last_outs) =
-      ap (λ (xs : List OutPart). out_runs xs last_outs) made.outs_are ∙ outs_left 0 config.outputs sinks last_outs in
-      let noted = change part.held last_part.held part.faults last_part.faults in
-      subst (λ (n : ℕ). Ran work config.agent.final_tries n (sizes_of config) ending (config_ins config config.inputs sources (map in_carried last_ins) clocks) (config_outs config.outputs sinks (map out_carried last_outs)) noted timer.moments) count_is
-      (subst (λ (xs : List OutRun). Ran work config.agent.final_tries (length ins) (sizes_of config) ending (config_ins config config.inputs sources (map in_carried last_ins) clocks) xs noted timer.moments) outs_are
-      (subst (λ (xs : List InRun). Ran work config.agent.final_tries (length ins) (sizes_of config) ending xs (out_runs outs last_outs) noted timer.moments) ins_are all))
+-- what the parts carry at the end
+abbrev pub carried_at : RunState → Carries
+carried_at now = record { sources = map in_carried now.ins; sinks = map out_carried now.outs; journal = record { bytes = now.journal.held; faults = now.journal.faults } }
 
-  pub ran_by : (r : Result Ending OutOfMemory) (news new_sinks : List Carried) → news ≡ map in_carried last_ins → new_sinks ≡ map out_carried last_outs → OnOk r (AreSameInputs ins last_ins) → IfOk r (λ ending. FinishesSo (work_by config.outputs) config.agent.final_tries ending core last ins last_ins outs last_outs part last_part timer) →
-      IfOk r (λ ending. RanBy config ending (config_ins config config.inputs sources news clocks) (config_outs config.outputs sinks new_sinks) (change part.held last_part.held part.faults last_part.faults) timer.moments)
-  ran_by (Err fault) news new_sinks n k same ends = tt
-  ran_by (Ok ending) news new_sinks n k same ends = rw (n, k) (left_by ending same ends)
+left_by : (config : Config) (start : ℤ) (opened : Carries) (times : Times) (now last : RunState) (ending : Ending) → IsMadeOf config start opened times now → length opened.sources ≡ length config.inputs → length times.ins ≡ length config.inputs → now.counted_at ≡ [] → Gives now.timer.moments 0 now.timer.place start →
+    AreSameInputs now.ins last.ins → FinishesSo (job_of config) ending now last → Ran (job_of config) ending (change_by config opened (carried_at last) times)
+left_by config start opened times now last ending made s c none gives same ends =
+    let none_yet : RunState = record now { counted_at = [] } in
+    let agrees = subst (λ (ms : List ℤ). Progress (begun (job_of config) start now) (record now { counted_at = ms })) none made.set_up.agrees in
+    let finished = ends (begun (job_of config) start now) [] refl refl refl (λ f. made.set_up.settled) agrees in
+    let number : length last.ins ≡ length (job_of config).inputs = same.count ∙ ins_count config start opened times now made s c ∙ sym (length-map config.inputs (job_input config)) in
+    let all = ran (job_of config) start ending none_yet last gives refl number finished in
+    subst (Ran (job_of config) ending)
+    (change_is (in_runs now.ins last.ins) (config_ins config config.inputs opened.sources (map in_carried last.ins) times.ins) (out_runs now.outs last.outs) (config_outs config.outputs opened.sinks (map out_carried last.outs))
+    (part_change now.journal last.journal) (change opened.journal.bytes last.journal.held opened.journal.faults last.journal.faults) now.timer.moments times.timer.moments
+    (ap (λ (xs : List InPart). in_runs xs last.ins) made.ins_are ∙ ins_left config 0 config.inputs opened.sources times.ins last.ins (subst (λ (xs : List InPart). AreSameInputs xs last.ins) made.ins_are same))
+    (ap (λ (xs : List OutPart). out_runs xs last.outs) made.outs_are ∙ outs_left 0 config.outputs opened.sinks last.outs)
+    (rw (made.held, made.faults) refl)
+    (ap (λ (t : Timed). t.moments) made.timer))
+    all
 
-  -- the same by other terms
-  pub ran_with : (confs : List OutputConf) (tries : ℕ) → confs ≡ config.outputs → tries ≡ config.agent.final_tries → (r : Result Ending OutOfMemory) (news new_sinks : List Carried) → news ≡ map in_carried last_ins → new_sinks ≡ map out_carried last_outs → OnOk r (AreSameInputs ins last_ins) →
-      IfOk r (λ ending. FinishesSo (work_by confs) tries ending core last ins last_ins outs last_outs part last_part timer) → (noted : Change) (moments : Option Moments) → change part.held last_part.held part.faults last_part.faults ≡ noted → timer.moments ≡ moments →
-      IfOk r (λ ending. RanBy config ending (config_ins config config.inputs sources news clocks) (config_outs config.outputs sinks new_sinks) noted moments)
-  ran_with confs tries o t r news new_sinks n k same ends noted moments w m =
-      subst (λ (x : Option Moments). IfOk r (λ ending. RanBy config ending (config_ins config config.inputs sources news clocks) (config_outs config.outputs sinks new_sinks) noted x)) m
-      (subst (λ (x : Change). IfOk r (λ ending. RanBy config ending (config_ins config config.inputs sources news clocks) (config_outs config.outputs sinks new_sinks) x timer.moments)) w
-      (ran_by r news new_sinks n k same
-      (subst (λ (x : ℕ). IfOk r (λ ending. FinishesSo (work_by config.outputs) x ending core last ins last_ins outs last_outs part last_part timer)) t
-      (subst (λ (xs : List OutputConf). IfOk r (λ ending. FinishesSo (work_by xs) tries ending core last ins last_ins outs last_outs part last_part timer)) o ends))))
+-- the same of a result, and by other terms
+pub ran_by : (config : Config) (start : ℤ) (opened news : Carries) (times : Times) (now last : RunState) (r : Result Ending OutOfMemory) → IsMadeOf config start opened times now → length opened.sources ≡ length config.inputs → length times.ins ≡ length config.inputs → now.counted_at ≡ [] → Gives now.timer.moments 0 now.timer.place start →
+    news ≡ carried_at last → OnOk r (AreSameInputs now.ins last.ins) → IfOk r (λ ending. FinishesSo (job_of config) ending now last) → IfOk r (λ ending. Ran (job_of config) ending (change_by config opened news times))
+ran_by config start opened news times now last (Err fault) made s c none gives n same ends = tt
+ran_by config start opened news times now last (Ok ending) made s c none gives n same ends = subst (λ (x : Carries). Ran (job_of config) ending (change_by config opened x times)) (sym n) (left_by config start opened times now last ending made s c none gives same ends)
+
+-- what opened parts carry, by other terms
+pub carries_is : (sources other_sources sinks other_sinks : List Carried) (journal other : Carried) → sources ≡ other_sources → sinks ≡ other_sinks → journal ≡ other →
+    (let x : Carries = record { sources = sources; sinks = sinks; journal = journal } in
+    let y : Carries = record { sources = other_sources; sinks = other_sinks; journal = other } in x ≡ y)
+carries_is sources other_sources sinks other_sinks journal other a b c = rw (a, b, c) refl
+
+-- and by another clock with the same moments
+pub ran_timed : (config : Config) (opened news : Carries) (times : Times) (timer : Timed) (r : Result Ending OutOfMemory) → times.timer.moments ≡ timer.moments → IfOk r (λ ending. Ran (job_of config) ending (change_by config opened news times)) →
+    IfOk r (λ ending. Ran (job_of config) ending (change_by config opened news (record times { timer = timer })))
+ran_timed config opened news times timer r same h = subst (λ (m : Option Moments). IfOk r (λ ending. Ran (job_of config) ending (record (change_by config opened news times) { moments = m }))) same h
+
+-- a run that ends for each job that is tried so often ends for one
+pub finishes_as : (job : Job) (tries : ℕ) (now last : RunState) (r : Result Ending OutOfMemory) → job.tries ≡ tries → IfOk r (λ ending. (other : Job) → other.tries ≡ tries → FinishesSo other ending now last) → IfOk r (λ ending. FinishesSo job ending now last)
+finishes_as job tries now last (Err fault) same h = tt
+finishes_as job tries now last (Ok ending) same h = h job same

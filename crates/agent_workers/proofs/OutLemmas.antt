@@ -1,5 +1,5 @@
 -- Outputs by their places: one changes, and the others stay.
-use Rattle.std.proofs.Common.{◌≡◌, ◌≢◌, ◌≤◌, ◌<◌, ◌+◌, ℕ, Bool, true, false, List, ◌++◌, length, take, drop, get_or, set, refl, sym, ap, ◌∙◌, subst, inl, inr, arith}
+use Rattle.std.proofs.Common.{◌≡◌, ◌≢◌, ◌≤◌, ◌<◌, ◌+◌, ℕ, Bool, true, false, List, [], ◌++◌, length, take, drop, get_or, set, refl, sym, ap, ◌∙◌, subst, inl, inr, arith}
 use Rattle.std.specs.Prelude.{map, All}
 use Rattle.std.proofs.lemmas.Bool.{cases_eq}
 use Rattle.std.proofs.lemmas.List.{length-map, length-set, get_or-map, get_or-set_same, get_or-set_other, set-set, map-set}
@@ -19,7 +19,11 @@ use Rattle.pipeline_core.specs.Steps.{after_begin, after_done, after_route, lane
 use Rattle.pipeline_core.specs.declared.output.Offer.{Offer}
 use Rattle.pipeline_core.proofs.Offering.{lanes_with-at, length-lanes_with}
 use Rattle.agent_workers.specs.Output.{OutPart, out_of, outs_of, out_at, no_out, anew, AreAnew, AreOutputs}
+use Rattle.agent_workers.specs.Item.{TakesNext, routed_by}
 use Rattle.agent_workers.specs.declared.output.OutJob.{OutJob}
+use Rattle.pipeline_core.specs.Work.{Work}
+use Rattle.pipeline_core.specs.Worked.{views_of}
+use Rattle.pipeline_core.specs.declared.gathering.Item.{Item}
 use Rattle.std.proofs.lemmas.List.Edits.{map_over_more}
 use Rattle.agent_workers.specs.Running.{IsLaneReady, IsReady, IsLaneKept, IsRoutable, IsSentOn, IsSentAt}
 
@@ -139,6 +143,13 @@ routable_more old mid new h k = record {
   lane_count = k.lane_count ∙ h.lane_count;
   each = λ o b. let a = h.each o b in let c = k.each o (omega (arith, b, h.lane_count)) in record { batch = c.batch ∙ a.batch; flight = c.flight ∙ a.flight };
 }
+
+-- an item was taken and routed
+pub item_routed : (core mid next : CoreState) (item : Item) (work : Work) → TakesNext core mid item → next ≡ after_route mid (routed_by work item.number item.metric) → IsRoutable core next
+item_routed core mid next item work takes is =
+    routable_more core mid next
+    (routable_same core mid (ap (λ (s : CoreState). s.setup) takes.after) (ap (λ (s : CoreState). s.ended) takes.after) (ap (λ (s : CoreState). s.gathered) takes.after) (ap (λ (s : CoreState). s.stopped) takes.after) (ap (λ (s : CoreState). s.lanes) takes.after))
+    (routed_kept mid next item.number item.metric [] (views_of work.outs (Some item.metric)) is)
 
 -- items were routed: the core is ready as before
 pub ready_routed : (old new : CoreState) → IsReady old → IsRoutable old new → new.held ≡ None → IsReady new

@@ -3,7 +3,6 @@ use Rattle.std.proofs.Common.{◌≡◌, ◌≢◌, ◌≤◌, ◌<◌, ℕ, ℤ
 use Rattle.std.specs.Prelude.{not, count_by, slice_get, map}
 use Rattle.std.specs.Int.{int_max}
 use Rattle.std.specs.List.{filter}
-use Rattle.std.specs.declared.option.Option.{Option}
 use Rattle.std.specs.declared.option.Option.TheVariants.{Some}
 use Rattle.account.specs.Setup.{Setup}
 use Rattle.account.specs.Numbers.{Numbers, output_numbers}
@@ -14,6 +13,7 @@ use Rattle.account.specs.declared.entry.Entry.TheVariants.{Take, Route, Stop}
 use Rattle.account.specs.declared.entry.Report.{Report}
 use Rattle.account.specs.declared.entry.Verdict.{Verdict}
 use Rattle.metric.specs.declared.metric.Content.{Content}
+use Rattle.agent_base.specs.Carried.{Timed}
 use Rattle.agent_base.specs.Clocked.{last_of}
 use Rattle.agent_base.specs.Counts.{RoseBy}
 use Rattle.pipeline_core.specs.Work.{Work}
@@ -31,16 +31,19 @@ use Rattle.account.specs.Dones.{dones_by, dones}
 use Rattle.pipeline_core.specs.Stopped.{behind_stop}
 use Rattle.agent_workers.specs.Noted.{JournalPart, Notes, NotesOn}
 use Rattle.pipeline_core.specs.Order.{EndsFailed, IsOrderly}
-use Rattle.pipeline_core.specs.Worked.{views_of, last_of as last_metric}
-use Rattle.agent_workers.specs.PipeSetup.{journal_setup_of}
+use Rattle.pipeline_core.specs.Worked.{views_of, Worked}
+use Rattle.pipeline_core.specs.declared.gathering.Item.{Item}
+use Rattle.agent_workers.specs.Job.{journal_setup_of, work_of}
 use Rattle.account.specs.Routes.{RouteOnInOrder}
 use Rattle.agent_workers.specs.Inputs.{InPart, in_at, no_in}
-use Rattle.agent_workers.specs.Progress.{Beginning, Surroundings, HasText, Heard, AllHeard, Said, AllSaid, HasOrder, Progress}
+use Rattle.agent_workers.specs.RunState.{RunState, Beginning, setup_at}
+use Rattle.agent_workers.specs.Progress.{HasText, Heard, AllHeard, Said, AllSaid, HasOrder, Progress}
 use Rattle.formats.specs.Batches.{batch_text}
 use Rattle.agent_workers.specs.Output.{OutPart, out_at, anew, AreAnew}
 use Rattle.pipeline_core.specs.Totals.{totals}
 use Rattle.agent_workers.specs.Run.{buffered_at_end}
-use Rattle.agent_workers.specs.Running.{routed_by, buffered_at}
+use Rattle.agent_workers.specs.Item.{ProcPart, TakesNext, routed_by}
+use Rattle.agent_workers.specs.Running.{buffered_at}
 use Rattle.agent_workers.proofs.OutLemmas.{each_set, at_anew}
 use Rattle.agent_workers.proofs.FailedLemmas.{failed_same}
 use Rattle.agent_workers.proofs.HeardLemmas.{IsNotOf, heard_push}
@@ -82,12 +85,12 @@ text-cut start core next part more journal h stands none same notes = record {
   goes_on = h.goes_on;
   written = journal;
   split = sym (append-nil journal) ∙ ap (λ (es : List Entry). journal ++ es) (sym none);
-  notes = subst (λ (es : List Entry). Notes (journal_setup_of start.setup) start.noted start.note_faults es more) (sym h.split)
-      (notes (journal_setup_of start.setup) start.noted start.note_faults h.written h.notes (stored_in_order start core part journal h));
+  notes = subst (λ (es : List Entry). Notes (journal_setup_of (setup_at start)) start.noted start.note_faults es more) (sym h.split)
+      (notes (journal_setup_of (setup_at start)) start.noted start.note_faults h.written h.notes (stored_in_order start core part journal h));
 }
 
 -- what is buffered at an output is what the journal says
-pub buffered_is : (start : Beginning) (core : CoreState) (part : JournalPart) (journal : List Entry) → HasText start core part journal → (o : ℕ) → buffered_at core o ≡ buffered_at_end start.setup journal o
+pub buffered_is : (start : Beginning) (core : CoreState) (part : JournalPart) (journal : List Entry) → HasText start core part journal → (o : ℕ) → buffered_at core o ≡ buffered_at_end (setup_at start) journal o
 buffered_is start core part journal h o = ap (λ (n : Numbers). (output_numbers n o).buffered) h.stands.numbers ∙ ap (λ (s : Setup). (output_numbers (totals s journal) o).buffered) h.setup_is
 
 -- ---- what the journal says of the inputs
@@ -103,15 +106,15 @@ all_heard_set starts ins old new i part b here others h = each_set (λ (k : ℕ)
 
 -- ---- the order
 
-pub order-push : (start : Beginning) (core : CoreState) (next last : ℕ) (journal : List Entry) (e : Entry) → Stands core journal → next ≤ last → (start.front ≡ [] → IsOrderly start.setup journal e) → ((input : ℕ) → last ≤ input → filter (is_of_input input) (origins_by e) ≡ []) → HasOrder start next journal
+pub order-push : (start : Beginning) (core : CoreState) (next last : ℕ) (journal : List Entry) (e : Entry) → Stands core journal → next ≤ last → (start.front ≡ [] → IsOrderly (setup_at start) journal e) → ((input : ℕ) → last ≤ input → filter (is_of_input input) (origins_by e) ≡ []) → HasOrder start next journal
     → HasOrder start last (journal ++ e ∷ [])
 order-push start core next last journal e stands l orderly none h = record {
-  in_order = λ f. in_order-push start.setup journal e (h.in_order f) (orderly f);
+  in_order = λ f. in_order-push (setup_at start) journal e (h.in_order f) (orderly f);
   none_raw = λ f input b. raw_of-push core.setup input journal e stands.legal (h.none_raw f input (omega (arith, l, b))) (none input b);
 }
 
 -- where no item is raw none is of an input
-pub went_next : (start : Beginning) (core : CoreState) (now : Surroundings) (next : ℕ) → core.raw ≡ [] → Progress start core now → Progress start core (record now { next = next })
+pub went_next : (start : Beginning) (core : CoreState) (now : RunState) (next : ℕ) → core.raw ≡ [] → Progress start (record now { core = core }) → Progress start (record now { core = core; next = next })
 went_next start core now next none w = record {
   journal = w.journal;
   text = w.text;
@@ -119,13 +122,29 @@ went_next start core now next none w = record {
   heard = w.heard;
   out_count = w.out_count;
   said = w.said;
+  work_is = w.work_is;
   worked = w.worked;
   order = record { in_order = w.order.in_order; none_raw = λ f input b. raw_of-none input w.journal (sym w.text.stands.raw ∙ none) };
   counted_at = w.counted_at;
 }
 
+-- the timer says nothing of how far a run has come
+pub went_timed : (start : Beginning) (now : RunState) (timer : Timed) → Progress start now → Progress start (record now { timer = timer })
+went_timed start now timer w = record {
+  journal = w.journal;
+  text = w.text;
+  in_count = w.in_count;
+  heard = w.heard;
+  out_count = w.out_count;
+  said = w.said;
+  work_is = w.work_is;
+  worked = w.worked;
+  order = w.order;
+  counted_at = w.counted_at;
+}
+
 -- and none is of an input behind those of which none is
-pub went_behind : (start : Beginning) (core : CoreState) (now : Surroundings) (next last : ℕ) → next ≤ last → Progress start core (record now { next = next }) → Progress start core (record now { next = last })
+pub went_behind : (start : Beginning) (core : CoreState) (now : RunState) (next last : ℕ) → next ≤ last → Progress start (record now { core = core; next = next }) → Progress start (record now { core = core; next = last })
 went_behind start core now next last l w = record {
   journal = w.journal;
   text = w.text;
@@ -133,6 +152,7 @@ went_behind start core now next last l w = record {
   heard = w.heard;
   out_count = w.out_count;
   said = w.said;
+  work_is = w.work_is;
   worked = w.worked;
   order = record { in_order = w.order.in_order; none_raw = λ f input b. w.order.none_raw f input (omega (arith, l, b)) };
   counted_at = w.counted_at;
@@ -185,7 +205,7 @@ pub all_said_anew : (starts outs : List OutPart) (journal : List Entry) (e : Ent
 all_said_anew starts outs journal e fresh ends none h = λ o l. said_anew (out_at starts o) (out_at outs o) o journal e (fresh o l) (ends o) (none o) (h o l)
 
 -- the counts of failed batches of all outputs begin anew
-pub went_anew : (start : Beginning) (core : CoreState) (now : Surroundings) (outs new_outs : List OutPart) → new_outs ≡ map anew outs → Progress start core (record now { outs = outs }) → Progress start core (record now { outs = new_outs })
+pub went_anew : (start : Beginning) (core : CoreState) (now : RunState) (outs new_outs : List OutPart) → new_outs ≡ map anew outs → Progress start (record now { core = core; outs = outs }) → Progress start (record now { core = core; outs = new_outs })
 went_anew start core now outs new_outs are w = record {
   journal = w.journal;
   text = w.text;
@@ -195,13 +215,14 @@ went_anew start core now outs new_outs are w = record {
   said = subst (λ (all : List OutPart). AllSaid start.outs all w.journal) (sym are)
       (λ o l. let b : o < length outs = omega (arith, l, length-map outs anew) in
       subst (λ (out : OutPart). Said (out_at start.outs o) out o w.journal) (sym (at_anew outs o b)) (said_fresh (out_at start.outs o) (out_at outs o) o w.journal (w.said o b)));
+  work_is = w.work_is;
   worked = w.worked;
   order = w.order;
   counted_at = w.counted_at;
 }
 
 -- an item was taken
-pub went_take : (start : Beginning) (core next : CoreState) (now : Surroundings) → next ≡ after_take core → Continues core next (Take core.taken) → Progress start core now → Progress start next now
+pub went_take : (start : Beginning) (core next : CoreState) (now : RunState) → next ≡ after_take core → Continues core next (Take core.taken) → Progress start (record now { core = core }) → Progress start (record now { core = next })
 went_take start core next now is more w =
     let e : Entry = Take core.taken in
     record {
@@ -211,22 +232,17 @@ went_take start core next now is more w =
       heard = all_heard_push start.ins now.ins w.journal e (λ k. record { none = refl; other = refl }) w.heard;
       out_count = w.out_count;
       said = all_said_push start.outs now.outs w.journal e (λ o. record { ends = tt; none = refl; quiet = refl }) refl w.said;
-      worked = worked-push start.work w.journal e tt w.worked;
+      work_is = w.work_is;
+      worked = worked-push start.job.work w.journal e tt w.worked;
       order = order-push start core now.next now.next w.journal e w.text.stands (omega arith) (λ f. tt) (λ k b. refl) w.order;
       counted_at = counted_moments-same w.journal e refl ∙ w.counted_at;
     }
 
--- what a run makes of its items without processors and aggregators
-pub record IsPlain (work : Work) : Type 0 where
-  pub skip : work.skip ≡ false
-  pub whole : work.whole ≡ last_metric
-  pub aggs : work.aggs ≡ []
-
 -- the first raw item was taken and routed
-pub went_route : (start : Beginning) (core mid next : CoreState) (now : Surroundings) (work : Work) (metric : Content) → IsPlain work → AreAnew now.outs → slice_get core.raw 0 ≡ Some metric → mid ≡ after_take core → Continues core mid (Take core.taken) → next ≡ after_route mid (routed_by work core.taken metric) →
-    Continues mid next (route_entry mid (routed_by work core.taken metric)) → Progress (record start { work = work }) core now → Progress (record start { work = work }) next now
-went_route start core mid next now work metric plain fresh first taken takes routed routes w =
-    let s : Beginning = record start { work = work } in
+pub went_route : (start : Beginning) (core mid next : CoreState) (now : RunState) (proc : ProcPart) (metric : Content) → AreAnew now.outs → slice_get core.raw 0 ≡ Some metric → mid ≡ after_take core → Continues core mid (Take core.taken) → next ≡ after_route mid (routed_by (work_of proc.outs) core.taken metric) →
+    Continues mid next (route_entry mid (routed_by (work_of proc.outs) core.taken metric)) → Progress start (record now { core = core; proc = proc }) → Progress start (record now { core = next; proc = proc })
+went_route start core mid next now proc metric fresh first taken takes routed routes w =
+    let work : Work = work_of proc.outs in
     let shape : IsRouteEntry (routed_by work core.taken metric) (route_entry mid (routed_by work core.taken metric)) = entries-have-shape.routes mid (routed_by work core.taken metric) in
     let verdict : Verdict = shape.0 in
     let reports : List Report = shape.1 in
@@ -234,22 +250,24 @@ went_route start core mid next now work metric plain fresh first taken takes rou
     let e : Entry = Route core.taken (Some metric) verdict [] (views_of work.outs (Some metric)) reports in
     let at : slice_get (items w.journal) core.taken ≡ Some metric = first_raw core w.journal metric w.text.stands first in
     let there : slice_get (items (w.journal ++ t ∷ [])) core.taken ≡ Some metric = item_stays w.journal t core.taken metric at in
+    let before : Worked work w.journal = subst (λ (x : Work). Worked x w.journal) w.work_is w.worked in
     record {
       journal = (w.journal ++ t ∷ []) ++ e ∷ [];
-      text = text-push s mid next now.journal (w.journal ++ t ∷ []) e (text-push s core mid now.journal w.journal t w.text takes (ap (λ (x : CoreState). x.stored) taken) (ap (λ (x : CoreState). x.setup) taken)) (subst (Continues mid next) shape.2 routes)
+      text = text-push start mid next now.journal (w.journal ++ t ∷ []) e (text-push start core mid now.journal w.journal t w.text takes (ap (λ (x : CoreState). x.stored) taken) (ap (λ (x : CoreState). x.setup) taken)) (subst (Continues mid next) shape.2 routes)
           (ap (λ (x : CoreState). x.stored) routed ∙ ap (λ (x : Entry). mid.stored ++ x ∷ []) shape.2) (ap (λ (x : CoreState). x.setup) routed);
       in_count = w.in_count;
       heard = all_heard_push start.ins now.ins (w.journal ++ t ∷ []) e (λ k. record { none = refl; other = refl }) (all_heard_push start.ins now.ins w.journal t (λ k. record { none = refl; other = refl }) w.heard);
       out_count = w.out_count;
       said = all_said_anew start.outs now.outs (w.journal ++ t ∷ []) e fresh (λ o. tt) (λ o. refl) (all_said_push start.outs now.outs w.journal t (λ o. record { ends = tt; none = refl; quiet = refl }) refl w.said);
-      worked = worked_plain work (w.journal ++ t ∷ []) core.taken metric verdict reports plain.skip plain.whole plain.aggs there (worked-push work w.journal t tt w.worked);
-      order = order-push s mid now.next now.next (w.journal ++ t ∷ []) e (takes w.journal w.text.stands) (omega arith) (λ f. tt) (λ k b. refl) (order-push s core now.next now.next w.journal t w.text.stands (omega arith) (λ f. tt) (λ k b. refl) w.order);
+      work_is = w.work_is;
+      worked = subst (λ (x : Work). Worked x ((w.journal ++ t ∷ []) ++ e ∷ [])) (sym w.work_is) (worked_plain work (w.journal ++ t ∷ []) core.taken metric verdict reports refl refl refl there (worked-push work w.journal t tt before));
+      order = order-push start mid now.next now.next (w.journal ++ t ∷ []) e (takes w.journal w.text.stands) (omega arith) (λ f. tt) (λ k b. refl) (order-push start core now.next now.next w.journal t w.text.stands (omega arith) (λ f. tt) (λ k b. refl) w.order);
       counted_at = counted_moments-same (w.journal ++ t ∷ []) e refl ∙ counted_moments-same w.journal t refl ∙ w.counted_at;
     }
 
 -- the stored entries were noted
-pub went_cut : (start : Beginning) (core next : CoreState) (part more : JournalPart) (now : Surroundings) → ((es : List Entry) → Stands core es → Stands next es) → next ≡ after_cut core → NotesOn core.stored part more
-    → Progress start core (record now { journal = part }) → Progress start next (record now { journal = more })
+pub went_cut : (start : Beginning) (core next : CoreState) (part more : JournalPart) (now : RunState) → ((es : List Entry) → Stands core es → Stands next es) → next ≡ after_cut core → NotesOn core.stored part more
+    → Progress start (record now { core = core; journal = part }) → Progress start (record now { core = next; journal = more })
 went_cut start core next part more now stands is notes w = record {
   journal = w.journal;
   text = text-cut start core next part more w.journal w.text stands (ap (λ (s : CoreState). s.stored) is) (ap (λ (s : CoreState). s.setup) is) notes;
@@ -257,26 +275,27 @@ went_cut start core next part more now stands is notes w = record {
   heard = w.heard;
   out_count = w.out_count;
   said = w.said;
+  work_is = w.work_is;
   worked = w.worked;
   order = w.order;
   counted_at = w.counted_at;
 }
 
 -- no entry was stored
-pub went_uncut : (start : Beginning) (core next : CoreState) (now : Surroundings) → next ≡ core → Progress start core now → Progress start next now
-went_uncut start core next now is w = subst (λ (s : CoreState). Progress start s now) (sym is) w
+pub went_uncut : (start : Beginning) (core next : CoreState) (now : RunState) → next ≡ core → Progress start (record now { core = core }) → Progress start (record now { core = next })
+went_uncut start core next now is w = subst (λ (s : CoreState). Progress start (record now { core = s })) (sym is) w
 
 -- a run whose core has no aggregators began without them
-pub aggs_start : (start : Beginning) (core : CoreState) (now : Surroundings) → Progress start core now → core.setup.aggs ≡ [] → start.setup.aggs ≡ []
+pub aggs_start : (start : Beginning) (core : CoreState) (now : RunState) → Progress start (record now { core = core }) → core.setup.aggs ≡ [] → (setup_at start).aggs ≡ []
 aggs_start start core now w none = sym (ap (λ (s : Setup). s.aggs) w.text.setup_is) ∙ none
 
 -- the run was stopped at a moment
-pub went_stop : (start : Beginning) (core next : CoreState) (now : Surroundings) (moment : ℤ) → core.setup.aggs ≡ [] → AreAnew now.outs → next ≡ after_stop core moment → Continues core next (stop_entry core moment)
-    → Progress start core now → Progress start next (record now { counted_at = now.counted_at ++ int_max moment (last_of start.setup.start now.counted_at) ∷ [] })
+pub went_stop : (start : Beginning) (core next : CoreState) (now : RunState) (moment : ℤ) → core.setup.aggs ≡ [] → AreAnew now.outs → next ≡ after_stop core moment → Continues core next (stop_entry core moment)
+    → Progress start (record now { core = core }) → Progress start (record now { core = next; counted_at = now.counted_at ++ int_max moment (last_of start.start now.counted_at) ∷ [] })
 went_stop start core next now moment no_aggs fresh is more w =
     let shape : IsStopEntry (moment_at core moment) (stop_entry core moment) = entries-have-shape.stops core moment in
     let e : Entry = Stop (int_max moment core.counted) shape.0 in
-    let counted : core.counted ≡ last_of start.setup.start now.counted_at =
+    let counted : core.counted ≡ last_of start.start now.counted_at =
     w.text.stands.counted ∙ counted_from-last core.setup.start w.journal ∙ ap (λ (ms : List ℤ). last_of core.setup.start ms) w.counted_at ∙ ap (λ (s : Setup). last_of s.start now.counted_at) w.text.setup_is in
     record {
       journal = w.journal ++ e ∷ [];
@@ -285,14 +304,16 @@ went_stop start core next now moment no_aggs fresh is more w =
       heard = all_heard_push start.ins now.ins w.journal e (λ k. record { none = refl; other = refl }) w.heard;
       out_count = w.out_count;
       said = all_said_anew start.outs now.outs w.journal e fresh (λ o. tt) (λ o. refl) w.said;
-      worked = worked-push start.work w.journal e tt w.worked;
-      order = order-push start core now.next now.next w.journal e w.text.stands (omega arith) (λ f. ticked_plain start.setup w.journal (aggs_start start core now w no_aggs)) (λ k b. none_of_made k (length shape.0)) w.order;
+      work_is = w.work_is;
+      worked = worked-push start.job.work w.journal e tt w.worked;
+      order = order-push start core now.next now.next w.journal e w.text.stands (omega arith) (λ f. ticked_plain (setup_at start) w.journal (aggs_start start core now w no_aggs)) (λ k b. none_of_made k (length shape.0)) w.order;
       counted_at = counted_moments-push w.journal e ∙ ap (λ (ms : List ℤ). ms ++ int_max moment core.counted ∷ []) w.counted_at ∙ ap (λ (m : ℤ). now.counted_at ++ int_max moment m ∷ []) counted;
     }
 
 -- the same of an item with the number of the first raw one
-pub went_item : (start : Beginning) (core mid next : CoreState) (now : Surroundings) (work : Work) (number : ℕ) (metric : Content) → IsPlain work → AreAnew now.outs → number ≡ core.taken → slice_get core.raw 0 ≡ Some metric → mid ≡ after_take core → Continues core mid (Take core.taken) →
-    next ≡ after_route mid (routed_by work number metric) → Continues mid next (route_entry mid (routed_by work number metric)) → Progress (record start { work = work }) core now → Progress (record start { work = work }) next now
-went_item start core mid next now work number metric plain fresh is first taken takes routed routes w =
-    went_route start core mid next now work metric plain fresh first taken takes
-    (subst (λ (n : ℕ). next ≡ after_route mid (routed_by work n metric)) is routed) (subst (λ (n : ℕ). Continues mid next (route_entry mid (routed_by work n metric))) is routes) w
+pub went_item : (start : Beginning) (core mid next : CoreState) (now : RunState) (proc : ProcPart) (item : Item) → AreAnew now.outs → TakesNext core mid item →
+    next ≡ after_route mid (routed_by (work_of proc.outs) item.number item.metric) → Continues mid next (route_entry mid (routed_by (work_of proc.outs) item.number item.metric)) → Progress start (record now { core = core; proc = proc }) → Progress start (record now { core = next; proc = proc })
+went_item start core mid next now proc item fresh takes routed routes w =
+    let work : Work = work_of proc.outs in
+    went_route start core mid next now proc item.metric fresh takes.metric takes.after takes.continues
+    (subst (λ (n : ℕ). next ≡ after_route mid (routed_by work n item.metric)) takes.number routed) (subst (λ (n : ℕ). Continues mid next (route_entry mid (routed_by work n item.metric))) takes.number routes) w

@@ -2,6 +2,7 @@
 use Rattle.std.proofs.Common.{◌≢◌, ◌==◌, set, if◌then◌else◌, ◌≡◌, ◌≤◌, ◌<◌, ℕ, ◌+◌, ◌-◌, ◌^◌, min, Bool, true, false, List, [], ◌∷◌, ◌++◌, length, refl, sym, ap, ◌∙◌, subst, arith, Err}
 use Rattle.std.specs.Prelude.{not, count_by}
 use Rattle.std.specs.Io.KnownBytes.{Appends}
+use Rattle.std.specs.declared.option.Option.{Option}
 use Rattle.account.specs.declared.entry.Entry.{Entry}
 use Rattle.account.specs.declared.entry.Entry.TheVariants.{Begin, Done}
 use Rattle.agent_base.specs.Counts.{Rose, RoseBy}
@@ -20,10 +21,14 @@ use Rattle.account.specs.declared.entry.Report.{Report}
 use Rattle.pipeline_core.specs.declared.batches.Batch.{Batch}
 use Rattle.account.specs.Dones.{dones}
 use Rattle.pipeline_core.specs.Stopped.{behind_stop}
-use Rattle.agent_workers.specs.Progress.{Beginning, Surroundings, Said, AllSaid, SendsOn, SendsAt, Progress}
+use Rattle.agent_workers.specs.RunState.{RunState, Beginning}
+use Rattle.agent_workers.specs.Progress.{Said, AllSaid, SendsOn, SendsAt, Progress}
 use Rattle.format_words.specs.declared.format.OutFormat.{OutFormat}
 use Rattle.formats.specs.Batches.{batch_text}
-use Rattle.agent_workers.specs.Output.{OutPart, out_at, no_out}
+use Rattle.agent_base.specs.Carried.{Carried}
+use Rattle.agent_workers.specs.Output.{OutPart, out_at, after_put, no_out}
+use Rattle.agent_workers.specs.Run.{change, IsPut}
+use Rattle.agent_workers.specs.Running.{BeginsNext}
 use Rattle.agent_workers.proofs.FailedLemmas.{failed_accepted, failed_once}
 use Rattle.agent_workers.proofs.OutLemmas.{each_set}
 use Rattle.agent_workers.proofs.ProgressLemmas.{IsQuietAt, said_push}
@@ -51,7 +56,7 @@ done_quiet reports output other ok ne =
     let apart : (output == other) ≡ false = differs output other (λ e. ne (sym e)) in
     record { ends = apart; none = ap (λ (here : Bool). if here then ok ∷ [] else []) apart; quiet = ap (λ (here : Bool). if here then events.Done ok ∷ [] else []) apart }
 
-module _ (start : Beginning) (core mid next : CoreState) (now : Surroundings) (old new : OutPart) (batch : Batch) (text : List ℕ)
+module _ (start : Beginning) (core mid next : CoreState) (now : RunState) (old new : OutPart) (batch : Batch) (text : List ℕ)
     (within : old.output < length core.setup.outputs) (routed : core.raw ≡ []) (is : IsBatchOf (lane_at core.lanes old.output) batch) (spelled : text ≡ batch_text old.format batch.metrics) (kept_format : new.format ≡ old.format) (later : old.put_faults ≤ new.put_faults)
     (began : mid ≡ after_begin core old.output batch.from batch.to) (begins : Continues core mid (Begin old.output batch.from batch.to))
     (b : old.output < length now.outs) (at : out_at now.outs old.output ≡ old) where
@@ -65,8 +70,8 @@ module _ (start : Beginning) (core mid next : CoreState) (now : Surroundings) (o
       (λ k l ne. said_push (out_at start.outs k) (out_at now.outs k) k (journal ++ begin ∷ []) end (done_quiet reports old.output k ok ne) refl
       (said_push (out_at start.outs k) (out_at now.outs k) k journal begin (begin_quiet old.output k batch.from batch.to ne) refl (h k l)))
 
-  went_done : (reports : List Report) (ok : Bool) (w : Progress start core now) → next.stored ≡ mid.stored ++ Done old.output ok reports ∷ [] → next.setup ≡ mid.setup → Continues mid next (Done old.output ok reports) →
-      Said (out_at start.outs old.output) new old.output ((w.journal ++ Begin old.output batch.from batch.to ∷ []) ++ Done old.output ok reports ∷ []) → Progress start next (record now { outs = set now.outs old.output new })
+  went_done : (reports : List Report) (ok : Bool) (w : Progress start (record now { core = core })) → next.stored ≡ mid.stored ++ Done old.output ok reports ∷ [] → next.setup ≡ mid.setup → Continues mid next (Done old.output ok reports) →
+      Said (out_at start.outs old.output) new old.output ((w.journal ++ Begin old.output batch.from batch.to ∷ []) ++ Done old.output ok reports ∷ []) → Progress start (record now { core = next; outs = set now.outs old.output new })
   went_done reports ok w stored same ends said =
       let begin : Entry = Begin old.output batch.from batch.to in
       let end : Entry = Done old.output ok reports in
@@ -80,18 +85,19 @@ module _ (start : Beginning) (core mid next : CoreState) (now : Surroundings) (o
         heard = all_heard_push start.ins now.ins between end (λ k. record { none = refl; other = refl }) (all_heard_push start.ins now.ins w.journal begin (λ k. record { none = refl; other = refl }) w.heard);
         out_count = length-set now.outs old.output new ∙ w.out_count;
         said = said_done reports ok w.journal w.said said;
-        worked = worked-push start.work between end tt (worked-push start.work w.journal begin tt w.worked);
+        work_is = w.work_is;
+        worked = worked-push start.job.work between end tt (worked-push start.job.work w.journal begin tt w.worked);
         order = order-push start mid now.next now.next between end (begins w.journal w.text.stands) (omega arith) (λ f. tt) (λ k b. refl)
             (order-push start core now.next now.next w.journal begin w.text.stands (omega arith) (λ f. sym w.text.stands.raw ∙ routed) (λ k b. refl) w.order);
         counted_at = counted_moments-same between end refl ∙ counted_moments-same w.journal begin refl ∙ w.counted_at;
       }
 
   -- what was said of the output
-  said_before : (w : Progress start core now) → Said (out_at start.outs old.output) old old.output w.journal
+  said_before : (w : Progress start (record now { core = core })) → Said (out_at start.outs old.output) old old.output w.journal
   said_before w = subst (λ (out : OutPart). Said (out_at start.outs old.output) out old.output w.journal) at (w.said old.output b)
 
   -- the batch was accepted
-  pub went_accepted : new.failed ≡ 0 → new.failed_since ≡ 0 → next ≡ after_done mid old.output true → Continues mid next (done_entry mid old.output true) → Appends old.held new.held text → Progress start core now → Progress start next (record now { outs = set now.outs old.output new })
+  pub went_accepted : new.failed ≡ 0 → new.failed_since ≡ 0 → next ≡ after_done mid old.output true → Continues mid next (done_entry mid old.output true) → Appends old.held new.held text → Progress start (record now { core = core }) → Progress start (record now { core = next; outs = set now.outs old.output new })
   went_accepted none nil done ends put w =
       let o : ℕ = old.output in
       let shape : IsDoneEntry o true (done_entry mid o true) = entries-have-shape.dones mid o true in
@@ -113,7 +119,7 @@ module _ (start : Beginning) (core mid next : CoreState) (now : Surroundings) (o
 
   -- its put failed
   pub went_failed : (fault : PutFault) → fault ≡ Failed → new.failed ≡ min (old.failed + 1) (2 ^ 32 - 1) → new.failed_since ≤ old.failed_since + 1 → next ≡ after_done mid old.output false → Continues mid next (done_entry mid old.output false) → PutAppends old.held new.held text (Err fault) → Rose old.put_faults new.put_faults
-      → Progress start core now → Progress start next (record now { outs = set now.outs old.output new })
+      → Progress start (record now { core = core }) → Progress start (record now { core = next; outs = set now.outs old.output new })
   went_failed fault f one few done ends put rose w =
       let o : ℕ = old.output in
       let shape : IsDoneEntry o false (done_entry mid o false) = entries-have-shape.dones mid o false in
@@ -145,12 +151,26 @@ module _ (start : Beginning) (core mid next : CoreState) (now : Surroundings) (o
             (ap (dones o) behind ∙ dones_of reports o (behind_stop w.journal) batch.from batch.to false) (last_more old.failed_since (dones o (behind_stop w.journal)) (said.last before)));
       })
 
+-- what a sink carries counts once
+pub put_again : (failed : Bool) (sink : Carried) (out : OutPart) (held : Option (List ℕ)) (faults : ℕ) → after_put failed sink (record out { held = held; put_faults = faults }) ≡ after_put failed sink out
+put_again false sink out held faults = refl
+put_again true sink out held faults = refl
+
+-- its batch was put, or the put failed
+pub went_put : (start : Beginning) (core mid next : CoreState) (now : RunState) (old : OutPart) (batch : Batch) (text : List ℕ) (failed : Bool) (sink : Carried) → old.output < length core.setup.outputs → core.raw ≡ [] → BeginsNext old.output core mid batch → text ≡ batch_text old.format batch.metrics →
+    old.output < length now.outs → out_at now.outs old.output ≡ old → IsPut failed (change old.held sink.bytes old.put_faults sink.faults) text → next ≡ after_done mid old.output (not failed) → Continues mid next (done_entry mid old.output (not failed)) →
+    Progress start (record now { core = core }) → Progress start (record now { core = next; outs = set now.outs old.output (after_put failed sink old) })
+went_put start core mid next now old batch text false sink within routed begins spelled b at put done ends w =
+    went_accepted start core mid next now old (after_put false sink old) batch text within routed begins.batch_is spelled refl put.1 begins.after begins.continues b at refl refl done ends put.0 w
+went_put start core mid next now old batch text true sink within routed begins spelled b at put done ends w =
+    went_failed start core mid next now old (after_put true sink old) batch text within routed begins.batch_is spelled refl put.1 begins.after begins.continues b at Failed refl refl (omega arith) done ends put.0.1 put.0.0 w
+
 -- nothing was put
 pub sends_none : (old new : CoreState) (out : OutPart) → new ≡ old → SendsAt old new out out
 sends_none old new out core = λ outs b at start now w.
     let same : set outs out.output out ≡ outs = subst (λ (x : OutPart). set outs out.output x ≡ outs) at (set-get_or outs out.output no_out) in
-    subst (λ (all : List OutPart). Progress start new (record now { outs = all })) (sym same)
-    (subst (λ (s : CoreState). Progress start s (record now { outs = outs })) (sym core) w)
+    subst (λ (all : List OutPart). Progress start (record now { core = new; outs = all })) (sym same)
+    (subst (λ (s : CoreState). Progress start (record now { core = s; outs = outs })) (sym core) w)
 
 -- one batch after another
 pub sends_more : (old mid new : CoreState) (out mid_out new_out : OutPart) → mid_out.output ≡ out.output → SendsAt old mid out mid_out → SendsAt mid new mid_out new_out → SendsAt old new out new_out
@@ -159,7 +179,7 @@ sends_more old mid new out mid_out new_out number first second = λ outs b at st
     let l : mid_out.output < length (set outs i mid_out) = omega (arith, b, number, length-set outs i mid_out) in
     let here : out_at (set outs i mid_out) mid_out.output ≡ mid_out = ap (out_at (set outs i mid_out)) number ∙ get_or-set_same outs i mid_out no_out b in
     let twice : set (set outs i mid_out) mid_out.output new_out ≡ set outs i new_out = ap (λ (k : ℕ). set (set outs i mid_out) k new_out) number ∙ set-set outs i mid_out new_out in
-    subst (λ (all : List OutPart). Progress start new (record now { outs = all })) twice (second (set outs i mid_out) l here start now (first outs b at start now w))
+    subst (λ (all : List OutPart). Progress start (record now { core = new; outs = all })) twice (second (set outs i mid_out) l here start now (first outs b at start now w))
 
 -- a put to one of the outputs is one to the outputs
 pub sends_at : (old new : CoreState) (i : ℕ) (out new_out : OutPart) (outs : List OutPart) → out.output ≡ i → i < length outs → out_at outs i ≡ out → SendsAt old new out new_out → SendsOn old new outs (set outs i new_out)

@@ -1,54 +1,87 @@
--- What a run of untracked inputs is about.
-use Rattle.std.proofs.Common.{◌≡◌, ◌≤◌, ◌<◌, ℕ, ℤ, zero, suc, false, List, [], ◌∷◌, replicate, length, get_or, refl, sym, ap, ◌∙◌, subst, arith}
+-- What a run of a configuration is about.
+use Rattle.std.proofs.Common.{◌≡◌, ◌≤◌, ◌<◌, ℕ, zero, suc, ℤ, false, List, [], ◌∷◌, replicate, length, get_or, refl, sym, ap, ◌∙◌, subst, arith}
 use Rattle.std.specs.Prelude.{map, All}
 use Rattle.std.specs.declared.option.Option.{Option}
-use Rattle.std.specs.declared.option.Option.TheVariants.{None}
-use Rattle.std.proofs.lemmas.List.Elements.{All-replicate}
-use Rattle.std.proofs.lemmas.List.{length-map, length-replicate, get_or-map}
+use Rattle.std.proofs.lemmas.List.{length-map, get_or-map}
+use Rattle.account.specs.Numbers.{unreached_output}
+use Rattle.account.specs.declared.numbers.OutputNumbers.{OutputNumbers}
+use Rattle.account.specs.declared.setup.AggLine.{AggLine}
 use Rattle.agent_config.specs.Sound.{HasSizes}
-use Rattle.format_words.specs.declared.format.OutFormat.TheVariants.{Influx}
+use Rattle.agent_config.specs.declared.config.Config.{Config}
+use Rattle.agent_config.specs.declared.config.InputConf.{InputConf}
 use Rattle.agent_config.specs.declared.config.OutputConf.{OutputConf}
+use Rattle.format_words.specs.declared.format.InFormat.TheVariants as read
+use Rattle.format_words.specs.declared.format.OutFormat.TheVariants as written
 use Rattle.metric_filter.specs.Filter.{no_rules}
-use Rattle.pipeline_core.specs.CoreState.{CoreState, first_state, most_undelivered, setup_of, sizes}
+use Rattle.pipeline_core.specs.CoreState.{CoreState, first_state, most_undelivered, setup_of as core_setup_of, sizes}
 use Rattle.pipeline_core.specs.declared.setup.CoreSetup.{CoreSetup}
 use Rattle.pipeline_core.specs.declared.setup.InSetup.{InSetup}
 use Rattle.pipeline_core.specs.declared.setup.OutSetup.{OutSetup}
-use Rattle.account.specs.Setup.{Setup}
-use Rattle.agent_workers.specs.Opened.{conf_setup, conf_sizes}
-use Rattle.agent_workers.specs.PipeSetup.{run_setup}
+use Rattle.agent_workers.specs.Job.{job_of, job_input, job_output, journal_setup_of, limit_by, limit_of, setup_of, sizes_by, sizes_of}
+use Rattle.agent_workers.specs.Opened.{in_setup, out_setup}
+use Rattle.agent_workers.specs.Running.{buffered_at}
 
--- an input that isn't tracked
-abbrev pub plain : InSetup
-plain = record { tracked = false; max_undelivered = 0 }
+-- the limits of inputs and the sizes of outputs, as a job and as a core have them
+limits_are : (config : Config) (confs : List InputConf) → map limit_of (map (job_input config) confs) ≡ map limit_by confs
+limits_are config [] = refl
+limits_are config (conf ∷ confs) = ap (λ (xs : List (Option ℕ)). limit_by conf ∷ xs) (limits_are config confs)
 
-pub map_plain : (n : ℕ) → map most_undelivered (replicate n plain) ≡ replicate n None
-map_plain zero = refl
-map_plain (suc n) = ap (λ (xs : List (Option ℕ)). None ∷ xs) (map_plain n)
+sizes_are : (confs : List OutputConf) → map sizes_of (map job_output confs) ≡ map sizes_by confs
+sizes_are [] = refl
+sizes_are (conf ∷ confs) = ap (λ (xs : List (ℕ × ℕ)). sizes_by conf ∷ xs) (sizes_are confs)
 
-pub untracked_plain : (n : ℕ) (inputs : List InSetup) → inputs ≡ replicate n plain → All (λ (x : InSetup). x.tracked ≡ false) inputs
-untracked_plain n inputs e = subst (All (λ (x : InSetup). x.tracked ≡ false)) (sym e) (All-replicate (λ (x : InSetup). x.tracked ≡ false) n plain refl)
+core_limits : (confs : List InputConf) → map most_undelivered (map in_setup confs) ≡ map limit_by confs
+core_limits [] = refl
+core_limits (conf ∷ confs) = ap (λ (xs : List (Option ℕ)). limit_by conf ∷ xs) (core_limits confs)
+
+core_sizes : (confs : List OutputConf) → map sizes (map out_setup confs) ≡ map sizes_by confs
+core_sizes [] = refl
+core_sizes (conf ∷ confs) = ap (λ (xs : List (ℕ × ℕ)). sizes_by conf ∷ xs) (core_sizes confs)
+
+-- what the journal is about
+pub about_of : (config : Config) (start first : ℤ) (inputs : List (Option ℕ)) (aggs : List AggLine) (outputs : List (ℕ × ℕ)) → first ≡ start → inputs ≡ map limit_by config.inputs → aggs ≡ [] → outputs ≡ map sizes_by config.outputs →
+    record { start = first; inputs = inputs; aggs = aggs; outputs = outputs } ≡ journal_setup_of (setup_of (job_of config) start)
+about_of config start first inputs aggs outputs g e n f = rw (g, e, n, f, limits_are config config.inputs, sizes_are config.outputs) refl
+
+-- what the core is about
+pub core_is : (config : Config) (inputs : List InSetup) (outputs : List OutSetup) (start first : ℤ) → inputs ≡ map in_setup config.inputs → outputs ≡ map out_setup config.outputs → first ≡ start →
+    core_setup_of (record { inputs = inputs; outputs = outputs; start = first }) ≡ setup_of (job_of config) start
+core_is config inputs outputs start first e f g = rw (e, f, g, core_limits config.inputs, core_sizes config.outputs, limits_are config config.inputs, sizes_are config.outputs) refl
+
+-- none of the inputs is tracked
+no_input : InputConf
+no_input = record { place = []; format = read.Influx; tracked = false; max_undelivered = 0; filter = no_rules }
+
+untracked_all : (confs : List InputConf) → All (λ (x : InSetup). x.tracked ≡ false) (map in_setup confs)
+untracked_all confs = λ k d l.
+    let within : k < length confs = omega (arith, l, length-map confs in_setup) in
+    subst (λ (x : InSetup). x.tracked ≡ false) (sym (get_or-map in_setup confs k no_input d within)) refl
+
+pub untracked : (confs : List InputConf) (inputs : List InSetup) → inputs ≡ map in_setup confs → All (λ (x : InSetup). x.tracked ≡ false) inputs
+untracked confs inputs same = subst (All (λ (x : InSetup). x.tracked ≡ false)) (sym same) (untracked_all confs)
 
 -- none of them has ended in a core in which nothing happened
-pub none_ended_first : (n : ℕ) (setup : CoreSetup) (core : CoreState) → core ≡ first_state setup → setup.inputs ≡ replicate n plain → core.ended ≡ replicate n false
-none_ended_first n setup core is same = ap (λ (s : CoreState). s.ended) is ∙ ap (λ (xs : List InSetup). replicate (length xs) false) same ∙ ap (λ (k : ℕ). replicate k false) (length-replicate n plain)
+pub none_ended_first : (confs : List InputConf) (setup : CoreSetup) (core : CoreState) → core ≡ first_state setup → setup.inputs ≡ map in_setup confs → core.ended ≡ replicate (length confs) false
+none_ended_first confs setup core is same = ap (λ (s : CoreState). s.ended) is ∙ ap (λ (xs : List InSetup). replicate (length xs) false) same ∙ ap (λ (k : ℕ). replicate k false) (length-map confs in_setup)
 
-sizes_same : (confs : List OutputConf) → map sizes (map conf_setup confs) ≡ map conf_sizes confs
-sizes_same [] = refl
-sizes_same (conf ∷ confs) = ap (λ (xs : List (ℕ × ℕ)). conf_sizes conf ∷ xs) (sizes_same confs)
-
-pub setup_is : (n : ℕ) (inputs : List InSetup) (outputs : List OutSetup) (confs : List OutputConf) (start first : ℤ) → inputs ≡ replicate n plain → outputs ≡ map conf_setup confs → start ≡ first → setup_of (record { inputs = inputs; outputs = outputs; start = start }) ≡ run_setup n (map conf_sizes confs) first
-setup_is n inputs outputs confs start first e f g =
-    rw (f, g, sizes_same confs) (ap (λ (xs : List (Option ℕ)). let setup : Setup = record { start = first; inputs = xs; aggs = []; outputs = map conf_sizes confs } in setup) (ap (map most_undelivered) e ∙ map_plain n))
-
-no_conf : OutputConf
-no_conf = record { place = []; format = Influx; batch = 0; limit = 0; filter = no_rules }
+no_output : OutputConf
+no_output = record { place = []; format = written.Influx; batch = 0; limit = 0; filter = no_rules }
 
 -- the sizes that a configuration has are those of a core
-pub sizes_fit_all : (confs : List OutputConf) → All HasSizes confs → All (λ (x : OutSetup). (1 ≤ x.batch) × (x.batch ≤ x.limit)) (map conf_setup confs)
+pub sizes_fit_all : (confs : List OutputConf) → All HasSizes confs → All (λ (x : OutSetup). (1 ≤ x.batch) × (x.batch ≤ x.limit)) (map out_setup confs)
 sizes_fit_all confs h = λ k d l.
-    let within : k < length confs = omega (arith, l, length-map confs conf_setup) in
-    let c : OutputConf = get_or confs k no_conf in
-    subst (λ (x : OutSetup). (1 ≤ x.batch) × (x.batch ≤ x.limit)) (sym (get_or-map conf_setup confs k no_conf d within)) ((h k no_conf within).some, (h k no_conf within).ordered)
+    let within : k < length confs = omega (arith, l, length-map confs out_setup) in
+    let c : OutputConf = get_or confs k no_output in
+    subst (λ (x : OutSetup). (1 ≤ x.batch) × (x.batch ≤ x.limit)) (sym (get_or-map out_setup confs k no_output d within)) ((h k no_output within).some, (h k no_output within).ordered)
 
-pub sizes_fit : (confs : List OutputConf) (outputs : List OutSetup) → outputs ≡ map conf_setup confs → All HasSizes confs → All (λ (x : OutSetup). (1 ≤ x.batch) × (x.batch ≤ x.limit)) outputs
+pub sizes_fit : (confs : List OutputConf) (outputs : List OutSetup) → outputs ≡ map out_setup confs → All HasSizes confs → All (λ (x : OutSetup). (1 ≤ x.batch) × (x.batch ≤ x.limit)) outputs
 sizes_fit confs outputs same h = subst (All (λ (x : OutSetup). (1 ≤ x.batch) × (x.batch ≤ x.limit))) (sym same) (sizes_fit_all confs h)
+
+-- nothing is buffered in it
+default_of : {X : Type 0} (n o : ℕ) (d : X) → get_or (replicate n d) o d ≡ d
+default_of zero o d = refl
+default_of (suc n) zero d = refl
+default_of (suc n) (suc o) d = default_of n o d
+
+pub none_buffered_first : (setup : CoreSetup) (core : CoreState) (o : ℕ) → core ≡ first_state setup → buffered_at core o ≡ 0
+none_buffered_first setup core o is = ap (λ (s : CoreState). buffered_at s o) is ∙ ap (λ (x : OutputNumbers). x.buffered) (default_of (length setup.outputs) o unreached_output)

@@ -44,7 +44,7 @@ joined (group ∷ groups) = group ++ joined groups
 
 -- the Gathers of an input name consecutive groups of the pieces of its text, from the first piece on, and all
 -- pieces where the input has ended
-pub record Gathered (rule : InRule) (journal : List Entry) (input : ℕ) (text : List ℕ) : Type 0 where
+pub record AreGathered (rule : InRule) (journal : List Entry) (input : ℕ) (text : List ℕ) : Type 0 where
   pub groups : List (List Cut)
   pub rest : List Cut
   pub consecutive : (reader_of rule.format).cut text ≡ joined groups ++ rest

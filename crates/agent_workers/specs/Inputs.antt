@@ -13,8 +13,7 @@ use Rattle.agent_base.specs.Told.{Told}
 use Rattle.agent_base.specs.declared.piece.CutKind.TheVariants.{Lines}
 use Rattle.metric.specs.Metric.{IsFilledTag}
 use Rattle.pipeline_core.specs.declared.gathering.Gathered.{Gathered}
-use Rattle.formats.specs.Reader.{InRule, plain_rule, cut_of, FitsGather}
-use Rattle.agent_workers.specs.Rules.{rule_of}
+use Rattle.formats.specs.Reader.{InRule, in_rule, plain_rule, cut_of, FitsGather}
 use Rattle.agent_workers.specs.declared.input.InJob.{InJob}
 use Rattle.formats.specs.declared.pieces.InState.{InState}
 use Rattle.formats.specs.declared.pieces.InState.TheVariants as states
@@ -33,6 +32,10 @@ pub record InPart : Type 0 where
   pub place : ℕ
   pub held : Option Gathered
   pub state : InState
+
+-- by what rule an input is read
+abbrev pub rule_of : {S C : Type 0} → InJob S C → InRule
+rule_of job = in_rule job.format.now job.globals.now job.filter.now job.gather_pieces
 
 -- the part of an input, given what its source and its clock tell
 abbrev pub in_of : {S C : Type 0} → (S → Carried) → (C → Timed) → InJob S C → InPart

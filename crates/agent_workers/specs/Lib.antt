@@ -1,11 +1,13 @@
 pub mod Finished
 pub mod Input
 pub mod Inputs
+pub mod Item
+pub mod Job
 pub mod Noted
 pub mod Opened
 pub mod Output
-pub mod PipeSetup
 pub mod Progress
-pub mod Rules
+pub mod Rounds
 pub mod Run
+pub mod RunState
 pub mod Running

@@ -9,7 +9,7 @@ use Rattle.agent_base.specs.Carried.{Carried}
 use Rattle.agent_base.specs.Counts.{Rose}
 use Rattle.journal_text.specs.declared.setup.JournalSetup.{JournalSetup}
 use Rattle.journal_text.specs.JournalText.{journal_text}
-use Rattle.agent_workers.specs.Run.{Change, change, IsPutSo}
+use Rattle.agent_workers.specs.Run.{Change, change, IsPut, IsPutSo}
 use Rattle.account.specs.Routes.{RoutesInOrder, RouteOnInOrder}
 use Rattle.agent_workers.specs.declared.journal.JournalJob.{JournalJob}
 use Rattle.journal_text.specs.SoFar.{text_so_far, noted_text, SpellsOn}
@@ -54,17 +54,20 @@ pub record Notes (setup : JournalSetup) (held : Option (List ℕ)) (faults : ℕ
   pub put : IsNotedSo part.failed (change held part.held faults part.faults) setup journal
 
 -- a text was put, unless a put failed before
-abbrev pub IsPartPut : Bool → Bool → List ℕ → Option (List ℕ) → Option (List ℕ) → ℕ → ℕ → Type 0
-IsPartPut true now text held new_held faults new_faults = (now ≡ true) × (new_held ≡ held)
-    × (new_faults ≡ faults)
-IsPartPut false now text held new_held faults new_faults = IsPutSo now
-    (change held new_held faults new_faults) text × (faults ≤ new_faults)
+abbrev pub IsPartPut : Bool → Bool → Change → List ℕ → Type 0
+IsPartPut true now place text = (now ≡ true) × (place.after ≡ place.before)
+    × (place.faults_after ≡ place.faults_before)
+IsPartPut false now place text = IsPut now place text
+
+-- the change of a part's place
+abbrev pub part_change : JournalPart → JournalPart → Change
+part_change old new = change old.held new.held old.faults new.faults
 
 -- a text was added to one that waits: of both a front was put, unless a put failed before, and the rest waits
 pub record GoesOut (old new : JournalPart) (waiting added rest : List ℕ) : Type 0 where
   pub front : List ℕ
   pub all : front ++ rest ≡ waiting ++ added
-  pub put : IsPartPut old.failed new.failed front old.held new.held old.faults new.faults
+  pub put : IsPartPut old.failed new.failed (part_change old new) front
   pub about : new.setup ≡ old.setup
   pub kept_same : new.kept ≡ old.kept
   pub counted_same : new.entries ≡ old.entries
@@ -74,7 +77,7 @@ pub record GoesOut (old new : JournalPart) (waiting added rest : List ℕ) : Typ
 pub record SpellsOut (entries : List Entry) (old new : JournalPart) (waiting rest : List ℕ) : Type 0 where
   pub front : List ℕ
   pub spelled : SpellsOn entries old.kept new.kept waiting (front ++ rest)
-  pub put : IsPartPut old.failed new.failed front old.held new.held old.faults new.faults
+  pub put : IsPartPut old.failed new.failed (part_change old new) front
   pub about : new.setup ≡ old.setup
   pub counted : new.entries ≡ old.entries + length entries
 

@@ -1,41 +1,74 @@
 -- What a configuration, its opened parts and its clocks make of a run.
-use Rattle.std.specs.Prelude.{◌≡◌, ◌+◌, ℕ, ℤ, false, List, [], ◌∷◌, length, map, replicate}
-use Rattle.std.specs.declared.option.Option.{Option}
+use Rattle.std.specs.Prelude.{◌≡◌, ◌≤◌, ◌+◌, ℕ, ℤ, false, List, [], ◌∷◌, length, map, replicate, vec_len, vec_capacity}
 use Rattle.std.specs.declared.option.Option.TheVariants.{None}
 use Rattle.agent_base.specs.Carried.{Carried, Timed}
 use Rattle.agent_base.specs.Hand.{Hand, empty_hand}
-use Rattle.agent_base.specs.Moments.{Moments}
 use Rattle.agent_config.specs.declared.config.Config.{Config}
 use Rattle.agent_config.specs.declared.config.InputConf.{InputConf}
 use Rattle.agent_config.specs.declared.config.OutputConf.{OutputConf}
 use Rattle.pipeline_core.specs.CoreState.{CoreState}
-use Rattle.pipeline_core.specs.declared.setup.OutSetup.{OutSetup}
 use Rattle.pipeline_core.specs.Stands.{Stands}
+use Rattle.pipeline_core.specs.declared.setup.InSetup.{InSetup}
+use Rattle.pipeline_core.specs.declared.setup.OutSetup.{OutSetup}
+use Rattle.formats.specs.Reader.{cut_of}
+use Rattle.formats.specs.declared.pieces.InState.TheVariants as states
 use Rattle.agent_workers.specs.Finished.{IsSetUp}
 use Rattle.agent_workers.specs.Inputs.{InPart}
-use Rattle.agent_workers.specs.Noted.{JournalPart}
+use Rattle.agent_workers.specs.Job.{job_of, rule_by, setup_of}
 use Rattle.agent_workers.specs.Output.{OutPart}
-use Rattle.agent_workers.specs.PipeSetup.{run_setup}
-use Rattle.formats.specs.Reader.{InRule, in_rule, cut_of}
-use Rattle.agent_workers.specs.Rules.{work_by}
-use Rattle.agent_workers.specs.Run.{Change, change, InRun, OutRun, Ran}
+use Rattle.agent_workers.specs.Run.{carried_change, InRun, OutRun, RunChange}
+use Rattle.agent_workers.specs.RunState.{RunState}
 use Rattle.agent_workers.specs.Running.{IsReady, buffered_at}
-use Rattle.formats.specs.declared.pieces.InState.TheVariants as states
-use Rattle.agent_workers.specs.declared.serial.Ending.{Ending}
+use Rattle.agent_workers.specs.declared.parts.Back.{Back}
+use Rattle.agent_workers.specs.declared.parts.Clocks.{Clocks}
+use Rattle.agent_workers.specs.declared.parts.Opened.{Opened}
+use Rattle.agent_workers.specs.declared.parts.Parts.{Parts}
 
--- the sizes of a configuration's outputs: batch size and buffer limit
-abbrev pub conf_sizes : OutputConf → ℕ × ℕ
-conf_sizes conf = (conf.batch, conf.limit)
+-- with what the core is set up of an input, which isn't tracked, and of an output
+abbrev pub in_setup : InputConf → InSetup
+in_setup conf = record { tracked = false; max_undelivered = 0 }
 
-abbrev pub conf_setup : OutputConf → OutSetup
-conf_setup conf = record { batch = conf.batch; limit = conf.limit }
+abbrev pub out_setup : OutputConf → OutSetup
+out_setup conf = record { batch = conf.batch; limit = conf.limit }
 
-abbrev pub sizes_of : Config → List (ℕ × ℕ)
-sizes_of config = map conf_sizes config.outputs
+-- what the opened parts of a run carry
+pub record Carries : Type 0 where
+  pub sources : List Carried
+  pub sinks : List Carried
+  pub journal : Carried
 
--- by what rule an input of a configuration is read
-abbrev pub rule_by : Config → InputConf → InRule
-rule_by config conf = in_rule conf.format config.globals conf.filter config.agent.gather_pieces
+abbrev pub carried_by : {S K : Type 0} → (S → Carried) → (K → Carried) → Opened S K → Carries
+carried_by told put opened = record
+    { sources = map told opened.inputs.items; sinks = map put opened.outputs.items; journal = put opened.journal }
+
+-- what those of its clocks tell that are asked for moments: the inputs', and the timer
+pub record Times : Type 0 where
+  pub ins : List Timed
+  pub timer : Timed
+
+abbrev pub timed_by : {C : Type 0} → (C → Timed) → Clocks C → Times
+timed_by timed clocks = record { ins = map timed clocks.inputs.items; timer = timed clocks.timer }
+
+-- there is a source and a clock for each input of a configuration, and a sink and a clock for each output
+pub record AreFor {S K C : Type 0} (config : Config) (opened : Opened S K) (clocks : Clocks C) : Type 0 where
+  pub sources : vec_len opened.inputs ≡ length config.inputs
+  pub in_clocks : vec_len clocks.inputs ≡ length config.inputs
+  pub sinks : vec_len opened.outputs ≡ length config.outputs
+  pub out_clocks : vec_len clocks.outputs ≡ length config.outputs
+
+-- two lists are empty, and have room for the sources and the sinks of a configuration
+pub record HasRoomFor {S K : Type 0} (config : Config) (back : Back S K) : Type 0 where
+  pub no_source : back.sources.items ≡ []
+  pub source_room : length config.inputs ≤ vec_capacity back.sources
+  pub no_sink : back.sinks.items ≡ []
+  pub sink_room : length config.outputs ≤ vec_capacity back.sinks
+
+-- the lists in which sources and sinks are given back are empty, and have room for those of the jobs
+pub record HasRoom {S K C : Type 0} (parts : Parts S K C) : Type 0 where
+  pub no_source : parts.back.sources.items ≡ []
+  pub source_room : vec_len parts.inputs ≤ vec_capacity parts.back.sources
+  pub no_sink : parts.back.sinks.items ≡ []
+  pub sink_room : vec_len parts.outputs ≤ vec_capacity parts.back.sinks
 
 -- what is in hand of inputs of which nothing was read
 abbrev pub empty_hands : List InputConf → List Hand
@@ -87,16 +120,18 @@ pub record IsNewCore (config : Config) (start : ℤ) (core : CoreState) : Type 0
   pub going : core.stopped ≡ false
   pub none_buffered : (output : ℕ) → buffered_at core output ≡ 0
   pub stands : Stands core []
-  pub setup : core.setup ≡ run_setup (length config.inputs) (map conf_sizes config.outputs) start
+  pub setup : core.setup ≡ setup_of (job_of config) start
   pub stored : core.stored ≡ []
 
--- A core in which nothing happened, and what a run begins with: its inputs and outputs as the configuration has
--- them, and the part of the journal.
-pub record IsMadeOf (config : Config) (start : ℤ) (sources : List Carried) (clocks : List Timed) (sinks : List Carried)
-    (core : CoreState) (ins : List InPart) (outs : List OutPart) (part : JournalPart) : Type 0 where
-  pub set_up : IsSetUp (sizes_of config) start core ins outs part
-  pub ins_are : ins ≡ fresh_ins config 0 config.inputs sources clocks
-  pub outs_are : outs ≡ fresh_outs 0 config.outputs sinks
+-- A core in which nothing happened, and what a run begins with: its inputs, its outputs, its journal's place and its timer are what was
+-- opened and the clocks, as the configuration has them.
+pub record IsMadeOf (config : Config) (start : ℤ) (opened : Carries) (times : Times) (now : RunState) : Type 0 where
+  pub set_up : IsSetUp (job_of config) start now
+  pub ins_are : now.ins ≡ fresh_ins config 0 config.inputs opened.sources times.ins
+  pub outs_are : now.outs ≡ fresh_outs 0 config.outputs opened.sinks
+  pub held : now.journal.held ≡ opened.journal.bytes
+  pub faults : now.journal.faults ≡ opened.journal.faults
+  pub timer : now.timer ≡ times.timer
 
 -- the inputs of a configuration as a run leaves them: what their sources carried before and carry now, and the
 -- moments of their clocks
@@ -107,7 +142,7 @@ config_ins config (conf ∷ confs) (old ∷ olds) [] clocks = []
 config_ins config (conf ∷ confs) (old ∷ olds) (new ∷ news) [] = []
 config_ins config (conf ∷ confs) (old ∷ olds) (new ∷ news) (clock ∷ clocks) = record {
   rule = rule_by config conf;
-  place = change old.bytes new.bytes old.faults new.faults;
+  place = carried_change old new;
   moments = clock.moments;
 } ∷ config_ins config confs olds news clocks
 
@@ -118,7 +153,7 @@ config_outs (conf ∷ confs) [] news = []
 config_outs (conf ∷ confs) (old ∷ olds) [] = []
 config_outs (conf ∷ confs) (old ∷ olds) (new ∷ news) = record {
   format = conf.format;
-  place = change old.bytes new.bytes old.faults new.faults;
+  place = carried_change old new;
 } ∷ config_outs confs olds news
 
 -- what the source of an input carries, and the sink of an output
@@ -128,7 +163,11 @@ in_carried part = record { bytes = part.left; faults = part.read_faults }
 abbrev pub out_carried : OutPart → Carried
 out_carried part = record { bytes = part.held; faults = part.put_faults }
 
--- what a run of a configuration leaves, before its account is reported
-abbrev pub RanBy : Config → Ending → List InRun → List OutRun → Change → Option Moments → Type 0
-RanBy config ending ins outs note run_moments = Ran (work_by config.outputs) config.agent.final_tries
-    (length config.inputs) (sizes_of config) ending ins outs note run_moments
+-- what a run of a configuration changed: what its parts carried before and carry now, and the moments of its clocks
+abbrev pub change_by : Config → Carries → Carries → Times → RunChange
+change_by config old new times = record {
+  ins = config_ins config config.inputs old.sources new.sources times.ins;
+  outs = config_outs config.outputs old.sinks new.sinks;
+  journal = carried_change old.journal new.journal;
+  moments = times.timer.moments;
+}

@@ -1,5 +1,5 @@
 -- What a run puts to its outputs.
-use Rattle.std.specs.Prelude.{◌≡◌, ◌<◌, ◌⊎◌, ℕ, min, Bool, true, false, List, ◌∷◌, ◌++◌, ⊤, map, length}
+use Rattle.std.specs.Prelude.{◌≡◌, ◌<◌, ◌⊎◌, ◌+◌, ◌-◌, ◌^◌, ℕ, min, Bool, true, false, List, ◌∷◌, ◌++◌, ⊤, map, length}
 use Rattle.std.specs.Prelude.{replicate, slice_index_or}
 use Rattle.std.specs.declared.option.Option.{Option}
 use Rattle.std.specs.declared.option.Option.TheVariants.{Some, None}
@@ -58,6 +58,17 @@ anew out = record out { failed_since = 0 }
 
 abbrev pub AreAnew : List OutPart → Type 0
 AreAnew outs = (output : ℕ) → output < length outs → (out_at outs output).failed_since ≡ 0
+
+-- a batch was put, or its put failed: what the sink carries then, and how many of the last batches failed, which stands still at
+-- its highest number
+abbrev pub after_put : Bool → Carried → OutPart → OutPart
+after_put false sink out = record out { held = sink.bytes; put_faults = sink.faults; failed = 0; failed_since = 0 }
+after_put true sink out = record out {
+  held = sink.bytes;
+  put_faults = sink.faults;
+  failed = min (out.failed + 1) (2 ^ 32 - 1);
+  failed_since = min (out.failed_since + 1) (2 ^ 32 - 1);
+}
 
 -- no batch failed yet
 pub record IsUnfailed (out : OutPart) : Type 0 where

@@ -1,19 +1,16 @@
 -- How far a run has come.
 use Rattle.std.specs.Prelude.{◌≡◌, ◌<◌, ◌≤◌, ◌⊎◌, ◌+◌, ◌^◌, ℕ, ℤ, Bool, true, List, [], ◌++◌, map, length}
-use Rattle.std.specs.Prelude.{IfSome, slice_set}
-use Rattle.std.specs.declared.option.Option.{Option}
-use Rattle.metric.specs.declared.metric.Content.{Content}
-use Rattle.account.specs.Setup.{Setup}
+use Rattle.std.specs.Prelude.{IfSome, slice_set, ◌∷◌}
+use Rattle.std.specs.Int.{int_max}
 use Rattle.account.specs.Says.{GatherSays}
 use Rattle.account.specs.Origins.{raw_of}
 use Rattle.account.specs.declared.entry.Entry.{Entry}
 use Rattle.agent_base.specs.Counts.{Rose, RoseBy}
 use Rattle.agent_base.specs.Cut.{Cut}
-use Rattle.agent_base.specs.Clocked.{Clocked}
+use Rattle.agent_base.specs.Clocked.{Clocked, last_of}
 use Rattle.agent_base.specs.Hand.{Hand, to_come}
 use Rattle.agent_base.specs.Moments.{Moments}
 use Rattle.agent_base.specs.Told.{Told}
-use Rattle.pipeline_core.specs.Work.{Work}
 use Rattle.pipeline_core.specs.CoreState.{CoreState}
 use Rattle.pipeline_core.specs.Legal.{has_ended, has_stop, gathered_count}
 use Rattle.pipeline_core.specs.Offers.{lane_events}
@@ -28,44 +25,26 @@ use Rattle.pipeline_core.specs.Stopped.{behind_stop}
 use Rattle.account.specs.EntryMoments.{counted_moments}
 use Rattle.agent_workers.specs.Noted.{JournalPart, Notes}
 use Rattle.pipeline_core.specs.Order.{EndsFailed, InOrder}
-use Rattle.agent_workers.specs.PipeSetup.{journal_setup_of}
+use Rattle.agent_workers.specs.Job.{journal_setup_of, work_of}
 use Rattle.pipeline_core.specs.Sent.{Sent}
 use Rattle.formats.specs.Batches.{batch_text}
 use Rattle.agent_workers.specs.Output.{AppendsSo, OutPart, out_at, AreAnew, FailedLast}
+use Rattle.agent_workers.specs.Item.{ProcPart}
+use Rattle.agent_workers.specs.RunState.{RunState, Beginning, setup_at}
 use Rattle.agent_workers.specs.Running.{AreSettled}
 use Rattle.pipeline_core.specs.Worked.{Worked}
-
--- what a run began with: its set-up, what its outputs' filters give, its inputs, its outputs, and the bytes held by the journal's place and its
--- count of failed puts, when these were new; and the journal that the run continues
-pub record Beginning : Type 0 where
-  pub setup : Setup
-  pub work : Work
-  pub ins : List InPart
-  pub outs : List OutPart
-  pub noted : Option (List ℕ)
-  pub note_faults : ℕ
-  pub front : List Entry
-
--- what is around a run: the inputs, the input from which on none has a raw item, the outputs, the journal's
--- part, and the moments that were counted since the start
-pub record Surroundings : Type 0 where
-  pub ins : List InPart
-  pub next : ℕ
-  pub outs : List OutPart
-  pub journal : JournalPart
-  pub counted_at : List ℤ
 
 -- the core stands for a journal, which goes on from the one that the run continues, and whose entries are
 -- noted but for those that the core stores
 pub record HasText (start : Beginning) (core : CoreState) (part : JournalPart)
     (journal : List Entry) : Type 0 where
   pub stands : Stands core journal
-  pub setup_is : core.setup ≡ start.setup
+  pub setup_is : core.setup ≡ setup_at start
   pub more : List Entry
   pub goes_on : journal ≡ start.front ++ more
   pub written : List Entry
   pub split : journal ≡ written ++ core.stored
-  pub notes : Notes (journal_setup_of start.setup) start.noted start.note_faults written part
+  pub notes : Notes (journal_setup_of (setup_at start)) start.noted start.note_faults written part
 
 -- while an input is read on its Gathers name full groups up to the pieces that are to come, or all pieces; else
 -- they name groups of its text, all pieces where it has ended
@@ -136,38 +115,40 @@ AllSaid starts outs journal =
 -- where the run began with nothing: each item was routed before more is sent, and sent before more is gathered,
 -- and no item is raw of an input from the next one on
 pub record HasOrder (start : Beginning) (next : ℕ) (journal : List Entry) : Type 0 where
-  pub in_order : start.front ≡ [] → InOrder start.setup journal
+  pub in_order : start.front ≡ [] → InOrder (setup_at start) journal
   pub none_raw : start.front ≡ [] → (input : ℕ) → next ≤ input → raw_of input journal ≡ []
 
 -- there is a journal for which the core stands, which is noted, and which says what was read and what was
 -- sent
-pub record Progress (start : Beginning) (core : CoreState) (now : Surroundings) : Type 0 where
+pub record Progress (start : Beginning) (now : RunState) : Type 0 where
   pub journal : List Entry
-  pub text : HasText start core now.journal journal
-  pub in_count : length now.ins ≡ length start.setup.inputs
+  pub text : HasText start now.core now.journal journal
+  pub in_count : length now.ins ≡ length start.job.inputs
   pub heard : AllHeard start.ins now.ins journal
-  pub out_count : length now.outs ≡ length start.setup.outputs
+  pub out_count : length now.outs ≡ length start.job.outputs
   pub said : AllSaid start.outs now.outs journal
-  pub worked : Worked start.work journal
+  -- what routes the items makes of them what the job says
+  pub work_is : start.job.work ≡ work_of now.proc.outs
+  pub worked : Worked start.job.work journal
   pub order : HasOrder start now.next journal
   pub counted_at : counted_moments journal ≡ now.counted_at
 
--- a step that changes nothing around the run, while no batch failed, given what the outputs' filters give
-abbrev pub GoesOn : Work → CoreState → CoreState → Type 0
-GoesOn work old new = (start : Beginning) (now : Surroundings) → AreAnew now.outs
-    → Progress (record start { work = work }) old now → Progress (record start { work = work }) new now
+-- a step that routes items, while no batch failed
+abbrev pub GoesOn : CoreState → CoreState → ProcPart → ProcPart → Type 0
+GoesOn old new proc new_proc = (start : Beginning) (now : RunState) → AreAnew now.outs
+    → Progress start (record now { core = old; proc = proc }) → Progress start (record now { core = new; proc = new_proc })
 
--- a step that routes and puts to the journal's place, while no batch failed, given what the outputs' filters give
-abbrev pub RoutesOn : Work → CoreState → CoreState → JournalPart → JournalPart → Type 0
-RoutesOn work old new part new_part = (start : Beginning) (now : Surroundings) → AreAnew now.outs
-    → Progress (record start { work = work }) old (record now { journal = part })
-    → Progress (record start { work = work }) new (record now { journal = new_part })
+-- a step that routes items and puts to the journal's place, while no batch failed
+abbrev pub RoutesOn : CoreState → CoreState → ProcPart → ProcPart → JournalPart → JournalPart → Type 0
+RoutesOn old new proc new_proc part new_part = (start : Beginning) (now : RunState) → AreAnew now.outs
+    → Progress start (record now { core = old; proc = proc; journal = part })
+    → Progress start (record now { core = new; proc = new_proc; journal = new_part })
 
 -- a step that puts to the outputs
 abbrev pub SendsOn : CoreState → CoreState → List OutPart → List OutPart → Type 0
-SendsOn old new outs new_outs =
-    (start : Beginning) (now : Surroundings)
-    → Progress start old (record now { outs = outs }) → Progress start new (record now { outs = new_outs })
+SendsOn old new outs new_outs = (start : Beginning) (now : RunState)
+    → Progress start (record now { core = old; outs = outs })
+    → Progress start (record now { core = new; outs = new_outs })
 
 -- a step that puts to one of the outputs, whatever the others are
 abbrev pub SendsAt : CoreState → CoreState → OutPart → OutPart → Type 0
@@ -183,34 +164,35 @@ SettlesFirst start core outs = start.front ≡ [] → AreSettled core outs
 abbrev pub ReadsAt : CoreState → CoreState → InPart → InPart → Type 0
 ReadsAt old new part new_part =
     (ins : List InPart) → part.input < length ins → in_at ins part.input ≡ part
-    → (start : Beginning) (now : Surroundings)
-    → Progress start old (record now { ins = ins })
-    → Progress start new (record now { ins = slice_set ins part.input new_part })
+    → (start : Beginning) (now : RunState)
+    → Progress start (record now { core = old; ins = ins })
+    → Progress start (record now { core = new; ins = slice_set ins part.input new_part })
 
 -- a step that notes the end of one of the inputs, where it was met
 abbrev pub EndsAt : Bool → CoreState → CoreState → InPart → InPart → Type 0
 EndsAt met old new part new_part =
     (ins : List InPart) → part.input < length ins → in_at ins part.input ≡ part
-    → (start : Beginning) (now : Surroundings)
+    → (start : Beginning) (now : RunState)
     → (met ≡ true → Told (in_at start.ins part.input).left part.left (λ xs ys. to_come part.hand ys ≡ []))
-    → Progress start old (record now { ins = ins })
-    → Progress start new (record now { ins = slice_set ins part.input new_part })
+    → Progress start (record now { core = old; ins = ins })
+    → Progress start (record now { core = new; ins = slice_set ins part.input new_part })
 
 -- a step that may gather of one of the inputs: before it no item is raw of that one and of those behind it, and
 -- then of none behind it
 abbrev pub GathersAt : CoreState → CoreState → InPart → InPart → Type 0
 GathersAt old new part new_part =
     (ins : List InPart) → part.input < length ins → in_at ins part.input ≡ part
-    → (start : Beginning) (now : Surroundings) → SettlesFirst start old now.outs
-    → Progress start old (record now { ins = ins; next = part.input })
-    → Progress start new (record now { ins = slice_set ins part.input new_part; next = part.input + 1 })
+    → (start : Beginning) (now : RunState) → SettlesFirst start old now.outs
+    → Progress start (record now { core = old; ins = ins; next = part.input })
+    → Progress start (record now
+    { core = new; ins = slice_set ins part.input new_part; next = part.input + 1 })
 
 -- steps that read and gather of the inputs before one
 abbrev pub GathersTo : ℕ → CoreState → CoreState → List InPart → List InPart → Type 0
 GathersTo next old new ins new_ins =
-    (start : Beginning) (now : Surroundings) → SettlesFirst start old now.outs
-    → Progress start old (record now { ins = ins; next = 0 })
-    → Progress start new (record now { ins = new_ins; next = next })
+    (start : Beginning) (now : RunState) → SettlesFirst start old now.outs
+    → Progress start (record now { core = old; ins = ins; next = 0 })
+    → Progress start (record now { core = new; ins = new_ins; next = next })
 
 -- so it is for all
 abbrev pub GathersOn : CoreState → CoreState → List InPart → List InPart → Type 0
@@ -218,15 +200,17 @@ GathersOn old new ins new_ins = GathersTo (length ins) old new ins new_ins
 
 -- a step that puts to the journal's place
 abbrev pub NotesRun : CoreState → CoreState → JournalPart → JournalPart → Type 0
-NotesRun old new part new_part =
-    (start : Beginning) (now : Surroundings) → Progress start old (record now { journal = part })
-    → Progress start new (record now { journal = new_part })
+NotesRun old new part new_part = (start : Beginning) (now : RunState)
+    → Progress start (record now { core = old; journal = part })
+    → Progress start (record now { core = new; journal = new_part })
 
--- rounds: they read the inputs, and put to the outputs and to the journal's place
-abbrev pub RunsOn : Work → CoreState → CoreState → List InPart → List InPart
-    → List OutPart → List OutPart → JournalPart → JournalPart → Type 0
-RunsOn work old new ins new_ins outs new_outs part new_part =
-    (start : Beginning) (now : Surroundings) → SettlesFirst start old outs
-    → Progress (record start { work = work }) old
-    (record now { ins = ins; next = 0; outs = outs; journal = part })
-    → Progress (record start { work = work }) new (record now { ins = new_ins; next = 0; outs = new_outs; journal = new_part })
+-- rounds: they read the inputs, route, and put to the outputs and to the journal's place; no moment counts
+abbrev pub RunsOn : RunState → RunState → Type 0
+RunsOn old new = (start : Beginning) (counted : List ℤ) → SettlesFirst start old.core old.outs
+    → Progress start (record old { counted_at = counted }) → Progress start (record new { counted_at = counted })
+
+-- the run is stopped at a moment, which counts, and what is buffered is sent
+abbrev pub StopsAt : ℤ → RunState → RunState → Type 0
+StopsAt moment old new = (start : Beginning) (counted : List ℤ)
+    → Progress start (record old { counted_at = counted })
+    → Progress start (record new { counted_at = counted ++ int_max moment (last_of start.start counted) ∷ [] })

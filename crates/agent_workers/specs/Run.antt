@@ -1,5 +1,5 @@
 -- What a run leaves: a legal journal of what was read and sent, and how it ended.
-use Rattle.std.specs.Prelude.{◌≡◌, ◌≢◌, ◌<◌, ◌⊎◌, ◌+◌, ◌^◌, ℕ, ℤ, min, Bool, true, false, List}
+use Rattle.std.specs.Prelude.{◌≡◌, ◌≢◌, ◌<◌, ◌≤◌, ◌⊎◌, ◌+◌, ◌^◌, ℕ, ℤ, min, Bool, true, false, List}
 use Rattle.std.specs.Prelude.{[], ◌∷◌, length, take, IfSome, slice_index_or}
 use Rattle.std.specs.declared.option.Option.{Option}
 use Rattle.std.specs.declared.option.Option.TheVariants.{None}
@@ -7,24 +7,23 @@ use Rattle.std.specs.Io.KnownBytes.{Appends}
 use Rattle.account.specs.AccountText.{account_text}
 use Rattle.account.specs.Items.{raw_items, in_hand}
 use Rattle.account.specs.Numbers.{output_numbers}
-use Rattle.metric.specs.declared.metric.Content.{Content}
 use Rattle.account.specs.Setup.{Setup}
 use Rattle.account.specs.declared.entry.Entry.{Entry}
+use Rattle.agent_base.specs.Carried.{Carried}
 use Rattle.agent_base.specs.Clocked.{Clocked, Counted}
 use Rattle.agent_base.specs.Counts.{Rose, RoseBy}
 use Rattle.agent_base.specs.Moments.{Moments}
 use Rattle.agent_base.specs.Told.{Told}
 use Rattle.journal_text.specs.JournalText.{journal_text}
-use Rattle.pipeline_core.specs.Work.{Work}
 use Rattle.pipeline_core.specs.Legal.{IsLegal, has_ended, has_stop}
 use Rattle.pipeline_core.specs.Totals.{totals}
-use Rattle.agent_workers.specs.Input.{IsFull, Gathered, NamesTaken}
+use Rattle.agent_workers.specs.Input.{IsFull, AreGathered, NamesTaken}
 use Rattle.account.specs.Gathers.{gathers}
 use Rattle.account.specs.Dones.{dones, failed_count, LastFailed}
 use Rattle.pipeline_core.specs.Stopped.{behind_stop}
 use Rattle.account.specs.EntryMoments.{gather_moments, counted_moments}
 use Rattle.pipeline_core.specs.Order.{InOrder}
-use Rattle.agent_workers.specs.PipeSetup.{run_setup, journal_setup_of}
+use Rattle.agent_workers.specs.Job.{Job, setup_of, journal_setup_of}
 use Rattle.pipeline_core.specs.Sent.{Sent}
 use Rattle.format_words.specs.declared.format.OutFormat.{OutFormat}
 use Rattle.formats.specs.Batches.{batch_text}
@@ -32,7 +31,7 @@ use Rattle.agent_workers.specs.Output.{AppendsSo, OutPart, no_out}
 use Rattle.agent_workers.specs.Inputs.{InPart, no_in, IsOneOf}
 use Rattle.formats.specs.Reader.{InRule}
 use Rattle.pipeline_core.specs.Worked.{Worked}
-use Rattle.agent_workers.specs.declared.serial.Ending.{Ending}
+use Rattle.agent_workers.specs.declared.rounds.Ending.{Ending}
 use Rattle.formats.specs.declared.pieces.InState.{InState}
 use Rattle.formats.specs.declared.pieces.InState.TheVariants as states
 
@@ -46,6 +45,20 @@ pub record Change : Type 0 where
 abbrev pub change : Option (List ℕ) → Option (List ℕ) → ℕ → ℕ → Change
 change before after faults_before faults_after = record
     { before = before; after = after; faults_before = faults_before; faults_after = faults_after }
+
+-- the change of what a source or a sink carries
+abbrev pub carried_change : Carried → Carried → Change
+carried_change old new = change old.bytes new.bytes old.faults new.faults
+
+-- a text was appended; or a part of it, and the count of faults rose
+abbrev pub IsPutSo : Bool → Change → List ℕ → Type 0
+IsPutSo false place text = Appends place.before place.after text
+IsPutSo true place text = Rose place.faults_before place.faults_after
+    × ((n : ℕ) × Appends place.before place.after (take n text))
+
+-- so a text was put, or the put failed; the count of faults never falls
+abbrev pub IsPut : Bool → Change → List ℕ → Type 0
+IsPut failed place text = IsPutSo failed place text × (place.faults_before ≤ place.faults_after)
 
 -- an input of a run, seen from outside: by what rule it was read, the change of its place, and the moments of
 -- its clock
@@ -94,6 +107,13 @@ out_runs (old ∷ olds) (new ∷ news) = out_run old new ∷ out_runs olds news
 abbrev pub out_run_at : List OutRun → ℕ → OutRun
 out_run_at outs output = slice_index_or outs output (out_run no_out no_out)
 
+-- a run, seen from outside: its inputs, its outputs, the change of the journal's place, and the moments of its clock
+pub record RunChange : Type 0 where
+  pub ins : List InRun
+  pub outs : List OutRun
+  pub journal : Change
+  pub moments : Option Moments
+
 -- how many metrics are buffered at an output at the end of a journal
 abbrev pub buffered_at_end : Setup → List Entry → ℕ → ℕ
 buffered_at_end setup journal output = (output_numbers (totals setup journal) output).buffered
@@ -126,7 +146,7 @@ IsUnread ins number input taken journal = IsCutShort number input journal ⊎ (t
 pub record IsReadFrom (ins : List InRun) (journal : List Entry) (number : ℕ) (input : InRun) (taken : ℕ)
     : Type 0 where
   -- the Gathers name the pieces of what was left at the input's place
-  pub gathered : Told input.place.before input.place.after (λ xs ys. Gathered input.rule journal number xs)
+  pub gathered : Told input.place.before input.place.after (λ xs ys. AreGathered input.rule journal number xs)
   -- their moments are those of the input's clock
   pub clocked : IfSome input.moments
       (λ moments. Clocked moments 0 moments.last (gather_moments number journal))
@@ -145,55 +165,46 @@ pub record IsSentTo (tries : ℕ) (setup : Setup) (journal : List Entry) (output
   pub left : buffered_at_end setup journal output ≢ 0
       → LastFailed tries (dones output (behind_stop journal))
 
--- A legal journal of a run that came to its end, given what its outputs' filters give, how often in succession a
--- repeat without an accepted batch is tried at the end, its inputs and its outputs.
-pub record HasRun (work : Work) (tries : ℕ) (setup : Setup) (ins : List InRun)
-    (outputs : List OutRun) (journal : List Entry) : Type 0 where
-  pub legal : IsLegal setup journal
+-- A legal journal of a run that came to its end, given its job and the moment of its start, its inputs and its outputs.
+pub record HasRun (job : Job) (start : ℤ) (ins : List InRun) (outputs : List OutRun) (journal : List Entry) : Type 0 where
+  pub legal : IsLegal (setup_of job start) journal
   -- what each input gave was gathered, so many bytes of it
   pub taken : ℕ → ℕ
-  pub read_from : (number : ℕ) → number < length setup.inputs →
+  pub read_from : (number : ℕ) → number < length job.inputs →
       IsReadFrom ins journal number (run_at ins number) (taken number)
   -- each output was sent its batches
-  pub sent_to : (output : ℕ) → output < length setup.outputs →
-      IsSentTo tries setup journal output (out_run_at outputs output)
+  pub sent_to : (output : ℕ) → output < length job.outputs →
+      IsSentTo job.tries (setup_of job start) journal output (out_run_at outputs output)
   -- each item was routed by the outputs' filters
-  pub worked : Worked work journal
+  pub worked : Worked job.work journal
   -- gathering was stopped, and no item is raw or in hand
   pub stopped : has_stop journal ≡ true
   pub none_raw : raw_items journal ≡ []
   pub none_held : in_hand journal ≡ None
 
--- The same of a run that began with nothing, given the moments of its clock.
-pub record IsRun (work : Work) (tries : ℕ) (setup : Setup) (ins : List InRun)
-    (outputs : List OutRun) (run_moments : Option Moments) (journal : List Entry) : Type 0 where
-  pub has : HasRun work tries setup ins outputs journal
+-- The same of a run that began with nothing, given what it left.
+pub record IsRun (job : Job) (start : ℤ) (x : RunChange) (journal : List Entry) : Type 0 where
+  pub has : HasRun job start x.ins x.outs journal
   -- the moments are those of the run's clock
-  pub start : IfSome run_moments (λ moments. setup.start ≡ moments.at 0)
-  pub counted : IfSome run_moments
-      (λ moments. Counted moments (min 1 moments.last) moments.last setup.start (counted_moments journal))
+  pub start_is : IfSome x.moments (λ moments. start ≡ moments.at 0)
+  pub counted : IfSome x.moments
+      (λ moments. Counted moments (min 1 moments.last) moments.last start (counted_moments journal))
   -- before each Begin all items were routed; before each Gather those of its input, and all was sent or the
   -- last put had failed
-  pub in_order : InOrder setup journal
+  pub in_order : InOrder (setup_of job start) journal
 
 -- a limit was reached, since the run is full
 abbrev pub RunsFull : Bool → List InRun → List Entry → Type 0
 RunsFull limit ins journal = (limit ≡ true) × SomeIsFull ins journal
 
 -- whether an input was read to its end, or why not
-abbrev pub EndsSo : Bool → List InRun → ℕ → InState → InRun → ℕ → List Entry → Type 0
-EndsSo limit ins number states.Reading input taken journal = RunsFull limit ins journal
-EndsSo limit ins number states.Ended input taken journal = (taken < 2 ^ 40) × (has_ended number journal ≡ true)
-EndsSo limit ins number states.Faulted input taken journal = (taken < 2 ^ 40)
-    × (has_ended number journal ≡ false) × (IsCutShort number input journal ⊎ RunsFull limit ins journal)
-EndsSo limit ins number states.LimitReached input taken journal = (has_ended number journal ≡ false)
+abbrev pub EndsSo : Bool → List InRun → ℕ → InState → ℕ → List Entry → Type 0
+EndsSo limit ins number states.Reading taken journal = RunsFull limit ins journal
+EndsSo limit ins number states.Ended taken journal = (taken < 2 ^ 40) × (has_ended number journal ≡ true)
+EndsSo limit ins number states.Faulted taken journal = (taken < 2 ^ 40) × (has_ended number journal ≡ false)
+    × (IsCutShort number (run_at ins number) journal ⊎ RunsFull limit ins journal)
+EndsSo limit ins number states.LimitReached taken journal = (has_ended number journal ≡ false)
     × ((taken ≡ 2 ^ 40) ⊎ RunsFull limit ins journal)
-
--- a text was appended; or a part of it, and the count of faults rose
-abbrev pub IsPutSo : Bool → Change → List ℕ → Type 0
-IsPutSo false place text = Appends place.before place.after text
-IsPutSo true place text = Rose place.faults_before place.faults_after
-    × ((n : ℕ) × Appends place.before place.after (take n text))
 
 -- whether a metric is left at an output
 abbrev pub IsLeft : Bool → Setup → List Entry → Type 0
@@ -202,18 +213,17 @@ IsLeft false setup journal =
 IsLeft true setup journal =
     (output : ℕ) × (output < length setup.outputs) × (buffered_at_end setup journal output ≢ 0)
 
--- what a run leaves, before its account is reported, given how many inputs it has, and the sizes of its outputs
-pub record Ran (work : Work) (tries count : ℕ) (sizes : List (ℕ × ℕ)) (ending : Ending) (ins : List InRun)
-    (outputs : List OutRun) (note : Change) (run_moments : Option Moments) : Type 0 where
+-- what a run of a job leaves, before its account is reported
+pub record Ran (job : Job) (ending : Ending) (x : RunChange) : Type 0 where
   pub start : ℤ
   pub journal : List Entry
-  pub run : IsRun work tries (run_setup count sizes start) ins outputs run_moments journal
+  pub run : IsRun job start x journal
   -- the states of the inputs; a limit was reached, or a read failed, exactly where one of them says so
   pub state : ℕ → InState
-  pub ends : (number : ℕ) → number < count →
-      EndsSo ending.limit ins number (state number) (run_at ins number) (run.has.taken number) journal
-  pub limit : IsOneOf states.LimitReached count state ending.limit
-  pub read_fault : IsOneOf states.Faulted count state ending.read_fault
-  pub left : IsLeft ending.left (run_setup count sizes start) journal
-  pub account : ending.account.items ≡ account_of (run_setup count sizes start) journal
-  pub noted : IsPutSo ending.journal_fault note (text_of (run_setup count sizes start) journal)
+  pub ends : (number : ℕ) → number < length job.inputs →
+      EndsSo ending.limit x.ins number (state number) (run.has.taken number) journal
+  pub limit : IsOneOf states.LimitReached (length job.inputs) state ending.limit
+  pub read_fault : IsOneOf states.Faulted (length job.inputs) state ending.read_fault
+  pub left : IsLeft ending.left (setup_of job start) journal
+  pub account : ending.account.items ≡ account_of (setup_of job start) journal
+  pub noted : IsPutSo ending.journal_fault x.journal (text_of (setup_of job start) journal)

@@ -1,20 +1,18 @@
 -- What a core keeps between the steps of a run.
 use Rattle.std.specs.Prelude.{◌≡◌, ◌≢◌, ◌<◌, ◌≤◌, ◌+◌, ◌-◌, ◌^◌, ◌⊎◌, ℕ, min, Bool, List, [], true}
 use Rattle.std.specs.Prelude.{false}
-use Rattle.std.specs.Prelude.{length, slice_get, Result, Ok, Err, ⊤}
-use Rattle.std.specs.declared.option.Option.{Option}
-use Rattle.std.specs.declared.option.Option.TheVariants.{Some, None}
+use Rattle.std.specs.Prelude.{length, slice_get, IsSome}
+use Rattle.std.specs.declared.option.Option.TheVariants.{None}
 use Rattle.account.specs.Numbers.{output_numbers}
 use Rattle.account.specs.declared.entry.Entry.{Entry}
 use Rattle.out_lane.specs.Lane.{LaneState}
-use Rattle.pipeline_core.specs.Work.{Work}
 use Rattle.pipeline_core.specs.CoreState.{CoreState, lane_at}
-use Rattle.pipeline_core.specs.Stands.{Stands}
-use Rattle.pipeline_core.specs.Worked.{views_of}
+use Rattle.account.specs.declared.entry.Entry.TheVariants.{Begin}
+use Rattle.pipeline_core.specs.Stands.{Stands, Continues}
+use Rattle.pipeline_core.specs.Steps.{IsBatchOf, after_begin}
+use Rattle.pipeline_core.specs.declared.batches.Batch.{Batch}
 use Rattle.pipeline_core.specs.declared.output.Offer.{Offer}
-use Rattle.metric.specs.declared.metric.Content.{Content}
-use Rattle.pipeline_core.specs.declared.routing.Routed.{Routed}
-use Rattle.agent_workers.specs.Inputs.{InPart, AreOut}
+use Rattle.agent_workers.specs.Inputs.{InPart, IsFullOf, AreOut}
 use Rattle.agent_workers.specs.Output.{OutPart, out_at}
 use Rattle.agent_workers.specs.declared.output.Flush.{Flush}
 
@@ -50,6 +48,13 @@ pub record IsGatheredAt (input : ℕ) (old new : CoreState) : Type 0 where
 abbrev pub HasMoved : CoreState → CoreState → Type 0
 HasMoved old new = (old.raw ≢ []) ⊎ (length old.stored < length new.stored)
 
+-- what an input held was offered: where the run is full it is read no more; else it is read on as it was, and what it held
+-- was accepted, or items were raw
+pub record HasOffered (full : Bool) (old new : CoreState) (part new_part : InPart) : Type 0 where
+  pub limit : full ≡ true → IsFullOf new.gathered new_part
+  pub room : full ≡ false → new_part.state ≡ part.state
+  pub moved : full ≡ false → (part.held ≢ None) → HasMoved old new
+
 -- items are raw, or an entry was made
 abbrev pub HasGone : CoreState → CoreState → Type 0
 HasGone old new = (new.raw ≢ []) ⊎ (length old.stored < length new.stored)
@@ -78,10 +83,16 @@ pub record HasJournal (core : CoreState) : Type 0 where
   pub journal : List Entry
   pub stands : Stands core journal
 
--- so it does, where the call did what it was asked for
-abbrev pub StillStands : {T E : Type 0} → Result T E → CoreState → Type 0
-StillStands (Ok done) core = HasJournal core
-StillStands (Err fault) core = ⊤
+-- a core between two steps of a run: it is ready for the next one, and stands for a legal journal
+pub record IsAtRest (core : CoreState) : Type 0 where
+  pub ready : IsReady core
+  pub stands : HasJournal core
+
+-- and that of a run that wasn't stopped
+pub record IsRunning (core : CoreState) : Type 0 where
+  pub ready : IsReady core
+  pub stands : HasJournal core
+  pub going : core.stopped ≡ false
 
 -- batches were sent: the set-up, what is raw, in hand, ended and stopped are as before
 pub record IsSentOn (old new : CoreState) : Type 0 where
@@ -110,11 +121,23 @@ waiting_at core output = length (lane_at core.lanes output).waiting
 abbrev pub buffered_at : CoreState → ℕ → ℕ
 buffered_at core output = (output_numbers core.numbers output).buffered
 
+-- nothing waits at an output, and nothing is buffered
+abbrev pub HasNothing : ℕ → CoreState → Type 0
+HasNothing output core = (waiting_at core output ≡ 0) × (buffered_at core output ≡ 0)
+
+-- the next batch of an output, where a metric waits, was begun
+pub record BeginsNext (output : ℕ) (old new : CoreState) (batch : Batch) : Type 0 where
+  pub waits : waiting_at old output ≢ 0
+  pub batch_is : IsBatchOf (lane_at old.lanes output) batch
+  pub after : new ≡ after_begin old output batch.from batch.to
+  pub continues : Continues old new (Begin output batch.from batch.to)
+  pub flies : IsSome (lane_at new.lanes output).flight
+
 -- what sending an output's batches left: nothing waits and nothing is buffered where it was emptied; else its
 -- last put failed, and where none was accepted there was one put, and metrics had waited before
 pub record HasFlushed (flush : Flush) (output : ℕ) (old new : CoreState) (failed new_failed : ℕ)
     : Type 0 where
-  pub emptied : flush.emptied ≡ true → (waiting_at new output ≡ 0) × (buffered_at new output ≡ 0)
+  pub emptied : flush.emptied ≡ true → HasNothing output new
   pub failed_last : flush.emptied ≡ false → 1 ≤ new_failed
   pub stuck : flush.emptied ≡ false → flush.accepted ≡ false →
       (waiting_at old output ≢ 0) × (new_failed ≡ min (failed + 1) (2 ^ 32 - 1))
@@ -128,7 +151,7 @@ AreSettled core outs = (output : ℕ) → output < length outs →
 -- one put more failed
 abbrev pub WasTried : ℕ → CoreState → CoreState → ℕ → ℕ → Type 0
 WasTried output old new failed new_failed =
-    ((waiting_at new output ≡ 0) × (buffered_at new output ≡ 0))
+    HasNothing output new
     ⊎ ((waiting_at old output ≢ 0) × (new_failed ≡ min (failed + 1) (2 ^ 32 - 1)))
 
 -- what one repeat over all outputs left
@@ -150,11 +173,6 @@ AreLeft tries core outs = (output : ℕ) → output < length outs →
     (buffered_at core output ≡ 0) ⊎ (tries ≤ (out_at outs output).failed_since)
 
 -- whether a metric is buffered at an output
-abbrev pub IsLeftOver : Bool → CoreState → Type 0
-IsLeftOver false core = (output : ℕ) → output < length core.setup.outputs → buffered_at core output ≡ 0
-IsLeftOver true core = (output : ℕ) × (output < length core.setup.outputs) × (buffered_at core output ≢ 0)
-
--- an item is routed with itself as its whole, and with what each output's filter gives for it
-abbrev pub routed_by : Work → ℕ → Content → Routed
-routed_by work item metric = record
-    { item = item; whole = Some metric; aggs = []; outs = views_of work.outs (Some metric) }
+abbrev pub SomeIsBuffered : Bool → CoreState → Type 0
+SomeIsBuffered false core = (output : ℕ) → output < length core.setup.outputs → buffered_at core output ≡ 0
+SomeIsBuffered true core = (output : ℕ) × (output < length core.setup.outputs) × (buffered_at core output ≢ 0)

@@ -6,10 +6,10 @@ ghost use Rattle.pipeline_core.specs.CoreState.{CoreState};
 ghost use Rattle.agent_workers.specs.Inputs.{gathered_of, read_state};
 ghost use Rattle.agent_workers.specs.Inputs.{in_of, ins_of, is_ended, IsSameInput, AreSameInputs, HoldsOwn, HoldsNoEnd};
 ghost use Rattle.agent_workers.specs.Inputs.{FitsInput, AreInputs, IsCutBy, IsOut, AreOut, IsMoved, HasMetEnd};
-ghost use Rattle.agent_workers.specs.Inputs.{IsOffered, IsFullOf, OneIsFull, IsOneIn};
+ghost use Rattle.agent_workers.specs.Inputs.{IsOffered, IsFullOf, IsReadable, OneIsFull, IsOneIn, rule_of};
+ghost use Rattle.agent_workers.specs.Running.{HasMoved, HasOffered};
 ghost use Rattle.agent_workers.specs.Progress.{ReadsAt, GathersAt, EndsAt, GathersOn};
-ghost use Rattle.agent_workers.specs.Running.{IsReady, HasJournal, StillStands, IsGathered, IsGatheredAt};
-ghost use Rattle.agent_workers.specs.Running.{HasMoved, IdlesOut};
+ghost use Rattle.agent_workers.specs.Running.{IsRunning, IsGathered, IsGatheredAt, IdlesOut};
 
 use agent_base::{Clock, Pieces, Source};
 use fixed_num::{Moment, OutOfMemory, Seq};
@@ -85,8 +85,7 @@ fn read_on<S: Source + Drop, C: Clock + Drop>(
     alloc: Global,
     job: &mut InJob<'_, S, C>,
 ) -> Result<bool, OutOfMemory>
-    requires some { 1 ≤ job.old.gather_pieces }
-    requires filled { All IsFilledTag job.old.globals.now }
+    requires readable { IsReadable (rule_of job.old) }
     requires cut_by { IsCutBy (in_of S.told C.told job.old) }
     requires reading { job.old.state ≡ InState.Reading }
     requires free { job.old.held ≡ None }
@@ -111,8 +110,7 @@ fn read_where_free<S: Source + Drop, C: Clock + Drop>(
     alloc: Global,
     job: &mut InJob<'_, S, C>,
 ) -> Result<bool, OutOfMemory>
-    requires some { 1 ≤ job.old.gather_pieces }
-    requires filled { All IsFilledTag job.old.globals.now }
+    requires readable { IsReadable (rule_of job.old) }
     requires cut_by { IsCutBy (in_of S.told C.told job.old) }
     requires own { HoldsOwn (in_of S.told C.told job.old) }
     requires none_held { HoldsNoEnd job.old.state job.old.held }
@@ -137,21 +135,15 @@ fn offer<S: Source + Drop, C: Clock + Drop>(
     core: &mut Core,
     job: &mut InJob<'_, S, C>,
 ) -> Result<bool, OutOfMemory>
-    requires ready { IsReady core.old }
+    requires running { IsRunning core.old }
     requires fits { FitsInput job.old.input core.old.ended (in_of S.told C.told job.old) }
-    requires going { core.old.stopped ≡ false }
-    requires stands { HasJournal core.old }
-    ensures ready { OnOk result (IsReady core.new) }
-    ensures stands { StillStands result core.new }
+    ensures running { OnOk result (IsRunning core.new) }
     ensures kept { OnOk result (IsGatheredAt job.old.input core.old core.new) }
     ensures ended { OnOk result (core.new.ended ≡ core.old.ended) }
     ensures part { OnOk result (IsOffered (in_of S.told C.told job.old) (in_of S.told C.told job.new)) }
     ensures fits { OnOk result (FitsInput job.old.input core.new.ended (in_of S.told C.told job.new)) }
-    ensures full { IfOk result (λ full. full ≡ true → IsFullOf core.new.gathered
+    ensures offered { IfOk result (λ full. HasOffered full core.old core.new (in_of S.told C.told job.old)
         (in_of S.told C.told job.new)) }
-    ensures room { IfOk result (λ full. full ≡ false → job.new.state ≡ job.old.state) }
-    ensures moved { IfOk result (λ full. full ≡ false → (job.old.held ≢ None)
-        → HasMoved core.old core.new) }
     ensures none { job.old.held ≡ None → job.new.held ≡ None }
     ensures same { IsSameInput (in_of S.told C.told job.old) (in_of S.told C.told job.new) }
     ensures gathers { OnOk result (GathersAt core.old core.new (in_of S.told C.told job.old) (in_of S.told C.told job.new)) }
@@ -185,12 +177,9 @@ fn end_where_met<S: Source + Drop, C: Clock + Drop>(
     job: &mut InJob<'_, S, C>,
     met: bool,
 ) -> Result<(), OutOfMemory>
-    requires ready { IsReady core.old }
+    requires running { IsRunning core.old }
     requires fits { FitsInput job.old.input core.old.ended (in_of S.told C.told job.old) }
-    requires going { core.old.stopped ≡ false }
-    requires stands { HasJournal core.old }
-    ensures ready { OnOk result (IsReady core.new) }
-    ensures stands { StillStands result core.new }
+    ensures running { OnOk result (IsRunning core.new) }
     ensures kept { OnOk result (IsGatheredAt job.old.input core.old core.new) }
     ensures fits { OnOk result (FitsInput job.old.input core.new.ended (in_of S.told C.told job.new)) }
     ensures held { job.new.held ≡ job.old.held }
@@ -215,12 +204,9 @@ fn turn<S: Source + Drop, C: Clock + Drop>(
     core: &mut Core,
     job: &mut InJob<'_, S, C>,
 ) -> Result<bool, OutOfMemory>
-    requires ready { IsReady core.old }
+    requires running { IsRunning core.old }
     requires fits { FitsInput job.old.input core.old.ended (in_of S.told C.told job.old) }
-    requires going { core.old.stopped ≡ false }
-    requires stands { HasJournal core.old }
-    ensures ready { OnOk result (IsReady core.new) }
-    ensures stands { StillStands result core.new }
+    ensures running { OnOk result (IsRunning core.new) }
     ensures kept { OnOk result (IsGatheredAt job.old.input core.old core.new) }
     ensures fits { OnOk result (FitsInput job.old.input core.new.ended (in_of S.told C.told job.new)) }
     ensures full { IfOk result (λ full. full ≡ true → IsFullOf core.new.gathered
@@ -245,13 +231,10 @@ pub fn gather_each<S: Source + Drop, C: Clock + Drop>(
     core: &mut Core,
     inputs: &mut [InJob<'_, S, C>],
 ) -> Result<bool, OutOfMemory>
-    requires ready { IsReady core.old }
+    requires running { IsRunning core.old }
     requires inputs { AreInputs (length core.old.setup.inputs) core.old.ended
         (ins_of S.told C.told inputs.old) }
-    requires going { core.old.stopped ≡ false }
-    requires stands { HasJournal core.old }
-    ensures ready { OnOk result (IsReady core.new) }
-    ensures stands { StillStands result core.new }
+    ensures running { OnOk result (IsRunning core.new) }
     ensures kept { OnOk result (IsGathered core.old core.new) }
     ensures inputs { OnOk result (AreInputs (length core.old.setup.inputs) core.new.ended
         (ins_of S.told C.told inputs.new)) }

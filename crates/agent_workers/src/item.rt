@@ -1,13 +1,12 @@
 //! Routing the items to the outputs.
-ghost use Rattle.std.specs.Prelude.{◌≡◌, ◌≤◌, ◌+◌, ℕ, [], Ok, OnOk, Some, None, false, true, length};
-ghost use Rattle.std.specs.Prelude.{IfOk};
-ghost use Rattle.pipeline_core.specs.CoreState.{CoreState};
-ghost use Rattle.pipeline_core.specs.Stands.{Continues};
-ghost use Rattle.pipeline_core.specs.Steps.{after_route, route_entry};
+ghost use Rattle.std.specs.Prelude.{◌≡◌, ◌+◌, [], Ok, OnOk, Some, None, false, true, length};
+ghost use Rattle.std.specs.Prelude.{IfOk, IfSome};
+ghost use Rattle.std.specs.Option.{IfNone};
 ghost use Rattle.pipeline_core.specs.Worked.{views_of};
+ghost use Rattle.agent_workers.specs.Item.{proc_of, routed_by, TakesNext};
+ghost use Rattle.agent_workers.specs.Job.{work_of};
 ghost use Rattle.agent_workers.specs.Progress.{GoesOn};
-ghost use Rattle.agent_workers.specs.Rules.{work_by};
-ghost use Rattle.agent_workers.specs.Running.{IsReady, IsRoutable, HasJournal, StillStands, routed_by};
+ghost use Rattle.agent_workers.specs.Running.{IsAtRest, IsRoutable};
 
 use agent_config::OutputConf;
 use fixed_num::{OutOfMemory, Seq};
@@ -34,7 +33,7 @@ fn views_of(
     metric: &Metric,
     confs: &[OutputConf],
 ) -> Result<Seq<Option<Metric>>, OutOfMemory>
-    ensures { IfOk result (λ views. views ≡ views_of (work_by confs.now).outs (Some metric.now)) }
+    ensures { IfOk result (λ views. views ≡ views_of (work_of confs.now).outs (Some metric.now)) }
 {
     if let [conf] = confs {
         return Ok(Seq::of_one(conf.filter.apply_to(metric.copy()?)?));
@@ -46,71 +45,78 @@ fn views_of(
     Ok(Seq::of(views))
 }
 
-/// Routes an item, with what each output's filter gives for it.
-fn route(
-    alloc: Global,
-    core: &mut Core,
-    item: Item,
-    confs: &[OutputConf],
-) -> Result<(), OutOfMemory>
-    requires held { core.old.held ≡ Some item.number }
-    requires outputs { length confs.now ≡ length core.old.setup.outputs }
-    requires no_aggs { core.old.setup.aggs ≡ [] }
-    requires stands { HasJournal core.old }
-    ensures ok { OnOk result (IsRoutable core.old core.new) }
-    ensures held { OnOk result (core.new.held ≡ None) }
-    ensures raw { OnOk result (core.new.raw ≡ core.old.raw) }
-    ensures stands { StillStands result core.new }
-    ensures after { OnOk result (core.new ≡ after_route core.old (routed_by (work_by confs.now) item.number item.metric)) }
-    ensures continues { OnOk result (Continues core.old core.new
-        (route_entry core.old (routed_by (work_by confs.now) item.number item.metric))) }
+/// Takes the next raw item, where there is one.
+fn take_next(core: &mut Core) -> Result<Option<Item>, OutOfMemory>
+    requires { core.old.held ≡ None }
+    ensures none { IfOk result (λ next. IfNone next ((core.new ≡ core.old) × (core.old.raw ≡ []))) }
+    ensures some { IfOk result (λ next. IfSome next (TakesNext core.old core.new)) }
 {
-    let outs = views_of(alloc, &item.metric, confs)?;
-    core.route(Routed {
+    match core.take() {
+        Ok(item) => Ok(Some(item)),
+        Err(TakeAnswer::Empty) => Ok(None),
+        Err(TakeAnswer::InHand) => unreachable!(),
+        Err(TakeAnswer::OutOfMemory) => Err(OutOfMemory),
+    }
+}
+
+/// How an item is routed: with what each output's filter gives for it.
+fn routing<C: Drop>(
+    alloc: Global,
+    proc: &mut ProcJob<'_, C>,
+    item: Item,
+) -> Result<Routed, OutOfMemory>
+    ensures routed { IfOk result
+        (λ routed. routed ≡ routed_by (work_of proc.old.outs.now) item.number item.metric) }
+    ensures same { proc.new.outs.now ≡ proc.old.outs.now }
+{
+    let outs = views_of(alloc, &item.metric, proc.outs)?;
+    Ok(Routed {
         item: item.number,
         whole: Some(item.metric),
         aggs: Seq::of(Vec::new(alloc)),
         outs,
-    })?;
-    Ok(())
+    })
 }
 
 /// Takes the next raw item and routes it, and says whether there was one.
-fn route_next(alloc: Global, core: &mut Core, confs: &[OutputConf]) -> Result<bool, OutOfMemory>
-    requires ready { IsReady core.old }
-    requires outputs { length confs.now ≡ length core.old.setup.outputs }
-    requires stands { HasJournal core.old }
-    ensures ready { OnOk result (IsReady core.new) }
+fn route_next<C: Drop>(
+    alloc: Global,
+    core: &mut Core,
+    proc: &mut ProcJob<'_, C>,
+) -> Result<bool, OutOfMemory>
+    requires rests { IsAtRest core.old }
+    requires outputs { length proc.old.outs.now ≡ length core.old.setup.outputs }
+    ensures rests { OnOk result (IsAtRest core.new) }
     ensures kept { OnOk result (IsRoutable core.old core.new) }
     ensures none { result ≡ Ok false → core.new.raw ≡ [] }
     ensures fewer { result ≡ Ok true → length core.new.raw + 1 ≡ length core.old.raw }
-    ensures stands { StillStands result core.new }
-    ensures goes { OnOk result (GoesOn (work_by confs.now) core.old core.new) }
+    ensures same { proc.new.outs.now ≡ proc.old.outs.now }
+    ensures goes { OnOk result (GoesOn core.old core.new (proc_of proc.old) (proc_of proc.new)) }
 {
-    match core.take() {
-        Ok(item) => {
-            route(alloc, core, item, confs)?;
-            Ok(true)
-        }
-        Err(TakeAnswer::OutOfMemory) => Err(OutOfMemory),
-        Err(TakeAnswer::InHand) => Ok(false),
-        Err(TakeAnswer::Empty) => Ok(false),
-    }
+    let Some(item) = take_next(core)? else {
+        return Ok(false);
+    };
+    let routed = routing(alloc, proc, item)?;
+    core.route(routed)?;
+    Ok(true)
 }
 
 /// Routes raw items, at most 65,536, and says whether there may be others.
-pub fn route_some(alloc: Global, core: &mut Core, confs: &[OutputConf]) -> Result<bool, OutOfMemory>
-    requires ready { IsReady core.old }
-    requires outputs { length confs.now ≡ length core.old.setup.outputs }
-    requires stands { HasJournal core.old }
-    ensures ready { OnOk result (IsReady core.new) }
+pub fn route_some<C: Drop>(
+    alloc: Global,
+    core: &mut Core,
+    proc: &mut ProcJob<'_, C>,
+) -> Result<bool, OutOfMemory>
+    requires rests { IsAtRest core.old }
+    requires outputs { length proc.old.outs.now ≡ length core.old.setup.outputs }
+    ensures rests { OnOk result (IsAtRest core.new) }
     ensures kept { OnOk result (IsRoutable core.old core.new) }
     ensures none { result ≡ Ok false → core.new.raw ≡ [] }
-    ensures stands { StillStands result core.new }
-    ensures goes { OnOk result (GoesOn (work_by confs.now) core.old core.new) }
+    ensures same { proc.new.outs.now ≡ proc.old.outs.now }
+    ensures goes { OnOk result (GoesOn core.old core.new (proc_of proc.old) (proc_of proc.new)) }
 {
     for _taken in 0..ROUTED_AT_ONCE {
-        if !route_next(alloc, core, confs)? {
+        if !route_next(alloc, core, proc)? {
             return Ok(false);
         }
     }
@@ -118,18 +124,21 @@ pub fn route_some(alloc: Global, core: &mut Core, confs: &[OutputConf]) -> Resul
 }
 
 /// Routes all raw items, each with what each output's filter gives for it.
-pub fn route_all(alloc: Global, core: &mut Core, confs: &[OutputConf]) -> Result<(), OutOfMemory>
-    requires ready { IsReady core.old }
-    requires outputs { length confs.now ≡ length core.old.setup.outputs }
-    requires stands { HasJournal core.old }
-    ensures ready { OnOk result (IsReady core.new) }
+pub fn route_all<C: Drop>(
+    alloc: Global,
+    core: &mut Core,
+    proc: &mut ProcJob<'_, C>,
+) -> Result<(), OutOfMemory>
+    requires rests { IsAtRest core.old }
+    requires outputs { length proc.old.outs.now ≡ length core.old.setup.outputs }
+    ensures rests { OnOk result (IsAtRest core.new) }
     ensures kept { OnOk result (IsRoutable core.old core.new) }
     ensures none { OnOk result (core.new.raw ≡ []) }
-    ensures stands { StillStands result core.new }
-    ensures goes { OnOk result (GoesOn (work_by confs.now) core.old core.new) }
+    ensures same { proc.new.outs.now ≡ proc.old.outs.now }
+    ensures goes { OnOk result (GoesOn core.old core.new (proc_of proc.old) (proc_of proc.new)) }
 {
     for _part in 0..u64::MAX {
-        if !route_some(alloc, core, confs)? {
+        if !route_some(alloc, core, proc)? {
             return Ok(());
         }
     }

@@ -7,11 +7,13 @@ ghost use Rattle.pipeline_core.specs.CoreState.{CoreState};
 ghost use Rattle.pipeline_core.specs.Steps.{after_cut};
 ghost use Rattle.agent_workers.specs.Noted.{part_of, IsPartPut, GoesOut, SpellsOut, NotesOn, EndsOn};
 ghost use Rattle.agent_workers.specs.Progress.{NotesRun};
-ghost use Rattle.agent_workers.specs.Running.{IsReady, HasJournal, StillStands};
+ghost use Rattle.agent_workers.specs.Run.{carried_change};
+ghost use Rattle.agent_workers.specs.Running.{IsAtRest};
 ghost use Rattle.journal_text.specs.SoFar.{front_text};
 
+use crate::output::put_failed;
 use account::Entry;
-use agent_base::{PutFault, Sink};
+use agent_base::Sink;
 use fixed_num::{OutOfMemory, Seq};
 use journal_text::{
     JournalSetup, named_by, write_end, write_head, write_metric, write_reports, write_setup,
@@ -253,8 +255,7 @@ fn empty(text: &mut Vec<u8>)
 // Puts the text of a part, unless it is empty or a put failed before, and says whether one failed.
 fn put_part<K: Sink>(sink: &mut K, failed: bool, text: &[u8]) -> Result<bool, OutOfMemory>
     ensures { IfOk result
-        (λ now. IsPartPut failed now text.now (K.told sink.old).bytes (K.told sink.new).bytes (K.told sink.old).faults
-        (K.told sink.new).faults) }
+        (λ now. IsPartPut failed now (carried_change (K.told sink.old) (K.told sink.new)) text.now) }
 {
     if failed {
         return Ok(true);
@@ -262,11 +263,8 @@ fn put_part<K: Sink>(sink: &mut K, failed: bool, text: &[u8]) -> Result<bool, Ou
     if text.is_empty() {
         return Ok(false);
     }
-    match sink.put(text) {
-        Ok(()) => Ok(false),
-        Err(PutFault::Failed) => Ok(true),
-        Err(PutFault::OutOfMemory) => Err(OutOfMemory),
-    }
+    let now = put_failed(sink, text)?;
+    Ok(now)
 }
 
 // The item of a Route, the first of those that weren't routed.
@@ -340,11 +338,9 @@ pub fn note<K: Sink + Drop, C: Drop>(
     text: &mut Vec<u8>,
     journal: &mut JournalJob<K, C>,
 ) -> Result<(), OutOfMemory>
-    requires ready { IsReady core.old }
-    requires stands { HasJournal core.old }
-    ensures ready { OnOk result (IsReady core.new) }
+    requires rests { IsAtRest core.old }
+    ensures rests { OnOk result (IsAtRest core.new) }
     ensures noted { OnOk result (core.new ≡ after_cut core.old) }
-    ensures stands { StillStands result core.new }
     ensures notes { OnOk result
         (NotesRun core.old core.new (part_of K.told journal.old)
         (part_of K.told journal.new)) }

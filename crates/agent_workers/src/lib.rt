@@ -7,6 +7,7 @@ mod item;
 mod journal;
 mod output;
 mod parts;
+mod rounds;
 mod serial;
 mod setup;
 
@@ -15,4 +16,5 @@ pub use item::ProcJob;
 pub use journal::JournalJob;
 pub use output::OutJob;
 pub use parts::{Clocks, Opened, Parts, set_up};
-pub use serial::{Ending, finish, run};
+pub use rounds::Ending;
+pub use serial::{finish, run};

@@ -1,20 +1,21 @@
 //! An output: sending the batches.
 ghost use Rattle.std.specs.Prelude.{◌&&◌, ◌||◌, true, false};
 ghost use Rattle.std.specs.Prelude.{◌≡◌, ◌≢◌, ◌<◌, ◌≤◌, ◌+◌, ◌-◌, ◌^◌, ℕ, [], Ok, IfOk, OnOk, length, map};
-ghost use Rattle.std.specs.Prelude.{min};
-ghost use Rattle.pipeline_core.specs.CoreState.{CoreState, lane_at};
-ghost use Rattle.agent_workers.specs.Output.{out_of, outs_of, anew, AreOutputs};
+ghost use Rattle.std.specs.Prelude.{min, None, IfSome};
+ghost use Rattle.std.specs.Option.{IfNone};
+ghost use Rattle.pipeline_core.specs.CoreState.{lane_at};
+ghost use Rattle.formats.specs.Batches.{batch_text};
+ghost use Rattle.agent_workers.specs.Output.{out_of, outs_of, after_put, anew, AreOutputs};
 ghost use Rattle.agent_workers.specs.Progress.{SendsAt, SendsOn};
-ghost use Rattle.agent_workers.specs.Running.{IsReady, HasJournal, StillStands, IsSentOn, IsSentAt};
-ghost use Rattle.agent_workers.specs.Running.{HasFlushed, HasSwept, HaveFailed, AreLeft, waiting_at};
-ghost use Rattle.agent_workers.specs.Running.{buffered_at};
+ghost use Rattle.agent_workers.specs.Run.{carried_change, IsPut};
+ghost use Rattle.agent_workers.specs.Running.{BeginsNext, IsAtRest, IsSentOn, IsSentAt};
+ghost use Rattle.agent_workers.specs.Running.{HasFlushed, HasNothing, HasSwept, AreLeft, waiting_at};
 
 use agent_base::{PutFault, Sink};
 use fixed_num::OutOfMemory;
 use format_words::OutFormat;
 use formats::write_batch;
-use metric::Metric;
-use pipeline_core::{BeginAnswer, Core};
+use pipeline_core::{Batch, BeginAnswer, Core};
 use std::alloc::Global;
 
 /// An output of a run.
@@ -77,6 +78,61 @@ pub fn begin_anew<K: Sink + Drop, C: Drop>(outputs: &mut [OutJob<K, C>])
     }
 }
 
+/// Begins the next batch of an output, where a metric waits there.
+fn begin_next(core: &mut Core, output: u32) -> Result<Option<Batch>, OutOfMemory>
+    requires known { output < length core.old.setup.outputs }
+    requires landed { (lane_at core.old.lanes output).flight ≡ None }
+    ensures none { IfOk result (λ next. IfNone next ((core.new ≡ core.old) × HasNothing output core.old)) }
+    ensures some { IfOk result (λ next. IfSome next (BeginsNext output core.old core.new)) }
+{
+    match core.begin(output) {
+        Ok(batch) => Ok(Some(batch)),
+        Err(BeginAnswer::NothingWaiting) => Ok(None),
+        Err(BeginAnswer::InFlight) => unreachable!(),
+        Err(BeginAnswer::OutOfMemory) => Err(OutOfMemory),
+    }
+}
+
+/// Puts a text, and says whether that failed.
+pub fn put_failed<K: Sink>(sink: &mut K, text: &[u8]) -> Result<bool, OutOfMemory>
+    ensures { IfOk result (λ failed. IsPut failed (carried_change (K.told sink.old) (K.told sink.new)) text.now) }
+{
+    match sink.put(text) {
+        Ok(()) => Ok(false),
+        Err(PutFault::Failed) => Ok(true),
+        Err(PutFault::OutOfMemory) => Err(OutOfMemory),
+    }
+}
+
+/// Puts a batch in its output's format, and says whether that failed.
+fn put_batch<K: Sink>(
+    alloc: Global,
+    sink: &mut K,
+    format: OutFormat,
+    batch: &Batch,
+    text: &mut Vec<u8>,
+) -> Result<bool, OutOfMemory>
+    ensures { IfOk result (λ failed. IsPut failed (carried_change (K.told sink.old) (K.told sink.new))
+        (batch_text format batch.now.metrics)) }
+{
+    write_batch(alloc, format, batch.metrics.as_slice(), text)?;
+    let failed = put_failed(sink, text)?;
+    Ok(failed)
+}
+
+/// Counts a batch whose put failed, or was accepted.
+fn count_put<K: Sink + Drop, C: Drop>(job: &mut OutJob<K, C>, failed: bool)
+    ensures { out_of K.told job.new ≡ after_put failed (K.told job.old.sink) (out_of K.told job.old) }
+{
+    if failed {
+        job.failed = job.failed.saturating_add(1);
+        job.failed_since = job.failed_since.saturating_add(1);
+    } else {
+        job.failed = 0;
+        job.failed_since = 0;
+    }
+}
+
 /// Sends the next batch of an output.
 fn send_next<K: Sink + Drop, C: Drop>(
     alloc: Global,
@@ -84,15 +140,12 @@ fn send_next<K: Sink + Drop, C: Drop>(
     text: &mut Vec<u8>,
     job: &mut OutJob<K, C>,
 ) -> Result<Sending, OutOfMemory>
-    requires ready { IsReady core.old }
+    requires rests { IsAtRest core.old }
     requires known { job.old.output < length core.old.setup.outputs }
     requires routed { core.old.raw ≡ [] }
-    requires stands { HasJournal core.old }
-    ensures ready { OnOk result (IsReady core.new) }
+    ensures rests { OnOk result (IsAtRest core.new) }
     ensures kept { OnOk result (IsSentAt job.old.output core.old core.new) }
-    ensures stands { StillStands result core.new }
-    ensures nothing { result ≡ Ok Sending.Nothing → (waiting_at core.new job.old.output ≡ 0)
-        × (buffered_at core.new job.old.output ≡ 0) }
+    ensures nothing { result ≡ Ok Sending.Nothing → HasNothing job.old.output core.new }
     ensures fewer { result ≡ Ok Sending.Accepted
         → waiting_at core.new job.old.output < waiting_at core.old job.old.output }
     ensures failed { result ≡ Ok Sending.Failed → (waiting_at core.old job.old.output ≢ 0)
@@ -101,28 +154,17 @@ fn send_next<K: Sink + Drop, C: Drop>(
     ensures sends { OnOk result
         (SendsAt core.old core.new (out_of K.told job.old) (out_of K.told job.new)) }
 {
-    let batch = match core.begin(job.output) {
-        Ok(batch) => batch,
-        Err(BeginAnswer::OutOfMemory) => return Err(OutOfMemory),
-        Err(BeginAnswer::InFlight) => return Ok(Sending::Nothing),
-        Err(BeginAnswer::NothingWaiting) => return Ok(Sending::Nothing),
+    let Some(batch) = begin_next(core, job.output)? else {
+        return Ok(Sending::Nothing);
     };
-    write_batch(alloc, job.format, batch.metrics.as_slice(), text)?;
-    match job.sink.put(text) {
-        Ok(()) => {
-            core.done(job.output, true);
-            job.failed = 0;
-            job.failed_since = 0;
-            Ok(Sending::Accepted)
-        }
-        Err(PutFault::Failed) => {
-            core.done(job.output, false);
-            job.failed = job.failed.saturating_add(1);
-            job.failed_since = job.failed_since.saturating_add(1);
-            Ok(Sending::Failed)
-        }
-        Err(PutFault::OutOfMemory) => Err(OutOfMemory),
-    }
+    let failed = put_batch(alloc, &mut job.sink, job.format, &batch, text)?;
+    core.done(job.output, !failed);
+    count_put(job, failed);
+    Ok(if failed {
+        Sending::Failed
+    } else {
+        Sending::Accepted
+    })
 }
 
 /// Sends batches of an output until nothing waits or a put fails.
@@ -132,13 +174,11 @@ pub fn send_all<K: Sink + Drop, C: Drop>(
     text: &mut Vec<u8>,
     job: &mut OutJob<K, C>,
 ) -> Result<Flush, OutOfMemory>
-    requires ready { IsReady core.old }
+    requires rests { IsAtRest core.old }
     requires known { job.old.output < length core.old.setup.outputs }
     requires routed { core.old.raw ≡ [] }
-    requires stands { HasJournal core.old }
-    ensures ready { OnOk result (IsReady core.new) }
+    ensures rests { OnOk result (IsAtRest core.new) }
     ensures kept { OnOk result (IsSentAt job.old.output core.old core.new) }
-    ensures stands { StillStands result core.new }
     ensures flushed { IfOk result (λ flush. HasFlushed flush job.old.output core.old core.new
         job.old.failed_since job.new.failed_since) }
     ensures number { job.new.output ≡ job.old.output }
@@ -173,13 +213,11 @@ pub fn send_each<K: Sink + Drop, C: Drop>(
     text: &mut Vec<u8>,
     outputs: &mut [OutJob<K, C>],
 ) -> Result<Flush, OutOfMemory>
-    requires ready { IsReady core.old }
+    requires rests { IsAtRest core.old }
     requires outputs { AreOutputs (length core.old.setup.outputs) (outs_of K.told outputs.old) }
     requires routed { core.old.raw ≡ [] }
-    requires stands { HasJournal core.old }
-    ensures ready { OnOk result (IsReady core.new) }
+    ensures rests { OnOk result (IsAtRest core.new) }
     ensures kept { OnOk result (IsSentOn core.old core.new) }
-    ensures stands { StillStands result core.new }
     ensures outputs { OnOk result
         (AreOutputs (length core.old.setup.outputs) (outs_of K.told outputs.new)) }
     ensures swept { IfOk result (λ sweep. HasSwept sweep core.old core.new
@@ -219,14 +257,12 @@ pub fn send_rest<K: Sink + Drop, C: Drop>(
     outputs: &mut [OutJob<K, C>],
     final_tries: u32,
 ) -> Result<(), OutOfMemory>
-    requires ready { IsReady core.old }
+    requires rests { IsAtRest core.old }
     requires outputs { AreOutputs (length core.old.setup.outputs) (outs_of K.told outputs.old) }
     requires routed { core.old.raw ≡ [] }
-    requires stands { HasJournal core.old }
     requires some { 1 ≤ final_tries }
-    ensures ready { OnOk result (IsReady core.new) }
+    ensures rests { OnOk result (IsAtRest core.new) }
     ensures kept { OnOk result (IsSentOn core.old core.new) }
-    ensures stands { StillStands result core.new }
     ensures outputs { OnOk result
         (AreOutputs (length core.old.setup.outputs) (outs_of K.told outputs.new)) }
     ensures rest { OnOk result

@@ -1,15 +1,16 @@
 //! The jobs of a run: what they are made of, and what they leave.
-ghost use Rattle.std.specs.Prelude.{◌≡◌, ◌≤◌, ◌<◌, ◌^◌, [], length, map, All, IfOk, IfErr, OnErr, vec_len, vec_capacity};
+ghost use Rattle.std.specs.Prelude.{◌≡◌, ◌≤◌, ◌<◌, ◌^◌, [], length, map, All, IfOk, IfErr, vec_len, vec_capacity};
+ghost use Rattle.agent_base.specs.Carried.{Timed};
 ghost use Rattle.agent_base.specs.Hand.{empty_hand};
 ghost use Rattle.agent_config.specs.Sound.{IsSound};
 ghost use Rattle.agent_workers.specs.Inputs.{in_of, ins_of};
-ghost use Rattle.agent_workers.specs.Noted.{part_of};
+ghost use Rattle.agent_workers.specs.Job.{job_of, journal_setup_of, setup_of};
+ghost use Rattle.agent_workers.specs.Opened.{carried_by, timed_by, empty_hands, in_carried, out_carried};
 ghost use Rattle.agent_workers.specs.Opened.{fresh_in, fresh_ins, fresh_out, fresh_outs};
-ghost use Rattle.agent_base.specs.Carried.{Timed};
-ghost use Rattle.agent_workers.specs.Opened.{conf_sizes, empty_hands, in_carried, out_carried, IsMadeOf, IsNewCore};
+ghost use Rattle.agent_workers.specs.Opened.{AreFor, HasRoom, HasRoomFor, IsMadeOf, IsNewCore};
 ghost use Rattle.agent_workers.specs.Output.{out_of, outs_of};
+ghost use Rattle.agent_workers.specs.RunState.{state_of};
 ghost use Rattle.formats.specs.Reader.{cut_of};
-ghost use Rattle.agent_workers.specs.PipeSetup.{run_setup, journal_setup_of};
 
 use crate::input::InJob;
 use crate::item::ProcJob;
@@ -50,6 +51,13 @@ pub struct Clocks<C: Drop> {
     pub outputs: Vec<C>,
 }
 
+/// Empty lists with room for the sources and the sinks of a run: they are given back in these, which takes no memory.
+#[derive(Drop)]
+pub struct Back<S: Drop, K: Drop> {
+    pub sources: Vec<S>,
+    pub sinks: Vec<K>,
+}
+
 /// The jobs of a run. They borrow the filters and the global tags of its configuration.
 #[derive(Drop)]
 pub struct Parts<'a, S: Drop, K: Drop, C: Drop> {
@@ -63,6 +71,8 @@ pub struct Parts<'a, S: Drop, K: Drop, C: Drop> {
     pub journal: JournalJob<K, C>,
     /// How often in succession a repeat that had no batch accepted is tried at the end.
     pub final_tries: u32,
+    /// The lists in which its sources and sinks are given back.
+    pub back: Back<S, K>,
 }
 
 /// All that a run takes memory for at its begin: its core, what its journal is about, and room for its jobs.
@@ -73,6 +83,7 @@ struct Room<'a, S: Drop, K: Drop, C: Drop> {
     pieces: Vec<Pieces>,
     inputs: Vec<InJob<'a, S, C>>,
     outputs: Vec<OutJob<K, C>>,
+    back: Back<S, K>,
 }
 
 /// What was taken of inputs of which nothing was read.
@@ -94,25 +105,32 @@ fn make_room<'a, S: Source + Drop, K: Sink + Drop, C: Clock + Drop>(
 ) -> Result<Room<'a, S, K, C>, OutOfMemory>
     requires sound { IsSound config.now }
     ensures core { IfOk result (λ room. IsNewCore config.now start room.core) }
-    ensures about { IfOk result (λ room. room.about
-        ≡ journal_setup_of (run_setup (length config.now.inputs) (map conf_sizes config.now.outputs) start)) }
+    ensures about { IfOk result (λ room. room.about ≡ journal_setup_of (setup_of (job_of config.now) start)) }
     ensures pieces { IfOk result (λ room. room.pieces.items ≡ empty_hands config.now.inputs) }
     ensures inputs { IfOk result (λ room. room.inputs.items ≡ []) }
     ensures in_room { IfOk result (λ room. length config.now.inputs ≤ vec_capacity room.inputs) }
     ensures outputs { IfOk result (λ room. room.outputs.items ≡ []) }
     ensures out_room { IfOk result (λ room. length config.now.outputs ≤ vec_capacity room.outputs) }
+    ensures back { IfOk result (λ room. HasRoomFor config.now room.back) }
 {
-    let confs = config.outputs.as_slice();
-    let count = config.inputs.as_slice().len();
-    let core = new_core(alloc, count, confs, start)?;
-    let about = journal_setup(alloc, count, confs, start)?;
+    let core = new_core(alloc, config, start)?;
+    let about = journal_setup(alloc, config, start)?;
     let pieces = empty_pieces(alloc, config.inputs.as_slice())?;
+    let (in_count, out_count) = (
+        config.inputs.as_slice().len(),
+        config.outputs.as_slice().len(),
+    );
+    let back = Back {
+        sources: Vec::with_capacity(alloc, in_count)?,
+        sinks: Vec::with_capacity(alloc, out_count)?,
+    };
     Ok(Room {
         core,
         about,
         pieces,
-        inputs: Vec::with_capacity(alloc, count)?,
-        outputs: Vec::with_capacity(alloc, confs.len())?,
+        inputs: Vec::with_capacity(alloc, in_count)?,
+        outputs: Vec::with_capacity(alloc, out_count)?,
+        back,
     })
 }
 
@@ -145,30 +163,37 @@ fn in_job<'a, S: Source + Drop, C: Clock + Drop>(
     }
 }
 
-/// Makes the job of each input, of its source, its clock and what is taken of it.
+/// Makes the job of each input, of its source, its clock and what is taken of it, in their order.
 fn fill_inputs<'a, S: Source + Drop, C: Clock + Drop>(
     config: &'a Config,
-    pieces: &mut Vec<Pieces>,
-    sources: &mut Vec<S>,
-    clocks: &mut Vec<C>,
+    pieces: Vec<Pieces>,
+    sources: Vec<S>,
+    clocks: Vec<C>,
     jobs: &mut Vec<InJob<'a, S, C>>,
 )
     requires sound { IsSound config.now }
-    requires pieces { pieces.old.items ≡ empty_hands config.now.inputs }
-    requires sources { vec_len sources.old ≡ length config.now.inputs }
-    requires clocks { vec_len clocks.old ≡ length config.now.inputs }
+    requires pieces { pieces.items ≡ empty_hands config.now.inputs }
+    requires sources { vec_len sources ≡ length config.now.inputs }
+    requires clocks { vec_len clocks ≡ length config.now.inputs }
     requires none { jobs.old.items ≡ [] }
     requires room { length config.now.inputs ≤ vec_capacity jobs.old }
-    ensures made { ins_of S.told C.told jobs.new.items ≡ fresh_ins config.now 0 config.now.inputs
-        (map S.told sources.old.items) (map C.told clocks.old.items) }
-    ensures left { sources.new.items ≡ [] }
-    ensures room_left { vec_capacity sources.new ≡ vec_capacity sources.old }
+    ensures { ins_of S.told C.told jobs.new.items ≡ fresh_ins config.now 0 config.now.inputs
+        (map S.told sources.items) (map C.told clocks.items) }
 {
+    let mut pieces = pieces.into_iter();
+    let mut sources = sources.into_iter();
+    let mut clocks = clocks.into_iter();
     for conf in config.inputs.as_slice() {
+        let Some(taken) = pieces.next() else {
+            unreachable!()
+        };
+        let Some(source) = sources.next() else {
+            unreachable!()
+        };
+        let Some(clock) = clocks.next() else {
+            unreachable!()
+        };
         let input = jobs.len();
-        let source = sources.remove(0);
-        let taken = pieces.remove(0);
-        let clock = clocks.remove(0);
         jobs.push_reserved(in_job(config, conf, input, source, taken, clock));
     }
 }
@@ -193,84 +218,77 @@ fn out_job<K: Sink + Drop, C: Drop>(
     }
 }
 
-/// Makes the job of each output, of its sink and its clock.
+/// Makes the job of each output, of its sink and its clock, in their order.
 fn fill_outputs<K: Sink + Drop, C: Drop>(
     config: &Config,
-    sinks: &mut Vec<K>,
-    clocks: &mut Vec<C>,
+    sinks: Vec<K>,
+    clocks: Vec<C>,
     jobs: &mut Vec<OutJob<K, C>>,
 )
     requires sound { IsSound config.now }
-    requires sinks { vec_len sinks.old ≡ length config.now.outputs }
-    requires clocks { vec_len clocks.old ≡ length config.now.outputs }
+    requires sinks { vec_len sinks ≡ length config.now.outputs }
+    requires clocks { vec_len clocks ≡ length config.now.outputs }
     requires none { jobs.old.items ≡ [] }
     requires room { length config.now.outputs ≤ vec_capacity jobs.old }
-    ensures made { outs_of K.told jobs.new.items
-        ≡ fresh_outs 0 config.now.outputs (map K.told sinks.old.items) }
-    ensures left { sinks.new.items ≡ [] }
-    ensures room_left { vec_capacity sinks.new ≡ vec_capacity sinks.old }
+    ensures { outs_of K.told jobs.new.items ≡ fresh_outs 0 config.now.outputs (map K.told sinks.items) }
 {
+    let mut sinks = sinks.into_iter();
+    let mut clocks = clocks.into_iter();
     for conf in config.outputs.as_slice() {
+        let Some(sink) = sinks.next() else {
+            unreachable!()
+        };
+        let Some(clock) = clocks.next() else {
+            unreachable!()
+        };
         let output = jobs.len();
-        let sink = sinks.remove(0);
-        let clock = clocks.remove(0);
         jobs.push_reserved(out_job(conf, output, sink, clock));
     }
 }
 
-/// A core in which nothing happened, and the jobs of a run that begins with it at a moment, made of the sources,
-/// the sinks and the journal's sink that are handed in. All memory is taken before one of them is: where it was
-/// short they are as they were, and the journal's is handed back. Else both lists are empty, and keep their room.
+/// A core in which nothing happened, and the jobs of a run that begins with it at a moment, made of its opened parts and
+/// its clocks. All memory is taken before one of the parts is moved: where it was short they are handed back.
 pub fn set_up<'a, S: Source + Drop, K: Sink + Drop, C: Clock + Drop>(
     alloc: Global,
     config: &'a Config,
     start: Moment,
-    sources: &mut Vec<S>,
-    sinks: &mut Vec<K>,
-    journal: K,
+    opened: Opened<S, K>,
     clocks: Clocks<C>,
-) -> Result<(Core, Parts<'a, S, K, C>), K>
+) -> Result<(Core, Parts<'a, S, K, C>), Opened<S, K>>
     requires sound { IsSound config.now }
-    requires sources { vec_len sources.old ≡ length config.now.inputs }
-    requires in_clocks { vec_len clocks.inputs ≡ length config.now.inputs }
-    requires sinks { vec_len sinks.old ≡ length config.now.outputs }
-    requires out_clocks { vec_len clocks.outputs ≡ length config.now.outputs }
+    requires parts { AreFor config.now opened clocks }
     requires first { All (λ (clock : Timed). clock.place ≡ 0) (map C.told clocks.inputs.items) }
-    ensures made { IfOk result (λ made. IsMadeOf config.now start (map S.told sources.old.items)
-        (map C.told clocks.inputs.items) (map K.told sinks.old.items) made.0
-        (ins_of S.told C.told made.1.inputs.items)
-        (outs_of K.told made.1.outputs.items) (part_of K.told made.1.journal)) }
-    ensures journal { IfOk result (λ made. made.1.journal.sink ≡ journal) }
-    ensures timer { IfOk result (λ made. made.1.timer ≡ clocks.timer) }
-    ensures outs { IfOk result (λ made. made.1.proc.outs.now ≡ config.now.outputs) }
+    ensures made { IfOk result (λ made. IsMadeOf config.now start (carried_by S.told K.told opened)
+        (timed_by C.told clocks) (state_of S.told K.told C.told made.0 made.1)) }
     ensures tries { IfOk result (λ made. made.1.final_tries ≡ config.now.agent.final_tries) }
-    ensures sources_left { IfOk result (λ made. sources.new.items ≡ []) }
-    ensures sinks_left { IfOk result (λ made. sinks.new.items ≡ []) }
-    ensures source_room { vec_capacity sources.new ≡ vec_capacity sources.old }
-    ensures sink_room { vec_capacity sinks.new ≡ vec_capacity sinks.old }
-    ensures back { IfErr result (λ back. back ≡ journal) }
-    ensures sources_back { OnErr result (sources.new ≡ sources.old) }
-    ensures sinks_back { OnErr result (sinks.new ≡ sinks.old) }
+    ensures room { IfOk result (λ made. HasRoom made.1) }
+    ensures back { IfErr result (λ back. back ≡ opened) }
 {
     let Room {
         core,
         about,
-        mut pieces,
+        pieces,
         inputs: mut in_jobs,
         outputs: mut out_jobs,
+        back,
     } = match make_room(alloc, config, start) {
         Ok(room) => room,
-        Err(_) => return Err(journal),
+        Err(_) => return Err(opened),
     };
+    let Opened {
+        inputs: sources,
+        outputs: sinks,
+        journal,
+    } = opened;
     let Clocks {
         timer,
         proc,
         journal: journal_clock,
-        inputs: mut in_clocks,
-        outputs: mut out_clocks,
+        inputs: in_clocks,
+        outputs: out_clocks,
     } = clocks;
-    fill_inputs(config, &mut pieces, sources, &mut in_clocks, &mut in_jobs);
-    fill_outputs(config, sinks, &mut out_clocks, &mut out_jobs);
+    fill_inputs(config, pieces, sources, in_clocks, &mut in_jobs);
+    fill_outputs(config, sinks, out_clocks, &mut out_jobs);
     let parts = Parts {
         inputs: in_jobs,
         timer,
@@ -281,60 +299,61 @@ pub fn set_up<'a, S: Source + Drop, K: Sink + Drop, C: Clock + Drop>(
         outputs: out_jobs,
         journal: JournalJob::new(alloc, about, journal, journal_clock),
         final_tries: config.agent.final_tries,
+        back,
     };
     Ok((core, parts))
 }
 
 /// Takes the sources out of the jobs of inputs, in their order.
-fn empty_inputs<S: Source + Drop, C: Clock + Drop>(
-    mut jobs: Vec<InJob<'_, S, C>>,
-    sources: &mut Vec<S>,
-)
+fn empty_inputs<S: Source + Drop, C: Clock + Drop>(jobs: Vec<InJob<'_, S, C>>, sources: &mut Vec<S>)
     requires none { sources.old.items ≡ [] }
     requires room { vec_len jobs ≤ vec_capacity sources.old }
     ensures { map S.told sources.new.items
         ≡ map in_carried (ins_of S.told C.told jobs.entry.items) }
 {
-    for _input in 0..jobs.len() {
-        let job = jobs.remove(0);
+    for job in jobs {
         sources.push_reserved(job.source);
     }
 }
 
 /// Takes the sinks out of the jobs of outputs, in their order.
-fn empty_outputs<K: Sink + Drop, C: Drop>(mut jobs: Vec<OutJob<K, C>>, sinks: &mut Vec<K>)
+fn empty_outputs<K: Sink + Drop, C: Drop>(jobs: Vec<OutJob<K, C>>, sinks: &mut Vec<K>)
     requires none { sinks.old.items ≡ [] }
     requires room { vec_len jobs ≤ vec_capacity sinks.old }
     ensures { map K.told sinks.new.items ≡ map out_carried (outs_of K.told jobs.items) }
 {
-    for _output in 0..jobs.len() {
-        let job = jobs.remove(0);
+    for job in jobs {
         sinks.push_reserved(job.sink);
     }
 }
 
 impl<'a, S: Source + Drop, K: Sink + Drop, C: Clock + Drop> Parts<'a, S, K, C> {
-    /// Takes the parts out of the jobs, in their order, into empty lists that have room for them, and gives the
-    /// journal's.
-    pub fn take_apart(self, sources: &mut Vec<S>, sinks: &mut Vec<K>) -> K
-        requires no_source { sources.old.items ≡ [] }
-        requires source_room { vec_len self.inputs ≤ vec_capacity sources.old }
-        requires no_sink { sinks.old.items ≡ [] }
-        requires sink_room { vec_len self.outputs ≤ vec_capacity sinks.old }
-        ensures sources { map S.told sources.new.items
+    /// Takes the parts out of the jobs, in their order.
+    pub fn take_apart(self) -> Opened<S, K>
+        requires { HasRoom self }
+        ensures sources { map S.told result.inputs.items
             ≡ map in_carried (ins_of S.told C.told self.entry.inputs.items) }
-        ensures sinks { map K.told sinks.new.items
+        ensures sinks { map K.told result.outputs.items
             ≡ map out_carried (outs_of K.told self.entry.outputs.items) }
-        ensures journal { result ≡ self.entry.journal.sink }
+        ensures journal { result.journal ≡ self.entry.journal.sink }
     {
         let Parts {
-            inputs,
-            outputs,
+            inputs: in_jobs,
+            outputs: out_jobs,
             journal,
+            back,
             ..
         } = self;
-        empty_inputs(inputs, sources);
-        empty_outputs(outputs, sinks);
-        journal.sink
+        let Back {
+            mut sources,
+            mut sinks,
+        } = back;
+        empty_inputs(in_jobs, &mut sources);
+        empty_outputs(out_jobs, &mut sinks);
+        Opened {
+            inputs: sources,
+            outputs: sinks,
+            journal: journal.sink,
+        }
     }
 }

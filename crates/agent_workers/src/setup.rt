@@ -1,22 +1,30 @@
 //! What a run and its journal are about.
-ghost use Rattle.std.specs.Prelude.{◌≡◌, ◌≤◌, ℕ, [], false, length, map, replicate, IfOk};
-ghost use Rattle.std.specs.List.{All};
-ghost use Rattle.agent_config.specs.Sound.{HasSizes};
-ghost use Rattle.pipeline_core.specs.CoreState.{CoreState, setup_of};
-ghost use Rattle.pipeline_core.specs.Stands.{Stands};
-ghost use Rattle.agent_workers.specs.Opened.{conf_setup, conf_sizes};
-ghost use Rattle.agent_workers.specs.PipeSetup.{run_setup, journal_setup_of};
-ghost use Rattle.agent_workers.specs.Running.{IsReady, buffered_at};
+ghost use Rattle.std.specs.Prelude.{◌≡◌, map, IfOk};
+ghost use Rattle.agent_config.specs.Sound.{IsSound};
+ghost use Rattle.pipeline_core.specs.CoreState.{setup_of as core_setup_of};
+ghost use Rattle.agent_workers.specs.Job.{job_of, journal_setup_of, limit_by, setup_of, sizes_by};
+ghost use Rattle.agent_workers.specs.Opened.{in_setup, out_setup, IsNewCore};
 
-use agent_config::OutputConf;
+use agent_config::{Config, InputConf, OutputConf};
 use fixed_num::{Moment, OutOfMemory, Seq};
 use journal_text::JournalSetup;
 use pipeline_core::{Core, CoreSetup, InSetup, OutSetup};
 use std::alloc::Global;
 
+/// How many groups of each input may be undelivered at most: none is tracked.
+fn limits_of(alloc: Global, inputs: &[InputConf]) -> Result<Vec<Option<u32>>, OutOfMemory>
+    ensures { IfOk result (λ limits. limits.items ≡ map limit_by inputs.now) }
+{
+    let mut limits = Vec::with_capacity(alloc, inputs.len())?;
+    for _input in inputs {
+        limits.push(None)?;
+    }
+    Ok(limits)
+}
+
 /// The sizes of each output: its batch size and its buffer limit.
 fn sizes_of(alloc: Global, outputs: &[OutputConf]) -> Result<Vec<(u32, u32)>, OutOfMemory>
-    ensures { IfOk result (λ pairs. pairs.items ≡ map conf_sizes outputs.now) }
+    ensures { IfOk result (λ pairs. pairs.items ≡ map sizes_by outputs.now) }
 {
     let mut pairs = Vec::with_capacity(alloc, outputs.len())?;
     for output in outputs {
@@ -25,9 +33,23 @@ fn sizes_of(alloc: Global, outputs: &[OutputConf]) -> Result<Vec<(u32, u32)>, Ou
     Ok(pairs)
 }
 
-/// The set-up of each output.
-fn setups_of(alloc: Global, outputs: &[OutputConf]) -> Result<Vec<OutSetup>, OutOfMemory>
-    ensures { IfOk result (λ setups. setups.items ≡ map conf_setup outputs.now) }
+/// With what the core is set up of each input: none is tracked.
+fn in_setups(alloc: Global, inputs: &[InputConf]) -> Result<Vec<InSetup>, OutOfMemory>
+    ensures { IfOk result (λ setups. setups.items ≡ map in_setup inputs.now) }
+{
+    let mut setups = Vec::with_capacity(alloc, inputs.len())?;
+    for _input in inputs {
+        setups.push(InSetup {
+            tracked: false,
+            max_undelivered: 0,
+        })?;
+    }
+    Ok(setups)
+}
+
+/// With what the core is set up of each output.
+fn out_setups(alloc: Global, outputs: &[OutputConf]) -> Result<Vec<OutSetup>, OutOfMemory>
+    ensures { IfOk result (λ setups. setups.items ≡ map out_setup outputs.now) }
 {
     let mut setups = Vec::with_capacity(alloc, outputs.len())?;
     for output in outputs {
@@ -39,68 +61,41 @@ fn setups_of(alloc: Global, outputs: &[OutputConf]) -> Result<Vec<OutSetup>, Out
     Ok(setups)
 }
 
-/// What the journal is about.
+/// What the journal of a configuration's run is about, which begins at a moment.
 pub fn journal_setup(
     alloc: Global,
-    inputs: usize,
-    outputs: &[OutputConf],
+    config: &Config,
     start: Moment,
 ) -> Result<JournalSetup, OutOfMemory>
-    ensures { IfOk result
-        (λ setup. setup ≡ journal_setup_of (run_setup inputs (map conf_sizes outputs.now) start)) }
+    ensures { IfOk result (λ setup. setup ≡ journal_setup_of (setup_of (job_of config.now) start)) }
 {
     Ok(JournalSetup {
         start,
-        inputs: Seq::of(vec![in alloc; None; inputs]?),
+        inputs: Seq::of(limits_of(alloc, config.inputs.as_slice())?),
         aggs: Seq::of(Vec::new(alloc)),
-        outputs: Seq::of(sizes_of(alloc, outputs)?),
+        outputs: Seq::of(sizes_of(alloc, config.outputs.as_slice())?),
     })
 }
 
-/// The set-up of the core: so many inputs, none of which is tracked, and the outputs.
-fn core_setup(
-    alloc: Global,
-    inputs: usize,
-    outputs: &[OutputConf],
-    start: Moment,
-) -> Result<CoreSetup, OutOfMemory>
-    ensures setup { IfOk result
-        (λ setup. setup_of setup ≡ run_setup inputs (map conf_sizes outputs.now) start) }
-    ensures inputs { IfOk result
-        (λ setup. setup.inputs ≡ replicate inputs (record { tracked = false; max_undelivered = 0 })) }
-    ensures outputs { IfOk result (λ setup. setup.outputs ≡ map conf_setup outputs.now) }
+/// The set-up of the core.
+fn core_setup(alloc: Global, config: &Config, start: Moment) -> Result<CoreSetup, OutOfMemory>
+    ensures setup { IfOk result (λ setup. core_setup_of setup ≡ setup_of (job_of config.now) start) }
+    ensures inputs { IfOk result (λ setup. setup.inputs ≡ map in_setup config.now.inputs) }
+    ensures outputs { IfOk result (λ setup. setup.outputs ≡ map out_setup config.now.outputs) }
 {
-    let plain = InSetup {
-        tracked: false,
-        max_undelivered: 0,
-    };
     Ok(CoreSetup {
-        inputs: Seq::of(vec![in alloc; plain; inputs]?),
-        outputs: Seq::of(setups_of(alloc, outputs)?),
+        inputs: Seq::of(in_setups(alloc, config.inputs.as_slice())?),
+        outputs: Seq::of(out_setups(alloc, config.outputs.as_slice())?),
         start,
     })
 }
 
 /// A core in which nothing happened.
-pub fn new_core(
-    alloc: Global,
-    inputs: usize,
-    outputs: &[OutputConf],
-    start: Moment,
-) -> Result<Core, OutOfMemory>
-    requires few_inputs { inputs ≤ 16 }
-    requires few { length outputs.now ≤ 16 }
-    requires sizes { All HasSizes outputs.now }
-    ensures ready { IfOk result (λ core. IsReady core) }
-    ensures reading { IfOk result (λ core. core.ended ≡ replicate inputs false) }
-    ensures going { IfOk result (λ core. core.stopped ≡ false) }
-    ensures none_raw { IfOk result (λ core. core.raw ≡ []) }
-    ensures none_buffered { IfOk result (λ core. (output : ℕ) → buffered_at core output ≡ 0) }
-    ensures stands { IfOk result (λ core. Stands core []) }
-    ensures setup { IfOk result (λ core. core.setup ≡ run_setup inputs (map conf_sizes outputs.now) start) }
-    ensures stored { IfOk result (λ core. core.stored ≡ []) }
+pub fn new_core(alloc: Global, config: &Config, start: Moment) -> Result<Core, OutOfMemory>
+    requires sound { IsSound config.now }
+    ensures { IfOk result (λ core. IsNewCore config.now start core) }
 {
-    let setup = core_setup(alloc, inputs, outputs, start)?;
+    let setup = core_setup(alloc, config, start)?;
     let core = Core::new(alloc, setup)?;
     Ok(core)
 }

@@ -14,7 +14,7 @@ returns-in-Ok-clause-checked g c =
       answer = read_checks c.report_ok.result place c.in-Ok._config old (g.W.World.view c.config_at.new.world) last c.in-Ok.ensures.read c.report_ok.ensures.only.ins c.report_ok.ensures.answer;
       taken = subst (λ (p : Place). TakesAtMost most_taken (old.ins place).bytes p.bytes) (sym (c.report_ok.ensures.only.ins place)) c.config_at.ensures.taken;
       other_ins = λ q ne. c.report_ok.ensures.only.ins q ∙ c.config_at.ensures.only.others q ne;
-      outs_same = λ q. c.report_ok.ensures.only.outs q ∙ c.config_at.ensures.only.outs q;
+      outs = λ q. c.report_ok.ensures.only.outs q ∙ c.config_at.ensures.only.outs q;
       clocks = λ who. c.report_ok.ensures.only.clocks who ∙ c.config_at.ensures.only.clocks who;
     }
 
@@ -31,6 +31,6 @@ returns-in-Err-clause-checked g c =
           but (subst (λ (r : Rest). Tells c.report_unread.result unread place r last.report) c.config_at.ensures.only.report c.report_unread.ensures.answer);
       taken = subst (λ (p : Place). TakesAtMost most_taken (old.ins place).bytes p.bytes) (sym (c.report_unread.ensures.only.ins place)) c.config_at.ensures.taken;
       other_ins = but;
-      outs_same = λ q. c.report_unread.ensures.only.outs q ∙ c.config_at.ensures.only.outs q;
+      outs = λ q. c.report_unread.ensures.only.outs q ∙ c.config_at.ensures.only.outs q;
       clocks = λ who. c.report_unread.ensures.only.clocks who ∙ c.config_at.ensures.only.clocks who;
     }

@@ -3,7 +3,7 @@ use Rattle.std.proofs.lemmas.Map.Keys.{IsDistinct-tail}
 use Rattle.std.specs.List.{IsDistinct}
 use Rattle.std.specs.Str.{bytes_eq}
 use Rattle.agent_base.specs.Places.{Place, TakesIn}
-use Rattle.agent_run.specs.PlaceLists.{AreOut, places_out}
+use Rattle.agent_run.specs.PlaceLists.{PartsAreOut, places_out}
 use Rattle.agent_run.proofs.PartLemmas.{before_same, go_before, out_behind}
 use Rattle.agent_run.proofs.places.give_written.Goals as goal
 
@@ -14,7 +14,7 @@ give_each-requires-clause-apart g c κs within =
 pub give_each-requires-clause-out : goal.give_each-requires-clause-out
 give_each-requires-clause-out g c κs within =
     let told = (g.W.World.view c.args.world.now).outs in
-    subst (λ (ps : List (List ℕ)). AreOut ps told) (sym (ap places_out c.as_slice.ensures)) (out_behind c.args.config.now.agent.journal (places_out c.args.config.now.outputs) told c.requires.out)
+    subst (λ (ps : List (List ℕ)). PartsAreOut ps told) (sym (ap places_out c.as_slice.ensures)) (out_behind c.args.config.now.agent.journal (places_out c.args.config.now.outputs) told c.requires.out)
 
 pub give_out-requires : goal.give_out-requires
 give_out-requires g c =

@@ -7,11 +7,12 @@ use Rattle.agent_workers.proofs.InLemmas.{ended_core, ready_gathered, fits_ended
 use Rattle.agent_workers.proofs.StandingLemmas.{continues}
 use Rattle.agent_workers.proofs.input.end_where_met.Goals as goal
 
-pub returns-clause-stands : goal.returns-clause-stands
-returns-clause-stands g c = continues c.in_ok-ended.ensures.stands c.requires.stands
-
-pub returns-clause-ready : goal.returns-clause-ready
-returns-clause-ready g c = ready_gathered c.args.job.now.input c.args.core.now c.ended.new.self (ended_core c.args.job.now.input c.args.core.now c.ended.new.self c.in_ok-ended.ensures.ok) c.requires.ready
+pub returns-clause-running : goal.returns-clause-running
+returns-clause-running g c = record {
+  ready = ready_gathered c.args.job.now.input c.args.core.now c.ended.new.self (ended_core c.args.job.now.input c.args.core.now c.ended.new.self c.in_ok-ended.ensures.ok) c.requires.running.ready;
+  stands = continues c.in_ok-ended.ensures.stands c.requires.running.stands;
+  going = search rules;
+}
 
 pub returns-clause-kept : goal.returns-clause-kept
 returns-clause-kept g c = ended_core c.args.job.now.input c.args.core.now c.ended.new.self c.in_ok-ended.ensures.ok

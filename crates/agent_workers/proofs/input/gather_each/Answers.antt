@@ -1,4 +1,4 @@
-use Rattle.std.proofs.Common.{◌≡◌, ◌<◌, ◌∙◌, ◌+◌, ℕ, List, length, get_or, set, sym, subst, arith}
+use Rattle.std.proofs.Common.{◌≡◌, ◌<◌, ◌+◌, ℕ, List, length, get_or, set, sym, subst, arith}
 use Rattle.std.proofs.lemmas.List.{length-map, map-set}
 use Rattle.agent_workers.specs.Inputs.{InPart, FitsInput, in_of, in_at, ins_of, AreInputs, AreSameInputs, OneIsFull, IsSameInput}
 use Rattle.agent_workers.specs.Progress.{GathersTo}
@@ -60,9 +60,7 @@ turn-requires-clause-fits g c =
 
 pub loop-job-init : goal.loop-job-init
 loop-job-init g c = record {
-  ready = c.requires.ready;
-  going = c.requires.going;
-  stands = c.requires.stands;
+  running = c.requires.running;
   kept = gathered_none c.args.core.now;
   inputs = c.requires.inputs;
   same = inputs_themselves (ins g c.args.inputs.now);
@@ -74,9 +72,7 @@ pub loop-job-preserved : goal.loop-job-preserved
 loop-job-preserved g c =
     let k = (goal.at.loop-job-preserved g c).In_ok-turn in
     record {
-      ready = c.in_ok-turn.ensures.ready;
-      going = (kept g k).kept.stopped ∙ c.loop-job.invariant.going;
-      stands = c.in_ok-turn.ensures.stands;
+      running = c.in_ok-turn.ensures.running;
       kept = gathered_then c.args.core.now c.loop-job.core c.turn.new.core c.loop-job.invariant.kept (kept g k).kept;
       inputs = inputs g k;
       same = same g k;

@@ -10,11 +10,12 @@ use Rattle.agent_workers.proofs.InLemmas.{gathered_core, ready_gathered, fits_ga
 use Rattle.agent_workers.proofs.StandingLemmas.{continues}
 use Rattle.agent_workers.proofs.input.offer.Goals as goal
 
-pub returns-in-Ok-clause-stands : goal.returns-in-Ok-clause-stands
-returns-in-Ok-clause-stands g c = continues c.in-Ok.ensures.stands c.requires.stands
-
-pub returns-in-Ok-clause-ready : goal.returns-in-Ok-clause-ready
-returns-in-Ok-clause-ready g c = ready_gathered c.args.job.now.input c.args.core.now c.gather.new.self (gathered_core c.args.job.now.input c.args.core.now c.gather.new.self c.in-Some.gathered c.in-Ok.ensures.ok) c.requires.ready
+pub returns-in-Ok-clause-running : goal.returns-in-Ok-clause-running
+returns-in-Ok-clause-running g c = record {
+  ready = ready_gathered c.args.job.now.input c.args.core.now c.gather.new.self (gathered_core c.args.job.now.input c.args.core.now c.gather.new.self c.in-Some.gathered c.in-Ok.ensures.ok) c.requires.running.ready;
+  stands = continues c.in-Ok.ensures.stands c.requires.running.stands;
+  going = search rules;
+}
 
 pub returns-in-Ok-clause-kept : goal.returns-in-Ok-clause-kept
 returns-in-Ok-clause-kept g c = gathered_core c.args.job.now.input c.args.core.now c.gather.new.self c.in-Some.gathered c.in-Ok.ensures.ok
@@ -32,7 +33,7 @@ returns-in-Ok-clause-gathers g c =
     let free : c.take.new.self ≡ None = search rules in
     let old : InPart = in_of g.S.Source.told g.C.Clock.told c.args.job.now in
     subst (λ (x : Option Gathered). GathersAt c.args.core.now c.gather.new.self old (record old { held = x })) (sym free)
-    (offer_accepted c.args.core.now c.gather.new.self (in_of g.S.Source.told g.C.Clock.told c.args.job.now) c.in-Some.gathered held c.requires.fits.own c.requires.ready.no_aggs c.in-Ok.ensures.answer.0 c.in-Ok.ensures.ok c.in-Ok.ensures.stands)
+    (offer_accepted c.args.core.now c.gather.new.self (in_of g.S.Source.told g.C.Clock.told c.args.job.now) c.in-Some.gathered held c.requires.fits.own c.requires.running.ready.no_aggs c.in-Ok.ensures.answer.0 c.in-Ok.ensures.ok c.in-Ok.ensures.stands)
 
 pub returns-in-None-clause-gathers : goal.returns-in-None-clause-gathers
 returns-in-None-clause-gathers g c =

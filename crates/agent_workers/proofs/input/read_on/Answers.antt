@@ -4,9 +4,8 @@ use mir.Syntax.{w64}
 use mir.Val.{of_z, to_z}
 use Rattle.agent_base.specs.Moments.{Gives}
 use Rattle.formats.specs.Groups.{ReadsGroup}
-use Rattle.agent_workers.specs.Inputs.{InPart, in_of}
+use Rattle.agent_workers.specs.Inputs.{InPart, in_of, rule_of}
 use Rattle.formats.specs.Reader.{InRule}
-use Rattle.agent_workers.specs.Rules.{rule_of}
 use Rattle.agent_workers.proofs.HeardLemmas.{read_to, held_own}
 use Rattle.agent_workers.proofs.GatherSteps.{went_read, went_clocked}
 use Rattle.agent_workers.proofs.input.read_on.Goals as goal
@@ -22,7 +21,7 @@ returns-clause-reads g c = λ core ins b at start now w.
     let went =
     went_clocked start core now ins old.input read (g.C.Clock.told c.now-moment.new.self).moments c.now-moment.ensures.list
     (went_read start core now ins old c.read_group.new.pieces c.in_ok-group.state moment c.in_ok-group.group (g.S.Source.told c.read_group.new.source).bytes (g.S.Source.told c.read_group.new.source).faults (g.C.Clock.told c.now-moment.new.self).place c.gathered_of.result
-    b at c.requires.reading c.requires.free c.requires.some reads gives c.read_group.ensures.faults c.read_group.ensures.counted c.in_ok-group.ensures.limit c.in_ok-group.ensures.below c.in_ok-group.ensures.failed c.in_ok-group.ensures.one c.in_ok-group.ensures.line
+    b at c.requires.reading c.requires.free c.requires.readable.some reads gives c.read_group.ensures.faults c.read_group.ensures.counted c.in_ok-group.ensures.limit c.in_ok-group.ensures.below c.in_ok-group.ensures.failed c.in_ok-group.ensures.one c.in_ok-group.ensures.line
     c.gathered_of.ensures.none c.gathered_of.ensures.some w) in
     rw c.read_state-job.ensures went
 

@@ -42,7 +42,7 @@ returns-clause-moved g c = λ e.
     let offered = c.in_ok-offer.ensures in
     let ended = c.in_ok-end_where_met.ensures in
     turn_moved c.in_ok-met.met c.read_where_free.new.job.held c.args.core.now c.offer.new.core c.end_where_met.new.core (part g c.read_where_free.new.job) (part g c.offer.new.job) (part g c.end_where_met.new.job)
-    refl (λ m. (reads.met m).0) reads.moved (offered.moved c.if-branch.false) c.offer.ensures.none (offered.room c.if-branch.false) c.end_where_met.ensures.held ended.out ended.unmet ended.kept.kept.stored
+    refl (λ m. (reads.met m).0) reads.moved (offered.offered.moved c.if-branch.false) c.offer.ensures.none (offered.offered.room c.if-branch.false) c.end_where_met.ensures.held ended.out ended.unmet ended.kept.kept.stored
 
 pub returns-clause-same : goal.returns-clause-same
 returns-clause-same g c =

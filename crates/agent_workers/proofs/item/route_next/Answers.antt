@@ -1,13 +1,41 @@
-use Rattle.std.proofs.Common.{refl}
-use Rattle.agent_workers.specs.Rules.{work_by}
+use Rattle.std.proofs.Common.{◌≡◌, ◌∙◌, List, ap, sym, subst, rules}
+use Rattle.agent_config.specs.declared.config.OutputConf.{OutputConf}
+use Rattle.pipeline_core.specs.Stands.{Continues}
+use Rattle.pipeline_core.specs.Steps.{after_route, route_entry}
+use Rattle.pipeline_core.specs.declared.routing.Routed.{Routed}
+use Rattle.agent_workers.specs.Item.{TakesNext, proc_of, routed_by}
+use Rattle.agent_workers.specs.Job.{work_of}
+use Rattle.agent_workers.specs.Progress.{Progress}
+use Rattle.agent_workers.specs.Running.{IsRoutable}
+use Rattle.agent_workers.proofs.OutLemmas.{item_routed, ready_routed}
 use Rattle.agent_workers.proofs.ProgressLemmas.{went_item}
 use Rattle.agent_workers.proofs.StandingLemmas.{continues}
+use Rattle.agent_workers.proofs.item.route_next.Given.{Over}
+use Rattle.agent_workers.proofs.item.route_next.Goals.{In_ok-route}
 use Rattle.agent_workers.proofs.item.route_next.Goals as goal
 
-pub route-requires-clause-stands : goal.route-requires-clause-stands
-route-requires-clause-stands c = continues c.in-Ok.ensures.stands c.requires.stands
+takes : (g : Over) (c : In_ok-route g) → TakesNext c.args.core.now c.take_next.new.core c.in-Some.item
+takes g c = search rules
 
-pub returns-in_ok-route-in-Ok-clause-goes : goal.returns-in_ok-route-in-Ok-clause-goes
-returns-in_ok-route-in-Ok-clause-goes c = λ start now zero w.
-    went_item start c.args.core.now c.take.new.self c.route.new.core now (work_by c.args.confs.now) c.in-Ok.item.number c.in-Ok.item.metric (record { skip = refl; whole = refl; aggs = refl }) zero
-    c.in-Ok.ensures.item.0 c.in-Ok.ensures.item.2 c.in-Ok.ensures.ok c.in-Ok.ensures.stands c.in_ok-route-in-Ok.ensures.after c.in_ok-route-in-Ok.ensures.continues w
+routed : (g : Over) (c : In_ok-route g) → c.route.new.self ≡ after_route c.take_next.new.core (routed_by (work_of c.args.proc.now.outs.now) c.in-Some.item.number c.in-Some.item.metric)
+routed g c = c.in_ok-route.ensures.ok ∙ ap (after_route c.take_next.new.core) c.in_ok-routed.ensures.routed
+
+routes : (g : Over) (c : In_ok-route g) → Continues c.take_next.new.core c.route.new.self (route_entry c.take_next.new.core (routed_by (work_of c.args.proc.now.outs.now) c.in-Some.item.number c.in-Some.item.metric))
+routes g c = subst (λ (r : Routed). Continues c.take_next.new.core c.route.new.self (route_entry c.take_next.new.core r)) c.in_ok-routed.ensures.routed c.in_ok-route.ensures.stands
+
+kept : (g : Over) (c : In_ok-route g) → IsRoutable c.args.core.now c.route.new.self
+kept g c = item_routed c.args.core.now c.take_next.new.core c.route.new.self c.in-Some.item (work_of c.args.proc.now.outs.now) (takes g c) (routed g c)
+
+pub returns-clause-rests : goal.returns-clause-rests
+returns-clause-rests g c = record {
+  ready = ready_routed c.args.core.now c.route.new.self c.requires.rests.ready (kept g c) (search rules);
+  stands = continues (routes g c) (continues (takes g c).continues c.requires.rests.stands);
+}
+
+pub returns-clause-kept : goal.returns-clause-kept
+returns-clause-kept g c = kept g c
+
+pub returns-clause-goes : goal.returns-clause-goes
+returns-clause-goes g c = λ start now fresh w.
+    subst (λ (outs : List OutputConf). Progress start (record now { core = c.route.new.self; proc = record { outs = outs } })) (sym c.routing.ensures.same)
+    (went_item start c.args.core.now c.take_next.new.core c.route.new.self now (proc_of c.args.proc.now) c.in-Some.item fresh (takes g c) (routed g c) (routes g c) w)

@@ -1,7 +1,13 @@
+use Rattle.std.proofs.Common.{◌≡◌}
+use Rattle.agent_workers.specs.Item.{proc_of}
 use Rattle.agent_workers.specs.Progress.{GoesOn}
-use Rattle.agent_workers.specs.Rules.{work_by}
-use Rattle.agent_workers.specs.Running.{IsReady, IsRoutable, HasJournal}
+use Rattle.agent_workers.specs.Running.{IsAtRest, IsRoutable}
 use Rattle.agent_workers.proofs.item.route_some.Given as goal
 
 abbrev pub invariant-loop-taken : goal.invariant-loop-taken
-invariant-loop-taken l = record { ready : IsReady l.core; kept : IsRoutable l.fn.core l.core; stands : HasJournal l.core; goes : GoesOn (work_by l.confs) l.fn.core l.core }
+invariant-loop-taken g l = record {
+  rests : IsAtRest l.core;
+  kept : IsRoutable l.fn.core l.core;
+  same : l.proc.outs.now ≡ l.fn.proc.outs.now;
+  goes : GoesOn l.fn.core l.core (proc_of l.fn.proc) (proc_of l.proc);
+}

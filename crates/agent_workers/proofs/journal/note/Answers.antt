@@ -6,7 +6,7 @@ use Rattle.agent_workers.proofs.StandingLemmas.{cut_whole}
 use Rattle.agent_workers.proofs.journal.note.Goals as goal
 
 pub take-requires-clause-whole : goal.take-requires-clause-whole
-take-requires-clause-whole g c = cut_whole c.args.core.now c.in-Ok.entries.items c.in-Ok.ensures.ok.0 c.requires.stands
+take-requires-clause-whole g c = cut_whole c.args.core.now c.in-Ok.entries.items c.in-Ok.ensures.ok.0 c.requires.rests.stands
 
 pub returns-in_ok-take-in-Ok-clause-notes : goal.returns-in_ok-take-in-Ok-clause-notes
 returns-in_ok-take-in-Ok-clause-notes g c = λ start now w.

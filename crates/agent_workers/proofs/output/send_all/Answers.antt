@@ -27,9 +27,8 @@ pub loop-batch-preserved : goal.loop-batch-preserved
 loop-batch-preserved g c =
     let k = (goal.at.loop-batch-preserved g c).In_ok-send_next in
     record {
-      ready = c.in_ok-send_next.ensures.ready;
+      rests = c.in_ok-send_next.ensures.rests;
       kept = kept g k;
-      stands = c.in_ok-send_next.ensures.stands;
       first = λ e. absurd (omega (arith, e));
       waits = λ e. absurd (omega (arith, e));
       number = c.send_next.ensures.number ∙ c.loop-batch.invariant.number;

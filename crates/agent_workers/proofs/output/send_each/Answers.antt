@@ -38,9 +38,8 @@ loop-job-preserved g c =
     let swept_all = subst (λ (a : Bool). Sweeping (i + 1) c.and-sweep.result.emptied a c.args.core.now c.send_all.new.core firsts (set outs i new)) (sym c.and-sweep.ensures.accepted) counted in
     let sends = sends_then c.args.core.now c.loop-job.core c.send_all.new.core firsts outs (set outs i new) c.loop-job.invariant.sends (sends_at c.loop-job.core c.send_all.new.core i part new outs number l at c.in_ok-flush.ensures.sends) in
     record {
-      ready = c.in_ok-flush.ensures.ready;
+      rests = c.in_ok-flush.ensures.rests;
       kept = sent_on c.args.core.now c.loop-job.core c.send_all.new.core c.loop-job.invariant.kept sent.kept;
-      stands = c.in_ok-flush.ensures.stands;
       outputs = part_set g.K.Sink.told jobs i c.send_all.new.job count b (c.send_all.ensures.number ∙ number) c.loop-job.invariant.outputs;
       swept = subst (Sweeping (i + 1) c.and-sweep.result.emptied c.and-sweep.result.accepted c.args.core.now c.send_all.new.core firsts) (sym are) swept_all;
       sends = subst (SendsOn c.args.core.now c.send_all.new.core firsts) (sym are) sends;

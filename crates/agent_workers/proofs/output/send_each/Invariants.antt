@@ -1,15 +1,14 @@
 use Rattle.std.proofs.Common.{length}
 use Rattle.agent_workers.specs.Output.{outs_of, AreOutputs}
 use Rattle.agent_workers.specs.Progress.{SendsOn}
-use Rattle.agent_workers.specs.Running.{IsReady, HasJournal, IsSentOn}
+use Rattle.agent_workers.specs.Running.{IsAtRest, IsSentOn}
 use Rattle.agent_workers.proofs.SweepLemmas.{Sweeping}
 use Rattle.agent_workers.proofs.output.send_each.Given as goal
 
 abbrev pub invariant-loop-job : goal.invariant-loop-job
 invariant-loop-job g l = record {
-  ready : IsReady l.core;
+  rests : IsAtRest l.core;
   kept : IsSentOn l.fn.core l.core;
-  stands : HasJournal l.core;
   outputs : AreOutputs (length l.fn.core.setup.outputs) (outs_of g.K.Sink.told l.outputs);
   swept : Sweeping l.job-index l.sweep.emptied l.sweep.accepted l.fn.core l.core (outs_of g.K.Sink.told l.fn.outputs) (outs_of g.K.Sink.told l.outputs);
   sends : SendsOn l.fn.core l.core (outs_of g.K.Sink.told l.fn.outputs) (outs_of g.K.Sink.told l.outputs);

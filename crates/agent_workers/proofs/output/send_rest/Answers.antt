@@ -35,9 +35,8 @@ pub loop-repeat-preserved : goal.loop-repeat-preserved
 loop-repeat-preserved g c =
     let k = goal.at.loop-repeat-preserved g c in
     record {
-      ready = c.in_ok-sweep.ensures.ready;
+      rests = c.in_ok-sweep.ensures.rests;
       kept = sent_on c.args.core.now c.loop-repeat.core c.send_each.new.core c.loop-repeat.invariant.kept c.in_ok-sweep.ensures.kept;
-      stands = c.in_ok-sweep.ensures.stands;
       outputs = subst (λ (n : ℕ). AreOutputs n (outs g c.send_each.new.outputs)) (ap (λ (s : Setup). length s.outputs) c.loop-repeat.invariant.kept.setup) c.in_ok-sweep.ensures.outputs;
       count = c.send_each.ensures.count ∙ c.loop-repeat.invariant.count;
       few = omega (arith, c.tries_after-tries.ensures.few, c.if-tries-final_tries.false);

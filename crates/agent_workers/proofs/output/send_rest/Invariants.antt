@@ -1,14 +1,13 @@
 use Rattle.std.proofs.Common.{◌≡◌, ◌<◌, length}
 use Rattle.agent_workers.specs.Output.{outs_of, AreOutputs}
 use Rattle.agent_workers.specs.Progress.{SendsOn}
-use Rattle.agent_workers.specs.Running.{IsReady, HasJournal, IsSentOn, HaveFailed}
+use Rattle.agent_workers.specs.Running.{IsAtRest, IsSentOn, HaveFailed}
 use Rattle.agent_workers.proofs.output.send_rest.Given as goal
 
 abbrev pub invariant-loop-repeat : goal.invariant-loop-repeat
 invariant-loop-repeat g l = record {
-  ready : IsReady l.core;
+  rests : IsAtRest l.core;
   kept : IsSentOn l.fn.core l.core;
-  stands : HasJournal l.core;
   outputs : AreOutputs (length l.fn.core.setup.outputs) (outs_of g.K.Sink.told l.outputs);
   count : length l.outputs ≡ length l.fn.outputs;
   few : l.tries < l.fn.final_tries;

@@ -1,0 +1,15 @@
+-- The parts of a run, with other jobs.
+use Rattle.std.proofs.Common.{◌≡◌, List, refl}
+use Rattle.agent_base.specs.Carried.{Carried, Timed}
+use Rattle.pipeline_core.specs.CoreState.{CoreState}
+use Rattle.agent_workers.specs.Inputs.{ins_of}
+use Rattle.agent_workers.specs.Output.{outs_of}
+use Rattle.agent_workers.specs.RunState.{state_of}
+use Rattle.agent_workers.specs.declared.input.InJob.{InJob}
+use Rattle.agent_workers.specs.declared.output.OutJob.{OutJob}
+use Rattle.agent_workers.specs.declared.parts.Parts.{Parts}
+
+-- what a run consists of, by other lists of its jobs
+pub state_by : {S K C : Type 0} (told : S → Carried) (put : K → Carried) (timed : C → Timed) (core : CoreState) (parts : Parts S K C) (inputs : List (InJob S C)) (outputs : List (OutJob K C)) → parts.inputs.items ≡ inputs → parts.outputs.items ≡ outputs →
+    state_of told put timed core parts ≡ record (state_of told put timed core parts) { ins = ins_of told timed inputs; outs = outs_of put outputs }
+state_by told put timed core parts inputs outputs a b = rw (a, b) refl

@@ -1,0 +1,41 @@
+use Rattle.std.proofs.Common.{◌∙◌, ap, refl}
+use Rattle.pipeline_core.specs.CoreState.{CoreState}
+use Rattle.agent_workers.specs.Item.{proc_of}
+use Rattle.agent_workers.specs.Noted.{JournalPart, part_of}
+use Rattle.agent_workers.specs.declared.journal.JournalJob.{JournalJob}
+use Rattle.agent_workers.proofs.FinishSteps.{routes_more, routes_last}
+use Rattle.agent_workers.proofs.OutLemmas.{routable_same, routable_more}
+use Rattle.agent_workers.proofs.rounds.route_noted.Given.{Over}
+use Rattle.agent_workers.proofs.rounds.route_noted.Goals as goal
+
+abbrev noted : (g : Over) → JournalJob g.row.K.Denot g.row.C.Denot → JournalPart
+noted g = part_of g.K.Sink.told
+
+pub loop-part-init : goal.loop-part-init
+loop-part-init g c = record {
+  rests = c.requires.rests;
+  kept = routable_same c.args.core.now c.args.core.now refl refl refl refl refl;
+  same = refl;
+  routes = λ start now anew w. w;
+}
+
+pub loop-part-preserved : goal.loop-part-preserved
+loop-part-preserved g c =
+    let cut = c.in_ok-note.ensures.noted in
+    record {
+      rests = c.in_ok-note.ensures.rests;
+      kept = routable_more c.args.core.now c.route_some.new.core c.note.new.core
+          (routable_more c.args.core.now c.loop-part.core c.route_some.new.core c.loop-part.invariant.kept c.in_ok-route_some.ensures.kept)
+          (routable_same c.route_some.new.core c.note.new.core
+          (ap (λ (s : CoreState). s.setup) cut) (ap (λ (s : CoreState). s.ended) cut) (ap (λ (s : CoreState). s.gathered) cut) (ap (λ (s : CoreState). s.stopped) cut) (ap (λ (s : CoreState). s.lanes) cut));
+      same = c.route_some.ensures.same ∙ c.loop-part.invariant.same;
+      routes = routes_more c.args.core.now c.loop-part.core c.route_some.new.core c.note.new.core
+          (proc_of c.args.proc.now) (proc_of c.loop-part.proc) (proc_of c.route_some.new.proc)
+          (noted g c.args.journal.now) (noted g c.loop-part.journal) (noted g c.note.new.journal)
+          c.loop-part.invariant.routes c.in_ok-route_some.ensures.goes c.in_ok-note.ensures.notes;
+    }
+
+pub returns-then-not-branch-clause-routes : goal.returns-then-not-branch-clause-routes
+returns-then-not-branch-clause-routes g c =
+    routes_last c.args.core.now c.loop-part.core c.route_some.new.core (proc_of c.args.proc.now) (proc_of c.loop-part.proc) (proc_of c.route_some.new.proc)
+    (noted g c.args.journal.now) (noted g c.loop-part.journal) c.loop-part.invariant.routes c.in_ok-route_some.ensures.goes

@@ -1,0 +1,14 @@
+use Rattle.std.proofs.Common.{◌≡◌}
+use Rattle.agent_workers.specs.Item.{proc_of}
+use Rattle.agent_workers.specs.Noted.{part_of}
+use Rattle.agent_workers.specs.Progress.{RoutesOn}
+use Rattle.agent_workers.specs.Running.{IsAtRest, IsRoutable}
+use Rattle.agent_workers.proofs.rounds.route_noted.Given as goal
+
+abbrev pub invariant-loop-part : goal.invariant-loop-part
+invariant-loop-part g l = record {
+  rests : IsAtRest l.core;
+  kept : IsRoutable l.fn.core l.core;
+  same : l.proc.outs.now ≡ l.fn.proc.outs.now;
+  routes : RoutesOn l.fn.core l.core (proc_of l.fn.proc) (proc_of l.proc) (part_of g.K.Sink.told l.fn.journal) (part_of g.K.Sink.told l.journal);
+}

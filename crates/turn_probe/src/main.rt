@@ -1,0 +1,126 @@
+//! Shows how passes take turns. `turn_probe PASSES CALLS DIALS` lets so many passes, each in a thread of its own, make so
+//! many calls each, which add 1 to a sum, and prints the sum. `turn_probe silent` lets one pass read standard input to
+//! its end in a call, while another one waits for the turn to add 1, and prints how many bytes were read, and the sum.
+//! The status is 2 where the words are others, and 1 where memory was wanting or nothing can be printed.
+#![tactic(auto)]
+
+ghost use Rattle.std.specs.Prelude.{◌≡◌, ℕ, ◌<◌, ◌^◌, vec_len, length};
+
+mod listener;
+
+use listener::{Asked, Listener};
+use std::alloc::Global;
+use std::io::Stdin;
+use std::process::ExitCode;
+use std::sync::Wait;
+use std::thread::Threads;
+use std::time::{Clock, Duration};
+use std::{env, thread};
+use turnstile::{Pass, Turnstile};
+use turnstile_scenarios::{Adder, work_at_sum};
+
+/// The pass that waits calls so many milliseconds after the other one.
+const LATER: u64 = 100;
+
+/// So many passes add 1 to a sum, so many times each. Answers the sum; none where memory is wanting.
+fn sum_of<R: Threads + Wait + Sync>(
+    rt: &R,
+    alloc: Global,
+    passes: u32,
+    calls: u32,
+    dials: u32,
+) -> Option<u64> {
+    let mut works = Vec::new(alloc);
+    for _made in 0..passes {
+        works.push(Adder { n: 1, times: calls }).ok()?;
+    }
+    let (sum, _) = work_at_sum(rt, alloc, dials, works).ok()?;
+    Some(sum.total)
+}
+
+/// Calls the machine once.
+fn ask<R: Wait>(
+    rt: &R,
+    stile: &Turnstile<Listener>,
+    mut pass: Pass<Listener>,
+    asked: Asked,
+) -> (Pass<Listener>, u64)
+    requires { pass.table ≡ stile.now.table }
+    ensures { (result.0.table ≡ pass.table) × (result.0.view.number ≡ pass.view.number) }
+{
+    let (answer, _) = stile.call(rt, &mut pass, asked);
+    (pass, answer)
+}
+
+/// One pass reads all of standard input in a call, and another one waits meanwhile to add 1. Answers how many bytes were
+/// read, and the sum; none where memory is wanting.
+fn read_while_one_waits<R: Threads + Wait + Clock + Sync>(
+    rt: &R,
+    alloc: Global,
+    input: Stdin,
+) -> Option<(u64, u64)> {
+    let Ok((stile, mut first)) = Turnstile::new(alloc, Listener::new(input), 0) else {
+        return None;
+    };
+    let one = stile.split(&mut first);
+    let two = stile.split(&mut first);
+    let lent = &stile;
+    let ((_, read), (_, sum)) = thread::join(
+        rt,
+        move || -> (Pass<Listener>, u64)
+            requires { one.table ≡ lent.now.table }
+        { ask(rt, lent, one, Asked::Read) },
+        move || -> (Pass<Listener>, u64)
+            requires { two.table ≡ lent.now.table }
+        {
+            thread::sleep(rt, Duration::from_millis(LATER));
+            ask(rt, lent, two, Asked::Add(1))
+        },
+    );
+    Some((read, sum))
+}
+
+/// A word as a number.
+fn number_of(word: &str) -> Option<u32> {
+    word.parse().ok()
+}
+
+/// What is printed for these words; the status where there is nothing to print.
+fn line_of<R: Threads + Wait + Clock + Sync>(
+    rt: &R,
+    alloc: Global,
+    input: Stdin,
+    words: &[String],
+) -> Result<String, u8> {
+    let line = match words {
+        [word] if word.as_str() == "silent" => {
+            let (read, sum) = read_while_one_waits(rt, alloc, input).ok_or(1)?;
+            format!(in alloc; "{read} {sum}")
+        }
+        [passes, calls, dials] => {
+            let passes = number_of(passes.as_str()).ok_or(2)?;
+            let calls = number_of(calls.as_str()).ok_or(2)?;
+            let dials = number_of(dials.as_str()).ok_or(2)?;
+            let sum = sum_of(rt, alloc, passes, calls, dials).ok_or(1)?;
+            format!(in alloc; "{sum}")
+        }
+        _ => return Err(2),
+    };
+    line.map_err(|_| 1)
+}
+
+fn main(rt: HostRuntime) -> ExitCode {
+    let words = match env::args(&rt) {
+        Ok(words) => words.skip(1).collect::<Vec<String>>(rt.alloc()),
+        Err(_) => return ExitCode::from(2),
+    };
+    let line = match &words {
+        Ok(words) => line_of(&rt, rt.alloc(), rt.stdin(), words.as_slice()),
+        Err(_) => Err(1),
+    };
+    let printed = match &line {
+        Ok(line) => println!(rt; "{line}").map_err(|_| 1),
+        Err(status) => Err(*status),
+    };
+    ExitCode::from(printed.err().unwrap_or(0))
+}

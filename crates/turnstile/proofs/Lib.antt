@@ -1,0 +1,14 @@
+pub mod CallerLemmas
+mod HistoryLemmas
+mod ListLemmas
+mod CountLemmas
+mod ViewLemmas
+mod NumberLemmas
+mod TurnLemmas
+mod DialLemmas
+mod TurnSteps
+mod DialSteps
+mod PassNumbers
+mod PassSteps
+mod Ends
+mod WholeCalls

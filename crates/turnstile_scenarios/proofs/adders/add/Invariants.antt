@@ -1,0 +1,8 @@
+use Rattle.std.proofs.Common.{◌≡◌}
+use Rattle.turnstile_scenarios.proofs.adders.add.Given as goal
+
+abbrev pub invariant-loop : goal.invariant-loop
+invariant-loop g l = record {
+  place : l.pass.table ≡ l.fn.pass.table;
+  number : l.pass.view.number ≡ l.fn.pass.view.number;
+}

@@ -1,0 +1,82 @@
+//! Works that are done in threads of their own, each with a pass of its own, at any machine.
+ghost use Rattle.std.specs.Prelude.{◌≡◌, ℕ, ◌<◌, ◌^◌, [], All, map, length, IfOk, OnOk};
+
+use std::alloc::{AllocError, Global};
+use std::sync::Wait;
+use turnstile::{Machine, Pass, Turnstile};
+
+/// What is done with a pass.
+pub trait Work<M: Machine>: Drop {
+    /// Calls the machine with the pass.
+    fn run<T: Wait>(&mut self, rt: &T, stile: &Turnstile<M>, pass: &mut Pass<M>)
+        requires { pass.old.table ≡ stile.now.table }
+        ensures place { pass.new.table ≡ pass.old.table }
+        ensures number { pass.new.view.number ≡ pass.old.view.number };
+}
+
+/// A work, and the pass with which it is done.
+#[derive(Drop)]
+pub struct Job<M: Machine, W: Drop> {
+    pub work: W,
+    pub pass: Pass<M>,
+}
+
+/// Gives each work a pass of its own.
+pub fn split_each<M: Machine, W: Drop>(
+    alloc: Global,
+    stile: &Turnstile<M>,
+    first: &mut Pass<M>,
+    works: Vec<W>,
+) -> Result<Vec<Job<M, W>>, AllocError>
+    requires place { first.old.table ≡ stile.now.table }
+    requires first { first.old.view.number ≡ 0 }
+    requires fresh { (first.old.view.split ≡ []) × (first.old.view.joined ≡ []) }
+    requires few { length works.items < 2 ^ 32 }
+    ensures first { (first.new.table ≡ first.old.table) × (first.new.view.number ≡ 0) }
+    ensures split { IfOk result (λ jobs. map (λ job. job.pass.view.number) jobs.items ≡ first.new.view.split) }
+    ensures places { IfOk result (λ jobs. All (λ job. job.pass.table ≡ stile.now.table) jobs.items) }
+{
+    let mut jobs = Vec::new(alloc);
+    for work in works {
+        let pass = stile.split(first);
+        jobs.push(Job { work, pass })?;
+    }
+    Ok(jobs)
+}
+
+/// Does a job.
+pub fn done<T: Wait, M: Machine, W: Work<M>>(
+    rt: &T,
+    stile: &Turnstile<M>,
+    job: Job<M, W>,
+) -> Job<M, W>
+    requires { job.pass.table ≡ stile.now.table }
+    ensures { (result.pass.table ≡ job.pass.table) × (result.pass.view.number ≡ job.pass.view.number) }
+{
+    let Job { mut work, mut pass } = job;
+    work.run(rt, stile, &mut pass);
+    Job { work, pass }
+}
+
+/// Joins back each pass, and gives the works.
+pub fn join_each<M: Machine, W: Drop>(
+    alloc: Global,
+    stile: &Turnstile<M>,
+    first: &mut Pass<M>,
+    jobs: Vec<Job<M, W>>,
+) -> Result<Vec<W>, AllocError>
+    requires place { first.old.table ≡ stile.now.table }
+    requires first { first.old.view.number ≡ 0 }
+    requires split { map (λ job. job.pass.view.number) jobs.items ≡ first.old.view.split }
+    requires places { All (λ job. job.pass.table ≡ stile.now.table) jobs.items }
+    ensures first { (first.new.table ≡ first.old.table) × (first.new.view.number ≡ 0) }
+    ensures all_back { OnOk result (first.new.view.split ≡ []) }
+{
+    let mut works = Vec::new(alloc);
+    for job in jobs {
+        let Job { work, pass } = job;
+        stile.join(first, pass);
+        works.push(work)?;
+    }
+    Ok(works)
+}

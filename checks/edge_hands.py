@@ -168,6 +168,41 @@ def cut_meanwhile(folder, program):
     )
 
 
+def renamed_meanwhile(folder, program):
+    """The output is renamed while the run goes on: the run writes on under its new name, and makes no other."""
+    first, second = numbered_lines(0, 1_000), numbered_lines(1_000, 1_200)
+    started = begin(program, folder, "pipe", "stdin", "out", "100", "10000")
+    os.write(started.stdin.fileno(), first)
+    wait_until(lambda: size_of(folder, "agent.journal") > 0)
+    os.rename(os.path.join(folder, "out"), os.path.join(folder, "out.1"))
+    report, told = started.communicate(second, timeout=SECONDS)
+    left = found_in(folder)
+    return differences(
+        ("status", started.returncode, 0),
+        ("standard output", report, account_of(1_200, 1_200, 0)),
+        ("standard error", told, b""),
+        ("names", sorted(left), ["agent.journal", "out.1"]),
+        ("out.1", left["out.1"], shortest(first + second)),
+    )
+
+
+def cut_standard_output(folder, program):
+    """Standard output appends to a file, which is cut to nothing while the run goes on."""
+    first, second = numbered_lines(0, 1_000), numbered_lines(1_000, 1_200)
+    with open(os.path.join(folder, "log"), "ab") as log:
+        started = begin(program, folder, "pipe", "stdin", "stdout", "100", "10000", stdout=log)
+    os.write(started.stdin.fileno(), first)
+    wait_until(lambda: size_of(folder, "agent.journal") > 0)
+    wait_for_input(started, started.stdin.fileno())
+    os.truncate(os.path.join(folder, "log"), 0)
+    told = started.communicate(second, timeout=SECONDS)[1]
+    return differences(
+        ("status", started.returncode, 0),
+        ("standard error", told, b""),
+        ("log", found_in(folder)["log"], shortest(second) + account_of(1_200, 1_200, 0)),
+    )
+
+
 def sealed(words, status, report, told, kept):
     """A run with a file that can't be made shorter, so that it can't be made empty."""
 
@@ -280,6 +315,8 @@ HANDS_RUNS = [
     ("a second run in one folder", two_runs),
     ("an input that another has the lock of", locked_input),
     ("the output and the journal are cut to nothing meanwhile", cut_meanwhile),
+    ("the output is renamed meanwhile", renamed_meanwhile),
+    ("standard output, which appends to a file, is cut to nothing meanwhile", cut_standard_output),
     (
         "an output that can't be made empty",
         sealed(["pipe", "in", "OUT", "10", "100"], 6, UNSENT, LEFT, ["in"]),

@@ -34,7 +34,7 @@ fn advice(status: Status) -> &'static str {
             "hogzent: a read of the input failed; what was read before was sent, buffered or dropped, \
             as the account says"
         }
-        Status::OpenFault => { "hogzent: a place could not be opened; no line was read or written" }
+        Status::OpenFault => "hogzent: a place could not be opened; no line was read or written",
         Status::Left => {
             "hogzent: the last three puts to the output failed; \
             the account says how many metrics are still buffered"

@@ -2,30 +2,27 @@
 configurations by edge_configurations.py, what a case is by edge_kit.py.
 """
 
-import array
-import fcntl
 import os
-import re
 import resource
-import signal
 import subprocess
 import sys
 import tempfile
-import termios
 import time
 from functools import partial
 
 from edge_configurations import CHECKS, CONFIGURED, CONFIGURED_RUNS
+from edge_hands import HANDS, HANDS_RUNS
 from edge_kit import (
     ACCOUNT,
     DROPPED,
+    FOLDER,
     JOURNAL,
     LEFT,
     LINES,
+    MISSING,
     NOTHING,
     NOTHING_JOURNAL,
     OLD,
-    OPEN_FAULT,
     READ_FAULT,
     REFUSED,
     REPORT_FAULT,
@@ -33,15 +30,22 @@ from edge_kit import (
     UNREAD,
     UNREAD_JOURNAL,
     USAGE,
+    WAS_CLOSED,
     Case,
     Folder,
     Link,
+    account_of,
     differences,
     found_in,
     lay,
+    limit_files,
+    numbered_lines,
     open_fault,
     refused,
     run_case,
+    shortest,
+    unopened,
+    wait_for_input,
 )
 
 WHOLE = {"out": LINES, "agent.journal": JOURNAL}
@@ -175,7 +179,7 @@ REFUSED_BY_STREAMS = [
         "hogzent pipe in out 10 100 2>> out",
         "out",
         OLD_OUT,
-        after={"out": OLD + OPEN_FAULT},
+        after={"out": OLD + unopened("out")},
         told=b"",
     ),
     refused(
@@ -221,7 +225,7 @@ REFUSED_BY_STREAMS = [
         "hogzent pipe in out 10 100 2>> agent.journal",
         "agent.journal",
         OLD_BOTH,
-        after={"agent.journal": OLD + OPEN_FAULT},
+        after={"agent.journal": OLD + unopened("agent.journal")},
         told=b"",
     ),
 ]
@@ -277,22 +281,24 @@ NO_FILES = [
         told=REPORT_FAULT,
     ),
     Case(
-        "a folder as the input",
-        "hogzent pipe . out 10 100",
+        "an input whose reads fail",
+        "hogzent pipe /proc/self/mem out 10 100",
         {"out": OLD},
         {"out": b"", "agent.journal": UNREAD_JOURNAL},
         status=4,
         report=UNREAD,
         told=READ_FAULT,
     ),
-    refused("a folder as the output", "hogzent pipe in . 10 100", ".", {"in": LINES}),
+    refused("a folder as the input", "hogzent pipe . out 10 100", ".", {"out": OLD}, FOLDER),
+    refused("a folder as the output", "hogzent pipe in . 10 100", ".", {"in": LINES}, FOLDER),
     refused(
         "a folder as the journal",
         "hogzent pipe in out 10 100",
         "agent.journal",
         {**OLD_OUT, "agent.journal": Folder()},
+        FOLDER,
     ),
-    refused("an input that isn't there", "hogzent pipe nowhere out 10 100", "nowhere", {"out": OLD}),
+    refused("an input that isn't there", "hogzent pipe nowhere out 10 100", "nowhere", {"out": OLD}, MISSING),
 ]
 
 CLOSED = [
@@ -314,31 +320,24 @@ CLOSED = [
         report=b"",
     ),
     Case("no command, and standard output is closed", "hogzent >&-", status=2, report=b"", told=USAGE),
-    refused("closed standard input as the input", "hogzent pipe stdin out 10 100 <&-", "stdin", {"out": OLD}),
+    refused(
+        "closed standard input as the input",
+        "hogzent pipe stdin out 10 100 <&-",
+        "stdin",
+        {"out": OLD},
+        WAS_CLOSED,
+    ),
     refused(
         "closed standard output as the output",
         "hogzent pipe in stdout 10 100 >&-",
         "stdout",
         {"in": LINES},
         report=b"",
+        told=unopened("a place", WAS_CLOSED),
     ),
 ]
 
 CASES = [*RUNS_WELL, *REFUSED_BY_PLACES, *REFUSED_BY_STREAMS, *NO_FILES, *CLOSED]
-
-
-def numbered_lines(begin, end):
-    """Lines of 16 bytes each, with so many numbers."""
-    return b"".join(b"m v=%07di %03d\n" % (number, number % 1000) for number in range(begin, end))
-
-
-def account_of(count, written, buffered):
-    """The account of so many lines that were read and kept."""
-    return (
-        b"input 0 pieces %d refused 0 passed 0 filtered 0 gathered %d ended\n" % (count, count)
-        + b"items made 0 removed 0 routed %d\n" % count
-        + b"output 0 filtered 0 late 0 consumed 0 written %d buffered %d dropped 0\n" % (written, buffered)
-    )
 
 
 def full_pipe(folder, program):
@@ -368,11 +367,6 @@ def full_pipe(folder, program):
     )
 
 
-def shortest(lines):
-    """The lines as they are written: numbers without zeros before them."""
-    return re.sub(rb"(=| )0+(?=\d)", rb"\1", lines)
-
-
 def slow_input(folder, program):
     """Standard input is a pipe that doesn't block, and is empty for a while."""
     lay(folder, {"agent.journal": Link("/dev/null")})
@@ -397,28 +391,6 @@ def slow_input(folder, program):
         ("standard error", told, b""),
         ("out", found_in(folder)["out"], LINES),
     )
-
-
-def limit_files(most):
-    """For a child: no file may grow beyond so many bytes, and a write that would is a fault."""
-
-    def limit():
-        signal.signal(signal.SIGXFSZ, signal.SIG_IGN)
-        resource.setrlimit(resource.RLIMIT_FSIZE, (most, resource.RLIM_INFINITY))
-
-    return limit
-
-
-def wait_for_input(started, pipe):
-    """Waits until a child has read all of a pipe and waits for more."""
-    for _ in range(SECONDS * 50):
-        left = array.array("i", [0])
-        fcntl.ioctl(pipe, termios.FIONREAD, left)
-        with open(f"/proc/{started.pid}/stat", encoding="ascii") as file:
-            is_asleep = file.read().rpartition(") ")[2].startswith("S")
-        if left[0] == 0 and is_asleep:
-            return
-        time.sleep(0.02)
 
 
 def torn_then_whole(folder, program):
@@ -530,7 +502,8 @@ RUNS = [
 
 def main(program):
     """Runs each case in a folder of its own, and prints a line for each and one for all."""
-    runs = [(case.name, partial(run_case, case)) for case in CASES + CHECKS + CONFIGURED] + CONFIGURED_RUNS + RUNS
+    runs = [(case.name, partial(run_case, case)) for case in CASES + CHECKS + CONFIGURED + HANDS]
+    runs += CONFIGURED_RUNS + RUNS + HANDS_RUNS
     failed = 0
     for name, run in runs:
         with tempfile.TemporaryDirectory() as folder:

@@ -7,13 +7,15 @@ import subprocess
 
 from edge_kit import (
     ACCOUNT,
+    FOLDER,
     JOURNAL,
     LINES,
+    MISSING,
     NOTHING,
     OLD,
-    OPEN_FAULT,
     REFUSED,
     SECONDS,
+    UNREAD,
     Case,
     Folder,
     Holding,
@@ -76,7 +78,7 @@ CHECKS = [
         "a text that is no TOML",
         b"[agent]\nx = \n",
         b"NotToml root 0",
-        Holding(b"line 2, column 5"),
+        Holding(b"line 2, column 5: "),
     ),
     checked(
         "a configuration through a pipe can't be read again",
@@ -94,19 +96,26 @@ CHECKS = [
         told=b"hogzent: the configuration was refused\n",
     ),
     checked(
+        "a configuration whose reads fail",
+        "hogzent check /proc/self/mem",
+        status=4,
+        report=b"fault: read /proc/self/mem\n",
+        told=b"hogzent: the configuration could not be read\n",
+    ),
+    checked(
         "a configuration that is a folder",
         "hogzent check c",
         {"c": Folder()},
-        status=4,
-        report=b"fault: read c\n",
-        told=b"hogzent: the configuration could not be read\n",
+        status=5,
+        report=open_fault("c"),
+        told=b"hogzent: the configuration could not be opened: %b\n" % FOLDER,
     ),
     checked(
         "a configuration that isn't there",
         "hogzent check nowhere",
         status=5,
-        report=b"fault: open nowhere\n",
-        told=b"hogzent: the configuration could not be opened\n",
+        report=open_fault("nowhere"),
+        told=b"hogzent: the configuration could not be opened: %b\n" % MISSING,
     ),
     checked(
         "a check whose report can't be written",
@@ -149,7 +158,7 @@ LEFT_AT_ONE = (
 RUN_READ_FAULT = (
     b"hogzent: a read failed; what was read before was sent, buffered or dropped, as the account says\n"
 )
-INPUT_UNREAD = NOTHING.replace(b"ended", b"unread")
+UNREADABLE = "/proc/self/mem"
 
 LOSING = (
     configured(("in", "in2"))
@@ -268,12 +277,14 @@ REFUSED_BY_PLACES = [
         "hogzent run c",
         ".",
         laid(configured(outputs=("out", ".")), out=OLD),
+        FOLDER,
     ),
     refused(
         "an input that isn't there, behind one that is",
         "hogzent run c",
         "nowhere",
         laid(configured(inputs=("in", "nowhere")), out=OLD),
+        MISSING,
     ),
     Case(
         "an output as the journal, by its name",
@@ -295,30 +306,25 @@ FAULTS = [
         report=b"config: UnknownKey agent 0\n",
         told=b'hogzent: the configuration c was refused: [agent], "metric_bufer_limit": there is no such key\n',
     ),
+    refused("a configuration that is a folder isn't run", "hogzent run c", "c", {"c": Folder()}, FOLDER),
+    refused("a configuration that isn't there isn't run", "hogzent run nowhere", "nowhere", {}, MISSING),
     Case(
-        "a configuration that is a folder isn't run",
-        "hogzent run c",
-        {"c": Folder()},
+        "a configuration whose reads fail isn't run",
+        f"hogzent run {UNREADABLE}",
         status=4,
-        report=b"fault: read c\n",
+        report=b"fault: read /proc/self/mem\n",
         told=b"hogzent: the configuration could not be read\n",
     ),
     Case(
-        "a configuration that isn't there isn't run",
-        "hogzent run nowhere",
-        status=5,
-        report=open_fault("nowhere"),
-        told=OPEN_FAULT,
-    ),
-    Case(
-        "a folder as an input of a run",
+        "an input of a run whose reads fail",
         "hogzent run c; status=$?; rm agent.journal; exit $status",
-        laid(configured(inputs=(".",)), out=OLD),
+        laid(configured(inputs=(UNREADABLE,)), out=OLD),
         {"out": b""},
         status=4,
-        report=INPUT_UNREAD,
+        report=UNREAD,
         told=RUN_READ_FAULT,
     ),
+    refused("a folder as an input of a run", "hogzent run c", ".", laid(configured(inputs=(".",)), out=OLD), FOLDER),
     Case(
         "an output of a run that takes nothing",
         "hogzent run c; status=$?; rm agent.journal; exit $status",

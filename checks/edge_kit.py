@@ -5,9 +5,15 @@ expected is written out: all files that lie there afterwards, the status, what g
 that is no file, and the line on standard error. In a journal the moments count as 0.
 """
 
+import array
+import fcntl
 import os
 import re
+import resource
+import signal
 import subprocess
+import termios
+import time
 from dataclasses import dataclass, field
 
 SECONDS = 20
@@ -51,10 +57,11 @@ READ_FAULT = (
     b"hogzent: a read of the input failed;"
     b" what was read before was sent, buffered or dropped, as the account says\n"
 )
-OPEN_FAULT = (
-    b"hogzent: a place could not be opened; no line was read or written"
-    b" (an output may not be a file that is open already)\n"
-)
+IS_OPEN = b"this run has that file open already"
+ANOTHERS = b"another run has it"
+FOLDER = b"it is a folder"
+MISSING = b"there is no such file or folder"
+WAS_CLOSED = b"it was closed as the run began"
 LEFT = (
     b"hogzent: the last three puts to the output failed;"
     b" the account says how many metrics are still buffered\n"
@@ -100,10 +107,15 @@ class Case:
     told: bytes = b""
 
 
-def refused(name, line, place, before, **others):
+def refused(name, line, place, before, why=IS_OPEN, **others):
     """A case in which a place isn't opened: each file is as before, but where the report or the line goes."""
-    others = {"report": open_fault(place), "told": OPEN_FAULT, **others}
+    others = {"report": open_fault(place), "told": unopened(place, why), **others}
     return Case(name, line, before, status=5, **others)
+
+
+def unopened(place, why=IS_OPEN):
+    """The line on standard error of a start that is refused."""
+    return b"hogzent: %b could not be opened: %b; no line was read or written\n" % (place.encode(), why)
 
 
 def open_fault(place):
@@ -184,3 +196,44 @@ def run_case(case, folder, program):
         ("standard error", ran.stderr, case.told),
         ("files", found_in(folder), expected_in(case)),
     )
+
+
+def numbered_lines(begin, end):
+    """Lines of 16 bytes each, with so many numbers."""
+    return b"".join(b"m v=%07di %03d\n" % (number, number % 1000) for number in range(begin, end))
+
+
+def account_of(count, written, buffered):
+    """The account of so many lines that were read and kept."""
+    return (
+        b"input 0 pieces %d refused 0 passed 0 filtered 0 gathered %d ended\n" % (count, count)
+        + b"items made 0 removed 0 routed %d\n" % count
+        + b"output 0 filtered 0 late 0 consumed 0 written %d buffered %d dropped 0\n" % (written, buffered)
+    )
+
+
+def shortest(lines):
+    """The lines as they are written: numbers without zeros before them."""
+    return re.sub(rb"(=| )0+(?=\d)", rb"\1", lines)
+
+
+def limit_files(most):
+    """For a child: no file may grow beyond so many bytes, and a write that would is a fault."""
+
+    def limit():
+        signal.signal(signal.SIGXFSZ, signal.SIG_IGN)
+        resource.setrlimit(resource.RLIMIT_FSIZE, (most, resource.RLIM_INFINITY))
+
+    return limit
+
+
+def wait_for_input(started, pipe):
+    """Waits until a child has read all of a pipe and waits for more."""
+    for _ in range(SECONDS * 50):
+        left = array.array("i", [0])
+        fcntl.ioctl(pipe, termios.FIONREAD, left)
+        with open(f"/proc/{started.pid}/stat", encoding="ascii") as file:
+            is_asleep = file.read().rpartition(") ")[2].startswith("S")
+        if left[0] == 0 and is_asleep:
+            return
+        time.sleep(0.02)

@@ -5,16 +5,21 @@
 mod losses;
 mod real;
 mod reasons;
+mod shown;
 
 use agent_run::{Status, agent};
 use fixed_num::OutOfMemory;
 use losses::losses;
-use real::{RealWorld, StandardStreams, open_standard};
+use real::{RealWorld, Refusal, StandardStreams, StreamHandles, open_standard};
 use reasons::{reason, text_at};
+use shown::Shown;
 use std::alloc::Global;
 use std::env;
+use std::fs::File;
 use std::io::ErrorKind;
 use std::process::ExitCode;
+use std::rt::{Clock, Files};
+use std::thread::Threads;
 
 /// What standard error is told of an end that isn't Done.
 fn advice(status: Status) -> &'static str {
@@ -29,10 +34,7 @@ fn advice(status: Status) -> &'static str {
             "hogzent: a read of the input failed; what was read before was sent, buffered or dropped, \
             as the account says"
         }
-        Status::OpenFault => {
-            "hogzent: a place could not be opened; no line was read or written \
-            (an output may not be a file that is open already)"
-        }
+        Status::OpenFault => "hogzent: a place could not be opened; no line was read or written",
         Status::Left => {
             "hogzent: the last three puts to the output failed; \
             the account says how many metrics are still buffered"
@@ -53,9 +55,10 @@ fn losses_in(alloc: Global, account: &[u8]) -> Option<String> {
 
 /// What standard error is told of a configuration that was refused: its first fault, where its file can be
 /// read once more.
-fn refusal(rt: &HostRuntime, alloc: Global, place: &str) -> Option<String> {
+fn refusal<R: Files<File = File>>(rt: &R, alloc: Global, place: &str) -> Option<String> {
     let text = text_at(rt, alloc, place)?;
     let reason = reason(alloc, text.as_slice()).ok()??;
+    let (place, reason) = (Shown(place), Shown(reason.as_str()));
     format!(in alloc; "hogzent: the configuration {place} was refused: {reason}").ok()
 }
 
@@ -93,8 +96,41 @@ fn run_advice(status: Status, report: &[u8]) -> &'static str {
     }
 }
 
-/// What standard error is told of an end that isn't Done, given what was reported.
-fn tell(rt: &HostRuntime, alloc: Global, words: &[String], status: Status, report: &[u8]) {
+/// The place that was reported as one that wasn't opened.
+fn unopened(report: &[u8]) -> Option<&str> {
+    let place = report.strip_prefix(b"fault: open ")?.strip_suffix(b"\n")?;
+    str::from_utf8(place).ok()
+}
+
+/// Tells standard error of a place that wasn't opened, and why.
+fn tell_unopened(rt: &impl Eprint, words: &[String], refusal: Refusal, report: &[u8]) {
+    let is_check = words.first().is_some_and(|word| word.as_str() == "check");
+    let _ = match unopened(report) {
+        _ if is_check => {
+            eprintln!(rt; "hogzent: the configuration could not be opened: {refusal}")
+        }
+        Some(place) => {
+            let place = Shown(place);
+            eprintln!(rt;
+                "hogzent: {place} could not be opened: {refusal}; no line was read or written"
+            )
+        }
+        None => {
+            eprintln!(rt;
+                "hogzent: a place could not be opened: {refusal}; no line was read or written"
+            )
+        }
+    };
+}
+
+/// Tells standard error of an end that isn't Done, given what was reported.
+fn tell<R: Files<File = File> + Eprint>(
+    rt: &R,
+    alloc: Global,
+    words: &[String],
+    status: Status,
+    report: &[u8],
+) {
     let [command, place] = words else {
         let _ = rt.eprintln(advice(status));
         return;
@@ -122,23 +158,21 @@ fn words_of(rt: &HostRuntime, alloc: Global) -> Result<Vec<String>, OutOfMemory>
     }
 }
 
-/// Runs the words in the real world, given what stands behind the standard streams, and tells standard
-/// error of an end that isn't Done, or of what was refused or dropped.
-fn run_words(rt: &HostRuntime, standard: StandardStreams) -> Status {
-    let alloc = rt.alloc();
-    let Ok(words) = words_of(rt, alloc) else {
-        let _ = rt.eprintln(advice(Status::OutOfMemory));
-        return Status::OutOfMemory;
-    };
-    let mut world = RealWorld::new(rt, alloc, rt.stdin(), rt.stdout(), standard);
-    let status = agent(alloc, words.as_slice(), &mut world);
-    if world.not_emptied() != 0 {
-        let _ = rt.eprintln(
-            "hogzent: an output file that nothing was written to could not be made empty",
-        );
-    }
-    if status != Status::Done {
-        tell(rt, alloc, words.as_slice(), status, world.reported());
+/// Runs the words in the real world, given what stands behind the standard streams, and tells standard error
+/// of an end that isn't Done, or of what was refused or dropped.
+fn run_words<R: Files<File = File> + Clock + Eprint + Threads + Sync>(
+    rt: &R,
+    alloc: Global,
+    words: &[String],
+    streams: StreamHandles,
+    standard: StandardStreams,
+) -> Status {
+    let mut world = RealWorld::new(rt, alloc, streams, standard);
+    let status = agent(alloc, words, &mut world);
+    if let (Status::OpenFault, Some(refusal)) = (status, world.refused()) {
+        tell_unopened(rt, words, refusal, world.reported());
+    } else if status != Status::Done {
+        tell(rt, alloc, words, status, world.reported());
     } else if let Some(text) = losses_in(alloc, world.reported()) {
         let _ = rt.eprintln(text);
     }
@@ -147,14 +181,22 @@ fn run_words(rt: &HostRuntime, standard: StandardStreams) -> Status {
 
 /// Opens the standard streams that were closed, before anything else is opened, and runs the words.
 fn main(rt: HostRuntime) -> ExitCode {
-    let status = match open_standard(&rt) {
-        Ok(standard) => run_words(&rt, standard),
-        Err(_) => {
-            let _ = rt.eprintln(
-                "hogzent: /dev/null or /proc/self/fd could not be opened; no place was opened",
-            );
-            Status::OpenFault
-        }
+    let alloc = rt.alloc();
+    let Ok(standard) = open_standard(&rt) else {
+        let _ = rt.eprintln(
+            "hogzent: /dev/null or /proc/self/fd could not be opened; no place was opened",
+        );
+        return ExitCode::from(Status::OpenFault.code());
     };
+    let Ok(words) = words_of(&rt, alloc) else {
+        let _ = rt.eprintln(advice(Status::OutOfMemory));
+        return ExitCode::from(Status::OutOfMemory.code());
+    };
+    let streams = StreamHandles {
+        input: rt.stdin(),
+        output: rt.stdout(),
+        error: rt.stderr(),
+    };
+    let status = run_words(&rt, alloc, words.as_slice(), streams, standard);
     ExitCode::from(status.code())
 }

@@ -1,120 +1,41 @@
 //! The real world: files, the standard streams, and the clock.
-ghost use Rattle.std.specs.Prelude.{◌≡◌, ◌≢◌, None, Some, Contains, IfSome, IsNone, codes, true};
+ghost use Rattle.std.specs.Prelude.{◌≡◌, None};
 
 mod clock;
 mod files;
+mod opening;
+mod pipes;
 mod streams;
 
+use crate::shown::Shown;
 use agent_base::{MemWorld, OpenFault, PutFault, Sink, StdSink, StdSource, World};
 pub use clock::RealClock;
+use files::OpenFiles;
 pub use files::{StandardStreams, open_standard};
-use files::{FileIdentity, OpenFiles, STANDARD_OUTPUT, StandardStream};
+pub use opening::Refusal;
+use opening::{reader_at, standard_writer, writer_at};
 use std::alloc::Global;
-use std::fs::{File, OpenOptions};
-use std::io::{Stdin, Stdout};
+use std::fs::File;
+use std::io::{self, Stderr, Stdin, Stdout};
 use std::rt::Files;
+use std::thread::Threads;
 use streams::{Reader, Writer};
 
-/// What was opened at a place, and which regular file it is.
-#[derive(Drop)]
-struct Opened<T> {
-    stream: T,
-    file: Option<FileIdentity>,
+/// The runtime's handles of the standard streams.
+#[derive(Clone, Copy)]
+pub struct StreamHandles {
+    pub input: Stdin,
+    pub output: Stdout,
+    pub error: Stderr,
 }
 
-/// What is read at a place, where it can be opened.
-fn reader_at<R: Files<File = File>>(
-    rt: &R,
-    stdin: Stdin,
-    files: &OpenFiles,
-    place: &str,
-) -> Option<Opened<Reader>>
-    ensures closed { place.now ≡ codes "stdin" → files.now.standard.input.was_closed ≡ true →
-        IsNone result }
-{
-    if place == "stdin" {
-        let input = files.standard.input;
-        if input.was_closed {
-            return None;
-        }
-        return Some(Opened {
-            stream: Reader::Standard(stdin),
-            file: input.file,
-        });
-    }
-    let opened = File::open(rt, place).ok()?;
-    let file = FileIdentity::of(&opened.metadata().ok()?);
-    Some(Opened {
-        stream: Reader::File(opened),
-        file,
-    })
-}
-
-/// Standard output as what is written, or nowhere if it was closed as the run began. A regular file behind it
-/// is opened once more, by the link that leads to the open file, to ask for its length and to cut it.
-fn standard_writer<R: Files<File = File>>(
-    rt: &R,
-    stdout: Stdout,
-    output: StandardStream,
-) -> Writer {
-    if output.was_closed {
-        return Writer::nowhere();
-    }
-    if output.file.is_none() {
-        return Writer::standard(stdout, None);
-    }
-    let regular = OpenOptions::new().write(true).open(rt, STANDARD_OUTPUT);
-    Writer::standard(stdout, regular.ok())
-}
-
-/// What is written at a place, where it can be opened, and is no regular file that is open. No byte of a
-/// file that is there changes.
-fn writer_at<R: Files<File = File>>(
-    rt: &R,
-    stdout: Stdout,
-    files: &OpenFiles,
-    place: &str,
-) -> Option<Opened<Writer>>
-    ensures closed { place.now ≡ codes "stdout" → files.now.standard.output.was_closed ≡ true →
-        IsNone result }
-    ensures places { IfSome result (λ opened. IfSome opened.file (λ identity.
-        Contains files.now.places.items identity → ⊥)) }
-    ensures streams { place.now ≢ codes "stdout" → IfSome result (λ opened. IfSome opened.file (λ identity.
-        (files.now.standard.input.file ≢ Some identity) × (files.now.standard.output.file ≢ Some identity)
-        × (files.now.standard.error.file ≢ Some identity))) }
-{
-    if place == "stdout" {
-        let output = files.standard.output;
-        if output.was_closed || files.is_place(output.file) {
-            return None;
-        }
-        return Some(Opened {
-            stream: standard_writer(rt, stdout, output),
-            file: output.file,
-        });
-    }
-    let opened = OpenOptions::new()
-        .write(true)
-        .create(true)
-        .open(rt, place)
-        .ok()?;
-    let file = FileIdentity::of(&opened.metadata().ok()?);
-    if files.is_open(file) {
-        return None;
-    }
-    Some(Opened {
-        stream: Writer::file(opened, file.is_some()),
-        file,
-    })
-}
-
-/// A part whose file is made empty, if it wasn't yet; whether that failed.
-fn emptied(part: StdSink<Writer>) -> (StdSink<Writer>, bool)
+/// A part whose file is made empty, if it wasn't yet; and how that failed.
+fn emptied(part: StdSink<Writer>) -> (StdSink<Writer>, Option<io::Error>)
     ensures { (⟦<StdSink<Writer> as Sink>⟧.told result.0).faults ≡ (⟦<StdSink<Writer> as Sink>⟧.told part).faults }
 {
     let (mut writer, faults) = part.into_parts();
-    let has_failed = writer.make_empty().is_err();
-    (StdSink::with_faults(writer, faults), has_failed)
+    let fault = writer.make_empty().err();
+    (StdSink::with_faults(writer, faults), fault)
 }
 
 /// The real world. The place `stdin` is standard input and `stdout` standard output; every other place is a
@@ -124,34 +45,34 @@ fn emptied(part: StdSink<Writer>) -> (StdSink<Writer>, bool)
 /// An output place that is a regular file which is open already isn't opened, whatever name it has: that of
 /// a place, or one behind a standard stream. Making it empty would lose what is read there, or was written.
 /// So it is with the place `stdout` where standard output goes to the file of a place. A standard stream
-/// that was closed as the run began is no place.
+/// that was closed as the run began is no place, nor is a folder. A regular file that another run has as an
+/// output or as its journal isn't opened either: this run has the lock of each that it opens until it ends.
 ///
 /// The file of an output place is made empty at the first put, or as its part is given back; but where the
-/// run never began, since a place wasn't opened, it keeps what it has.
+/// run never began, since a place wasn't opened, it keeps what it has. Where it can't be made empty it keeps
+/// what it has too: each put fails, and standard error says so.
 #[derive(Drop)]
 pub struct RealWorld<'r, R> {
     rt: &'r R,
-    stdin: Stdin,
-    stdout: Stdout,
+    streams: StreamHandles,
     files: OpenFiles,
     /// A clock was asked for, which a run does once all its places are open, and a start that is refused
     /// never does.
     has_begun: bool,
-    /// How many files could not be made empty as their parts were given back.
-    not_emptied: u64,
+    /// Why the last place wasn't opened that the system or this world refused.
+    refused: Option<Refusal>,
     parts: MemWorld<StdSource<Reader>, StdSink<Writer>>,
     report: StdSink<Writer>,
 }
 
-impl<'r, R: Files<File = File> + std::rt::Clock + Sync> RealWorld<'r, R> {
+impl<'r, R: Files<File = File> + std::rt::Clock + Threads + Sync> RealWorld<'r, R> {
     ghost use Rattle.agent_base.specs.Places.{AreHome};
 
     /// The world in which nothing is opened yet but the standard streams.
     pub fn new(
         rt: &'r R,
         alloc: Global,
-        stdin: Stdin,
-        stdout: Stdout,
+        streams: StreamHandles,
         standard: StandardStreams,
     ) -> RealWorld<'r, R>
         ensures ins { AreHome (⟦<RealWorld<'r, R> as World>⟧.view result).ins }
@@ -159,13 +80,12 @@ impl<'r, R: Files<File = File> + std::rt::Clock + Sync> RealWorld<'r, R> {
     {
         RealWorld {
             rt,
-            stdin,
-            stdout,
+            streams,
             files: OpenFiles::new(alloc, standard),
             has_begun: false,
-            not_emptied: 0,
+            refused: None,
             parts: MemWorld::new(alloc),
-            report: StdSink::new(standard_writer(rt, stdout, standard.output)),
+            report: StdSink::new(standard_writer(rt, streams.output, standard.output)),
         }
     }
 
@@ -174,13 +94,13 @@ impl<'r, R: Files<File = File> + std::rt::Clock + Sync> RealWorld<'r, R> {
         self.parts.reported()
     }
 
-    /// How many output files that nothing was put to could not be made empty.
-    pub fn not_emptied(&self) -> u64 {
-        self.not_emptied
+    /// Why the last place wasn't opened that was refused.
+    pub fn refused(&self) -> Option<Refusal> {
+        self.refused
     }
 }
 
-impl<'r, R: Files<File = File> + std::rt::Clock + Sync> World for RealWorld<'r, R> {
+impl<'r, R: Files<File = File> + std::rt::Clock + Threads + Sync> World for RealWorld<'r, R> {
     type In = StdSource<Reader>;
 
     type Out = StdSink<Writer>;
@@ -196,12 +116,15 @@ impl<'r, R: Files<File = File> + std::rt::Clock + Sync> World for RealWorld<'r, 
 
     fn open_in(&mut self, place: &str) -> Result<StdSource<Reader>, OpenFault> {
         if !self.parts.has_in(place) {
-            if let Some(opened) = reader_at(self.rt, self.stdin, &self.files, place) {
-                let noted = self.files.add(opened.file);
-                let source = StdSource::new(opened.stream);
-                if noted.is_err() || self.parts.add_in(place, source).is_err() {
-                    return Err(OpenFault::OutOfMemory);
+            match reader_at(self.rt, self.streams.input, &self.files, place) {
+                Ok(opened) => {
+                    let noted = self.files.add(opened.file);
+                    let source = StdSource::new(opened.stream);
+                    if noted.is_err() || self.parts.add_in(place, source).is_err() {
+                        return Err(OpenFault::OutOfMemory);
+                    }
                 }
+                Err(refusal) => self.refused = Some(refusal),
             }
         }
         self.parts.open_in(place)
@@ -209,12 +132,21 @@ impl<'r, R: Files<File = File> + std::rt::Clock + Sync> World for RealWorld<'r, 
 
     fn open_out(&mut self, place: &str) -> Result<StdSink<Writer>, OpenFault> {
         if !self.parts.has_out(place) {
-            if let Some(opened) = writer_at(self.rt, self.stdout, &self.files, place) {
-                let noted = self.files.add(opened.file);
-                let sink = StdSink::new(opened.stream);
-                if noted.is_err() || self.parts.add_out(place, sink).is_err() {
-                    return Err(OpenFault::OutOfMemory);
+            match writer_at(
+                self.rt,
+                self.streams.output,
+                self.streams.error,
+                &self.files,
+                place,
+            ) {
+                Ok(opened) => {
+                    let noted = self.files.add(opened.file);
+                    let sink = StdSink::new(opened.stream);
+                    if noted.is_err() || self.parts.add_out(place, sink).is_err() {
+                        return Err(OpenFault::OutOfMemory);
+                    }
                 }
+                Err(refusal) => self.refused = Some(refusal),
             }
         }
         self.parts.open_out(place)
@@ -229,9 +161,12 @@ impl<'r, R: Files<File = File> + std::rt::Clock + Sync> World for RealWorld<'r, 
             self.parts.give_out(place, part);
             return;
         }
-        let (part, has_failed) = emptied(part);
-        if has_failed {
-            self.not_emptied = self.not_emptied.saturating_add(1);
+        let (part, fault) = emptied(part);
+        if let Some(fault) = fault {
+            let _ = eprintln!(self.streams.error;
+                "hogzent: {} could not be made empty: {fault}",
+                Shown(place)
+            );
         }
         self.parts.give_out(place, part);
     }

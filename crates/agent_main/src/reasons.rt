@@ -52,10 +52,22 @@ fn place_of(alloc: Global, fault: ConfigFault) -> Result<String, AllocError> {
     }
 }
 
+/// The lines of a text in one line.
+fn joined(alloc: Global, text: &str) -> Result<String, AllocError> {
+    let mut all = String::new(alloc);
+    for line in text.lines() {
+        if !all.is_empty() {
+            all.push_str(": ")?;
+        }
+        all.push_str(line)?;
+    }
+    Ok(all)
+}
+
 /// Why a text is no TOML: the line and the column, where its reader knows them.
 fn toml_fault(alloc: Global, text: &[u8]) -> Result<String, AllocError> {
     match toml::table_from_slice(alloc, text) {
-        Err(fault) => format!(in alloc; "{fault}"),
+        Err(fault) => joined(alloc, format!(in alloc; "{fault}")?.as_str()),
         Ok(_) => String::from_str(alloc, meaning(ConfigKind::NotToml)),
     }
 }

@@ -13,6 +13,7 @@ use crate::parts::{
     LABEL, append_cut, append_key, append_part, append_places, append_separated, append_text,
     append_written_label,
 };
+use crate::processors::{append_converted, append_deduplicated, append_renamed};
 use crate::written::{append_batch, append_lines, append_made};
 use fixed_num::{read_int, read_uint};
 use scenario_tables::Row;
@@ -59,6 +60,9 @@ fn answer_text(
         "metrics" => append_metric(alloc, row, piece, out),
         "changed" => append_changed(alloc, piece, out),
         "series" => append_series(alloc, piece, out),
+        "renamed" => append_renamed(alloc, row, piece, out),
+        "converted" => append_converted(alloc, row, piece, out),
+        "deduplicated" => append_deduplicated(alloc, row, piece, out),
         "globs" => append_glob(alloc, piece, out),
         "filtered" => append_filtered(alloc, row, piece, out),
         "left" => append_left(alloc, row, piece, out),

@@ -1,21 +1,12 @@
 //! Metrics that are changed, and their series.
 use crate::pieces::{cut, put};
+use crate::processors::part_of;
 use crate::written::metrics_of;
 use line_proto::write_line;
 use metric::{Metric, Part, Series, Value};
 use std::alloc::Global;
 use std::hash::{DefaultHasher, Hash, Hasher};
 use std::test::Fail;
-
-/// The part of a metric that a word says.
-fn part_of(word: &str) -> Result<Part, Fail> {
-    match word {
-        "name" => Ok(Part::Measurement),
-        "tag" => Ok(Part::Tag),
-        "field" => Ok(Part::Field),
-        _ => Err(Fail::new(format_args!("no part: {word}"))),
-    }
-}
 
 /// Sets a part of a metric: the name to the value, or a tag or a field of the key, which takes a whole number.
 fn set_part(

@@ -12,6 +12,7 @@ mod metrics;
 mod numbers;
 mod parts;
 mod pieces;
+mod processors;
 mod written;
 
 use answers::answer;
@@ -21,7 +22,7 @@ use std::test::Fail;
 
 /// The tables, each a file in `data/`.
 const TABLES: &str =
-    "numbers lists text_parts metrics changes globs filters influx_read influx_written statsd_read \
+    "numbers lists text_parts metrics changes globs filters processors influx_read influx_written statsd_read \
     graphite_read graphite_templates graphite_written openmetrics_read openmetrics_written configurations times";
 
 /// Compares what comes of each piece of a row.

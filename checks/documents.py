@@ -14,8 +14,8 @@ behind it:
   <!-- holds: NAME -->       the block is what the file NAME now holds
 
 A mark of another form, or one that needs a block and has none, counts as a difference. In the blocks that are compared
-MOMENT, and a number of 19 digits, stand for any whole number; and a line `..` for any number of lines. All else is the same,
-byte for byte. Commands have no input but what they name. Blocks without a mark aren't looked at.
+MOMENT, and a number of 19 digits, stand for any whole number; and a line `..` for any number of lines. All else is the
+same, byte for byte. Commands have no input but what they name. Blocks without a mark aren't looked at.
 """
 
 import glob
@@ -73,8 +73,8 @@ def marks_of(page):
                 continue
             word, of_file, name, status, command = found.groups()
             kind = word or of_file or "run"
-            needs_block = kind != "folder" and not command
-            yield Marked(at + 1, kind, name, int(status or 0), command, block_at(lines, at + 1) if needs_block else None)
+            block = None if kind == "folder" or command else block_at(lines, at + 1)
+            yield Marked(at + 1, kind, name, int(status or 0), command, block)
 
 
 def pattern_of(block):
@@ -98,8 +98,9 @@ def compare(what, block, text):
 def do(command, folder):
     """Runs a command in a folder; one that doesn't end in time is ended, with what it started."""
     env = {**os.environ, "LC_ALL": "C"}
-    with subprocess.Popen(["bash", "-c", command], cwd=folder, env=env, stdin=subprocess.DEVNULL, stdout=subprocess.PIPE,
-                          stderr=subprocess.PIPE, start_new_session=True) as started:
+    with subprocess.Popen(
+        ["bash", "-c", command], cwd=folder, env=env, stdin=subprocess.DEVNULL, stdout=subprocess.PIPE,
+        stderr=subprocess.PIPE, start_new_session=True) as started:
         try:
             told = started.communicate(timeout=SECONDS)
         except subprocess.TimeoutExpired:

@@ -32,8 +32,9 @@ class Drawing:
         if room is not None and len(words) * size * CHARACTER > room:
             raise SystemExit(f"picture: no room for: {words}")
         weight = ' font-weight="600"' if bold else ""
-        self.lines.append(f'<text x="{middle:g}" y="{base:g}" font-size="{size:g}"{weight} fill="{self.colours[colour]}" '
-                          f'text-anchor="middle">{escape(words)}</text>')
+        self.lines.append(
+            f'<text x="{middle:g}" y="{base:g}" font-size="{size:g}"{weight} fill="{self.colours[colour]}" '
+            f'text-anchor="middle">{escape(words)}</text>')
 
     def box(self, x, y, width, height, words, further=(), colour="box"):
         """A box with its name, and smaller lines beneath."""
@@ -49,8 +50,9 @@ class Drawing:
         """A line through points with a head at its end, or at both."""
         path = " ".join(f"{x:g},{y:g}" for x, y in points)
         begin = ' marker-start="url(#head)"' if both else ""
-        self.lines.append(f'<polyline points="{path}" fill="none" stroke="{self.colours["edge"]}" stroke-width="1.5"{begin} '
-                          'marker-end="url(#head)"/>')
+        self.lines.append(
+            f'<polyline points="{path}" fill="none" stroke="{self.colours["edge"]}" stroke-width="1.5"{begin} '
+            'marker-end="url(#head)"/>')
 
     def svg(self):
         return "\n".join([
@@ -83,8 +85,8 @@ def draw(colours):
         it.arrow((794, middle), (836, middle))
         it.box(838, y, 176, 56, "writer", [words])
     it.box(190, 292, 604, 62, "core", ["each step is a call of it, and each call an entry of the journal"], "core")
-    for x, top, words, both in [(410, 186, "gather", False), (558, 232, "take, route", True), (724, 232, "begin, done", True)]:
-        it.arrow((x, top), (x, 290), both=both)
+    for x, top, words in [(410, 186, "gather"), (558, 232, "take, route"), (724, 232, "begin, done")]:
+        it.arrow((x, top), (x, 290), both=words != "gather")
         it.text(x + 10 + 3.4 * len(words), 268, words, SMALL, "faint")
     it.box(240, 398, 220, 48, "journal", ["every event, in order"], "told")
     it.box(524, 398, 220, 48, "account", ["the totals"], "told")

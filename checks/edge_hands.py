@@ -101,6 +101,7 @@ def two_runs(folder, program):
     first = begin(program, folder, "pipe", "stdin", "out", "100", "10000")
     os.write(first.stdin.fileno(), numbered_lines(0, 1_000))
     wait_until(lambda: size_of(folder, "agent.journal") > 0)
+    wait_for_input(first, first.stdin.fileno())
     found = []
     before = found_in(folder)
     for out in ("out", "out2"):
@@ -243,8 +244,9 @@ def pipe_without_reader(folder, program):
     os.set_blocking(started.stderr.fileno(), False)
     time.sleep(0.6 * A_SECOND)
     early = started.stderr.read()
-    time.sleep(A_SECOND)
-    late = started.stderr.read()
+    said = []
+    wait_until(lambda: said.append(started.stderr.read() or b"") or b"\n" in b"".join(said))
+    late = b"".join(said)
     with open(path, "rb") as file:
         written = file.read()
     report, told = started.communicate(timeout=SECONDS)

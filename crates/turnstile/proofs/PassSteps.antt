@@ -1,7 +1,7 @@
 -- Drawing a number, splitting and joining keep the rule.
 use Rattle.std.proofs.Common.{◌≡◌, ◌⊎◌, ℕ, ◌+◌, ◌%◌, ◌^◌, ◌<◌, ◌≤◌, List, [], ◌∷◌, ◌++◌, length, get_or, set, sym}
 use Rattle.std.proofs.Common.{refl, ap, ◌∙◌, subst, ⊎_elim, arith, Option, Bool, true, false, length-set}
-use Rattle.std.proofs.Common.{get_or-set_other, get_or-set_same, nat_lt, if◌then◌else◌}
+use Rattle.std.proofs.Common.{get_or-set_other, get_or-set_same, inr, nat_lt, if◌then◌else◌}
 use mathlib.Core.Option.{none, some}
 use lib.ListN.{get_elem?}
 use Rattle.std.proofs.Math.Nat.{mod-eq_of_lt}
@@ -12,7 +12,7 @@ use Rattle.turnstile.specs.declared.history.View.{View}
 use Rattle.turnstile.specs.declared.history.Phase.TheVariants.{Idle, Drawn, Holding, Publishing}
 use Rattle.turnstile.specs.History.{longer, replay}
 use Rattle.turnstile.specs.View.{has_turn, is_live, at_rest, split_view, joined_with, spent_view}
-use Rattle.turnstile.specs.Numbers.{Numbers, Drew}
+use Rattle.turnstile.specs.Numbers.{Numbers, Drew, IsUnused}
 use Rattle.turnstile.specs.Turns.{Turns}
 use Rattle.turnstile.specs.Dials.{Dials}
 use Rattle.turnstile.specs.Rule.{IsKept}
@@ -38,6 +38,8 @@ module _ {S O A : Type 0} (allows : S → O → A → Type 0) (next : S → O �
       let count : length v.split + length v.joined ≡ length r.numbers.top.split + length r.numbers.top.joined =
       ap (λ (z : View O A). length z.split + length z.joined) top in
       let room = r.numbers.room in let fits : n + 1 < 2 ^ 64 = omega arith in
+      let none_has = r.numbers.not_given n (inr (omega arith)) in
+      let unused : IsUnused r.numbers.top n = record { above = omega (arith, room); not_split = omega (arith, none_has); not_joined = omega (arith, none_has) } in
       let x_is : x ≡ n + 1 = mod-eq_of_lt fits in
       let o = r.shows.low id v (at, live) in
       let far : (i : ℕ)
@@ -65,7 +67,7 @@ module _ {S O A : Type 0} (allows : S → O → A → Type 0) (next : S → O �
           shows = shows_still next dial_of start dials r.shows id w refl (get_or-set_other s.words 2 0 x 0
               (λ e. omega arith)) (λ i h. far i) (λ _. o) (λ _ i h. r.shows.behind id v (at, live) no_turn i h);
         },
-        (refl, refl),
+        (refl, refl, subst (λ (z : View O A). IsUnused z n) (sym top) unused),
       )
 
   -- a pass is split off with the number that was drawn

@@ -26,6 +26,20 @@ module _ {O A : Type 0} where
     pub mine_is : calls_by v.number history ≡ v.mine
     pub mine_seen : calls_by v.number v.seen ≡ v.mine
 
+  -- a number that no other pass has: the first one has 0, and it neither is split off nor was joined back
+  pub record IsUnused (v : View O A) (n : ℕ) : Type 0 where
+    pub above : 0 < n
+    pub not_split : times n v.split ≡ 0
+    pub not_joined : times n (numbers_of v.joined) ≡ 0
+
+  -- one number more was split off, which no other pass has, and the new pass has it
+  abbrev pub IsSplit : View O A → View O A → View O A → Type 0
+  IsSplit old kept made =
+      (number : ℕ)
+      × IsUnused old number
+      × (kept ≡ record old { split = old.split ++ number ∷ [] })
+      × (made ≡ record old { number = number; mine = []; joined = []; split = [] })
+
   -- each number below the next one, but 0, is split off from the first pass or was joined back to it, once; each other
   -- pass has one that is split off, no two have the same, and no call has one that wasn't drawn
   pub record Numbers (history : List (Call O A)) (drawn : ℕ) (views : List (View O A)) : Type 0 where
@@ -50,4 +64,4 @@ module _ {S O A : Type 0} where
   -- the number that was found is drawn for a new pass
   abbrev pub Drew : Step (Option S) → Me (Option S) (View O A) → ℕ → Me (Option S) (View O A) → Type 0
   Drew st me found me' =
-      (me'.1 ≡ me.1) × (me'.0 ≡ record me.0 { split = me.0.split ++ found ∷ []; phase = Drawn })
+      (me'.1 ≡ me.1) × (me'.0 ≡ record me.0 { split = me.0.split ++ found ∷ []; phase = Drawn }) × IsUnused me.0 found

@@ -75,13 +75,6 @@ module _ {O A : Type 0} where
   abbrev pub split_view : View O A → View O A
   split_view v = record v { number = last_of v.split; mine = []; joined = []; split = []; phase = Idle }
 
-  -- one number more was split off, and the new pass has it
-  abbrev pub IsSplit : View O A → View O A → View O A → Type 0
-  IsSplit old kept made =
-      (number : ℕ)
-      × (kept ≡ record old { split = old.split ++ number ∷ [] })
-      × (made ≡ record old { number = number; mine = []; joined = []; split = [] })
-
   -- a pass that knows what both knew, and to which the second was joined
   abbrev pub joined_with : View O A → View O A → View O A
   joined_with v w = record v {

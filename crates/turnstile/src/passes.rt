@@ -1,7 +1,8 @@
 //! The turnstile and its passes.
 ghost use Rattle.std.specs.Prelude.{◌≡◌, ℕ, ◌<◌, ◌≤◌, ◌+◌, ◌^◌, [], length, slice_index, slice_set, IfOk, IfErr};
 ghost use Rattle.turnstile.specs.History.{replay, IsLegal};
-ghost use Rattle.turnstile.specs.View.{first_view, joined_with, IsSplit};
+ghost use Rattle.turnstile.specs.Numbers.{IsSplit};
+ghost use Rattle.turnstile.specs.View.{first_view, joined_with};
 ghost use Rattle.turnstile.specs.Calls.{Calls, Accounts};
 ghost use Rattle.turnstile.specs.Rule.{AreOpening};
 

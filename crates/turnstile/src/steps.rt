@@ -2,7 +2,8 @@
 ghost use Rattle.std.specs.Prelude.{◌≡◌, ◌≢◌, ℕ, ◌<◌, ◌≤◌, ◌+◌, ◌%◌, ◌^◌, Some, length, slice_index, slice_set};
 ghost use Rattle.turnstile.specs.declared.history.Phase.TheVariants.{Holding, Publishing};
 ghost use Rattle.turnstile.specs.History.{replay, but_last, call_of};
-ghost use Rattle.turnstile.specs.View.{Rests, with_call, joined_with, IsSplit};
+ghost use Rattle.turnstile.specs.Numbers.{IsSplit};
+ghost use Rattle.turnstile.specs.View.{Rests, with_call, joined_with};
 ghost use Rattle.turnstile.specs.Calls.{Calls};
 ghost use Rattle.turnstile.specs.Dials.{NoneFell};
 ghost use Rattle.turnstile.specs.Rule.{IsSized};

@@ -10,6 +10,7 @@ import tempfile
 import time
 from functools import partial
 
+from edge_build import BUILD_RUNS
 from edge_configurations import CHECKS, CONFIGURED, CONFIGURED_RUNS
 from edge_hands import HANDS, HANDS_RUNS
 from edge_kit import (
@@ -503,7 +504,7 @@ RUNS = [
 def main(program):
     """Runs each case in a folder of its own, and prints a line for each and one for all."""
     runs = [(case.name, partial(run_case, case)) for case in CASES + CHECKS + CONFIGURED + HANDS]
-    runs += CONFIGURED_RUNS + RUNS + HANDS_RUNS
+    runs += CONFIGURED_RUNS + RUNS + HANDS_RUNS + BUILD_RUNS
     failed = 0
     for name, run in runs:
         with tempfile.TemporaryDirectory() as folder:

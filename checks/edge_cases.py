@@ -12,6 +12,7 @@ from functools import partial
 
 from edge_build import BUILD_RUNS
 from edge_configurations import CHECKS, CONFIGURED, CONFIGURED_RUNS
+from edge_faults import FAULTS
 from edge_hands import HANDS, HANDS_RUNS
 from edge_kit import (
     ACCOUNT,
@@ -104,7 +105,7 @@ RUNS_WELL = [
         "hogzent pipe in out 1 1 && rm agent.journal",
         after={"out": b"cpu v=2.5 6\n"},
         report=ONE_DROPPED,
-        told=b"hogzent: " + DROPPED % 1 + b"\n",
+        told=DROPPED % (0, b"out", b"1 metric", 1),
     ),
     Case(
         "pieces are refused, one since it is too long, and a metric is dropped",
@@ -112,7 +113,24 @@ RUNS_WELL = [
         {"in": LINES + b"no line protocol\n" + b"x" * 65_537 + b"\n"},
         {"out": b"cpu v=2.5 6\n"},
         report=TWO_REFUSED,
-        told=b"hogzent: " + REFUSED % 2 + b"; " + DROPPED % 1 + b"\n",
+        told=REFUSED % (b"in", 2, 4, 3, b", at byte 3: BadKey: no line protocol")
+        + DROPPED % (0, b"out", b"1 metric", 1),
+    ),
+    *(
+        Case(
+            f"the first piece that is refused is told of, in {name}",
+            f"{line}; status=$?; rm -f agent.journal p; exit $status",
+            {"in": LINES + b"cpu v=1e30\n" + b"cpu,host v=1"},
+            {"out": LINES},
+            report=ACCOUNT.replace(b"pieces 2 refused 0", b"pieces 4 refused 2"),
+            told=REFUSED % (place, 2, 4, 3, b", at byte 6: NumberRange: cpu v=1e30"),
+        )
+        for name, line, place in (
+            ("a file", "hogzent pipe in out 10 100", b"in"),
+            ("a pipe", "cat in | hogzent pipe stdin out 10 100", b"stdin"),
+            ("a named pipe", "mkfifo p; cat in > p & hogzent pipe p out 10 100", b"p"),
+            ("standard input, a file", "hogzent pipe stdin out 10 100 < in", b"stdin"),
+        )
     ),
 ]
 
@@ -263,7 +281,7 @@ NO_FILES = [
         after={"agent.journal": NEVER_SENT_JOURNAL},
         status=6,
         report=NEVER_SENT,
-        told=LEFT,
+        told=LEFT % (b"/dev/full", b"2"),
     ),
     Case(
         "/dev/full as the journal",
@@ -288,7 +306,7 @@ NO_FILES = [
         {"out": b"", "agent.journal": UNREAD_JOURNAL},
         status=4,
         report=UNREAD,
-        told=READ_FAULT,
+        told=READ_FAULT % (0, b"/proc/self/mem"),
     ),
     refused("a folder as the input", "hogzent pipe . out 10 100", ".", {"out": OLD}, FOLDER),
     refused("a folder as the output", "hogzent pipe in . 10 100", ".", {"in": LINES}, FOLDER),
@@ -465,7 +483,7 @@ def torn_at_standard_output(folder, program, place, mode, most, after, status):
         )
     return differences(
         ("status", ran.returncode, status),
-        ("standard error", ran.stderr, {6: LEFT, 7: REPORT_FAULT}[status]),
+        ("standard error", ran.stderr, {6: LEFT % (b"stdout", b"100"), 7: REPORT_FAULT}[status]),
         ("log", found_in(folder)["log"], b"first\n" + after),
     )
 
@@ -503,7 +521,7 @@ RUNS = [
 
 def main(program):
     """Runs each case in a folder of its own, and prints a line for each and one for all."""
-    runs = [(case.name, partial(run_case, case)) for case in CASES + CHECKS + CONFIGURED + HANDS]
+    runs = [(case.name, partial(run_case, case)) for case in CASES + CHECKS + FAULTS + CONFIGURED + HANDS]
     runs += CONFIGURED_RUNS + RUNS + HANDS_RUNS + BUILD_RUNS
     failed = 0
     for name, run in runs:

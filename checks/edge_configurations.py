@@ -7,12 +7,14 @@ import subprocess
 
 from edge_kit import (
     ACCOUNT,
+    DROPPED,
     FOLDER,
     JOURNAL,
     LINES,
     MISSING,
     NOTHING,
     OLD,
+    READ_FAULT,
     REFUSED,
     SECONDS,
     UNREAD,
@@ -28,7 +30,6 @@ from edge_kit import (
 SOUND = b"[[inputs.file]]\nfiles = [\"a\"]\n[[outputs.file]]\nfiles = [\"b\"]\n"
 INPUT = b'[[inputs.file]]\nfiles = ["a"]\n'
 MISSPELLED = b"[agent]\nmetric_bufer_limit = 5\n"
-WAS_REFUSED = b"hogzent: the configuration c was refused: "
 
 
 def checked(name, line, before=None, **others):
@@ -38,7 +39,7 @@ def checked(name, line, before=None, **others):
 
 def faulty(name, text, report, told):
     """A case in which a configuration has a fault, which is reported, and told in plain words."""
-    return checked(name, "hogzent check c", {"c": text}, status=3, report=b"config: %b\n" % report, told=told)
+    return checked(name, "hogzent check c", {"c": text}, status=3, report=b"config: %b\n" % report, told=b"hogzent: c: " + told)
 
 
 CHECKS = [
@@ -48,52 +49,30 @@ CHECKS = [
         "a key that there isn't",
         MISSPELLED,
         b"UnknownKey agent 0",
-        WAS_REFUSED + b'[agent], "metric_bufer_limit": there is no such key\n',
+        b"[agent]: metric_bufer_limit: there is no such key\n"
+        b"hogzent: c: there is no input: [[inputs.file]] with files\n"
+        b"hogzent: c: there is no output: [[outputs.file]] with files\n",
     ),
     faulty(
         "a configuration without an output",
         INPUT,
         b"NoOutput root 0",
-        WAS_REFUSED + b"the root: there is no output\n",
-    ),
-    faulty(
-        "a text that is no glob",
-        INPUT + b'namepass = ["["]\n',
-        b"BadGlob inputs 0",
-        WAS_REFUSED + b'plugin 0 of inputs, counted from 0, "namepass": a text is no glob\n',
-    ),
-    faulty(
-        "a kind of plugin that there isn't",
-        b"[[inputs.cpu]]\n",
-        b"UnknownKind inputs 0",
-        WAS_REFUSED + b'plugin 0 of inputs, counted from 0, "cpu": there are no such plugins\n',
-    ),
-    faulty(
-        "an input without files",
-        b'[[inputs.file]]\nalias = "x"\n',
-        b"Missing inputs 0",
-        WAS_REFUSED + b"plugin 0 of inputs, counted from 0: `files` is missing\n",
-    ),
-    faulty(
-        "a text that is no TOML",
-        b"[agent]\nx = \n",
-        b"NotToml root 0",
-        Holding(b"line 2, column 5: "),
+        b"there is no output: [[outputs.file]] with files\n",
     ),
     checked(
-        "a configuration through a pipe can't be read again",
-        "cat c | hogzent check /dev/stdin",
-        {"c": MISSPELLED},
+        "the faults of a configuration at standard input are said as those of a file",
+        "hogzent check stdin < c",
+        {"c": INPUT},
         status=3,
-        report=b"config: UnknownKey agent 0\n",
-        told=b"hogzent: the configuration was refused\n",
+        report=b"config: NoOutput root 0\n",
+        told=b"hogzent: stdin: there is no output: [[outputs.file]] with files\n",
     ),
     checked(
         "a configuration without an end",
         "hogzent check /dev/zero",
         status=3,
         report=b"config: NotToml root 0\n",
-        told=b"hogzent: the configuration was refused\n",
+        told=b"hogzent: /dev/zero: the text is above 1 MiB (1,048,576 bytes)\n",
     ),
     checked(
         "a configuration whose reads fail",
@@ -151,13 +130,6 @@ TWO_JOURNAL = (
 )
 TWO_ACCOUNT = ACCOUNT + b"output 1 filtered 0 late 0 consumed 0 written 2 buffered 0 dropped 0\n"
 OWN_LINES = NOTHING.replace(b"pieces 0 refused 0", b"pieces 6 refused 5")
-LEFT_AT_ONE = (
-    b"hogzent: the last puts to an output failed, as many in succession as final_tries says;"
-    b" the account says how many metrics are still buffered\n"
-)
-RUN_READ_FAULT = (
-    b"hogzent: a read failed; what was read before was sent, buffered or dropped, as the account says\n"
-)
 UNREADABLE = "/proc/self/mem"
 
 LOSING = (
@@ -171,6 +143,7 @@ items made 0 removed 0 routed 6
 output 0 filtered 0 late 0 consumed 0 written 6 buffered 0 dropped 0
 output 1 filtered 0 late 0 consumed 0 written 4 buffered 0 dropped 2
 """
+EXPOSITIONS = configured(("stdin",)).replace(b'["stdin"]', b'["stdin"]\ndata_format = "openmetrics"')
 
 RUNS_WELL = [
     Case(
@@ -179,7 +152,25 @@ RUNS_WELL = [
         {"c": LOSING, "in": LINES + b"no line protocol\n", "in2": FOUR_LINES},
         {"out": LINES + FOUR_LINES, "out2": FOUR_LINES},
         report=LOSING_ACCOUNT,
-        told=b"hogzent: " + REFUSED % 1 + b"; output 1: metrics dropped: 2 (more waited than the buffer limit)\n",
+        told=REFUSED % (b"in", 1, 3, 3, b", at byte 3: BadKey: no line protocol")
+        + DROPPED % (1, b"out2", b"2 metrics", 4),
+    ),
+    Case(
+        "what was passed over is told, and the line of an exposition that is refused",
+        "cat in | hogzent run c && rm agent.journal",
+        {"c": EXPOSITIONS, "in": b'a 1 1\na{b="c"} NaN\nb 2 1\nc +Inf\n# EOF\n# TYPE a gauge\na 1e30\n# EOF\n'},
+        {"out": b"a value=1 1000000000\nb value=2 1000000000\n"},
+        report=ACCOUNT.replace(b"refused 0 passed 0", b"refused 1 passed 2"),
+        told=REFUSED
+        % (
+            b"stdin",
+            1,
+            2,
+            2,
+            rb", line 2, at byte 15: NumberRange: # TYPE a gauge\x0aa 1e30\x0a# EOF\x0a"
+            b"; pass_out_of_range = true passes such samples over",
+        )
+        + b"hogzent: input 0 (stdin): 2 of 4 samples passed over, as they have no finite value\n",
     ),
     Case(
         "a configuration is run",
@@ -220,7 +211,7 @@ RUNS_WELL = [
         laid(configured(inputs=("./c",))),
         {"out": b""},
         report=OWN_LINES,
-        told=b"hogzent: " + REFUSED % 5 + b"\n",
+        told=REFUSED % (b"./c", 5, 6, 1, b", at byte 7: NoFields: [agent]"),
     ),
 ]
 
@@ -292,8 +283,7 @@ REFUSED_BY_PLACES = [
         laid(configured(agent='journal = "out"'), out=OLD),
         status=3,
         report=b"config: SamePlace outputs 0\n",
-        told=b"hogzent: the configuration c was refused: plugin 0 of outputs, counted from 0:"
-        b" an earlier plugin, or the journal, has this place\n",
+        told=b"hogzent: c: [[outputs.file]]: files: the journal has this place\n",
     ),
 ]
 
@@ -304,7 +294,9 @@ FAULTS = [
         laid(MISSPELLED, out=OLD),
         status=3,
         report=b"config: UnknownKey agent 0\n",
-        told=b'hogzent: the configuration c was refused: [agent], "metric_bufer_limit": there is no such key\n',
+        told=b"hogzent: c: [agent]: metric_bufer_limit: there is no such key\n"
+        b"hogzent: c: there is no input: [[inputs.file]] with files\n"
+        b"hogzent: c: there is no output: [[outputs.file]] with files\n",
     ),
     refused("a configuration that is a folder isn't run", "hogzent run c", "c", {"c": Folder()}, FOLDER),
     refused("a configuration that isn't there isn't run", "hogzent run nowhere", "nowhere", {}, MISSING),
@@ -322,7 +314,7 @@ FAULTS = [
         {"out": b""},
         status=4,
         report=UNREAD,
-        told=RUN_READ_FAULT,
+        told=READ_FAULT % (0, UNREADABLE.encode()),
     ),
     refused("a folder as an input of a run", "hogzent run c", ".", laid(configured(inputs=(".",)), out=OLD), FOLDER),
     Case(
@@ -331,7 +323,7 @@ FAULTS = [
         laid(configured(outputs=("/dev/full",), agent="final_tries = 1")),
         status=6,
         report=ACCOUNT.replace(b"written 2 buffered 0", b"written 0 buffered 2"),
-        told=LEFT_AT_ONE,
+        told=b"hogzent: output 0 (/dev/full): 2 metrics left after 1 failed try\n",
     ),
 ]
 

@@ -55,7 +55,9 @@ HANDS = [
         {"c": b"[agent]\nx = 1\n"},
         status=3,
         report=b"config: UnknownKey agent 0\n",
-        told=rb'hogzent: the configuration c\x0ad was refused: [agent], "x": there is no such key' + b"\n",
+        told=rb"hogzent: c\x0ad: [agent]: x: there is no such key" + b"\n"
+        rb"hogzent: c\x0ad: there is no input: [[inputs.file]] with files" + b"\n"
+        rb"hogzent: c\x0ad: there is no output: [[outputs.file]] with files" + b"\n",
     ),
     Case(
         "a link at the journal's place is followed",
@@ -215,7 +217,7 @@ def sealed(words, status, report, told, kept):
         return differences(
             ("status", ran.returncode, status),
             ("standard output", found[0], report),
-            ("standard error", found[1], CANT_EMPTY % shown + told),
+            ("standard error", found[1], CANT_EMPTY % shown + told.replace(b"OUT", shown)),
             ("the file", text, OLD),
             ("other files", [it for it in found_in(folder) if it != "agent.journal"], kept),
         )
@@ -338,7 +340,7 @@ HANDS_RUNS = [
     ("standard output, which appends to a file, is cut to nothing meanwhile", cut_standard_output),
     (
         "an output that can't be made empty",
-        sealed(["pipe", "in", "OUT", "10", "100"], 6, UNSENT, LEFT, ["in"]),
+        sealed(["pipe", "in", "OUT", "10", "100"], 6, UNSENT, LEFT % (b"OUT", b"2"), ["in"]),
     ),
     (
         "an output that can't be made empty, and nothing to put",

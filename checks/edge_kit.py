@@ -54,7 +54,7 @@ USAGE = (
     b" with 1 <= BATCH <= LIMIT <= 10000, and OUT not agent.journal\n"
 )
 READ_FAULT = (
-    b"hogzent: a read of the input failed;"
+    b"hogzent: input %d (%b): a read failed;"
     b" what was read before was sent, buffered or dropped, as the account says\n"
 )
 IS_OPEN = b"this run has that file open already"
@@ -62,13 +62,10 @@ ANOTHERS = b"another run has it"
 FOLDER = b"it is a folder"
 MISSING = b"there is no such file or folder"
 WAS_CLOSED = b"it was closed as the run began"
-LEFT = (
-    b"hogzent: the last three puts to the output failed;"
-    b" the account says how many metrics are still buffered\n"
-)
+LEFT = b"hogzent: output 0 (%b): %b metrics left after 3 failed tries\n"
 REPORT_FAULT = b"hogzent: the journal or the report could not be written whole\n"
-REFUSED = b"input 0: pieces refused: %d (not of the format of the input, or too long)"
-DROPPED = b"output 0: metrics dropped: %d (more waited than the buffer limit)"
+REFUSED = b"hogzent: input 0 (%b): %d of %d pieces refused; the first, piece %d%b\n"
+DROPPED = b"hogzent: output %d (%b): %b dropped, above its metric_buffer_limit of %d\n"
 
 
 @dataclass(frozen=True)

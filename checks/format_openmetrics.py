@@ -37,7 +37,7 @@ def pieces_of(text):
     return pieces
 
 
-def read(piece, moment, type_tag=False):
+def read(piece, moment, type_tag=False, pass_out_of_range=False):
     """The metrics of a piece, each (name, tags, fields, time), and how many samples are passed over. Raises Refused."""
     try:
         piece.decode("utf-8")
@@ -51,7 +51,7 @@ def read(piece, moment, type_tag=False):
         if line.startswith(b"#"):
             read_word(line, place, types)
         else:
-            name, labels, value, time = read_sample(line, place)
+            name, labels, value, time = read_sample(line, place, pass_out_of_range)
             passed += value is None
             if value is not None:
                 tags = labels | ({b"om_type": type_of(name, types)} if type_tag else {})
@@ -79,8 +79,8 @@ def type_of(sample, types):
     return ([kind for name, kind in types.items() if name in names] or [b"unknown"])[-1]
 
 
-def read_sample(line, place):
-    """The name of a sample, its labels, its number (None for one that is no decimal) and its time."""
+def read_sample(line, place, passing):
+    """The name of a sample, its labels, its number (None for one that is passed over) and its time."""
     found = NAME.match(line)
     if not found:
         raise Refused("BadLine", place)
@@ -95,22 +95,23 @@ def read_sample(line, place):
         time, space, rest = rest.partition(b" ")
         if space and not rest.startswith(b"# "):
             raise Refused("BadLine", place)
-    return found[0], labels, *read_numbers(word, time, written, place)
+    return found[0], labels, *read_numbers(word, time, written, place, passing)
 
 
-def read_numbers(word, time, labels, place):
-    """The number and the time of a sample with so many labels."""
+def read_numbers(word, time, labels, place, passing):
+    """The number and the time of a sample with so many labels, where what is out of range is passed over or refused."""
     value = billionths(word)
     if value is None and not NO_DECIMAL.fullmatch(word):
         raise Refused("BadNumber", place)
     at = None if time is None else billionths(time)
     if time is not None and at is None:
         raise Refused("BadTime", place)
-    if (value is not None and abs(value) >= LIMIT) or (at is not None and not -(2**63) <= at < 2**63):
+    beyond = (value is not None and abs(value) >= LIMIT) or (at is not None and not -(2**63) <= at < 2**63)
+    if beyond and not passing:
         raise Refused("NumberRange", place)
     if labels > MOST_LABELS:
         raise Refused("TooMany", place)
-    return value, at
+    return (None, None) if beyond else (value, at)
 
 
 def read_labels(line, at, place):
@@ -189,6 +190,7 @@ EXAMPLES = [
     b"# EOF\n\n",
     "größe 1\na{b=\"日本 😀\"} 21.5\n# EOF\n".encode(),
     b'a{om_type="x",b=""} 1\n# EOF\n',
+    b"# TYPE b gauge\nb 1.8446744073709552e+19\n# TYPE c counter\nc_total 3 9223372037\nc_total -1e300 -1e30\n# EOF\n",
 ]
 PUT_IN = [b" ", b"#", b"# ", b" # ", b"{", b"}", b",", b"=", b'"', b"\\", b"\n", b"\r", b"\t", b"-", b"n", b"_", b":"]
 PUT_IN += [b"\0", b"\xc3", b"\xff", b"\xe2\x82", b"# EOF\n", b"_total", "€".encode()]

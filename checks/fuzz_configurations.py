@@ -62,7 +62,7 @@ def key_of_format(chance):
         return "templates", a_list(chance, GOOD_TEMPLATES if chance.random() < 0.7 else TEMPLATES)
     if kind == 2:
         return "separator", chance.choice(['"."', '"_"', '""', '"::"', "1"])
-    return "type_tag", chance.choice(["true", "false", "true", "false", '"true"'])
+    return chance.choice(("type_tag", "pass_out_of_range")), chance.choice(["true", "false", "true", "false", '"true"'])
 
 
 def plugin(chance, word):

@@ -7,9 +7,10 @@ module format_FORMAT gives, which follows docs/users/formats.md alone. Where the
 agent: `pipe` must write these lines too, and what it wrote must be read by `pipe` without a refusal and written
 again, as the same line; where the document itself has another line, that one must come, and the number of these
 lines is printed. Graphite is read with seeded separators and templates, written too, also from line protocol, and
-of lists of texts each must be templates, or no templates, in both. Expositions are read with types and without, and
-written, also from line protocol; those at whole seconds go through the Python client of Prometheus too, where there
-is one. Of the differences the first ten are printed, with their bytes.
+of lists of texts each must be templates, or no templates, in both. Expositions are read with types and without, where
+samples out of range are passed over and where they refuse theirs, and written, also from line protocol; those at whole
+seconds go through the Python client of Prometheus too, where there is one. Of the differences the first ten are printed,
+with their bytes.
 """
 
 import importlib
@@ -286,14 +287,14 @@ def compare_openmetrics(reader, rng, count, probe):
     """Compares the reading of expositions, and the writing; the differences."""
     texts = list(reader.texts(rng, count))
     ways = [
-        Way(["openmetrics", "influx", *words], partial(reader.read, type_tag=bool(words)), write_line, reader.pieces_of)
-        for words in ([], ["type_tag"])
+        Way(["openmetrics", "influx", *words], partial(reader.read, **dict.fromkeys(words, True)), write_line, reader.pieces_of)
+        for words in ([], ["type_tag"], ["pass_out_of_range"], ["type_tag", "pass_out_of_range"])
     ]
     # A text without its last newline, or without an end, is a piece with the next one: it stands alone.
     ended = [text for text in texts if text.endswith((b"\n# EOF\n",)) or text == b"# EOF\n"]
     alone = [text for text in texts if not (text.endswith((b"\n# EOF\n",)) or text == b"# EOF\n")]
-    parts = [part for at, way in enumerate(ways) for part in chunks(way, ended[at::2])]
-    parts += [(ways[at % 2], [text]) for at, text in enumerate(alone)]
+    parts = [part for at, way in enumerate(ways) for part in chunks(way, ended[at :: len(ways)])]
+    parts += [(ways[at % len(ways)], [text]) for at, text in enumerate(alone)]
     found = compare_lines(parts, probe, b"")
     report("openmetrics, %d texts, beside a reading by docs/users/formats.md" % count, found)
     way = Way(["openmetrics", "openmetrics"], reader.read, reader.write, reader.pieces_of)

@@ -193,6 +193,7 @@ INPUT = PLUGIN | {
     "templates": templates,
     "separator": any_text,
     "type_tag": truth,
+    "pass_out_of_range": truth,
 }
 OUTPUT = PLUGIN | {
     "data_format": format_name(OUT_FORMATS),

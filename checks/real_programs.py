@@ -20,6 +20,8 @@ CHECKS = [
     ("collectd to a Graphite input", real_senders.check_collectd),
     ("the Python client of Prometheus to an OpenMetrics input", real_senders.check_client),
     ("node_exporter to an OpenMetrics input", real_senders.check_node_exporter),
+    ("Prometheus to an OpenMetrics input", real_senders.check_prometheus),
+    ("Prometheus's push gateway to an OpenMetrics input", real_senders.check_pushgateway),
     ("a StatsD client to a StatsD input", real_senders.check_statsd),
     ("a Graphite output to carbon-cache", real_receivers.check_carbon),
     ("an OpenMetrics output to promtool", real_receivers.check_promtool),

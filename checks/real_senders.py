@@ -1,4 +1,5 @@
-"""Checks of what real programs send: collectd, the Python client of Prometheus, node_exporter, and a StatsD client.
+"""Checks of what real programs send: collectd, the Python client of Prometheus, node_exporter, Prometheus itself, its
+push gateway, and a StatsD client.
 
 Each gets the agent and a folder, and gives what it saw as a text; it raises Differs or LeftOut.
 """
@@ -19,6 +20,8 @@ from real_kit import (
 
 HERE = os.path.dirname(os.path.realpath(__file__))
 OPENMETRICS = "application/openmetrics-text; version=1.0.0"
+# An input that passes over samples out of range.
+PASSING = "pass_out_of_range = true"
 COLLECTD_SECONDS = 5
 # The least magnitude that is out of range.
 LIMIT = 2.0**64
@@ -94,11 +97,12 @@ def scraped_of(words, folder, port):
 
 
 def right_samples(families, moment=None, type_tag=False):
-    """The metrics of the samples that the client's parser reads, as line protocol has them: without newlines."""
+    """The metrics of the samples that the client's parser reads, as line protocol has them: without newlines; and how many
+    samples are passed over, those out of range among them."""
     right, passed = [], 0
     for family in families:
         for sample in family.samples:
-            if not math.isfinite(sample.value):
+            if not math.isfinite(sample.value) or abs(sample.value) >= LIMIT:
                 passed += 1
                 continue
             tags = {key: value.replace("\n", " ") for key, value in sample.labels.items()}
@@ -120,7 +124,12 @@ def check_client(agent, folder):
     ran = agent.run(folder, text, "openmetrics", more="type_tag = true", at_once=1)
     expect("pieces, refused, passed", (ran.pieces, ran.refused, ran.passed), (1, 0, passed))
     expect_all("metrics", [without_time(it) for it in ran.written], [without_time(it) for it in right])
-    return f"prometheus_client {module_version('prometheus_client')}: {len(right)} metrics, {passed} samples passed over"
+    again = agent.run(folder, text, "openmetrics", more="type_tag = true\n" + PASSING, at_once=1)
+    expect("pieces, refused, passed with the key", (again.pieces, again.refused, again.passed), (1, 0, passed))
+    expect_all("metrics with the key", [without_time(it) for it in again.written], [without_time(it) for it in right])
+    return (
+        f"prometheus_client {module_version('prometheus_client')}: {len(right)} metrics, {passed} samples passed over, and"
+        " the same with `pass_out_of_range`")
 
 
 def is_refused_alone(line):
@@ -157,6 +166,61 @@ def check_node_exporter(agent, folder):
         f"node_exporter {version(command, '--version')} answers {form}, refused as a whole for want of `# EOF`; of its"
         f" {len(lines)} lines alone {len(refused)} are refused ({len(untyped)} with `untyped`, and {others}),"
         f" {len(right)} metrics, {passed} samples passed over")
+
+
+def numbers_beyond(text):
+    """The samples of an exposition whose number is a decimal out of range."""
+    samples = [line.decode() for line in text.splitlines() if not line.startswith(b"#")]
+    return [it for it in samples if LIMIT <= abs(float(it.rsplit(" ", 1)[1])) < math.inf]
+
+
+def check_exporter(words, name, agent, folder):
+    """A program in Go under no limit of memory answers the older text format, though it is asked for OpenMetrics: as a
+    whole that is refused, with the key too. With an end behind it it is refused where it has a number out of range,
+    unless the key says that such a sample is passed over; then all else of it is read."""
+    try:
+        from prometheus_client import parser
+    except ImportError:
+        raise LeftOut("there is no prometheus_client (Debian's package python3-prometheus-client)") from None
+    port = free_port()
+    words = [*words, f"--web.listen-address=127.0.0.1:{port}"]
+    text, form = scraped_of(["bash", "-c", 'ulimit -v unlimited; exec "$@"', "exporter", *words], folder, port)
+    expect("the format", form, "text/plain")
+    for more in ("", PASSING):
+        ran = agent.run(folder, text, "openmetrics", more=more, at_once=1)
+        expect("pieces and refused without an end", (ran.pieces, ran.refused), (1, 1))
+    beyond = numbers_beyond(text)
+    expect("a sample is out of range", len(beyond) > 0, True)
+    text += b"# EOF\n"
+    ran = agent.run(folder, text, "openmetrics", at_once=1)
+    expect("pieces, refused, gathered without the key", (ran.pieces, ran.refused, ran.gathered), (1, 1, 0))
+    ran = agent.run(folder, text, "openmetrics", more=PASSING, at_once=1)
+    right, passed = right_samples(parser.text_string_to_metric_families(text.decode()))
+    expect("pieces, refused, passed", (ran.pieces, ran.refused, ran.passed), (1, 0, passed))
+    expect_all("metrics", sorted(without_time(it) for it in ran.written), sorted(without_time(it) for it in right))
+    return (
+        f"{name} {version(words[0], '--version')} answers {form}, refused as a whole for want of `# EOF`; with that behind it"
+        f" it is refused without `pass_out_of_range`, and with it {len(right)} metrics, {passed} samples passed over,"
+        f" of these out of range {beyond}")
+
+
+PROMETHEUS = """scrape_configs:
+  - job_name: none
+    static_configs: []
+"""
+
+
+def check_prometheus(agent, folder):
+    """Prometheus's own metrics."""
+    command, config = needs("prometheus", "prometheus"), write_file(folder, "prometheus.yml", PROMETHEUS)
+    words = [command, f"--config.file={config}", f"--storage.tsdb.path={folder}/blocks"]
+    return check_exporter(words, "prometheus", agent, folder)
+
+
+def check_pushgateway(agent, folder):
+    """The metrics of Prometheus's push gateway."""
+    command = needs("prometheus-pushgateway", "prometheus-pushgateway")
+    return check_exporter([command], "pushgateway", agent, folder)
 
 
 def module_version(name):

@@ -1,9 +1,9 @@
 """Refuses each allocation of the rows of whole runs once, one a run, and says how each row then ended.
 
 Refused is what is allocated once the row's world is laid: by the call, and where what it left is compared. A row may
-end well; it may say that memory is short, beside the call or as the call's answer (the status 9); it may do nothing
-else. A row that shows another answer, that is stopped by a signal, or that doesn't end in ten seconds is printed, and
-the status is then 1.
+end well, or well but for lines that people aren't told; it may say that memory is short, beside the call or as the
+call's answer (the status 9); it may do nothing else. A row that shows another answer, that is stopped by a signal, or
+that doesn't end in ten seconds is printed, and the status is then 1.
 """
 import os
 import re
@@ -16,8 +16,10 @@ SECONDS = 10
 EACH = "in each row"
 SHORT_BESIDE = re.compile(r"^error: .*(AllocError|AllocFailed|OutOfMemory)", re.M)
 SHORT_AS_ANSWER = re.compile(r'wanted "status: \d; ", and it is "status: 9; "$', re.M)
+SHORT_OF_LINES = re.compile(r'wanted "said: .*; ", and it is "said: .*; "$', re.M)
 STATUS_OF_ERROR = 1
-ENDED_WELL, BESIDE, AS_ANSWER, OTHER = "ended well", "short beside the call", "short as the answer", "OTHER"
+ENDED_WELL, BESIDE, AS_ANSWER = "ended well", "short beside the call", "short as the answer"
+OF_LINES, OTHER = "short of lines for people", "OTHER"
 
 
 class Rows:
@@ -71,6 +73,8 @@ def ending(status, text):
         return BESIDE
     if status == STATUS_OF_ERROR and text.count("wanted") == 1 and SHORT_AS_ANSWER.search(text):
         return AS_ANSWER
+    if status == STATUS_OF_ERROR and text.count("wanted") == 1 and SHORT_OF_LINES.search(text):
+        return OF_LINES
     return OTHER
 
 
@@ -81,7 +85,7 @@ def tried(rows, table, row, folder, pool):
     numbers = range(laid + 1, rows.allocations("run", table, row, folder) + 1)
     ran = list(pool.map(lambda number: rows.ran("run", table, row, REFUSE=str(number)), numbers))
     found = [ending(*it) for it in ran]
-    counts = ", ".join(f"{found.count(it)} {it}" for it in (ENDED_WELL, BESIDE, AS_ANSWER, OTHER) if it in found)
+    counts = ", ".join(f"{found.count(it)} {it}" for it in (ENDED_WELL, OF_LINES, BESIDE, AS_ANSWER, OTHER) if it in found)
     print(f"{table}: {row}: {len(found)} allocations: {counts}", flush=True)
     for number, how, (status, text) in zip(numbers, found, ran):
         if how == OTHER:

@@ -8,4 +8,5 @@ pub items-push : (es : List Entry) (e : Entry) → items (es ++ e ∷ []) ≡ it
 unfolding items
 items-push [] e = append-nil (named_by e)
 items-push (x ∷ es) e =
-    ap (λ (ms : List Content). named_by x ++ ms) (items-push es e) ∙ sym (append_assoc (named_by x) (items es) (named_by e))
+    ap (λ (ms : List Content). named_by x ++ ms) (items-push es e)
+    ∙ sym (append_assoc (named_by x) (items es) (named_by e))

@@ -7,24 +7,34 @@ use Rattle.account.specs.Says.{GatherSays}
 use Rattle.account.specs.Gathers.{gathers, gathers_by}
 use Rattle.account.proofs.GatherLemmas.{gathers-push}
 
-pub counted_moments-push : (es : List Entry) (e : Entry) → counted_moments (es ++ e ∷ []) ≡ counted_moments es ++ counted_by e
+pub counted_moments-push : (es : List Entry) (e : Entry) → counted_moments (es ++ e ∷ []) ≡ counted_moments es
+    ++ counted_by e
 unfolding counted_moments
 counted_moments-push [] e = append-nil (counted_by e)
-counted_moments-push (d ∷ es) e = ap (λ (ms : List ℤ). counted_by d ++ ms) (counted_moments-push es e) ∙ sym (append_assoc (counted_by d) (counted_moments es) (counted_by e))
+counted_moments-push (d ∷ es) e = ap (λ (ms : List ℤ). counted_by d ++ ms) (counted_moments-push es e)
+    ∙ sym (append_assoc (counted_by d) (counted_moments es) (counted_by e))
 
-pub counted_moments-same : (es : List Entry) (e : Entry) → counted_by e ≡ [] → counted_moments (es ++ e ∷ []) ≡ counted_moments es
-counted_moments-same es e none = counted_moments-push es e ∙ ap (λ (ms : List ℤ). counted_moments es ++ ms) none ∙ append-nil (counted_moments es)
+pub counted_moments-same : (es : List Entry) (e : Entry) → counted_by e ≡ []
+    → counted_moments (es ++ e ∷ []) ≡ counted_moments es
+counted_moments-same es e none = counted_moments-push es e ∙ ap (λ (ms : List ℤ). counted_moments es ++ ms) none
+    ∙ append-nil (counted_moments es)
 
-map-append : (xs ys : List GatherSays) → map (λ (says : GatherSays). says.moment) (xs ++ ys) ≡ map (λ (says : GatherSays). says.moment) xs ++ map (λ (says : GatherSays). says.moment) ys
+map-append : (xs ys : List GatherSays) → map (λ (says : GatherSays). says.moment) (xs ++ ys) ≡ map
+    (λ (says : GatherSays). says.moment) xs ++ map (λ (says : GatherSays). says.moment) ys
 map-append [] ys = refl
 map-append (x ∷ xs) ys = ap (λ (ms : List ℤ). x.moment ∷ ms) (map-append xs ys)
 
-pub gather_moments-push : (input : ℕ) (es : List Entry) (e : Entry) → gather_moments input (es ++ e ∷ []) ≡ gather_moments input es ++ map (λ (says : GatherSays). says.moment) (gathers_by input e)
-gather_moments-push input es e = ap (λ (all : List GatherSays). map (λ (says : GatherSays). says.moment) all) (gathers-push input es e) ∙ map-append (gathers input es) (gathers_by input e)
+pub gather_moments-push : (input : ℕ) (es : List Entry) (e : Entry)
+    → gather_moments input (es ++ e ∷ []) ≡ gather_moments input es
+    ++ map (λ (says : GatherSays). says.moment) (gathers_by input e)
+gather_moments-push input es e = ap (λ (all : List GatherSays). map (λ (says : GatherSays). says.moment) all)
+    (gathers-push input es e) ∙ map-append (gathers input es) (gathers_by input e)
 
-pub gather_moments-same : (input : ℕ) (es : List Entry) (e : Entry) → gathers_by input e ≡ [] → gather_moments input (es ++ e ∷ []) ≡ gather_moments input es
+pub gather_moments-same : (input : ℕ) (es : List Entry) (e : Entry) → gathers_by input e ≡ []
+    → gather_moments input (es ++ e ∷ []) ≡ gather_moments input es
 gather_moments-same input es e none =
-    gather_moments-push input es e ∙ ap (λ (all : List GatherSays). gather_moments input es ++ map (λ (says : GatherSays). says.moment) all) none ∙ append-nil (gather_moments input es)
+    gather_moments-push input es e ∙ ap (λ (all : List GatherSays). gather_moments input es
+    ++ map (λ (says : GatherSays). says.moment) all) none ∙ append-nil (gather_moments input es)
 
 -- nothing was counted
 pub counted_none : counted_moments [] ≡ []

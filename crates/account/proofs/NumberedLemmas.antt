@@ -9,7 +9,8 @@ pub numbered-push : {X : Type 0} (text : ℕ → X → List ℕ) (n : ℕ) (xs :
 unfolding numbered
 numbered-push text n [] x = append-nil (text n x) ∙ ap (λ k. text k x) (omega arith)
 numbered-push text n (y ∷ ys) x =
-    ap (λ t. text n y ++ t) (numbered-push text (n + 1) ys x ∙ ap (λ k. numbered text (n + 1) ys ++ text k x) (omega arith))
+    ap (λ t. text n y ++ t) (numbered-push text (n + 1) ys x
+    ∙ ap (λ k. numbered text (n + 1) ys ++ text k x) (omega arith))
     ∙ sym (append_assoc (text n y) (numbered text (n + 1) ys) (text (n + length (y ∷ ys)) x))
 
 -- the texts of the first elements, with one more

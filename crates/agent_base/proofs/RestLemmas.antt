@@ -30,7 +30,13 @@ byte_more : (b : ℕ) (text : List ℕ) → (b == 10) ≡ false → HasLines tex
 byte_more b text other h = go h.lines h.is h.clean
   where
     go : (lines : List (List ℕ)) → text ≡ text_of lines h.rest → AllByRecursion NoNewline lines → HasLines (b ∷ text)
-    go [] is clean = record { lines = []; rest = b ∷ h.rest; is = ap (λ (bs : List ℕ). b ∷ bs) is; clean = clean; rest_clean = line_grows b h.rest other h.rest_clean }
+    go [] is clean = record {
+      lines = [];
+      rest = b ∷ h.rest;
+      is = ap (λ (bs : List ℕ). b ∷ bs) is;
+      clean = clean;
+      rest_clean = line_grows b h.rest other h.rest_clean;
+    }
     go (line ∷ lines) is clean = record {
       lines = (b ∷ line) ∷ lines;
       rest = h.rest;

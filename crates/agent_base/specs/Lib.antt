@@ -9,6 +9,7 @@ pub mod Failing
 pub mod Slots
 pub mod Clocks
 pub mod Standing
+pub mod Said
 pub mod Cut
 pub mod Room
 pub mod Lines

@@ -1,12 +1,12 @@
 -- The moments of a clock, and what its calls give of them.
 use Rattle.std.specs.Prelude.{◌≡◌, ◌≤◌, ℕ, ℤ, ◌+◌, ◌-◌, ◌^◌, min, Bool, true, Option, Some, None, ⊤}
 
--- the moments at the places from 0 to a last one
+-- the moments at the indices from 0 to a last one
 pub record Moments : Type 0 where
   pub last : ℕ
   pub at : ℕ → ℤ
 
--- the moment at the place is given, and the place rises by one unless it is the last
+-- the moment at the index is given, and the index rises by one unless it is the last
 pub record GivesAt (moments : Moments) (old new : ℕ) (moment : ℤ) : Type 0 where
   pub within : old ≤ moments.last
   pub given : moment ≡ moments.at old
@@ -26,7 +26,7 @@ pub record Goes (moments : Option Moments) (old new : ℕ) (was has_stopped : Bo
 
 -- a wait gave none: the clock is stopped, and all else is as before
 pub record Ends (old new : ℕ) (has_stopped : Bool) (waits waited : ℕ) : Type 0 where
-  pub place : new ≡ old
+  pub next : new ≡ old
   pub stopped : has_stopped ≡ true
   pub counted : waited ≡ waits
 

@@ -10,6 +10,7 @@ use Rattle.std.specs.Str.{bytes_eq}
 use Rattle.agent_base.specs.Carried.{Carried, no_part}
 use Rattle.agent_base.specs.Places.{Place, empty_place}
 use Rattle.agent_base.specs.declared.slots.Slot.{Slot}
+use Rattle.agent_base.specs.declared.slots.Slots.{Slots}
 use Rattle.agent_base.specs.declared.world.OpenFault.{OpenFault}
 use Rattle.agent_base.specs.declared.world.OpenFault.TheVariants.{Failed, OutOfMemory}
 
@@ -20,6 +21,10 @@ is_named place slot = bytes_eq (string_bytes slot.place) place
 -- the slot of a place
 abbrev pub slot_at : {P : Type 0} → List (Slot P) → List ℕ → Option (Slot P)
 slot_at slots place = find (is_named place) slots
+
+-- the slot of a place, of those of one side
+abbrev pub slot_of : {P : Type 0} → Slots P → List ℕ → Option (Slot P)
+slot_of slots place = slot_at slots.slots.items place
 
 -- what a part tells; where there is none, nothing and no fault
 abbrev pub told_by : {P : Type 0} → (P → Carried) → Option P → Carried
@@ -35,6 +40,10 @@ told_of told (Some slot) = record {
   part_faults = (told_by told slot.part).faults;
   is_out = slot.is_out;
 }
+
+-- what each place tells
+abbrev pub places_of : {P : Type 0} → (P → Carried) → Slots P → List ℕ → Place
+places_of told slots place = told_of told (slot_of slots place)
 
 -- the part that stands at a place
 abbrev pub part_at : {P : Type 0} → Option (Slot P) → Option P
@@ -82,10 +91,10 @@ pub record IsMissed {P : Type 0} (old new : Option (Slot P)) : Type 0 where
   pub open_faults : HadNone old next.open_faults
 
 -- what opening does to a slot, by its answer
-abbrev pub Opened : {P : Type 0} → Result P OpenFault → Option (Slot P) → Option (Slot P) → Type 0
-Opened (Ok part) old new = Leaves part old new
-Opened (Err Failed) old new = IsMissed old new
-Opened (Err OutOfMemory) old new = new ≡ old
+abbrev pub OpensSlot : {P : Type 0} → Result P OpenFault → Option (Slot P) → Option (Slot P) → Type 0
+OpensSlot (Ok part) old new = Leaves part old new
+OpensSlot (Err Failed) old new = IsMissed old new
+OpensSlot (Err OutOfMemory) old new = new ≡ old
 
 -- how often opening a place has failed
 abbrev pub open_faults_at : {P : Type 0} → Option (Slot P) → ℕ
@@ -101,5 +110,5 @@ pub record Fills {P : Type 0} (part : P) (old new : Option (Slot P)) : Type 0 wh
   pub open_faults : slot.open_faults ≡ open_faults_at old
 
 -- no part is out
-abbrev pub AllHome : {P : Type 0} → List (Slot P) → Type 0
-AllHome slots = (place : List ℕ) → is_out_at (slot_at slots place) ≡ false
+abbrev pub AllHome : {P : Type 0} → Slots P → Type 0
+AllHome slots = (place : List ℕ) → is_out_at (slot_of slots place) ≡ false

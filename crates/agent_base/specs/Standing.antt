@@ -6,7 +6,7 @@ use Rattle.agent_base.specs.declared.world.OpenFault.{OpenFault}
 use Rattle.agent_base.specs.declared.world.OpenFault.TheVariants.{Failed, OutOfMemory}
 use Rattle.agent_base.specs.Clocks.{clock_at}
 use Rattle.agent_base.specs.Places.{SameBut}
-use Rattle.agent_base.specs.Slots.{slot_at, part_at}
+use Rattle.agent_base.specs.Slots.{slot_of, part_at}
 
 -- the part that stands at each input place and at each output place, and the clock that stands at each number;
 -- None where none does
@@ -18,8 +18,8 @@ pub record Standing (S K : Type 0) : Type 0 where
 -- what stands in a world
 abbrev pub standing : {S K : Type 0} → MemWorld S K → Standing S K
 standing world = record {
-  ins = λ place. part_at (slot_at world.ins.items place);
-  outs = λ place. part_at (slot_at world.outs.items place);
+  ins = λ place. part_at (slot_of world.ins place);
+  outs = λ place. part_at (slot_of world.outs place);
   clocks = λ who. clock_at world.clocks.items who;
 }
 

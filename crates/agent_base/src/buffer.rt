@@ -91,7 +91,7 @@ fn read_into<S: Source>(
 }
 
 /// The bytes in hand stand from `start` to `end`, and no piece ends among them before `searched`, where the line
-/// that begins at `line` has come to. `spare` is memory for a piece.
+/// that begins at `line` has come to. `spare` is memory for a piece, and for no longer one.
 #[derive(Debug, Drop)]
 pub(crate) struct Buffer {
     kind: CutKind,
@@ -104,6 +104,7 @@ pub(crate) struct Buffer {
     passing: bool,
     taken: u64,
     ghost room: { vec_len buf ≡ room_of kind },
+    ghost spared: { vec_capacity spare ≤ most_bytes kind },
     ghost begun: { start ≤ line },
     ghost in_line: { line ≤ searched },
     ghost ordered: { searched ≤ end },
@@ -219,11 +220,13 @@ impl Buffer {
         }
     }
 
-    // Gives the piece of so many bytes and its newline, in room that was taken before.
+    // Gives the piece of so many bytes and its newline, in room that was taken before. Where it gives none the room
+    // is spare.
     fn give(&mut self, room: Vec<u8>, i: usize) -> Result<Option<Piece>, PieceFault>
         requires end { FirstEnd self.old.kind (bytes_of self.old) i }
         requires empty { room.items ≡ [] }
         requires fits { min (i + 1) (most_bytes self.old.kind) ≤ vec_capacity room }
+        requires spare { vec_capacity room ≤ most_bytes self.old.kind }
         ensures pieces { (left : List ℕ)
             → Answers result (to_come (hand_of self.old) left) (to_come (hand_of self.new) left) }
         ensures given { IsGiven result }
@@ -233,11 +236,13 @@ impl Buffer {
     {
         let piece_end = self.start + i + 1;
         if self.passing {
+            self.spare = room;
             self.skip_to(piece_end);
             self.passing = false;
             return Err(PieceFault::TooLong);
         }
         if self.kind.most_before() < i {
+            self.spare = room;
             self.skip_to(piece_end);
             return Err(PieceFault::TooLong);
         }
@@ -357,12 +362,13 @@ impl Buffer {
         Ok(n)
     }
 
-    // Gives what is in hand at the end of the source, in room that was taken before.
+    // Gives what is in hand at the end of the source, in room that was taken before. Where it gives nothing the
+    // room is spare.
     fn finish(&mut self, room: Vec<u8>) -> Result<Option<Piece>, PieceFault>
         requires none { NoEnd self.old.kind (bytes_of self.old) }
         requires short { length (bytes_of self.old) ≤ most_bytes self.old.kind }
         requires empty { room.items ≡ [] }
-        requires fits { most_bytes self.old.kind ≤ vec_capacity room }
+        requires fits { vec_capacity room ≡ most_bytes self.old.kind }
         ensures pieces { Answers result (to_come (hand_of self.old) []) (to_come (hand_of self.new) []) }
         ensures last { IsLast result }
         ensures short { IsShort self.old.kind result }
@@ -372,11 +378,13 @@ impl Buffer {
         ensures counted { self.new.taken ≡ self.old.taken }
     {
         if self.passing {
+            self.spare = room;
             self.skip_all();
             self.passing = false;
             return Err(PieceFault::TooLong);
         }
         if self.start == self.end {
+            self.spare = room;
             return Ok(None);
         }
         let bytes = filled(room, &self.buf[self.start..self.end]);
@@ -386,22 +394,27 @@ impl Buffer {
 
     // Room for so many bytes, in the memory of a piece that was taken back where there is one.
     fn room_for(&mut self, most: usize) -> Result<Vec<u8>, OutOfMemory>
+        requires { most ≤ most_bytes self.old.kind }
         ensures empty { IfOk result (λ room. room.items ≡ []) }
         ensures fits { IfOk result (λ room. most ≤ vec_capacity room) }
+        ensures spare { IfOk result (λ room. vec_capacity room ≤ most_bytes self.old.kind) }
         ensures same { hand_of self.new ≡ hand_of self.old }
+        ensures searched { self.new.searched ≡ self.old.searched }
+        ensures end { self.new.end ≡ self.old.end }
     {
         let none = Vec::new(*self.buf.allocator());
         let mut room = mem::replace(&mut self.spare, none);
         room.clear();
-        room.reserve(most)?;
+        room.reserve_exact(most)?;
         Ok(room)
     }
 
-    /// Takes the memory of a piece back, for the next one. That of a piece with much memory is let go.
+    /// Takes the memory of a piece back, for the next one. Memory for more bytes than a piece of the kind has at most
+    /// is let go.
     pub(crate) fn take_back(&mut self, bytes: Vec<u8>)
         ensures { hand_of self.new ≡ hand_of self.old }
     {
-        if bytes.capacity() <= READ {
+        if bytes.capacity() <= self.kind.most_bytes() {
             self.spare = bytes;
         }
     }
@@ -423,20 +436,25 @@ impl Buffer {
         }
     }
 
-    // Reads until a piece is in hand, and gives it. All room is taken before the first read.
+    // Reads until a piece is in hand, and gives it. All room is taken before the first read; after a read that
+    // failed it is spare.
     fn read_piece<S: Source>(&mut self, src: &mut S) -> Result<Option<Piece>, PieceFault>
         requires all { self.old.searched ≡ self.old.end }
         requires most { self.old.taken < MAX_TAKEN_BYTES }
         ensures gives { GivesNext result (hand_of self.old) (hand_of self.new) (S.told src.old) (S.told src.new) }
         ensures memory { IsErrOf result PieceFault.OutOfMemory → src.new ≡ src.old }
     {
-        let Ok(room) = Vec::with_capacity(*self.buf.allocator(), self.kind.most_bytes()) else {
+        let most = self.kind.most_bytes();
+        let Ok(room) = self.room_for(most) else {
             return Err(PieceFault::OutOfMemory);
         };
         'reads: loop {
             self.make_room();
             match self.read_more(src) {
-                Err(Failed) => return Err(PieceFault::ReadFault),
+                Err(Failed) => {
+                    self.spare = room;
+                    return Err(PieceFault::ReadFault);
+                }
                 Ok(0) => return self.finish(room),
                 Ok(_) => {}
             }

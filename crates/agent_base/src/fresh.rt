@@ -3,7 +3,7 @@ ghost use Rattle.std.specs.Prelude.{◌≡◌};
 
 use crate::{Clock, MemClock};
 
-/// A clock in memory that stands at its first place.
+/// A clock in memory that stands at its first moment.
 #[derive(Drop)]
 pub(crate) struct FreshClock {
     clock: MemClock,
@@ -13,7 +13,7 @@ pub(crate) struct FreshClock {
 impl FreshClock {
     /// The clock has given no moment.
     pub(crate) fn new(clock: MemClock) -> FreshClock
-        requires { (⟦<MemClock as Clock>⟧.told clock).place ≡ 0 }
+        requires { (⟦<MemClock as Clock>⟧.told clock).next ≡ 0 }
         ensures { result.clock ≡ clock }
     {
         FreshClock { clock }
@@ -22,7 +22,7 @@ impl FreshClock {
     /// The clock itself.
     pub(crate) fn into_clock(self) -> MemClock
         ensures is { result ≡ self.clock }
-        ensures first { (⟦<MemClock as Clock>⟧.told result).place ≡ 0 }
+        ensures first { (⟦<MemClock as Clock>⟧.told result).next ≡ 0 }
     {
         self.clock
     }

@@ -1,7 +1,7 @@
 //! Laws of the moments that clocks give.
 ghost use Rattle.agent_base.specs.Clocked.{ClockedJoins, CountedJoins};
 
-/// Moments up to a place and moments from it on are moments one after another.
+/// Moments up to an index and moments from it on are moments one after another.
 pub fn clocked_joins()
     ensures { ClockedJoins }
 {}

@@ -20,5 +20,6 @@ pub use memory::{MemClock, MemSink, MemSource};
 pub use outside::{Clock, Failed, PutFault, Sink, Source};
 pub use piece::{CutKind, Piece, PieceFault};
 pub use pieces::{Pieces, cuts_expositions, cuts_lines, has_expositions};
+pub use slots::Slots;
 pub use standard::{StdSink, StdSource};
 pub use world::{OpenFault, World};

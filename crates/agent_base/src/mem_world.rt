@@ -1,6 +1,6 @@
 //! A world in memory.
 ghost use Rattle.std.specs.Prelude.{◌≡◌, true, false, [], Some, None, is_some, OnOk, OnErr, IfOk, IfErr};
-ghost use Rattle.std.specs.Prelude.{MatchOption, List, ℕ};
+ghost use Rattle.std.specs.Prelude.{MatchOption, List, ℕ, ◌∷◌, ◌++◌, map, string_bytes};
 ghost use Rattle.std.specs.Option.{option_copied};
 ghost use Rattle.agent_base.specs.Carried.{no_part};
 ghost use Rattle.agent_base.specs.Memory.{moments_of};
@@ -10,10 +10,10 @@ ghost use Rattle.agent_base.specs.Views.{OnlyIn, OnlyOut, OnlyClock, OnlyReport}
 
 use crate::clocks::{put, take};
 use crate::fresh::FreshClock;
-use crate::slots::{Slot, add, give, has_part, open, part_of};
+use crate::slots::Slots;
 use crate::{Clock, MemClock, MemSink, MemSource, OpenFault, PutFault, Sink, Source, World};
 use fixed_num::OutOfMemory;
-use std::alloc::Global;
+use std::alloc::{AllocError, Global};
 
 /// A world in memory. What is added takes the place of what was there.
 ///
@@ -21,17 +21,30 @@ use std::alloc::Global;
 #[derive(Drop)]
 pub struct MemWorld<S = MemSource, K = MemSink> {
     alloc: Global,
-    ins: Vec<Slot<S>>,
-    outs: Vec<Slot<K>>,
+    ins: Slots<S>,
+    outs: Slots<K>,
     clocks: Vec<(u32, FreshClock)>,
     reported: Vec<u8>,
+    said: Vec<String>,
+}
+
+// Keeps a line behind those that are kept.
+fn keep_line(alloc: Global, lines: &mut Vec<String>, line: &str) -> Result<(), AllocError>
+    ensures kept { OnOk result
+        (map string_bytes lines.new.items ≡ map string_bytes lines.old.items ++ line.now ∷ []) }
+    ensures refused { OnErr result (lines.new.items ≡ lines.old.items) }
+{
+    let kept = String::from_str(alloc, line)?;
+    lines.push(kept)?;
+    Ok(())
 }
 
 impl<S: Source + Send + Drop, K: Sink + Send + Drop> MemWorld<S, K> {
+    ghost use Rattle.agent_base.specs.Said.{lines_said};
     ghost use Rattle.agent_base.specs.Standing.{standing, nothing};
     ghost use Rattle.agent_base.specs.Standing.{OnlyInStands, OnlyOutStands, OnlyClockStands};
 
-    /// A world without places and clocks, and with an empty report.
+    /// A world without places and clocks, with an empty report, in which no line was said.
     pub fn new(alloc: Global) -> MemWorld<S, K>
         ensures nothing_stands { standing result ≡ nothing }
         ensures ins { (place : List ℕ) → (⟦<MemWorld<S, K> as World>⟧.view result).ins place ≡ empty_place }
@@ -40,13 +53,15 @@ impl<S: Source + Send + Drop, K: Sink + Send + Drop> MemWorld<S, K> {
         ensures outs_home { AreHome ((⟦<MemWorld<S, K> as World>⟧.view result).outs) }
         ensures rest { (⟦<MemWorld<S, K> as World>⟧.view result).report ≡ record { reported = Some []; report_faults = 0 } }
         ensures moments { (who : ℕ) → (⟦<MemWorld<S, K> as World>⟧.view result).clocks who ≡ Some (moments_of []) }
+        ensures said { lines_said result ≡ [] }
     {
         MemWorld {
             alloc,
-            ins: Vec::new(alloc),
-            outs: Vec::new(alloc),
+            ins: Slots::new(alloc),
+            outs: Slots::new(alloc),
             clocks: Vec::new(alloc),
             reported: Vec::new(alloc),
+            said: Vec::new(alloc),
         }
     }
 
@@ -68,8 +83,9 @@ impl<S: Source + Send + Drop, K: Sink + Send + Drop> MemWorld<S, K> {
         ensures stands { OnOk result ((standing self.new).ins place.now ≡ Some s) }
         ensures stays { OnErr result (standing self.new ≡ standing self.old) }
         ensures beside { OnlyInStands place.now (standing self.old) (standing self.new) }
+        ensures said { lines_said self.new ≡ lines_said self.old }
     {
-        add(self.alloc, &mut self.ins, place, s)
+        self.ins.add(place, s)
     }
 
     /// Puts a sink at an output place.
@@ -90,13 +106,14 @@ impl<S: Source + Send + Drop, K: Sink + Send + Drop> MemWorld<S, K> {
         ensures stands { OnOk result ((standing self.new).outs place.now ≡ Some s) }
         ensures stays { OnErr result (standing self.new ≡ standing self.old) }
         ensures beside { OnlyOutStands place.now (standing self.old) (standing self.new) }
+        ensures said { lines_said self.new ≡ lines_said self.old }
     {
-        add(self.alloc, &mut self.outs, place, s)
+        self.outs.add(place, s)
     }
 
     /// Puts a clock that has given no moment at a number.
     pub fn add_clock(&mut self, who: u32, c: MemClock) -> Result<(), OutOfMemory>
-        requires first { (⟦<MemClock as Clock>⟧.told c).place ≡ 0 }
+        requires first { (⟦<MemClock as Clock>⟧.told c).next ≡ 0 }
         requires unstopped { ⟦<MemClock as Clock>⟧.stopped c ≡ false }
 
         ensures added { OnOk result
@@ -113,6 +130,7 @@ impl<S: Source + Send + Drop, K: Sink + Send + Drop> MemWorld<S, K> {
         ensures stands { OnOk result ((standing self.new).clocks who ≡ Some c) }
         ensures stays { OnErr result (standing self.new ≡ standing self.old) }
         ensures beside { OnlyClockStands who (standing self.old) (standing self.new) }
+        ensures said { lines_said self.new ≡ lines_said self.old }
     {
         put(&mut self.clocks, who, FreshClock::new(c))
     }
@@ -122,7 +140,7 @@ impl<S: Source + Send + Drop, K: Sink + Send + Drop> MemWorld<S, K> {
         ensures stands { result ≡ is_some ((standing self.now).ins place.now) }
         ensures none { result ≡ false → IsTold no_part ((⟦<MemWorld<S, K> as World>⟧.view self.now).ins place.now) }
     {
-        has_part(&self.ins, place)
+        self.ins.has(place)
     }
 
     /// Whether a sink stands at an output place. Where none does, the place tells no bytes and no faults.
@@ -130,7 +148,7 @@ impl<S: Source + Send + Drop, K: Sink + Send + Drop> MemWorld<S, K> {
         ensures stands { result ≡ is_some ((standing self.now).outs place.now) }
         ensures none { result ≡ false → IsTold no_part ((⟦<MemWorld<S, K> as World>⟧.view self.now).outs place.now) }
     {
-        has_part(&self.outs, place)
+        self.outs.has(place)
     }
 
     /// The sink that stands at an output place, as the place tells it.
@@ -140,7 +158,7 @@ impl<S: Source + Send + Drop, K: Sink + Send + Drop> MemWorld<S, K> {
             (λ sink. IsTold (K.told sink.now)
             ((⟦<MemWorld<S, K> as World>⟧.view self.now).outs place.now)) }
     {
-        part_of(&self.outs, place)
+        self.outs.part(place)
     }
 
     /// What was reported.
@@ -149,11 +167,19 @@ impl<S: Source + Send + Drop, K: Sink + Send + Drop> MemWorld<S, K> {
     {
         self.reported.as_slice()
     }
+
+    /// The lines that were said, in their order; those for which no memory was left are missing.
+    pub fn said(&self) -> &[String]
+        ensures { map string_bytes result.now ≡ lines_said self.now }
+    {
+        self.said.as_slice()
+    }
 }
 
 impl<S: Source + Send + Drop, K: Sink + Send + Drop> World for MemWorld<S, K> {
     ghost use Rattle.agent_base.specs.Clocks.{moments_at, IsClockOf};
-    ghost use Rattle.agent_base.specs.Slots.{told_of, slot_at};
+    ghost use Rattle.agent_base.specs.Said.{lines_said, SaysLine};
+    ghost use Rattle.agent_base.specs.Slots.{places_of};
     ghost use Rattle.agent_base.specs.Standing.{standing, MovesOut};
     ghost use Rattle.agent_base.specs.Standing.{OnlyInStands, OnlyOutStands, OnlyClockStands};
 
@@ -164,8 +190,8 @@ impl<S: Source + Send + Drop, K: Sink + Send + Drop> World for MemWorld<S, K> {
     type Clk = MemClock;
 
     ghost view = { λ w. record {
-      ins = λ place. told_of S.told (slot_at w.ins.items place);
-      outs = λ place. told_of K.told (slot_at w.outs.items place);
+      ins = places_of S.told w.ins;
+      outs = places_of K.told w.outs;
       clocks = λ who. Some (moments_at w.clocks.items who);
       report = record { reported = Some w.reported.items; report_faults = 0 };
     } };
@@ -182,8 +208,9 @@ impl<S: Source + Send + Drop, K: Sink + Send + Drop> World for MemWorld<S, K> {
 
         ensures moves { MovesOut result ((standing self.old).ins place.now) ((standing self.new).ins place.now) }
         ensures beside { OnlyInStands place.now (standing self.old) (standing self.new) }
+        ensures said { lines_said self.new ≡ lines_said self.old }
     {
-        open(self.alloc, &mut self.ins, place)
+        self.ins.open(place)
     }
 
     fn open_out(&mut self, place: &str) -> Result<K, OpenFault>
@@ -198,8 +225,9 @@ impl<S: Source + Send + Drop, K: Sink + Send + Drop> World for MemWorld<S, K> {
 
         ensures moves { MovesOut result ((standing self.old).outs place.now) ((standing self.new).outs place.now) }
         ensures beside { OnlyOutStands place.now (standing self.old) (standing self.new) }
+        ensures said { lines_said self.new ≡ lines_said self.old }
     {
-        open(self.alloc, &mut self.outs, place)
+        self.outs.open(place)
     }
 
     fn give_in(&mut self, place: &str, part: S)
@@ -211,8 +239,9 @@ impl<S: Source + Send + Drop, K: Sink + Send + Drop> World for MemWorld<S, K> {
 
         ensures stands { (standing self.new).ins place.now ≡ Some part }
         ensures beside { OnlyInStands place.now (standing self.old) (standing self.new) }
+        ensures said { lines_said self.new ≡ lines_said self.old }
     {
-        give(&mut self.ins, place, part);
+        self.ins.give(place, part);
     }
 
     fn give_out(&mut self, place: &str, part: K)
@@ -224,19 +253,21 @@ impl<S: Source + Send + Drop, K: Sink + Send + Drop> World for MemWorld<S, K> {
 
         ensures stands { (standing self.new).outs place.now ≡ Some part }
         ensures beside { OnlyOutStands place.now (standing self.old) (standing self.new) }
+        ensures said { lines_said self.new ≡ lines_said self.old }
     {
-        give(&mut self.outs, place, part);
+        self.outs.give(place, part);
     }
 
     fn clock(&mut self, who: u32, _pause: i64) -> MemClock
         ensures told { (⟦<MemClock as Clock>⟧.told result).moments ≡ (⟦<MemWorld<S, K> as World>⟧.view self.old).clocks who }
-        ensures first { (⟦<MemClock as Clock>⟧.told result).place ≡ 0 }
+        ensures first { (⟦<MemClock as Clock>⟧.told result).next ≡ 0 }
         ensures unstopped { ⟦<MemClock as Clock>⟧.stopped result ≡ false }
         ensures only { OnlyClock who (⟦<MemWorld<S, K> as World>⟧.view self.old)
             (⟦<MemWorld<S, K> as World>⟧.view self.new) }
 
         ensures is { IsClockOf ((standing self.old).clocks who) result }
         ensures beside { OnlyClockStands who (standing self.old) (standing self.new) }
+        ensures said { lines_said self.new ≡ lines_said self.old }
     {
         take(&mut self.clocks, self.alloc, who).into_clock()
     }
@@ -250,10 +281,20 @@ impl<S: Source + Send + Drop, K: Sink + Send + Drop> World for MemWorld<S, K> {
             (⟦<MemWorld<S, K> as World>⟧.view self.new) }
 
         ensures stands { standing self.new ≡ standing self.old }
+        ensures said { lines_said self.new ≡ lines_said self.old }
     {
         match self.reported.extend_from_slice(bytes) {
             Ok(()) => Ok(()),
             Err(_) => Err(PutFault::OutOfMemory),
         }
+    }
+
+    fn say(&mut self, alloc: Global, line: &str)
+        ensures same { ⟦<MemWorld<S, K> as World>⟧.view self.new ≡ ⟦<MemWorld<S, K> as World>⟧.view self.old }
+
+        ensures stands { standing self.new ≡ standing self.old }
+        ensures said { SaysLine line.now (lines_said self.old) (lines_said self.new) }
+    {
+        let _ = keep_line(alloc, &mut self.said, line);
     }
 }

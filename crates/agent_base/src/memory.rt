@@ -221,7 +221,7 @@ impl MemClock {
     /// The moments are those of the list, of which the last comes again and again; 0 alone for an empty list.
     pub fn new(_alloc: Global, moments: Vec<Moment>) -> MemClock
         ensures told { (⟦<MemClock as Clock>⟧.told result).moments ≡ Some (moments_of moments.items) }
-        ensures first { (⟦<MemClock as Clock>⟧.told result).place ≡ 0 }
+        ensures first { (⟦<MemClock as Clock>⟧.told result).next ≡ 0 }
         ensures unstopped { ⟦<MemClock as Clock>⟧.stopped result ≡ false }
         ensures waits { ⟦<MemClock as Clock>⟧.waits result ≡ 0 }
     {
@@ -232,7 +232,7 @@ impl MemClock {
         }
     }
 
-    // The moment at the place; moves on.
+    // The next moment; moves on.
     fn give(&mut self) -> Moment
         ensures gives { GivesAt (moments_of self.old.moments.items) self.old.at self.new.at result }
         ensures moments { self.new.moments ≡ self.old.moments }
@@ -253,7 +253,7 @@ impl MemClock {
 impl Clock for MemClock {
     ghost use Rattle.agent_base.specs.Memory.{moments_of};
 
-    ghost told = { λ c. record { moments = Some (moments_of c.moments.items); place = c.at } };
+    ghost told = { λ c. record { moments = Some (moments_of c.moments.items); next = c.at } };
 
     ghost stopped = { λ _. false };
 

@@ -51,7 +51,7 @@ pub trait Sink {
 
 /// Moments, one after another.
 pub trait Clock {
-    /// The moments by place, where they are told, which never change; and the place of the next one.
+    /// The moments by index, where they are told, which never change; and the index of the next one.
     ghost told: { Self → Timed };
 
     /// Whether the clock was stopped; a stopped clock stays so.
@@ -60,16 +60,16 @@ pub trait Clock {
     /// How many waits gave a moment; it never falls, and stops at 2^64 - 1.
     ghost waits: { Self → ℕ };
 
-    /// The moment at the place, at once.
+    /// The next moment, at once.
     fn now(&mut self) -> Moment
         ensures list { (told self.new).moments ≡ (told self.old).moments }
-        ensures gives { Gives (told self.old).moments (told self.old).place (told self.new).place result }
+        ensures gives { Gives (told self.old).moments (told self.old).next (told self.new).next result }
         ensures stopped { stopped self.new ≡ stopped self.old }
         ensures waits { waits self.new ≡ waits self.old };
 
-    /// The moment at the place, after the clock's pause; None only of a stopped clock.
+    /// The next moment, after the clock's pause; None only of a stopped clock.
     fn wait(&mut self) -> Option<Moment>
         ensures list { (told self.new).moments ≡ (told self.old).moments }
-        ensures gives { Waits (told self.old).moments (told self.old).place (told self.new).place
+        ensures gives { Waits (told self.old).moments (told self.old).next (told self.new).next
             (stopped self.old) (stopped self.new) (waits self.old) (waits self.new) result };
 }

@@ -75,7 +75,8 @@ impl Pieces {
         self.buffer.next(src)
     }
 
-    /// Takes a piece back that isn't needed any more, so that its memory serves the next one.
+    /// Takes a piece back that isn't needed any more, so that its memory serves the next one. The memory of one piece is
+    /// kept, and none that has room for more than the longest piece of the kind.
     pub fn take_back(&mut self, piece: Piece)
         ensures { self.new ≡ self.old }
     {

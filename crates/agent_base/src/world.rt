@@ -5,6 +5,7 @@ ghost use Rattle.agent_base.specs.Puts.{PutAppends, PutHasCause};
 ghost use Rattle.agent_base.specs.Views.{WorldView, OnlyIn, OnlyOut, OnlyClock, OnlyReport};
 
 use crate::{Clock, PutFault, Sink, Source};
+use std::alloc::Global;
 
 /// Why a place wasn't opened.
 #[derive(Clone, Copy, Debug, PartialEq, Eq)]
@@ -15,7 +16,7 @@ pub enum OpenFault {
     OutOfMemory,
 }
 
-/// The places that are read and written, the clocks, and the report.
+/// The places that are read and written, the clocks, the report, and the lines for people.
 ///
 /// While the part of a place is out, the world tells nothing of that place's own bytes and count: the part
 /// does.
@@ -63,10 +64,10 @@ pub trait World {
             ((view self.new).outs place.now) }
         ensures only { OnlyOut place.now (view self.old) (view self.new) };
 
-    /// The clock with this number, at its first place; its waits pause so many nanoseconds.
+    /// The clock with this number, at its first moment; its waits pause so many nanoseconds.
     fn clock(&mut self, who: u32, pause: i64) -> Self::Clk
         ensures told { (Self.Clk.told result).moments ≡ (view self.old).clocks who }
-        ensures first { (Self.Clk.told result).place ≡ 0 }
+        ensures first { (Self.Clk.told result).next ≡ 0 }
         ensures unstopped { Self.Clk.stopped result ≡ false }
         ensures only { OnlyClock who (view self.old) (view self.new) };
 
@@ -75,4 +76,8 @@ pub trait World {
         ensures bytes { PutAppends (view self.old).report.reported (view self.new).report.reported bytes.now result }
         ensures cause { PutHasCause (view self.old).report.report_faults (view self.new).report.report_faults result }
         ensures only { OnlyReport (view self.old) (view self.new) };
+
+    /// Says a line to people; what the world tells is as before. A line for which no memory is left isn't said.
+    fn say(&mut self, alloc: Global, line: &str)
+        ensures same { view self.new ≡ view self.old };
 }

@@ -1,6 +1,6 @@
 mod DecimalLemmas
 mod FaultlessLemmas
-mod FirstLemmas
+mod FewLemmas
 mod ReadLemmas
 mod SoundLemmas
 mod TextLemmas

@@ -9,6 +9,7 @@ use Rattle.std.specs.Str.{IsUtf8, is_utf8}
 use Rattle.toml.specs.Data.{Members}
 use Rattle.toml.specs.Parse.{parse_document}
 use Rattle.agent_config.specs.Faults.{faults_in, faults_of, first, longest_text, text_faults, tree_of}
+use Rattle.agent_config.specs.Found.{fault_of}
 use Rattle.agent_config.specs.Told.{fault_told}
 use Rattle.agent_config.specs.Values.{config_of}
 use Rattle.agent_config.specs.declared.config.Config.{Config}
@@ -41,9 +42,9 @@ none_first [] h = refl
 none_first (x ∷ xs) h = cc
 
 pub all_read : (text : List ℕ) (root : Members) (config : Config) → Some root ≡ tree_of text
-    → first (faults_of root) ≡ None → config ≡ config_of root
+    → first (map fault_of (faults_of root)) ≡ None → config ≡ config_of root
     → (text_faults text ≡ []) × (option_map config_of (tree_of text) ≡ Some config)
 all_read text root config t f c = (
-  ap faults_in (sym t) ∙ ap (map fault_told) (none_first (faults_of root) f),
+  ap faults_in (sym t) ∙ ap (map fault_told) (none_first (map fault_of (faults_of root)) f),
   ap (option_map config_of) (sym t) ∙ ap Some (sym c),
 )

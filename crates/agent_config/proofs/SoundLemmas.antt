@@ -10,10 +10,13 @@ use Rattle.std.specs.List.{AllByRecursion, IsDistinct, list_any}
 use Rattle.std.specs.Prelude.{◌&&◌, ◌||◌, codes, if◌then◌else◌, is_some, nat_le, option_and_then}
 use Rattle.std.specs.Str.{bytes_eq}
 use Rattle.toml.specs.Data.{Members, no_members, member, as_integer, as_str, as_table, get_member}
-use Rattle.agent_config.specs.Faults.{Plugin, at, faults_by, faults_in, faults_of, global_faults}
-use Rattle.agent_config.specs.Faults.{global_tag_faults, journal_of, keys_faults, missing_faults, none_faults}
-use Rattle.agent_config.specs.Faults.{numbered, place_of, plugin_faults, plugins_at, same_faults, text_faults}
+use Rattle.agent_config.specs.Faults.{Plugin, faults_by, faults_in, faults_of, global_faults}
+use Rattle.agent_config.specs.Faults.{global_tag_faults, is_journal_faulty, journal_of, keys_faults, missing_faults}
+use Rattle.agent_config.specs.Faults.{none_faults}
+use Rattle.agent_config.specs.Faults.{numbered, only_follows, place_of, plugin_faults, plugins_at, same_faults}
+use Rattle.agent_config.specs.Faults.{text_faults}
 use Rattle.agent_config.specs.Faults.{tree_of, unknown_faults}
+use Rattle.agent_config.specs.Found.{at, whole, wrong}
 use Rattle.agent_config.specs.Kinds.{agent_limits, agent_number, kind_keys, kind_of, limits_faults, needs}
 use Rattle.agent_config.specs.Kinds.{number_at, output_kind, own_limits}
 use Rattle.agent_config.specs.Rows.{counted_or, members_in, table_at}
@@ -56,24 +59,27 @@ new_before before one (place ∷ places) h =
     let rest = new_before before one places h.1 in
     ((parts.0, rest.0), ((neither (bytes_eq one place) false parts.1).0, rest.1))
 
-apart : (c : Class) (number : ℕ) (before places : List (List ℕ)) → same_faults c number before places ≡ []
+apart : (c : Class) (number : ℕ) (faulty : Bool) (before places : List (List ℕ))
+    → same_faults c number faulty before places ≡ []
     → AllByRecursion (IsNew before) places × IsDistinct bytes_eq places
 unfolding IsDistinct
-apart c number before [] e = (tt, tt)
-apart c number before (place ∷ places) e =
+apart c number faulty before [] e = (tt, tt)
+apart c number faulty before (place ∷ places) e =
     let test = list_any (λ (other : List ℕ). bytes_eq other place) before in
-    let here = front_none (at c number (unless (not test) kinds.SamePlace)) (same_faults c (number + 1) (before ++ place ∷ []) places) e in
-    let there = rest_none (at c number (unless (not test) kinds.SamePlace)) (same_faults c (number + 1) (before ++ place ∷ []) places) e in
-    let rest = apart c (number + 1) (before ++ place ∷ []) places there in
+    let same = whole kinds.SamePlace (only_follows faulty before place) in
+    let first = at c number (unless (not test) same) in
+    let others = same_faults c (number + 1) faulty (before ++ place ∷ []) places in
+    let rest = apart c (number + 1) faulty (before ++ place ∷ []) places (rest_none first others e) in
     let split = new_before before place places rest.0 in
-    ((not_true test (holds_at c number (not test) kinds.SamePlace here), split.0), (split.1, rest.1))
+    ((not_true test (holds_at c number (not test) same (front_none first others e)), split.0), (split.1, rest.1))
 
 with_first : (one : List ℕ) (places : List (List ℕ)) → AllByRecursion (IsNew (one ∷ [])) places
     → IsDistinct bytes_eq places → IsDistinct bytes_eq (one ∷ places)
 unfolding IsDistinct
 with_first one places new distinct = (go places new, distinct)
   where
-    go : (others : List (List ℕ)) → AllByRecursion (IsNew (one ∷ [])) others → AllByRecursion (λ place. bytes_eq one place ≡ false) others
+    go : (others : List (List ℕ)) → AllByRecursion (IsNew (one ∷ [])) others
+        → AllByRecursion (λ place. bytes_eq one place ≡ false) others
     go [] h = tt
     go (place ∷ others) h = ((neither (bytes_eq one place) false h.0).0, go others h.1)
 
@@ -137,7 +143,8 @@ file_sizes limits (Some members) h e =
     let behind = rest_none (keys_faults (keys.Plugin kind.FileOutput) members) (lacks ++ limits_faults own) e in
     record {
       some = counts.0.0;
-      ordered = leb-true own.batch own.limit (holds (nat_le own.batch own.limit) kinds.BatchAboveLimit
+      ordered = leb-true own.batch own.limit (holds (nat_le own.batch own.limit)
+          (whole kinds.BatchAboveLimit (own.batch_faulty || own.limit_faulty))
           (rest_none lacks (limits_faults own) behind));
       most = counts.1.1;
     }
@@ -156,19 +163,25 @@ unfolding kind_of plugin_faults
 sized limits plugin h known e =
     let file = bytes_eq plugin.name (codes "file") in
     let sizes = kind_sizes limits file (as_table plugin.value) h
-    (holds (is_some (output_kind plugin.name)) kinds.UnknownKind known) e in
+    (holds (is_some (output_kind plugin.name)) (wrong kinds.UnknownKind plugin.name) known) e in
     record { some = sizes.some; ordered = sizes.ordered; most = sizes.most }
 
-all_sized : (limits : Limits) (number : ℕ) (plugins : List Plugin) → AreCounted limits → numbered class.Outputs (unknown_faults class.Outputs) number plugins ≡ [] → numbered class.Outputs (plugin_faults class.Outputs limits) number plugins ≡ []
+all_sized : (limits : Limits) (number : ℕ) (plugins : List Plugin) → AreCounted limits
+    → numbered class.Outputs (unknown_faults class.Outputs) number plugins ≡ []
+    → numbered class.Outputs (plugin_faults class.Outputs limits) number plugins ≡ []
     → AllByRecursion (λ plugin. HasSizes (output_of limits plugin)) plugins
 all_sized limits number [] h known e = tt
 all_sized limits number (plugin ∷ plugins) h known e =
     let unknown = unknown_faults class.Outputs in
-    let wrong = plugin_faults class.Outputs limits in (
-      sized limits plugin h (none_at class.Outputs number (unknown plugin) (front_none (at class.Outputs number (unknown plugin)) (numbered class.Outputs unknown (number + 1) plugins) known))
-          (none_at class.Outputs number (wrong plugin) (front_none (at class.Outputs number (wrong plugin)) (numbered class.Outputs wrong (number + 1) plugins) e)),
-      all_sized limits (number + 1) plugins h (rest_none (at class.Outputs number (unknown plugin)) (numbered class.Outputs unknown (number + 1) plugins) known)
-          (rest_none (at class.Outputs number (wrong plugin)) (numbered class.Outputs wrong (number + 1) plugins) e),
+    let bad = plugin_faults class.Outputs limits in (
+      sized limits plugin h (none_at class.Outputs number (unknown plugin)
+          (front_none (at class.Outputs number (unknown plugin)) (numbered class.Outputs unknown (number + 1) plugins)
+          known))
+          (none_at class.Outputs number (bad plugin) (front_none (at class.Outputs number (bad plugin))
+          (numbered class.Outputs bad (number + 1) plugins) e)),
+      all_sized limits (number + 1) plugins h (rest_none (at class.Outputs number (unknown plugin))
+          (numbered class.Outputs unknown (number + 1) plugins) known)
+          (rest_none (at class.Outputs number (bad plugin)) (numbered class.Outputs bad (number + 1) plugins) e),
     )
 
 -- ---- global tags
@@ -176,37 +189,51 @@ all_sized limits number (plugin ∷ plugins) h known e =
 some_length : (text : List ℕ) → (length text == 0) ≡ false → 1 ≤ length text
 some_length text e = let differs = eqb-false (length text) 0 e in omega (arith, differs)
 
-filled_if : (key text : List ℕ) (rest : List (List ℕ × List ℕ)) (empty : Bool) → (length text == 0) ≡ empty → 1 ≤ length key → AllByRecursion IsFilled rest → AllByRecursion IsFilled ((if empty then [] else (key, text) ∷ []) ++ rest)
+filled_if : (key text : List ℕ) (rest : List (List ℕ × List ℕ)) (empty : Bool) → (length text == 0) ≡ empty
+    → 1 ≤ length key → AllByRecursion IsFilled rest → AllByRecursion IsFilled ((if empty then [] else (key, text) ∷ [])
+    ++ rest)
 filled_if key text rest true e k h = h
 filled_if key text rest false e k h = ((k, some_length text e), h)
 
-tag_filled : (key : List ℕ) (value : Option (List ℕ)) (rest : List (List ℕ × List ℕ)) → global_tag_faults key value ≡ [] → AllByRecursion IsFilled rest → AllByRecursion IsFilled (global_tag key value ++ rest)
+tag_filled : (key : List ℕ) (value : Option (List ℕ)) (rest : List (List ℕ × List ℕ)) → global_tag_faults key value ≡ []
+    → AllByRecursion IsFilled rest → AllByRecursion IsFilled (global_tag key value ++ rest)
 tag_filled key None rest e h = cc
 tag_filled key (Some text) rest e h =
-    filled_if key text rest (length text == 0) refl (some_length key (not_true (length key == 0) (holds (not (length key == 0)) kinds.OutOfRange e))) h
+    filled_if key text rest (length text == 0) refl (some_length key
+    (not_true (length key == 0) (holds (not (length key == 0)) (wrong kinds.OutOfRange key) e))) h
 
 tags_filled : (tags : Members) → global_faults tags ≡ [] → AllByRecursion IsFilled (globals_of tags)
 tags_filled no_members e = tt
 tags_filled (member key value tags) e =
-    tag_filled key (as_str value) (globals_of tags) (front_none (global_tag_faults key (as_str value)) (global_faults tags) e) (tags_filled tags (rest_none (global_tag_faults key (as_str value)) (global_faults tags) e))
+    tag_filled key (as_str value) (globals_of tags) (front_none (global_tag_faults key (as_str value))
+    (global_faults tags) e) (tags_filled tags (rest_none (global_tag_faults key (as_str value)) (global_faults tags) e))
 
 -- ---- the whole
 
 some_plugins : (plugins : List Plugin) (kind : FaultKind) → none_faults plugins kind ≡ [] → 1 ≤ length plugins
 some_plugins plugins kind e =
-    let differs = eqb-false (length plugins) 0 (not_true (length plugins == 0) (holds_at class.Root 0 (not (length plugins == 0)) kind e)) in omega (arith, differs)
+    let differs = eqb-false (length plugins) 0 (not_true (length plugins == 0)
+    (holds_at class.Root 0 (not (length plugins == 0)) (whole kind false) e)) in omega (arith, differs)
 
-input_places : (plugins : List Plugin) → map (place_of class.Inputs) plugins ≡ map (λ (input : InputConf). input.place) (map input_of plugins)
+input_places : (plugins : List Plugin) → map (place_of class.Inputs) plugins ≡ map (λ (input : InputConf). input.place)
+    (map input_of plugins)
 input_places [] = refl
-input_places (plugin ∷ plugins) = ap (λ (places : List (List ℕ)). place_of class.Inputs plugin ∷ places) (input_places plugins)
+input_places (plugin ∷ plugins) = ap (λ (places : List (List ℕ)). place_of class.Inputs plugin ∷ places)
+    (input_places plugins)
 
-output_places : (limits : Limits) (plugins : List Plugin) → map (place_of class.Outputs) plugins ≡ map (λ (output : OutputConf). output.place) (map (output_of limits) plugins)
+output_places : (limits : Limits) (plugins : List Plugin) → map (place_of class.Outputs) plugins ≡ map
+    (λ (output : OutputConf). output.place) (map (output_of limits) plugins)
 output_places limits [] = refl
-output_places limits (plugin ∷ plugins) = ap (λ (places : List (List ℕ)). place_of class.Outputs plugin ∷ places) (output_places limits plugins)
+output_places limits (plugin ∷ plugins) = ap (λ (places : List (List ℕ)). place_of class.Outputs plugin ∷ places)
+    (output_places limits plugins)
 
 -- how many plugins there are: some, and few
-counted_plugins : {X : Type 0} (f : Plugin → X) (plugins : List Plugin) → 1 ≤ length plugins → length plugins ≤ 16 → IsCounted 16 (length (map f plugins))
-counted_plugins f plugins some few = (omega (arith, some, length-map plugins f), omega (arith, few, length-map plugins f))
+counted_plugins : {X : Type 0} (f : Plugin → X) (plugins : List Plugin) → 1 ≤ length plugins → length plugins ≤ 16
+    → IsCounted 16 (length (map f plugins))
+counted_plugins f plugins some few = (
+  omega (arith, some, length-map plugins f),
+  omega (arith, few, length-map plugins f),
+)
 
 sound_tree : (root : Members) → IsFaultless root → IsSound (config_of root)
 unfolding agent_number number_at
@@ -216,25 +243,39 @@ sound_tree root none =
     let journal = journal_of agent in
     let ins = plugins_at (codes "inputs") root in
     let outs = plugins_at (codes "outputs") root in
-    let ins_apart = apart class.Inputs 0 [] (map (place_of class.Inputs) ins) none.ins_apart in
-    let outs_apart = apart class.Outputs 0 (journal ∷ []) (map (place_of class.Outputs) outs) none.outs_apart in
+    let ins_apart = apart class.Inputs 0 false [] (map (place_of class.Inputs) ins)
+    (subst (λ (them : List Plugin). same_faults class.Inputs 0 false [] (map (place_of class.Inputs) them) ≡ [])
+    none.ins.all none.ins_apart) in
+    let faulty = is_journal_faulty agent in
+    let outs_apart = apart class.Outputs 0 faulty (journal ∷ []) (map (place_of class.Outputs) outs)
+    (subst (λ (them : List Plugin). same_faults class.Outputs 0 faulty (journal ∷ [])
+    (map (place_of class.Outputs) them) ≡ []) none.outs.all none.outs_apart) in
     record {
-      inputs = counted_plugins input_of ins (some_plugins ins kinds.NoInput none.some_in) none.ins.few;
-      outputs = counted_plugins (output_of limits) outs (some_plugins outs kinds.NoOutput none.some_out) none.outs.few;
+      inputs = counted_plugins input_of ins (some_plugins ins kinds.NoInput none.some_in) none.ins.are_few;
+      outputs = counted_plugins (output_of limits) outs (some_plugins outs kinds.NoOutput none.some_out)
+          none.outs.are_few;
       inputs_apart = subst (IsDistinct bytes_eq) (input_places ins) ins_apart.1;
-      outputs_apart = subst (λ (places : List (List ℕ)). IsDistinct bytes_eq (journal ∷ places)) (output_places limits outs)
+      outputs_apart = subst (λ (places : List (List ℕ)). IsDistinct bytes_eq (journal ∷ places))
+          (output_places limits outs)
           (with_first journal (map (place_of class.Outputs) outs) outs_apart.0 outs_apart.1);
-      sizes = All-map HasSizes (output_of limits) outs (All-from_recursion (λ (plugin : Plugin). HasSizes (output_of limits plugin)) outs
+      sizes = All-map HasSizes (output_of limits) outs (All-from_recursion
+          (λ (plugin : Plugin). HasSizes (output_of limits plugin)) outs
           (all_sized limits 0 outs (agent_counted agent) none.outs.known none.outs.right));
-      gather_pieces = counted 10000 1000 (option_and_then as_integer (get_member (codes "gather_pieces") agent)) (omega arith, omega arith);
-      final_tries = counted 100 3 (option_and_then as_integer (get_member (codes "final_tries") agent)) (omega arith, omega arith);
-      globals = All-from_recursion IsFilled (globals_of (table_at (codes "global_tags") root)) (tags_filled (table_at (codes "global_tags") root) none.tags);
+      gather_pieces = counted 10000 1000 (option_and_then as_integer (get_member (codes "gather_pieces") agent))
+          (omega arith, omega arith);
+      final_tries = counted 100 3 (option_and_then as_integer (get_member (codes "final_tries") agent))
+          (omega arith, omega arith);
+      globals = All-from_recursion IsFilled (globals_of (table_at (codes "global_tags") root))
+          (tags_filled (table_at (codes "global_tags") root) none.tags);
     }
 
-sound_in : (tree : Option Members) (config : Config) → faults_in tree ≡ [] → option_map config_of tree ≡ Some config → IsSound config
+sound_in : (tree : Option Members) (config : Config) → faults_in tree ≡ [] → option_map config_of tree ≡ Some config
+    → IsSound config
 sound_in None config e is = cc
-sound_in (Some root) config e is = subst IsSound (let same : config_of root ≡ config = cc in same) (sound_tree root (faultless root (none_told (faults_of root) e)))
+sound_in (Some root) config e is = subst IsSound (let same : config_of root ≡ config = cc in
+    same) (sound_tree root (faultless root (none_told (faults_of root) e)))
 
 -- the values of a text without faults
-pub sound : (text : List ℕ) (config : Config) → text_faults text ≡ [] → option_map config_of (tree_of text) ≡ Some config → IsSound config
+pub sound : (text : List ℕ) (config : Config) → text_faults text ≡ []
+    → option_map config_of (tree_of text) ≡ Some config → IsSound config
 sound text config e is = sound_in (tree_of text) config e is

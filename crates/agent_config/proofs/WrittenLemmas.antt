@@ -1,5 +1,6 @@
 -- What is written in a text without faults counts.
-use Rattle.std.proofs.Common.{◌≡◌, ◌+◌, ℕ, ℤ, pos, negsuc, Bool, true, false, List, [], ◌∷◌, map, Option, Some, None, IfSome}
+use Rattle.std.proofs.Common.{◌≡◌, ◌+◌, ℕ, ℤ, pos, negsuc, Bool, true, false, List, [], ◌∷◌, map, Option, Some, None}
+use Rattle.std.proofs.Common.{IfSome}
 use Rattle.std.proofs.Common.{refl, sym, ap, ◌∙◌, subst}
 use Rattle.std.proofs.lemmas.Map.Text.{is_eq-slice_cmp}
 use Rattle.std.proofs.lemmas.Slice.Eq.{bytes_eq-Decides}
@@ -11,10 +12,11 @@ use Rattle.std.specs.Cmp.Lexicographic.{slice_cmp}
 use Rattle.std.specs.Prelude.{◌||◌, codes, if◌then◌else◌, is_some, option_and_then}
 use Rattle.std.specs.Str.{bytes_eq}
 use Rattle.toml.specs.Data.{Data, Members, no_members, member, get_member, as_integer, as_str, as_table}
-use Rattle.agent_config.specs.Faults.{Plugin, agent_faults, at, entry_faults, faults_by, faults_in, faults_of}
+use Rattle.agent_config.specs.Faults.{Plugin, agent_faults, entry_faults, faults_by, faults_in, faults_of}
 use Rattle.agent_config.specs.Faults.{key_faults, keys_faults, number_faults, numbered}
 use Rattle.agent_config.specs.Faults.{plugin_faults, plugins_at}
 use Rattle.agent_config.specs.Faults.{unknown_faults}
+use Rattle.agent_config.specs.Found.{at, wrong}
 use Rattle.agent_config.specs.Kinds.{agent_limits, agent_number, kind_keys, kind_of, limits_faults}
 use Rattle.agent_config.specs.Kinds.{number_at, output_kind, own_limits, row_of, time_at}
 use Rattle.agent_config.specs.Rows.{count_row, counted_or, is_counted, is_long_enough, members_in, number_by}
@@ -32,7 +34,8 @@ use Rattle.agent_config.specs.declared.table.Keys.{Keys}
 use Rattle.agent_config.specs.declared.table.Keys.TheVariants as keys
 use Rattle.agent_config.specs.declared.table.Kind.TheVariants as kind
 use Rattle.agent_config.specs.declared.tables.Limits.{Limits}
-use Rattle.agent_config.proofs.FaultlessLemmas.{IsFaultless, faultless, front_none, holds, none_at, none_told, rest_none}
+use Rattle.agent_config.proofs.FaultlessLemmas.{IsFaultless, faultless, front_none, holds, none_at, none_told}
+use Rattle.agent_config.proofs.FaultlessLemmas.{rest_none}
 
 -- ---- a key of a table without faults
 
@@ -58,12 +61,12 @@ faultless_at keys key (member l d members) value none e =
 
 -- ---- numbers
 
-number_kept : (most other : ℕ) (number : Option ℤ) → number_faults most number ≡ []
+number_kept : (key : List ℕ) (most other : ℕ) (number : Option ℤ) → number_faults key most number ≡ []
     → IfSome number (λ written. written ≡ pos (counted_or most other number))
-number_kept most other None e = tt
-number_kept most other (Some (pos n)) e =
-    sym (ap (λ test. pos (if test then n else other)) (holds (is_counted most (pos n)) kinds.OutOfRange e))
-number_kept most other (Some (negsuc n)) e = cc
+number_kept key most other None e = tt
+number_kept key most other (Some (pos n)) e =
+    sym (ap (λ test. pos (if test then n else other)) (holds (is_counted most (pos n)) (wrong kinds.OutOfRange key) e))
+number_kept key most other (Some (negsuc n)) e = cc
 
 number_in_row : (keys : Keys) (key : List ℕ) (members : Members) (other : ℕ) (row : CountRow)
     → row_of keys key ≡ Some (Count row) → keys_faults keys members ≡ [] → (found : Option Data)
@@ -72,8 +75,8 @@ number_in_row : (keys : Keys) (key : List ℕ) (members : Members) (other : ℕ)
 unfolding entry_faults
 number_in_row _ _ _ _ _ _ _ None _ = tt
 number_in_row keys key members other row is none (Some value) e =
-    number_kept row.most other (as_integer value)
-    (sym (ap (λ r. key_faults r value) is) ∙ faultless_at keys key members value none e)
+    number_kept key row.most other (as_integer value)
+    (sym (ap (λ r. key_faults key r value) is) ∙ faultless_at keys key members value none e)
 
 -- the number that is written at a key of a table without faults is the one that it has
 number_written : (keys : Keys) (key : List ℕ) (members : Members) (other : ℕ) (row : CountRow)
@@ -81,7 +84,8 @@ number_written : (keys : Keys) (key : List ℕ) (members : Members) (other : ℕ
     → IsWritten key members (number_at keys key other members)
 unfolding number_at
 number_written keys key members other row is none =
-    subst (λ r. IfSome (number_in key members) (λ written. written ≡ pos (number_by (count_row r) other (number_in key members))))
+    subst (λ r. IfSome (number_in key members) (λ written. written ≡ pos
+    (number_by (count_row r) other (number_in key members))))
     (sym is) (number_in_row keys key members other row is none (get_member key members) refl)
 
 -- ---- times
@@ -91,10 +95,10 @@ long_kept : (row : TimeRow) (time : Option ℤ) → is_long_enough row.least tim
 long_kept row None e = tt
 long_kept row (Some time) e = sym (ap (λ test. if test then time else row.usual) e)
 
-first_of_if : (test long : Bool) → (if test then unless long kinds.OutOfRange else kinds.WrongType ∷ []) ≡ []
-    → long ≡ true
-first_of_if true long e = holds long kinds.OutOfRange e
-first_of_if false long e = cc
+first_of_if : (key : List ℕ) (test long : Bool)
+    → (if test then unless long (wrong kinds.OutOfRange key) else wrong kinds.WrongType key ∷ []) ≡ [] → long ≡ true
+first_of_if key true long e = holds long (wrong kinds.OutOfRange key) e
+first_of_if key false long e = cc
 
 time_in_row : (keys : Keys) (key : List ℕ) (members : Members) (row : TimeRow)
     → row_of keys key ≡ Some (Time row) → keys_faults keys members ≡ [] → (found : Option Data)
@@ -104,8 +108,8 @@ unfolding entry_faults
 time_in_row _ _ _ _ _ _ None _ = tt
 time_in_row keys key members row is none (Some value) e =
     long_kept row (time_in value)
-    (first_of_if (is_some (as_integer value) || is_some (as_str value)) (is_long_enough row.least (time_in value))
-    (sym (ap (λ r. key_faults r value) is) ∙ faultless_at keys key members value none e))
+    (first_of_if key (is_some (as_integer value) || is_some (as_str value)) (is_long_enough row.least (time_in value))
+    (sym (ap (λ r. key_faults key r value) is) ∙ faultless_at keys key members value none e))
 
 -- ---- the agent
 
@@ -115,7 +119,8 @@ agent_written agent e =
     let none = front_none (keys_faults keys.Agent agent) (limits_faults (agent_limits agent)) e in record {
       gather_pieces = number_written keys.Agent (codes "gather_pieces") agent 1000 _ refl none;
       final_tries = number_written keys.Agent (codes "final_tries") agent 3 _ refl none;
-      flush_interval = time_in_row keys.Agent (codes "flush_interval") agent _ refl none (get_member (codes "flush_interval") agent) refl;
+      flush_interval = time_in_row keys.Agent (codes "flush_interval") agent _ refl none
+          (get_member (codes "flush_interval") agent) refl;
     }
 
 -- ---- outputs
@@ -137,7 +142,8 @@ size_written : (key : List ℕ) (agent members : Members) (other : ℕ) (row : C
     → SizeIsWritten key agent members (number_at (keys.Plugin kind.FileOutput) key other members)
 size_written key agent members other row is none agents = record {
   own = number_written (keys.Plugin kind.FileOutput) key members other row is none;
-  agents = λ absent. subst (IsWritten key agent) (sym (size_other (keys.Plugin kind.FileOutput) key members other absent)) agents;
+  agents = λ absent. subst (IsWritten key agent) (sym (size_other (keys.Plugin kind.FileOutput) key members other
+      absent)) agents;
 }
 
 -- the sizes of `agent` are those that are written there
@@ -171,7 +177,8 @@ file_written agent limits (Some members) agents e =
 kind_written : (agent : Members) (limits : Limits) (file : Bool) (value : Option Members) → AreAgents agent limits
     → is_some (if file then Some kind.FileOutput else None) ≡ true
     → faults_by (if file then Some kind.FileOutput else None) limits value ≡ []
-    → AreWritten agent (members_in value) (own_limits (kind_keys (if file then Some kind.FileOutput else None)) limits (members_in value))
+    → AreWritten agent (members_in value) (own_limits (kind_keys (if file then Some kind.FileOutput else None)) limits
+    (members_in value))
 kind_written agent limits true value agents known e = file_written agent limits value agents e
 kind_written agent limits false value agents known e = cc
 
@@ -181,7 +188,7 @@ output_written : (agent : Members) (limits : Limits) (plugin : Plugin) → AreAg
 unfolding kind_of plugin_faults
 output_written agent limits plugin agents known e =
     let written = kind_written agent limits (bytes_eq plugin.name (codes "file")) (as_table plugin.value) agents
-    (holds (is_some (output_kind plugin.name)) kinds.UnknownKind known) e in
+    (holds (is_some (output_kind plugin.name)) (wrong kinds.UnknownKind plugin.name) known) e in
     record { batch = written.batch; limit = written.limit }
 
 outputs_written : (agent : Members) (limits : Limits) (number : ℕ) (plugins : List Plugin) → AreAgents agent limits
@@ -191,15 +198,16 @@ outputs_written : (agent : Members) (limits : Limits) (number : ℕ) (plugins : 
 outputs_written agent limits number [] agents known e = tt
 outputs_written agent limits number (plugin ∷ plugins) agents known e =
     let unknown = unknown_faults class.Outputs in
-    let wrong = plugin_faults class.Outputs limits in
+    let bad = plugin_faults class.Outputs limits in
     let rest = numbered class.Outputs unknown (number + 1) plugins in
-    let others = numbered class.Outputs wrong (number + 1) plugins in (
+    let others = numbered class.Outputs bad (number + 1) plugins in (
       output_written agent limits plugin agents
-          (none_at class.Outputs number (unknown plugin) (front_none (at class.Outputs number (unknown plugin)) rest known))
-          (none_at class.Outputs number (wrong plugin) (front_none (at class.Outputs number (wrong plugin)) others e)),
+          (none_at class.Outputs number (unknown plugin) (front_none (at class.Outputs number (unknown plugin)) rest
+          known))
+          (none_at class.Outputs number (bad plugin) (front_none (at class.Outputs number (bad plugin)) others e)),
       outputs_written agent limits (number + 1) plugins agents
           (rest_none (at class.Outputs number (unknown plugin)) rest known)
-          (rest_none (at class.Outputs number (wrong plugin)) others e),
+          (rest_none (at class.Outputs number (bad plugin)) others e),
     )
 
 -- ---- the whole

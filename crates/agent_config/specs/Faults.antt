@@ -1,5 +1,5 @@
 -- What is wrong with a configuration: a list, of which the first counts.
-use Rattle.std.specs.Prelude.{◌==◌, ◌&&◌, ◌||◌, ◌+◌, ℕ, ℤ, Bool, not}
+use Rattle.std.specs.Prelude.{◌==◌, ◌&&◌, ◌||◌, ◌+◌, ℕ, ℤ, Bool, false, not, take, drop}
 use Rattle.std.specs.Prelude.{List, [], ◌∷◌, ◌++◌, length, map, chars, codes, nat_le}
 use Rattle.std.specs.Prelude.{Option, Some, None, is_some, option_and_then, option_map, unwrap_or}
 use Rattle.std.specs.Prelude.{if◌then◌else◌}
@@ -13,10 +13,11 @@ use Rattle.toml.specs.Parse.{parse_document}
 use Rattle.metric.specs.Glob.{glob_of}
 use Rattle.format_words.specs.Template.{template_of}
 use Rattle.format_words.specs.Template.{Shape as Template}
+use Rattle.agent_config.specs.Found.{Found, Wrong, at, fault_of, whole, wrong, wrong_text}
 use Rattle.agent_config.specs.Keys.{is_one_of, is_root_key, names_of}
 use Rattle.agent_config.specs.Kinds.{agent_limits, kind_of, limits_faults, needs, own_faults, place_key, row_of}
 use Rattle.agent_config.specs.Kinds.{text_at}
-use Rattle.agent_config.specs.Rows.{is_counted, is_long_enough, members_in, table_at, time_in}
+use Rattle.agent_config.specs.Rows.{is_counted, is_long_enough, is_no_text, members_in, table_at, time_in}
 use Rattle.agent_config.specs.Unless.{unless}
 use Rattle.agent_config.specs.declared.shapes.Shape.{Shape}
 use Rattle.agent_config.specs.declared.shapes.Shape.TheVariants.{Anything, Count, Truth, Place, AnyText, Files}
@@ -57,46 +58,46 @@ abbrev pub texts_in : Data → Option (List (List ℕ))
 texts_in value = option_and_then texts_of (as_array value)
 
 -- a whole number from 1 to a greatest one
-abbrev pub number_faults : ℕ → Option ℤ → List FaultKind
-number_faults most None = WrongType ∷ []
-number_faults most (Some n) = unless (is_counted most n) OutOfRange
+abbrev pub number_faults : List ℕ → ℕ → Option ℤ → List Wrong
+number_faults key most None = wrong WrongType key ∷ []
+number_faults key most (Some n) = unless (is_counted most n) (wrong OutOfRange key)
 
 -- a text that isn't empty
-abbrev pub place_faults : Option (List ℕ) → List FaultKind
-place_faults None = WrongType ∷ []
-place_faults (Some text) = unless (not (length text == 0)) OutOfRange
+abbrev pub place_faults : List ℕ → Option (List ℕ) → List Wrong
+place_faults key None = wrong WrongType key ∷ []
+place_faults key (Some text) = unless (not (length text == 0)) (wrong OutOfRange key)
 
 -- a text that is one of some names
-abbrev pub name_faults : List (List ℕ) → Option (List ℕ) → List FaultKind
-name_faults names None = WrongType ∷ []
-name_faults names (Some text) = unless (is_one_of names text) OutOfRange
+abbrev pub name_faults : List ℕ → List (List ℕ) → Option (List ℕ) → List Wrong
+name_faults key names None = wrong WrongType key ∷ []
+name_faults key names (Some text) = unless (is_one_of names text) (wrong OutOfRange key)
 
 -- a list of exactly one text, which isn't empty
-abbrev pub file_faults : Option (List (List ℕ)) → List FaultKind
-file_faults None = WrongType ∷ []
-file_faults (Some (text ∷ [])) = unless (not (length text == 0)) OutOfRange
-file_faults (Some texts) = OutOfRange ∷ []
+abbrev pub file_faults : List ℕ → Option (List (List ℕ)) → List Wrong
+file_faults key None = wrong WrongType key ∷ []
+file_faults key (Some (text ∷ [])) = unless (not (length text == 0)) (wrong OutOfRange key)
+file_faults key (Some texts) = wrong OutOfRange key ∷ []
 
 -- a time that is no shorter than the least
-abbrev pub time_faults : ℤ → Data → List FaultKind
-time_faults least value =
+abbrev pub time_faults : List ℕ → ℤ → Data → List Wrong
+time_faults key least value =
     if is_some (as_integer value) || is_some (as_str value)
-    then unless (is_long_enough least (time_in value)) OutOfRange
-    else WrongType ∷ []
+    then unless (is_long_enough least (time_in value)) (wrong OutOfRange key)
+    else wrong WrongType key ∷ []
 
 -- is the text a glob
 abbrev pub is_glob : List ℕ → Bool
 is_glob text = is_some (glob_of (chars text))
 
--- the texts that are no globs, each BadGlob
-abbrev pub glob_faults : List (List ℕ) → List FaultKind
-glob_faults [] = []
-glob_faults (text ∷ texts) = unless (is_glob text) BadGlob ++ glob_faults texts
+-- the texts at a key that are no globs, each BadGlob
+abbrev pub glob_faults : List ℕ → List (List ℕ) → List Wrong
+glob_faults key [] = []
+glob_faults key (text ∷ texts) = unless (is_glob text) (wrong_text BadGlob key text) ++ glob_faults key texts
 
 -- the faults of a list of globs: WrongType where it is no list of texts, before all else in it
-abbrev pub list_faults : Option (List (List ℕ)) → List FaultKind
-list_faults None = WrongType ∷ []
-list_faults (Some texts) = glob_faults texts
+abbrev pub list_faults : List ℕ → Option (List (List ℕ)) → List Wrong
+list_faults key None = wrong WrongType key ∷ []
+list_faults key (Some texts) = glob_faults key texts
 
 -- the template that a text spells; None where it spells none
 unfoldable pub template_in : List ℕ → Option Template
@@ -106,66 +107,67 @@ template_in text = result_ok (template_of text)
 abbrev pub is_template : List ℕ → Bool
 is_template text = is_some (template_in text)
 
--- the texts that are no templates, each BadTemplate
-abbrev pub template_faults : List (List ℕ) → List FaultKind
-template_faults [] = []
-template_faults (text ∷ texts) = unless (is_template text) BadTemplate ++ template_faults texts
+-- the texts at a key that are no templates, each BadTemplate
+abbrev pub template_faults : List ℕ → List (List ℕ) → List Wrong
+template_faults key [] = []
+template_faults key (text ∷ texts) =
+    unless (is_template text) (wrong_text BadTemplate key text) ++ template_faults key texts
 
 -- the faults of a list of templates: WrongType where it is no list of texts, before all else in it
-abbrev pub templates_faults : Option (List (List ℕ)) → List FaultKind
-templates_faults None = WrongType ∷ []
-templates_faults (Some texts) = template_faults texts
+abbrev pub templates_faults : List ℕ → Option (List (List ℕ)) → List Wrong
+templates_faults key None = wrong WrongType key ∷ []
+templates_faults key (Some texts) = template_faults key texts
 
--- the faults of a key with a list of globs
-abbrev pub listed_faults : List ℕ → Option (List (List ℕ)) → List FaultKind
-listed_faults key None = WrongType ∷ []
-listed_faults key (Some texts) = unless (not (length key == 0)) OutOfRange ++ glob_faults texts
+-- the faults of a tag with a list of globs, at a key of tables of them
+abbrev pub listed_faults : List ℕ → List ℕ → Option (List (List ℕ)) → List Wrong
+listed_faults key tag None = wrong WrongType key ∷ []
+listed_faults key tag (Some texts) = unless (not (length tag == 0)) (wrong OutOfRange key) ++ glob_faults key texts
 
--- the faults of keys with lists of globs, in order
-abbrev pub tag_faults : Members → List FaultKind
-tag_faults no_members = []
-tag_faults (member key value members) = listed_faults key (texts_in value) ++ tag_faults members
+-- the faults of tags with lists of globs, in order
+abbrev pub tag_faults : List ℕ → Members → List Wrong
+tag_faults key no_members = []
+tag_faults key (member tag value members) = listed_faults key tag (texts_in value) ++ tag_faults key members
 
-abbrev pub tagged_faults : Option Members → List FaultKind
-tagged_faults None = WrongType ∷ []
-tagged_faults (Some members) = tag_faults members
+abbrev pub tagged_faults : List ℕ → Option Members → List Wrong
+tagged_faults key None = wrong WrongType key ∷ []
+tagged_faults key (Some members) = tag_faults key members
 
 -- what is wrong with the value of a key
-abbrev pub value_faults : Shape → Data → List FaultKind
-value_faults Anything value = []
-value_faults (Count row) value = number_faults row.most (as_integer value)
-value_faults (Truth usual) value = unless (is_some (as_bool value)) WrongType
-value_faults (Place usual) value = place_faults (as_str value)
-value_faults (AnyText usual) value = unless (is_some (as_str value)) WrongType
-value_faults (OneOf names) value = name_faults (names_of names) (as_str value)
-value_faults Templates value = templates_faults (texts_in value)
-value_faults Files value = file_faults (texts_in value)
-value_faults (Time row) value = time_faults row.least value
-value_faults Globs value = list_faults (texts_in value)
-value_faults TagGlobs value = tagged_faults (as_table value)
+abbrev pub value_faults : List ℕ → Shape → Data → List Wrong
+value_faults key Anything value = []
+value_faults key (Count row) value = number_faults key row.most (as_integer value)
+value_faults key (Truth usual) value = unless (is_some (as_bool value)) (wrong WrongType key)
+value_faults key (Place usual) value = place_faults key (as_str value)
+value_faults key (AnyText usual) value = unless (is_some (as_str value)) (wrong WrongType key)
+value_faults key (OneOf names) value = name_faults key (names_of names) (as_str value)
+value_faults key Templates value = templates_faults key (texts_in value)
+value_faults key Files value = file_faults key (texts_in value)
+value_faults key (Time row) value = time_faults key row.least value
+value_faults key Globs value = list_faults key (texts_in value)
+value_faults key TagGlobs value = tagged_faults key (as_table value)
 
 -- ---- tables
 
 -- what is wrong with one key: it isn't known, or its value is wrong
-abbrev pub key_faults : Option Shape → Data → List FaultKind
-key_faults None value = UnknownKey ∷ []
-key_faults (Some shape) value = value_faults shape value
+abbrev pub key_faults : List ℕ → Option Shape → Data → List Wrong
+key_faults key None value = wrong UnknownKey key ∷ []
+key_faults key (Some shape) value = value_faults key shape value
 
 -- what is wrong with a key of a table
-unfoldable pub entry_faults : Keys → List ℕ → Data → List FaultKind
-entry_faults keys key value = key_faults (row_of keys key) value
+unfoldable pub entry_faults : Keys → List ℕ → Data → List Wrong
+entry_faults keys key value = key_faults key (row_of keys key) value
 
 -- what is wrong with the keys of a table, in order
-abbrev pub keys_faults : Keys → Members → List FaultKind
+abbrev pub keys_faults : Keys → Members → List Wrong
 keys_faults keys no_members = []
 keys_faults keys (member key value members) = entry_faults keys key value ++ keys_faults keys members
 
 -- a global tag: a text under a key that isn't empty
-abbrev pub global_tag_faults : List ℕ → Option (List ℕ) → List FaultKind
-global_tag_faults key None = WrongType ∷ []
-global_tag_faults key (Some text) = unless (not (length key == 0)) OutOfRange
+abbrev pub global_tag_faults : List ℕ → Option (List ℕ) → List Wrong
+global_tag_faults key None = wrong WrongType key ∷ []
+global_tag_faults key (Some text) = unless (not (length key == 0)) (wrong OutOfRange key)
 
-abbrev pub global_faults : Members → List FaultKind
+abbrev pub global_faults : Members → List Wrong
 global_faults no_members = []
 global_faults (member key value members) = global_tag_faults key (as_str value) ++ global_faults members
 
@@ -191,53 +193,53 @@ abbrev pub plugins_of : Members → List Plugin
 plugins_of no_members = []
 plugins_of (member name value members) = of_kind name value (as_array value) ++ plugins_of members
 
--- faults at one place
-abbrev pub at : Class → ℕ → List FaultKind → List Fault
-at class number kinds = map (λ kind. record { kind = kind; class = class; number = number }) kinds
-
 -- the faults of each plugin, from a number on
-abbrev pub numbered : Class → (Plugin → List FaultKind) → ℕ → List Plugin → List Fault
+abbrev pub numbered : Class → (Plugin → List Wrong) → ℕ → List Plugin → List Found
 numbered class faults number [] = []
 numbered class faults number (plugin ∷ plugins) =
     at class number (faults plugin) ++ numbered class faults (number + 1) plugins
 
 -- a kind that the class hasn't
-abbrev pub unknown_faults : Class → Plugin → List FaultKind
-unknown_faults class plugin = unless (is_some (kind_of class plugin.name)) UnknownKind
+abbrev pub unknown_faults : Class → Plugin → List Wrong
+unknown_faults class plugin = unless (is_some (kind_of class plugin.name)) (wrong UnknownKind plugin.name)
 
-unfoldable pub agent_faults : Members → List FaultKind
+unfoldable pub agent_faults : Members → List Wrong
 agent_faults agent = keys_faults tables.Agent agent ++ limits_faults (agent_limits agent)
 
 -- keys that are needed and aren't there
-abbrev pub missing_faults : List (List ℕ) → Members → List FaultKind
+abbrev pub missing_faults : List (List ℕ) → Members → List Wrong
 missing_faults [] _ = []
 missing_faults (key ∷ keys) members =
-    unless (is_some (get_member key members)) Missing ++ missing_faults keys members
+    unless (is_some (get_member key members)) (wrong Missing key) ++ missing_faults keys members
 
 -- the faults of a table that is a plugin of a kind: its keys in order, then keys that it lacks, then its own
-abbrev pub kind_faults : Kind → Limits → Members → List FaultKind
+abbrev pub kind_faults : Kind → Limits → Members → List Wrong
 kind_faults kind limits members =
     keys_faults (tables.Plugin kind) members ++ (missing_faults (needs kind) members ++ own_faults kind limits members)
 
 -- the faults of a plugin, where its kind is known
-abbrev pub faults_by : Option Kind → Limits → Option Members → List FaultKind
+abbrev pub faults_by : Option Kind → Limits → Option Members → List Wrong
 faults_by None _ _ = []
-faults_by (Some kind) limits None = WrongType ∷ []
+faults_by (Some kind) limits None = whole WrongType false ∷ []
 faults_by (Some kind) limits (Some members) = kind_faults kind limits members
 
-unfoldable pub plugin_faults : Class → Limits → Plugin → List FaultKind
+unfoldable pub plugin_faults : Class → Limits → Plugin → List Wrong
 plugin_faults class limits plugin = faults_by (kind_of class plugin.name) limits (as_table plugin.value)
 
 -- the most plugins of a class
 abbrev pub most_plugins : ℕ
 most_plugins = 16
 
+-- those of them that may be there: what is behind them is too many, and isn't looked at
+abbrev pub few : List Plugin → List Plugin
+few plugins = take most_plugins plugins
+
 -- the faults of a class: too many plugins, then unknown kinds by number, then each known plugin by number
-unfoldable pub class_faults : Class → Limits → List Plugin → List Fault
+unfoldable pub class_faults : Class → Limits → List Plugin → List Found
 class_faults class limits plugins =
-    at class most_plugins (unless (nat_le (length plugins) most_plugins) TooManyPlugins)
-    ++ (numbered class (unknown_faults class) 0 plugins
-    ++ numbered class (plugin_faults class limits) 0 plugins)
+    at class most_plugins (unless (nat_le (length plugins) most_plugins) (whole TooManyPlugins false))
+    ++ (numbered class (unknown_faults class) 0 (few plugins)
+    ++ numbered class (plugin_faults class limits) 0 (few plugins))
 
 -- ---- places
 
@@ -260,16 +262,29 @@ place_by (Some kind) members = only_text_at (place_key kind) members
 abbrev pub place_of : Class → Plugin → List ℕ
 place_of class plugin = place_by (kind_of class plugin.name) (members_in (as_table plugin.value))
 
+-- does a place stand among others
+abbrev pub stands_in : List (List ℕ) → List ℕ → Bool
+stands_in places place = list_any (λ other. bytes_eq other place) places
+
+-- does that a place stands among those before it only follow: no value says it, or the first of them, which is that of
+-- the journal, stands for a faulty one, and no other is the same
+abbrev pub only_follows : Bool → List (List ℕ) → List ℕ → Bool
+only_follows faulty before place = length place == 0 || (faulty && not (stands_in (drop 1 before) place))
+
 -- the places that stand already among those before them, by number
-abbrev pub same_faults : Class → ℕ → List (List ℕ) → List (List ℕ) → List Fault
-same_faults class number before [] = []
-same_faults class number before (place ∷ places) =
-    at class number (unless (not (list_any (λ other. bytes_eq other place) before)) SamePlace)
-    ++ same_faults class (number + 1) (before ++ place ∷ []) places
+abbrev pub same_faults : Class → ℕ → Bool → List (List ℕ) → List (List ℕ) → List Found
+same_faults class number faulty before [] = []
+same_faults class number faulty before (place ∷ places) =
+    at class number (unless (not (stands_in before place)) (whole SamePlace (only_follows faulty before place)))
+    ++ same_faults class (number + 1) faulty (before ++ place ∷ []) places
 
 -- the place of the journal
 abbrev pub journal_of : Members → List ℕ
 journal_of agent = text_at tables.Agent (codes "journal") agent
+
+-- does it stand for a value that is no text
+abbrev pub is_journal_faulty : Members → Bool
+is_journal_faulty agent = is_no_text (get_member (codes "journal") agent)
 
 -- ---- the whole
 
@@ -292,18 +307,18 @@ classes_of root = record {
 }
 
 -- the keys of the root that aren't known
-abbrev pub root_key_faults : Members → List FaultKind
+abbrev pub root_key_faults : Members → List Wrong
 root_key_faults no_members = []
-root_key_faults (member key value root) = unless (is_root_key key) UnknownKey ++ root_key_faults root
+root_key_faults (member key value root) = unless (is_root_key key) (wrong UnknownKey key) ++ root_key_faults root
 
 -- the values of the root that are no table
-abbrev pub root_value_faults : Members → List FaultKind
+abbrev pub root_value_faults : Members → List Wrong
 root_value_faults no_members = []
 root_value_faults (member key value root) =
-    unless (is_some (as_table value)) WrongType ++ root_value_faults root
+    unless (is_some (as_table value)) (wrong WrongType key) ++ root_value_faults root
 
 -- the faults of the root and of the tables that aren't classes of plugins
-abbrev pub table_faults : Members → List Fault
+abbrev pub table_faults : Members → List Found
 table_faults root =
     at Root 0 (root_key_faults root)
     ++ (at Root 0 (root_value_faults root)
@@ -311,7 +326,7 @@ table_faults root =
     ++ at GlobalTags 0 (global_faults (table_at (codes "global_tags") root))))
 
 -- the faults of the classes of plugins
-abbrev pub classes_faults : Limits → Classes → List Fault
+abbrev pub classes_faults : Limits → Classes → List Found
 classes_faults limits classes =
     class_faults Inputs limits classes.inputs
     ++ (class_faults Processors limits classes.processors
@@ -319,23 +334,24 @@ classes_faults limits classes =
     ++ class_faults Outputs limits classes.outputs))
 
 -- a class without a plugin that needs one
-abbrev pub none_faults : List Plugin → FaultKind → List Fault
-none_faults plugins kind = at Root 0 (unless (not (length plugins == 0)) kind)
+abbrev pub none_faults : List Plugin → FaultKind → List Found
+none_faults plugins kind = at Root 0 (unless (not (length plugins == 0)) (whole kind false))
 
 -- the faults of classes beside others: none has a plugin, or two have one place
-abbrev pub beside_faults : List ℕ → Classes → List Fault
-beside_faults journal classes =
+abbrev pub beside_faults : Members → Classes → List Found
+beside_faults agent classes =
     none_faults classes.inputs NoInput
     ++ (none_faults classes.outputs NoOutput
-    ++ (same_faults Inputs 0 [] (map (place_of Inputs) classes.inputs)
-    ++ same_faults Outputs 0 (journal ∷ []) (map (place_of Outputs) classes.outputs)))
+    ++ (same_faults Inputs 0 false [] (map (place_of Inputs) (few classes.inputs))
+    ++ same_faults Outputs 0 (is_journal_faulty agent) (journal_of agent ∷ [])
+    (map (place_of Outputs) (few classes.outputs))))
 
 -- the faults of a text that is TOML, in order
-abbrev pub faults_of : Members → List Fault
+abbrev pub faults_of : Members → List Found
 faults_of root =
     table_faults root
     ++ (classes_faults (agent_limits (table_at (codes "agent") root)) (classes_of root)
-    ++ beside_faults (journal_of (table_at (codes "agent") root)) (classes_of root))
+    ++ beside_faults (table_at (codes "agent") root) (classes_of root))
 
 -- 1 MiB, the longest text that is read
 abbrev pub longest_text : ℕ
@@ -345,10 +361,14 @@ longest_text = 1048576
 abbrev pub tree_of : List ℕ → Option Members
 tree_of text = if nat_le (length text) longest_text && is_utf8 text then parse_document text else None
 
--- the faults of a tree, or NotToml alone
+-- what is found in a tree, or NotToml alone
+abbrev pub found_in : Option Members → List Found
+found_in None = at Root 0 (whole NotToml false ∷ [])
+found_in (Some root) = faults_of root
+
+-- the faults of a tree
 abbrev pub tree_faults : Option Members → List Fault
-tree_faults None = at Root 0 (NotToml ∷ [])
-tree_faults (Some root) = faults_of root
+tree_faults tree = map fault_of (found_in tree)
 
 -- the same as they are told
 abbrev pub faults_in : Option Members → List ConfigFault

@@ -3,6 +3,7 @@ use Rattle.std.specs.Prelude.{ℕ, List, if◌then◌else◌, Option, Some, None
 use Rattle.std.specs.Prelude.{option_and_then}
 use Rattle.toml.specs.Data.{Data, Members, as_str, as_table, member, no_members}
 use Rattle.agent_config.specs.Faults.{Plugin, entry_faults, first, global_tag_faults, plugins_at, tree_of}
+use Rattle.agent_config.specs.Found.{Wrong, wrong}
 use Rattle.agent_config.specs.Keys.{is_root_key}
 use Rattle.agent_config.specs.Kinds.{keys_of}
 use Rattle.agent_config.specs.Rows.{table_at}
@@ -13,13 +14,12 @@ use Rattle.agent_config.specs.declared.fault.Class.TheVariants.{Outputs, Process
 use Rattle.agent_config.specs.declared.fault.ConfigFault.{ConfigFault}
 use Rattle.agent_config.specs.declared.fault.ConfigKind.{ConfigKind}
 use Rattle.agent_config.specs.declared.fault.ConfigKind.TheVariants.{TooManyPlugins, UnknownKind}
-use Rattle.agent_config.specs.declared.fault.FaultKind.{FaultKind}
 use Rattle.agent_config.specs.declared.fault.FaultKind.TheVariants.{UnknownKey, WrongType}
 use Rattle.agent_config.specs.declared.table.Keys.{Keys}
 use Rattle.agent_config.specs.declared.table.Keys.TheVariants as tables
 
 -- the first key of a table that has a fault
-abbrev pub faulty_key : (List ℕ → Data → List FaultKind) → Members → Option (List ℕ)
+abbrev pub faulty_key : (List ℕ → Data → List Wrong) → Members → Option (List ℕ)
 faulty_key faults no_members = None
 faulty_key faults (member key value members) =
     if is_some (first (faults key value)) then Some key else faulty_key faults members
@@ -30,16 +30,16 @@ either_key None second = second
 either_key (Some key) second = Some key
 
 -- the fault of a key of the root that isn't known, and of one whose value is no table
-abbrev pub unknown_root_key : List ℕ → Data → List FaultKind
-unknown_root_key key value = unless (is_root_key key) UnknownKey
+abbrev pub unknown_root_key : List ℕ → Data → List Wrong
+unknown_root_key key value = unless (is_root_key key) (wrong UnknownKey key)
 
-abbrev pub no_root_table : List ℕ → Data → List FaultKind
-no_root_table key value = unless (is_some (as_table value)) WrongType
+abbrev pub no_root_table : List ℕ → Data → List Wrong
+no_root_table key value = unless (is_some (as_table value)) (wrong WrongType key)
 
 abbrev pub root_key : Members → Option (List ℕ)
 root_key root = either_key (faulty_key unknown_root_key root) (faulty_key no_root_table root)
 
-abbrev pub global_entry : List ℕ → Data → List FaultKind
+abbrev pub global_entry : List ℕ → Data → List Wrong
 global_entry key value = global_tag_faults key (as_str value)
 
 abbrev pub key_in_table : Keys → Option Members → Option (List ℕ)

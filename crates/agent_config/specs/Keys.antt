@@ -88,7 +88,7 @@ read_format_key key =
     if bytes_eq key (codes "data_format") then Some (OneOf ReadFormats)
     else if bytes_eq key (codes "templates") then Some Templates
     else if bytes_eq key (codes "separator") then Some (AnyText Point)
-    else if bytes_eq key (codes "type_tag") then Some (Truth false)
+    else if is_one_of (codes "type_tag" ∷ codes "pass_out_of_range" ∷ []) key then Some (Truth false)
     else plugin_key key
 
 -- what a key of an input of a file takes

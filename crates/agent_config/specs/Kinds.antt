@@ -1,14 +1,14 @@
 -- The kinds of plugins: by which class and name each is known, which keys it has and needs, where its place is, and
 -- which faults are its own.
-use Rattle.std.specs.Prelude.{ℕ, ℤ, Bool, List, [], ◌∷◌, codes, nat_le, Option, Some, None, if◌then◌else◌}
+use Rattle.std.specs.Prelude.{◌||◌, ℕ, ℤ, Bool, false, List, [], ◌∷◌, codes, nat_le, Option, Some, None, if◌then◌else◌}
 use Rattle.std.specs.Str.{bytes_eq}
-use Rattle.toml.specs.Data.{Members}
+use Rattle.toml.specs.Data.{Members, get_member}
+use Rattle.agent_config.specs.Found.{Wrong, whole}
 use Rattle.agent_config.specs.Keys.{agent_key, file_input_key, file_output_key}
-use Rattle.agent_config.specs.Rows.{count_row, row_number, row_text, row_time, row_truth, usual_of}
+use Rattle.agent_config.specs.Rows.{count_row, faulty_by, row_number, row_text, row_time, row_truth, usual_of}
 use Rattle.agent_config.specs.Unless.{unless}
 use Rattle.agent_config.specs.declared.fault.Class.{Class}
 use Rattle.agent_config.specs.declared.fault.Class.TheVariants.{Inputs, Outputs}
-use Rattle.agent_config.specs.declared.fault.FaultKind.{FaultKind}
 use Rattle.agent_config.specs.declared.fault.FaultKind.TheVariants.{BatchAboveLimit}
 use Rattle.agent_config.specs.declared.shapes.Shape.{Shape}
 use Rattle.agent_config.specs.declared.table.Keys.{Keys}
@@ -65,6 +65,10 @@ row_of Unknown key = None
 unfoldable pub number_at : Keys → List ℕ → ℕ → Members → ℕ
 number_at keys key other members = row_number (row_of keys key) key other members
 
+-- is the value at a key none that its row of a number takes; another answer where there is no value
+unfoldable pub is_faulty_at : Keys → List ℕ → Bool → Members → Bool
+is_faulty_at keys key other members = faulty_by (count_row (row_of keys key)) other (get_member key members)
+
 -- the number at a key of the table `agent`
 unfoldable pub agent_number : List ℕ → Members → ℕ
 agent_number key agent = number_at Agent key (usual_of (count_row (row_of Agent key))) agent
@@ -88,6 +92,8 @@ abbrev pub agent_limits : Members → Limits
 agent_limits agent = record {
   batch = agent_number (codes "metric_batch_size") agent;
   limit = agent_number (codes "metric_buffer_limit") agent;
+  batch_faulty = is_faulty_at Agent (codes "metric_batch_size") false agent;
+  limit_faulty = is_faulty_at Agent (codes "metric_buffer_limit") false agent;
 }
 
 -- those of an output with these keys
@@ -95,15 +101,18 @@ abbrev pub own_limits : Keys → Limits → Members → Limits
 own_limits keys limits members = record {
   batch = number_at keys (codes "metric_batch_size") limits.batch members;
   limit = number_at keys (codes "metric_buffer_limit") limits.limit members;
+  batch_faulty = is_faulty_at keys (codes "metric_batch_size") limits.batch_faulty members;
+  limit_faulty = is_faulty_at keys (codes "metric_buffer_limit") limits.limit_faulty members;
 }
 
--- may a batch hold more metrics than the buffer
-abbrev pub limits_faults : Limits → List FaultKind
-limits_faults limits = unless (nat_le limits.batch limits.limit) BatchAboveLimit
+-- may a batch hold more metrics than the buffer; that only follows where one of the sizes stands for a faulty one
+abbrev pub limits_faults : Limits → List Wrong
+limits_faults limits =
+    unless (nat_le limits.batch limits.limit) (whole BatchAboveLimit (limits.batch_faulty || limits.limit_faulty))
 
 -- ---- the faults of a kind
 
 -- the faults of a plugin of a kind that no key of it has alone
-abbrev pub own_faults : Kind → Limits → Members → List FaultKind
+abbrev pub own_faults : Kind → Limits → Members → List Wrong
 own_faults FileInput _ _ = []
 own_faults FileOutput limits members = limits_faults (own_limits (Plugin FileOutput) limits members)

@@ -1,8 +1,11 @@
 pub mod Durations
 pub mod Faults
 pub mod FaultyKey
+pub mod Found
 pub mod Keys
 pub mod Kinds
+pub mod Listed
+pub mod Naming
 pub mod Pairs
 pub mod Plugins
 pub mod Reading

@@ -1,5 +1,5 @@
 -- What stands at a key, by the key's row.
-use Rattle.std.specs.Prelude.{◌&&◌, ℕ, ℤ, pos, negsuc, Bool, false, List, [], nat_le, int_le, Option, Some, None}
+use Rattle.std.specs.Prelude.{◌&&◌, ℕ, ℤ, pos, negsuc, Bool, false, not, List, [], nat_le, int_le, Option, Some, None}
 use Rattle.std.specs.Prelude.{is_some, option_and_then, option_map, unwrap_or, if◌then◌else◌}
 use Rattle.toml.specs.Data.{Data, Members, no_members, get_member, as_bool, as_integer, as_str, as_table}
 use Rattle.agent_config.specs.Durations.{time_of_text, time_of_seconds}
@@ -35,6 +35,20 @@ number_by (Some row) other number = counted_or row.most other number
 abbrev pub row_number : Option Shape → List ℕ → ℕ → Members → ℕ
 row_number row key other members =
     number_by (count_row row) other (option_and_then as_integer (get_member key members))
+
+-- is there a whole number, from 1 to a greatest one
+abbrev pub is_number : ℕ → Option ℤ → Bool
+is_number most None = false
+is_number most (Some n) = is_counted most n
+
+-- is a value none that a row of a number takes; where there is no value, another answer
+abbrev pub faulty_or : ℕ → Bool → Option Data → Bool
+faulty_or most other None = other
+faulty_or most other (Some value) = not (is_number most (as_integer value))
+
+abbrev pub faulty_by : Option CountRow → Bool → Option Data → Bool
+faulty_by None other value = other
+faulty_by (Some row) other value = faulty_or row.most other value
 
 -- what a number is where nothing is said
 abbrev pub usual_of : Option CountRow → ℕ
@@ -99,6 +113,11 @@ text_or key other members = unwrap_or (option_and_then as_str (get_member key me
 -- the text at a key of a row
 abbrev pub row_text : Option Shape → List ℕ → Members → List ℕ
 row_text row key members = text_or key (usual_text row) members
+
+-- is a value no text
+abbrev pub is_no_text : Option Data → Bool
+is_no_text None = false
+is_no_text (Some value) = not (is_some (as_str value))
 
 -- the members of a value that is a table; no others have any
 abbrev pub members_in : Option Members → Members

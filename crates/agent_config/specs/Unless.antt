@@ -1,7 +1,6 @@
--- A fault where something doesn't hold.
+-- One thing of a list, where something doesn't hold.
 use Rattle.std.specs.Prelude.{Bool, true, false, List, [], ◌∷◌}
-use Rattle.agent_config.specs.declared.fault.FaultKind.{FaultKind}
 
-abbrev pub unless : Bool → FaultKind → List FaultKind
-unless true fault = []
-unless false fault = fault ∷ []
+abbrev pub unless : {X : Type 0} → Bool → X → List X
+unless true x = []
+unless false x = x ∷ []

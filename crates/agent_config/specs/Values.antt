@@ -108,12 +108,17 @@ format_name keys members = text_at keys (codes "data_format") members
 abbrev pub graphite_at : Keys → Members → InFormat
 graphite_at keys members = read.Graphite (templates_at members) (text_at keys (codes "separator") members)
 
+-- expositions, with what an input says of them
+abbrev pub openmetrics_at : Keys → Members → InFormat
+openmetrics_at keys members =
+    read.Openmetrics (truth_at keys (codes "type_tag") members) (truth_at keys (codes "pass_out_of_range") members)
+
 -- the format of this name that is read; Influx where no other has the name
 unfoldable pub in_format : Keys → List ℕ → Members → InFormat
 in_format keys name members =
     if bytes_eq name (codes "statsd") then read.Statsd
     else if bytes_eq name (codes "graphite") then graphite_at keys members
-    else if bytes_eq name (codes "openmetrics") then read.Openmetrics (truth_at keys (codes "type_tag") members)
+    else if bytes_eq name (codes "openmetrics") then openmetrics_at keys members
     else read.Influx
 
 -- the format of this name that is written; Influx where no other has the name

@@ -13,7 +13,7 @@ pub struct AgentConf {
     pub final_tries: u32,
     /// Nanoseconds between two flushes.
     pub flush_interval: i64,
-    /// Are flushes put off to whole seconds?
+    /// Do metrics that aggregators make pass the processors by?
     pub skip_second: bool,
     /// May inputs be read side by side?
     pub workers: bool,

@@ -1,6 +1,9 @@
 //! What can be wrong with a configuration.
 ghost use Rattle.std.specs.Prelude.{◌≡◌};
+ghost use Rattle.agent_config.specs.Found.{fault_of, found_view};
 ghost use Rattle.agent_config.specs.Told.{fault_told, kind_told};
+
+use metric::Text;
 
 /// What is wrong.
 #[derive(Clone, Copy, Debug, PartialEq, Eq)]
@@ -68,6 +71,18 @@ pub struct ConfigFault {
     pub number: u32,
 }
 
+/// A fault of a configuration, and what it is about.
+#[derive(Drop)]
+pub struct ListedFault {
+    /// The fault.
+    pub fault: ConfigFault,
+    /// The key that it is about, or the name of a plugin's kind that isn't known. None where it is about a whole
+    /// table, or about more than one.
+    pub key: Option<Text>,
+    /// The text in the key's value that is no glob, or no template.
+    pub text: Option<Text>,
+}
+
 /// What is wrong with a text: each kind but that no memory was left.
 #[derive(Clone, Copy)]
 pub(crate) enum FaultKind {
@@ -130,5 +145,41 @@ impl Fault {
             class: self.class,
             number: self.number,
         }
+    }
+}
+
+/// What is wrong with a table: the key that it is about, the text in its value that is none of what the key takes,
+/// and whether it only follows from another fault.
+#[derive(Clone, Copy)]
+pub(crate) struct Wrong<'a> {
+    /// What is wrong.
+    pub(crate) kind: FaultKind,
+    /// The key, or the name of a plugin's kind; None where it is about a whole table, or about more than one.
+    pub(crate) key: Option<&'a str>,
+    /// The text that is no glob, or no template.
+    pub(crate) text: Option<&'a str>,
+    /// Does it come only of the default in a faulty value's place, or of a place that no value says?
+    pub(crate) follows: bool,
+}
+
+/// What is wrong, and where.
+#[derive(Clone, Copy)]
+pub(crate) struct Found<'a> {
+    /// What is wrong.
+    pub(crate) wrong: Wrong<'a>,
+    /// In which class.
+    pub(crate) class: Class,
+    /// At which plugin.
+    pub(crate) number: u32,
+}
+
+/// The fault, without what it is about.
+pub(crate) fn fault_of(found: &Found) -> Fault
+    ensures { result ≡ fault_of (found_view found.now) }
+{
+    Fault {
+        kind: found.wrong.kind,
+        class: found.class,
+        number: found.number,
     }
 }

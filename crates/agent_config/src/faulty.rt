@@ -1,8 +1,8 @@
 //! The key that a fault of a configuration is about.
-ghost use Rattle.std.specs.Prelude.{◌≡◌, IfOk, codes, option_map, slice_get, string_bytes};
+ghost use Rattle.std.specs.Prelude.{◌≡◌, IfOk, codes, is_some, option_map, slice_get, string_bytes};
 ghost use Rattle.toml.specs.Data.{as_table, no_members};
 ghost use Rattle.toml.specs.View.{table_view, view};
-ghost use Rattle.agent_config.specs.Faults.{entry_faults, plugins_of};
+ghost use Rattle.agent_config.specs.Faults.{entry_faults, first, plugins_of};
 ghost use Rattle.agent_config.specs.FaultyKey.{faulty_key, global_entry, key_at, key_in_class, key_of};
 ghost use Rattle.agent_config.specs.FaultyKey.{key_in_table, key_of_plugin, no_root_table, root_key};
 ghost use Rattle.agent_config.specs.FaultyKey.{unknown_root_key};
@@ -13,7 +13,7 @@ use crate::fault::{Class, ConfigFault, ConfigKind};
 use crate::plugins::{Plugin, plugins_of};
 use crate::read::tree_of;
 use crate::table::{Keys, keys_of};
-use crate::table_faults::{global_tag_fault, key_fault};
+use crate::table_faults::add_key_faults;
 use crate::tables::table_at;
 use fixed_num::OutOfMemory;
 use std::alloc::Global;
@@ -67,11 +67,20 @@ fn key_in<'a>(alloc: Global, keys: &Keys, table: &'a Table) -> Result<Option<&'a
         ≡ faulty_key (entry_faults keys.now) (table_view table.now)) }
 {
     for (key, value) in table.iter() {
-        if key_fault(alloc, keys, key.as_str(), value)?.is_some() {
+        if is_key_faulty(alloc, keys, key.as_str(), value)? {
             return Ok(Some(key.as_str()));
         }
     }
     Ok(None)
+}
+
+/// Has a key a fault?
+fn is_key_faulty(alloc: Global, keys: &Keys, key: &str, value: &Value) -> Result<bool, OutOfMemory>
+    ensures { IfOk result (λ faulty. faulty ≡ is_some (first (entry_faults keys.now key.now (view value.now)))) }
+{
+    let mut wrongs = Vec::new(alloc);
+    add_key_faults(alloc, &mut wrongs, keys, key, value)?;
+    Ok(!wrongs.is_empty())
 }
 
 /// The first faulty key of the global tags.
@@ -79,7 +88,7 @@ fn global_key(tags: &Table) -> Option<&str>
     ensures { option_map (λ text. text.now) result ≡ faulty_key global_entry (table_view tags.now) }
 {
     for (key, value) in tags.iter() {
-        if global_tag_fault(key.as_str(), value).is_some() {
+        if key.is_empty() || !value.is_str() {
             return Some(key.as_str());
         }
     }

@@ -34,6 +34,7 @@ pub(crate) fn in_format_at(
         "graphite" => graphite_at(alloc, keys, table),
         "openmetrics" => Ok(InFormat::Openmetrics {
             type_tag: truth_at(keys, table, "type_tag"),
+            pass_out_of_range: truth_at(keys, table, "pass_out_of_range"),
         }),
         _ => Ok(InFormat::Influx),
     }

@@ -1,6 +1,7 @@
 //! Configurations: what a run reads, filters and writes, from a text in TOML.
 #![tactic(auto)]
 
+mod adding;
 mod agent_keys;
 mod class_faults;
 mod config;
@@ -10,9 +11,11 @@ mod faulty;
 mod file_input;
 mod file_output;
 mod filters;
-mod first;
+mod finding;
 mod formats;
 mod laws;
+mod listed;
+mod naming;
 mod places;
 mod plugin_keys;
 mod plugins;
@@ -31,8 +34,10 @@ mod usual;
 mod values;
 
 pub use config::{AgentConf, Config, InputConf, OutputConf};
-pub use fault::{Class, ConfigFault, ConfigKind};
+pub use fault::{Class, ConfigFault, ConfigKind, ListedFault};
 pub use faulty::faulty_key;
 pub use laws::written_counts;
+pub use listed::{TextFaults, text_faults};
+pub use naming::{FaultNames, PluginName, Takes, fault_names, key_takes};
 pub use read::read_config;
-pub use usual::{USUAL_UNDELIVERED, usual_agent};
+pub use usual::{USUAL_UNDELIVERED, usual_agent, usual_journal};

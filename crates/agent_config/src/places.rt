@@ -1,53 +1,66 @@
 //! Places that stand twice.
-ghost use Rattle.std.specs.Prelude.{◌≡◌, ◌≤◌, ◌∷◌, ◌++◌, [], IfOk, drop, length, map, take};
-ghost use Rattle.std.specs.List.{list_any};
-ghost use Rattle.std.specs.Str.{bytes_eq};
+ghost use Rattle.std.specs.Prelude.{◌≡◌, ◌≤◌, ◌∷◌, ◌++◌, [], IfOk, drop, false, length, map, not, take};
 ghost use Rattle.toml.specs.Data.{no_members};
 ghost use Rattle.toml.specs.View.{table_view};
-ghost use Rattle.agent_config.specs.Faults.{first, place_of, same_faults};
+ghost use Rattle.agent_config.specs.Faults.{is_journal_faulty, journal_of, only_follows, place_of};
+ghost use Rattle.agent_config.specs.Faults.{same_faults, stands_in};
+ghost use Rattle.agent_config.specs.Found.{AddsFound, at, whole};
 ghost use Rattle.agent_config.specs.Plugins.{plugin_view, plugins_view};
 ghost use Rattle.agent_config.specs.Seen.{now_of};
+ghost use Rattle.agent_config.specs.Unless.{unless};
 
-use crate::fault::{Class, Fault, FaultKind};
+use crate::adding::add_whole_at;
+use crate::fault::{Class, FaultKind, Found};
 use crate::plugins::Plugin;
 use crate::table::kind_of;
-use crate::tables::{members_in, only_text_at};
+use crate::tables::{is_journal_faulty, journal_of, members_in, only_text_at};
 use fixed_num::OutOfMemory;
 use std::alloc::Global;
 use toml::Table;
 
-/// The first input whose place an earlier one has, as a fault.
-pub(crate) fn same_input<'a>(
+/// Adds the inputs whose place an earlier one has, as faults.
+pub(crate) fn add_same_inputs<'a>(
     alloc: Global,
+    founds: &mut Vec<Found<'a>>,
     inputs: &[Plugin<'a>],
     empty: &'a Table,
-) -> Result<Option<Fault>, OutOfMemory>
+) -> Result<(), OutOfMemory>
     requires empty { table_view empty.now ≡ no_members }
     requires few { length inputs.now ≤ 16 }
-    ensures { IfOk result (λ fault. fault
-        ≡ first (same_faults Class.Inputs 0 [] (map (place_of Class.Inputs) (plugins_view inputs.now)))) }
+    ensures { IfOk result (λ _. AddsFound founds.old.items founds.new.items
+        (same_faults Class.Inputs 0 false [] (map (place_of Class.Inputs) (plugins_view inputs.now)))) }
 {
     let mut places = Vec::new(alloc);
     add_places(&mut places, &Class::Inputs, inputs, empty)?;
-    Ok(same_fault(&Class::Inputs, places.as_slice(), 0))
+    add_same(founds, &Class::Inputs, false, places.as_slice(), 0)?;
+    Ok(())
 }
 
-/// The first output whose place an earlier one has, or the journal, as a fault.
-pub(crate) fn same_output<'a>(
+/// Adds the outputs whose place an earlier one has, or the journal, as faults.
+pub(crate) fn add_same_outputs<'a>(
     alloc: Global,
-    journal: &'a str,
+    founds: &mut Vec<Found<'a>>,
+    agent: &'a Table,
     outputs: &[Plugin<'a>],
     empty: &'a Table,
-) -> Result<Option<Fault>, OutOfMemory>
+) -> Result<(), OutOfMemory>
     requires empty { table_view empty.now ≡ no_members }
     requires few { length outputs.now ≤ 16 }
-    ensures { IfOk result (λ fault. fault
-        ≡ first (same_faults Class.Outputs 0 (journal.now ∷ []) (map (place_of Class.Outputs) (plugins_view outputs.now)))) }
+    ensures { IfOk result (λ _. AddsFound founds.old.items founds.new.items
+        (same_faults Class.Outputs 0 (is_journal_faulty (table_view agent.now)) (journal_of (table_view agent.now) ∷ [])
+        (map (place_of Class.Outputs) (plugins_view outputs.now)))) }
 {
     let mut places = Vec::new(alloc);
-    places.push(journal)?;
+    places.push(journal_of(agent))?;
     add_places(&mut places, &Class::Outputs, outputs, empty)?;
-    Ok(same_fault(&Class::Outputs, places.as_slice(), 1))
+    add_same(
+        founds,
+        &Class::Outputs,
+        is_journal_faulty(agent),
+        places.as_slice(),
+        1,
+    )?;
+    Ok(())
 }
 
 /// The place of a plugin of a class; no text where its kind isn't known.
@@ -78,30 +91,66 @@ fn add_places<'a>(
     Ok(())
 }
 
-/// The first of places, from a number on, that stands already before it, as a fault of the class.
-fn same_fault(class: &Class, places: &[&str], from: usize) -> Option<Fault>
+/// Adds those of places, from a number on, that stand already before them, as faults of the class.
+fn add_same<'a>(
+    founds: &mut Vec<Found<'a>>,
+    class: &Class,
+    faulty: bool,
+    places: &[&str],
+    from: usize,
+) -> Result<(), OutOfMemory>
     requires within { from ≤ length places.now }
     requires few { length places.now ≤ 17 }
-    ensures { result
-        ≡ first (same_faults class.now 0 (now_of (take from places.now)) (now_of (drop from places.now))) }
+    ensures { IfOk result (λ _. AddsFound founds.old.items founds.new.items
+        (same_faults class.now 0 faulty (now_of (take from places.now)) (now_of (drop from places.now)))) }
 {
     let mut number: u32 = 0;
     for at in from..places.len() {
-        if stands_in(&places[..at], places[at]) {
-            return Some(Fault {
-                kind: FaultKind::SamePlace,
-                class: *class,
-                number,
-            });
-        }
+        add_same_at(founds, (class, number), faulty, &places[..at], places[at])?;
         number += 1;
     }
-    None
+    Ok(())
+}
+
+/// Adds the fault of a place, which is that of a plugin, where it stands already among those before it.
+fn add_same_at<'a>(
+    founds: &mut Vec<Found<'a>>,
+    plugin: (&Class, u32),
+    faulty: bool,
+    before: &[&str],
+    place: &str,
+) -> Result<(), OutOfMemory>
+    ensures { IfOk result (λ _. AddsFound founds.old.items founds.new.items
+        (at plugin.entry.0.now plugin.entry.1 (unless (not (stands_in (now_of before.now) place.now))
+        (whole FaultKind.SamePlace (only_follows faulty (now_of before.now) place.now))))) }
+{
+    let (class, number) = plugin;
+    let is_new = !stands_in(before, place);
+    let follows = only_follows(faulty, before, place);
+    add_whole_at(founds, class, number, is_new, FaultKind::SamePlace, follows)?;
+    Ok(())
+}
+
+/// Does that a place stands among those before it only follow from another fault?
+fn only_follows(faulty: bool, before: &[&str], place: &str) -> bool
+    ensures { result ≡ only_follows faulty (now_of before.now) place.now }
+{
+    place.is_empty() || (faulty && !stands_in(behind_first(before), place))
+}
+
+/// All places but the first.
+fn behind_first<'p, 'a>(places: &'p [&'a str]) -> &'p [&'a str]
+    ensures { now_of result.now ≡ drop 1 (now_of places.now) }
+{
+    match places {
+        [_first, rest @ ..] => rest,
+        [] => places,
+    }
 }
 
 /// Is a place one of these?
 fn stands_in(places: &[&str], place: &str) -> bool
-    ensures { result ≡ list_any (λ other. bytes_eq other place.now) (now_of places.now) }
+    ensures { result ≡ stands_in (now_of places.now) place.now }
 {
     for other in places {
         if *other == place {

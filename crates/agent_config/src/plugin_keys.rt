@@ -25,7 +25,7 @@ pub(crate) fn read_format_key(key: &str) -> Option<Shape>
         "data_format" => Some(Shape::OneOf(Names::ReadFormats)),
         "templates" => Some(Shape::Templates),
         "separator" => Some(Shape::AnyText(UsualText::Point)),
-        "type_tag" => Some(Shape::Truth(false)),
+        "type_tag" | "pass_out_of_range" => Some(Shape::Truth(false)),
         _ => plugin_key(key),
     }
 }

@@ -1,8 +1,8 @@
 //! What stands at a key of a table, by the key's row.
 ghost use Rattle.std.specs.Prelude.{◌≡◌, IfOk};
 ghost use Rattle.toml.specs.View.{table_view};
-ghost use Rattle.agent_config.specs.Kinds.{agent_number, number_at, row_of, text_at, time_at, truth_at};
-ghost use Rattle.agent_config.specs.Rows.{count_row, counted_or, is_counted, timed_or, usual_of};
+ghost use Rattle.agent_config.specs.Kinds.{agent_number, is_faulty_at, number_at, row_of, text_at, time_at, truth_at};
+ghost use Rattle.agent_config.specs.Rows.{count_row, counted_or, is_counted, is_number, timed_or, usual_of};
 ghost use Rattle.agent_config.specs.Rows.{text_or, usual_text, usual_truth};
 
 use crate::shapes::{Shape, TimeRow};
@@ -40,6 +40,30 @@ pub(crate) fn number_at(keys: &Keys, table: &Table, key: &str, other: u32) -> u3
     };
     match value_at(table, key) {
         Some(value) => counted_or(value.as_integer(), row.most, other),
+        None => other,
+    }
+}
+
+/// Is there a whole number, from 1 to the greatest one?
+fn is_number(most: u32, number: Option<i64>) -> bool
+    ensures { result ≡ is_number most number }
+{
+    match number {
+        Some(n) => is_counted(most, n),
+        None => false,
+    }
+}
+
+/// Is the value at a key none that its row of a number takes? Another answer where there is no value.
+#[tactic(auto, unfolding(crate::specs::Kinds::is_faulty_at))]
+pub(crate) fn is_faulty_at(keys: &Keys, table: &Table, key: &str, other: bool) -> bool
+    ensures { result ≡ is_faulty_at keys.now key.now other (table_view table.now) }
+{
+    let Some(Shape::Count(row)) = keys.row_of(key) else {
+        return other;
+    };
+    match value_at(table, key) {
+        Some(value) => !is_number(row.most, value.as_integer()),
         None => other,
     }
 }

@@ -1,16 +1,19 @@
 //! The table of the kinds of plugins, and of the keys of each table.
-ghost use Rattle.std.specs.Prelude.{◌≡◌, ◌∷◌, []};
+ghost use Rattle.std.specs.Prelude.{◌≡◌, ◌∷◌, [], IfOk};
 ghost use Rattle.toml.specs.View.{table_view};
-ghost use Rattle.agent_config.specs.Faults.{first, missing_faults};
+ghost use Rattle.agent_config.specs.Faults.{missing_faults};
+ghost use Rattle.agent_config.specs.Found.{Adds};
 ghost use Rattle.agent_config.specs.Kinds.{input_kind, keys_of, kind_key, kind_of, needs, output_kind};
 ghost use Rattle.agent_config.specs.Kinds.{own_faults, place_key, row_of};
 
+use crate::adding::add_unless;
 use crate::agent_keys::agent_key;
-use crate::fault::{Class, FaultKind};
+use crate::fault::{Class, FaultKind, Wrong};
 use crate::file_input::file_input_key;
-use crate::file_output::{file_output_fault, file_output_key};
+use crate::file_output::{add_file_output_faults, file_output_key};
 use crate::shapes::Shape;
 use crate::tables::{Limits, value_at};
+use fixed_num::OutOfMemory;
 use toml::Table;
 
 /// The kinds of plugins.
@@ -65,23 +68,34 @@ impl Kind {
         }
     }
 
-    /// The fault of a plugin of this kind that lacks a key which it needs.
-    pub(crate) fn missing_fault(&self, table: &Table) -> Option<FaultKind>
-        ensures { result ≡ first (missing_faults (needs self.now) (table_view table.now)) }
+    /// Adds the faults of a plugin of this kind that lacks keys which it needs.
+    pub(crate) fn add_missing_faults<'a>(
+        &self,
+        wrongs: &mut Vec<Wrong<'a>>,
+        table: &'a Table,
+    ) -> Result<(), OutOfMemory>
+        ensures { IfOk result (λ _. Adds wrongs.old.items wrongs.new.items
+            (missing_faults (needs self.now) (table_view table.now))) }
     {
         match self {
-            Kind::FileInput => missing(table, "files"),
-            Kind::FileOutput => missing(table, "files"),
+            Kind::FileInput => add_missing(wrongs, table, "files"),
+            Kind::FileOutput => add_missing(wrongs, table, "files"),
         }
     }
 
-    /// The first fault of a plugin of this kind that no key of it has alone.
-    pub(crate) fn own_fault(&self, limits: &Limits, table: &Table) -> Option<FaultKind>
-        ensures { result ≡ first (own_faults self.now limits.now (table_view table.now)) }
+    /// Adds the faults of a plugin of this kind that no key of it has alone.
+    pub(crate) fn add_own_faults<'a>(
+        &self,
+        wrongs: &mut Vec<Wrong<'a>>,
+        limits: &Limits,
+        table: &'a Table,
+    ) -> Result<(), OutOfMemory>
+        ensures { IfOk result (λ _. Adds wrongs.old.items wrongs.new.items
+            (own_faults self.now limits.now (table_view table.now))) }
     {
         match self {
-            Kind::FileInput => None,
-            Kind::FileOutput => file_output_fault(limits, table),
+            Kind::FileInput => Ok(()),
+            Kind::FileOutput => add_file_output_faults(wrongs, limits, table),
         }
     }
 
@@ -96,15 +110,18 @@ impl Kind {
     }
 }
 
-/// The fault of a table that lacks a key which it needs.
-fn missing(table: &Table, key: &str) -> Option<FaultKind>
-    ensures { result ≡ first (missing_faults (key.now ∷ []) (table_view table.now)) }
+/// Adds the fault of a table that lacks a key which it needs.
+fn add_missing<'a>(
+    wrongs: &mut Vec<Wrong<'a>>,
+    table: &'a Table,
+    key: &'a str,
+) -> Result<(), OutOfMemory>
+    ensures { IfOk result (λ _. Adds wrongs.old.items wrongs.new.items
+        (missing_faults (key.now ∷ []) (table_view table.now))) }
 {
-    if value_at(table, key).is_some() {
-        None
-    } else {
-        Some(FaultKind::Missing)
-    }
+    let is_there = value_at(table, key).is_some();
+    add_unless(wrongs, is_there, FaultKind::Missing, key)?;
+    Ok(())
 }
 
 /// Which table the keys are of.

@@ -2,11 +2,11 @@
 ghost use Rattle.std.specs.Prelude.{◌≡◌, option_map, option_and_then};
 ghost use Rattle.toml.specs.Data.{as_array, as_str, as_table, get_member, no_members};
 ghost use Rattle.toml.specs.View.{items_view, table_view, view};
-ghost use Rattle.agent_config.specs.Faults.{journal_of, only_item, only_text_at};
+ghost use Rattle.agent_config.specs.Faults.{is_journal_faulty, journal_of, only_item, only_text_at};
 ghost use Rattle.agent_config.specs.Kinds.{agent_limits, own_limits};
 ghost use Rattle.agent_config.specs.Rows.{members_in, table_at};
 
-use crate::rows::{agent_number, number_at, text_at};
+use crate::rows::{agent_number, is_faulty_at, number_at, text_at};
 use crate::table::Keys;
 use toml::{Table, Value};
 
@@ -17,6 +17,10 @@ pub(crate) struct Limits {
     pub(crate) batch: u32,
     /// At most so many metrics are buffered.
     pub(crate) limit: u32,
+    /// Does the batch size stand for a faulty value?
+    pub(crate) batch_faulty: bool,
+    /// Does the buffer limit?
+    pub(crate) limit_faulty: bool,
 }
 
 /// What stands at a key.
@@ -55,6 +59,8 @@ pub(crate) fn agent_limits(agent: &Table) -> Limits
     Limits {
         batch: agent_number(agent, "metric_batch_size"),
         limit: agent_number(agent, "metric_buffer_limit"),
+        batch_faulty: is_faulty_at(&Keys::Agent, agent, "metric_batch_size", false),
+        limit_faulty: is_faulty_at(&Keys::Agent, agent, "metric_buffer_limit", false),
     }
 }
 
@@ -65,6 +71,8 @@ pub(crate) fn own_limits(keys: &Keys, limits: &Limits, table: &Table) -> Limits
     Limits {
         batch: number_at(keys, table, "metric_batch_size", limits.batch),
         limit: number_at(keys, table, "metric_buffer_limit", limits.limit),
+        batch_faulty: is_faulty_at(keys, table, "metric_batch_size", limits.batch_faulty),
+        limit_faulty: is_faulty_at(keys, table, "metric_buffer_limit", limits.limit_faulty),
     }
 }
 
@@ -73,6 +81,16 @@ pub(crate) fn journal_of(agent: &Table) -> &str
     ensures { result.now ≡ journal_of (table_view agent.now) }
 {
     text_at(&Keys::Agent, agent, "journal")
+}
+
+/// Does the place of the journal stand for a value that is no text?
+pub(crate) fn is_journal_faulty(agent: &Table) -> bool
+    ensures { result ≡ is_journal_faulty (table_view agent.now) }
+{
+    match value_at(agent, "journal") {
+        Some(value) => !value.is_str(),
+        None => false,
+    }
 }
 
 /// The only item of a list.

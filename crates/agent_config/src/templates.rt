@@ -1,11 +1,13 @@
 //! The templates that texts spell.
 ghost use Rattle.std.specs.Prelude.{◌≡◌, ◌++◌, IfOk, option_to_list};
 ghost use Rattle.toml.specs.View.{table_view, view};
-ghost use Rattle.agent_config.specs.Faults.{first, template_faults, template_in, texts_in};
+ghost use Rattle.agent_config.specs.Faults.{template_faults, template_in, texts_in};
+ghost use Rattle.agent_config.specs.Found.{Adds};
 ghost use Rattle.agent_config.specs.Seen.{now_of};
 ghost use Rattle.agent_config.specs.Values.{templates_at, templates_in, templates_of};
 
-use crate::fault::FaultKind;
+use crate::adding::add_text_unless;
+use crate::fault::{FaultKind, Wrong};
 use crate::tables::value_at;
 use crate::texts::texts_in;
 use fixed_num::{OutOfMemory, Seq};
@@ -25,19 +27,20 @@ fn read_template(alloc: Global, text: &str) -> Result<Option<Template>, OutOfMem
     }
 }
 
-/// The first fault of a list of templates.
-pub(crate) fn template_fault(
+/// Adds the faults of a list of templates.
+pub(crate) fn add_template_faults<'a>(
     alloc: Global,
-    texts: &[&str],
-) -> Result<Option<FaultKind>, OutOfMemory>
-    ensures { IfOk result (λ fault. fault ≡ first (template_faults (now_of texts.now))) }
+    wrongs: &mut Vec<Wrong<'a>>,
+    key: &'a str,
+    texts: &[&'a str],
+) -> Result<(), OutOfMemory>
+    ensures { IfOk result (λ _. Adds wrongs.old.items wrongs.new.items (template_faults key.now (now_of texts.now))) }
 {
     for text in texts {
-        if read_template(alloc, text)?.is_none() {
-            return Ok(Some(FaultKind::BadTemplate));
-        }
+        let is_template = read_template(alloc, text)?.is_some();
+        add_text_unless(wrongs, is_template, FaultKind::BadTemplate, key, text)?;
     }
-    Ok(None)
+    Ok(())
 }
 
 /// The templates of an input, in order.

@@ -2,10 +2,12 @@
 ghost use Rattle.std.specs.Prelude.{◌≡◌, IfOk, option_map, chars};
 ghost use Rattle.toml.specs.View.{items_view, view};
 ghost use Rattle.metric.specs.Glob.{glob_of};
-ghost use Rattle.agent_config.specs.Faults.{first, glob_faults, texts_in, texts_of};
+ghost use Rattle.agent_config.specs.Faults.{glob_faults, texts_in, texts_of};
+ghost use Rattle.agent_config.specs.Found.{Adds};
 ghost use Rattle.agent_config.specs.Seen.{now_of};
 
-use crate::fault::FaultKind;
+use crate::adding::add_text_unless;
+use crate::fault::{FaultKind, Wrong};
 use fixed_num::OutOfMemory;
 use metric::{Glob, GlobFault};
 use std::alloc::Global;
@@ -50,14 +52,18 @@ pub(crate) fn read_glob(alloc: Global, text: &str) -> Result<Option<Glob>, OutOf
     }
 }
 
-/// The first fault of a list of globs.
-pub(crate) fn glob_fault(alloc: Global, texts: &[&str]) -> Result<Option<FaultKind>, OutOfMemory>
-    ensures { IfOk result (λ fault. fault ≡ first (glob_faults (now_of texts.now))) }
+/// Adds the faults of a list of globs.
+pub(crate) fn add_glob_faults<'a>(
+    alloc: Global,
+    wrongs: &mut Vec<Wrong<'a>>,
+    key: &'a str,
+    texts: &[&'a str],
+) -> Result<(), OutOfMemory>
+    ensures { IfOk result (λ _. Adds wrongs.old.items wrongs.new.items (glob_faults key.now (now_of texts.now))) }
 {
     for text in texts {
-        if read_glob(alloc, text)?.is_none() {
-            return Ok(Some(FaultKind::BadGlob));
-        }
+        let is_glob = read_glob(alloc, text)?.is_some();
+        add_text_unless(wrongs, is_glob, FaultKind::BadGlob, key, text)?;
     }
-    Ok(None)
+    Ok(())
 }

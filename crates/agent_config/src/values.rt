@@ -2,105 +2,139 @@
 ghost use Rattle.std.specs.Prelude.{◌≡◌, IfOk};
 ghost use Rattle.toml.specs.Data.{as_str, as_table};
 ghost use Rattle.toml.specs.View.{table_view, view};
-ghost use Rattle.agent_config.specs.Faults.{file_faults, first, list_faults, listed_faults, name_faults};
+ghost use Rattle.agent_config.specs.Faults.{file_faults, list_faults, listed_faults, name_faults};
 ghost use Rattle.agent_config.specs.Faults.{number_faults, place_faults, tag_faults, tagged_faults};
 ghost use Rattle.agent_config.specs.Faults.{templates_faults, texts_in, time_faults, value_faults};
+ghost use Rattle.agent_config.specs.Found.{Adds};
 ghost use Rattle.agent_config.specs.Keys.{names_of};
 ghost use Rattle.agent_config.specs.Rows.{is_long_enough};
-ghost use Rattle.agent_config.specs.Unless.{unless};
 
-use crate::fault::FaultKind;
+use crate::adding::{add_unless, add_wrong};
+use crate::fault::{FaultKind, Wrong};
 use crate::rows::is_counted;
 use crate::shapes::{Names, Shape, TimeRow};
-use crate::templates::template_fault;
-use crate::texts::{glob_fault, texts_in};
+use crate::templates::add_template_faults;
+use crate::texts::{add_glob_faults, texts_in};
 use crate::times::time_in;
 use fixed_num::OutOfMemory;
 use std::alloc::Global;
 use toml::{Table, Value};
 
-/// A fault where something doesn't hold.
-pub(crate) fn unless(holds: bool, kind: FaultKind) -> Option<FaultKind>
-    ensures { result ≡ first (unless holds kind) }
-{
-    if holds { None } else { Some(kind) }
-}
-
-/// The first fault of the value of a key.
-pub(crate) fn value_fault(
+/// Adds the faults of the value of a key.
+pub(crate) fn add_value_faults<'a>(
     alloc: Global,
+    wrongs: &mut Vec<Wrong<'a>>,
+    key: &'a str,
     shape: &Shape,
-    value: &Value,
-) -> Result<Option<FaultKind>, OutOfMemory>
-    ensures { IfOk result (λ fault. fault ≡ first (value_faults shape.now (view value.now))) }
+    value: &'a Value,
+) -> Result<(), OutOfMemory>
+    ensures { IfOk result (λ _. Adds wrongs.old.items wrongs.new.items
+        (value_faults key.now shape.now (view value.now))) }
 {
     match shape {
-        Shape::Anything => Ok(None),
-        Shape::Count(row) => Ok(number_fault(row.most, value.as_integer())),
-        Shape::Truth(_) => Ok(unless(value.is_bool(), FaultKind::WrongType)),
-        Shape::Place(_) => Ok(place_fault(value)),
-        Shape::AnyText(_) => Ok(unless(value.is_str(), FaultKind::WrongType)),
-        Shape::OneOf(names) => Ok(name_fault(names, value)),
-        Shape::Templates => templates_fault(alloc, value),
-        Shape::Files => file_fault(alloc, value),
-        Shape::Time(row) => time_fault(alloc, row, value),
-        Shape::Globs => list_fault(alloc, value),
-        Shape::TagGlobs => tagged_fault(alloc, value),
+        Shape::Anything => Ok(()),
+        Shape::Count(row) => add_number_faults(wrongs, key, row.most, value.as_integer()),
+        Shape::Truth(_) => add_unless(wrongs, value.is_bool(), FaultKind::WrongType, key),
+        Shape::Place(_) => add_place_faults(wrongs, key, value),
+        Shape::AnyText(_) => add_unless(wrongs, value.is_str(), FaultKind::WrongType, key),
+        Shape::OneOf(names) => add_name_faults(wrongs, key, names, value),
+        Shape::Templates => add_templates_faults(alloc, wrongs, key, value),
+        Shape::Files => add_file_faults(alloc, wrongs, key, value),
+        Shape::Time(row) => add_time_faults(alloc, wrongs, key, row, value),
+        Shape::Globs => add_list_faults(alloc, wrongs, key, value),
+        Shape::TagGlobs => add_tagged_faults(alloc, wrongs, key, value),
     }
 }
 
-/// The first fault of a number that goes from 1 to a greatest one.
-fn number_fault(most: u32, number: Option<i64>) -> Option<FaultKind>
-    ensures { result ≡ first (number_faults most number) }
+/// Adds the faults of a number that goes from 1 to a greatest one.
+fn add_number_faults<'a>(
+    wrongs: &mut Vec<Wrong<'a>>,
+    key: &'a str,
+    most: u32,
+    number: Option<i64>,
+) -> Result<(), OutOfMemory>
+    ensures { IfOk result (λ _. Adds wrongs.old.items wrongs.new.items (number_faults key.now most number)) }
 {
     match number {
-        Some(n) => unless(is_counted(most, n), FaultKind::OutOfRange),
-        None => Some(FaultKind::WrongType),
+        Some(n) => add_unless(wrongs, is_counted(most, n), FaultKind::OutOfRange, key),
+        None => add_wrong(wrongs, FaultKind::WrongType, key),
     }
 }
 
-/// The first fault of a place.
-fn place_fault(value: &Value) -> Option<FaultKind>
-    ensures { result ≡ first (place_faults (as_str (view value.now))) }
+/// Adds the faults of a place.
+fn add_place_faults<'a>(
+    wrongs: &mut Vec<Wrong<'a>>,
+    key: &'a str,
+    value: &'a Value,
+) -> Result<(), OutOfMemory>
+    ensures { IfOk result (λ _. Adds wrongs.old.items wrongs.new.items
+        (place_faults key.now (as_str (view value.now)))) }
 {
     match value.as_str() {
-        Some(text) => unless(!text.is_empty(), FaultKind::OutOfRange),
-        None => Some(FaultKind::WrongType),
+        Some(text) => add_unless(wrongs, !text.is_empty(), FaultKind::OutOfRange, key),
+        None => add_wrong(wrongs, FaultKind::WrongType, key),
     }
 }
 
-/// The first fault of a text that is one of some names.
-fn name_fault(names: &Names, value: &Value) -> Option<FaultKind>
-    ensures { result ≡ first (name_faults (names_of names.now) (as_str (view value.now))) }
+/// Adds the faults of a text that is one of some names.
+fn add_name_faults<'a>(
+    wrongs: &mut Vec<Wrong<'a>>,
+    key: &'a str,
+    names: &Names,
+    value: &'a Value,
+) -> Result<(), OutOfMemory>
+    ensures { IfOk result (λ _. Adds wrongs.old.items wrongs.new.items
+        (name_faults key.now (names_of names.now) (as_str (view value.now)))) }
 {
     match value.as_str() {
-        Some(name) => unless(names.have(name), FaultKind::OutOfRange),
-        None => Some(FaultKind::WrongType),
+        Some(name) => add_unless(wrongs, names.have(name), FaultKind::OutOfRange, key),
+        None => add_wrong(wrongs, FaultKind::WrongType, key),
     }
 }
 
-/// The first fault of a list of one place.
-fn file_fault(alloc: Global, value: &Value) -> Result<Option<FaultKind>, OutOfMemory>
-    ensures { IfOk result (λ fault. fault ≡ first (file_faults (texts_in (view value.now)))) }
+/// Adds the faults of a list of one place.
+fn add_file_faults<'a>(
+    alloc: Global,
+    wrongs: &mut Vec<Wrong<'a>>,
+    key: &'a str,
+    value: &'a Value,
+) -> Result<(), OutOfMemory>
+    ensures { IfOk result (λ _. Adds wrongs.old.items wrongs.new.items
+        (file_faults key.now (texts_in (view value.now)))) }
 {
     let Some(texts) = texts_in(alloc, value)? else {
-        return Ok(Some(FaultKind::WrongType));
+        add_wrong(wrongs, FaultKind::WrongType, key)?;
+        return Ok(());
     };
-    Ok(match texts.as_slice() {
-        [text] => unless(!text.is_empty(), FaultKind::OutOfRange),
-        _ => Some(FaultKind::OutOfRange),
-    })
+    match texts.as_slice() {
+        [text] => add_unless(wrongs, !text.is_empty(), FaultKind::OutOfRange, key),
+        _ => add_wrong(wrongs, FaultKind::OutOfRange, key),
+    }
 }
 
-/// The first fault of a time, which is no shorter than the least.
-fn time_fault(alloc: Global, row: &TimeRow, value: &Value) -> Result<Option<FaultKind>, OutOfMemory>
-    ensures { IfOk result (λ fault. fault ≡ first (time_faults row.now.least (view value.now))) }
+/// Adds the faults of a time, which is no shorter than the least.
+fn add_time_faults<'a>(
+    alloc: Global,
+    wrongs: &mut Vec<Wrong<'a>>,
+    key: &'a str,
+    row: &TimeRow,
+    value: &'a Value,
+) -> Result<(), OutOfMemory>
+    ensures { IfOk result (λ _. Adds wrongs.old.items wrongs.new.items
+        (time_faults key.now row.now.least (view value.now))) }
 {
     if !value.is_integer() && !value.is_str() {
-        return Ok(Some(FaultKind::WrongType));
+        add_wrong(wrongs, FaultKind::WrongType, key)?;
+        return Ok(());
     }
     let time = time_in(alloc, value)?;
-    Ok(unless(is_long_enough(row, time), FaultKind::OutOfRange))
+    add_unless(
+        wrongs,
+        is_long_enough(row, time),
+        FaultKind::OutOfRange,
+        key,
+    )?;
+    Ok(())
 }
 
 /// Is it a time, and no shorter than the least?
@@ -113,59 +147,86 @@ fn is_long_enough(row: &TimeRow, time: Option<i64>) -> bool
     }
 }
 
-/// The first fault of a list of globs.
-fn list_fault(alloc: Global, value: &Value) -> Result<Option<FaultKind>, OutOfMemory>
-    ensures { IfOk result (λ fault. fault ≡ first (list_faults (texts_in (view value.now)))) }
+/// Adds the faults of a list of globs.
+fn add_list_faults<'a>(
+    alloc: Global,
+    wrongs: &mut Vec<Wrong<'a>>,
+    key: &'a str,
+    value: &'a Value,
+) -> Result<(), OutOfMemory>
+    ensures { IfOk result (λ _. Adds wrongs.old.items wrongs.new.items
+        (list_faults key.now (texts_in (view value.now)))) }
 {
     match texts_in(alloc, value)? {
-        Some(texts) => glob_fault(alloc, texts.as_slice()),
-        None => Ok(Some(FaultKind::WrongType)),
+        Some(texts) => add_glob_faults(alloc, wrongs, key, texts.as_slice()),
+        None => add_wrong(wrongs, FaultKind::WrongType, key),
     }
 }
 
-/// The first fault of a list of templates.
-fn templates_fault(alloc: Global, value: &Value) -> Result<Option<FaultKind>, OutOfMemory>
-    ensures { IfOk result (λ fault. fault ≡ first (templates_faults (texts_in (view value.now)))) }
+/// Adds the faults of a list of templates.
+fn add_templates_faults<'a>(
+    alloc: Global,
+    wrongs: &mut Vec<Wrong<'a>>,
+    key: &'a str,
+    value: &'a Value,
+) -> Result<(), OutOfMemory>
+    ensures { IfOk result (λ _. Adds wrongs.old.items wrongs.new.items
+        (templates_faults key.now (texts_in (view value.now)))) }
 {
     match texts_in(alloc, value)? {
-        Some(texts) => template_fault(alloc, texts.as_slice()),
-        None => Ok(Some(FaultKind::WrongType)),
+        Some(texts) => add_template_faults(alloc, wrongs, key, texts.as_slice()),
+        None => add_wrong(wrongs, FaultKind::WrongType, key),
     }
 }
 
-/// The first fault of a table of lists of globs.
-fn tagged_fault(alloc: Global, value: &Value) -> Result<Option<FaultKind>, OutOfMemory>
-    ensures { IfOk result (λ fault. fault ≡ first (tagged_faults (as_table (view value.now)))) }
+/// Adds the faults of a table of lists of globs.
+fn add_tagged_faults<'a>(
+    alloc: Global,
+    wrongs: &mut Vec<Wrong<'a>>,
+    key: &'a str,
+    value: &'a Value,
+) -> Result<(), OutOfMemory>
+    ensures { IfOk result (λ _. Adds wrongs.old.items wrongs.new.items
+        (tagged_faults key.now (as_table (view value.now)))) }
 {
     match value.as_table() {
-        Some(table) => tag_fault(alloc, table),
-        None => Ok(Some(FaultKind::WrongType)),
+        Some(table) => add_tag_faults(alloc, wrongs, key, table),
+        None => add_wrong(wrongs, FaultKind::WrongType, key),
     }
 }
 
-/// The first fault of the keys of a table of lists of globs.
-fn tag_fault(alloc: Global, table: &Table) -> Result<Option<FaultKind>, OutOfMemory>
-    ensures { IfOk result (λ fault. fault ≡ first (tag_faults (table_view table.now))) }
+/// Adds the faults of the tags of a table of lists of globs.
+fn add_tag_faults<'a>(
+    alloc: Global,
+    wrongs: &mut Vec<Wrong<'a>>,
+    key: &'a str,
+    table: &'a Table,
+) -> Result<(), OutOfMemory>
+    ensures { IfOk result (λ _. Adds wrongs.old.items wrongs.new.items (tag_faults key.now (table_view table.now))) }
 {
-    for (key, value) in table.iter() {
-        if let Some(fault) = listed_fault(alloc, key.as_str(), value)? {
-            return Ok(Some(fault));
-        }
+    for (tag, value) in table.iter() {
+        add_listed_faults(alloc, wrongs, key, tag.as_str(), value)?;
     }
-    Ok(None)
+    Ok(())
 }
 
-/// The first fault of a key with a list of globs.
-fn listed_fault(alloc: Global, key: &str, value: &Value) -> Result<Option<FaultKind>, OutOfMemory>
-    ensures { IfOk result (λ fault. fault ≡ first (listed_faults key.now (texts_in (view value.now)))) }
+/// Adds the faults of a tag with a list of globs.
+fn add_listed_faults<'a>(
+    alloc: Global,
+    wrongs: &mut Vec<Wrong<'a>>,
+    key: &'a str,
+    tag: &str,
+    value: &'a Value,
+) -> Result<(), OutOfMemory>
+    ensures { IfOk result (λ _. Adds wrongs.old.items wrongs.new.items
+        (listed_faults key.now tag.now (texts_in (view value.now)))) }
 {
     match texts_in(alloc, value)? {
         Some(texts) => {
-            if key.is_empty() {
-                return Ok(Some(FaultKind::OutOfRange));
-            }
-            glob_fault(alloc, texts.as_slice())
+            add_unless(wrongs, !tag.is_empty(), FaultKind::OutOfRange, key)?;
+            add_glob_faults(alloc, wrongs, key, texts.as_slice())?;
+            Ok(())
         }
-        None => Ok(Some(FaultKind::WrongType)),
+        None => add_wrong(wrongs, FaultKind::WrongType, key),
     }
 }

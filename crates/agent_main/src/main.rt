@@ -2,16 +2,12 @@
 //! event.
 #![tactic(auto)]
 
-mod losses;
 mod real;
-mod reasons;
 mod shown;
 
 use agent_run::{Status, agent};
 use fixed_num::OutOfMemory;
-use losses::losses;
 use real::{RealWorld, Refusal, StandardStreams, StreamHandles, open_standard};
-use reasons::{reason, text_at};
 use shown::Shown;
 use std::alloc::Global;
 use std::env;
@@ -21,79 +17,44 @@ use std::process::ExitCode;
 use std::rt::{Clock, Files};
 use std::thread::Threads;
 
-/// What standard error is told of an end that isn't Done.
-fn advice(status: Status) -> &'static str {
+/// What standard error is told where no memory was left.
+const OUT_OF_MEMORY: &str = "hogzent: out of memory; nothing is promised of what was written";
+
+/// What standard error is told of an end of which the run itself told people nothing.
+fn advice(status: Status) -> Option<&'static str> {
     match status {
-        Status::Done => "",
-        Status::Usage => {
+        Status::Usage => Some(
             "hogzent: usage: hogzent run CONFIG; or hogzent check CONFIG; or hogzent pipe IN OUT BATCH LIMIT, \
-            with 1 <= BATCH <= LIMIT <= 10000, and OUT not agent.journal"
+            with 1 <= BATCH <= LIMIT <= 10000, and OUT not agent.journal",
+        ),
+        Status::Config => Some("hogzent: the configuration was refused"),
+        Status::OpenFault => {
+            Some("hogzent: a place could not be opened; no line was read or written")
         }
-        Status::Config => "hogzent: the configuration was refused",
-        Status::ReadFault => {
-            "hogzent: a read of the input failed; what was read before was sent, buffered or dropped, \
-            as the account says"
-        }
-        Status::OpenFault => "hogzent: a place could not be opened; no line was read or written",
-        Status::Left => {
-            "hogzent: the last three puts to the output failed; \
-            the account says how many metrics are still buffered"
-        }
-        Status::ReportFault => "hogzent: the journal or the report could not be written whole",
-        Status::Limit => {
-            "hogzent: a limit of the run was reached, and the input was not read to its end"
-        }
-        Status::OutOfMemory => "hogzent: out of memory; nothing is promised of what was written",
+        Status::OutOfMemory => Some(OUT_OF_MEMORY),
+        Status::Done | Status::ReadFault | Status::Left | Status::ReportFault | Status::Limit =>
+            None,
     }
 }
 
-/// What standard error is told of an end that is Done, given the account: what was refused or dropped.
-fn losses_in(alloc: Global, account: &[u8]) -> Option<String> {
-    let text = str::from_utf8(account).ok()?;
-    losses(alloc, text).ok()?
-}
-
-/// What standard error is told of a configuration that was refused: its first fault, where its file can be
-/// read once more.
-fn refusal<R: Files<File = File>>(rt: &R, alloc: Global, place: &str) -> Option<String> {
-    let text = text_at(rt, alloc, place)?;
-    let reason = reason(alloc, text.as_slice()).ok()??;
-    let (place, reason) = (Shown(place), Shown(reason.as_str()));
-    format!(in alloc; "hogzent: the configuration {place} was refused: {reason}").ok()
-}
-
-/// What standard error is told of a check that ended so, where it isn't what it is told of a run.
-fn check_advice(status: Status) -> &'static str {
+/// What standard error is told of a check that ended so.
+fn check_advice(status: Status) -> Option<&'static str> {
     match status {
-        Status::ReadFault => "hogzent: the configuration could not be read",
-        Status::OpenFault => "hogzent: the configuration could not be opened",
-        Status::ReportFault => "hogzent: the report could not be written whole",
-        Status::OutOfMemory => "hogzent: out of memory; the configuration was not checked",
+        Status::ReadFault => Some("hogzent: the configuration could not be read"),
+        Status::OpenFault => Some("hogzent: the configuration could not be opened"),
+        Status::ReportFault => Some("hogzent: the report could not be written whole"),
+        Status::OutOfMemory => Some("hogzent: out of memory; the configuration was not checked"),
         _ => advice(status),
     }
 }
 
-/// What standard error is told of a run of a configuration that ended so, where it isn't what it is told of a pipe.
-/// The report says which read failed.
-fn run_advice(status: Status, report: &[u8]) -> &'static str {
-    match status {
-        Status::ReadFault => {
-            if report.starts_with(b"fault: read ") {
-                "hogzent: the configuration could not be read"
-            } else {
-                "hogzent: a read failed; what was read before was sent, buffered or dropped, \
-                as the account says"
-            }
-        }
-        Status::Left => {
-            "hogzent: the last puts to an output failed, as many in succession as final_tries says; \
-            the account says how many metrics are still buffered"
-        }
-        Status::Limit => {
-            "hogzent: a limit of the run was reached, and an input was not read to its end"
-        }
-        _ => advice(status),
+/// What standard error is told of the run of a configuration that ended so. The report says whether it was the
+/// configuration that couldn't be read.
+fn run_advice(status: Status, report: &[u8]) -> Option<&'static str> {
+    if status == Status::ReadFault && report.starts_with(b"fault: read ") {
+        return Some("hogzent: the configuration could not be read");
     }
+    advice(status)
 }
 
 /// The place that was reported as one that wasn't opened.
@@ -123,28 +84,29 @@ fn tell_unopened(rt: &impl Eprint, words: &[String], refusal: Refusal, report: &
     };
 }
 
-/// Tells standard error of an end that isn't Done, given what was reported.
-fn tell<R: Files<File = File> + Eprint>(
-    rt: &R,
-    alloc: Global,
-    words: &[String],
-    status: Status,
-    report: &[u8],
-) {
-    let [command, place] = words else {
-        let _ = rt.eprintln(advice(status));
+/// Tells standard error of an end of which the run itself told people nothing, given what was reported.
+fn tell<R: Eprint>(rt: &R, words: &[String], status: Status, report: &[u8]) {
+    let [command, _] = words else {
+        tell_advice(rt, advice(status));
         return;
     };
+    // The faults of a configuration were said one by one.
     if status == Status::Config {
-        if let Some(text) = refusal(rt, alloc, place.as_str()) {
-            let _ = rt.eprintln(text);
-            return;
-        }
+        return;
     }
-    let _ = rt.eprintln(match command.as_str() {
+    let advice = match command.as_str() {
         "run" => run_advice(status, report),
-        _ => check_advice(status),
-    });
+        "check" => check_advice(status),
+        _ => advice(status),
+    };
+    tell_advice(rt, advice);
+}
+
+/// Tells standard error a line, where there is one.
+fn tell_advice(rt: &impl Eprint, line: Option<&str>) {
+    if let Some(line) = line {
+        let _ = rt.eprintln(line);
+    }
 }
 
 /// The words, without the program's name; none where a word isn't UTF-8, which makes them no command.
@@ -159,7 +121,7 @@ fn words_of(rt: &HostRuntime, alloc: Global) -> Result<Vec<String>, OutOfMemory>
 }
 
 /// Runs the words in the real world, given what stands behind the standard streams, and tells standard error
-/// of an end that isn't Done, or of what was refused or dropped.
+/// of an end of which the run itself told people nothing.
 fn run_words<R: Files<File = File> + Clock + Eprint + Threads + Sync>(
     rt: &R,
     alloc: Global,
@@ -172,9 +134,7 @@ fn run_words<R: Files<File = File> + Clock + Eprint + Threads + Sync>(
     if let (Status::OpenFault, Some(refusal)) = (status, world.refused()) {
         tell_unopened(rt, words, refusal, world.reported());
     } else if status != Status::Done {
-        tell(rt, alloc, words, status, world.reported());
-    } else if let Some(text) = losses_in(alloc, world.reported()) {
-        let _ = rt.eprintln(text);
+        tell(rt, words, status, world.reported());
     }
     status
 }
@@ -189,7 +149,7 @@ fn main(rt: HostRuntime) -> ExitCode {
         return ExitCode::from(Status::OpenFault.code());
     };
     let Ok(words) = words_of(&rt, alloc) else {
-        let _ = rt.eprintln(advice(Status::OutOfMemory));
+        let _ = rt.eprintln(OUT_OF_MEMORY);
         return ExitCode::from(Status::OutOfMemory.code());
     };
     let streams = StreamHandles {

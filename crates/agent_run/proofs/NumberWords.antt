@@ -1,5 +1,6 @@
 -- Words of digits.
-use Rattle.std.proofs.Common.{◌≡◌, ℕ, ◌≤◌, ◌^◌, Bool, true, false, cond, eqb, ltb, List, ◌++◌, get_or, refl, sym, ap, ◌∙◌, Ok, Err}
+use Rattle.std.proofs.Common.{◌≡◌, ℕ, ◌≤◌, ◌^◌, Bool, true, false, cond, eqb, ltb, List, ◌++◌, get_or, refl, sym, ap}
+use Rattle.std.proofs.Common.{◌∙◌, Ok, Err}
 use Rattle.std.specs.Prelude.{Result}
 use Rattle.std.specs.Str.Parse.{IsNumeral, digits_value}
 use Rattle.std.proofs.lemmas.Bool.{ltb-false}
@@ -20,11 +21,13 @@ ok_of n = Ok n
 
 as_uint_ok : (m n : ℕ) → as_uint m ≡ Ok n → m ≡ n
 as_uint_ok m n e =
-    elim (ltb m (2 ^ 64)) as (λ (t : Bool). cond t (ok_of m) (Err NumberRange) ≡ Ok n → m ≡ n) [ true ↦ λ k. cc | false ↦ λ k. cc ] e
+    elim (ltb m (2 ^ 64)) as (λ (t : Bool). cond t (ok_of m) (Err NumberRange) ≡ Ok n → m ≡ n)
+    [ true ↦ λ k. cc | false ↦ λ k. cc ] e
 
 as_uint_err : (m : ℕ) (f : NumFault) → as_uint m ≡ Err f → 2 ^ 64 ≤ m
 as_uint_err m f e =
-    elim (ltb m (2 ^ 64)) as (λ (t : Bool). ltb m (2 ^ 64) ≡ t → cond t (ok_of m) (Err NumberRange) ≡ Err f → 2 ^ 64 ≤ m) [
+    elim (ltb m (2 ^ 64)) as (λ (t : Bool). ltb m (2 ^ 64) ≡ t → cond t (ok_of m) (Err NumberRange) ≡ Err f
+    → 2 ^ 64 ≤ m) [
       | true ↦ λ is k. absurd cc
       | false ↦ λ is k. ltb-false m (2 ^ 64) is
     ] refl e
@@ -36,7 +39,11 @@ word_is word n unsigned e =
     go q.0 q.1 q.2 q.3 q.4
   where
     go : (s : Sign) (ds : List ℕ) → is_minus s ≡ false → IsNumeral 10 ds → word ≡ sign_text s ++ ds → IsNumber word n
-    go signs.NoSign ds plain h t = rw t (record { digits = h; value = as_uint_ok (digits_value 10 ds) n (sym (reads_uints signs.NoSign ds refl h) ∙ ap uint_read_as (sym t) ∙ e) })
+    go signs.NoSign ds plain h t = rw t (record {
+      digits = h;
+      value = as_uint_ok (digits_value 10 ds) n
+          (sym (reads_uints signs.NoSign ds refl h) ∙ ap uint_read_as (sym t) ∙ e);
+    })
     go signs.Plus ds plain h t = let k : true ≡ false = rw t at unsigned in absurd cc
     go signs.Minus ds plain h t = let k : true ≡ false = plain in absurd cc
 

@@ -26,7 +26,8 @@ sizes_one : (conf : OutputConf) → HasSizes conf → All HasSizes (conf ∷ [])
 sizes_one conf h zero d l = h
 sizes_one conf h (suc k) d l = absurd (omega (arith, l))
 
-pub pipe_sound : (input output : List ℕ) (batch limit : ℕ) → (output ≢ journal_place) → 1 ≤ batch → batch ≤ limit → limit ≤ 10000 → IsSound (pipe_config input output batch limit)
+pub pipe_sound : (input output : List ℕ) (batch limit : ℕ) → (output ≢ journal_place) → 1 ≤ batch → batch ≤ limit
+    → limit ≤ 10000 → IsSound (pipe_config input output batch limit)
 pipe_sound input output batch limit apart some ordered most = record {
   inputs = (omega arith, omega arith);
   outputs = (omega arith, omega arith);

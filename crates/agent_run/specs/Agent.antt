@@ -15,23 +15,25 @@ use Rattle.agent_run.specs.declared.status.Status.TheVariants.{Config, OpenFault
 abbrev pub NamesConfig : List (String Global) → List ℕ → Type 0
 NamesConfig words place = IsCheck words place ⊎ IsRunAt words place
 
--- Usage comes exactly where the words are no command, but for want of memory; whatever the status, such words change nothing but the
--- report.
+-- Usage comes exactly where the words are no command, but for want of memory; whatever the status, such
+-- words change nothing but the report.
 pub record SaysUsage (status : Status) (words : List (String Global)) (old new : WorldView) : Type 0 where
   pub only : status ≡ Usage → IsNoCommand words
   pub always : IsNoCommand words → (status ≡ Usage) ⊎ (status ≡ OutOfMemory)
   pub leaves : status ≡ Usage → IsUnused old.ins new.ins old.outs new.outs old.report new.report
-  pub unchanged : IsNoCommand words → SameAtAll old.ins new.ins × SameAtAll old.outs new.outs × SameAtAll old.clocks new.clocks
+  pub unchanged : IsNoCommand words
+      → SameAtAll old.ins new.ins × SameAtAll old.outs new.outs × SameAtAll old.clocks new.clocks
 
--- Config comes only of a check or a run. A command on a configuration with a fault comes to it, where neither opening nor reading its
--- place failed.
+-- Config comes only of a check or a run. A command on a configuration with a fault comes to it, where
+-- neither opening nor reading its place failed.
 pub record SaysFaulty (status : Status) (words : List (String Global)) (old new : WorldView) : Type 0 where
   pub only : status ≡ Config → (place : List ℕ) × NamesConfig words place
-  pub always : (place bytes : List ℕ) → NamesConfig words place → (old.ins place).bytes ≡ Some bytes → (text_faults bytes ≢ [])
-      → NeitherFailed (old.ins place) (new.ins place) → (status ≡ Config) ⊎ (status ≡ OutOfMemory)
+  pub always : (place bytes : List ℕ) → NamesConfig words place → (old.ins place).bytes ≡ Some bytes
+      → (text_faults bytes ≢ []) → NeitherFailed (old.ins place) (new.ins place)
+      → (status ≡ Config) ⊎ (status ≡ OutOfMemory)
 
--- OpenFault of a pipe comes only where one of its three places wasn't opened: that is counted there, and all else is as before. What it
--- says of a check and of a run stands there.
+-- OpenFault of a pipe comes only where one of its three places wasn't opened: that is counted there, and all
+-- else is as before. What it says of a check and of a run stands there.
 abbrev pub SaysUnopened : Status → List (String Global) → WorldView → WorldView → Type 0
 SaysUnopened status words old new = status ≡ OpenFault → ((place : List ℕ) × NamesConfig words place)
     ⊎ ((input output : List ℕ) × (batch limit : ℕ) × IsPipe words input output batch limit

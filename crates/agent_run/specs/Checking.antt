@@ -1,5 +1,6 @@
 -- What checking a configuration says, and what it leaves.
-use Rattle.std.specs.Prelude.{◌≡◌, ◌≤◌, ◌<◌, ◌++◌, ℕ, List, [], length, codes, take, Option, Some, IfSome, true, false}
+use Rattle.std.specs.Prelude.{◌≡◌, ◌≢◌, ◌≤◌, ◌<◌, ◌++◌, ℕ, List, [], length, codes, take, Option, Some, IfSome, true}
+use Rattle.std.specs.Prelude.{false}
 use Rattle.std.specs.Fmt.{decimal}
 use Rattle.std.specs.Io.KnownBytes.{Consumes, IsAtEnd}
 use Rattle.agent_base.specs.Counts.{Rose}
@@ -14,6 +15,7 @@ use Rattle.agent_config.specs.declared.fault.ConfigKind.TheVariants as kinds
 use Rattle.agent_run.specs.Headline.{report_change}
 use Rattle.agent_workers.specs.Run.{IsPutSo}
 use Rattle.agent_run.specs.Places.{IsUnopened, ReportsLine, RoseToUse, open_fault_line, read_fault_line}
+use Rattle.agent_run.specs.Running.{IsOpenedSame}
 use Rattle.agent_run.specs.declared.reading.Unread.{Unread}
 use Rattle.agent_run.specs.declared.reading.Unread.TheVariants as unreads
 use Rattle.agent_run.specs.declared.status.Status.{Status}
@@ -132,11 +134,13 @@ ChecksAs statuses.OpenFault place ins new_ins rest new_rest =
 ChecksAs statuses.OutOfMemory place ins new_ins rest new_rest = Unit {0}
 ChecksAs status place ins new_ins rest new_rest = ⊥
 
--- a place was checked with this status: what the status says, and, whatever it is, that a front of its bytes
--- was taken and everything else but the report is as before
+-- a place was checked with this status: what the status says; but for a place that wasn't opened no count of failed
+-- opens changed; and, whatever the status, a front of the place's bytes was taken and all else but the report is as
+-- before
 pub record HasChecked (status : Status) (place : List ℕ) (old new : WorldView) : Type 0 where
   pub answer : ChecksAs status place old.ins new.ins old.report new.report
   pub taken : TakesAtMost most_taken (old.ins place).bytes (new.ins place).bytes
+  pub opened : (status ≢ statuses.OpenFault) → (status ≢ statuses.OutOfMemory) → IsOpenedSame old new
   pub other_ins : SameBut place old.ins new.ins
   pub outs : SameAtAll old.outs new.outs
   pub clocks : SameAtAll old.clocks new.clocks

@@ -10,7 +10,7 @@ use Rattle.agent_run.specs.declared.clocks.ClockRoom.{ClockRoom}
 
 -- a clock at its first place
 abbrev pub from_first : Option Moments → Timed
-from_first moments = record { moments = moments; place = 0 }
+from_first moments = record { moments = moments; next = 0 }
 
 -- the clock of a place in the list
 abbrev pub timed_at : List Timed → ℕ → Timed

@@ -11,9 +11,9 @@ use Rattle.metric_filter.specs.Filter.{no_rules}
 use Rattle.agent_run.specs.declared.command.Command.{Command}
 use Rattle.agent_run.specs.declared.command.Command.TheVariants.{Check, Pipe, Run}
 
--- the output place of the journal
+-- the output place of the journal of a pipe: that of an agent where nothing is said
 abbrev pub journal_place : List ℕ
-journal_place = codes "agent.journal"
+journal_place = usual_agent.journal
 
 -- a word of one or more decimal digits, and the number that it spells
 pub record IsNumber (word : List ℕ) (n : ℕ) : Type 0 where
@@ -69,6 +69,12 @@ abbrev pub pipe_config : List ℕ → List ℕ → ℕ → ℕ → Config
 pipe_config input output batch limit = record {
   agent = usual_agent;
   globals = [];
-  inputs = record { place = input; format = read.Influx; tracked = false; max_undelivered = usual_undelivered; filter = no_rules } ∷ [];
+  inputs = record {
+    place = input;
+    format = read.Influx;
+    tracked = false;
+    max_undelivered = usual_undelivered;
+    filter = no_rules;
+  } ∷ [];
   outputs = record { place = output; format = written.Influx; batch = batch; limit = limit; filter = no_rules } ∷ [];
 }

@@ -82,10 +82,11 @@ UnreadAs statuses.OutOfMemory place old new = Unit {0}
 UnreadAs status place old new = ⊥
 
 -- The configuration of a place wasn't read, and nothing was run: at most a front of its bytes was taken, and no other
--- place and no clock changed.
+-- place and no clock changed; nor, where the place was opened, any count of failed opens.
 pub record IsUnrun (status : Status) (place : List ℕ) (old new : WorldView) : Type 0 where
   pub answer : UnreadAs status place old new
   pub taken : TakesAtMost most_taken (old.ins place).bytes (new.ins place).bytes
+  pub opened : (status ≢ statuses.OpenFault) → (status ≢ statuses.OutOfMemory) → IsOpenedSame old new
   pub ins : SameBut place old.ins new.ins
   pub outs : SameAtAll old.outs new.outs
   pub clocks : SameAtAll old.clocks new.clocks

@@ -11,7 +11,8 @@ use Rattle.agent_config.specs.declared.config.InputConf.{InputConf}
 use Rattle.agent_config.specs.declared.config.OutputConf.{OutputConf}
 use Rattle.pipeline_core.specs.Legal.{has_ended}
 use Rattle.agent_workers.specs.Job.{job_of, rule_by, setup_of}
-use Rattle.agent_workers.specs.Run.{Change, change, InRun, OutRun, RunChange, run_at, buffered_at_end, account_of, text_of}
+use Rattle.agent_workers.specs.Run.{Change, change, InRun, OutRun, RunChange, run_at, buffered_at_end}
+use Rattle.agent_workers.specs.Run.{account_of, text_of}
 use Rattle.agent_workers.specs.Run.{IsRun, IsPutSo, IsCutShort, SomeIsFull}
 use Rattle.agent_base.specs.Counts.{Rose}
 use Rattle.agent_run.specs.Command.{IsPipe, pipe_config}
@@ -64,8 +65,8 @@ pub record WorldChange : Type 0 where
   pub run : RunChange
   pub report : Change
 
--- so it is in a world that was so before and is so now: the change of the place of each input and of each output, by their numbers,
--- of the journal's place, and of the report
+-- so it is in a world that was so before and is so now: the change of the place of each input and of each
+-- output, by their numbers, of the journal's place, and of the report
 abbrev pub world_change : Config → WorldView → WorldView → WorldChange
 world_change config old new = record {
   run = record {
@@ -167,7 +168,8 @@ pub record PipeEnds (status : Status) (words : List (String Global)) (old new : 
   pub command : IsPipe words input output batch limit
   pub ins_opened : AreOpensSame old.ins new.ins
   pub outs_opened : AreOpensSame old.outs new.outs
-  pub ends : Ends (pipe_config input output batch limit) (world_change (pipe_config input output batch limit) old new) status
+  pub ends : Ends (pipe_config input output batch limit)
+      (world_change (pipe_config input output batch limit) old new) status
 
 -- no count of the world rose
 pub record NothingRose (old new : WorldView) : Type 0 where

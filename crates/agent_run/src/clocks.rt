@@ -75,7 +75,7 @@ pub(crate) fn clocks_of<W: World>(
     requires sound { IsSound config.now }
     requires room { HasClockRoom config.now room }
     ensures timer_moments { (W.Clk.told result.timer).moments ≡ (W.view world.old).clocks run_clock }
-    ensures timer_first { (W.Clk.told result.timer).place ≡ 0 }
+    ensures timer_first { (W.Clk.told result.timer).next ≡ 0 }
     ensures inputs { HasInputClocks config.now (map W.Clk.told result.inputs.items)
         (W.view world.old).clocks }
     ensures outputs { vec_len result.outputs ≡ length config.now.outputs }

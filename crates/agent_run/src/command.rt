@@ -3,10 +3,8 @@ ghost use Rattle.std.specs.Prelude.{◌≡◌, ◌≢◌, ◌==◌, ◌<◌, ◌
 ghost use Rattle.std.specs.Prelude.{MatchOption, slice_index};
 ghost use Rattle.agent_run.specs.Command.{IsCommand, IsNoCommand, IsNumber, IsPipe, IsPipeOf, NamesNoConfig};
 
+use agent_config::usual_journal;
 use fixed_num::read_uint;
-
-/// The output place of the journal.
-pub const JOURNAL: &str = "agent.journal";
 
 /// The greatest batch size and buffer limit.
 const MOST: u64 = 10_000;
@@ -97,7 +95,7 @@ fn pipe_of<'a>(words: &Words<'a>) -> Option<Pipe<'a>>
         × IsPipeOf words.now.command.now words.now.output.now words.now.batch.now words.now.limit.now
         pipe.batch pipe.limit) }
 {
-    if words.command != "pipe" || words.output == JOURNAL {
+    if words.command != "pipe" || words.output == usual_journal() {
         return None;
     }
     let batch = number_of(words.batch)?;

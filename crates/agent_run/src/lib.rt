@@ -4,13 +4,19 @@
 mod checking;
 mod clocks;
 mod command;
+mod fault_words;
+mod faults;
+mod lines;
 mod pipe;
 mod places;
 mod reading;
 mod reporting;
 mod running;
+mod shown;
 mod status;
+mod telegraf;
 mod top;
 
+pub use shown::Shown;
 pub use status::Status;
 pub use top::agent;

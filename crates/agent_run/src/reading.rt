@@ -8,6 +8,7 @@ ghost use Rattle.agent_config.specs.Sound.{IsSound};
 ghost use Rattle.agent_run.specs.Checking.{Fills, IsUnread, TakesAtMost, TakesText, most_taken};
 ghost use Rattle.agent_run.specs.Configured.{IsReadAt, IsUnready, IsUnsaid, SaysConfig};
 
+use crate::faults::say_faults;
 use agent_base::{Failed, OpenFault, Source, World};
 use agent_config::{Config, ConfigFault, ConfigKind, read_config};
 use std::alloc::{AllocError, Global};
@@ -150,6 +151,25 @@ fn config_in(alloc: Global, text: &[u8]) -> Result<Config, Unread>
     }
 }
 
+/// The configuration that the text of a place says; its faults are said to people.
+fn said_config<W: World>(
+    alloc: Global,
+    world: &mut W,
+    place: &str,
+    text: &[u8],
+) -> Result<Config, Unread>
+    ensures says { IfOk result (SaysConfig text.now) }
+    ensures sound { IfOk result IsSound }
+    ensures unread { IfErr result (λ unread. IsUnsaid unread text.now) }
+    ensures same { W.view world.new ≡ W.view world.old }
+{
+    let read = config_in(alloc, text);
+    if let Err(Unread::Faulty(fault)) = &read {
+        say_faults(alloc, world, place, text, *fault);
+    }
+    read
+}
+
 /// Reads the configuration at a place: its text to the end, or to one byte above 1 MiB. The part of the place is
 /// given back.
 pub(crate) fn config_at<W: World>(
@@ -161,11 +181,13 @@ pub(crate) fn config_at<W: World>(
     ensures read { IfOk result (λ config. IsReadAt place.now config (W.view world.old) (W.view world.new)) }
     ensures sound { IfOk result IsSound }
     ensures unread { IfErr result (λ unread. IsUnready unread ((W.view world.old).ins place.now) ((W.view world.new).ins place.now)) }
+    ensures opens { IfErr result (λ unread. (unread ≢ Unread.Unopened)
+        → ((W.view world.new).ins place.now).open_faults ≡ ((W.view world.old).ins place.now).open_faults) }
     ensures taken { TakesAtMost most_taken ((W.view world.old).ins place.now).bytes
         ((W.view world.new).ins place.now).bytes }
     ensures only { OnlyIn place.now (W.view world.old) (W.view world.new) }
     ensures home { AreHome (W.view world.new).ins }
 {
     let text = read_place(alloc, world, place)?;
-    config_in(alloc, &text)
+    said_config(alloc, world, place, &text)
 }

@@ -65,3 +65,12 @@ pub(crate) fn report_read_fault<W: World>(alloc: Global, world: &mut W, place: &
 {
     report_made(world, read_fault_line(alloc, place), Status::ReadFault)
 }
+
+/// Says lines to people, in order.
+pub(crate) fn say_all<W: World>(alloc: Global, world: &mut W, lines: &[String])
+    ensures same { W.view world.new ≡ W.view world.old }
+{
+    for line in lines {
+        world.say(alloc, line.as_str());
+    }
+}

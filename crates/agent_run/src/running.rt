@@ -13,9 +13,10 @@ ghost use Rattle.agent_workers.specs.Run.{IsPutSo};
 
 use crate::checking::report_unread;
 use crate::clocks::{clock_room, clocks_of};
+use crate::lines::lines_of;
 use crate::places::{Unopened, give_back, open_places};
 use crate::reading::config_at;
-use crate::reporting::report_open_fault;
+use crate::reporting::{report_open_fault, say_all};
 use crate::status::{Status, run_status};
 use agent_base::{PutFault, World};
 use agent_config::Config;
@@ -38,7 +39,22 @@ fn report_account<W: World>(ending: &Ending, world: &mut W) -> Status
     }
 }
 
-/// Runs a configuration over its opened parts, gives them back, and reports the account.
+/// Reports the account, tells people what the run refused, dropped and left, and says how it ended.
+fn end_run<W: World>(alloc: Global, config: &Config, ending: &Ending, world: &mut W) -> Status
+    ensures answer { (result ≡ Status.OutOfMemory)
+        ⊎ ((failed : Bool)
+        × (result ≡ status_of ending.now.limit ending.now.read_fault (ending.now.journal_fault || failed)
+        ending.now.left)
+        × IsPutSo failed (report_change (W.view world.old).report (W.view world.new).report) ending.now.account.items) }
+    ensures only { OnlyReport (W.view world.old) (W.view world.new) }
+{
+    let status = report_account(ending, world);
+    let lines = lines_of(alloc, config, ending, status);
+    say_all(alloc, world, lines.as_slice());
+    status
+}
+
+/// Runs a configuration over its opened parts, gives them back, reports the account, and tells people of it.
 fn run_opened<W: World>(
     alloc: Global,
     config: &Config,
@@ -48,8 +64,8 @@ fn run_opened<W: World>(
 ) -> Status
     requires sound { IsSound config.now }
     requires parts { AreFor config.now opened clocks }
-    requires first { All (λ (clock : Timed). clock.place ≡ 0) (map W.Clk.told clocks.inputs.items) }
-    requires timer_first { (W.Clk.told clocks.timer).place ≡ 0 }
+    requires first { All (λ (clock : Timed). clock.next ≡ 0) (map W.Clk.told clocks.inputs.items) }
+    requires timer_first { (W.Clk.told clocks.timer).next ≡ 0 }
     requires out { AreItsOut config.now (W.view world.old) }
     ensures ends { Ends config.now (record {
       run = change_by config.now (carried_by W.In.told W.Out.told opened) (given_back config.now (W.view world.new))
@@ -64,7 +80,7 @@ fn run_opened<W: World>(
     let (left, ran) = run(alloc, config, opened, clocks);
     give_back(world, config, left);
     match ran {
-        Ok(ending) => report_account(&ending, world),
+        Ok(ending) => end_run(alloc, config, &ending, world),
         Err(_) => Status::OutOfMemory,
     }
 }

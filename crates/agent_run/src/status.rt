@@ -48,7 +48,8 @@ impl Status {
     }
 }
 
-/// The status of a run that came to this end, given whether the put of the report failed.
+/// The status of a run that came to this end, given whether the put of the report failed: the first that has its
+/// cause of Limit, ReportFault, ReadFault and Left; Done where none has.
 pub fn run_status(ending: &Ending, report_failed: bool) -> Status
     ensures { result ≡ status_of ending.now.limit ending.now.read_fault
         (ending.now.journal_fault || report_failed) ending.now.left }

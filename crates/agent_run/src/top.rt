@@ -53,6 +53,9 @@ fn run_pipe<W: World>(alloc: Global, pipe: &Pipe<'_>, world: &mut W) -> Status
 /// its outputs and the journal at `agent.journal`'s value, and reports the account.
 /// `check CONFIG` reads a configuration at CONFIG, and reports `ok`, or its first fault as
 /// `config: KIND CLASS NUMBER`. It always returns.
+///
+/// At the end of a run people are told, line by line, what was refused, passed over, dropped and left, and why it ended
+/// so; of that the contract says nothing.
 pub fn agent<W: World>(alloc: Global, words: &[String], world: &mut W) -> Status
     requires ins { AreHome (W.view world.old).ins }
     requires outs { AreHome (W.view world.old).outs }

@@ -50,6 +50,16 @@ fn reported(world: &ToldWorld) -> &[u8] {
     }
 }
 
+/// The lines that were said to people, each with a newline.
+fn said(alloc: Global, world: &MemWorld) -> Result<Vec<u8>, AllocError> {
+    let mut all = Vec::new(alloc);
+    for line in world.said() {
+        all.extend_from_slice(line.as_bytes())?;
+        all.push(b'\n')?;
+    }
+    Ok(all)
+}
+
 /// What of a text stands where so many bytes are wanted.
 fn looked_at(text: &[u8], start: Start, len: usize) -> &[u8] {
     let start = match start {
@@ -68,8 +78,10 @@ fn compare_text(
     world: &ToldWorld,
     differences: &mut Differences,
 ) -> Result<(), AllocError> {
+    let said = said(alloc, &world.parts)?;
     let text = match wanted.place {
         "report" => reported(world),
+        "said" => said.as_slice(),
         place => held(&world.parts, place),
     };
     match &wanted.text {

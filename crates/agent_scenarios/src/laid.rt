@@ -75,7 +75,7 @@ fn is_gone(parts: &[Part<'_>], place: &str) -> bool {
 
 /// A clock that gives these moments.
 fn clock_of(alloc: Global, moments: &str) -> Result<MemClock, Fail>
-    ensures first { IfOk result (λ clock. (⟦<MemClock as Clock>⟧.told clock).place ≡ 0) }
+    ensures first { IfOk result (λ clock. (⟦<MemClock as Clock>⟧.told clock).next ≡ 0) }
     ensures unstopped { IfOk result (λ clock. ⟦<MemClock as Clock>⟧.stopped clock ≡ false) }
 {
     let mut list = Vec::new(alloc);

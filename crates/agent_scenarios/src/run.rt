@@ -65,14 +65,14 @@ fn run_parts(alloc: Global, parts: &[Part<'_>], world: &mut ToldWorld) -> Result
 
 /// A clock without moments.
 fn clock_of(alloc: Global) -> MemClock
-    ensures { (⟦<MemClock as Clock>⟧.told result).place ≡ 0 }
+    ensures { (⟦<MemClock as Clock>⟧.told result).next ≡ 0 }
 {
     MemClock::new(alloc, Vec::new(alloc))
 }
 
 /// One clock, or two.
 fn clocks_of(alloc: Global, two: bool) -> Result<Vec<MemClock>, AllocError>
-    ensures first { IfOk result (λ clocks. All (λ (clock : Timed). clock.place ≡ 0)
+    ensures first { IfOk result (λ clocks. All (λ (clock : Timed). clock.next ≡ 0)
         (map ⟦<MemClock as Clock>⟧.told clocks.items)) }
 {
     let mut clocks = Vec::new(alloc);
@@ -85,8 +85,8 @@ fn clocks_of(alloc: Global, two: bool) -> Result<Vec<MemClock>, AllocError>
 
 /// The clocks of a configuration of one or two inputs and outputs.
 fn clocks_by(alloc: Global, config: &Config) -> Result<Clocks<MemClock>, AllocError>
-    ensures timer { IfOk result (λ clocks. (⟦<MemClock as Clock>⟧.told clocks.timer).place ≡ 0) }
-    ensures first { IfOk result (λ clocks. All (λ (clock : Timed). clock.place ≡ 0)
+    ensures timer { IfOk result (λ clocks. (⟦<MemClock as Clock>⟧.told clocks.timer).next ≡ 0) }
+    ensures first { IfOk result (λ clocks. All (λ (clock : Timed). clock.next ≡ 0)
         (map ⟦<MemClock as Clock>⟧.told clocks.inputs.items)) }
 {
     let inputs = clocks_of(alloc, config.inputs.as_slice().len() == 2)?;

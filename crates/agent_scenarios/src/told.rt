@@ -1,5 +1,6 @@
 //! A world in memory whose report may fail.
 use agent_base::{MemClock, MemSink, MemSource, MemWorld, OpenFault, PutFault, Sink, World};
+use std::alloc::Global;
 
 /// A world in memory, with a sink that is told the report.
 #[derive(Drop)]
@@ -45,5 +46,9 @@ impl World for ToldWorld {
 
     fn report(&mut self, bytes: &[u8]) -> Result<(), PutFault> {
         self.report.put(bytes)
+    }
+
+    fn say(&mut self, alloc: Global, line: &str) {
+        self.parts.say(alloc, line);
     }
 }

@@ -29,7 +29,7 @@ pub enum WantedText<'a> {
 pub struct Wanted<'a> {
     /// How its row names it.
     pub name: &'a str,
-    /// The place where it was left, or `report`.
+    /// The place where it was left, or `report`, or `said`.
     pub place: &'a str,
     /// What it is to be.
     pub text: WantedText<'a>,

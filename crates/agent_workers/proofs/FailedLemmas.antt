@@ -1,5 +1,6 @@
 -- How many of the last batches failed, with one batch more.
-use Rattle.std.proofs.Common.{◌≡◌, ℕ, ◌+◌, ◌-◌, ◌^◌, min, Bool, true, false, List, [], ◌∷◌, ◌++◌, replicate, sym, ap, ◌∙◌, subst, inl, inr, arith, append_assoc}
+use Rattle.std.proofs.Common.{◌≡◌, ℕ, ◌+◌, ◌-◌, ◌^◌, min, Bool, true, false, List, [], ◌∷◌, ◌++◌, replicate, sym, ap}
+use Rattle.std.proofs.Common.{◌∙◌, subst, inl, inr, arith, append_assoc}
 use Rattle.std.proofs.lemmas.List.{replicate_more}
 use Rattle.agent_workers.specs.Output.{FailedLast, IsFailedRow}
 
@@ -19,11 +20,13 @@ row_more : (count : ℕ) (old : List Bool) → IsFailedRow count old → IsFaile
 row_more count old (inl all) = inl (ap (λ (bs : List Bool). bs ++ false ∷ []) all ∙ replicate_more count false)
 row_more count old (inr some) = inr (
   some.0,
-  ap (λ (bs : List Bool). bs ++ false ∷ []) some.1 ∙ append_assoc some.0 (true ∷ replicate count false) (false ∷ []) ∙ ap (λ (bs : List Bool). some.0 ++ true ∷ bs) (replicate_more count false),
+  ap (λ (bs : List Bool). bs ++ false ∷ []) some.1 ∙ append_assoc some.0 (true ∷ replicate count false) (false ∷ [])
+      ∙ ap (λ (bs : List Bool). some.0 ++ true ∷ bs) (replicate_more count false),
 )
 
 -- one failed
-pub failed_once : (n next : ℕ) (old new : List Bool) → next ≡ min (n + 1) (2 ^ 32 - 1) → new ≡ old ++ false ∷ [] → FailedLast n old → FailedLast next new
+pub failed_once : (n next : ℕ) (old new : List Bool) → next ≡ min (n + 1) (2 ^ 32 - 1) → new ≡ old ++ false ∷ []
+    → FailedLast n old → FailedLast next new
 failed_once n next old new one is h = record {
   count = h.count + 1;
   row = subst (IsFailedRow (h.count + 1)) (sym is) (row_more h.count old h.row);

@@ -1,5 +1,6 @@
 -- What a run leaves at its end, and what it begins with.
-use Rattle.std.proofs.Common.{◌≡◌, ◌≢◌, ◌≤◌, ◌<◌, ℕ, zero, suc, ℤ, ◌^◌, min, Bool, true, false, List, [], ◌∷◌, ◌++◌, length, take, replicate, refl, sym, ap, ◌∙◌, subst, inl, inr, arith}
+use Rattle.std.proofs.Common.{◌≡◌, ◌≢◌, ◌≤◌, ◌<◌, ℕ, zero, suc, ℤ, ◌^◌, min, Bool, true, false, List, [], ◌∷◌, ◌++◌}
+use Rattle.std.proofs.Common.{length, take, replicate, refl, sym, ap, ◌∙◌, subst, inl, inr, arith}
 use Rattle.std.specs.Prelude.{IfSome, not, ◌⊎◌, count_by, map}
 use Rattle.std.proofs.lemmas.List.{length-map}
 use Rattle.std.specs.Int.{int_max}
@@ -27,13 +28,17 @@ use Rattle.account.specs.EntryMoments.{counted_moments}
 use Rattle.account.specs.Items.{raw_items, items, taken}
 use Rattle.agent_workers.specs.Input.{IsFull}
 use Rattle.formats.specs.Reader.{InRule, FitsGather}
-use Rattle.agent_workers.specs.Inputs.{InPart, in_at, HoldsTooMany, AreInputs, AreOut, OneIsFull, IsOneOf, IsOneIn, IsFresh, AreFresh}
-use Rattle.agent_workers.specs.Run.{change, InRun, in_run, in_runs, run_at, out_run, out_run_at, out_runs, SomeIsFull, RunsFull, IsCutShort, IsUnread, IsReadFrom, IsSentTo, HasRun, EndsSo, IsPutSo, IsLeft, Ran, buffered_at_end, account_of}
+use Rattle.agent_workers.specs.Inputs.{InPart, in_at, HoldsTooMany, AreInputs, AreOut, OneIsFull, IsOneOf, IsOneIn}
+use Rattle.agent_workers.specs.Inputs.{IsFresh, AreFresh}
+use Rattle.agent_workers.specs.Run.{change, InRun, in_run, in_runs, run_at, out_run, out_run_at, out_runs, SomeIsFull}
+use Rattle.agent_workers.specs.Run.{RunsFull, IsCutShort, IsUnread, IsReadFrom, IsSentTo, HasRun, EndsSo, IsPutSo}
+use Rattle.agent_workers.specs.Run.{IsLeft, Ran, buffered_at_end, account_of}
 use Rattle.agent_workers.specs.Finished.{IsCounted, Finished, begun, IsSetUp}
 use Rattle.agent_workers.specs.Noted.{JournalPart, Notes, part_change}
 use Rattle.agent_workers.specs.Job.{Job, journal_setup_of, limit_of, setup_of, sizes_of, work_of}
 use Rattle.agent_workers.specs.RunState.{RunState, Beginning, setup_at}
-use Rattle.agent_workers.specs.Progress.{HasText, Heard, Said, Progress, GoesOn, RoutesOn, SendsOn, GathersOn, RunsOn, NotesRun}
+use Rattle.agent_workers.specs.Progress.{HasText, Heard, Said, Progress, GoesOn, RoutesOn, SendsOn, GathersOn, RunsOn}
+use Rattle.agent_workers.specs.Progress.{NotesRun}
 use Rattle.agent_workers.specs.Running.{IsReady, AreSettled, AreLeft, SomeIsBuffered, buffered_at}
 use Rattle.formats.specs.Batches.{batch_text}
 use Rattle.agent_workers.specs.Output.{OutPart, out_at, anew, AreAnew, AreOutputs, IsUnfailed, AreUnfailed}
@@ -66,25 +71,41 @@ said_first : (start : OutPart) (output : ℕ) → IsUnfailed start → Said star
 said_first start output none = record {
   format = refl;
   sent = sent_first (batch_text start.format) output start.held;
-  put_faults = subst (λ (bs : List Bool). RoseBy (count_by not bs) start.put_faults start.put_faults) (sym (dones_none output)) (rose_none start.put_faults);
+  put_faults = subst (λ (bs : List Bool). RoseBy (count_by not bs) start.put_faults start.put_faults)
+      (sym (dones_none output)) (rose_none start.put_faults);
   failed = failed_first start.failed (dones output []) none.failed (dones_none output);
   stuck = λ some. absurd (omega (arith, some, none.failed_since));
   last = λ stopped. rw none.failed_since (last_none (dones output (behind_stop [])));
 }
 
 -- nothing happened
-went_first : (job : Job) (start : ℤ) (now : RunState) → Stands now.core [] → now.core.setup ≡ setup_of job start → now.core.stored ≡ [] → Notes (journal_setup_of (setup_of job start)) now.journal.held now.journal.faults [] now.journal → now.counted_at ≡ [] →
-    length now.ins ≡ length job.inputs → ((k : ℕ) → k < length now.ins → IsFresh (in_at now.ins k)) → AreUnfailed now.outs → length now.outs ≡ length job.outputs → job.work ≡ work_of now.proc.outs → Progress (begun job start now) now
+went_first : (job : Job) (start : ℤ) (now : RunState) → Stands now.core [] → now.core.setup ≡ setup_of job start
+    → now.core.stored ≡ [] → Notes (journal_setup_of (setup_of job start)) now.journal.held now.journal.faults []
+    now.journal → now.counted_at ≡ [] →
+    length now.ins ≡ length job.inputs → ((k : ℕ) → k < length now.ins → IsFresh (in_at now.ins k))
+    → AreUnfailed now.outs → length now.outs ≡ length job.outputs → job.work ≡ work_of now.proc.outs
+    → Progress (begun job start now) now
 went_first job start now stands setup stored notes none in_count fresh unfailed count work = record {
   journal = [];
-  text = record { stands = stands; setup_is = setup; more = []; goes_on = refl; written = []; split = sym stored; notes = notes };
+  text = record {
+    stands = stands;
+    setup_is = setup;
+    more = [];
+    goes_on = refl;
+    written = [];
+    split = sym stored;
+    notes = notes;
+  };
   in_count = in_count;
   heard = λ k l. heard_first (in_at now.ins k) k (fresh k l);
   out_count = count;
   said = λ o l. said_first (out_at now.outs o) o (unfailed o l);
   work_is = work;
   worked = worked_first job.work;
-  order = record { in_order = λ f. in_order_first (setup_of job start); none_raw = λ f k l. raw_of-none k [] none_raw_first };
+  order = record {
+    in_order = λ f. in_order_first (setup_of job start);
+    none_raw = λ f k l. raw_of-none k [] none_raw_first;
+  };
   counted_at = counted_none ∙ sym none;
 }
 
@@ -107,123 +128,168 @@ pub record AreNew (job : Job) (start : ℤ) (now : RunState) : Type 0 where
   pub counted : now.counted_at ≡ []
 
 -- a run is set up
-pub is_set_up : (job : Job) (start : ℤ) (now : RunState) → length job.outputs ≤ 16 → IsReady now.core → now.core.stopped ≡ false → Stands now.core [] → now.core.setup ≡ setup_of job start → now.core.stored ≡ [] →
-    now.core.ended ≡ replicate (length job.inputs) false → ((o : ℕ) → buffered_at now.core o ≡ 0) → AreNew job start now → IsSetUp job start now
+pub is_set_up : (job : Job) (start : ℤ) (now : RunState) → length job.outputs ≤ 16 → IsReady now.core
+    → now.core.stopped ≡ false → Stands now.core [] → now.core.setup ≡ setup_of job start → now.core.stored ≡ [] →
+    now.core.ended ≡ replicate (length job.inputs) false → ((o : ℕ) → buffered_at now.core o ≡ 0) → AreNew job start now
+    → IsSetUp job start now
 is_set_up job start now few ready going stands setup stored ended none new =
-    let outputs_are : length now.core.setup.outputs ≡ length job.outputs = ap (λ (s : Setup). length s.outputs) setup ∙ length-map job.outputs sizes_of in
-    let inputs_are : length now.core.setup.inputs ≡ length job.inputs = ap (λ (s : Setup). length s.inputs) setup ∙ length-map job.inputs limit_of in
+    let outputs_are : length now.core.setup.outputs ≡ length job.outputs =
+    ap (λ (s : Setup). length s.outputs) setup ∙ length-map job.outputs sizes_of in
+    let inputs_are : length now.core.setup.inputs ≡ length job.inputs =
+    ap (λ (s : Setup). length s.inputs) setup ∙ length-map job.inputs limit_of in
     record {
       few = omega (arith, outputs_are, few);
       running = record { ready = ready; stands = record { journal = []; stands = stands }; going = going };
       fit = record {
-        inputs = fit_first (length job.inputs) (length now.core.setup.inputs) now.core.ended now.ins inputs_are new.in_count ended new.fresh;
+        inputs = fit_first (length job.inputs) (length now.core.setup.inputs) now.core.ended now.ins inputs_are
+            new.in_count ended new.fresh;
         outputs = subst (λ (k : ℕ). AreOutputs k now.outs) (sym outputs_are) new.outputs;
         filters = new.filters ∙ sym outputs_are;
       };
       settled = none_buffered now.core now.outs none;
-      agrees = went_first job start now stands setup stored (notes_none (journal_setup_of (setup_of job start)) now.journal new.about new.kept new.entries new.put) new.counted
+      agrees = went_first job start now stands setup stored (notes_none
+          (journal_setup_of (setup_of job start)) now.journal new.about new.kept new.entries new.put) new.counted
           new.in_count new.fresh.fresh new.unfailed new.outputs.count_is new.work;
     }
 
 -- ---- the end
 
--- an input at its place
+-- an input at its index
 length-in_runs : (olds news : List InPart) → length news ≡ length olds → length (in_runs olds news) ≡ length olds
 length-in_runs [] news same = refl
 length-in_runs (old ∷ olds) [] same = absurd (omega (arith, same))
 length-in_runs (old ∷ olds) (new ∷ news) same = omega (arith, length-in_runs olds news (omega (arith, same)))
 
-runs_at : (olds news : List InPart) (k : ℕ) → length news ≡ length olds → k < length olds → run_at (in_runs olds news) k ≡ in_run (in_at olds k) (in_at news k)
+runs_at : (olds news : List InPart) (k : ℕ) → length news ≡ length olds → k < length olds
+    → run_at (in_runs olds news) k ≡ in_run (in_at olds k) (in_at news k)
 runs_at [] news k same l = absurd (omega (arith, l))
 runs_at (old ∷ olds) [] k same l = absurd (omega (arith, same))
 runs_at (old ∷ olds) (new ∷ news) zero same l = refl
 runs_at (old ∷ olds) (new ∷ news) (suc k) same l = runs_at olds news k (omega (arith, same)) (omega (arith, l))
 
--- an output at its place
-out_runs_at : (olds news : List OutPart) (o : ℕ) → length news ≡ length olds → o < length olds → out_run_at (out_runs olds news) o ≡ out_run (out_at olds o) (out_at news o)
+-- an output at its index
+out_runs_at : (olds news : List OutPart) (o : ℕ) → length news ≡ length olds → o < length olds
+    → out_run_at (out_runs olds news) o ≡ out_run (out_at olds o) (out_at news o)
 out_runs_at [] news o same l = absurd (omega (arith, l))
 out_runs_at (old ∷ olds) [] o same l = absurd (omega (arith, same))
 out_runs_at (old ∷ olds) (new ∷ news) zero same l = refl
 out_runs_at (old ∷ olds) (new ∷ news) (suc o) same l = out_runs_at olds news o (omega (arith, same)) (omega (arith, l))
 
-start_at : (all : Option Moments) (place : ℕ) (start : ℤ) → Gives all 0 place start → IfSome all (λ moments. start ≡ moments.at 0)
-start_at None place start g = tt
-start_at (Some moments) place start g = g.given
+start_at : (all : Option Moments) (next : ℕ) (start : ℤ) → Gives all 0 next start
+    → IfSome all (λ moments. start ≡ moments.at 0)
+start_at None next start g = tt
+start_at (Some moments) next start g = g.given
 
 -- no moment counted yet
-counted_first : (all : Option Moments) (place : ℕ) (start : ℤ) → IfSome all (λ moments. Counted moments place place start [])
+counted_first : (all : Option Moments) (next : ℕ) (start : ℤ)
+    → IfSome all (λ moments. Counted moments next next start [])
 unfolding Counted
-counted_first None place start = tt
-counted_first (Some moments) place start = omega arith
+counted_first None next start = tt
+counted_first (Some moments) next start = omega arith
 
 -- one moment more
-counted_on : (all : Option Moments) (first place last : ℕ) (floor moment : ℤ) (olds news : List ℤ) → Gives all place last moment → news ≡ olds ++ int_max moment (last_of floor olds) ∷ [] → IfSome all (λ moments. Counted moments first place floor olds)
+counted_on : (all : Option Moments) (first next last : ℕ) (floor moment : ℤ) (olds news : List ℤ)
+    → Gives all next last moment → news ≡ olds ++ int_max moment (last_of floor olds) ∷ []
+    → IfSome all (λ moments. Counted moments first next floor olds)
     → IfSome all (λ moments. IsCounted moments first last floor news)
-counted_on None first place last floor moment olds news g e h = tt
-counted_on (Some moments) first place last floor moment olds news g e h = (
+counted_on None first next last floor moment olds news g e h = tt
+counted_on (Some moments) first next last floor moment olds news g e h = (
   omega (arith, g.next),
-  subst (λ (ms : List ℤ). Counted moments first last floor ms) (sym e) (counted_joined moments first place last floor olds (int_max moment (last_of floor olds) ∷ []) h (counted_one_over moments place last moment (last_of floor olds) g)),
+  subst (λ (ms : List ℤ). Counted moments first last floor ms) (sym e)
+      (counted_joined moments first next last floor olds (int_max moment (last_of floor olds) ∷ []) h
+      (counted_one_over moments next last moment (last_of floor olds) g)),
 )
 
 -- all moments of a run that began with nothing
-counted_all : (all : Option Moments) (place last : ℕ) (start : ℤ) (ms : List ℤ) → Gives all 0 place start → IfSome all (λ moments. IsCounted moments place last start ms) → IfSome all (λ moments. Counted moments (min 1 moments.last) moments.last start ms)
-counted_all None place last start ms g h = tt
-counted_all (Some moments) place last start ms g h = counted_wider moments (min 1 moments.last) place last moments.last start ms (omega (arith, g.next)) h.0 h.1
+counted_all : (all : Option Moments) (next last : ℕ) (start : ℤ) (ms : List ℤ) → Gives all 0 next start
+    → IfSome all (λ moments. IsCounted moments next last start ms)
+    → IfSome all (λ moments. Counted moments (min 1 moments.last) moments.last start ms)
+counted_all None next last start ms g h = tt
+counted_all (Some moments) next last start ms g h = counted_wider moments (min 1 moments.last) next last moments.last
+    start ms (omega (arith, g.next)) h.0 h.1
 
-left_is : (left : Bool) (start : Beginning) (core : CoreState) (part : JournalPart) (journal : List Entry) → HasText start core part journal → SomeIsBuffered left core → IsLeft left (setup_at start) journal
-left_is false start core part journal h none = λ o l. sym (buffered_is start core part journal h o) ∙ none o (omega (arith, l, ap (λ (s : Setup). length s.outputs) h.setup_is))
-left_is true start core part journal h some =
-    (some.0, omega (arith, some.1, ap (λ (s : Setup). length s.outputs) h.setup_is), λ z. some.2 (buffered_is start core part journal h some.0 ∙ z))
+left_is : (left : Bool) (start : Beginning) (core : CoreState) (part : JournalPart) (journal : List Entry)
+    → HasText start core part journal → SomeIsBuffered left core → IsLeft left (setup_at start) journal
+left_is false start core part journal h none = λ o l. sym (buffered_is start core part journal h o)
+    ∙ none o (omega (arith, l, ap (λ (s : Setup). length s.outputs) h.setup_is))
+left_is true start core part journal h some = (
+  some.0,
+  omega (arith, some.1, ap (λ (s : Setup). length s.outputs) h.setup_is),
+  λ z. some.2 (buffered_is start core part journal h some.0 ∙ z),
+)
 
 some_none : (g : Gathered) → Some g ≡ None → ⊥
 some_none g e = cc
 
-taken_only : (limit : Bool) (ins : List InRun) (taken gathered : ℕ) (journal : List Entry) → (taken ≡ 2 ^ 40) ⊎ HoldsTooMany None gathered → (taken ≡ 2 ^ 40) ⊎ RunsFull limit ins journal
+taken_only : (limit : Bool) (ins : List InRun) (taken gathered : ℕ) (journal : List Entry)
+    → (taken ≡ 2 ^ 40) ⊎ HoldsTooMany None gathered → (taken ≡ 2 ^ 40) ⊎ RunsFull limit ins journal
 taken_only limit ins taken gathered journal (inl many) = inl many
 taken_only limit ins taken gathered journal (inr many) = absurd many
 
 -- what the state of an input says, where the run is full or the input is out
-ends_by : (limit : Bool) (ins : List InRun) (state : InState) (held : Option Gathered) (start part : InPart) (k : ℕ) (journal : List Entry) → run_at ins k ≡ in_run start part → RunsFull limit ins journal ⊎ ((state ≢ states.Reading) × (held ≡ None)) → Heard start (record part { state = state; held = held }) k journal
+ends_by : (limit : Bool) (ins : List InRun) (state : InState) (held : Option Gathered) (start part : InPart) (k : ℕ)
+    (journal : List Entry) → run_at ins k ≡ in_run start part
+    → RunsFull limit ins journal ⊎ ((state ≢ states.Reading) × (held ≡ None))
+    → Heard start (record part { state = state; held = held }) k journal
     → EndsSo limit ins k state part.hand.taken journal
 ends_by limit ins states.Reading held start part k journal at (inl full) h = full
 ends_by limit ins states.Reading held start part k journal at (inr out) h = absurd (out.0 refl)
 ends_by limit ins states.Ended held start part k journal at why h = (h.state, h.ended)
 ends_by limit ins states.Faulted held start part k journal at (inl full) h = (h.state.0, h.ended, inr full)
-ends_by limit ins states.Faulted None start part k journal at (inr out) h = (h.state.0, h.ended, inl (subst (λ (x : InRun). IsCutShort k x journal) (sym at) (h.state.1, h.of_taken)))
+ends_by limit ins states.Faulted None start part k journal at (inr out) h =
+    (h.state.0, h.ended, inl (subst (λ (x : InRun). IsCutShort k x journal) (sym at) (h.state.1, h.of_taken)))
 ends_by limit ins states.Faulted (Some g) start part k journal at (inr out) h = absurd (some_none g out.1)
 ends_by limit ins states.LimitReached held start part k journal at (inl full) h = (h.ended, inr full)
-ends_by limit ins states.LimitReached None start part k journal at (inr out) h = (h.ended, taken_only limit ins part.hand.taken (gathered_count journal) journal h.state)
+ends_by limit ins states.LimitReached None start part k journal at (inr out) h =
+    (h.ended, taken_only limit ins part.hand.taken (gathered_count journal) journal h.state)
 ends_by limit ins states.LimitReached (Some g) start part k journal at (inr out) h = absurd (some_none g out.1)
 
-unread_by : (limit : Bool) (ins : List InRun) (state : InState) (taken k : ℕ) (journal : List Entry) → EndsSo limit ins k state taken journal → has_ended k journal ≡ false → IsUnread ins k (run_at ins k) taken journal
+unread_by : (limit : Bool) (ins : List InRun) (state : InState) (taken k : ℕ) (journal : List Entry)
+    → EndsSo limit ins k state taken journal → has_ended k journal ≡ false → IsUnread ins k (run_at ins k) taken journal
 unread_by limit ins states.Reading taken k journal h e = inr (inr h.1)
 unread_by limit ins states.Ended taken k journal h e = absurd (let x : true ≡ false = sym h.1 ∙ e in cc)
-unread_by limit ins states.Faulted taken k journal h e = elim h.2 [ inl short ↦ inl short | inr full ↦ inr (inr full.1) ]
-unread_by limit ins states.LimitReached taken k journal h e = elim h.1 [ inl many ↦ inr (inl many) | inr full ↦ inr (inr full.1) ]
+unread_by limit ins states.Faulted taken k journal h e = elim h.2
+    [ inl short ↦ inl short | inr full ↦ inr (inr full.1) ]
+unread_by limit ins states.LimitReached taken k journal h e =
+    elim h.1 [ inl many ↦ inr (inl many) | inr full ↦ inr (inr full.1) ]
 
-few_of : (held : Option Gathered) (i : ℕ) (rule : InRule) → IfSome held (λ g. (g.input ≡ i) × FitsGather rule (length g.metrics)) → IfSome held (λ g. FitsGather rule (length g.metrics))
+few_of : (held : Option Gathered) (i : ℕ) (rule : InRule) → IfSome held
+    (λ g. (g.input ≡ i) × FitsGather rule (length g.metrics)) → IfSome held (λ g. FitsGather rule (length g.metrics))
 few_of None i rule h = tt
 few_of (Some g) i rule h = h.1
 
 -- a full run has an input that reached a limit
-limit_by : (limit : Bool) (gathered : ℕ) (ins : List InPart) → IsOneIn states.LimitReached ins limit → OneIsFull gathered ins → limit ≡ true
+limit_by : (limit : Bool) (gathered : ℕ) (ins : List InPart) → IsOneIn states.LimitReached ins limit
+    → OneIsFull gathered ins → limit ≡ true
 limit_by true gathered ins one full = refl
 limit_by false gathered ins none full = absurd (none full.0 full.1 full.2.limit)
 
 module _ (start : Beginning) (now : RunState) where
-  module _ (w : Progress start now) (stopped : now.core.stopped ≡ true) (raw : now.core.raw ≡ []) (none_held : now.core.held ≡ None) (starts_count : length start.ins ≡ length start.job.inputs) (outs_count : length start.outs ≡ length start.job.outputs) (rest : AreLeft start.job.tries now.core now.outs)
-      (ended : List Bool) (fit : AreInputs (length start.job.inputs) ended now.ins) (outputs_fit : AreOutputs (length start.job.outputs) now.outs) (why : OneIsFull now.core.gathered now.ins ⊎ AreOut now.ins) where
-    left_failed : (o : ℕ) → o < length now.outs → (buffered_at now.core o ≡ 0) ⊎ (start.job.tries ≤ (out_at now.outs o).failed_since) → buffered_at_end (setup_at start) w.journal o ≢ 0 → LastFailed start.job.tries (dones o (behind_stop w.journal))
-    left_failed o l (inl none) some = absurd (some (sym (buffered_is start now.core now.journal w.journal w.text o) ∙ none))
-    left_failed o l (inr many) some = last_fewer start.job.tries (out_at now.outs o).failed_since (dones o (behind_stop w.journal)) many ((w.said o l).last (sym w.text.stands.stopped ∙ stopped))
+  module _ (w : Progress start now) (stopped : now.core.stopped ≡ true) (raw : now.core.raw ≡ [])
+      (none_held : now.core.held ≡ None) (starts_count : length start.ins ≡ length start.job.inputs)
+      (outs_count : length start.outs ≡ length start.job.outputs) (rest : AreLeft start.job.tries now.core now.outs)
+      (ended : List Bool) (fit : AreInputs (length start.job.inputs) ended now.ins)
+      (outputs_fit : AreOutputs (length start.job.outputs) now.outs) (why : OneIsFull now.core.gathered now.ins
+      ⊎ AreOut now.ins) where
+    left_failed : (o : ℕ) → o < length now.outs → (buffered_at now.core o ≡ 0)
+        ⊎ (start.job.tries ≤ (out_at now.outs o).failed_since) → buffered_at_end (setup_at start) w.journal o ≢ 0
+        → LastFailed start.job.tries (dones o (behind_stop w.journal))
+    left_failed o l (inl none) some = absurd (some (sym (buffered_is start now.core now.journal w.journal w.text o)
+        ∙ none))
+    left_failed o l (inr many) some = last_fewer start.job.tries (out_at now.outs o).failed_since
+        (dones o (behind_stop w.journal)) many ((w.said o l).last (sym w.text.stands.stopped ∙ stopped))
 
-    sent_to : (o : ℕ) → o < length start.job.outputs → IsSentTo start.job.tries (setup_at start) w.journal o (out_run_at (out_runs start.outs now.outs) o)
+    sent_to : (o : ℕ) → o < length start.job.outputs → IsSentTo start.job.tries (setup_at start) w.journal o
+        (out_run_at (out_runs start.outs now.outs) o)
     sent_to o within =
         let l : o < length now.outs = omega (arith, within, w.out_count) in
         let said = w.said o l in
-        let is : IsSentTo start.job.tries (setup_at start) w.journal o (out_run (out_at start.outs o) (out_at now.outs o)) =
+        let is : IsSentTo start.job.tries (setup_at start) w.journal o
+        (out_run (out_at start.outs o) (out_at now.outs o)) =
         record { sent = said.sent; put_faults = said.put_faults; left = left_failed o l (rest o l) } in
-        subst (IsSentTo start.job.tries (setup_at start) w.journal o) (sym (out_runs_at start.outs now.outs o (omega (arith, w.out_count, outs_count)) (omega (arith, within, outs_count)))) is
+        subst (IsSentTo start.job.tries (setup_at start) w.journal o)
+        (sym (out_runs_at start.outs now.outs o (omega (arith, w.out_count, outs_count))
+        (omega (arith, within, outs_count)))) is
 
     same_count : length now.ins ≡ length start.ins
     same_count = fit.count_is ∙ sym starts_count
@@ -231,8 +297,9 @@ module _ (start : Beginning) (now : RunState) where
     within_ins : (k : ℕ) → k < length start.job.inputs → k < length now.ins
     within_ins k l = omega (arith, l, fit.count_is)
 
-    at_place : (k : ℕ) → k < length start.job.inputs → run_at (in_runs start.ins now.ins) k ≡ in_run (in_at start.ins k) (in_at now.ins k)
-    at_place k l = runs_at start.ins now.ins k same_count (omega (arith, l, starts_count))
+    at_index : (k : ℕ) → k < length start.job.inputs → run_at (in_runs start.ins now.ins) k ≡ in_run (in_at start.ins k)
+        (in_at now.ins k)
+    at_index k l = runs_at start.ins now.ins k same_count (omega (arith, l, starts_count))
 
     is_full : OneIsFull now.core.gathered now.ins → SomeIsFull (in_runs start.ins now.ins) w.journal
     is_full full =
@@ -240,33 +307,46 @@ module _ (start : Beginning) (now : RunState) where
         let l : k < length start.job.inputs = omega (arith, full.1, fit.count_is) in
         let part : InPart = in_at now.ins k in
         let f = fit.each k l in
-        let many : HoldsTooMany part.held (gathered_count w.journal) = subst (HoldsTooMany part.held) w.text.stands.gathered full.2.many in
-        let is : IsFull part.rule w.journal k (in_at start.ins k).left part.left = full_at_end (in_at start.ins k) part part.held k w.journal f.readable.some f.none_held many (w.heard k full.1) (few_of part.held part.input part.rule f.own) in (
+        let many : HoldsTooMany part.held (gathered_count w.journal) =
+        subst (HoldsTooMany part.held) w.text.stands.gathered full.2.many in
+        let is : IsFull part.rule w.journal k (in_at start.ins k).left part.left =
+        full_at_end (in_at start.ins k) part part.held k w.journal f.readable.some f.none_held many (w.heard k full.1)
+        (few_of part.held part.input part.rule f.own) in (
           k,
           omega (arith, l, starts_count, length-in_runs start.ins now.ins same_count),
-          subst (λ (x : InRun). IsFull x.rule w.journal k x.place.before x.place.after) (sym (at_place k l)) is,
+          subst (λ (x : InRun). IsFull x.rule w.journal k x.place.before x.place.after) (sym (at_index k l)) is,
         )
 
-    why_by : (limit : Bool) → IsOneIn states.LimitReached now.ins limit → (k : ℕ) → k < length now.ins → RunsFull limit (in_runs start.ins now.ins) w.journal ⊎ (((in_at now.ins k).state ≢ states.Reading) × ((in_at now.ins k).held ≡ None))
+    why_by : (limit : Bool) → IsOneIn states.LimitReached now.ins limit → (k : ℕ) → k < length now.ins
+        → RunsFull limit (in_runs start.ins now.ins) w.journal
+        ⊎ (((in_at now.ins k).state ≢ states.Reading) × ((in_at now.ins k).held ≡ None))
     why_by limit one k l =
         elim why [
           | inl full ↦ inl (limit_by limit now.core.gathered now.ins one full, is_full full)
           | inr out ↦ inr ((out k l).read, (out k l).none_held)
         ]
 
-    ends_at : (limit : Bool) → IsOneIn states.LimitReached now.ins limit → (k : ℕ) → k < length start.job.inputs → EndsSo limit (in_runs start.ins now.ins) k (in_at now.ins k).state (in_at now.ins k).hand.taken w.journal
+    ends_at : (limit : Bool) → IsOneIn states.LimitReached now.ins limit → (k : ℕ) → k < length start.job.inputs
+        → EndsSo limit (in_runs start.ins now.ins) k (in_at now.ins k).state (in_at now.ins k).hand.taken w.journal
     ends_at limit one k l =
-        ends_by limit (in_runs start.ins now.ins) (in_at now.ins k).state (in_at now.ins k).held (in_at start.ins k) (in_at now.ins k) k w.journal (at_place k l) (why_by limit one k (within_ins k l)) (w.heard k (within_ins k l))
+        ends_by limit (in_runs start.ins now.ins) (in_at now.ins k).state (in_at now.ins k).held (in_at start.ins k)
+        (in_at now.ins k) k w.journal (at_index k l) (why_by limit one k (within_ins k l)) (w.heard k (within_ins k l))
 
-    unread : (k : ℕ) → k < length start.job.inputs → has_ended k w.journal ≡ false → IsUnread (in_runs start.ins now.ins) k (run_at (in_runs start.ins now.ins) k) (in_at now.ins k).hand.taken w.journal
+    unread : (k : ℕ) → k < length start.job.inputs → has_ended k w.journal ≡ false
+        → IsUnread (in_runs start.ins now.ins) k (run_at (in_runs start.ins now.ins) k)
+        (in_at now.ins k).hand.taken w.journal
     unread k l =
         elim why [
           | inl full ↦ λ e. inr (inr (is_full full))
-          | inr out ↦ unread_by false (in_runs start.ins now.ins) (in_at now.ins k).state (in_at now.ins k).hand.taken k w.journal
-              (ends_by false (in_runs start.ins now.ins) (in_at now.ins k).state (in_at now.ins k).held (in_at start.ins k) (in_at now.ins k) k w.journal (at_place k l) (inr ((out k (within_ins k l)).read, (out k (within_ins k l)).none_held)) (w.heard k (within_ins k l)))
+          | inr out ↦ unread_by false (in_runs start.ins now.ins) (in_at now.ins k).state
+              (in_at now.ins k).hand.taken k w.journal
+              (ends_by false (in_runs start.ins now.ins) (in_at now.ins k).state (in_at now.ins k).held
+              (in_at start.ins k) (in_at now.ins k) k w.journal (at_index k l)
+              (inr ((out k (within_ins k l)).read, (out k (within_ins k l)).none_held)) (w.heard k (within_ins k l)))
         ]
 
-    read_of : (k : ℕ) → k < length start.job.inputs → IsReadFrom (in_runs start.ins now.ins) w.journal k (in_run (in_at start.ins k) (in_at now.ins k)) (in_at now.ins k).hand.taken
+    read_of : (k : ℕ) → k < length start.job.inputs → IsReadFrom (in_runs start.ins now.ins) w.journal k
+        (in_run (in_at start.ins k) (in_at now.ins k)) (in_at now.ins k).hand.taken
     read_of k l =
         let part : InPart = in_at now.ins k in
         let f = fit.each k l in
@@ -275,14 +355,16 @@ module _ (start : Beginning) (now : RunState) where
           gathered = gathered_at_end (in_at start.ins k) part part.held k w.journal f.readable.some f.none_held h;
           clocked = clocked_at_end (in_at start.ins k) part part.held k w.journal h;
           bytes_taken = h.counted;
-          unread = subst (λ (x : InRun). has_ended k w.journal ≡ false → IsUnread (in_runs start.ins now.ins) k x part.hand.taken w.journal) (at_place k l) (unread k l);
+          unread = subst (λ (x : InRun). has_ended k w.journal ≡ false
+              → IsUnread (in_runs start.ins now.ins) k x part.hand.taken w.journal) (at_index k l) (unread k l);
         }
 
     pub has_run : HasRun start.job start.start (in_runs start.ins now.ins) (out_runs start.outs now.outs) w.journal
     has_run = record {
       legal = subst (λ (s : Setup). IsLegal s w.journal) w.text.setup_is w.text.stands.legal;
       taken = λ k. (in_at now.ins k).hand.taken;
-      read_from = λ k l. subst (λ (x : InRun). IsReadFrom (in_runs start.ins now.ins) w.journal k x (in_at now.ins k).hand.taken) (sym (at_place k l)) (read_of k l);
+      read_from = λ k l. subst (λ (x : InRun). IsReadFrom (in_runs start.ins now.ins) w.journal k x
+          (in_at now.ins k).hand.taken) (sym (at_index k l)) (read_of k l);
       sent_to = sent_to;
       worked = w.worked;
       stopped = sym w.text.stands.stopped ∙ stopped;
@@ -296,7 +378,8 @@ module _ (start : Beginning) (now : RunState) where
       count_is = fit.count_is;
       each = λ k l.
           let f = fit.each k l in
-          let within : k < length now.core.setup.inputs = omega (arith, l, ap (λ (s : Setup). length s.inputs) w.text.setup_is, length-map start.job.inputs limit_of) in
+          let within : k < length now.core.setup.inputs = omega
+          (arith, l, ap (λ (s : Setup). length s.inputs) w.text.setup_is, length-map start.job.inputs limit_of) in
           record {
             number = f.number;
             readable = f.readable;
@@ -307,12 +390,19 @@ module _ (start : Beginning) (now : RunState) where
           };
     }
 
-    pub finished : (ending : Ending) (old : RunState) (last : CoreState) (part : JournalPart) (timer : Timed) (moment : ℤ) → last ≡ after_cut now.core → Gives old.timer.moments old.timer.place timer.place moment → now.counted_at ≡ old.counted_at ++ int_max moment (last_of start.start old.counted_at) ∷ [] →
-        IsOneIn states.LimitReached now.ins ending.limit → IsOneIn states.Faulted now.ins ending.read_fault → SomeIsBuffered ending.left now.core → ending.account.items ≡ account_text now.core.numbers →
-        IsPutSo ending.journal_fault (change start.noted part.held start.note_faults part.faults) (journal_text (journal_setup_of (setup_at start)) (w.text.written ++ now.core.stored) (account_text now.core.numbers)) → Finished start ending old (record now { core = last; journal = part; timer = timer; counted_at = [] })
+    pub finished : (ending : Ending) (old : RunState) (last : CoreState) (part : JournalPart) (timer : Timed)
+        (moment : ℤ) → last ≡ after_cut now.core → Gives old.timer.moments old.timer.next timer.next moment
+        → now.counted_at ≡ old.counted_at ++ int_max moment (last_of start.start old.counted_at) ∷ [] →
+        IsOneIn states.LimitReached now.ins ending.limit → IsOneIn states.Faulted now.ins ending.read_fault
+        → SomeIsBuffered ending.left now.core → ending.account.items ≡ account_text now.core.numbers →
+        IsPutSo ending.journal_fault (change start.noted part.held start.note_faults part.faults)
+        (journal_text (journal_setup_of (setup_at start)) (w.text.written ++ now.core.stored)
+        (account_text now.core.numbers)) → Finished start ending old
+        (record now { core = last; journal = part; timer = timer; counted_at = [] })
     unfolding has_run
     finished ending old last part timer moment cut gives counts limit fault left account_is noted =
-        let totals_are : now.core.numbers ≡ totals (setup_at start) w.journal = w.text.stands.numbers ∙ ap (λ (s : Setup). totals s w.journal) w.text.setup_is in
+        let totals_are : now.core.numbers ≡ totals (setup_at start) w.journal =
+        w.text.stands.numbers ∙ ap (λ (s : Setup). totals s w.journal) w.text.setup_is in
         let same : account_text now.core.numbers ≡ account_of (setup_at start) w.journal = ap account_text totals_are in
         record {
           journal = w.journal;
@@ -324,15 +414,21 @@ module _ (start : Beginning) (now : RunState) where
           outputs_fit = outputs_fit;
           heard = w.heard;
           said = w.said;
-          counted = λ first. counted_on old.timer.moments first old.timer.place timer.place start.start moment old.counted_at (counted_moments w.journal) gives (w.counted_at ∙ counts);
+          counted = λ first. counted_on old.timer.moments first old.timer.next timer.next start.start moment
+              old.counted_at (counted_moments w.journal) gives (w.counted_at ∙ counts);
           in_order = w.order.in_order;
           ends = λ k l. ends_at ending.limit limit k l;
           limit = limit;
           read_fault = fault;
           left = left_is ending.left start now.core now.journal w.journal w.text left;
           account = account_is ∙ same;
-          noted = subst (λ (account : List ℕ). IsPutSo ending.journal_fault (change start.noted part.held start.note_faults part.faults) (journal_text (journal_setup_of (setup_at start)) w.journal account)) same
-              (subst (λ (es : List Entry). IsPutSo ending.journal_fault (change start.noted part.held start.note_faults part.faults) (journal_text (journal_setup_of (setup_at start)) es (account_text now.core.numbers))) (sym w.text.split) noted);
+          noted = subst (λ (account : List ℕ). IsPutSo ending.journal_fault
+              (change start.noted part.held start.note_faults part.faults)
+              (journal_text (journal_setup_of (setup_at start)) w.journal account)) same
+              (subst (λ (es : List Entry). IsPutSo ending.journal_fault
+              (change start.noted part.held start.note_faults part.faults)
+              (journal_text (journal_setup_of (setup_at start)) es (account_text now.core.numbers)))
+              (sym w.text.split) noted);
         }
 
 -- a list that was written over another one of its length
@@ -343,24 +439,36 @@ taken_front zero (x ∷ news) rest e = absurd (omega (arith, e))
 taken_front {X} (suc n) (x ∷ news) rest e = ap (λ (xs : List X). x ∷ xs) (taken_front n news rest (omega (arith, e)))
 
 -- a run that began with nothing
-pub ran : (job : Job) (start : ℤ) (ending : Ending) (old new : RunState) → Gives old.timer.moments 0 old.timer.place start → old.counted_at ≡ [] → length new.ins ≡ length job.inputs → Finished (begun job start old) ending old new →
-    Ran job ending (record { ins = in_runs old.ins new.ins; outs = out_runs old.outs new.outs; journal = part_change old.journal new.journal; moments = old.timer.moments })
+pub ran : (job : Job) (start : ℤ) (ending : Ending) (old new : RunState)
+    → Gives old.timer.moments 0 old.timer.next start → old.counted_at ≡ [] → length new.ins ≡ length job.inputs
+    → Finished (begun job start old) ending old new →
+    Ran job ending (record {
+      ins = in_runs old.ins new.ins;
+      outs = out_runs old.outs new.outs;
+      journal = part_change old.journal new.journal;
+      moments = old.timer.moments;
+    })
 ran job start ending old new gives none number f =
-    let counts : IfSome old.timer.moments (λ moments. Counted moments old.timer.place old.timer.place start old.counted_at) =
-    subst (λ (ms : List ℤ). IfSome old.timer.moments (λ moments. Counted moments old.timer.place old.timer.place start ms)) (sym none) (counted_first old.timer.moments old.timer.place start) in
+    let counts : IfSome old.timer.moments (λ moments. Counted moments old.timer.next old.timer.next start
+    old.counted_at) =
+    subst (λ (ms : List ℤ). IfSome old.timer.moments (λ moments. Counted moments old.timer.next old.timer.next start
+    ms)) (sym none) (counted_first old.timer.moments old.timer.next start) in
     record {
       start = start;
       journal = f.journal;
       run = record {
         has = f.run;
-        start_is = start_at old.timer.moments old.timer.place start gives;
-        counted = counted_all old.timer.moments old.timer.place new.timer.place start (counted_moments f.journal) gives (f.counted old.timer.place counts);
+        start_is = start_at old.timer.moments old.timer.next start gives;
+        counted = counted_all old.timer.moments old.timer.next new.timer.next start (counted_moments f.journal) gives
+            (f.counted old.timer.next counts);
         in_order = f.in_order refl;
       };
       state = λ k. (in_at new.ins k).state;
       ends = f.ends;
-      limit = subst (λ (n : ℕ). IsOneOf states.LimitReached n (λ k. (in_at new.ins k).state) ending.limit) number f.limit;
-      read_fault = subst (λ (n : ℕ). IsOneOf states.Faulted n (λ k. (in_at new.ins k).state) ending.read_fault) number f.read_fault;
+      limit = subst (λ (n : ℕ). IsOneOf states.LimitReached n (λ k. (in_at new.ins k).state) ending.limit) number
+          f.limit;
+      read_fault = subst (λ (n : ℕ). IsOneOf states.Faulted n (λ k. (in_at new.ins k).state) ending.read_fault) number
+          f.read_fault;
       left = f.left;
       account = f.account;
       noted = f.noted;
@@ -369,18 +477,28 @@ ran job start ending old new gives none number f =
 -- ---- rounds
 
 -- more items were routed, and the entries spelled
-pub routes_more : (first old routed new : CoreState) (proc0 proc new_proc : ProcPart) (part0 part new_part : JournalPart) → RoutesOn first old proc0 proc part0 part → GoesOn old routed proc new_proc → NotesRun routed new part new_part → RoutesOn first new proc0 new_proc part0 new_part
+pub routes_more : (first old routed new : CoreState) (proc0 proc new_proc : ProcPart)
+    (part0 part new_part : JournalPart) → RoutesOn first old proc0 proc part0 part → GoesOn old routed proc new_proc
+    → NotesRun routed new part new_part → RoutesOn first new proc0 new_proc part0 new_part
 routes_more first old routed new proc0 proc new_proc part0 part new_part routes goes notes = λ start now anew w.
-    notes start (record now { proc = new_proc }) (goes start (record now { journal = part }) anew (routes start now anew w))
+    notes start (record now { proc = new_proc }) (goes start (record now { journal = part }) anew
+    (routes start now anew w))
 
 -- the last items were routed
-pub routes_last : (first old new : CoreState) (proc0 proc new_proc : ProcPart) (part0 part : JournalPart) → RoutesOn first old proc0 proc part0 part → GoesOn old new proc new_proc → RoutesOn first new proc0 new_proc part0 part
-routes_last first old new proc0 proc new_proc part0 part routes goes = λ start now anew w. goes start (record now { journal = part }) anew (routes start now anew w)
+pub routes_last : (first old new : CoreState) (proc0 proc new_proc : ProcPart) (part0 part : JournalPart)
+    → RoutesOn first old proc0 proc part0 part → GoesOn old new proc new_proc
+    → RoutesOn first new proc0 new_proc part0 part
+routes_last first old new proc0 proc new_proc part0 part routes goes =
+    λ start now anew w. goes start (record now { journal = part }) anew (routes start now anew w)
 
 -- one round more: inputs were gathered, the items were routed, batches were sent, and the entries spelled
-pub runs_more : (first old last : RunState) (gathered routed sent : CoreState) (fresh : List OutPart) (mid_part : JournalPart) → RunsOn first old → (AreSettled first.core first.outs → AreSettled old.core old.outs) →
-    old.next ≡ 0 → last.next ≡ 0 → GathersOn old.core gathered old.ins last.ins → fresh ≡ map anew old.outs → RoutesOn gathered routed old.proc last.proc old.journal mid_part → routed.raw ≡ [] → SendsOn routed sent fresh last.outs → NotesRun sent last.core mid_part last.journal → RunsOn first last
-runs_more first old last gathered routed sent fresh mid_part runs settles at_first at_last gathers anews routes none sends notes = λ start counted settled w.
+pub runs_more : (first old last : RunState) (gathered routed sent : CoreState) (fresh : List OutPart)
+    (mid_part : JournalPart) → RunsOn first old → (AreSettled first.core first.outs → AreSettled old.core old.outs) →
+    old.next ≡ 0 → last.next ≡ 0 → GathersOn old.core gathered old.ins last.ins → fresh ≡ map anew old.outs
+    → RoutesOn gathered routed old.proc last.proc old.journal mid_part → routed.raw ≡ []
+    → SendsOn routed sent fresh last.outs → NotesRun sent last.core mid_part last.journal → RunsOn first last
+runs_more first old last gathered routed sent fresh mid_part runs settles at_first at_last gathers anews routes none
+    sends notes = λ start counted settled w.
     let here : RunState = record old { counted_at = counted } in
     let a = runs start counted settled w in
     let a0 = subst (λ (k : ℕ). Progress start (record here { next = k })) at_first a in
@@ -394,8 +512,10 @@ runs_more first old last gathered routed sent fresh mid_part runs settles at_fir
     let e = sends start zero n in
     let f = notes start (record zero { outs = last.outs }) e in
     let last_zero : RunState = record zero { core = last.core; outs = last.outs; journal = last.journal } in
-    subst (λ (k : ℕ). Progress start (record last { next = k; counted_at = counted })) (sym at_last) (went_timed start last_zero last.timer f)
+    subst (λ (k : ℕ). Progress start (record last { next = k; counted_at = counted })) (sym at_last)
+    (went_timed start last_zero last.timer f)
 
 -- the outputs are settled still, once the entries were spelled
-pub settled_still : (sent new : CoreState) (outs : List OutPart) → new ≡ after_cut sent → AreSettled sent outs → AreSettled new outs
+pub settled_still : (sent new : CoreState) (outs : List OutPart) → new ≡ after_cut sent → AreSettled sent outs
+    → AreSettled new outs
 settled_still sent new outs is h = rw is h

@@ -1,5 +1,7 @@
--- Inputs by their places: one changes, and the others stay.
-use Rattle.std.proofs.Common.{◌≡◌, ◌≢◌, ◌≤◌, ◌<◌, ◌+◌, ℕ, zero, suc, Bool, true, false, List, [], ◌∷◌, length, length-append, get_or, set, replicate, refl, sym, ap, ◌∙◌, subst, inl, inr, arith, below_more}
+-- Inputs by their indices: one changes, and the others stay.
+use Rattle.std.proofs.Common.{◌≡◌, ◌≢◌, ◌≤◌, ◌<◌, ◌+◌, ℕ, zero, suc, Bool, true, false, List, [], ◌∷◌, length}
+use Rattle.std.proofs.Common.{length-append, get_or, set, replicate, refl, sym, ap, ◌∙◌, subst, inl, inr, arith}
+use Rattle.std.proofs.Common.{below_more}
 use Rattle.std.specs.Prelude.{slice_get, is_some, ◌⊎◌, IfSome}
 use Rattle.std.proofs.lemmas.List.{length-map, length-set, get_or-map, get_or-set_same, get_or-set_other}
 use Rattle.std.specs.declared.option.Option.{Option}
@@ -15,11 +17,14 @@ use Rattle.pipeline_core.specs.declared.gathering.Gathered.{Gathered}
 use Rattle.formats.specs.declared.pieces.InState.{InState}
 use Rattle.formats.specs.declared.pieces.InState.TheVariants as states
 use Rattle.agent_workers.specs.declared.input.InJob.{InJob}
-use Rattle.agent_workers.specs.Inputs.{InPart, in_of, ins_of, in_at, no_in, is_ended, IsSameInput, AreSameInputs, FitsInput, AreInputs, IsCutBy, HoldsNoEnd, HoldsOwn, IsReadable, IsMoved, IsOut, IsFullOf, OneIsFull, IsOneIn, AreFresh}
+use Rattle.agent_workers.specs.Inputs.{InPart, in_of, ins_of, in_at, no_in, is_ended, IsSameInput, AreSameInputs}
+use Rattle.agent_workers.specs.Inputs.{FitsInput, AreInputs, IsCutBy, HoldsNoEnd, HoldsOwn, IsReadable, IsMoved, IsOut}
+use Rattle.agent_workers.specs.Inputs.{IsFullOf, OneIsFull, IsOneIn, AreFresh}
 use Rattle.formats.specs.Reader.{FitsGather}
 use Rattle.agent_workers.specs.Output.{OutPart}
 use Rattle.agent_workers.specs.Progress.{Progress, GathersAt, GathersTo}
-use Rattle.agent_workers.specs.Running.{IsReady, AreSettled, IsGathered, IsGatheredAt, HasMoved, HasGone, IdlesOut, buffered_at}
+use Rattle.agent_workers.specs.Running.{IsReady, AreSettled, IsGathered, IsGatheredAt, HasMoved, HasGone, IdlesOut}
+use Rattle.agent_workers.specs.Running.{buffered_at}
 use Rattle.agent_workers.proofs.HeardLemmas.{not_ended, holds_no_end}
 use Rattle.agent_workers.proofs.OutLemmas.{each_set, ready_same}
 use Rattle.agent_workers.proofs.ProgressLemmas.{went_behind}
@@ -27,108 +32,185 @@ use Rattle.agent_workers.proofs.ProgressLemmas.{went_behind}
 -- ---- the same inputs
 
 pub same_input : (first old new : InPart) → IsSameInput first old → IsSameInput old new → IsSameInput first new
-same_input first old new h k = record { input = k.input ∙ h.input; rule = k.rule ∙ h.rule; moments = k.moments ∙ h.moments }
+same_input first old new h k = record {
+  input = k.input ∙ h.input;
+  rule = k.rule ∙ h.rule;
+  moments = k.moments
+      ∙ h.moments;
+}
 
-pub same_inputs : (firsts olds news : List InPart) → AreSameInputs firsts olds → AreSameInputs olds news → AreSameInputs firsts news
-same_inputs firsts olds news h k = record { count = k.count ∙ h.count; each = λ i l. same_input (in_at firsts i) (in_at olds i) (in_at news i) (h.each i l) (k.each i (omega (arith, l, h.count))) }
+pub same_inputs : (firsts olds news : List InPart) → AreSameInputs firsts olds → AreSameInputs olds news
+    → AreSameInputs firsts news
+same_inputs firsts olds news h k = record {
+  count = k.count ∙ h.count;
+  each = λ i l. same_input (in_at firsts i)
+      (in_at olds i) (in_at news i) (h.each i l) (k.each i (omega (arith, l, h.count)));
+}
 
 pub inputs_themselves : (ins : List InPart) → AreSameInputs ins ins
 inputs_themselves ins = record { count = refl; each = λ i l. record { input = refl; rule = refl; moments = refl } }
 
-pub same_set : (firsts ins : List InPart) (n : ℕ) (part : InPart) → n < length ins → AreSameInputs firsts ins → IsSameInput (in_at ins n) part → AreSameInputs firsts (set ins n part)
+pub same_set : (firsts ins : List InPart) (n : ℕ) (part : InPart) → n < length ins → AreSameInputs firsts ins
+    → IsSameInput (in_at ins n) part → AreSameInputs firsts (set ins n part)
 same_set firsts ins n part b h k =
     let each : (i : ℕ) → i < length (set ins n part) → IsSameInput (in_at firsts i) (get_or (set ins n part) i no_in) =
-    each_set (λ (i : ℕ) (x : InPart). IsSameInput (in_at firsts i) x) ins n part no_in b (same_input (in_at firsts n) (in_at ins n) part (h.each n (omega (arith, b, h.count))) k) (λ i l ne. h.each i (omega (arith, l, h.count))) in
-    record { count = length-set ins n part ∙ h.count; each = λ i l. each i (omega (arith, l, h.count, length-set ins n part)) }
+    each_set (λ (i : ℕ) (x : InPart). IsSameInput (in_at firsts i) x) ins n part no_in b
+    (same_input (in_at firsts n) (in_at ins n) part (h.each n (omega (arith, b, h.count))) k)
+    (λ i l ne. h.each i (omega (arith, l, h.count))) in
+    record {
+      count = length-set ins n part ∙ h.count;
+      each = λ i l. each i
+          (omega (arith, l, h.count, length-set ins n part));
+    }
 
 -- ---- inputs that fit a core
 
-pub fits_still : (place : ℕ) (old new : List Bool) (part : InPart) → slice_get new place ≡ slice_get old place → FitsInput place old part → FitsInput place new part
-fits_still place old new part same h = record { number = h.number; readable = h.readable; cut_by = h.cut_by; ended_is = same ∙ h.ended_is; own = h.own; none_held = h.none_held }
+pub fits_still : (index : ℕ) (old new : List Bool) (part : InPart) → slice_get new index ≡ slice_get old index
+    → FitsInput index old part → FitsInput index new part
+fits_still index old new part same h = record {
+  number = h.number;
+  readable = h.readable;
+  cut_by = h.cut_by;
+  ended_is = same ∙ h.ended_is;
+  own = h.own;
+  none_held = h.none_held;
+}
 
-pub inputs_set : (count n : ℕ) (old new : CoreState) (ins : List InPart) (part : InPart) → n < count → IsGatheredAt n old new → FitsInput n new.ended part → AreInputs count old.ended ins → AreInputs count new.ended (set ins n part)
+pub inputs_set : (count n : ℕ) (old new : CoreState) (ins : List InPart) (part : InPart) → n < count
+    → IsGatheredAt n old new → FitsInput n new.ended part → AreInputs count old.ended ins
+    → AreInputs count new.ended (set ins n part)
 inputs_set count n old new ins part b at fits h =
     let each : (i : ℕ) → i < length (set ins n part) → FitsInput i new.ended (get_or (set ins n part) i no_in) =
-    each_set (λ (i : ℕ) (x : InPart). FitsInput i new.ended x) ins n part no_in (omega (arith, b, h.count_is)) fits (λ i l ne. fits_still i old.ended new.ended (in_at ins i) (at.others i ne) (h.each i (omega (arith, l, h.count_is)))) in
-    record { count_is = length-set ins n part ∙ h.count_is; each = λ i l. each i (omega (arith, l, h.count_is, length-set ins n part)) }
+    each_set (λ (i : ℕ) (x : InPart). FitsInput i new.ended x) ins n part no_in (omega (arith, b, h.count_is)) fits
+    (λ i l ne. fits_still i old.ended new.ended (in_at ins i) (at.others i ne)
+    (h.each i (omega (arith, l, h.count_is)))) in
+    record {
+      count_is = length-set ins n part ∙ h.count_is;
+      each = λ i l. each i
+          (omega (arith, l, h.count_is, length-set ins n part));
+    }
 
 -- what ended is as before
-pub inputs_still : (count : ℕ) (old new : List Bool) (ins : List InPart) → new ≡ old → AreInputs count old ins → AreInputs count new ins
+pub inputs_still : (count : ℕ) (old new : List Bool) (ins : List InPart) → new ≡ old → AreInputs count old ins
+    → AreInputs count new ins
 inputs_still count old new ins same h = subst (λ (ended : List Bool). AreInputs count ended ins) (sym same) h
 
 -- ---- cores that gather
 
 pub gathered_none : (core : CoreState) → IsGathered core core
-gathered_none core = record { setup = refl; held = refl; stopped = refl; lanes = refl; numbers = refl; stored = omega arith; raw = omega arith }
+gathered_none core = record {
+  setup = refl;
+  held = refl;
+  stopped = refl;
+  lanes = refl;
+  numbers = refl;
+  stored = omega arith;
+  raw = omega arith;
+}
 
 pub gathered_then : (old mid new : CoreState) → IsGathered old mid → IsGathered mid new → IsGathered old new
-gathered_then old mid new h k = record { setup = k.setup ∙ h.setup; held = k.held ∙ h.held; stopped = k.stopped ∙ h.stopped; lanes = k.lanes ∙ h.lanes; numbers = k.numbers ∙ h.numbers; stored = omega (arith, h.stored, k.stored); raw = omega (arith, h.raw, k.raw) }
+gathered_then old mid new h k = record {
+  setup = k.setup ∙ h.setup;
+  held = k.held ∙ h.held;
+  stopped = k.stopped
+      ∙ h.stopped;
+  lanes = k.lanes ∙ h.lanes;
+  numbers = k.numbers ∙ h.numbers;
+  stored = omega (arith, h.stored, k.stored);
+  raw = omega (arith, h.raw, k.raw);
+}
 
-pub gathered_at_then : (n : ℕ) (old mid new : CoreState) → IsGatheredAt n old mid → IsGatheredAt n mid new → IsGatheredAt n old new
-gathered_at_then n old mid new h k = record { kept = gathered_then old mid new h.kept k.kept; others = λ i ne. k.others i ne ∙ h.others i ne }
+pub gathered_at_then : (n : ℕ) (old mid new : CoreState) → IsGatheredAt n old mid → IsGatheredAt n mid new
+    → IsGatheredAt n old new
+gathered_at_then n old mid new h k = record {
+  kept = gathered_then old mid new h.kept k.kept;
+  others = λ i ne. k.others i ne ∙ h.others i ne;
+}
 
 -- the outputs are settled as before
-pub settled_gathered : (old new : CoreState) (outs : List OutPart) → IsGathered old new → AreSettled old outs → AreSettled new outs
+pub settled_gathered : (old new : CoreState) (outs : List OutPart) → IsGathered old new → AreSettled old outs
+    → AreSettled new outs
 settled_gathered old new outs h s = λ o l.
-    let same : buffered_at new o ≡ buffered_at old o = ap (λ (xs : List OutputNumbers). (get_or xs o unreached_output).buffered) h.numbers in
+    let same : buffered_at new o ≡ buffered_at old o = ap (λ (xs : List OutputNumbers).
+    (get_or xs o unreached_output).buffered) h.numbers in
     elim (s o l) [
       | inl none ↦ inl (same ∙ none)
       | inr some ↦ inr some
     ]
 
 -- one input more had its turn
-pub gathers_then : (n : ℕ) (old mid new : CoreState) (ins mid_ins : List InPart) (part new_part : InPart) → IsGathered old mid → part.input ≡ n → n < length mid_ins → in_at mid_ins n ≡ part → GathersAt mid new part new_part → GathersTo n old mid ins mid_ins → GathersTo (n + 1) old new ins (set mid_ins n new_part)
+pub gathers_then : (n : ℕ) (old mid new : CoreState) (ins mid_ins : List InPart) (part new_part : InPart)
+    → IsGathered old mid → part.input ≡ n → n < length mid_ins → in_at mid_ins n ≡ part
+    → GathersAt mid new part new_part → GathersTo n old mid ins mid_ins
+    → GathersTo (n + 1) old new ins (set mid_ins n new_part)
 gathers_then n old mid new ins mid_ins part new_part kept number b at turn h = λ start now settled w.
-    let from : Progress start (record now { core = mid; ins = mid_ins; next = part.input }) = subst (λ (k : ℕ). Progress start (record now { core = mid; ins = mid_ins; next = k })) (sym number) (h start now settled w) in
+    let from : Progress start (record now { core = mid; ins = mid_ins; next = part.input }) =
+    subst (λ (k : ℕ). Progress start (record now { core = mid; ins = mid_ins; next = k })) (sym number)
+    (h start now settled w) in
     subst (λ (k : ℕ). Progress start (record now { core = new; ins = set mid_ins k new_part; next = k + 1 })) number
-    (turn mid_ins (omega (arith, b, number)) (ap (in_at mid_ins) number ∙ at) start now (λ f. settled_gathered old mid now.outs kept (settled f)) from)
+    (turn mid_ins (omega (arith, b, number)) (ap (in_at mid_ins) number ∙ at) start now
+    (λ f. settled_gathered old mid now.outs kept (settled f)) from)
 
 -- the others had none
-pub gathers_on : (n : ℕ) (old new : CoreState) (ins new_ins : List InPart) → n ≤ length ins → GathersTo n old new ins new_ins → GathersTo (length ins) old new ins new_ins
-gathers_on n old new ins new_ins l h = λ start now settled w. went_behind start new (record now { ins = new_ins }) n (length ins) l (h start now settled w)
+pub gathers_on : (n : ℕ) (old new : CoreState) (ins new_ins : List InPart) → n ≤ length ins
+    → GathersTo n old new ins new_ins → GathersTo (length ins) old new ins new_ins
+gathers_on n old new ins new_ins l h = λ start now settled w. went_behind start new (record now { ins = new_ins }) n
+    (length ins) l (h start now settled w)
 
 pub gathers_nothing : (core : CoreState) (ins : List InPart) → GathersTo 0 core core ins ins
 gathers_nothing core ins = λ start now settled w. w
 
 -- ---- parts of jobs
 
-pub input_here : {S C : Type 0} (told : S → Carried) (timed : C → Timed) (jobs : List (InJob S C)) (i : ℕ) (d : InJob S C) → i < length jobs → in_at (ins_of told timed jobs) i ≡ in_of told timed (get_or jobs i d)
+pub input_here : {S C : Type 0} (told : S → Carried) (timed : C → Timed) (jobs : List (InJob S C)) (i : ℕ)
+    (d : InJob S C) → i < length jobs → in_at (ins_of told timed jobs) i ≡ in_of told timed (get_or jobs i d)
 input_here told timed jobs i d b = get_or-map (in_of told timed) jobs i d no_in b
 
 -- the same of a job that was read there
-pub job_here : {S C : Type 0} (told : S → Carried) (timed : C → Timed) (jobs : List (InJob S C)) (i : ℕ) (job : InJob S C) → i < length jobs → job ≡ get_or jobs i job → in_at (ins_of told timed jobs) i ≡ in_of told timed job
+pub job_here : {S C : Type 0} (told : S → Carried) (timed : C → Timed) (jobs : List (InJob S C)) (i : ℕ)
+    (job : InJob S C) → i < length jobs → job ≡ get_or jobs i job
+    → in_at (ins_of told timed jobs) i ≡ in_of told timed job
 job_here told timed jobs i job b is = input_here told timed jobs i job b ∙ ap (in_of told timed) (sym is)
 
 -- the first so many jobs are in no such state
 abbrev pub AreNone : {S C : Type 0} → (S → Carried) → (C → Timed) → InState → List (InJob S C) → ℕ → Type 0
 AreNone told timed state jobs i = (k : ℕ) → k < i → (in_at (ins_of told timed jobs) k).state ≢ state
 
-module _ {S C : Type 0} (told : S → Carried) (timed : C → Timed) (state : InState) (jobs : List (InJob S C)) (i : ℕ) (none : AreNone told timed state jobs i) where
+module _ {S C : Type 0} (told : S → Carried) (timed : C → Timed) (state : InState) (jobs : List (InJob S C)) (i : ℕ)
+    (none : AreNone told timed state jobs i) where
   -- nor is one more
-  pub none_more : (job : InJob S C) → i < length jobs → job ≡ get_or jobs i job → job.state ≢ state → AreNone told timed state jobs (i + 1)
-  none_more job b is other = below_more _ _ none (subst (λ (x : InPart). x.state ≢ state) (sym (job_here told timed jobs i job b is)) other)
+  pub none_more : (job : InJob S C) → i < length jobs → job ≡ get_or jobs i job → job.state ≢ state
+      → AreNone told timed state jobs (i + 1)
+  none_more job b is other = below_more _ _ none (subst (λ (x : InPart). x.state ≢ state)
+      (sym (job_here told timed jobs i job b is)) other)
 
   -- nor is any
   pub none_in : length jobs ≤ i → IsOneIn state (ins_of told timed jobs) false
   none_in all = λ k l. none k (omega (arith, l, all, length-map jobs (in_of told timed)))
 
-pub one_is_full : (gathered : ℕ) (ins : List InPart) (n : ℕ) (part : InPart) → n < length ins → IsFullOf gathered part → OneIsFull gathered (set ins n part)
-one_is_full gathered ins n part b h = (n, omega (arith, b, length-set ins n part), subst (IsFullOf gathered) (sym (get_or-set_same ins n part no_in b)) h)
+pub one_is_full : (gathered : ℕ) (ins : List InPart) (n : ℕ) (part : InPart) → n < length ins → IsFullOf gathered part
+    → OneIsFull gathered (set ins n part)
+one_is_full gathered ins n part b h = (
+  n,
+  omega (arith, b, length-set ins n part),
+  subst (IsFullOf gathered) (sym (get_or-set_same ins n part no_in b)) h,
+)
 
 -- ---- an input that fits, by its job
 
-module _ {S C : Type 0} (told : S → Carried) (timed : C → Timed) (jobs : List (InJob S C)) (i : ℕ) (d : InJob S C) (count : ℕ) (ended : List Bool) (b : i < length jobs) (h : AreInputs count ended (ins_of told timed jobs)) where
+module _ {S C : Type 0} (told : S → Carried) (timed : C → Timed) (jobs : List (InJob S C)) (i : ℕ) (d : InJob S C)
+    (count : ℕ) (ended : List Bool) (b : i < length jobs) (h : AreInputs count ended (ins_of told timed jobs)) where
   within : i < count
   within = omega (arith, b, h.count_is, length-map jobs (in_of told timed))
 
-  at_place : FitsInput i ended (in_of told timed (get_or jobs i d))
-  at_place = subst (FitsInput i ended) (input_here told timed jobs i d b) (h.each i within)
+  at_index : FitsInput i ended (in_of told timed (get_or jobs i d))
+  at_index = subst (FitsInput i ended) (input_here told timed jobs i d b) (h.each i within)
 
   pub input_number : (get_or jobs i d).input ≡ i
-  input_number = at_place.number
+  input_number = at_index.number
 
   pub fits_here : FitsInput (get_or jobs i d).input ended (in_of told timed (get_or jobs i d))
-  fits_here = subst (λ (k : ℕ). FitsInput k ended (in_of told timed (get_or jobs i d))) (sym at_place.number) at_place
+  fits_here = subst (λ (k : ℕ). FitsInput k ended (in_of told timed (get_or jobs i d))) (sym at_index.number) at_index
 
 -- ---- what a gather and an end leave of a core
 
@@ -144,7 +226,8 @@ get_same [] i y z e = absurd (let n : None ≡ Some z = e in cc)
 get_same (x ∷ xs) zero y z e = refl
 get_same (x ∷ xs) (suc i) y z e = get_same xs i y z e
 
-pub gathered_core : (i : ℕ) (core next : CoreState) (g : Gathered) → next ≡ after_gather core g → IsGatheredAt i core next
+pub gathered_core : (i : ℕ) (core next : CoreState) (g : Gathered) → next ≡ after_gather core g
+    → IsGatheredAt i core next
 gathered_core i core next g is = record {
   kept = record {
     setup = ap (λ (s : CoreState). s.setup) is;
@@ -152,15 +235,24 @@ gathered_core i core next g is = record {
     stopped = ap (λ (s : CoreState). s.stopped) is;
     lanes = ap (λ (s : CoreState). s.lanes) is;
     numbers = ap (λ (s : CoreState). s.numbers.outputs) is;
-    stored = omega (arith, ap (λ (s : CoreState). length s.stored) is, length-append core.stored (gather_entry core g ∷ []));
+    stored = omega (
+      arith,
+      ap (λ (s : CoreState). length s.stored) is,
+      length-append core.stored (gather_entry core g ∷ []),
+    );
     raw = omega (arith, ap (λ (s : CoreState). length s.raw) is, length-append core.raw g.metrics);
   };
   others = λ k ne. ap (λ (s : CoreState). slice_get s.ended k) is;
 }
 
 -- a gather is an entry more
-pub moved_core : (core next : CoreState) (g : Gathered) → next ≡ after_gather core g → length core.stored < length next.stored
-moved_core core next g is = omega (arith, ap (λ (s : CoreState). length s.stored) is, length-append core.stored (gather_entry core g ∷ []))
+pub moved_core : (core next : CoreState) (g : Gathered) → next ≡ after_gather core g
+    → length core.stored < length next.stored
+moved_core core next g is = omega (
+  arith,
+  ap (λ (s : CoreState). length s.stored) is,
+  length-append core.stored (gather_entry core g ∷ []),
+)
 
 pub ended_core : (i : ℕ) (core next : CoreState) → next ≡ after_ended core i → IsGatheredAt i core next
 ended_core i core next is = record {
@@ -177,7 +269,8 @@ ended_core i core next is = record {
 }
 
 pub same_core : (i : ℕ) (core next : CoreState) → next ≡ core → IsGatheredAt i core next
-same_core i core next same = subst (IsGatheredAt i core) (sym same) (record { kept = gathered_none core; others = λ k ne. refl })
+same_core i core next same = subst (IsGatheredAt i core) (sym same)
+    (record { kept = gathered_none core; others = λ k ne. refl })
 
 -- the core is ready as before
 pub ready_gathered : (i : ℕ) (old new : CoreState) → IsGatheredAt i old new → IsReady old → IsReady new
@@ -190,27 +283,42 @@ no_end_none states.Faulted = tt
 no_end_none states.LimitReached = tt
 
 -- an input that fits, once what it held was gathered, or was too much
-pub fits_gathered : (place : ℕ) (old new : List Bool) (part : InPart) → new ≡ old → FitsInput place old part → FitsInput place new (record part { held = None })
-fits_gathered place old new part same h = record { number = h.number; readable = h.readable; cut_by = h.cut_by; ended_is = ap (λ (ended : List Bool). slice_get ended place) same ∙ h.ended_is; own = tt; none_held = no_end_none part.state }
-
-pub fits_full : (place : ℕ) (old new : List Bool) (part : InPart) (g : Gathered) → new ≡ old → part.held ≡ Some g → FitsInput place old part → FitsInput place new (record part { held = Some g; state = states.LimitReached })
-fits_full place old new part g same held h = record {
+pub fits_gathered : (index : ℕ) (old new : List Bool) (part : InPart) → new ≡ old → FitsInput index old part
+    → FitsInput index new (record part { held = None })
+fits_gathered index old new part same h = record {
   number = h.number;
   readable = h.readable;
   cut_by = h.cut_by;
-  ended_is = ap (λ (ended : List Bool). slice_get ended place) same ∙ h.ended_is ∙ ap Some (not_ended part.state (holds_no_end part.state g (subst (HoldsNoEnd part.state) held h.none_held)));
-  own = subst (λ (x : Option Gathered). IfSome x (λ y. (y.input ≡ part.input) × FitsGather part.rule (length y.metrics))) held h.own;
+  ended_is = ap (λ (ended : List Bool). slice_get ended index) same ∙ h.ended_is;
+  own = tt;
+  none_held = no_end_none part.state;
+}
+
+pub fits_full : (index : ℕ) (old new : List Bool) (part : InPart) (g : Gathered) → new ≡ old → part.held ≡ Some g
+    → FitsInput index old part → FitsInput index new (record part { held = Some g; state = states.LimitReached })
+fits_full index old new part g same held h = record {
+  number = h.number;
+  readable = h.readable;
+  cut_by = h.cut_by;
+  ended_is = ap (λ (ended : List Bool). slice_get ended index) same ∙ h.ended_is
+      ∙ ap Some (not_ended part.state (holds_no_end part.state g (subst (HoldsNoEnd part.state) held h.none_held)));
+  own = subst (λ (x : Option Gathered). IfSome x (λ y. (y.input ≡ part.input)
+      × FitsGather part.rule (length y.metrics))) held h.own;
   none_held = tt;
 }
 
 -- and once its end was noted
-pub fits_ended : (core next : CoreState) (part : InPart) → next ≡ after_ended core part.input → part.held ≡ None → part.state ≡ states.Reading → FitsInput part.input core.ended part → FitsInput part.input next.ended (record part { state = states.Ended })
+pub fits_ended : (core next : CoreState) (part : InPart) → next ≡ after_ended core part.input → part.held ≡ None
+    → part.state ≡ states.Reading → FitsInput part.input core.ended part
+    → FitsInput part.input next.ended (record part { state = states.Ended })
 fits_ended core next part is free reading h = record {
   number = h.number;
   readable = h.readable;
   cut_by = h.cut_by;
-  ended_is = ap (λ (s : CoreState). slice_get s.ended part.input) is ∙ get_same core.ended part.input true (is_ended part.state) h.ended_is;
-  own = subst (λ (x : Option Gathered). IfSome x (λ y. (y.input ≡ part.input) × FitsGather part.rule (length y.metrics))) (sym free) tt;
+  ended_is = ap (λ (s : CoreState). slice_get s.ended part.input) is
+      ∙ get_same core.ended part.input true (is_ended part.state) h.ended_is;
+  own = subst (λ (x : Option Gathered). IfSome x (λ y. (y.input ≡ part.input)
+      × FitsGather part.rule (length y.metrics))) (sym free) tt;
   none_held = free;
 }
 
@@ -220,7 +328,8 @@ get_replicate (suc n) zero l = refl
 get_replicate (suc n) (suc k) l = get_replicate n k (omega (arith, l))
 
 -- inputs of which nothing was read fit a core in which nothing happened
-pub fit_first : (n count : ℕ) (ended : List Bool) (ins : List InPart) → count ≡ n → length ins ≡ n → ended ≡ replicate n false → AreFresh ins → AreInputs count ended ins
+pub fit_first : (n count : ℕ) (ended : List Bool) (ins : List InPart) → count ≡ n → length ins ≡ n
+    → ended ≡ replicate n false → AreFresh ins → AreInputs count ended ins
 fit_first n count ended ins same long none h = record {
   count_is = long ∙ sym same;
   each = λ k l.
@@ -230,8 +339,10 @@ fit_first n count ended ins same long none h = record {
         number = h.numbered k b;
         readable = h.readable k b;
         cut_by = ap (λ (hand : Hand). hand.kind) fresh.hand;
-        ended_is = ap (λ (xs : List Bool). slice_get xs k) none ∙ get_replicate n k (omega (arith, l, same)) ∙ sym (ap (λ (s : InState). Some (is_ended s)) fresh.reading);
-        own = subst (λ (x : Option Gathered). IfSome x (λ g. (g.input ≡ (in_at ins k).input) × FitsGather (in_at ins k).rule (length g.metrics))) (sym fresh.none_held) tt;
+        ended_is = ap (λ (xs : List Bool). slice_get xs k) none ∙ get_replicate n k (omega (arith, l, same))
+            ∙ sym (ap (λ (s : InState). Some (is_ended s)) fresh.reading);
+        own = subst (λ (x : Option Gathered). IfSome x (λ g. (g.input ≡ (in_at ins k).input)
+            × FitsGather (in_at ins k).rule (length g.metrics))) (sym fresh.none_held) tt;
         none_held = subst (HoldsNoEnd (in_at ins k).state) (sym fresh.none_held) (no_end_none (in_at ins k).state);
       };
 }
@@ -239,7 +350,9 @@ fit_first n count ended ins same long none h = record {
 -- ---- the turn of an input
 
 -- an input that fits, once it was read
-pub fits_read : (ended : List Bool) (old new : InPart) → FitsInput old.input ended old → IsSameInput old new → is_ended new.state ≡ is_ended old.state → IsCutBy new → HoldsOwn new → HoldsNoEnd new.state new.held → FitsInput new.input ended new
+pub fits_read : (ended : List Bool) (old new : InPart) → FitsInput old.input ended old → IsSameInput old new
+    → is_ended new.state ≡ is_ended old.state → IsCutBy new → HoldsOwn new → HoldsNoEnd new.state new.held
+    → FitsInput new.input ended new
 fits_read ended old new h same state cut own none = record {
   number = refl;
   readable = subst IsReadable (sym same.rule) h.readable;
@@ -249,12 +362,17 @@ fits_read ended old new h same state cut own none = record {
   none_held = none;
 }
 
-pub fits_own : (place : ℕ) (ended : List Bool) (part : InPart) → FitsInput place ended part → FitsInput part.input ended part
-fits_own place ended part h = subst (λ (k : ℕ). FitsInput k ended part) (sym h.number) h
+pub fits_own : (index : ℕ) (ended : List Bool) (part : InPart) → FitsInput index ended part
+    → FitsInput part.input ended part
+fits_own index ended part h = subst (λ (k : ℕ). FitsInput k ended part) (sym h.number) h
 
 -- it is out, or a gather was accepted or items were raw
-pub turn_moved : (met : Bool) (held : Option Gathered) (old offered new : CoreState) (read part last : InPart) → read.held ≡ held → (met ≡ true → read.state ≡ states.Reading) → (met ≡ false → IsMoved read) → (read.held ≢ None → HasMoved old offered) → (read.held ≡ None → part.held ≡ None) → part.state ≡ read.state
-    → last.held ≡ part.held → (met ≡ true → part.held ≡ None → part.state ≡ states.Reading → last.state ≡ states.Ended) → (met ≡ false → last.state ≡ part.state) → length offered.stored ≤ length new.stored → IsOut last ⊎ HasMoved old new
+pub turn_moved : (met : Bool) (held : Option Gathered) (old offered new : CoreState) (read part last : InPart)
+    → read.held ≡ held → (met ≡ true → read.state ≡ states.Reading) → (met ≡ false → IsMoved read)
+    → (read.held ≢ None → HasMoved old offered) → (read.held ≡ None → part.held ≡ None) → part.state ≡ read.state
+    → last.held ≡ part.held → (met ≡ true → part.held ≡ None → part.state ≡ states.Reading → last.state ≡ states.Ended)
+    → (met ≡ false → last.state ≡ part.state) → length offered.stored ≤ length new.stored
+    → IsOut last ⊎ HasMoved old new
 turn_moved met (Some g) old offered new read part last is reading moved gathered none room held ends unmet grown =
     elim (gathered (λ e. let x : Some g ≡ None = sym is ∙ e in absurd cc)) [
       | inl raw ↦ inr (inl raw)
@@ -263,7 +381,11 @@ turn_moved met (Some g) old offered new read part last is reading moved gathered
 turn_moved true None old offered new read part last is reading moved gathered none room held ends unmet grown =
     let free : part.held ≡ None = none is in
     let over : last.state ≡ states.Ended = ends refl free (room ∙ reading refl) in
-    inl (record { read = λ e. let x : states.Ended ≡ states.Reading = sym over ∙ e in absurd cc; none_held = held ∙ free })
+    inl (record {
+      read = λ e. let x : states.Ended ≡ states.Reading = sym over ∙ e in
+          absurd cc;
+      none_held = held ∙ free;
+    })
 turn_moved false None old offered new read part last is reading moved gathered none room held ends unmet grown =
     elim (moved refl) [
       | inl some ↦ absurd (some is)
@@ -292,16 +414,22 @@ pub turned_none : (core : CoreState) (ins : List InPart) → HasTurned 0 core co
 turned_none core ins = inl (λ k l. absurd (omega (arith, l)))
 
 -- one input more had its turn
-pub turned_more : (n : ℕ) (old mid new : CoreState) (ins : List InPart) (part : InPart) → n < length ins → IsGathered old mid → IsGathered mid new → IsOut part ⊎ HasMoved mid new → HasTurned n old mid ins → HasTurned (n + 1) old new (set ins n part)
+pub turned_more : (n : ℕ) (old mid new : CoreState) (ins : List InPart) (part : InPart) → n < length ins
+    → IsGathered old mid → IsGathered mid new → IsOut part ⊎ HasMoved mid new → HasTurned n old mid ins
+    → HasTurned (n + 1) old new (set ins n part)
 turned_more n old mid new ins part b before kept turn (inr (inl raw)) = inr (inl (raw_still mid new kept raw))
 turned_more n old mid new ins part b before kept turn (inr (inr more)) = inr (inr (omega (arith, more, kept.stored)))
 turned_more n old mid new ins part b before kept (inr (inl raw)) (inl outs) = inr (inl (raw_still mid new kept raw))
-turned_more n old mid new ins part b before kept (inr (inr more)) (inl outs) = inr (inr (omega (arith, more, before.stored)))
+turned_more n old mid new ins part b before kept (inr (inr more)) (inl outs) =
+    inr (inr (omega (arith, more, before.stored)))
 turned_more n old mid new ins part b before kept (inl out) (inl outs) =
-    inl (below_more _ _ (λ k l. subst IsOut (sym (get_or-set_other ins n k part no_in (λ (q : k ≡ n). absurd (omega (arith, l, q))))) (outs k l)) (subst IsOut (sym (get_or-set_same ins n part no_in b)) out))
+    inl (below_more _ _ (λ k l. subst IsOut (sym (get_or-set_other ins n k part no_in
+    (λ (q : k ≡ n). absurd (omega (arith, l, q))))) (outs k l))
+    (subst IsOut (sym (get_or-set_same ins n part no_in b)) out))
 
 -- where nothing has gone on all are out
-pub idles_out : (n : ℕ) (old new : CoreState) (ins : List InPart) → length ins ≤ n → HasTurned n old new ins → IdlesOut old new ins
+pub idles_out : (n : ℕ) (old new : CoreState) (ins : List InPart) → length ins ≤ n → HasTurned n old new ins
+    → IdlesOut old new ins
 idles_out n old new ins all (inl outs) = λ none same. λ k l. outs k (omega (arith, l, all))
 idles_out n old new ins all (inr (inl raw)) = λ none same. absurd (raw none)
 idles_out n old new ins all (inr (inr more)) = λ none same. absurd (omega (arith, more, same))

@@ -10,7 +10,8 @@ use Rattle.account.specs.EntryMoments.{counted_moments}
 pub counted_from-last : (counted : ℤ) (es : List Entry) → counted_from counted es ≡ last_of counted (counted_moments es)
 unfolding counted_from counted_moments
 counted_from-last counted [] = refl
-counted_from-last counted (Gather input moment pieces refused passed filtered metrics group reports ∷ es) = counted_from-last counted es
+counted_from-last counted (Gather input moment pieces refused passed filtered metrics group reports ∷ es) =
+    counted_from-last counted es
 counted_from-last counted (Ended input ∷ es) = counted_from-last counted es
 counted_from-last counted (Take item ∷ es) = counted_from-last counted es
 counted_from-last counted (Route item whole verdict aggs outs reports ∷ es) = counted_from-last counted es

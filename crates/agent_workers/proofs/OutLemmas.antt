@@ -1,8 +1,10 @@
--- Outputs by their places: one changes, and the others stay.
-use Rattle.std.proofs.Common.{◌≡◌, ◌≢◌, ◌≤◌, ◌<◌, ◌+◌, ℕ, Bool, true, false, List, [], ◌++◌, length, take, drop, get_or, set, refl, sym, ap, ◌∙◌, subst, inl, inr, arith}
+-- Outputs by their indices: one changes, and the others stay.
+use Rattle.std.proofs.Common.{◌≡◌, ◌≢◌, ◌≤◌, ◌<◌, ◌+◌, ℕ, Bool, true, false, List, [], ◌++◌, length, take, drop, get_or}
+use Rattle.std.proofs.Common.{set, refl, sym, ap, ◌∙◌, subst, inl, inr, arith}
 use Rattle.std.specs.Prelude.{map, All}
 use Rattle.std.proofs.lemmas.Bool.{cases_eq}
-use Rattle.std.proofs.lemmas.List.{length-map, length-set, get_or-map, get_or-set_same, get_or-set_other, set-set, map-set}
+use Rattle.std.proofs.lemmas.List.{length-map, length-set, get_or-map, get_or-set_same, get_or-set_other, set-set}
+use Rattle.std.proofs.lemmas.List.{map-set}
 use Rattle.std.specs.declared.option.Option.{Option}
 use Rattle.std.specs.declared.option.Option.TheVariants.{Some, None}
 use Rattle.agent_base.specs.Carried.{Carried}
@@ -15,7 +17,9 @@ use Rattle.pipeline_core.specs.CoreState.{CoreState, lane_at, lane_of, first_sta
 use Rattle.pipeline_core.specs.declared.setup.CoreSetup.{CoreSetup}
 use Rattle.pipeline_core.specs.declared.setup.OutSetup.{OutSetup}
 use Rattle.pipeline_core.specs.Offers.{view_at}
-use Rattle.pipeline_core.specs.Steps.{after_begin, after_done, after_route, lane_done, lane_with, count_done, counted_done}
+use Rattle.pipeline_core.specs.Windows.{HasNoAggs}
+use Rattle.pipeline_core.specs.Steps.{after_begin, after_done, after_route, lane_done, lane_with, count_done}
+use Rattle.pipeline_core.specs.Steps.{counted_done}
 use Rattle.pipeline_core.specs.declared.output.Offer.{Offer}
 use Rattle.pipeline_core.proofs.Offering.{lanes_with-at, length-lanes_with}
 use Rattle.agent_workers.specs.Output.{OutPart, out_of, outs_of, out_at, no_out, anew, AreAnew, AreOutputs}
@@ -27,11 +31,14 @@ use Rattle.pipeline_core.specs.declared.gathering.Item.{Item}
 use Rattle.std.proofs.lemmas.List.Edits.{map_over_more}
 use Rattle.agent_workers.specs.Running.{IsLaneReady, IsReady, IsLaneKept, IsRoutable, IsSentOn, IsSentAt}
 
--- what holds of what was set at a place, and of the others, holds at each place
-pub each_set : {X : Type 0} (P : ℕ → X → Type 0) (xs : List X) (i : ℕ) (y d : X) → i < length xs → P i y → ((k : ℕ) → k < length xs → k ≢ i → P k (get_or xs k d)) → (k : ℕ) → k < length (set xs i y) → P k (get_or (set xs i y) k d)
+-- what holds of what was set at an index, and of the others, holds at each index
+pub each_set : {X : Type 0} (P : ℕ → X → Type 0) (xs : List X) (i : ℕ) (y d : X) → i < length xs → P i y
+    → ((k : ℕ) → k < length xs → k ≢ i → P k (get_or xs k d)) → (k : ℕ) → k < length (set xs i y)
+    → P k (get_or (set xs i y) k d)
 each_set P xs i y d b here others k l =
     elim (cases_eq k i) [
-      | inl e ↦ subst (λ (j : ℕ). P j (get_or (set xs i y) j d)) (sym e) (subst (P i) (sym (get_or-set_same xs i y d b)) here)
+      | inl e ↦ subst (λ (j : ℕ). P j (get_or (set xs i y) j d)) (sym e)
+          (subst (P i) (sym (get_or-set_same xs i y d b)) here)
       | inr ne ↦ subst (P k) (sym (get_or-set_other xs i k y d ne)) (others k (omega (arith, l, length-set xs i y)) ne)
     ]
 
@@ -44,22 +51,33 @@ lane_lands false x some = record { some = some; landed = refl }
 
 -- the lanes, once a batch was begun and done
 pub lanes_done : (lanes : List (LaneState Offer)) (o : ℕ) (ok : Bool) → o < length lanes →
-    set (set lanes o (lane.after_begin (lane_at lanes o))) o (lane_done ok (lane_at (set lanes o (lane.after_begin (lane_at lanes o))) o)) ≡ set lanes o (lane_done ok (lane.after_begin (lane_at lanes o)))
+    set (set lanes o (lane.after_begin (lane_at lanes o))) o
+    (lane_done ok (lane_at (set lanes o (lane.after_begin (lane_at lanes o))) o)) ≡ set lanes o
+    (lane_done ok (lane.after_begin (lane_at lanes o)))
 lanes_done lanes o ok b =
-    set-set lanes o (lane.after_begin (lane_at lanes o)) (lane_done ok (lane_at (set lanes o (lane.after_begin (lane_at lanes o))) o))
-    ∙ ap (λ (x : LaneState Offer). set lanes o (lane_done ok x)) (get_or-set_same lanes o (lane.after_begin (lane_at lanes o)) (empty_lane 0 0) b)
+    set-set lanes o (lane.after_begin (lane_at lanes o)) (lane_done ok
+    (lane_at (set lanes o (lane.after_begin (lane_at lanes o))) o))
+    ∙ ap (λ (x : LaneState Offer). set lanes o (lane_done ok x))
+    (get_or-set_same lanes o (lane.after_begin (lane_at lanes o)) (empty_lane 0 0) b)
 
-module _ (core mid next : CoreState) (o from to : ℕ) (ok : Bool) (b : o < length core.lanes) (began : mid ≡ after_begin core o from to) (done : next ≡ after_done mid o ok) where
+module _ (core mid next : CoreState) (o from to : ℕ) (ok : Bool) (b : o < length core.lanes)
+    (began : mid ≡ after_begin core o from to) (done : next ≡ after_done mid o ok) where
   lanes_are : next.lanes ≡ set core.lanes o (lane_done ok (lane.after_begin (lane_at core.lanes o)))
-  lanes_are = ap (λ (s : CoreState). s.lanes) done ∙ ap (λ (s : CoreState). set s.lanes o (lane_done ok (lane_at s.lanes o))) began ∙ lanes_done core.lanes o ok b
+  lanes_are = ap (λ (s : CoreState). s.lanes) done ∙ ap (λ (s : CoreState). set s.lanes o
+      (lane_done ok (lane_at s.lanes o))) began ∙ lanes_done core.lanes o ok b
 
   -- the core is ready again
   pub ready_done : IsReady core → IsReady next
   ready_done h = record {
-    no_aggs = ap (λ (s : CoreState). s.setup.aggs) done ∙ ap (λ (s : CoreState). s.setup.aggs) began ∙ h.no_aggs;
-    lane_count = ap length lanes_are ∙ length-set core.lanes o (lane_done ok (lane.after_begin (lane_at core.lanes o))) ∙ h.lane_count ∙ sym (ap (λ (s : CoreState). length s.setup.outputs) done ∙ ap (λ (s : CoreState). length s.setup.outputs) began);
+    no_aggs = subst HasNoAggs
+        (sym (ap (λ (s : CoreState). s.setup) done ∙ ap (λ (s : CoreState). s.setup) began)) h.no_aggs;
+    lane_count = ap length lanes_are ∙ length-set core.lanes o (lane_done ok (lane.after_begin (lane_at core.lanes o)))
+        ∙ h.lane_count ∙ sym (ap (λ (s : CoreState). length s.setup.outputs) done
+        ∙ ap (λ (s : CoreState). length s.setup.outputs) began);
     each = subst (λ (xs : List (LaneState Offer)). (k : ℕ) → k < length xs → IsLaneReady (lane_at xs k)) (sym lanes_are)
-        (each_set (λ (k : ℕ) (x : LaneState Offer). IsLaneReady x) core.lanes o (lane_done ok (lane.after_begin (lane_at core.lanes o))) (empty_lane 0 0) b (lane_lands ok (lane_at core.lanes o) (h.each o b).some) (λ k l ne. h.each k l));
+        (each_set (λ (k : ℕ) (x : LaneState Offer). IsLaneReady x) core.lanes o
+        (lane_done ok (lane.after_begin (lane_at core.lanes o))) (empty_lane 0 0) b
+        (lane_lands ok (lane_at core.lanes o) (h.each o b).some) (λ k l ne. h.each k l));
     empty_handed = ap (λ (s : CoreState). s.held) done ∙ ap (λ (s : CoreState). s.held) began ∙ h.empty_handed;
   }
 
@@ -76,9 +94,12 @@ module _ (core mid next : CoreState) (o from to : ℕ) (ok : Bool) (b : o < leng
     };
     lane_count = ap length lanes_are ∙ length-set core.lanes o (lane_done ok (lane.after_begin (lane_at core.lanes o)));
     others = λ k ne. record {
-      lane = ap (λ (xs : List (LaneState Offer)). lane_at xs k) lanes_are ∙ get_or-set_other core.lanes o k (lane_done ok (lane.after_begin (lane_at core.lanes o))) (empty_lane 0 0) ne;
+      lane = ap (λ (xs : List (LaneState Offer)). lane_at xs k) lanes_are
+          ∙ get_or-set_other core.lanes o k (lane_done ok (lane.after_begin (lane_at core.lanes o)))
+          (empty_lane 0 0) ne;
       numbers = ap (λ (s : CoreState). output_numbers s.numbers k) done
-          ∙ get_or-set_other mid.numbers.outputs o k (counted_done ok (count_done ok (lane_at mid.lanes o)) (output_numbers mid.numbers o)) unreached_output ne
+          ∙ get_or-set_other mid.numbers.outputs o k (counted_done ok (count_done ok (lane_at mid.lanes o))
+          (output_numbers mid.numbers o)) unreached_output ne
           ∙ ap (λ (s : CoreState). output_numbers s.numbers k) began;
     };
   }
@@ -95,17 +116,32 @@ sent_none o core next same = record {
     stopped = ap (λ (s : CoreState). s.stopped) same;
   };
   lane_count = ap (λ (s : CoreState). length s.lanes) same;
-  others = λ k ne. record { lane = ap (λ (s : CoreState). lane_at s.lanes k) same; numbers = ap (λ (s : CoreState). output_numbers s.numbers k) same };
+  others = λ k ne. record {
+    lane = ap (λ (s : CoreState). lane_at s.lanes k) same;
+    numbers = ap (λ (s : CoreState). output_numbers s.numbers k) same;
+  };
 }
 
 pub sent_on : (old mid new : CoreState) → IsSentOn old mid → IsSentOn mid new → IsSentOn old new
-sent_on old mid new h k = record { setup = k.setup ∙ h.setup; raw = k.raw ∙ h.raw; held = k.held ∙ h.held; ended = k.ended ∙ h.ended; gathered = k.gathered ∙ h.gathered; stopped = k.stopped ∙ h.stopped }
+sent_on old mid new h k = record {
+  setup = k.setup ∙ h.setup;
+  raw = k.raw ∙ h.raw;
+  held = k.held
+      ∙ h.held;
+  ended = k.ended ∙ h.ended;
+  gathered = k.gathered ∙ h.gathered;
+  stopped = k.stopped ∙ h.stopped;
+}
 
 pub sent_more : (o : ℕ) (old mid new : CoreState) → IsSentAt o old mid → IsSentAt o mid new → IsSentAt o old new
 sent_more o old mid new h k = record {
   kept = sent_on old mid new h.kept k.kept;
   lane_count = k.lane_count ∙ h.lane_count;
-  others = λ j ne. record { lane = (k.others j ne).lane ∙ (h.others j ne).lane; numbers = (k.others j ne).numbers ∙ (h.others j ne).numbers };
+  others = λ j ne. record {
+    lane = (k.others j ne).lane ∙ (h.others j ne).lane;
+    numbers = (k.others j ne).numbers
+        ∙ (h.others j ne).numbers;
+  };
 }
 
 view_kept : (item : ℕ) (view : Option Content) (x : LaneState Offer) → IsLaneKept x (lane_with item view x)
@@ -113,25 +149,32 @@ view_kept item None x = record { batch = refl; flight = refl }
 view_kept item (Some view) x = record { batch = refl; flight = refl }
 
 -- an item was routed, and views were offered
-pub routed_kept : (core next : CoreState) (item : ℕ) (metric : Content) (aggs outs : List (Option Content)) → next ≡ after_route core (record { item = item; whole = Some metric; aggs = aggs; outs = outs }) → IsRoutable core next
+pub routed_kept : (core next : CoreState) (item : ℕ) (metric : Content) (aggs outs : List (Option Content))
+    → next ≡ after_route core (record { item = item; whole = Some metric; aggs = aggs; outs = outs })
+    → IsRoutable core next
 routed_kept core next item metric aggs outs is = record {
   setup = ap (λ (s : CoreState). s.setup) is;
   ended = ap (λ (s : CoreState). s.ended) is;
   gathered = ap (λ (s : CoreState). s.gathered) is;
   stopped = ap (λ (s : CoreState). s.stopped) is;
   lane_count = ap (λ (s : CoreState). length s.lanes) is ∙ length-lanes_with item outs core.lanes;
-  each = λ o b. subst (IsLaneKept (lane_at core.lanes o)) (sym (ap (λ (s : CoreState). lane_at s.lanes o) is ∙ lanes_with-at item outs core.lanes o b))
+  each = λ o b. subst (IsLaneKept (lane_at core.lanes o)) (sym (ap (λ (s : CoreState). lane_at s.lanes o) is
+      ∙ lanes_with-at item outs core.lanes o b))
       (view_kept item (view_at o outs) (lane_at core.lanes o));
 }
 
-pub routable_same : (old new : CoreState) → new.setup ≡ old.setup → new.ended ≡ old.ended → new.gathered ≡ old.gathered → new.stopped ≡ old.stopped → new.lanes ≡ old.lanes → IsRoutable old new
+pub routable_same : (old new : CoreState) → new.setup ≡ old.setup → new.ended ≡ old.ended → new.gathered ≡ old.gathered
+    → new.stopped ≡ old.stopped → new.lanes ≡ old.lanes → IsRoutable old new
 routable_same old new setup ended gathered stopped lanes = record {
   setup = setup;
   ended = ended;
   gathered = gathered;
   stopped = stopped;
   lane_count = ap length lanes;
-  each = λ o b. record { batch = ap (λ (xs : List (LaneState Offer)). (lane_at xs o).batch) lanes; flight = ap (λ (xs : List (LaneState Offer)). (lane_at xs o).flight) lanes };
+  each = λ o b. record {
+    batch = ap (λ (xs : List (LaneState Offer)). (lane_at xs o).batch) lanes;
+    flight = ap (λ (xs : List (LaneState Offer)). (lane_at xs o).flight) lanes;
+  };
 }
 
 pub routable_more : (old mid new : CoreState) → IsRoutable old mid → IsRoutable mid new → IsRoutable old new
@@ -141,41 +184,59 @@ routable_more old mid new h k = record {
   gathered = k.gathered ∙ h.gathered;
   stopped = k.stopped ∙ h.stopped;
   lane_count = k.lane_count ∙ h.lane_count;
-  each = λ o b. let a = h.each o b in let c = k.each o (omega (arith, b, h.lane_count)) in record { batch = c.batch ∙ a.batch; flight = c.flight ∙ a.flight };
+  each = λ o b. let a = h.each o b in let c = k.each o (omega (arith, b, h.lane_count)) in
+      record { batch = c.batch ∙ a.batch; flight = c.flight ∙ a.flight };
 }
 
 -- an item was taken and routed
-pub item_routed : (core mid next : CoreState) (item : Item) (work : Work) → TakesNext core mid item → next ≡ after_route mid (routed_by work item.number item.metric) → IsRoutable core next
+pub item_routed : (core mid next : CoreState) (item : Item) (work : Work) → TakesNext core mid item
+    → next ≡ after_route mid (routed_by work item.number item.metric) → IsRoutable core next
 item_routed core mid next item work takes is =
     routable_more core mid next
-    (routable_same core mid (ap (λ (s : CoreState). s.setup) takes.after) (ap (λ (s : CoreState). s.ended) takes.after) (ap (λ (s : CoreState). s.gathered) takes.after) (ap (λ (s : CoreState). s.stopped) takes.after) (ap (λ (s : CoreState). s.lanes) takes.after))
+    (routable_same core mid (ap (λ (s : CoreState). s.setup) takes.after) (ap (λ (s : CoreState). s.ended) takes.after)
+    (ap (λ (s : CoreState). s.gathered) takes.after) (ap (λ (s : CoreState). s.stopped) takes.after)
+    (ap (λ (s : CoreState). s.lanes) takes.after))
     (routed_kept mid next item.number item.metric [] (views_of work.outs (Some item.metric)) is)
 
 -- items were routed: the core is ready as before
 pub ready_routed : (old new : CoreState) → IsReady old → IsRoutable old new → new.held ≡ None → IsReady new
 ready_routed old new h k held = record {
-  no_aggs = ap (λ (s : Setup). s.aggs) k.setup ∙ h.no_aggs;
+  no_aggs = subst HasNoAggs (sym k.setup) h.no_aggs;
   lane_count = k.lane_count ∙ h.lane_count ∙ ap (λ (s : Setup). length s.outputs) (sym k.setup);
-  each = λ o b. let l : o < length old.lanes = omega (arith, b, k.lane_count) in record { some = subst (λ (n : ℕ). 1 ≤ n) (sym (k.each o l).batch) (h.each o l).some; landed = (k.each o l).flight ∙ (h.each o l).landed };
+  each = λ o b. let l : o < length old.lanes = omega (arith, b, k.lane_count) in
+      record {
+        some = subst (λ (n : ℕ). 1 ≤ n) (sym (k.each o l).batch) (h.each o l).some;
+        landed = (k.each o l).flight
+            ∙ (h.each o l).landed;
+      };
   empty_handed = held;
 }
 
 -- a core whose lanes and set-up are as before is ready as before
-pub ready_same : (old new : CoreState) → new.setup ≡ old.setup → new.lanes ≡ old.lanes → new.held ≡ old.held → IsReady old → IsReady new
+pub ready_same : (old new : CoreState) → new.setup ≡ old.setup → new.lanes ≡ old.lanes → new.held ≡ old.held
+    → IsReady old → IsReady new
 ready_same old new setup lanes held h = record {
-  no_aggs = ap (λ (s : Setup). s.aggs) setup ∙ h.no_aggs;
+  no_aggs = subst HasNoAggs (sym setup) h.no_aggs;
   lane_count = ap length lanes ∙ h.lane_count ∙ ap (λ (s : Setup). length s.outputs) (sym setup);
-  each = subst (λ (xs : List (LaneState Offer)). (k : ℕ) → k < length xs → IsLaneReady (lane_at xs k)) (sym lanes) h.each;
+  each = subst (λ (xs : List (LaneState Offer)). (k : ℕ) → k < length xs → IsLaneReady (lane_at xs k))
+      (sym lanes) h.each;
   empty_handed = held ∙ h.empty_handed;
 }
 
 -- ---- parts of outputs
 
 -- the parts with one of them set
-pub outputs_set : (count : ℕ) (outs : List OutPart) (i : ℕ) (out : OutPart) → i < count → out.output ≡ i → AreOutputs count outs → AreOutputs count (set outs i out)
+pub outputs_set : (count : ℕ) (outs : List OutPart) (i : ℕ) (out : OutPart) → i < count → out.output ≡ i
+    → AreOutputs count outs → AreOutputs count (set outs i out)
 outputs_set count outs i out b e h =
-    let at : (k : ℕ) → k < length (set outs i out) → (get_or (set outs i out) k no_out).output ≡ k = each_set (λ (k : ℕ) (x : OutPart). x.output ≡ k) outs i out no_out (omega (arith, b, h.count_is)) e (λ k l ne. h.numbered k (omega (arith, l, h.count_is))) in
-    record { count_is = length-set outs i out ∙ h.count_is; numbered = λ k l. at k (omega (arith, l, h.count_is, length-set outs i out)) }
+    let at : (k : ℕ) → k < length (set outs i out) → (get_or (set outs i out) k no_out).output ≡ k =
+    each_set (λ (k : ℕ) (x : OutPart). x.output ≡ k) outs i out no_out (omega (arith, b, h.count_is)) e
+    (λ k l ne. h.numbered k (omega (arith, l, h.count_is))) in
+    record {
+      count_is = length-set outs i out ∙ h.count_is;
+      numbered = λ k l. at k
+          (omega (arith, l, h.count_is, length-set outs i out));
+    }
 
 pub at_anew : (outs : List OutPart) (k : ℕ) → k < length outs → out_at (map anew outs) k ≡ anew (out_at outs k)
 at_anew outs k l = get_or-map anew outs k no_out no_out l
@@ -190,40 +251,62 @@ outputs_anew count outs h = record {
 }
 
 -- the same where the counts began anew, by other terms
-pub outputs_still : (count last : ℕ) (outs fresh : List OutPart) → fresh ≡ map anew outs → last ≡ count → AreOutputs count outs → AreOutputs last fresh
+pub outputs_still : (count last : ℕ) (outs fresh : List OutPart) → fresh ≡ map anew outs → last ≡ count
+    → AreOutputs count outs → AreOutputs last fresh
 outputs_still count last outs fresh are same h = rw (are, same) (outputs_anew count outs h)
 
 -- nothing happened yet
-pub ready_first : (setup : CoreSetup) (outputs : List OutSetup) (core : CoreState) → core ≡ first_state setup → setup.outputs ≡ outputs → All (λ (x : OutSetup). (1 ≤ x.batch) × (x.batch ≤ x.limit)) outputs → IsReady core
-ready_first setup outputs core is same sizes_fit = record {
-  no_aggs = ap (λ (s : CoreState). s.setup.aggs) is;
-  lane_count = ap (λ (s : CoreState). length s.lanes) is ∙ length-map setup.outputs lane_of ∙ sym (ap (λ (s : CoreState). length s.setup.outputs) is ∙ length-map setup.outputs sizes);
+pub ready_first : (setup : CoreSetup) (outputs : List OutSetup) (core : CoreState) → core ≡ first_state setup
+    → HasNoAggs core.setup → setup.outputs ≡ outputs
+    → All (λ (x : OutSetup). (1 ≤ x.batch) × (x.batch ≤ x.limit)) outputs → IsReady core
+ready_first setup outputs core is no_aggs same sizes_fit = record {
+  no_aggs = no_aggs;
+  lane_count = ap (λ (s : CoreState). length s.lanes) is ∙ length-map setup.outputs lane_of
+      ∙ sym (ap (λ (s : CoreState). length s.setup.outputs) is ∙ length-map setup.outputs sizes);
   each = λ o b.
       let d : OutSetup = record { batch = 0; limit = 0 } in
-      let within : o < length setup.outputs = omega (arith, b, ap (λ (s : CoreState). length s.lanes) is, length-map setup.outputs lane_of) in
-      let lane_is : lane_at core.lanes o ≡ lane_of (get_or setup.outputs o d) = ap (λ (s : CoreState). lane_at s.lanes o) is ∙ get_or-map lane_of setup.outputs o d (empty_lane 0 0) within in
-      let fits = subst (λ (xs : List OutSetup). All (λ (x : OutSetup). (1 ≤ x.batch) × (x.batch ≤ x.limit)) xs) (sym same) sizes_fit o d within in
+      let within : o < length setup.outputs = omega (
+        arith,
+        b,
+        ap (λ (s : CoreState). length s.lanes) is,
+        length-map setup.outputs lane_of,
+      ) in
+      let lane_is : lane_at core.lanes o ≡ lane_of (get_or setup.outputs o d) =
+      ap (λ (s : CoreState). lane_at s.lanes o) is ∙ get_or-map lane_of setup.outputs o d (empty_lane 0 0) within in
+      let fits = subst (λ (xs : List OutSetup). All (λ (x : OutSetup). (1 ≤ x.batch) × (x.batch ≤ x.limit)) xs)
+      (sym same) sizes_fit o d within in
       subst IsLaneReady (sym lane_is) (record { some = fits.0; landed = refl });
   empty_handed = ap (λ (s : CoreState). s.held) is;
 }
 
--- the part of a job is the one at its place
-pub part_here : {K C : Type 0} (told : K → Carried) (jobs : List (OutJob K C)) (i : ℕ) (d : OutJob K C) → i < length jobs → out_at (outs_of told jobs) i ≡ out_of told (get_or jobs i d)
+-- the part of a job is the one at its index
+pub part_here : {K C : Type 0} (told : K → Carried) (jobs : List (OutJob K C)) (i : ℕ) (d : OutJob K C)
+    → i < length jobs → out_at (outs_of told jobs) i ≡ out_of told (get_or jobs i d)
 part_here told jobs i d b = get_or-map (out_of told) jobs i d no_out b
 
--- and it has the number of its place
-pub part_number : {K C : Type 0} (told : K → Carried) (jobs : List (OutJob K C)) (i : ℕ) (d : OutJob K C) (count : ℕ) → i < length jobs → AreOutputs count (outs_of told jobs) → (get_or jobs i d).output ≡ i
+-- and it has its index as its number
+pub part_number : {K C : Type 0} (told : K → Carried) (jobs : List (OutJob K C)) (i : ℕ) (d : OutJob K C) (count : ℕ)
+    → i < length jobs → AreOutputs count (outs_of told jobs) → (get_or jobs i d).output ≡ i
 part_number told jobs i d count b h =
-    ap (λ (x : OutPart). x.output) (sym (part_here told jobs i d b)) ∙ h.numbered i (omega (arith, b, h.count_is, length-map jobs (out_of told)))
+    ap (λ (x : OutPart). x.output) (sym (part_here told jobs i d b))
+    ∙ h.numbered i (omega (arith, b, h.count_is, length-map jobs (out_of told)))
 
--- a job was set, whose number is that of its place
-pub part_set : {K C : Type 0} (told : K → Carried) (jobs : List (OutJob K C)) (i : ℕ) (job : OutJob K C) (count : ℕ) → i < length jobs → job.output ≡ i → AreOutputs count (outs_of told jobs) → AreOutputs count (outs_of told (set jobs i job))
+-- a job was set, whose number is its index
+pub part_set : {K C : Type 0} (told : K → Carried) (jobs : List (OutJob K C)) (i : ℕ) (job : OutJob K C) (count : ℕ)
+    → i < length jobs → job.output ≡ i → AreOutputs count (outs_of told jobs)
+    → AreOutputs count (outs_of told (set jobs i job))
 part_set told jobs i job count b number h =
-    subst (AreOutputs count) (sym (map-set (out_of told) jobs i job)) (outputs_set count (outs_of told jobs) i (out_of told job) (omega (arith, b, h.count_is, length-map jobs (out_of told))) number h)
+    subst (AreOutputs count) (sym (map-set (out_of told) jobs i job))
+    (outputs_set count (outs_of told jobs) i (out_of told job)
+    (omega (arith, b, h.count_is, length-map jobs (out_of told))) number h)
 
 -- one count more begins anew
-pub anew_more : {K C : Type 0} (told : K → Carried) (jobs : List (OutJob K C)) (i : ℕ) (d : OutJob K C) (olds : List OutPart) → i < length jobs → outs_of told jobs ≡ map anew (take i olds) ++ drop i olds → i < length olds →
-    outs_of told (set jobs i (record (get_or jobs i d) { failed_since = 0 })) ≡ map anew (take (i + 1) olds) ++ drop (i + 1) olds
+pub anew_more : {K C : Type 0} (told : K → Carried) (jobs : List (OutJob K C)) (i : ℕ) (d : OutJob K C)
+    (olds : List OutPart) → i < length jobs → outs_of told jobs ≡ map anew (take i olds) ++ drop i olds
+    → i < length olds →
+    outs_of told (set jobs i (record (get_or jobs i d) { failed_since = 0 })) ≡ map anew (take (i + 1) olds)
+    ++ drop (i + 1) olds
 anew_more told jobs i d olds b h l =
     map-set (out_of told) jobs i (record (get_or jobs i d) { failed_since = 0 })
-    ∙ map_over_more anew olds (outs_of told jobs) i (out_of told (get_or jobs i d)) l h (sym (get_or-map (out_of told) jobs i d (out_of told (get_or jobs i d)) b))
+    ∙ map_over_more anew olds (outs_of told jobs) i (out_of told (get_or jobs i d)) l h
+    (sym (get_or-map (out_of told) jobs i d (out_of told (get_or jobs i d)) b))

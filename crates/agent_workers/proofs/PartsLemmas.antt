@@ -10,6 +10,9 @@ use Rattle.agent_workers.specs.declared.output.OutJob.{OutJob}
 use Rattle.agent_workers.specs.declared.parts.Parts.{Parts}
 
 -- what a run consists of, by other lists of its jobs
-pub state_by : {S K C : Type 0} (told : S → Carried) (put : K → Carried) (timed : C → Timed) (core : CoreState) (parts : Parts S K C) (inputs : List (InJob S C)) (outputs : List (OutJob K C)) → parts.inputs.items ≡ inputs → parts.outputs.items ≡ outputs →
-    state_of told put timed core parts ≡ record (state_of told put timed core parts) { ins = ins_of told timed inputs; outs = outs_of put outputs }
+pub state_by : {S K C : Type 0} (told : S → Carried) (put : K → Carried) (timed : C → Timed) (core : CoreState)
+    (parts : Parts S K C) (inputs : List (InJob S C)) (outputs : List (OutJob K C)) → parts.inputs.items ≡ inputs
+    → parts.outputs.items ≡ outputs →
+    state_of told put timed core parts ≡ record (state_of told put timed core parts)
+    { ins = ins_of told timed inputs; outs = outs_of put outputs }
 state_by told put timed core parts inputs outputs a b = rw (a, b) refl

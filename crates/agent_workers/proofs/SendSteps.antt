@@ -1,5 +1,6 @@
 -- How far a run has come once a batch was sent.
-use Rattle.std.proofs.Common.{◌≢◌, ◌==◌, set, if◌then◌else◌, ◌≡◌, ◌≤◌, ◌<◌, ℕ, ◌+◌, ◌-◌, ◌^◌, min, Bool, true, false, List, [], ◌∷◌, ◌++◌, length, refl, sym, ap, ◌∙◌, subst, arith, Err}
+use Rattle.std.proofs.Common.{◌≢◌, ◌==◌, set, if◌then◌else◌, ◌≡◌, ◌≤◌, ◌<◌, ℕ, ◌+◌, ◌-◌, ◌^◌, min, Bool, true, false}
+use Rattle.std.proofs.Common.{List, [], ◌∷◌, ◌++◌, length, refl, sym, ap, ◌∙◌, subst, arith, Err}
 use Rattle.std.specs.Prelude.{not, count_by}
 use Rattle.std.specs.Io.KnownBytes.{Appends}
 use Rattle.std.specs.declared.option.Option.{Option}
@@ -43,35 +44,61 @@ use Rattle.agent_workers.proofs.ProgressLemmas.{text-push, all_heard_push, order
 use Rattle.agent_workers.proofs.SentLemmas.{sent_accepted, sent_failed}
 use Rattle.pipeline_core.proofs.WorkedLemmas.{worked-push}
 
-dones_of : (reports : List Report) (output : ℕ) (journal : List Entry) (from to : ℕ) (ok : Bool) → dones output ((journal ++ Begin output from to ∷ []) ++ Done output ok reports ∷ []) ≡ dones output journal ++ ok ∷ []
+dones_of : (reports : List Report) (output : ℕ) (journal : List Entry) (from to : ℕ) (ok : Bool)
+    → dones output ((journal ++ Begin output from to ∷ []) ++ Done output ok reports ∷ []) ≡ dones output journal
+    ++ ok ∷ []
 dones_of reports output journal from to ok =
-    dones-more reports output (journal ++ Begin output from to ∷ []) ok ∙ ap (λ (bs : List Bool). bs ++ ok ∷ []) (dones-same output journal (Begin output from to) refl)
+    dones-more reports output (journal ++ Begin output from to ∷ []) ok
+    ∙ ap (λ (bs : List Bool). bs ++ ok ∷ []) (dones-same output journal (Begin output from to) refl)
 
 -- a batch of one output says nothing of another
 begin_quiet : (output other from to : ℕ) → other ≢ output → IsQuietAt other (Begin output from to)
-begin_quiet output other from to ne = record { ends = tt; none = refl; quiet = ap (λ (here : Bool). if here then events.Begin from to ∷ [] else []) (differs output other (λ e. ne (sym e))) }
+begin_quiet output other from to ne = record {
+  ends = tt;
+  none = refl;
+  quiet = ap (λ (here : Bool). if here then events.Begin from to ∷ [] else []) (differs output other (λ e. ne (sym e)));
+}
 
-done_quiet : (reports : List Report) (output other : ℕ) (ok : Bool) → other ≢ output → IsQuietAt other (Done output ok reports)
+done_quiet : (reports : List Report) (output other : ℕ) (ok : Bool) → other ≢ output
+    → IsQuietAt other (Done output ok reports)
 done_quiet reports output other ok ne =
     let apart : (output == other) ≡ false = differs output other (λ e. ne (sym e)) in
-    record { ends = apart; none = ap (λ (here : Bool). if here then ok ∷ [] else []) apart; quiet = ap (λ (here : Bool). if here then events.Done ok ∷ [] else []) apart }
+    record {
+      ends = apart;
+      none = ap (λ (here : Bool). if here then ok ∷ [] else []) apart;
+      quiet = ap (λ (here : Bool). if here then events.Done ok ∷ [] else []) apart;
+    }
 
-module _ (start : Beginning) (core mid next : CoreState) (now : RunState) (old new : OutPart) (batch : Batch) (text : List ℕ)
-    (within : old.output < length core.setup.outputs) (routed : core.raw ≡ []) (is : IsBatchOf (lane_at core.lanes old.output) batch) (spelled : text ≡ batch_text old.format batch.metrics) (kept_format : new.format ≡ old.format) (later : old.put_faults ≤ new.put_faults)
-    (began : mid ≡ after_begin core old.output batch.from batch.to) (begins : Continues core mid (Begin old.output batch.from batch.to))
+module _ (start : Beginning) (core mid next : CoreState) (now : RunState) (old new : OutPart) (batch : Batch)
+    (text : List ℕ)
+    (within : old.output < length core.setup.outputs) (routed : core.raw ≡ [])
+    (is : IsBatchOf (lane_at core.lanes old.output) batch) (spelled : text ≡ batch_text old.format batch.metrics)
+    (kept_format : new.format ≡ old.format) (later : old.put_faults ≤ new.put_faults)
+    (began : mid ≡ after_begin core old.output batch.from batch.to)
+    (begins : Continues core mid (Begin old.output batch.from batch.to))
     (b : old.output < length now.outs) (at : out_at now.outs old.output ≡ old) where
   -- what is said of the outputs, where it is said of the one
-  said_done : (reports : List Report) (ok : Bool) (journal : List Entry) → AllSaid start.outs now.outs journal → Said (out_at start.outs old.output) new old.output ((journal ++ Begin old.output batch.from batch.to ∷ []) ++ Done old.output ok reports ∷ [])
-      → AllSaid start.outs (set now.outs old.output new) ((journal ++ Begin old.output batch.from batch.to ∷ []) ++ Done old.output ok reports ∷ [])
+  said_done : (reports : List Report) (ok : Bool) (journal : List Entry) → AllSaid start.outs now.outs journal
+      → Said (out_at start.outs old.output) new old.output ((journal ++ Begin old.output batch.from batch.to ∷ [])
+      ++ Done old.output ok reports ∷ [])
+      → AllSaid start.outs (set now.outs old.output new) ((journal ++ Begin old.output batch.from batch.to ∷ [])
+      ++ Done old.output ok reports ∷ [])
   said_done reports ok journal h here =
       let begin : Entry = Begin old.output batch.from batch.to in
       let end : Entry = Done old.output ok reports in
-      each_set (λ (k : ℕ) (out : OutPart). Said (out_at start.outs k) out k ((journal ++ begin ∷ []) ++ end ∷ [])) now.outs old.output new no_out b here
-      (λ k l ne. said_push (out_at start.outs k) (out_at now.outs k) k (journal ++ begin ∷ []) end (done_quiet reports old.output k ok ne) refl
-      (said_push (out_at start.outs k) (out_at now.outs k) k journal begin (begin_quiet old.output k batch.from batch.to ne) refl (h k l)))
+      each_set (λ (k : ℕ) (out : OutPart). Said (out_at start.outs k) out k ((journal ++ begin ∷ []) ++ end ∷ []))
+      now.outs old.output new no_out b here
+      (λ k l ne. said_push (out_at start.outs k) (out_at now.outs k) k (journal ++ begin ∷ []) end
+      (done_quiet reports old.output k ok ne) refl
+      (said_push (out_at start.outs k) (out_at now.outs k) k journal begin
+      (begin_quiet old.output k batch.from batch.to ne) refl (h k l)))
 
-  went_done : (reports : List Report) (ok : Bool) (w : Progress start (record now { core = core })) → next.stored ≡ mid.stored ++ Done old.output ok reports ∷ [] → next.setup ≡ mid.setup → Continues mid next (Done old.output ok reports) →
-      Said (out_at start.outs old.output) new old.output ((w.journal ++ Begin old.output batch.from batch.to ∷ []) ++ Done old.output ok reports ∷ []) → Progress start (record now { core = next; outs = set now.outs old.output new })
+  went_done : (reports : List Report) (ok : Bool) (w : Progress start (record now { core = core }))
+      → next.stored ≡ mid.stored ++ Done old.output ok reports ∷ [] → next.setup ≡ mid.setup
+      → Continues mid next (Done old.output ok reports) →
+      Said (out_at start.outs old.output) new old.output ((w.journal ++ Begin old.output batch.from batch.to ∷ [])
+      ++ Done old.output ok reports ∷ []) → Progress start (record now
+      { core = next; outs = set now.outs old.output new })
   went_done reports ok w stored same ends said =
       let begin : Entry = Begin old.output batch.from batch.to in
       let end : Entry = Done old.output ok reports in
@@ -79,113 +106,166 @@ module _ (start : Beginning) (core mid next : CoreState) (now : RunState) (old n
       record {
         journal = between ++ end ∷ [];
         text = text-push start mid next now.journal between end
-            (text-push start core mid now.journal w.journal begin w.text begins (ap (λ (s : CoreState). s.stored) began) (ap (λ (s : CoreState). s.setup) began))
+            (text-push start core mid now.journal w.journal begin w.text begins (ap (λ (s : CoreState). s.stored) began)
+            (ap (λ (s : CoreState). s.setup) began))
             ends stored same;
         in_count = w.in_count;
-        heard = all_heard_push start.ins now.ins between end (λ k. record { none = refl; other = refl }) (all_heard_push start.ins now.ins w.journal begin (λ k. record { none = refl; other = refl }) w.heard);
+        heard = all_heard_push start.ins now.ins between end (λ k. record { none = refl; other = refl })
+            (all_heard_push start.ins now.ins w.journal begin (λ k. record { none = refl; other = refl }) w.heard);
         out_count = length-set now.outs old.output new ∙ w.out_count;
         said = said_done reports ok w.journal w.said said;
         work_is = w.work_is;
         worked = worked-push start.job.work between end tt (worked-push start.job.work w.journal begin tt w.worked);
-        order = order-push start mid now.next now.next between end (begins w.journal w.text.stands) (omega arith) (λ f. tt) (λ k b. refl)
-            (order-push start core now.next now.next w.journal begin w.text.stands (omega arith) (λ f. sym w.text.stands.raw ∙ routed) (λ k b. refl) w.order);
+        order = order-push start mid now.next now.next between end (begins w.journal w.text.stands) (omega arith)
+            (λ f. tt) (λ k b. refl)
+            (order-push start core now.next now.next w.journal begin w.text.stands (omega arith)
+            (λ f. sym w.text.stands.raw ∙ routed) (λ k b. refl) w.order);
         counted_at = counted_moments-same between end refl ∙ counted_moments-same w.journal begin refl ∙ w.counted_at;
       }
 
   -- what was said of the output
-  said_before : (w : Progress start (record now { core = core })) → Said (out_at start.outs old.output) old old.output w.journal
-  said_before w = subst (λ (out : OutPart). Said (out_at start.outs old.output) out old.output w.journal) at (w.said old.output b)
+  said_before : (w : Progress start (record now { core = core }))
+      → Said (out_at start.outs old.output) old old.output w.journal
+  said_before w = subst (λ (out : OutPart). Said (out_at start.outs old.output) out old.output w.journal) at
+      (w.said old.output b)
 
   -- the batch was accepted
-  pub went_accepted : new.failed ≡ 0 → new.failed_since ≡ 0 → next ≡ after_done mid old.output true → Continues mid next (done_entry mid old.output true) → Appends old.held new.held text → Progress start (record now { core = core }) → Progress start (record now { core = next; outs = set now.outs old.output new })
+  pub went_accepted : new.failed ≡ 0 → new.failed_since ≡ 0 → next ≡ after_done mid old.output true
+      → Continues mid next (done_entry mid old.output true) → Appends old.held new.held text
+      → Progress start (record now { core = core }) → Progress start
+      (record now { core = next; outs = set now.outs old.output new })
   went_accepted none nil done ends put w =
       let o : ℕ = old.output in
       let shape : IsDoneEntry o true (done_entry mid o true) = entries-have-shape.dones mid o true in
       let reports : List Report = shape.0 in
-      let stored : next.stored ≡ mid.stored ++ Done o true reports ∷ [] = ap (λ (s : CoreState). s.stored) done ∙ ap (λ (e : Entry). mid.stored ++ e ∷ []) shape.1 in
+      let stored : next.stored ≡ mid.stored ++ Done o true reports ∷ [] =
+      ap (λ (s : CoreState). s.stored) done ∙ ap (λ (e : Entry). mid.stored ++ e ∷ []) shape.1 in
       let same = dones_of reports o w.journal batch.from batch.to true in
       let said = said_before w in
       let first : OutPart = out_at start.outs o in
-      went_done reports true w stored (ap (λ (s : CoreState). s.setup) done) (subst (Continues mid next) shape.1 ends) (record {
+      went_done reports true w stored (ap (λ (s : CoreState). s.setup) done) (subst (Continues mid next) shape.1 ends)
+      (record {
         format = kept_format ∙ said.format;
-        sent = sent_accepted (batch_text first.format) reports core w.journal o batch first.held old.held new.held text w.text.stands within is (spelled ∙ ap (λ (f : OutFormat). batch_text f batch.metrics) said.format) said.sent put;
+        sent = sent_accepted (batch_text first.format) reports core w.journal o batch first.held old.held new.held text
+            w.text.stands within is (spelled ∙ ap (λ (f : OutFormat). batch_text f batch.metrics) said.format) said.sent
+            put;
         put_faults = subst (λ (bs : List Bool). RoseBy (count_by not bs) first.put_faults new.put_faults) (sym same)
-            (let n : count_by not (dones o w.journal ++ true ∷ []) ≡ count_by not (dones o w.journal) = omega (arith, failed-more (dones o w.journal) true) in
-            subst (λ (k : ℕ). RoseBy k first.put_faults new.put_faults) (sym n) (rose_later (count_by not (dones o w.journal)) first.put_faults old.put_faults new.put_faults said.put_faults later));
-        failed = failed_accepted new.failed (dones o w.journal) (dones o ((w.journal ++ Begin o batch.from batch.to ∷ []) ++ Done o true reports ∷ [])) none same;
+            (let n : count_by not (dones o w.journal ++ true ∷ []) ≡ count_by not (dones o w.journal) = omega
+            (arith, failed-more (dones o w.journal) true) in
+            subst (λ (k : ℕ). RoseBy k first.put_faults new.put_faults) (sym n)
+            (rose_later (count_by not (dones o w.journal)) first.put_faults old.put_faults new.put_faults
+            said.put_faults later));
+        failed = failed_accepted new.failed (dones o w.journal)
+            (dones o ((w.journal ++ Begin o batch.from batch.to ∷ []) ++ Done o true reports ∷ [])) none same;
         stuck = λ some. absurd (omega (arith, some, nil));
-        last = λ stopped. rw nil (last_none (dones o (behind_stop ((w.journal ++ Begin o batch.from batch.to ∷ []) ++ Done o true reports ∷ []))));
+        last = λ stopped. rw nil (last_none (dones o (behind_stop ((w.journal ++ Begin o batch.from batch.to ∷ [])
+            ++ Done o true reports ∷ []))));
       })
 
   -- its put failed
-  pub went_failed : (fault : PutFault) → fault ≡ Failed → new.failed ≡ min (old.failed + 1) (2 ^ 32 - 1) → new.failed_since ≤ old.failed_since + 1 → next ≡ after_done mid old.output false → Continues mid next (done_entry mid old.output false) → PutAppends old.held new.held text (Err fault) → Rose old.put_faults new.put_faults
-      → Progress start (record now { core = core }) → Progress start (record now { core = next; outs = set now.outs old.output new })
+  pub went_failed : (fault : PutFault) → fault ≡ Failed → new.failed ≡ min (old.failed + 1) (2 ^ 32 - 1)
+      → new.failed_since ≤ old.failed_since + 1 → next ≡ after_done mid old.output false
+      → Continues mid next (done_entry mid old.output false) → PutAppends old.held new.held text (Err fault)
+      → Rose old.put_faults new.put_faults
+      → Progress start (record now { core = core }) → Progress start
+      (record now { core = next; outs = set now.outs old.output new })
   went_failed fault f one few done ends put rose w =
       let o : ℕ = old.output in
       let shape : IsDoneEntry o false (done_entry mid o false) = entries-have-shape.dones mid o false in
       let reports : List Report = shape.0 in
-      let stored : next.stored ≡ mid.stored ++ Done o false reports ∷ [] = ap (λ (s : CoreState). s.stored) done ∙ ap (λ (e : Entry). mid.stored ++ e ∷ []) shape.1 in
+      let stored : next.stored ≡ mid.stored ++ Done o false reports ∷ [] =
+      ap (λ (s : CoreState). s.stored) done ∙ ap (λ (e : Entry). mid.stored ++ e ∷ []) shape.1 in
       let same = dones_of reports o w.journal batch.from batch.to false in
       let said = said_before w in
       let first : OutPart = out_at start.outs o in
       let begin : Entry = Begin o batch.from batch.to in
       let end : Entry = Done o false reports in
-      went_done reports false w stored (ap (λ (s : CoreState). s.setup) done) (subst (Continues mid next) shape.1 ends) (record {
+      went_done reports false w stored (ap (λ (s : CoreState). s.setup) done) (subst (Continues mid next) shape.1 ends)
+      (record {
         format = kept_format ∙ said.format;
-        sent = sent_failed (batch_text first.format) reports core w.journal o batch first.held old.held new.held text fault f w.text.stands within is (spelled ∙ ap (λ (f : OutFormat). batch_text f batch.metrics) said.format) said.sent put;
+        sent = sent_failed (batch_text first.format) reports core w.journal o batch first.held old.held new.held text
+            fault f w.text.stands within is (spelled ∙ ap (λ (f : OutFormat). batch_text f batch.metrics) said.format)
+            said.sent put;
         put_faults = subst (λ (bs : List Bool). RoseBy (count_by not bs) first.put_faults new.put_faults) (sym same)
-            (let n : count_by not (dones o w.journal ++ false ∷ []) ≡ count_by not (dones o w.journal) + 1 = omega (arith, failed-more (dones o w.journal) false) in
-            subst (λ (k : ℕ). RoseBy k first.put_faults new.put_faults) (sym n) (rose_more (count_by not (dones o w.journal)) first.put_faults old.put_faults new.put_faults said.put_faults rose));
-        failed = failed_once old.failed new.failed (dones o w.journal) (dones o ((w.journal ++ begin ∷ []) ++ end ∷ [])) one same said.failed;
+            (let n : count_by not (dones o w.journal ++ false ∷ []) ≡ count_by not (dones o w.journal) + 1 = omega
+            (arith, failed-more (dones o w.journal) false) in
+            subst (λ (k : ℕ). RoseBy k first.put_faults new.put_faults) (sym n)
+            (rose_more (count_by not (dones o w.journal)) first.put_faults old.put_faults new.put_faults said.put_faults
+            rose));
+        failed = failed_once old.failed new.failed (dones o w.journal) (dones o ((w.journal ++ begin ∷ []) ++ end ∷ []))
+            one same said.failed;
         stuck = λ some. record {
           front = lane_events o (w.journal ++ begin ∷ []);
-          is = lane_events-push o (w.journal ++ begin ∷ []) end ∙ ap (λ (here : Bool). lane_events o (w.journal ++ begin ∷ []) ++ (if here then events.Done false ∷ [] else [])) (same_number o);
+          is = lane_events-push o (w.journal ++ begin ∷ []) end
+              ∙ ap (λ (here : Bool). lane_events o (w.journal ++ begin ∷ [])
+              ++ (if here then events.Done false ∷ [] else [])) (same_number o);
         };
         last = λ stopped.
-            let mid_stopped : has_stop (w.journal ++ begin ∷ []) ≡ true = stop_before (w.journal ++ begin ∷ []) end refl stopped in
+            let mid_stopped : has_stop (w.journal ++ begin ∷ []) ≡ true =
+            stop_before (w.journal ++ begin ∷ []) end refl stopped in
             let before : has_stop w.journal ≡ true = stop_before w.journal begin refl mid_stopped in
-            let behind : behind_stop ((w.journal ++ begin ∷ []) ++ end ∷ []) ≡ (behind_stop w.journal ++ begin ∷ []) ++ end ∷ [] =
-            behind_stop-push (w.journal ++ begin ∷ []) end mid_stopped ∙ ap (λ (es : List Entry). es ++ end ∷ []) (behind_stop-push w.journal begin before) in
-            last_fewer new.failed_since (old.failed_since + 1) (dones o (behind_stop ((w.journal ++ begin ∷ []) ++ end ∷ []))) few
-            (last_same (old.failed_since + 1) (dones o (behind_stop w.journal) ++ false ∷ []) (dones o (behind_stop ((w.journal ++ begin ∷ []) ++ end ∷ [])))
-            (ap (dones o) behind ∙ dones_of reports o (behind_stop w.journal) batch.from batch.to false) (last_more old.failed_since (dones o (behind_stop w.journal)) (said.last before)));
+            let behind : behind_stop ((w.journal ++ begin ∷ []) ++ end ∷ []) ≡ (behind_stop w.journal ++ begin ∷ [])
+            ++ end ∷ [] =
+            behind_stop-push (w.journal ++ begin ∷ []) end mid_stopped
+            ∙ ap (λ (es : List Entry). es ++ end ∷ []) (behind_stop-push w.journal begin before) in
+            last_fewer new.failed_since (old.failed_since + 1)
+            (dones o (behind_stop ((w.journal ++ begin ∷ []) ++ end ∷ []))) few
+            (last_same (old.failed_since + 1) (dones o (behind_stop w.journal) ++ false ∷ [])
+            (dones o (behind_stop ((w.journal ++ begin ∷ []) ++ end ∷ [])))
+            (ap (dones o) behind ∙ dones_of reports o (behind_stop w.journal) batch.from batch.to false)
+            (last_more old.failed_since (dones o (behind_stop w.journal)) (said.last before)));
       })
 
 -- what a sink carries counts once
-pub put_again : (failed : Bool) (sink : Carried) (out : OutPart) (held : Option (List ℕ)) (faults : ℕ) → after_put failed sink (record out { held = held; put_faults = faults }) ≡ after_put failed sink out
+pub put_again : (failed : Bool) (sink : Carried) (out : OutPart) (held : Option (List ℕ)) (faults : ℕ)
+    → after_put failed sink (record out { held = held; put_faults = faults }) ≡ after_put failed sink out
 put_again false sink out held faults = refl
 put_again true sink out held faults = refl
 
 -- its batch was put, or the put failed
-pub went_put : (start : Beginning) (core mid next : CoreState) (now : RunState) (old : OutPart) (batch : Batch) (text : List ℕ) (failed : Bool) (sink : Carried) → old.output < length core.setup.outputs → core.raw ≡ [] → BeginsNext old.output core mid batch → text ≡ batch_text old.format batch.metrics →
-    old.output < length now.outs → out_at now.outs old.output ≡ old → IsPut failed (change old.held sink.bytes old.put_faults sink.faults) text → next ≡ after_done mid old.output (not failed) → Continues mid next (done_entry mid old.output (not failed)) →
-    Progress start (record now { core = core }) → Progress start (record now { core = next; outs = set now.outs old.output (after_put failed sink old) })
+pub went_put : (start : Beginning) (core mid next : CoreState) (now : RunState) (old : OutPart) (batch : Batch)
+    (text : List ℕ) (failed : Bool) (sink : Carried) → old.output < length core.setup.outputs → core.raw ≡ []
+    → BeginsNext old.output core mid batch → text ≡ batch_text old.format batch.metrics →
+    old.output < length now.outs → out_at now.outs old.output ≡ old
+    → IsPut failed (change old.held sink.bytes old.put_faults sink.faults) text
+    → next ≡ after_done mid old.output (not failed) → Continues mid next (done_entry mid old.output (not failed)) →
+    Progress start (record now { core = core }) → Progress start
+    (record now { core = next; outs = set now.outs old.output (after_put failed sink old) })
 went_put start core mid next now old batch text false sink within routed begins spelled b at put done ends w =
-    went_accepted start core mid next now old (after_put false sink old) batch text within routed begins.batch_is spelled refl put.1 begins.after begins.continues b at refl refl done ends put.0 w
+    went_accepted start core mid next now old (after_put false sink old) batch text within routed begins.batch_is
+    spelled refl put.1 begins.after begins.continues b at refl refl done ends put.0 w
 went_put start core mid next now old batch text true sink within routed begins spelled b at put done ends w =
-    went_failed start core mid next now old (after_put true sink old) batch text within routed begins.batch_is spelled refl put.1 begins.after begins.continues b at Failed refl refl (omega arith) done ends put.0.1 put.0.0 w
+    went_failed start core mid next now old (after_put true sink old) batch text within routed begins.batch_is spelled
+    refl put.1 begins.after begins.continues b at Failed refl refl (omega arith) done ends put.0.1 put.0.0 w
 
 -- nothing was put
 pub sends_none : (old new : CoreState) (out : OutPart) → new ≡ old → SendsAt old new out out
 sends_none old new out core = λ outs b at start now w.
-    let same : set outs out.output out ≡ outs = subst (λ (x : OutPart). set outs out.output x ≡ outs) at (set-get_or outs out.output no_out) in
+    let same : set outs out.output out ≡ outs = subst (λ (x : OutPart). set outs out.output x ≡ outs) at
+    (set-get_or outs out.output no_out) in
     subst (λ (all : List OutPart). Progress start (record now { core = new; outs = all })) (sym same)
     (subst (λ (s : CoreState). Progress start (record now { core = s; outs = outs })) (sym core) w)
 
 -- one batch after another
-pub sends_more : (old mid new : CoreState) (out mid_out new_out : OutPart) → mid_out.output ≡ out.output → SendsAt old mid out mid_out → SendsAt mid new mid_out new_out → SendsAt old new out new_out
+pub sends_more : (old mid new : CoreState) (out mid_out new_out : OutPart) → mid_out.output ≡ out.output
+    → SendsAt old mid out mid_out → SendsAt mid new mid_out new_out → SendsAt old new out new_out
 sends_more old mid new out mid_out new_out number first second = λ outs b at start now w.
     let i : ℕ = out.output in
     let l : mid_out.output < length (set outs i mid_out) = omega (arith, b, number, length-set outs i mid_out) in
-    let here : out_at (set outs i mid_out) mid_out.output ≡ mid_out = ap (out_at (set outs i mid_out)) number ∙ get_or-set_same outs i mid_out no_out b in
-    let twice : set (set outs i mid_out) mid_out.output new_out ≡ set outs i new_out = ap (λ (k : ℕ). set (set outs i mid_out) k new_out) number ∙ set-set outs i mid_out new_out in
-    subst (λ (all : List OutPart). Progress start (record now { core = new; outs = all })) twice (second (set outs i mid_out) l here start now (first outs b at start now w))
+    let here : out_at (set outs i mid_out) mid_out.output ≡ mid_out =
+    ap (out_at (set outs i mid_out)) number ∙ get_or-set_same outs i mid_out no_out b in
+    let twice : set (set outs i mid_out) mid_out.output new_out ≡ set outs i new_out =
+    ap (λ (k : ℕ). set (set outs i mid_out) k new_out) number ∙ set-set outs i mid_out new_out in
+    subst (λ (all : List OutPart). Progress start (record now { core = new; outs = all })) twice
+    (second (set outs i mid_out) l here start now (first outs b at start now w))
 
 -- a put to one of the outputs is one to the outputs
-pub sends_at : (old new : CoreState) (i : ℕ) (out new_out : OutPart) (outs : List OutPart) → out.output ≡ i → i < length outs → out_at outs i ≡ out → SendsAt old new out new_out → SendsOn old new outs (set outs i new_out)
+pub sends_at : (old new : CoreState) (i : ℕ) (out new_out : OutPart) (outs : List OutPart) → out.output ≡ i
+    → i < length outs → out_at outs i ≡ out → SendsAt old new out new_out → SendsOn old new outs (set outs i new_out)
 sends_at old new i out new_out outs number b at h =
     subst (λ (k : ℕ). SendsOn old new outs (set outs k new_out)) number
     (h outs (omega (arith, b, number)) (ap (out_at outs) number ∙ at))
 
-pub sends_then : (old mid new : CoreState) (outs mid_outs new_outs : List OutPart) → SendsOn old mid outs mid_outs → SendsOn mid new mid_outs new_outs → SendsOn old new outs new_outs
+pub sends_then : (old mid new : CoreState) (outs mid_outs new_outs : List OutPart) → SendsOn old mid outs mid_outs
+    → SendsOn mid new mid_outs new_outs → SendsOn old new outs new_outs
 sends_then old mid new outs mid_outs new_outs first second = λ start now w. second start now (first start now w)

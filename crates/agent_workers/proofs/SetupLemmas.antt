@@ -1,5 +1,6 @@
 -- What a run of a configuration is about.
-use Rattle.std.proofs.Common.{◌≡◌, ◌≤◌, ◌<◌, ℕ, zero, suc, ℤ, false, List, [], ◌∷◌, replicate, length, get_or, refl, sym, ap, ◌∙◌, subst, arith}
+use Rattle.std.proofs.Common.{◌≡◌, ◌≤◌, ◌<◌, ℕ, zero, suc, ℤ, false, List, [], ◌∷◌, replicate, length, get_or, refl}
+use Rattle.std.proofs.Common.{sym, ap, ◌∙◌, subst, arith}
 use Rattle.std.specs.Prelude.{map, All}
 use Rattle.std.specs.declared.option.Option.{Option}
 use Rattle.std.proofs.lemmas.List.{length-map, get_or-map}
@@ -17,12 +18,14 @@ use Rattle.pipeline_core.specs.CoreState.{CoreState, first_state, most_undeliver
 use Rattle.pipeline_core.specs.declared.setup.CoreSetup.{CoreSetup}
 use Rattle.pipeline_core.specs.declared.setup.InSetup.{InSetup}
 use Rattle.pipeline_core.specs.declared.setup.OutSetup.{OutSetup}
-use Rattle.agent_workers.specs.Job.{job_of, job_input, job_output, journal_setup_of, limit_by, limit_of, setup_of, sizes_by, sizes_of}
+use Rattle.agent_workers.specs.Job.{job_of, job_input, job_output, journal_setup_of, limit_by, limit_of, setup_of}
+use Rattle.agent_workers.specs.Job.{sizes_by, sizes_of}
 use Rattle.agent_workers.specs.Opened.{in_setup, out_setup}
 use Rattle.agent_workers.specs.Running.{buffered_at}
 
 -- the limits of inputs and the sizes of outputs, as a job and as a core have them
-limits_are : (config : Config) (confs : List InputConf) → map limit_of (map (job_input config) confs) ≡ map limit_by confs
+limits_are : (config : Config) (confs : List InputConf) → map limit_of (map (job_input config) confs) ≡ map limit_by
+    confs
 limits_are config [] = refl
 limits_are config (conf ∷ confs) = ap (λ (xs : List (Option ℕ)). limit_by conf ∷ xs) (limits_are config confs)
 
@@ -39,14 +42,27 @@ core_sizes [] = refl
 core_sizes (conf ∷ confs) = ap (λ (xs : List (ℕ × ℕ)). sizes_by conf ∷ xs) (core_sizes confs)
 
 -- what the journal is about
-pub about_of : (config : Config) (start first : ℤ) (inputs : List (Option ℕ)) (aggs : List AggLine) (outputs : List (ℕ × ℕ)) → first ≡ start → inputs ≡ map limit_by config.inputs → aggs ≡ [] → outputs ≡ map sizes_by config.outputs →
-    record { start = first; inputs = inputs; aggs = aggs; outputs = outputs } ≡ journal_setup_of (setup_of (job_of config) start)
-about_of config start first inputs aggs outputs g e n f = rw (g, e, n, f, limits_are config config.inputs, sizes_are config.outputs) refl
+pub about_of : (config : Config) (start first : ℤ) (inputs : List (Option ℕ)) (aggs : List AggLine)
+    (outputs : List (ℕ × ℕ)) → first ≡ start → inputs ≡ map limit_by config.inputs → aggs ≡ []
+    → outputs ≡ map sizes_by config.outputs →
+    record { start = first; inputs = inputs; aggs = aggs; outputs = outputs } ≡ journal_setup_of
+    (setup_of (job_of config) start)
+about_of config start first inputs aggs outputs g e n f = rw
+    (g, e, n, f, limits_are config config.inputs, sizes_are config.outputs) refl
 
 -- what the core is about
-pub core_is : (config : Config) (inputs : List InSetup) (outputs : List OutSetup) (start first : ℤ) → inputs ≡ map in_setup config.inputs → outputs ≡ map out_setup config.outputs → first ≡ start →
+pub core_is : (config : Config) (inputs : List InSetup) (outputs : List OutSetup) (start first : ℤ)
+    → inputs ≡ map in_setup config.inputs → outputs ≡ map out_setup config.outputs → first ≡ start →
     core_setup_of (record { inputs = inputs; outputs = outputs; start = first }) ≡ setup_of (job_of config) start
-core_is config inputs outputs start first e f g = rw (e, f, g, core_limits config.inputs, core_sizes config.outputs, limits_are config config.inputs, sizes_are config.outputs) refl
+core_is config inputs outputs start first e f g = rw (
+  e,
+  f,
+  g,
+  core_limits config.inputs,
+  core_sizes config.outputs,
+  limits_are config config.inputs,
+  sizes_are config.outputs,
+) refl
 
 -- none of the inputs is tracked
 no_input : InputConf
@@ -57,25 +73,36 @@ untracked_all confs = λ k d l.
     let within : k < length confs = omega (arith, l, length-map confs in_setup) in
     subst (λ (x : InSetup). x.tracked ≡ false) (sym (get_or-map in_setup confs k no_input d within)) refl
 
-pub untracked : (confs : List InputConf) (inputs : List InSetup) → inputs ≡ map in_setup confs → All (λ (x : InSetup). x.tracked ≡ false) inputs
+pub untracked : (confs : List InputConf) (inputs : List InSetup) → inputs ≡ map in_setup confs
+    → All (λ (x : InSetup). x.tracked ≡ false) inputs
 untracked confs inputs same = subst (All (λ (x : InSetup). x.tracked ≡ false)) (sym same) (untracked_all confs)
 
 -- none of them has ended in a core in which nothing happened
-pub none_ended_first : (confs : List InputConf) (setup : CoreSetup) (core : CoreState) → core ≡ first_state setup → setup.inputs ≡ map in_setup confs → core.ended ≡ replicate (length confs) false
-none_ended_first confs setup core is same = ap (λ (s : CoreState). s.ended) is ∙ ap (λ (xs : List InSetup). replicate (length xs) false) same ∙ ap (λ (k : ℕ). replicate k false) (length-map confs in_setup)
+pub none_ended_first : (confs : List InputConf) (setup : CoreSetup) (core : CoreState) → core ≡ first_state setup
+    → setup.inputs ≡ map in_setup confs → core.ended ≡ replicate (length confs) false
+none_ended_first confs setup core is same = ap (λ (s : CoreState). s.ended) is
+    ∙ ap (λ (xs : List InSetup). replicate (length xs) false) same
+    ∙ ap (λ (k : ℕ). replicate k false) (length-map confs in_setup)
 
 no_output : OutputConf
 no_output = record { place = []; format = written.Influx; batch = 0; limit = 0; filter = no_rules }
 
 -- the sizes that a configuration has are those of a core
-pub sizes_fit_all : (confs : List OutputConf) → All HasSizes confs → All (λ (x : OutSetup). (1 ≤ x.batch) × (x.batch ≤ x.limit)) (map out_setup confs)
+pub sizes_fit_all : (confs : List OutputConf) → All HasSizes confs
+    → All (λ (x : OutSetup). (1 ≤ x.batch) × (x.batch ≤ x.limit)) (map out_setup confs)
 sizes_fit_all confs h = λ k d l.
     let within : k < length confs = omega (arith, l, length-map confs out_setup) in
     let c : OutputConf = get_or confs k no_output in
-    subst (λ (x : OutSetup). (1 ≤ x.batch) × (x.batch ≤ x.limit)) (sym (get_or-map out_setup confs k no_output d within)) ((h k no_output within).some, (h k no_output within).ordered)
+    subst (λ (x : OutSetup). (1 ≤ x.batch) × (x.batch ≤ x.limit))
+    (sym (get_or-map out_setup confs k no_output d within)) (
+      (h k no_output within).some,
+      (h k no_output within).ordered,
+    )
 
-pub sizes_fit : (confs : List OutputConf) (outputs : List OutSetup) → outputs ≡ map out_setup confs → All HasSizes confs → All (λ (x : OutSetup). (1 ≤ x.batch) × (x.batch ≤ x.limit)) outputs
-sizes_fit confs outputs same h = subst (All (λ (x : OutSetup). (1 ≤ x.batch) × (x.batch ≤ x.limit))) (sym same) (sizes_fit_all confs h)
+pub sizes_fit : (confs : List OutputConf) (outputs : List OutSetup) → outputs ≡ map out_setup confs → All HasSizes confs
+    → All (λ (x : OutSetup). (1 ≤ x.batch) × (x.batch ≤ x.limit)) outputs
+sizes_fit confs outputs same h = subst (All (λ (x : OutSetup). (1 ≤ x.batch) × (x.batch ≤ x.limit))) (sym same)
+    (sizes_fit_all confs h)
 
 -- nothing is buffered in it
 default_of : {X : Type 0} (n o : ℕ) (d : X) → get_or (replicate n d) o d ≡ d
@@ -83,5 +110,7 @@ default_of zero o d = refl
 default_of (suc n) zero d = refl
 default_of (suc n) (suc o) d = default_of n o d
 
-pub none_buffered_first : (setup : CoreSetup) (core : CoreState) (o : ℕ) → core ≡ first_state setup → buffered_at core o ≡ 0
-none_buffered_first setup core o is = ap (λ (s : CoreState). buffered_at s o) is ∙ ap (λ (x : OutputNumbers). x.buffered) (default_of (length setup.outputs) o unreached_output)
+pub none_buffered_first : (setup : CoreSetup) (core : CoreState) (o : ℕ) → core ≡ first_state setup
+    → buffered_at core o ≡ 0
+none_buffered_first setup core o is = ap (λ (s : CoreState). buffered_at s o) is
+    ∙ ap (λ (x : OutputNumbers). x.buffered) (default_of (length setup.outputs) o unreached_output)

@@ -1,5 +1,6 @@
 -- Cores that stand for a journal, and the entries that they keep.
-use Rattle.std.proofs.Common.{◌≡◌, ◌≤◌, ◌<◌, ℕ, zero, suc, true, List, [], ◌∷◌, ◌++◌, length, take, set, refl, sym, ap, ◌∙◌, arith, subst}
+use Rattle.std.proofs.Common.{◌≡◌, ◌≤◌, ◌<◌, ℕ, zero, suc, true, List, [], ◌∷◌, ◌++◌, length, take, set, refl, sym, ap}
+use Rattle.std.proofs.Common.{◌∙◌, arith, subst}
 use Rattle.std.specs.Prelude.{All, ◌↔◌, slice_set}
 use Rattle.std.specs.List.{AllByRecursion}
 use Rattle.std.specs.declared.option.Option.{Option}
@@ -28,18 +29,24 @@ pub has : {core : CoreState} {journal : List Entry} → Stands core journal → 
 has {core} {journal} s = record { journal = journal; stands = s }
 
 -- one entry more
-pub continues : {old new : CoreState} {e : Entry} → ((journal : List Entry) → Stands old journal → Stands new (journal ++ e ∷ [])) → HasJournal old → HasJournal new
+pub continues : {old new : CoreState} {e : Entry} → ((journal : List Entry) → Stands old journal
+    → Stands new (journal ++ e ∷ [])) → HasJournal old → HasJournal new
 continues {old} {new} {e} more h = record { journal = h.journal ++ e ∷ []; stands = more h.journal h.stands }
 
 -- a verdict that is judged is Removed exactly where there is no whole
-whole_or_none : (setup : Setup) (before : List Entry) (whole : Option Content) (aggs : List (Option Content)) (verdict : Verdict) → verdict ≡ judged setup before whole aggs → (verdict ≡ verdicts.Removed) ↔ (whole ≡ None)
-whole_or_none setup before whole aggs verdict e = subst (λ (v : Verdict). (v ≡ verdicts.Removed) ↔ (whole ≡ None)) (sym e) (removed-has-no-whole setup before whole aggs)
+whole_or_none : (setup : Setup) (before : List Entry) (whole : Option Content) (aggs : List (Option Content))
+    (verdict : Verdict) → verdict ≡ judged setup before whole aggs → (verdict ≡ verdicts.Removed) ↔ (whole ≡ None)
+whole_or_none setup before whole aggs verdict e = subst (λ (v : Verdict). (v ≡ verdicts.Removed) ↔ (whole ≡ None))
+    (sym e) (removed-has-no-whole setup before whole aggs)
 
-none_split : (aggs outs : List (Option Content)) → AllByRecursion (λ (view : Option Content). view ≡ None) (aggs ++ outs) → AllByRecursion (λ (view : Option Content). view ≡ None) aggs × AllByRecursion (λ (view : Option Content). view ≡ None) outs
+none_split : (aggs outs : List (Option Content)) → AllByRecursion (λ (view : Option Content). view ≡ None)
+    (aggs ++ outs) → AllByRecursion (λ (view : Option Content). view ≡ None) aggs
+    × AllByRecursion (λ (view : Option Content). view ≡ None) outs
 none_split [] outs h = (tt, h)
 none_split (x ∷ aggs) outs h = ((h.0, (none_split aggs outs h.1).0), (none_split aggs outs h.1).1)
 
-views_split : (whole : Option Content) (aggs outs : List (Option Content)) → HasViews whole (aggs ++ outs) → HasViews whole aggs × HasViews whole outs
+views_split : (whole : Option Content) (aggs outs : List (Option Content)) → HasViews whole (aggs ++ outs)
+    → HasViews whole aggs × HasViews whole outs
 views_split None aggs outs h = none_split aggs outs h
 views_split (Some whole) aggs outs h = (tt, tt)
 
@@ -47,7 +54,11 @@ meets_whole : (setup : Setup) (before : List Entry) (e : Entry) → Meets setup 
 meets_whole setup before (Gather input moment pieces refused passed filtered metrics group reports) h = tt
 meets_whole setup before (Ended input) h = tt
 meets_whole setup before (Take item) h = tt
-meets_whole setup before (Route item whole verdict aggs outs reports) h = (whole_or_none setup before whole aggs verdict h.line.verdict_is, (views_split whole aggs outs h.line.views).0, (views_split whole aggs outs h.line.views).1)
+meets_whole setup before (Route item whole verdict aggs outs reports) h = (
+  whole_or_none setup before whole aggs verdict h.line.verdict_is,
+  (views_split whole aggs outs h.line.views).0,
+  (views_split whole aggs outs h.line.views).1,
+)
 meets_whole setup before (Tick moment made) h = tt
 meets_whole setup before (Stop moment made) h = tt
 meets_whole setup before (Begin output from to) h = tt
@@ -65,7 +76,8 @@ all_behind P (e ∷ front) es h = all_behind P front es h.1
 -- the entries that a core stores can be spelled
 pub stored_whole : (core : CoreState) → HasJournal core → AllByRecursion IsWholeOrRemoved core.stored
 stored_whole core h =
-    all_behind IsWholeOrRemoved h.stands.front core.stored (subst (AllByRecursion IsWholeOrRemoved) h.stands.stored (legal_whole core.setup [] h.journal h.stands.legal))
+    all_behind IsWholeOrRemoved h.stands.front core.stored (subst (AllByRecursion IsWholeOrRemoved) h.stands.stored
+    (legal_whole core.setup [] h.journal h.stands.legal))
 
 -- a batch has an item, where one waits
 pub takes_some : {X : Type 0} (batch : ℕ) (xs : List X) → 1 ≤ batch → (length xs ≡ 0 → ⊥) → 0 < length (take batch xs)
@@ -87,12 +99,17 @@ some_wait [] ne = absurd (ne refl)
 some_wait (x ∷ xs) ne = omega arith
 
 -- a batch that was begun and accepted: fewer items wait
-pub fewer_wait : (lanes : List (LaneState Offer)) (o : ℕ) → o < length lanes → 1 ≤ (lane_at lanes o).batch → (length (lane_at lanes o).waiting ≡ 0 → ⊥) →
+pub fewer_wait : (lanes : List (LaneState Offer)) (o : ℕ) → o < length lanes → 1 ≤ (lane_at lanes o).batch
+    → (length (lane_at lanes o).waiting ≡ 0 → ⊥) →
     (let begun : List (LaneState Offer) = slice_set lanes o (after_begin (lane_at lanes o)) in
-    length (lane_at (slice_set begun o (lane_done true (lane_at begun o))) o).waiting < length (lane_at lanes o).waiting)
+    length (lane_at (slice_set begun o (lane_done true (lane_at begun o))) o).waiting < length
+    (lane_at lanes o).waiting)
 fewer_wait lanes o b some ne =
     let x : LaneState Offer = lane_at lanes o in
-    let is : lane_at (set (set lanes o (after_begin x)) o (lane_done true (lane_at (set lanes o (after_begin x)) o))) o ≡ lane_done true (after_begin x) =
-    ap (λ (xs : List (LaneState Offer)). lane_at xs o) (lanes_done lanes o true b) ∙ get_or-set_same lanes o (lane_done true (after_begin x)) (empty_lane 0 0) b in
-    let fewer : length (lane_done true (after_begin x)).waiting < length x.waiting = omega (arith, length-drop x.batch x.waiting, some, some_wait x.waiting ne) in
+    let is : lane_at (set (set lanes o (after_begin x)) o (lane_done true (lane_at (set lanes o (after_begin x)) o))) o
+    ≡ lane_done true (after_begin x) =
+    ap (λ (xs : List (LaneState Offer)). lane_at xs o) (lanes_done lanes o true b)
+    ∙ get_or-set_same lanes o (lane_done true (after_begin x)) (empty_lane 0 0) b in
+    let fewer : length (lane_done true (after_begin x)).waiting < length x.waiting =
+    omega (arith, length-drop x.batch x.waiting, some, some_wait x.waiting ne) in
     subst (λ (y : LaneState Offer). length y.waiting < length x.waiting) (sym is) fewer

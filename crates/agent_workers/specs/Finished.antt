@@ -18,15 +18,15 @@ use Rattle.agent_workers.specs.Running.{IsRunning, AreSettled}
 use Rattle.formats.specs.declared.pieces.InState.TheVariants as states
 use Rattle.agent_workers.specs.declared.rounds.Ending.{Ending}
 
--- a clock came from a place of its list to another one, and its moments on the way count as these
+-- a clock came from an index of its list to another one, and its moments on the way count as these
 abbrev pub IsCounted : Moments → ℕ → ℕ → ℤ → List ℤ → Type 0
-IsCounted moments first place floor all = (place ≤ moments.last) × Counted moments first place floor all
+IsCounted moments first next floor all = (next ≤ moments.last) × Counted moments first next floor all
 
--- moments that count came from a place of a clock's list to where the clock was; now they come to where it is
+-- moments that count came from an index of a clock's list to where the clock was; now they come to where it is
 abbrev pub CountsOn : Timed → ℕ → ℤ → List ℤ → List ℤ → Type 0
-CountsOn timer place floor olds news = (first : ℕ)
-    → IfSome timer.moments (λ moments. Counted moments first timer.place floor olds)
-    → IfSome timer.moments (λ moments. IsCounted moments first place floor news)
+CountsOn timer next floor olds news = (first : ℕ)
+    → IfSome timer.moments (λ moments. Counted moments first timer.next floor olds)
+    → IfSome timer.moments (λ moments. IsCounted moments first next floor news)
 
 -- The core stands for a legal journal that goes on from the one that the run continues, and comes to an end; the
 -- parts agree with it, and the ending says of it what it says.
@@ -42,7 +42,7 @@ pub record Finished (start : Beginning) (ending : Ending) (old new : RunState) :
   pub heard : AllHeard start.ins new.ins journal
   pub said : AllSaid start.outs new.outs journal
   -- the moments that count go on by one of the timer's
-  pub counted : CountsOn old.timer new.timer.place start.start old.counted_at (counted_moments journal)
+  pub counted : CountsOn old.timer new.timer.next start.start old.counted_at (counted_moments journal)
   pub in_order : start.front ≡ [] → InOrder (setup_at start) journal
   -- whether each input was read to its end, or why not; a limit was reached, or a read failed, exactly where a
   -- state says so

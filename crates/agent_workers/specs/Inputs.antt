@@ -20,7 +20,7 @@ use Rattle.formats.specs.declared.pieces.InState.TheVariants as states
 use Rattle.formats.specs.declared.reading.Group.{Group}
 
 -- an input of a run: its number, by what rule it is read, what is in hand of its bytes, the bytes left of it,
--- its count of failed reads, the moments of its clock and the clock's place, the gather that is held, and
+-- its count of failed reads, the moments of its clock and the index of the next one, the gather that is held, and
 -- whether it is read on
 pub record InPart : Type 0 where
   pub input : ℕ
@@ -29,7 +29,7 @@ pub record InPart : Type 0 where
   pub left : Option (List ℕ)
   pub read_faults : ℕ
   pub moments : Option Moments
-  pub place : ℕ
+  pub next : ℕ
   pub held : Option Gathered
   pub state : InState
 
@@ -46,7 +46,7 @@ in_of told timed job = record {
   left = (told job.source).bytes;
   read_faults = (told job.source).faults;
   moments = (timed job.clock).moments;
-  place = (timed job.clock).place;
+  next = (timed job.clock).next;
   held = job.held;
   state = job.state;
 }
@@ -64,12 +64,12 @@ no_in = record {
   left = None;
   read_faults = 0;
   moments = None;
-  place = 0;
+  next = 0;
   held = None;
   state = states.Reading;
 }
 
--- the part at a place
+-- the part at an index
 abbrev pub in_at : List InPart → ℕ → InPart
 in_at ins input = slice_index_or ins input no_in
 
@@ -131,13 +131,13 @@ pub record IsReadable (rule : InRule) : Type 0 where
   pub some : 1 ≤ rule.most
   pub filled : All IsFilledTag rule.globals
 
--- an input fits a core: it has the number of its place, is cut as its format is, and has ended where it has for the
+-- an input fits a core: its number is its index, is cut as its format is, and has ended where it has for the
 -- core; what it holds is its own, and it holds nothing once it has ended
-pub record FitsInput (place : ℕ) (ended : List Bool) (part : InPart) : Type 0 where
-  pub number : part.input ≡ place
+pub record FitsInput (index : ℕ) (ended : List Bool) (part : InPart) : Type 0 where
+  pub number : part.input ≡ index
   pub readable : IsReadable part.rule
   pub cut_by : IsCutBy part
-  pub ended_is : slice_get ended place ≡ Some (is_ended part.state)
+  pub ended_is : slice_get ended index ≡ Some (is_ended part.state)
   pub own : HoldsOwn part
   pub none_held : HoldsNoEnd part.state part.held
 
@@ -186,11 +186,11 @@ IsOneIn state ins is = IsOneOf state (length ins) (λ input. (in_at ins input).s
 -- nothing was read of an input, which can be read
 pub record IsFresh (part : InPart) : Type 0 where
   pub hand : part.hand ≡ empty_hand (cut_of part.rule.format)
-  pub place : part.place ≡ 0
+  pub next : part.next ≡ 0
   pub none_held : part.held ≡ None
   pub reading : part.state ≡ states.Reading
 
--- so it is for each input, and each has the number of its place
+-- so it is for each input, and the number of each is its index
 pub record AreFresh (ins : List InPart) : Type 0 where
   pub readable : (input : ℕ) → input < length ins → IsReadable (in_at ins input).rule
   pub numbered : (input : ℕ) → input < length ins → (in_at ins input).input ≡ input

@@ -1,5 +1,5 @@
--- What a run is to do: a configuration, the job that it is, the set-up of the job's journal, and the journal's head are made one of
--- the other.
+-- What a run is to do: a configuration, the job that it is, the set-up of the job's journal, and the
+-- journal's head are made one of the other.
 use Rattle.std.specs.Prelude.{ℕ, ℤ, false, List, [], map}
 use Rattle.std.specs.declared.option.Option.{Option}
 use Rattle.std.specs.declared.option.Option.TheVariants.{None}
@@ -15,7 +15,8 @@ use Rattle.metric_filter.specs.Filter.{applied}
 use Rattle.pipeline_core.specs.Work.{Work}
 use Rattle.pipeline_core.specs.Worked.{last_of}
 
--- an input of a job: by what rule it is read, and how many of its groups may be undelivered at most; none where it isn't tracked
+-- an input of a job: by what rule it is read, and how many of its groups may be undelivered at most; none
+-- where it isn't tracked
 pub record JobInput : Type 0 where
   pub rule : InRule
   pub most_undelivered : Option ℕ
@@ -26,8 +27,8 @@ pub record JobOutput : Type 0 where
   pub batch : ℕ
   pub limit : ℕ
 
--- what a run is to do: its inputs, its aggregators, its outputs, what it makes of its items, and how often in succession a repeat that
--- had no batch accepted is tried at its end
+-- what a run is to do: its inputs, its aggregators, its outputs, what it makes of its items, and how often
+-- in succession a repeat that had no batch accepted is tried at its end
 pub record Job : Type 0 where
   pub inputs : List JobInput
   pub aggs : List AggLine
@@ -81,7 +82,8 @@ sizes_of output = (output.batch, output.limit)
 
 -- what the journal of a job is about, where it begins at a moment
 abbrev pub setup_of : Job → ℤ → Setup
-setup_of job start = record { start = start; inputs = map limit_of job.inputs; aggs = job.aggs; outputs = map sizes_of job.outputs }
+setup_of job start = record
+    { start = start; inputs = map limit_of job.inputs; aggs = job.aggs; outputs = map sizes_of job.outputs }
 
 -- the head of a journal: its set-up
 abbrev pub journal_setup_of : Setup → JournalSetup

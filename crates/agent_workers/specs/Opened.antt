@@ -83,7 +83,7 @@ fresh_in config number conf source clock = record {
   left = source.bytes;
   read_faults = source.faults;
   moments = clock.moments;
-  place = clock.place;
+  next = clock.next;
   held = None;
   state = states.Reading;
 }
@@ -123,8 +123,8 @@ pub record IsNewCore (config : Config) (start : ℤ) (core : CoreState) : Type 0
   pub setup : core.setup ≡ setup_of (job_of config) start
   pub stored : core.stored ≡ []
 
--- A core in which nothing happened, and what a run begins with: its inputs, its outputs, its journal's place and its timer are what was
--- opened and the clocks, as the configuration has them.
+-- A core in which nothing happened, and what a run begins with: its inputs, its outputs, its journal's place
+-- and its timer are what was opened and the clocks, as the configuration has them.
 pub record IsMadeOf (config : Config) (start : ℤ) (opened : Carries) (times : Times) (now : RunState) : Type 0 where
   pub set_up : IsSetUp (job_of config) start now
   pub ins_are : now.ins ≡ fresh_ins config 0 config.inputs opened.sources times.ins

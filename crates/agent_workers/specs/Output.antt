@@ -43,11 +43,11 @@ outs_of told jobs = map (out_of told) jobs
 abbrev pub no_out : OutPart
 no_out = record { output = 0; format = Influx; held = None; put_faults = 0; failed = 0; failed_since = 0 }
 
--- the part at a place
+-- the part at an index
 abbrev pub out_at : List OutPart → ℕ → OutPart
 out_at outs output = slice_index_or outs output no_out
 
--- there are so many outputs, and they have the numbers of their places
+-- there are so many outputs, and the number of each is its index
 pub record AreOutputs (count : ℕ) (outs : List OutPart) : Type 0 where
   pub count_is : length outs ≡ count
   pub numbered : (output : ℕ) → output < count → (out_at outs output).output ≡ output
@@ -59,8 +59,8 @@ anew out = record out { failed_since = 0 }
 abbrev pub AreAnew : List OutPart → Type 0
 AreAnew outs = (output : ℕ) → output < length outs → (out_at outs output).failed_since ≡ 0
 
--- a batch was put, or its put failed: what the sink carries then, and how many of the last batches failed, which stands still at
--- its highest number
+-- a batch was put, or its put failed: what the sink carries then, and how many of the last batches failed,
+-- which stands still at its highest number
 abbrev pub after_put : Bool → Carried → OutPart → OutPart
 after_put false sink out = record out { held = sink.bytes; put_faults = sink.faults; failed = 0; failed_since = 0 }
 after_put true sink out = record out {

@@ -64,9 +64,9 @@ HasState states.Faulted start now journal = (now.hand.taken < 2 ^ 40)
 HasState states.LimitReached start now journal = (now.hand.taken ≡ 2 ^ 40)
     ⊎ HoldsTooMany now.held (gathered_count journal)
 
--- a clock came from a place of its list to another one, and gave these moments on the way
+-- a clock came from an index of its list to another one, and gave these moments on the way
 abbrev pub IsClocked : Moments → ℕ → ℕ → List ℤ → Type 0
-IsClocked moments first place all = (place ≤ moments.last) × Clocked moments first place all
+IsClocked moments first next all = (next ≤ moments.last) × Clocked moments first next all
 
 -- while the input is read on its Gathers name the pieces of what was taken, whatever follows; after a failed
 -- read all of these but perhaps that of the last line
@@ -87,7 +87,7 @@ pub record Heard (start now : InPart) (input : ℕ) (journal : List Entry) : Typ
   pub later : start.read_faults ≤ now.read_faults
   pub state : HasState now.state start now journal
   pub clocked : IfSome now.moments
-      (λ moments. IsClocked moments start.place now.place
+      (λ moments. IsClocked moments start.next now.next
       (map (λ (says : GatherSays). says.moment) (heard_of input journal now.held)))
 
 -- what it says of each input
@@ -136,7 +136,8 @@ pub record Progress (start : Beginning) (now : RunState) : Type 0 where
 -- a step that routes items, while no batch failed
 abbrev pub GoesOn : CoreState → CoreState → ProcPart → ProcPart → Type 0
 GoesOn old new proc new_proc = (start : Beginning) (now : RunState) → AreAnew now.outs
-    → Progress start (record now { core = old; proc = proc }) → Progress start (record now { core = new; proc = new_proc })
+    → Progress start (record now { core = old; proc = proc })
+    → Progress start (record now { core = new; proc = new_proc })
 
 -- a step that routes items and puts to the journal's place, while no batch failed
 abbrev pub RoutesOn : CoreState → CoreState → ProcPart → ProcPart → JournalPart → JournalPart → Type 0

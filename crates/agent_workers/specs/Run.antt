@@ -81,7 +81,7 @@ in_runs [] news = []
 in_runs (old ∷ olds) [] = []
 in_runs (old ∷ olds) (new ∷ news) = in_run old new ∷ in_runs olds news
 
--- the input at a place
+-- the input at an index
 abbrev pub run_at : List InRun → ℕ → InRun
 run_at ins input = slice_index_or ins input (in_run no_in no_in)
 
@@ -103,7 +103,7 @@ out_runs [] news = []
 out_runs (old ∷ olds) [] = []
 out_runs (old ∷ olds) (new ∷ news) = out_run old new ∷ out_runs olds news
 
--- the output at a place
+-- the output at an index
 abbrev pub out_run_at : List OutRun → ℕ → OutRun
 out_run_at outs output = slice_index_or outs output (out_run no_out no_out)
 
@@ -166,7 +166,8 @@ pub record IsSentTo (tries : ℕ) (setup : Setup) (journal : List Entry) (output
       → LastFailed tries (dones output (behind_stop journal))
 
 -- A legal journal of a run that came to its end, given its job and the moment of its start, its inputs and its outputs.
-pub record HasRun (job : Job) (start : ℤ) (ins : List InRun) (outputs : List OutRun) (journal : List Entry) : Type 0 where
+pub record HasRun (job : Job) (start : ℤ) (ins : List InRun) (outputs : List OutRun) (journal : List Entry)
+    : Type 0 where
   pub legal : IsLegal (setup_of job start) journal
   -- what each input gave was gathered, so many bytes of it
   pub taken : ℕ → ℕ
@@ -189,8 +190,8 @@ pub record IsRun (job : Job) (start : ℤ) (x : RunChange) (journal : List Entry
   pub start_is : IfSome x.moments (λ moments. start ≡ moments.at 0)
   pub counted : IfSome x.moments
       (λ moments. Counted moments (min 1 moments.last) moments.last start (counted_moments journal))
-  -- before each Begin all items were routed; before each Gather those of its input, and all was sent or the
-  -- last put had failed
+  -- before each Begin and the Stop all items were routed, before each Gather those of its input; and before each
+  -- Gather and the Stop all was sent or the last put had failed
   pub in_order : InOrder (setup_of job start) journal
 
 -- a limit was reached, since the run is full

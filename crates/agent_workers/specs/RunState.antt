@@ -12,8 +12,8 @@ use Rattle.agent_workers.specs.Noted.{JournalPart, part_of}
 use Rattle.agent_workers.specs.Output.{OutPart, outs_of, AreOutputs}
 use Rattle.agent_workers.specs.declared.parts.Parts.{Parts}
 
--- what a run consists of: its core, its inputs, the input from which on none has a raw item, what routes the items, the outputs, the
--- journal's part, the moments that were counted since the start, and the timer
+-- what a run consists of: its core, its inputs, the input from which on none has a raw item, what routes the
+-- items, the outputs, the journal's part, the moments that were counted since the start, and the timer
 pub record RunState : Type 0 where
   pub core : CoreState
   pub ins : List InPart
@@ -24,8 +24,10 @@ pub record RunState : Type 0 where
   pub counted_at : List ℤ
   pub timer : Timed
 
--- a core and its parts, given what sources, sinks and clocks tell: no item is raw that isn't looked at, and no moment was counted
-abbrev pub state_of : {S K C : Type 0} → (S → Carried) → (K → Carried) → (C → Timed) → CoreState → Parts S K C → RunState
+-- a core and its parts, given what sources, sinks and clocks tell: no item is raw that isn't looked at, and
+-- no moment was counted
+abbrev pub state_of : {S K C : Type 0} → (S → Carried) → (K → Carried) → (C → Timed) → CoreState → Parts S K C
+    → RunState
 state_of told put timed core parts = record {
   core = core;
   ins = ins_of told timed parts.inputs.items;
@@ -37,22 +39,24 @@ state_of told put timed core parts = record {
   timer = timed parts.timer;
 }
 
--- the parts fit the core: there is one input for each of its set-up and one output, each with the number of its place, and a filter for
--- each output
+-- the parts fit the core: there is one input for each of its set-up and one output, the number of each is
+-- its index, and a filter for each output
 pub record AreFit (now : RunState) : Type 0 where
   pub inputs : AreInputs (length now.core.setup.inputs) now.core.ended now.ins
   pub outputs : AreOutputs (length now.core.setup.outputs) now.outs
   pub filters : length now.proc.outs ≡ length now.core.setup.outputs
 
--- what a run is about is as before: its set-up, its inputs' numbers, rules and clocks, what routes its items, and the timer
+-- what a run is about is as before: its set-up, its inputs' numbers, rules and clocks, what routes its
+-- items, and the timer
 pub record IsAboutSame (old new : RunState) : Type 0 where
   pub setup : new.core.setup ≡ old.core.setup
   pub inputs : AreSameInputs old.ins new.ins
   pub proc : new.proc ≡ old.proc
   pub timer : new.timer ≡ old.timer
 
--- what a run began with: its job, the moment of its start, its inputs, its outputs, and the bytes held by the journal's place and its
--- count of failed puts, when these were new; and the journal that the run continues
+-- what a run began with: its job, the moment of its start, its inputs, its outputs, and the bytes held by
+-- the journal's place and its count of failed puts, when these were new; and the journal that the run
+-- continues
 pub record Beginning : Type 0 where
   pub job : Job
   pub start : ℤ

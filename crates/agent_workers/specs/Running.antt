@@ -10,6 +10,7 @@ use Rattle.pipeline_core.specs.CoreState.{CoreState, lane_at}
 use Rattle.account.specs.declared.entry.Entry.TheVariants.{Begin}
 use Rattle.pipeline_core.specs.Stands.{Stands, Continues}
 use Rattle.pipeline_core.specs.Steps.{IsBatchOf, after_begin}
+use Rattle.pipeline_core.specs.Windows.{HasNoAggs}
 use Rattle.pipeline_core.specs.declared.batches.Batch.{Batch}
 use Rattle.pipeline_core.specs.declared.output.Offer.{Offer}
 use Rattle.agent_workers.specs.Inputs.{InPart, IsFullOf, AreOut}
@@ -23,7 +24,7 @@ pub record IsLaneReady (lane : LaneState Offer) : Type 0 where
 
 -- there is no aggregator, no item is in hand, and at no output a batch is in flight
 pub record IsReady (core : CoreState) : Type 0 where
-  pub no_aggs : core.setup.aggs ≡ []
+  pub no_aggs : HasNoAggs core.setup
   pub lane_count : length core.lanes ≡ length core.setup.outputs
   pub each : (output : ℕ) → output < length core.lanes → IsLaneReady (lane_at core.lanes output)
   pub empty_handed : core.held ≡ None
@@ -48,8 +49,8 @@ pub record IsGatheredAt (input : ℕ) (old new : CoreState) : Type 0 where
 abbrev pub HasMoved : CoreState → CoreState → Type 0
 HasMoved old new = (old.raw ≢ []) ⊎ (length old.stored < length new.stored)
 
--- what an input held was offered: where the run is full it is read no more; else it is read on as it was, and what it held
--- was accepted, or items were raw
+-- what an input held was offered: where the run is full it is read no more; else it is read on as it was,
+-- and what it held was accepted, or items were raw
 pub record HasOffered (full : Bool) (old new : CoreState) (part new_part : InPart) : Type 0 where
   pub limit : full ≡ true → IsFullOf new.gathered new_part
   pub room : full ≡ false → new_part.state ≡ part.state

@@ -11,6 +11,7 @@ ghost use Rattle.agent_workers.specs.Running.{HasMoved, HasOffered};
 ghost use Rattle.agent_workers.specs.Progress.{ReadsAt, GathersAt, EndsAt, GathersOn};
 ghost use Rattle.agent_workers.specs.Running.{IsRunning, IsGathered, IsGatheredAt, IdlesOut};
 
+use crate::ends::PieceNotes;
 use agent_base::{Clock, Pieces, Source};
 use fixed_num::{Moment, OutOfMemory, Seq};
 use format_words::InFormat;
@@ -55,7 +56,7 @@ fn read_state(state: InState) -> InState
 /// An input of a run.
 #[derive(Drop)]
 pub struct InJob<'a, S: Drop, C: Drop> {
-    /// Its number: its place among the inputs.
+    /// Its number: its index among the inputs.
     pub input: u32,
     /// What is read.
     pub source: S,
@@ -77,6 +78,8 @@ pub struct InJob<'a, S: Drop, C: Drop> {
     pub held: Option<Gathered>,
     /// Whether it is read on.
     pub state: InState,
+    /// What people are told of its pieces.
+    pub notes: PieceNotes,
 }
 
 /// Reads the next group of an input that holds nothing. It is held then, where it has a piece. Says whether the
@@ -98,8 +101,16 @@ fn read_on<S: Source + Drop, C: Clock + Drop>(
     ensures same { IsSameInput (in_of S.told C.told job.old) (in_of S.told C.told job.new) }
 {
     let moment = job.clock.now();
-    let rule = ReadRule::new(job.format, job.globals, job.filter, job.gather_pieces);
-    let (group, state) = read_group(alloc, &rule, &mut job.pieces, &mut job.source, moment)?;
+    let notes = job.notes.first.is_none();
+    let rule = ReadRule::new(
+        job.format,
+        job.globals,
+        job.filter,
+        job.gather_pieces,
+        notes,
+    );
+    let (mut group, state) = read_group(alloc, &rule, &mut job.pieces, &mut job.source, moment)?;
+    job.notes.add(&mut group);
     job.held = gathered_of(job.input, moment, group);
     job.state = read_state(state);
     Ok(state == InState::Ended)

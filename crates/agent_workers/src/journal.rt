@@ -260,9 +260,6 @@ fn put_part<K: Sink>(sink: &mut K, failed: bool, text: &[u8]) -> Result<bool, Ou
     if failed {
         return Ok(true);
     }
-    if text.is_empty() {
-        return Ok(false);
-    }
     let now = put_failed(sink, text)?;
     Ok(now)
 }

@@ -2,6 +2,7 @@
 //! of every event.
 #![tactic(auto)]
 
+mod ends;
 mod input;
 mod item;
 mod journal;
@@ -11,6 +12,7 @@ mod rounds;
 mod serial;
 mod setup;
 
+pub use ends::{InputEnd, Limit, PieceNotes};
 pub use input::InJob;
 pub use item::ProcJob;
 pub use journal::JournalJob;

@@ -21,7 +21,7 @@ use std::alloc::Global;
 /// An output of a run.
 #[derive(Drop)]
 pub struct OutJob<K: Drop, C: Drop> {
-    /// Its number: its place among the outputs.
+    /// Its number: its index among the outputs.
     pub output: u32,
     /// Where its batches are put.
     pub sink: K,
@@ -93,10 +93,13 @@ fn begin_next(core: &mut Core, output: u32) -> Result<Option<Batch>, OutOfMemory
     }
 }
 
-/// Puts a text, and says whether that failed.
+/// Puts a text, and says whether that failed. Of an empty text no put is made.
 pub fn put_failed<K: Sink>(sink: &mut K, text: &[u8]) -> Result<bool, OutOfMemory>
     ensures { IfOk result (λ failed. IsPut failed (carried_change (K.told sink.old) (K.told sink.new)) text.now) }
 {
+    if text.is_empty() {
+        return Ok(false);
+    }
     match sink.put(text) {
         Ok(()) => Ok(false),
         Err(PutFault::Failed) => Ok(true),
@@ -104,7 +107,8 @@ pub fn put_failed<K: Sink>(sink: &mut K, text: &[u8]) -> Result<bool, OutOfMemor
     }
 }
 
-/// Puts a batch in its output's format, and says whether that failed.
+/// Puts a batch in its output's format, and says whether that failed. A batch whose text is empty, as one of texts
+/// alone is in Graphite, is accepted without a put.
 fn put_batch<K: Sink>(
     alloc: Global,
     sink: &mut K,

@@ -12,6 +12,7 @@ ghost use Rattle.agent_workers.specs.Output.{out_of, outs_of};
 ghost use Rattle.agent_workers.specs.RunState.{state_of};
 ghost use Rattle.formats.specs.Reader.{cut_of};
 
+use crate::ends::PieceNotes;
 use crate::input::InJob;
 use crate::item::ProcJob;
 use crate::journal::JournalJob;
@@ -160,6 +161,7 @@ fn in_job<'a, S: Source + Drop, C: Clock + Drop>(
         limit: None,
         held: None,
         state: InState::Reading,
+        notes: PieceNotes::none(),
     }
 }
 
@@ -257,7 +259,7 @@ pub fn set_up<'a, S: Source + Drop, K: Sink + Drop, C: Clock + Drop>(
 ) -> Result<(Core, Parts<'a, S, K, C>), Opened<S, K>>
     requires sound { IsSound config.now }
     requires parts { AreFor config.now opened clocks }
-    requires first { All (λ (clock : Timed). clock.place ≡ 0) (map C.told clocks.inputs.items) }
+    requires first { All (λ (clock : Timed). clock.next ≡ 0) (map C.told clocks.inputs.items) }
     ensures made { IfOk result (λ made. IsMadeOf config.now start (carried_by S.told K.told opened)
         (timed_by C.told clocks) (state_of S.told K.told C.told made.0 made.1)) }
     ensures tries { IfOk result (λ made. made.1.final_tries ≡ config.now.agent.final_tries) }

@@ -9,10 +9,11 @@ ghost use Rattle.agent_workers.specs.Item.{proc_of};
 ghost use Rattle.agent_workers.specs.Job.{Job};
 ghost use Rattle.agent_workers.specs.Noted.{part_of, EndsOn};
 ghost use Rattle.agent_workers.specs.Progress.{RoutesOn, RunsOn, StopsAt};
-ghost use Rattle.agent_workers.specs.Rounds.{AreSameParts, HasStopped, IsOver};
+ghost use Rattle.agent_workers.specs.Rounds.{AreSameParts, HasSent, HasStopped, IsOver};
 ghost use Rattle.agent_workers.specs.RunState.{state_of, AreFit, IsAboutSame};
 ghost use Rattle.agent_workers.specs.Running.{IsAtRest, SomeIsBuffered, IsRoutable, IsRunning};
 
+use crate::ends::{InputEnd, ends_of};
 use crate::input::{InJob, are_out, gather_each, is_one_in};
 use crate::item::{ProcJob, route_all, route_some};
 use crate::journal::{JournalJob, last_entries, note};
@@ -37,11 +38,13 @@ pub struct Ending {
     pub read_fault: bool,
     /// Whether a metric is still buffered at an output.
     pub left: bool,
+    /// What is told of each input beside the account, in their order; of fewer where no memory was left for it.
+    pub inputs: Vec<InputEnd>,
 }
 
 impl<'a, S: Source + Drop, K: Sink + Drop, C: Clock + Drop> Parts<'a, S, K, C> {
     /// Rounds, until each input is read no more and holds nothing, or the run is full. What a failed put left is
-    /// tried again in the next round.
+    /// tried again in the next round. The last one, too, sends what is buffered.
     fn rounds(
         &mut self,
         alloc: Global,
@@ -56,6 +59,7 @@ impl<'a, S: Source + Drop, K: Sink + Drop, C: Clock + Drop> Parts<'a, S, K, C> {
         ensures about { OnOk result
             (IsAboutSame (state_of S.told K.told C.told core.old self.old) (state_of S.told K.told C.told core.new self.new)) }
         ensures over { OnOk result (IsOver (state_of S.told K.told C.told core.new self.new)) }
+        ensures sent { OnOk result (HasSent (state_of S.told K.told C.told core.new self.new)) }
         ensures runs { OnOk result
             (RunsOn (state_of S.told K.told C.told core.old self.old) (state_of S.told K.told C.told core.new self.new)) }
     {
@@ -82,6 +86,7 @@ impl<'a, S: Source + Drop, K: Sink + Drop, C: Clock + Drop> Parts<'a, S, K, C> {
     ) -> Result<(), OutOfMemory>
         requires running { IsRunning core.old }
         requires fit { AreFit (state_of S.told K.told C.told core.old self.old) }
+        requires sent { HasSent (state_of S.told K.told C.told core.old self.old) }
         requires some { 1 ≤ self.old.final_tries }
         ensures parts { AreSameParts self.old self.new }
         ensures rests { OnOk result (IsAtRest core.new) }
@@ -129,6 +134,7 @@ impl<'a, S: Source + Drop, K: Sink + Drop, C: Clock + Drop> Parts<'a, S, K, C> {
             journal_fault: self.journal.failed,
             read_fault: is_one_in(&self.inputs, InState::Faulted),
             left,
+            inputs: ends_of(alloc, &self.inputs),
         })
     }
 }

@@ -59,8 +59,8 @@ pub fn run<S: Source + Drop, K: Sink + Drop, C: Clock + Drop>(
 ) -> (Opened<S, K>, Result<Ending, OutOfMemory>)
     requires sound { IsSound config.now }
     requires parts { AreFor config.now opened clocks }
-    requires first { All (λ (clock : Timed). clock.place ≡ 0) (map C.told clocks.inputs.items) }
-    requires timer_first { (C.told clocks.timer).place ≡ 0 }
+    requires first { All (λ (clock : Timed). clock.next ≡ 0) (map C.told clocks.inputs.items) }
+    requires timer_first { (C.told clocks.timer).next ≡ 0 }
     ensures ran { IfOk result.1 (λ ending. Ran (job_of config.now) ending
         (change_by config.now (carried_by S.told K.told opened) (carried_by S.told K.told result.0)
         (timed_by C.told clocks))) }

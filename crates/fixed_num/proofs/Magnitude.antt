@@ -1,5 +1,6 @@
 -- The number with a capped exponent agrees with the number below the limit.
-use Rattle.std.proofs.Common.{◌≡◌, ℕ, zero, suc, ◌+◌, ◌-◌, ◌*◌, ◌/◌, ◌%◌, ◌^◌, ◌<◌, ◌≤◌, min, refl, sym, ap, subst, ◌∙◌, arith, true, false, inl, inr, Bool, cond, List, [], ◌∷◌, ◌++◌, length, take, drop}
+use Rattle.std.proofs.Common.{◌≡◌, ℕ, zero, suc, ◌+◌, ◌-◌, ◌*◌, ◌/◌, ◌%◌, ◌^◌, ◌<◌, ◌≤◌, min, refl, sym, ap, subst, ◌∙◌}
+use Rattle.std.proofs.Common.{arith, true, false, inl, inr, Bool, cond, List, [], ◌∷◌, ◌++◌, length, take, drop}
 use Rattle.std.specs.Prelude.{MatchBool, if◌then◌else◌}
 use Rattle.std.specs.Str.Parse.{digits_value, digits_value_after, AllDigits}
 use Rattle.std.proofs.Math.Nat.{mul-le-mul_right, pow-suc, one-le-pow, pow-le-pow_right}
@@ -9,7 +10,8 @@ use Rattle.std.proofs.lemmas.List.{take-append-drop, length-drop, length-append}
 use Rattle.std.proofs.lemmas.Int.Digits.{digits_value-lt}
 use Rattle.fixed_num.specs.Rounded.{rounded, AgreesBelow}
 use Rattle.fixed_num.specs.Decimal.{Decimal, billionths}
-use Rattle.fixed_num.proofs.Rounding.{rounds_down, rounds_up, rounds_even, scaled, whole, nothing, mark, mark_is, marked}
+use Rattle.fixed_num.proofs.Rounding.{rounds_down, rounds_up, rounds_even, scaled, whole, nothing, mark, mark_is}
+use Rattle.fixed_num.proofs.Rounding.{marked}
 use Rattle.fixed_num.proofs.Values.{AllDigits-drop, AllDigits-append, value_append, value_of_parts}
 
 ten_pos : (k : ℕ) → 0 < 10 ^ k
@@ -38,7 +40,8 @@ floor_le n d =
       ]
     ]
 
-pub capped_agrees : (limit m x s : ℕ) → 10 * limit ≤ m → AgreesBelow limit (rounded (2 * x + s) 20) (rounded (2 * min x m + s) 20)
+pub capped_agrees : (limit m x s : ℕ) → 10 * limit ≤ m → AgreesBelow limit (rounded (2 * x + s) 20)
+    (rounded (2 * min x m + s) 20)
 capped_agrees limit m x s h =
     elim (cases_lt x m) [
       | inl lt ↦ let e : min x m ≡ x = omega arith in same_agrees _ _ _ (rw e refl)
@@ -58,20 +61,26 @@ mark_at false r h = (mark_is r).2 h
 
 -- some digits, and those behind them
 pub cut_off : (ds : List ℕ) (kept cut : ℕ) → AllDigits 10 ds → kept + cut ≡ length ds + 1 → 0 < cut
-    → rounded (digits_value 10 ds) (10 ^ cut) ≡ rounded (2 * digits_value 10 (take kept ds) + mark (digits_value 10 (drop kept ds))) 20
+    → rounded (digits_value 10 ds) (10 ^ cut) ≡ rounded (2 * digits_value 10 (take kept ds) + mark
+    (digits_value 10 (drop kept ds))) 20
 cut_off ds kept cut all e h =
-    let parts : digits_value 10 ds ≡ digits_value 10 (take kept ds) * 10 ^ length (drop kept ds) + digits_value 10 (drop kept ds) = ap (digits_value 10) (sym (take-append-drop kept ds)) ∙ value_of_parts (take kept ds) (drop kept ds) in
+    let parts : digits_value 10 ds ≡ digits_value 10 (take kept ds) * 10 ^ length (drop kept ds) + digits_value 10
+    (drop kept ds) = ap (digits_value 10) (sym (take-append-drop kept ds))
+    ∙ value_of_parts (take kept ds) (drop kept ds) in
     let len : length (drop kept ds) ≡ cut - 1 = omega (arith, length-drop kept ds) in
     let low = digits_value-lt 10 (drop kept ds) (AllDigits-drop kept ds all) in
-    let ten : 10 ^ cut ≡ 10 * 10 ^ length (drop kept ds) = ap (λ (k : ℕ). 10 ^ k) (let f : cut ≡ suc (length (drop kept ds)) = omega arith in f) ∙ pow-suc 10 (length (drop kept ds)) ∙ omega arith in
-    ap (λ (n : ℕ). rounded n (10 ^ cut)) parts ∙ ap (rounded _) ten ∙ marked (digits_value 10 (take kept ds)) (10 ^ length (drop kept ds)) (digits_value 10 (drop kept ds)) low
+    let ten : 10 ^ cut ≡ 10 * 10 ^ length (drop kept ds) = ap (λ (k : ℕ). 10 ^ k)
+    (let f : cut ≡ suc (length (drop kept ds)) = omega arith in f) ∙ pow-suc 10 (length (drop kept ds)) ∙ omega arith in
+    ap (λ (n : ℕ). rounded n (10 ^ cut)) parts ∙ ap (rounded _) ten
+    ∙ marked (digits_value 10 (take kept ds)) (10 ^ length (drop kept ds)) (digits_value 10 (drop kept ds)) low
 
 -- ---- powers of ten on both sides
 
 pub times : (n up down : ℕ) → down ≤ up → rounded (n * 10 ^ up) (10 ^ down) ≡ n * 10 ^ (up - down)
 times n up down h =
     let e : up ≡ (up - down) + down = omega arith in
-    let p : n * 10 ^ up ≡ (n * 10 ^ (up - down)) * 10 ^ down = ap (λ (k : ℕ). n * 10 ^ k) e ∙ ap (λ (x : ℕ). n * x) (pow-add 10 (up - down) down) ∙ omega arith in
+    let p : n * 10 ^ up ≡ (n * 10 ^ (up - down)) * 10 ^ down =
+    ap (λ (k : ℕ). n * 10 ^ k) e ∙ ap (λ (x : ℕ). n * x) (pow-add 10 (up - down) down) ∙ omega arith in
     ap (λ (x : ℕ). rounded x (10 ^ down)) p ∙ whole (n * 10 ^ (up - down)) (10 ^ down) (ten_pos down)
 
 pub over : (n up down : ℕ) → up ≤ down → rounded (n * 10 ^ up) (10 ^ down) ≡ rounded n (10 ^ (down - up))
@@ -82,7 +91,8 @@ over n up down h =
 
 -- ---- an exponent that was capped at m, far above the limit, the places and the digits
 
-far_above : (limit n power places : ℕ) → limit ≤ 10 ^ 40 → places + 40 ≤ 9 + power → limit ≤ rounded (suc n * 10 ^ (9 + power)) (10 ^ places)
+far_above : (limit n power places : ℕ) → limit ≤ 10 ^ 40 → places + 40 ≤ 9 + power
+    → limit ≤ rounded (suc n * 10 ^ (9 + power)) (10 ^ places)
 far_above limit n power places small room =
     let k : ℕ = 9 + power - places in
     let real = times (suc n) (9 + power) places (omega arith) in
@@ -91,25 +101,34 @@ far_above limit n power places small room =
     omega arith
 
 zero_is : (power places : ℕ) → rounded (0 * 10 ^ (9 + power)) (10 ^ places) ≡ 0
-zero_is power places = let e : 0 * 10 ^ (9 + power) ≡ 0 = omega arith in ap (λ (x : ℕ). rounded x (10 ^ places)) e ∙ nothing 0 (10 ^ places) (omega (arith, ten_pos places))
+zero_is power places = let e : 0 * 10 ^ (9 + power) ≡ 0 = omega arith in
+    ap (λ (x : ℕ). rounded x (10 ^ places)) e ∙ nothing 0 (10 ^ places) (omega (arith, ten_pos places))
 
 pub cap_up : (limit m n power capped places v : ℕ) → capped ≡ min power m → places + 40 ≤ m → limit ≤ 10 ^ 40
-    → AgreesBelow limit (rounded (n * 10 ^ (9 + capped)) (10 ^ places)) v → AgreesBelow limit (rounded (n * 10 ^ (9 + power)) (10 ^ places)) v
+    → AgreesBelow limit (rounded (n * 10 ^ (9 + capped)) (10 ^ places)) v
+    → AgreesBelow limit (rounded (n * 10 ^ (9 + power)) (10 ^ places)) v
 cap_up limit m zero power capped places v is room small h = rw (zero_is power places, ← zero_is capped places) h
 cap_up limit m (suc n) power capped places v is room small h =
     elim (cases_lt m power) [
-      | inr le ↦ let same : capped ≡ power = omega arith in subst (λ (k : ℕ). AgreesBelow limit (rounded (suc n * 10 ^ (9 + k)) (10 ^ places)) v) same h
-      | inl gt ↦ both_above _ _ _ (far_above limit n power places small (omega arith)) (h.above (far_above limit n capped places small (omega arith)))
+      | inr le ↦ let same : capped ≡ power = omega arith in subst
+          (λ (k : ℕ). AgreesBelow limit (rounded (suc n * 10 ^ (9 + k)) (10 ^ places)) v) same h
+      | inl gt ↦ both_above _ _ _ (far_above limit n power places small (omega arith))
+          (h.above (far_above limit n capped places small (omega arith)))
     ]
 
-pub cap_down : (limit m : ℕ) (ds : List ℕ) (power capped places v : ℕ) → AllDigits 10 ds → capped ≡ min power m → length ds + 40 ≤ m
-    → AgreesBelow limit (rounded (digits_value 10 ds * 10 ^ 9) (10 ^ (places + capped))) v → AgreesBelow limit (rounded (digits_value 10 ds * 10 ^ 9) (10 ^ (places + power))) v
+pub cap_down : (limit m : ℕ) (ds : List ℕ) (power capped places v : ℕ) → AllDigits 10 ds → capped ≡ min power m
+    → length ds + 40 ≤ m
+    → AgreesBelow limit (rounded (digits_value 10 ds * 10 ^ 9) (10 ^ (places + capped))) v
+    → AgreesBelow limit (rounded (digits_value 10 ds * 10 ^ 9) (10 ^ (places + power))) v
 cap_down limit m ds power capped places v all is room h =
     elim (cases_lt m power) [
-      | inr le ↦ let same : capped ≡ power = omega arith in subst (λ (k : ℕ). AgreesBelow limit (rounded (digits_value 10 ds * 10 ^ 9) (10 ^ (places + k))) v) same h
+      | inr le ↦ let same : capped ≡ power = omega arith in subst
+          (λ (k : ℕ). AgreesBelow limit (rounded (digits_value 10 ds * 10 ^ 9) (10 ^ (places + k))) v) same h
       | inl gt ↦
-          let one = over (digits_value 10 ds) 9 (places + capped) (omega arith) ∙ vanishes ds (places + capped - 9) all (omega arith) in
-          let two = over (digits_value 10 ds) 9 (places + power) (omega arith) ∙ vanishes ds (places + power - 9) all (omega arith) in
+          let one = over (digits_value 10 ds) 9 (places + capped) (omega arith)
+          ∙ vanishes ds (places + capped - 9) all (omega arith) in
+          let two = over (digits_value 10 ds) 9 (places + power) (omega arith)
+          ∙ vanishes ds (places + power - 9) all (omega arith) in
           rw (two, ← one) h
     ]
 
@@ -128,14 +147,18 @@ nothing_in : (xs : List ℕ) → length xs ≡ 0 → digits_value 10 xs ≡ 0
 nothing_in [] e = refl
 nothing_in (x ∷ xs) e = absurd (omega (arith, e))
 
-pub plain : (d : Decimal) (n r : ℕ) → length d.exponent ≡ 0 → n ≡ digits_value 10 (d.whole ++ d.fraction) → r ≡ rounded (n * 10 ^ 9) (10 ^ length d.fraction) → r ≡ billionths d
+pub plain : (d : Decimal) (n r : ℕ) → length d.exponent ≡ 0 → n ≡ digits_value 10 (d.whole ++ d.fraction)
+    → r ≡ rounded (n * 10 ^ 9) (10 ^ length d.fraction) → r ≡ billionths d
 unfolding billionths
 plain d n r none is e =
     let power = nothing_in d.exponent none in
-    let all : r ≡ rounded (digits_value 10 (d.whole ++ d.fraction) * 10 ^ 9) (10 ^ length d.fraction) = e ∙ ap (λ (k : ℕ). rounded (k * 10 ^ 9) (10 ^ length d.fraction)) is in
+    let all : r ≡ rounded (digits_value 10 (d.whole ++ d.fraction) * 10 ^ 9) (10 ^ length d.fraction) =
+    e ∙ ap (λ (k : ℕ). rounded (k * 10 ^ 9) (10 ^ length d.fraction)) is in
     let up : 9 + digits_value 10 d.exponent ≡ 9 = omega (arith, power) in
     let down : length d.fraction + digits_value 10 d.exponent ≡ length d.fraction = omega (arith, power) in
-    elim d.shrinks as (λ t. r ≡ rounded (digits_value 10 (d.whole ++ d.fraction) * 10 ^ (cond t 9 (9 + digits_value 10 d.exponent))) (10 ^ (cond t (length d.fraction + digits_value 10 d.exponent) (length d.fraction)))) [
+    elim d.shrinks as (λ t. r ≡ rounded (digits_value 10 (d.whole ++ d.fraction) * 10 ^
+    (cond t 9 (9 + digits_value 10 d.exponent))) (10 ^ (cond t (length d.fraction + digits_value 10 d.exponent)
+    (length d.fraction)))) [
       | true ↦ rw down all
       | false ↦ rw up all
     ]
@@ -147,7 +170,8 @@ few_fit ds all few =
     let p : 10 ^ length ds ≤ 10 ^ 19 = pow-le-pow_right {n = 10} (omega arith) {i = length ds} {j = 19} few in
     omega (arith, p, digits_value-lt 10 ds all)
 
-pub both_fit : (xs ys : List ℕ) (v : ℕ) → AllDigits 10 xs → AllDigits 10 ys → length xs ≤ 19 → length ys ≤ 19 - length xs
+pub both_fit : (xs ys : List ℕ) (v : ℕ) → AllDigits 10 xs → AllDigits 10 ys → length xs ≤ 19
+    → length ys ≤ 19 - length xs
     → v ≡ digits_value 10 xs → digits_value_after 10 v ys < 2 ^ 64
 both_fit xs ys v all more few fewer e =
     let len : length (xs ++ ys) ≡ length xs + length ys = length-append xs ys in

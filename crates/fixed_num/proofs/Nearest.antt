@@ -52,5 +52,6 @@ rounds_to_nearest n d h =
     let parts = div-add-mod' n d in
     let low = mod-lt n {m = d} h in
     let is : IsNearest ((n / d) * d + n % d) d (rounded ((n / d) * d + n % d) d) =
-    subst (IsNearest ((n / d) * d + n % d) d) (sym (rounded_at d (n / d) (n % d) low)) (of_parts d (n / d) (n % d) low) in
+    subst (IsNearest ((n / d) * d + n % d) d) (sym (rounded_at d (n / d) (n % d) low))
+    (of_parts d (n / d) (n % d) low) in
     subst (λ (x : ℕ). IsNearest x d (rounded x d)) parts is

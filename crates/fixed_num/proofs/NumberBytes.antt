@@ -1,5 +1,6 @@
 -- The bytes of the texts of numbers: minus, point and digits, all from 45 to 57.
-use Rattle.std.proofs.Common.{◌≡◌, ℕ, suc, ◌/◌, ◌%◌, ◌^◌, ◌*◌, ◌<◌, true, false, cond, eqb, List, [], ◌∷◌, ◌++◌, refl, arith}
+use Rattle.std.proofs.Common.{◌≡◌, ℕ, suc, ◌/◌, ◌%◌, ◌^◌, ◌*◌, ◌<◌, true, false, cond, eqb, List, [], ◌∷◌, ◌++◌, refl}
+use Rattle.std.proofs.Common.{arith}
 use Rattle.std.specs.Prelude.{ℤ, pos, negsuc, unsigned_abs}
 use Rattle.std.specs.List.{AllByRecursion}
 use Rattle.std.specs.Fmt.{decimal, signed_decimal}
@@ -27,7 +28,8 @@ pub digits_bytes : (ds : List ℕ) → AllDigits 10 ds → AllByRecursion IsNumb
 digits_bytes [] h = tt
 digits_bytes (d ∷ ds) h = let r = digit_from_value d h.0 in ((omega (arith, r), omega (arith, r)), digits_bytes ds h.1)
 
-pub all_append : {A : Type 0} (P : A → Type 0) (xs ys : List A) → AllByRecursion P xs → AllByRecursion P ys → AllByRecursion P (xs ++ ys)
+pub all_append : {A : Type 0} (P : A → Type 0) (xs ys : List A) → AllByRecursion P xs → AllByRecursion P ys
+    → AllByRecursion P (xs ++ ys)
 all_append P [] ys h k = k
 all_append P (x ∷ xs) ys h k = (h.0, all_append P xs ys h.1 k)
 
@@ -45,7 +47,8 @@ fraction_bytes n h =
       | false ↦ λ e. ((omega arith, omega arith), digits_bytes (places_of 9 n) (places 9 n h).digits)
     ] refl
 
-magnitude_bytes : (n : ℕ) → n < 2 ^ 64 * 10 ^ 9 → AllByRecursion IsNumberByte (decimal (n / 10 ^ 9) ++ fraction_text (n % 10 ^ 9))
+magnitude_bytes : (n : ℕ) → n < 2 ^ 64 * 10 ^ 9 → AllByRecursion IsNumberByte
+    (decimal (n / 10 ^ 9) ++ fraction_text (n % 10 ^ 9))
 magnitude_bytes n h =
     all_append IsNumberByte (decimal (n / 10 ^ 9)) (fraction_text (n % 10 ^ 9))
     (decimal_bytes (n / 10 ^ 9) (div_below n (10 ^ 9) (2 ^ 64) (omega arith) (omega arith)))

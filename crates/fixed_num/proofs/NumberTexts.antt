@@ -1,5 +1,6 @@
 -- The texts of numbers: what stands in them, and as what they are read.
-use Rattle.std.proofs.Common.{◌≡◌, ℕ, ℤ, zero, suc, ◌+◌, ◌<◌, ◌*◌, ◌/◌, ◌%◌, ◌^◌, Bool, true, false, List, [], ◌∷◌, ◌++◌, length, Ok, refl, sym, ap, ◌∙◌, arith}
+use Rattle.std.proofs.Common.{◌≡◌, ℕ, ℤ, zero, suc, ◌+◌, ◌<◌, ◌*◌, ◌/◌, ◌%◌, ◌^◌, Bool, true, false, List, [], ◌∷◌}
+use Rattle.std.proofs.Common.{◌++◌, length, Ok, refl, sym, ap, ◌∙◌, arith}
 use Rattle.std.specs.Prelude.{pos, negsuc, neg_ℤ, unsigned_abs, FitsSigned}
 use Rattle.std.specs.Int.{w64}
 use Rattle.std.specs.Fmt.{decimal, signed_decimal}
@@ -33,7 +34,8 @@ some_front [] ys lt = absurd (omega arith)
 some_front (x ∷ xs) ys lt = omega arith
 
 canonical_some : (z : ℤ) → InRange z → 0 < length (canonical_text z)
-canonical_some (pos n) h = some_front (decimal (n / 10 ^ 9)) (fraction_text (n % 10 ^ 9)) (decimal_some (n / 10 ^ 9) (div_below n (10 ^ 9) (2 ^ 64) (omega arith) (omega arith)))
+canonical_some (pos n) h = some_front (decimal (n / 10 ^ 9)) (fraction_text (n % 10 ^ 9))
+    (decimal_some (n / 10 ^ 9) (div_below n (10 ^ 9) (2 ^ 64) (omega arith) (omega arith)))
 canonical_some (negsuc n) h = omega arith
 
 -- the magnitude of a signed number of 64 bits is one without a sign
@@ -57,8 +59,10 @@ canonical_number z h = record { bytes = canonical_bytes z h; some = canonical_so
 whole_canonical : (negative : Bool) (n : ℕ) → canonical negative (n * 1000000000) ≡ front_text negative n
 whole_canonical negative n =
     let zeros : n * 1000000000 ≡ n * 1000000000 + 0 = omega arith in
-    let q : n * 1000000000 / 1000000000 ≡ n = ap (λ (k : ℕ). k / 1000000000) zeros ∙ div-mul-add n 1000000000 0 (omega arith) in
-    let r : n * 1000000000 % 1000000000 ≡ 0 = ap (λ (k : ℕ). k % 1000000000) zeros ∙ mod-mul-add n 1000000000 0 (omega arith) in
+    let q : n * 1000000000 / 1000000000 ≡ n = ap (λ (k : ℕ). k / 1000000000) zeros
+    ∙ div-mul-add n 1000000000 0 (omega arith) in
+    let r : n * 1000000000 % 1000000000 ≡ 0 = ap (λ (k : ℕ). k % 1000000000) zeros
+    ∙ mod-mul-add n 1000000000 0 (omega arith) in
     rw (q, r) (append-nil (front_text negative n))
 
 negative_canonical : (m : ℕ) → 0 < m → canonical_text (neg_ℤ (pos m)) ≡ canonical true m
@@ -79,7 +83,8 @@ signed_read (negsuc n) small =
     let same : suc n ≡ 1 + n = omega arith in
     ap (λ (k : ℕ). read_as (45 ∷ decimal k)) same
     ∙ ap read_as (sym (negative_canonical ((1 + n) * 1000000000) some ∙ whole_canonical true (1 + n)))
-    ∙ reads_canonical (neg_ℤ (pos ((1 + n) * 1000000000))) (negative_range ((1 + n) * 1000000000) some (omega (arith, small)))
+    ∙ reads_canonical (neg_ℤ (pos ((1 + n) * 1000000000))) (negative_range ((1 + n) * 1000000000) some
+    (omega (arith, small)))
 
 -- ---- whole numbers, read as such
 

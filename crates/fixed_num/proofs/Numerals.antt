@@ -1,5 +1,6 @@
 -- Whole numbers of a signed type, from those that are read without a sign.
-use Rattle.std.proofs.Common.{◌≡◌, ℕ, ◌+◌, ◌-◌, ◌≤◌, ◌^◌, Bool, true, false, cond, ltb, List, length, take, drop, length-drop, refl, sym, ap, ◌∙◌, arith, Ok, Err}
+use Rattle.std.proofs.Common.{◌≡◌, ℕ, ◌+◌, ◌-◌, ◌≤◌, ◌^◌, Bool, true, false, cond, ltb, List, length, take, drop}
+use Rattle.std.proofs.Common.{length-drop, refl, sym, ap, ◌∙◌, arith, Ok, Err}
 use Rattle.std.specs.Prelude.{Result, ℤ}
 use Rattle.std.specs.Str.Parse.{digits_value}
 use Rattle.std.proofs.lemmas.Bool.{le-ltb, ltb-false}
@@ -31,7 +32,8 @@ as_uint_ok negative n m h =
       | false ↦ λ is. absurd (let k : Err NumberRange ≡ Ok m = rw is at h in cc)
     ] refl
 
-pub int_from_err : (negative : Bool) (ds : List ℕ) (e : NumFault) → numeral_read_as ds ≡ Err e → int_of negative ds ≡ Err e
+pub int_from_err : (negative : Bool) (ds : List ℕ) (e : NumFault) → numeral_read_as ds ≡ Err e
+    → int_of negative ds ≡ Err e
 unfolding numeral_read_as
 int_from_err negative ds e h =
     elim (is_numeral ds) as (λ t. is_numeral ds ≡ t → int_of negative ds ≡ Err e) [
@@ -39,7 +41,8 @@ int_from_err negative ds e h =
       | false ↦ λ is. let k : Err NotANumber ≡ Err e = rw is at h in rw is cc
     ] refl
 
-pub int_from_ok : (negative : Bool) (ds : List ℕ) (n : ℕ) → numeral_read_as ds ≡ Ok n → int_of negative ds ≡ as_int negative n
+pub int_from_ok : (negative : Bool) (ds : List ℕ) (n : ℕ) → numeral_read_as ds ≡ Ok n
+    → int_of negative ds ≡ as_int negative n
 unfolding numeral_read_as
 int_from_ok negative ds n h =
     elim (is_numeral ds) as (λ t. is_numeral ds ≡ t → int_of negative ds ≡ as_int negative n) [
@@ -49,4 +52,5 @@ int_from_ok negative ds n h =
 
 -- what is sliced from the sign on
 pub from_sign : (text : List ℕ) (n : ℕ) → n ≡ sign_len text → behind_sign text ≡ take (length text - n) (drop n text)
-from_sign text n e = ap (λ (k : ℕ). drop k text) (sym e) ∙ sym (take_all (length text - n) (drop n text) (omega (arith, length-drop n text)))
+from_sign text n e = ap (λ (k : ℕ). drop k text) (sym e) ∙ sym
+    (take_all (length text - n) (drop n text) (omega (arith, length-drop n text)))

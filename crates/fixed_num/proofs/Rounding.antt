@@ -1,5 +1,6 @@
 -- Rounding half to even, of a quotient with one more digit and a mark of what is left.
-use Rattle.std.proofs.Common.{◌≡◌, ℕ, zero, suc, ◌+◌, ◌*◌, ◌/◌, ◌%◌, ◌<◌, ◌≤◌, refl, sym, ap, ◌∙◌, arith, true, false, ltb, inl, inr}
+use Rattle.std.proofs.Common.{◌≡◌, ℕ, zero, suc, ◌+◌, ◌*◌, ◌/◌, ◌%◌, ◌<◌, ◌≤◌, refl, sym, ap, ◌∙◌, arith, true, false}
+use Rattle.std.proofs.Common.{ltb, inl, inr}
 use Rattle.std.proofs.Math.Nat.{div-add-mod', mod-lt, mul-le-mul_right, mul-lt-mul_of_pos_right}
 use Rattle.std.proofs.lemmas.Bool.{le-ltb, lt-ltb, cases_order}
 use Rattle.std.proofs.lemmas.Nat.{div-mul-add, mod-mul-add}
@@ -52,8 +53,10 @@ scaled n d c h k =
       above = λ lt. omega (arith, mul-lt-mul_of_pos_right {k = c} lt k);
       even = λ is. omega (arith, ap (λ (x : ℕ). x * c) is);
     } in
-    let one : rounded (n * c) (d * c) ≡ rounded_of (d * c) (n / d) ((n % d) * c) = ap (λ (x : ℕ). rounded x (d * c)) e ∙ rounded_at (d * c) (n / d) ((n % d) * c) low' in
-    let two : rounded n d ≡ rounded_of d (n / d) (n % d) = ap (λ (x : ℕ). rounded x d) (sym parts) ∙ rounded_at d (n / d) (n % d) low in
+    let one : rounded (n * c) (d * c) ≡ rounded_of (d * c) (n / d) ((n % d) * c) =
+    ap (λ (x : ℕ). rounded x (d * c)) e ∙ rounded_at (d * c) (n / d) ((n % d) * c) low' in
+    let two : rounded n d ≡ rounded_of d (n / d) (n % d) = ap (λ (x : ℕ). rounded x d) (sym parts)
+    ∙ rounded_at d (n / d) (n % d) low in
     one ∙ sym (same_side d (n % d) (d * c) ((n % d) * c) (n / d) side) ∙ sym two
 
 pub whole : (n d : ℕ) → 0 < d → rounded (n * d) d ≡ n
@@ -80,7 +83,11 @@ sides : (b m r k : ℕ) → r < m → k ≤ 1 → (r ≡ 0 → k ≡ 0) → (0 <
 sides b m r k h le none_left some_left =
     elim (cases_order b 5) [
       | inl is ↦ let five : b * m ≡ 5 * m = ap (λ (x : ℕ). x * m) is in
-          record { below = λ u. absurd (omega arith); above = λ u. omega (arith, some_left (omega arith)); even = λ u. omega (arith, none_left (omega arith)) }
+          record {
+            below = λ u. absurd (omega arith);
+            above = λ u. omega (arith, some_left (omega arith));
+            even = λ u. omega (arith, none_left (omega arith));
+          }
       | inr x ↦ elim x [
         | inl lt ↦ let top : (b + 1) * m ≤ 5 * m = mul-le-mul_right m (omega arith) in
             record { below = λ u. omega arith; above = λ u. absurd (omega arith); even = λ u. absurd (omega arith) }

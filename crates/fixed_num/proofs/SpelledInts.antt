@@ -1,5 +1,6 @@
 -- The whole numbers that are read are a sign and digits.
-use Rattle.std.proofs.Common.{◌≡◌, ℕ, ◌≢◌, Bool, true, false, cond, eqb, List, ◌++◌, length, get_or, refl, sym, ap, ◌∙◌, arith, Err}
+use Rattle.std.proofs.Common.{◌≡◌, ℕ, ◌≢◌, Bool, true, false, cond, eqb, List, ◌++◌, length, get_or, refl, sym, ap, ◌∙◌}
+use Rattle.std.proofs.Common.{arith, Err}
 use Rattle.std.specs.Prelude.{Result}
 use Rattle.std.specs.Str.Parse.{IsNumeral, digits_value}
 use Rattle.std.proofs.lemmas.Bool.{ne_eqb, eq-eqb}
@@ -43,27 +44,35 @@ is_behind s ds h =
     let g = signed s ds (unsigned_digits ds h.0 h.1) in
     record { minus = g.1; at = rw g.0 (drop_at (sign_text s) ds (length (sign_text s)) refl) }
 
-pub reads_ints : (s : Sign) (ds : List ℕ) → IsNumeral 10 ds → int_read_as (sign_text s ++ ds) ≡ as_int (is_minus s) (digits_value 10 ds)
+pub reads_ints : (s : Sign) (ds : List ℕ) → IsNumeral 10 ds → int_read_as (sign_text s ++ ds) ≡ as_int (is_minus s)
+    (digits_value 10 ds)
 reads_ints s ds h = let b = is_behind s ds h in rw (b.at, numeral_is ds h, b.minus) refl
 
-pub reads_uints : (s : Sign) (ds : List ℕ) → is_minus s ≡ false → IsNumeral 10 ds → uint_read_as (sign_text s ++ ds) ≡ as_uint (digits_value 10 ds)
-reads_uints s ds plain h = let b = is_behind s ds h in no_minus _ _ (b.minus ∙ plain) ∙ ap numeral_read_as b.at ∙ numeral_reads ds (numeral_is ds h)
+pub reads_uints : (s : Sign) (ds : List ℕ) → is_minus s ≡ false → IsNumeral 10 ds
+    → uint_read_as (sign_text s ++ ds) ≡ as_uint (digits_value 10 ds)
+reads_uints s ds plain h = let b = is_behind s ds h in no_minus _ _ (b.minus ∙ plain) ∙ ap numeral_read_as b.at
+    ∙ numeral_reads ds (numeral_is ds h)
 
-pub ints_are_spelled : (text : List ℕ) → int_read_as text ≢ Err NotANumber → (s : Sign) × (ds : List ℕ) × IsNumeral 10 ds × (text ≡ sign_text s ++ ds)
+pub ints_are_spelled : (text : List ℕ) → int_read_as text ≢ Err NotANumber
+    → (s : Sign) × (ds : List ℕ) × IsNumeral 10 ds × (text ≡ sign_text s ++ ds)
 ints_are_spelled text h =
     let sp = sign_split text in
-    elim (is_numeral (behind_sign text)) as (λ t. is_numeral (behind_sign text) ≡ t → (s : Sign) × (ds : List ℕ) × IsNumeral 10 ds × (text ≡ sign_text s ++ ds)) [
+    elim (is_numeral (behind_sign text)) as (λ t. is_numeral (behind_sign text) ≡ t
+    → (s : Sign) × (ds : List ℕ) × IsNumeral 10 ds × (text ≡ sign_text s ++ ds)) [
       | true ↦ λ e. (sp.0, behind_sign text, numeral_from (behind_sign text) e, sp.1)
       | false ↦ λ e. absurd (h (rw e refl))
     ] refl
 
-pub uints_are_spelled : (text : List ℕ) → uint_read_as text ≢ Err NotANumber → (s : Sign) × (ds : List ℕ) × (is_minus s ≡ false) × IsNumeral 10 ds × (text ≡ sign_text s ++ ds)
+pub uints_are_spelled : (text : List ℕ) → uint_read_as text ≢ Err NotANumber
+    → (s : Sign) × (ds : List ℕ) × (is_minus s ≡ false) × IsNumeral 10 ds × (text ≡ sign_text s ++ ds)
 uints_are_spelled text h =
     let sp = sign_split text in
-    elim (eqb (get_or text 0 0) 45) as (λ t. eqb (get_or text 0 0) 45 ≡ t → (s : Sign) × (ds : List ℕ) × (is_minus s ≡ false) × IsNumeral 10 ds × (text ≡ sign_text s ++ ds)) [
+    elim (eqb (get_or text 0 0) 45) as (λ t. eqb (get_or text 0 0) 45 ≡ t
+    → (s : Sign) × (ds : List ℕ) × (is_minus s ≡ false) × IsNumeral 10 ds × (text ≡ sign_text s ++ ds)) [
       | true ↦ λ minus. absurd (h (rw minus refl))
       | false ↦ λ minus.
-          elim (is_numeral (behind_sign text)) as (λ t. is_numeral (behind_sign text) ≡ t → (s : Sign) × (ds : List ℕ) × (is_minus s ≡ false) × IsNumeral 10 ds × (text ≡ sign_text s ++ ds)) [
+          elim (is_numeral (behind_sign text)) as (λ t. is_numeral (behind_sign text) ≡ t
+          → (s : Sign) × (ds : List ℕ) × (is_minus s ≡ false) × IsNumeral 10 ds × (text ≡ sign_text s ++ ds)) [
             | true ↦ λ e. (sp.0, behind_sign text, sym sp.2 ∙ minus, numeral_from (behind_sign text) e, sp.1)
             | false ↦ λ e. absurd (h (no_minus _ _ minus ∙ numeral_fails (behind_sign text) e))
           ] refl

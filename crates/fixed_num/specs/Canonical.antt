@@ -5,7 +5,7 @@ use Rattle.std.specs.Fmt.{decimal}
 use Rattle.fixed_num.specs.Fixed.{read_as}
 use Rattle.fixed_num.specs.Range.{InRange}
 
--- the digits of n that stand in k places behind the point, without the zeros at their end
+-- the digits of n that stand in k decimal places, without the zeros at their end
 unfoldable pub places_of : ℕ → ℕ → List ℕ
 places_of zero n = []
 places_of (suc k) n = if n == 0 then [] else (48 + n / 10 ^ k) ∷ places_of k (n % 10 ^ k)

@@ -6,7 +6,7 @@ pub record Spells (text : List ℕ) (number : ℕ) : Type 0 where
   pub digits : AllDigits 10 text
   pub is : number ≡ digits_value 10 text
 
--- up to a place the text is digits with a point among them, which spell a number without it
+-- up to an index the text is digits with a point among them, which spell a number without it
 pub record Pointed (text : List ℕ) (point at number : ℕ) : Type 0 where
   pub fraction : List ℕ
   pub text_is : take at text ≡ take point text ++ 46 ∷ fraction

@@ -10,7 +10,7 @@ use crate::value::power_of_ten;
 /// So many digits always spell a number that fits 64 bits.
 const FEW: usize = 19;
 
-/// So many places have the billionths of a number.
+/// So many decimal places have the billionths of a number.
 const PLACES: usize = 9;
 
 /// The number that the digits spell which stand first, and how many they are.
@@ -55,7 +55,7 @@ fn digits_behind(front: u64, text: &[u8], point: usize) -> Option<u64>
     Some(number)
 }
 
-/// How many billionths a number is whose last digits are so many places.
+/// How many billionths a number is whose last digits are so many decimal places.
 #[inline(always)]
 fn billionths_of(number: u64, places: usize) -> u128
     requires { places ≤ PLACES }

@@ -72,7 +72,8 @@ impl<T: Drop> Seq<T> {
         Ok(Seq::of(Vec::with_capacity(alloc, room)?))
     }
 
-    /// One more element, at a place. After an error the list is as before.
+    /// One more element, at an index. After an error the list is as before.
+    #[inline(always)]
     pub fn insert(&mut self, alloc: Global, at: usize, item: T) -> Result<(), OutOfMemory>
         requires { at ≤ length self.old }
         ensures ok { OnOk result (self.new ≡ insert self.old at item) }
@@ -92,6 +93,7 @@ impl<T: Drop> Seq<T> {
     }
 
     /// One more element, behind the others. After an error the list is as before.
+    #[inline(always)]
     pub fn push(&mut self, alloc: Global, item: T) -> Result<(), OutOfMemory>
         ensures ok { OnOk result (self.new ≡ self.old ++ item ∷ []) }
         ensures err { OnErr result (self.new ≡ self.old) }
@@ -191,7 +193,7 @@ fn take_all<T: Drop>(kept: &mut Kept<T>, alloc: Global) -> Result<Vec<T>, OutOfM
     }
 }
 
-/// One more element of a vector, at a place. Most come behind the others.
+/// One more element of a vector, at an index. Most come behind the others.
 #[inline(always)]
 fn put_at<T: Drop>(items: &mut Vec<T>, at: usize, item: T) -> Result<(), OutOfMemory>
     requires { at ≤ length items.old.items }
@@ -220,7 +222,7 @@ fn take_out<T: Drop>(kept: &mut Kept<T>, alloc: Global, at: usize)
     }
 }
 
-/// One more element, at a place, where the others have to be taken to memory. After an error all is as before.
+/// One more element, at an index, where the others have to be taken to memory. After an error all is as before.
 #[inline(never)]
 fn insert_to_some<T: Drop>(
     kept: &mut Kept<T>,

@@ -28,8 +28,8 @@ pub fn split(magnitude: u128) -> (u64, u32)
     }
 }
 
-/// Writes the point and the billionths behind it, without the zeros at their end, from the point's place on;
-/// nothing where there are none. Gives the place behind them.
+/// Writes the point and the billionths behind it, without the zeros at their end, from the point's index on;
+/// nothing where there are none. Gives the index behind them.
 fn write_fraction(billionths: u32, buffer: &mut [u8]) -> usize
     requires small { billionths < 10 ^ 9 }
     requires room { length buffer.old ≡ LONGEST }
@@ -53,7 +53,7 @@ fn write_fraction(billionths: u32, buffer: &mut [u8]) -> usize
     LONGEST
 }
 
-/// Writes the sign and the whole digits before the point's place. Gives the place where they begin.
+/// Writes the sign and the whole digits before the point's index. Gives the index at which they begin.
 fn write_front(negative: bool, whole: u64, buffer: &mut [u8]) -> usize
     requires { length buffer.old ≡ LONGEST }
     ensures bound { result ≤ POINT }
@@ -67,8 +67,8 @@ fn write_front(negative: bool, whole: u64, buffer: &mut [u8]) -> usize
     digits
 }
 
-/// Writes the text of a number, given its sign, whole part and billionths. Gives the places where it begins
-/// and ends.
+/// Writes the text of a number, given its sign, whole part and billionths. Gives the indices at which it
+/// begins and ends.
 pub fn write_number(
     negative: bool,
     whole: u64,

@@ -1,12 +1,13 @@
 //! Shows what texts of a format read as: `format_probe IN OUT` cuts standard input into pieces, reads each in
 //! the format IN at the moment 7, and writes what OUT asks for. `influx` writes the line of each metric,
 //! `graphite` its lines of Graphite, `openmetrics` an exposition of each 1,000 metrics and of those that are left
-//! at the end, `KIND PLACE` for a piece that is refused, and `TooLong` for one that is too long; `count` writes
+//! at the end, `KIND OFFSET` for a piece that is refused, and `TooLong` for one that is too long; `count` writes
 //! nothing of them. The last line says how many pieces, refusals, passed samples and
 //! metrics there were. IN is `influx`, `statsd`, `graphite` or `openmetrics`; for `graphite` a separator and
 //! templates may follow OUT, without which the separator is `.` and there is no template; for `openmetrics`,
-//! whose pieces are expositions, `type_tag` may follow OUT. The status is 2 where the words are others or a
-//! template is none, and 1 where standard input or output failed or memory was wanting.
+//! whose pieces are expositions, `type_tag` and `pass_out_of_range` may follow OUT, in any order. The status is 2
+//! where the words are others or a template is none, and 1 where standard input or output failed or memory was
+//! wanting.
 #![tactic(auto)]
 
 use agent_base::{CutKind, Piece, PieceFault, Pieces, Sink, Source, StdSink, StdSource};
@@ -57,6 +58,7 @@ struct Probe {
     separator: String,
     templates: Vec<Template>,
     type_tag: bool,
+    pass_out_of_range: bool,
     pieces: u64,
     refused: u64,
     passed: u64,
@@ -113,10 +115,10 @@ impl Probe {
     }
 
     /// A piece is refused.
-    fn refuse<K: fmt::Debug + Drop>(&mut self, kind: K, place: usize) -> Result<(), OutOfMemory> {
+    fn refuse<K: fmt::Debug + Drop>(&mut self, kind: K, offset: usize) -> Result<(), OutOfMemory> {
         self.refused = self.refused.saturating_add(1);
         if self.shown != Shown::Nothing {
-            let words = format!(in self.alloc; "{:?} {}", kind, place)?;
+            let words = format!(in self.alloc; "{:?} {}", kind, offset)?;
             self.line(words.as_str())?;
         }
         Ok(())
@@ -139,7 +141,7 @@ impl Probe {
             Ok(None) => Ok(()),
             Err(fault) => match fault.kind {
                 LineKind::OutOfMemory => Err(OutOfMemory),
-                kind => self.refuse(kind, fault.place),
+                kind => self.refuse(kind, fault.offset),
             },
         }
     }
@@ -155,7 +157,7 @@ impl Probe {
             }
             Err(fault) => match fault.kind {
                 StatsdKind::OutOfMemory => Err(OutOfMemory),
-                kind => self.refuse(kind, fault.place),
+                kind => self.refuse(kind, fault.offset),
             },
         }
     }
@@ -169,14 +171,15 @@ impl Probe {
             Ok(None) => Ok(()),
             Err(fault) => match fault.kind {
                 GraphiteKind::OutOfMemory => Err(OutOfMemory),
-                kind => self.refuse(kind, fault.place),
+                kind => self.refuse(kind, fault.offset),
             },
         }
     }
 
     /// Reads a piece as an exposition.
     fn openmetrics(&mut self, piece: &Piece) -> Result<(), OutOfMemory> {
-        match read_exposition(self.alloc, piece.bytes(), MOMENT, self.type_tag) {
+        let (type_tag, passing) = (self.type_tag, self.pass_out_of_range);
+        match read_exposition(self.alloc, piece.bytes(), MOMENT, type_tag, passing) {
             Ok(exposition) => {
                 self.passed = self.passed.saturating_add(u64::from(exposition.passed));
                 for metric in exposition.metrics.as_slice() {
@@ -186,7 +189,7 @@ impl Probe {
             }
             Err(fault) => match fault.kind {
                 ExpositionKind::OutOfMemory => Err(OutOfMemory),
-                kind => self.refuse(kind, fault.place),
+                kind => self.refuse(kind, fault.offset),
             },
         }
     }
@@ -337,6 +340,7 @@ fn probe_of(
         separator: String::from_str(alloc, separator)?,
         templates,
         type_tag: false,
+        pass_out_of_range: false,
         pieces: 0,
         refused: 0,
         passed: 0,
@@ -346,29 +350,37 @@ fn probe_of(
     })
 }
 
-/// The probe of expositions, whose metrics have the tag of their type.
-fn typed_probe(alloc: Global, shown: &str) -> Result<Probe, Unmade> {
+/// The probe of expositions that these words ask for.
+fn expositions_probe(alloc: Global, shown: &str, words: &[String]) -> Result<Probe, Unmade> {
     let mut probe = probe_of(alloc, "openmetrics", shown, ".", &[])?;
-    probe.type_tag = true;
+    for word in words {
+        match word.as_str() {
+            "type_tag" => probe.type_tag = true,
+            "pass_out_of_range" => probe.pass_out_of_range = true,
+            _ => return Err(Unmade::Words),
+        }
+    }
     Ok(probe)
 }
 
+/// The probe of Graphite's lines, with a separator and templates.
+fn graphite_probe(alloc: Global, shown: &str, words: &[String]) -> Result<Probe, Unmade> {
+    match words {
+        [separator, templates @ ..] => {
+            probe_of(alloc, "graphite", shown, separator.as_str(), templates)
+        }
+        [] => Err(Unmade::Words),
+    }
+}
+
 /// The probe that the words of the command ask for. A separator and templates are words of `graphite` alone, and
-/// `type_tag` is one of `openmetrics`.
+/// `type_tag` and `pass_out_of_range` are those of `openmetrics`.
 fn asked(alloc: Global, words: &[String]) -> Result<Probe, Unmade> {
     match words {
         [format, shown] => probe_of(alloc, format.as_str(), shown.as_str(), ".", &[]),
-        [format, shown, word, templates @ ..] => match format.as_str() {
-            "graphite" => {
-                let separator = word.as_str();
-                probe_of(alloc, "graphite", shown.as_str(), separator, templates)
-            }
-            "openmetrics" => {
-                if word.as_str() != "type_tag" || !templates.is_empty() {
-                    return Err(Unmade::Words);
-                }
-                typed_probe(alloc, shown.as_str())
-            }
+        [format, shown, more @ ..] => match format.as_str() {
+            "graphite" => graphite_probe(alloc, shown.as_str(), more),
+            "openmetrics" => expositions_probe(alloc, shown.as_str(), more),
             _ => Err(Unmade::Words),
         },
         _ => Err(Unmade::Words),

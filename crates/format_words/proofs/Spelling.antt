@@ -1,5 +1,6 @@
 -- Parts as they are written.
-use Rattle.std.proofs.Common.{◌≡◌, ℕ, suc, ◌+◌, ◌<◌, true, false, cond, List, [], ◌∷◌, ◌++◌, length, map, Result, Ok, Option, Some, None, refl, sym, ap, subst, ◌∙◌, arith}
+use Rattle.std.proofs.Common.{◌≡◌, ℕ, suc, ◌+◌, ◌<◌, true, false, cond, List, [], ◌∷◌, ◌++◌, length, map, Result, Ok}
+use Rattle.std.proofs.Common.{Option, Some, None, refl, sym, ap, subst, ◌∙◌, arith}
 use Rattle.std.specs.Prelude.{◌==◌, ◌||◌}
 use Rattle.std.specs.List.{AllByRecursion, join_with_byte, slice_split, onto_first}
 use Rattle.std.proofs.lemmas.Bool.{ne_eqb, or_parts}
@@ -18,23 +19,29 @@ use Rattle.format_words.proofs.Filled.{test_ok}
 -- ---- parts one by one
 
 pub each_read : {A : Type 0} (read : PartAt → Result A ShapeFault) (spell : A → List ℕ) (P : A → Type 0)
-    → ((place : ℕ) (x : A) → P x → read (place, spell x) ≡ Ok x)
-    → (place : ℕ) (xs : List A) → AllByRecursion P xs → each read (placed place (map spell xs)) ≡ Ok xs
+    → ((offset : ℕ) (x : A) → P x → read (offset, spell x) ≡ Ok x)
+    → (offset : ℕ) (xs : List A) → AllByRecursion P xs → each read (placed offset (map spell xs)) ≡ Ok xs
 unfolding each
-each_read read spell P h place [] all = refl
-each_read read spell P h place (x ∷ xs) all = rw (h place x all.0, each_read read spell P h (place + length (spell x) + 1) xs all.1) refl
+each_read read spell P h offset [] all = refl
+each_read read spell P h offset (x ∷ xs) all = rw (
+  h offset x all.0,
+  each_read read spell P h (offset + length (spell x) + 1) xs all.1,
+) refl
 
 pub each_written : {A : Type 0} (read : PartAt → Result A ShapeFault) (spell : A → List ℕ) (P : A → Type 0)
-    → ((place : ℕ) (text : List ℕ) (x : A) → read (place, text) ≡ Ok x → (text ≡ spell x) × P x)
-    → (place : ℕ) (texts : List (List ℕ)) (xs : List A) → each read (placed place texts) ≡ Ok xs → (texts ≡ map spell xs) × AllByRecursion P xs
+    → ((offset : ℕ) (text : List ℕ) (x : A) → read (offset, text) ≡ Ok x → (text ≡ spell x) × P x)
+    → (offset : ℕ) (texts : List (List ℕ)) (xs : List A) → each read (placed offset texts) ≡ Ok xs
+    → (texts ≡ map spell xs) × AllByRecursion P xs
 unfolding each
-each_written {A = A} read spell P h place [] xs e = subst (λ (ys : List A). ([] ≡ map spell ys) × AllByRecursion P ys) (same_ok {F = ShapeFault} [] xs e) (refl, tt)
-each_written {A = A} read spell P h place (text ∷ texts) xs e =
-    let one = bind_ok (read (place, text)) _ xs e in
-    let others = bind_ok (each read (placed (place + length text + 1) texts)) _ xs one.2 in
-    let first = h place text one.0 one.1 in
-    let rest = each_written read spell P h (place + length text + 1) texts others.0 others.1 in
-    subst (λ (ys : List A). (text ∷ texts ≡ map spell ys) × AllByRecursion P ys) (same_ok {F = ShapeFault} (one.0 ∷ others.0) xs others.2)
+each_written {A = A} read spell P h offset [] xs e = subst (λ (ys : List A). ([] ≡ map spell ys) × AllByRecursion P ys)
+    (same_ok {F = ShapeFault} [] xs e) (refl, tt)
+each_written {A = A} read spell P h offset (text ∷ texts) xs e =
+    let one = bind_ok (read (offset, text)) _ xs e in
+    let others = bind_ok (each read (placed (offset + length text + 1) texts)) _ xs one.2 in
+    let first = h offset text one.0 one.1 in
+    let rest = each_written read spell P h (offset + length text + 1) texts others.0 others.1 in
+    subst (λ (ys : List A). (text ∷ texts ≡ map spell ys) × AllByRecursion P ys)
+    (same_ok {F = ShapeFault} (one.0 ∷ others.0) xs others.2)
     (rw (← first.0, ← rest.0) refl, (first.1, rest.1))
 
 as_it_is : List ℕ → List ℕ
@@ -47,18 +54,20 @@ map_same (x ∷ xs) = ap (λ (ys : List (List ℕ)). x ∷ ys) (map_same xs)
 
 -- ---- segments
 
-segment_read : (place : ℕ) (text : List ℕ) → 0 < length text → segment (place, as_it_is text) ≡ Ok text
+segment_read : (offset : ℕ) (text : List ℕ) → 0 < length text → segment (offset, as_it_is text) ≡ Ok text
 unfolding segment as_it_is
-segment_read place text some = let test : (length text == 0) ≡ false = ne_eqb (length text) 0 (λ e. absurd (omega arith)) in rw test refl
+segment_read offset text some = let test : (length text == 0) ≡ false =
+    ne_eqb (length text) 0 (λ e. absurd (omega arith)) in rw test refl
 
-segment_written : (place : ℕ) (text x : List ℕ) → segment (place, text) ≡ Ok x → (text ≡ as_it_is x) × (0 < length x)
+segment_written : (offset : ℕ) (text x : List ℕ) → segment (offset, text) ≡ Ok x → (text ≡ as_it_is x) × (0 < length x)
 unfolding segment as_it_is
-segment_written place text x e =
+segment_written offset text x e =
     let test = test_ok (length text == 0) (Ok text) x e in
     let same : text ≡ x = same_ok {F = ShapeFault} text x test.1 in
     (same, subst (λ (t : List ℕ). 0 < length t) same (some_of text test.0))
 
-segments_read_at : (texts : List (List ℕ)) → 0 < length texts → AreFilled texts → AllLack 46 texts → segments_of (join_with_byte 46 texts) ≡ Ok texts
+segments_read_at : (texts : List (List ℕ)) → 0 < length texts → AreFilled texts → AllLack 46 texts
+    → segments_of (join_with_byte 46 texts) ≡ Ok texts
 unfolding parts_of
 segments_read_at [] some filled dots = absurd (omega arith)
 segments_read_at (first ∷ others) some filled dots =
@@ -71,19 +80,22 @@ segments_read texts are = segments_read_at texts are.some are.filled are.dots
 
 pub split_some : (c : ℕ) (text : List ℕ) → 0 < length (slice_split (is_byte c) text)
 split_some c [] = omega arith
-split_some c (b ∷ bs) = elim (b == c) as (λ t. 0 < length (cond t ([] ∷ slice_split (is_byte c) bs) (onto_first b (slice_split (is_byte c) bs)))) [
-  | true ↦ omega arith
-  | false ↦ onto_some b (slice_split (is_byte c) bs)
-]
+split_some c (b ∷ bs) = elim (b == c) as (λ t. 0 < length (cond t ([] ∷ slice_split (is_byte c) bs)
+    (onto_first b (slice_split (is_byte c) bs)))) [
+      | true ↦ omega arith
+      | false ↦ onto_some b (slice_split (is_byte c) bs)
+    ]
   where
     onto_some : (b : ℕ) (texts : List (List ℕ)) → 0 < length (onto_first b texts)
     onto_some b [] = omega arith
     onto_some b (t ∷ texts) = omega arith
 
-pub segments_written : (text : List ℕ) (xs : List (List ℕ)) → segments_of text ≡ Ok xs → (text ≡ segments_text xs) × AreSegments xs
+pub segments_written : (text : List ℕ) (xs : List (List ℕ)) → segments_of text ≡ Ok xs
+    → (text ≡ segments_text xs) × AreSegments xs
 unfolding parts_of
 segments_written text xs e =
-    let read = each_written segment as_it_is (λ (t : List ℕ). 0 < length t) segment_written 0 (slice_split (is_byte 46) text) xs e in
+    let read = each_written segment as_it_is (λ (t : List ℕ). 0 < length t) segment_written 0
+    (slice_split (is_byte 46) text) xs e in
     let same : slice_split (is_byte 46) text ≡ xs = read.0 ∙ map_same xs in (
       sym (join_with_byte-slice_split 46 text) ∙ ap (join_with_byte 46) same,
       record {
@@ -95,18 +107,21 @@ segments_written text xs e =
 
 -- ---- pairs
 
-pair_read : (place : ℕ) (tag : Tag) → IsPair tag → pair (place, pair_text tag) ≡ Ok tag
+pair_read : (offset : ℕ) (tag : Tag) → IsPair tag → pair (offset, pair_text tag) ≡ Ok tag
 unfolding pair
-pair_read place tag is =
+pair_read offset tag is =
     let key : (length tag.0 == 0) ≡ false = ne_eqb (length tag.0) 0 (λ e. absurd (omega (arith, is.key_filled))) in
     let value : (length tag.1 == 0) ≡ false = ne_eqb (length tag.1) 0 (λ e. absurd (omega (arith, is.value_filled))) in
     rw ((first_is_cut 61 tag.0 tag.1 is.key).1, key, value) refl
 
-pair_written : (place : ℕ) (text : List ℕ) (tag : Tag) → pair (place, text) ≡ Ok tag → (text ≡ pair_text tag) × IsPair tag
+pair_written : (offset : ℕ) (text : List ℕ) (tag : Tag) → pair (offset, text) ≡ Ok tag
+    → (text ≡ pair_text tag) × IsPair tag
 unfolding pair
-pair_written place text tag e = at (first_part 61 text).0 (first_part 61 text).1 (cut_is_first 61 text).0 (cut_is_first 61 text).1 e
+pair_written offset text tag e = at (first_part 61 text).0 (first_part 61 text).1 (cut_is_first 61 text).0
+    (cut_is_first 61 text).1 e
   where
-    at : (key : List ℕ) (value : Option (List ℕ)) → text ≡ key ++ behind_first 61 value → HasNone (is_byte 61) key → valued key value ≡ Ok tag → (text ≡ pair_text tag) × IsPair tag
+    at : (key : List ℕ) (value : Option (List ℕ)) → text ≡ key ++ behind_first 61 value → HasNone (is_byte 61) key
+        → valued key value ≡ Ok tag → (text ≡ pair_text tag) × IsPair tag
     at key None is none e = absurd cc
     at key (Some value) is none e =
         let test = test_ok (length key == 0 || length value == 0) (Ok (key, value)) tag e in
@@ -114,10 +129,12 @@ pair_written place text tag e = at (first_part 61 text).0 (first_part 61 text).1
         subst (λ (t : Tag). (text ≡ pair_text t) × IsPair t) (same_ok {F = ShapeFault} (key, value) tag test.1)
         (is, record { key_filled = some_of key both.0; key = none; value_filled = some_of value both.1 })
 
-pub pairs_read : (c : ℕ) (tag : Tag) (tags : List Tag) → AllByRecursion IsPair (tag ∷ tags) → AllLack c (map pair_text (tag ∷ tags))
+pub pairs_read : (c : ℕ) (tag : Tag) (tags : List Tag) → AllByRecursion IsPair (tag ∷ tags)
+    → AllLack c (map pair_text (tag ∷ tags))
     → pairs_of c (Some (join_with_byte c (map pair_text (tag ∷ tags)))) ≡ Ok (tag ∷ tags)
 unfolding parts_of
-pairs_read c tag tags are lack = rw (joined_are_split c (pair_text tag) (map pair_text tags) lack) (each_read pair pair_text IsPair pair_read 0 (tag ∷ tags) are)
+pairs_read c tag tags are lack = rw (joined_are_split c (pair_text tag) (map pair_text tags) lack)
+    (each_read pair pair_text IsPair pair_read 0 (tag ∷ tags) are)
 
 -- pairs as they are written: there is at least one
 pub record ArePairs (c : ℕ) (text : List ℕ) (tags : List Tag) : Type 0 where

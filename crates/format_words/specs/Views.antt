@@ -13,7 +13,7 @@ use Rattle.format_words.specs.Template.{Shape}
 
 -- a part, as the code has it
 abbrev pub part_at : Placed → PartAt
-part_at part = (part.place, part.text.now)
+part_at part = (part.offset, part.text.now)
 
 abbrev pub now_of : Bor (List ℕ) → List ℕ
 now_of text = text.now

@@ -21,6 +21,8 @@ pub enum InFormat {
     Openmetrics {
         /// Does each metric get the type of its family as the tag `om_type`?
         type_tag: bool,
+        /// Is a sample passed over whose number or whose time is out of range, where it refuses its exposition else?
+        pass_out_of_range: bool,
     },
 }
 

@@ -34,7 +34,7 @@ fn segment<'a>(part: &Placed<'a>) -> Result<&'a str, ReadError<ShapeFault>>
 pub fn segments_of(alloc: Global, text: &str) -> Result<Vec<&str>, ReadError<ShapeFault>>
     ensures { Gives texts_view result (segments_of text.now) }
 {
-    let mut parts = Separated::of(b'.', Placed { place: 0, text });
+    let mut parts = Separated::of(b'.', Placed { offset: 0, text });
     let mut segments = Vec::with_capacity(alloc, ROOM)?;
     while let Some(part) = parts.next() {
         let text = segment(&part)?;
@@ -67,7 +67,7 @@ fn read_pairs(
     requires ascii { separator < 128 }
     ensures { Gives tags_view result (pairs_of separator (Some text.now)) }
 {
-    let mut parts = Separated::of(separator, Placed { place: 0, text });
+    let mut parts = Separated::of(separator, Placed { offset: 0, text });
     let mut pairs = Vec::with_capacity(alloc, ROOM)?;
     while let Some(part) = parts.next() {
         let tag = pair(&part)?;

@@ -84,7 +84,7 @@ fn has_early_star(parts: &[TemplatePart]) -> bool
 fn each_part(alloc: Global, text: &str) -> Result<Vec<TemplatePart>, ReadError<ShapeFault>>
     ensures { Gives (λ parts. parts.items) result (each_part text.now) }
 {
-    let mut texts = Separated::of(b'.', Placed { place: 0, text });
+    let mut texts = Separated::of(b'.', Placed { offset: 0, text });
     let mut parts = Vec::with_capacity(alloc, ROOM)?;
     while let Some(text) = texts.next() {
         let part = template_part(alloc, &text)?;
@@ -251,7 +251,7 @@ fn template_of_words(
 pub(crate) fn read_template(alloc: Global, text: &str) -> Result<Template, ReadError<ShapeFault>>
     ensures { Gives (λ x. x) result (template_of text.now) }
 {
-    let mut parts = Separated::of(b' ', Placed { place: 0, text });
+    let mut parts = Separated::of(b' ', Placed { offset: 0, text });
     let words = words_as(&mut parts)?;
     template_of_words(alloc, &words)
 }

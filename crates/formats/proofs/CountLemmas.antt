@@ -9,11 +9,15 @@ use Rattle.formats.specs.declared.reading.Group.{Group}
 use Rattle.formats.specs.Groups.{Counts}
 use Rattle.formats.specs.Reader.{InRule, Says, keeps, kept, is_none, filtered_out}
 
-filtered_more : (rule : InRule) (done : List Content) (metric : Content) → filtered_out rule (done ++ metric ∷ []) ≡ filtered_out rule done + filtered_out rule (metric ∷ [])
-filtered_more rule done metric = sum_by-append (λ (m : Content). if is_none (keeps rule m) then 1 else 0) done (metric ∷ [])
+filtered_more : (rule : InRule) (done : List Content) (metric : Content)
+    → filtered_out rule (done ++ metric ∷ []) ≡ filtered_out rule done + filtered_out rule (metric ∷ [])
+filtered_more rule done metric = sum_by-append (λ (m : Content). if is_none (keeps rule m) then 1 else 0) done
+    (metric ∷ [])
 
 -- one metric more
-pub counts_more : (rule : InRule) (done : List Content) (metric : Content) (first old new : Group) → Counts rule (Says done 0) first old → Counts rule (Says (metric ∷ []) 0) old new → Counts rule (Says (done ++ metric ∷ []) 0) first new
+pub counts_more : (rule : InRule) (done : List Content) (metric : Content) (first old new : Group)
+    → Counts rule (Says done 0) first old → Counts rule (Says (metric ∷ []) 0) old new
+    → Counts rule (Says (done ++ metric ∷ []) 0) first new
 counts_more rule done metric first old new h k = record {
   refused = omega (arith, h.refused, k.refused);
   passed = omega (arith, h.passed, k.passed);

@@ -67,7 +67,8 @@ ReadsNext rule states.Faulted moment old new before after left_before left_after
 ReadsNext rule states.LimitReached moment old new before after left_before left_after = ReadsNone old new before
     after left_before left_after
 
--- what is known by whether the input is read on: after a failed read the count of faults rose, and of the bytes that were
+-- what is known by whether the input is read on: after a failed read the count of faults rose, and of the bytes that
+-- were
 -- taken one piece at most is to come, though a newline follows; where a limit was reached all bytes were taken that an
 -- input may have, else fewer
 pub record KnownBy (state : InState) (after : Hand) (faults_before faults_after : ℕ) : Type 0 where

@@ -1,3 +1,4 @@
 pub mod Reader
 pub mod Groups
 pub mod Batches
+pub mod Refusals

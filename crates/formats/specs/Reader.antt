@@ -45,7 +45,7 @@ abbrev pub parts_say : {F : Type 0} → Result (List Content) F → PieceSays
 parts_say (Ok metrics) = Says metrics 0
 parts_say (Err fault) = Refused
 
--- an exposition says a metric for each sample whose number is a decimal; the others are passed over
+-- an exposition says a metric for each sample whose number is a decimal in range; the others are passed over
 abbrev pub exposition_says : {F : Type 0} → Result Exposition F → PieceSays
 exposition_says (Ok exposition) = Says exposition.metrics exposition.passed
 exposition_says (Err fault) = Refused
@@ -55,14 +55,15 @@ abbrev pub say_in : InFormat → ℤ → List ℕ → PieceSays
 say_in Influx moment piece = line_says (reading piece moment)
 say_in Statsd moment piece = parts_say (statsd.reading piece moment)
 say_in (Graphite templates separator) moment piece = line_says (graphite.reading templates separator piece moment)
-say_in (Openmetrics type_tag) moment piece = exposition_says (openmetrics.reading piece moment type_tag)
+say_in (Openmetrics type_tag passing) moment piece =
+    exposition_says (openmetrics.reading piece moment type_tag passing)
 
 -- how the text of an input is cut: into expositions in OpenMetrics, else into lines
 abbrev pub cut_of : InFormat → CutKind
 cut_of Influx = Lines
 cut_of Statsd = Lines
 cut_of (Graphite templates separator) = Lines
-cut_of (Openmetrics type_tag) = Expositions
+cut_of (Openmetrics type_tag passing) = Expositions
 
 -- the reader of a format
 abbrev pub reader_of : InFormat → Reader
@@ -74,7 +75,7 @@ abbrev pub most_said : InFormat → ℕ
 most_said Influx = line_most.most_said
 most_said Statsd = parts_most.most_said (lines.most_bytes Lines)
 most_said (Graphite templates separator) = graphite_most.most_said
-most_said (Openmetrics type_tag) = exposition_most.most_said (lines.most_bytes Expositions)
+most_said (Openmetrics type_tag passing) = exposition_most.most_said (lines.most_bytes Expositions)
 
 -- by what rule an input is read: its format, the tags that each metric gets that lacks them, what is kept of a
 -- metric, and how many pieces a gather has at most

@@ -3,8 +3,10 @@
 
 mod pieces;
 mod reading;
+mod refusal;
 mod writing;
 
 pub use pieces::{InState, cut_of, read_group};
 pub use reading::{Group, ReadRule};
+pub use refusal::{Refusal, Refused, why_refused};
 pub use writing::write_batch;

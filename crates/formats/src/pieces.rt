@@ -72,7 +72,7 @@ fn read_next<S: Source>(
         }
         Ok(None) => Ok(InState::Ended),
         Err(PieceFault::TooLong) => {
-            group.refuse();
+            group.refuse(rule.notes);
             Ok(InState::Reading)
         }
         Err(PieceFault::ReadFault) => Ok(InState::Faulted),

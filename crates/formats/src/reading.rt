@@ -5,6 +5,7 @@ ghost use Rattle.metric.specs.Metric.{IsFilledTag};
 ghost use Rattle.formats.specs.Groups.{Counts, CountsPiece};
 ghost use Rattle.formats.specs.Reader.{InRule, Says, in_rule, rule_view, say_in};
 
+use crate::refusal::Refused;
 use agent_base::Piece;
 use fixed_num::{Moment, OutOfMemory, Seq};
 use format_words::InFormat;
@@ -30,6 +31,8 @@ pub struct ReadRule<'a> {
     pub filter: &'a Filter,
     /// How many pieces a gather has at most.
     pub most: u32,
+    /// Whether the first piece of a gather that is refused is noted.
+    pub notes: bool,
 }
 
 impl<'a> ReadRule<'a> {
@@ -39,6 +42,7 @@ impl<'a> ReadRule<'a> {
         globals: &'a [(Text, Text)],
         filter: &'a Filter,
         most: u32,
+        notes: bool,
     ) -> ReadRule<'a>
         ensures rule { rule_view result ≡ in_rule format.now globals.now filter.now most }
         ensures globals { result.globals.now ≡ globals.now }
@@ -50,6 +54,7 @@ impl<'a> ReadRule<'a> {
             globals,
             filter,
             most,
+            notes,
         }
     }
 }
@@ -67,6 +72,11 @@ pub struct Group {
     pub filtered: u32,
     /// What is kept of the other metrics, in order.
     pub metrics: Vec<Metric>,
+    /// Of how many samples that are passed over the number or the time is out of range; it stands still at its
+    /// highest number.
+    pub out_of_range: u32,
+    /// The first piece that was refused, where it is noted.
+    pub first: Option<Refused>,
 }
 
 impl Group {
@@ -84,17 +94,22 @@ impl Group {
             passed: 0,
             filtered: 0,
             metrics: Vec::with_capacity(alloc, most.min(GATHER_ROOM) as usize)?,
+            out_of_range: 0,
+            first: None,
         })
     }
 
     /// Counts a piece that is too long, and so refused.
-    pub fn refuse(&mut self)
+    pub fn refuse(&mut self, notes: bool)
         requires few { self.old.pieces < 2 ^ 32 - 1 }
         requires some { self.old.refused ≤ self.old.pieces }
         ensures counted { (rule : InRule) (moment : ℤ) → CountsPiece rule moment TooLong self.old self.new }
     {
         self.pieces += 1;
         self.refused += 1;
+        if notes && self.first.is_none() {
+            self.first = Some(Refused::too_long(u64::from(self.pieces)));
+        }
     }
 
     /// Counts a piece, and keeps what is kept of what it says at the moment.
@@ -111,8 +126,13 @@ impl Group {
         ensures counted { OnOk result
             (CountsPiece (rule_view rule.now) moment (Whole piece.now) self.old self.new) }
     {
+        let refused = self.refused;
         self.read_in_format(alloc, rule, piece, moment)?;
         self.pieces += 1;
+        if rule.notes && self.refused != refused && self.first.is_none() {
+            let (format, number) = (rule.format, u64::from(self.pieces));
+            self.first = Some(Refused::of(alloc, format, piece.bytes(), moment, number));
+        }
         Ok(())
     }
 
@@ -156,12 +176,14 @@ impl Group {
                 Ok(None) => Ok(()),
                 Err(fault) => self.refuse_for(fault.kind == GraphiteKind::OutOfMemory),
             },
-            InFormat::Openmetrics { type_tag } => match read_exposition(
-                alloc, bytes, moment, *type_tag,
-            ) {
+            InFormat::Openmetrics {
+                type_tag,
+                pass_out_of_range,
+            } => match read_exposition(alloc, bytes, moment, *type_tag, *pass_out_of_range) {
                 Ok(exposition) => {
                     self.keep_list(alloc, rule, exposition.metrics)?;
                     self.passed = self.passed.saturating_add(exposition.passed);
+                    self.out_of_range = self.out_of_range.saturating_add(exposition.out_of_range);
                     Ok(())
                 }
                 Err(fault) => self.refuse_for(fault.kind == ExpositionKind::OutOfMemory),

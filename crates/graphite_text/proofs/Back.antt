@@ -1,5 +1,7 @@
 -- Lines that are read back.
-use Rattle.std.proofs.Common.{◌≡◌, ℕ, ℤ, zero, suc, ◌+◌, ◌<◌, ◌≤◌, ◌*◌, ◌/◌, ◌^◌, Bool, true, false, cond, List, [], ◌∷◌, ◌++◌, length, take, map, Ok, Some, refl, sym, ap, subst, ◌∙◌, append_assoc, length-append, arith, inl, inr}
+use Rattle.std.proofs.Common.{◌≡◌, ℕ, ℤ, zero, suc, ◌+◌, ◌<◌, ◌≤◌, ◌*◌, ◌/◌, ◌^◌, Bool, true, false, cond, List, []}
+use Rattle.std.proofs.Common.{◌∷◌, ◌++◌, length, take, map, Ok, Some, refl, sym, ap, subst, ◌∙◌, append_assoc}
+use Rattle.std.proofs.Common.{length-append, arith, inl, inr}
 use Rattle.std.specs.Prelude.{◌==◌, pos, negsuc, neg_ℤ, unsigned_abs, codes, filter, flat_map, FitsSigned}
 use Rattle.std.specs.Int.{w64}
 use Rattle.std.specs.Fmt.{signed_decimal}
@@ -25,14 +27,17 @@ use Rattle.format_words.specs.Segments.{AreFilled}
 use Rattle.graphite_text.specs.Applied.{collected, joined, name_of, key_of, tags_at}
 use Rattle.graphite_text.specs.Reading.{is_minus_one, is_moment, content_of, reading}
 use Rattle.graphite_text.specs.Grammar.{Written, line_spelling, IsMoment, IsLine, said_in, has_too_many}
-use Rattle.graphite_text.specs.Writing.{value_byte, name_byte, value_part, name_part, is_host, is_no_host, values_of, key_parts, path_text, seconds_of, line_text}
-use Rattle.graphite_text.specs.RoundTrip.{IsDotted, IsDottedKey, IsSecond, time_behind, metric_behind, WrittenIsReadBack}
+use Rattle.graphite_text.specs.Writing.{value_byte, name_byte, value_part, name_part, is_host, is_no_host, values_of}
+use Rattle.graphite_text.specs.Writing.{key_parts, path_text, seconds_of, line_text}
+use Rattle.graphite_text.specs.RoundTrip.{IsDotted, IsDottedKey, IsSecond, time_behind, metric_behind}
+use Rattle.graphite_text.specs.RoundTrip.{WrittenIsReadBack}
 use Rattle.fixed_num.specs.Scaled.{scaled}
 use Rattle.fixed_num.proofs.NumberBytes.{all_append}
 use Rattle.fixed_num.proofs.NumberTexts.{IsNumberText, signed_number, signed_read}
 use Rattle.metric.specs.Numbers.{is_text, number_text, billionths_of}
 use Rattle.metric.proofs.NumberLemmas.{value_number, value_read}
-use Rattle.graphite_text.proofs.Bytes.{IsClean, AreClean, clean_spaces, clean_semicolons, value_clean, value_no_dot, name_clean, name_dot, mapped_clean, clean_point, clean_number}
+use Rattle.graphite_text.proofs.Bytes.{IsClean, AreClean, clean_spaces, clean_semicolons, value_clean, value_no_dot}
+use Rattle.graphite_text.proofs.Bytes.{name_clean, name_dot, mapped_clean, clean_point, clean_number}
 use Rattle.format_words.proofs.Spelling.{split_some}
 use Rattle.graphite_text.proofs.Writtens.{written_is_read}
 
@@ -42,23 +47,30 @@ onto_append : (b : ℕ) (ps qs : List (List ℕ)) → 0 < length ps → onto_fir
 onto_append b [] qs lt = absurd (omega arith)
 onto_append b (p ∷ ps) qs lt = refl
 
-split_append : (xs ys : List ℕ) → slice_split (is_byte 46) (xs ++ 46 ∷ ys) ≡ slice_split (is_byte 46) xs ++ slice_split (is_byte 46) ys
+split_append : (xs ys : List ℕ) → slice_split (is_byte 46) (xs ++ 46 ∷ ys) ≡ slice_split (is_byte 46) xs
+    ++ slice_split (is_byte 46) ys
 split_append [] ys = refl
-split_append (x ∷ xs) ys = elim (x == 46) as (λ t. cond t ([] ∷ slice_split (is_byte 46) (xs ++ 46 ∷ ys)) (onto_first x (slice_split (is_byte 46) (xs ++ 46 ∷ ys)))
-    ≡ cond t ([] ∷ slice_split (is_byte 46) xs) (onto_first x (slice_split (is_byte 46) xs)) ++ slice_split (is_byte 46) ys) [
+split_append (x ∷ xs) ys = elim (x == 46) as (λ t. cond t ([] ∷ slice_split (is_byte 46) (xs ++ 46 ∷ ys))
+    (onto_first x (slice_split (is_byte 46) (xs ++ 46 ∷ ys)))
+    ≡ cond t ([] ∷ slice_split (is_byte 46) xs) (onto_first x (slice_split (is_byte 46) xs))
+    ++ slice_split (is_byte 46) ys) [
       | true ↦ ap (λ (ps : List (List ℕ)). [] ∷ ps) (split_append xs ys)
-      | false ↦ ap (onto_first x) (split_append xs ys) ∙ onto_append x (slice_split (is_byte 46) xs) (slice_split (is_byte 46) ys) (split_some 46 xs)
+      | false ↦ ap (onto_first x) (split_append xs ys) ∙ onto_append x (slice_split (is_byte 46) xs)
+          (slice_split (is_byte 46) ys) (split_some 46 xs)
     ]
 
-onto_map : (b : ℕ) (ps : List (List ℕ)) → onto_first (name_byte b) (map (map name_byte) ps) ≡ map (map name_byte) (onto_first b ps)
+onto_map : (b : ℕ) (ps : List (List ℕ)) → onto_first (name_byte b) (map (map name_byte) ps) ≡ map (map name_byte)
+    (onto_first b ps)
 onto_map b [] = refl
 onto_map b (p ∷ ps) = refl
 
-split_map : (bs : List ℕ) → slice_split (is_byte 46) (map name_byte bs) ≡ map (map name_byte) (slice_split (is_byte 46) bs)
+split_map : (bs : List ℕ) → slice_split (is_byte 46) (map name_byte bs) ≡ map (map name_byte)
+    (slice_split (is_byte 46) bs)
 split_map [] = refl
 split_map (b ∷ bs) =
     rw (name_dot b)
-    (elim (b == 46) as (λ t. cond t ([] ∷ slice_split (is_byte 46) (map name_byte bs)) (onto_first (name_byte b) (slice_split (is_byte 46) (map name_byte bs)))
+    (elim (b == 46) as (λ t. cond t ([] ∷ slice_split (is_byte 46) (map name_byte bs))
+    (onto_first (name_byte b) (slice_split (is_byte 46) (map name_byte bs)))
     ≡ map (map name_byte) (cond t ([] ∷ slice_split (is_byte 46) bs) (onto_first b (slice_split (is_byte 46) bs)))) [
       | true ↦ ap (λ (ps : List (List ℕ)). [] ∷ ps) (split_map bs)
       | false ↦ ap (onto_first (name_byte b)) (split_map bs) ∙ onto_map b (slice_split (is_byte 46) bs)
@@ -83,7 +95,8 @@ no_dots (b ∷ bs) = (value_no_dot b, no_dots bs)
 
 value_is : (value : List ℕ) → 0 < length value → IsPart (value_part value)
 value_is value some = record {
-  dotted = subst AreFilled (sym (split_none (is_byte 46) (value_part value) (no_dots value))) (map_some value_byte value some, tt);
+  dotted = subst AreFilled (sym (split_none (is_byte 46) (value_part value) (no_dots value)))
+      (map_some value_byte value some, tt);
   clean = mapped_clean value_byte value_clean value;
 }
 
@@ -93,29 +106,35 @@ name_is name dotted = record {
   clean = mapped_clean name_byte name_clean name;
 }
 
-values_are : (passes : Tag → Bool) (tags : List Tag) → AllByRecursion IsTag tags → AllByRecursion IsPart (values_of passes tags)
+values_are : (passes : Tag → Bool) (tags : List Tag) → AllByRecursion IsTag tags
+    → AllByRecursion IsPart (values_of passes tags)
 values_are passes [] h = tt
-values_are passes (tag ∷ tags) h = elim (passes tag) as (λ t. AllByRecursion IsPart (map (λ (x : Tag). value_part x.1) (cond t (tag ∷ filter passes tags) (filter passes tags)))) [
-  | true ↦ (value_is tag.1 ((h.0).1).filled, values_are passes tags h.1)
-  | false ↦ values_are passes tags h.1
-]
+values_are passes (tag ∷ tags) h = elim (passes tag) as (λ t. AllByRecursion IsPart
+    (map (λ (x : Tag). value_part x.1) (cond t (tag ∷ filter passes tags) (filter passes tags)))) [
+      | true ↦ (value_is tag.1 ((h.0).1).filled, values_are passes tags h.1)
+      | false ↦ values_are passes tags h.1
+    ]
 
 true_false : true ≡ false → ⊥
 true_false e = cc
 
 key_is : (key : List ℕ) → IsDottedKey key → AllByRecursion IsPart (key_parts key)
-key_is key (inl is) = let same : bytes_eq key (codes "value") ≡ true = (bytes_eq-Decides key (codes "value")).1 is in rw same tt
-key_is key (inr dotted) = elim (bytes_eq key (codes "value")) as (λ t. AllByRecursion IsPart (cond t [] (name_part key ∷ []))) [
-  | true ↦ tt
-  | false ↦ (name_is key dotted, tt)
-]
+key_is key (inl is) = let same : bytes_eq key (codes "value") ≡ true = (bytes_eq-Decides key (codes "value")).1 is in
+    rw same tt
+key_is key (inr dotted) = elim (bytes_eq key (codes "value")) as
+    (λ t. AllByRecursion IsPart (cond t [] (name_part key ∷ []))) [
+      | true ↦ tt
+      | false ↦ (name_is key dotted, tt)
+    ]
 
-joined_is : (part : List ℕ) (others : List (List ℕ)) → AllByRecursion IsPart (part ∷ others) → IsPart (join_with_byte 46 (part ∷ others))
+joined_is : (part : List ℕ) (others : List (List ℕ)) → AllByRecursion IsPart (part ∷ others)
+    → IsPart (join_with_byte 46 (part ∷ others))
 joined_is part [] h = h.0
 joined_is part (next ∷ others) h =
     let rest = joined_is next others h.1 in record {
       dotted = subst AreFilled (sym (split_append part (join_with_byte 46 (next ∷ others))))
-          (all_append (λ (t : List ℕ). 0 < length t) (slice_split (is_byte 46) part) (slice_split (is_byte 46) (join_with_byte 46 (next ∷ others))) (h.0).dotted rest.dotted);
+          (all_append (λ (t : List ℕ). 0 < length t) (slice_split (is_byte 46) part)
+          (slice_split (is_byte 46) (join_with_byte 46 (next ∷ others))) (h.0).dotted rest.dotted);
       clean = all_append IsClean part (46 ∷ join_with_byte 46 (next ∷ others)) (h.0).clean (clean_point, rest.clean);
     }
 
@@ -123,7 +142,8 @@ all_joined : (texts : List (List ℕ)) → 0 < length texts → AllByRecursion I
 all_joined [] lt h = absurd (omega arith)
 all_joined (text ∷ texts) lt h = joined_is text texts h
 
-path_is : (m : Content) (key : List ℕ) → AllByRecursion IsTag m.tags → IsDotted m.name → IsDottedKey key → IsPart (path_text m key)
+path_is : (m : Content) (key : List ℕ) → AllByRecursion IsTag m.tags → IsDotted m.name → IsDottedKey key
+    → IsPart (path_text m key)
 unfolding path_text
 path_is m key tags name dotted =
     let hosts : List (List ℕ) = values_of is_host m.tags in
@@ -139,11 +159,13 @@ dotted_some (b ∷ text) h = omega arith
 
 -- ---- what is made of the segments
 
-joined_same : (text : List ℕ) (texts : List (List ℕ)) → text ++ flat_map (λ other. codes "." ++ other) texts ≡ join_with_byte 46 (text ∷ texts)
+joined_same : (text : List ℕ) (texts : List (List ℕ)) → text
+    ++ flat_map (λ other. codes "." ++ other) texts ≡ join_with_byte 46 (text ∷ texts)
 joined_same text [] = append-nil text
 joined_same text (next ∷ texts) = ap (λ (t : List ℕ). text ++ (46 ∷ t)) (joined_same next texts)
 
-name_from : (segments : List (List ℕ)) → 0 < length segments → name_of (codes ".") (parts.AllMeasurement ∷ []) segments ≡ join_with_byte 46 segments
+name_from : (segments : List (List ℕ)) → 0 < length segments
+    → name_of (codes ".") (parts.AllMeasurement ∷ []) segments ≡ join_with_byte 46 segments
 unfolding name_of collected joined
 name_from [] lt = absurd (omega arith)
 name_from (text ∷ texts) lt = joined_same text texts
@@ -157,7 +179,8 @@ take_none : {A : Type 0} (n : ℕ) → take {A = A} n [] ≡ []
 take_none zero = refl
 take_none (suc n) = refl
 
-tags_none : (n : ℕ) (segments : List (List ℕ)) → flat_map (tags_at (codes ".") (parts.AllMeasurement ∷ []) segments) (take n (parts.AllMeasurement ∷ [])) ≡ []
+tags_none : (n : ℕ) (segments : List (List ℕ)) → flat_map (tags_at (codes ".") (parts.AllMeasurement ∷ []) segments)
+    (take n (parts.AllMeasurement ∷ [])) ≡ []
 tags_none zero segments = refl
 tags_none (suc n) segments = ap (flat_map (tags_at (codes ".") (parts.AllMeasurement ∷ []) segments)) (take_none n)
 
@@ -165,21 +188,25 @@ tags_none (suc n) segments = ap (flat_map (tags_at (codes ".") (parts.AllMeasure
 
 seconds_below : (time : ℤ) → FitsSigned w64 time → unsigned_abs (seconds_of time) < 2 ^ 64
 seconds_below (pos n) h = div_below n 1000000000 (2 ^ 64) (omega arith) (omega (arith, h.sfits))
-seconds_below (negsuc n) h = let low : n / 1000000000 < 2 ^ 63 = div_below n 1000000000 (2 ^ 63) (omega arith) (omega (arith, h.sfits)) in omega arith
+seconds_below (negsuc n) h = let low : n / 1000000000 < 2 ^ 63 =
+    div_below n 1000000000 (2 ^ 63) (omega arith) (omega (arith, h.sfits)) in omega arith
 
 negative_moment : (m : ℕ) → 0 < m → m ≤ 2 ^ 63 → is_moment (neg_ℤ (pos m)) ≡ true
 negative_moment zero lt le = absurd (omega arith)
 negative_moment (suc k) lt le = lt-ltb k (2 ^ 63) (omega arith)
 
-scaled_moment : (time : ℤ) → FitsSigned w64 time → IsSecond (seconds_of time) → is_moment (scaled (seconds_of time)) ≡ true
+scaled_moment : (time : ℤ) → FitsSigned w64 time → IsSecond (seconds_of time)
+    → is_moment (scaled (seconds_of time)) ≡ true
 scaled_moment (pos n) h is = lt-ltb (n / 1000000000 * 1000000000) (2 ^ 63) (omega (arith, h.sfits))
 scaled_moment (negsuc n) h is = negative_moment ((1 + n / 1000000000) * 1000000000) (omega arith) (omega (arith, is))
 
-time_is : (moment seconds : ℤ) → is_moment (scaled seconds) ≡ true → IsMoment moment (scaled seconds) (time_behind moment seconds)
-time_is moment seconds fits = elim (is_minus_one (scaled seconds)) as (λ t. is_minus_one (scaled seconds) ≡ t → IsMoment moment (scaled seconds) (cond t moment (scaled seconds))) [
-  | true ↦ λ e. inl (e, refl)
-  | false ↦ λ e. inr (e, fits, refl)
-] refl
+time_is : (moment seconds : ℤ) → is_moment (scaled seconds) ≡ true
+    → IsMoment moment (scaled seconds) (time_behind moment seconds)
+time_is moment seconds fits = elim (is_minus_one (scaled seconds)) as
+    (λ t. is_minus_one (scaled seconds) ≡ t → IsMoment moment (scaled seconds) (cond t moment (scaled seconds))) [
+      | true ↦ λ e. inl (e, refl)
+      | false ↦ λ e. inr (e, fits, refl)
+    ] refl
 
 -- ---- bytes below 128
 
@@ -202,12 +229,14 @@ same_line p a n b s q is =
     append_assoc ((p ++ a) ++ n) b s ∙ append_assoc (p ++ a) n (b ++ s) ∙ append_assoc p a (n ++ (b ++ s))
     ∙ rw (is, append-nil p, append-nil s) refl
 
-line_low : (p n s : List ℕ) → AreClean p → AreClean n → AreClean s → AllByRecursion (λ b. b < 128) ((((p ++ codes " ") ++ n) ++ codes " ") ++ s)
+line_low : (p n s : List ℕ) → AreClean p → AreClean n → AreClean s
+    → AllByRecursion (λ b. b < 128) ((((p ++ codes " ") ++ n) ++ codes " ") ++ s)
 line_low p n s h k l =
     let space : AllByRecursion (λ b. b < 128) (codes " ") = (omega arith, tt) in
     all_append (λ b. b < 128) (((p ++ codes " ") ++ n) ++ codes " ") s
     (all_append (λ b. b < 128) ((p ++ codes " ") ++ n) (codes " ")
-    (all_append (λ b. b < 128) (p ++ codes " ") n (all_append (λ b. b < 128) p (codes " ") (clean_low p h) space) (clean_low n k)) space) (clean_low s l)
+    (all_append (λ b. b < 128) (p ++ codes " ") n (all_append (λ b. b < 128) p (codes " ") (clean_low p h) space)
+    (clean_low n k)) space) (clean_low s l)
 
 written_of : List ℕ → List ℕ → List ℕ → Written
 written_of path number seconds = record {
@@ -222,15 +251,22 @@ written_of path number seconds = record {
 word : (text : List ℕ) → 0 < length text → AreClean text → IsWord text
 word text some clean = record { filled = some; none = clean_spaces text clean }
 
-line_is : (path number seconds : List ℕ) (moment value time n : ℤ) → IsPart path → IsNumberText number → IsNumberText seconds → read_as number ≡ Ok value → read_as seconds ≡ Ok n → IsMoment moment n time
+line_is : (path number seconds : List ℕ) (moment value time n : ℤ) → IsPart path → IsNumberText number
+    → IsNumberText seconds → read_as number ≡ Ok value → read_as seconds ≡ Ok n → IsMoment moment n time
     → IsLine (written_of path number seconds) moment value time
 unfolding written_of
 line_is path number seconds moment value time n p v t read_value read_time is =
-    let whole : join_with_byte 46 (slice_split (is_byte 46) path) ≡ path = join_with_byte-slice_split 46 path in record {
+    let whole : join_with_byte 46 (slice_split (is_byte 46) path) ≡ path = join_with_byte-slice_split 46 path in
+    record {
       words = (
-        subst IsWord (sym (append-nil (join_with_byte 46 (slice_split (is_byte 46) path)) ∙ whole)) (word path (dotted_some path p.dotted) p.clean),
+        subst IsWord (sym (append-nil (join_with_byte 46 (slice_split (is_byte 46) path)) ∙ whole))
+            (word path (dotted_some path p.dotted) p.clean),
         omega arith,
-        (word number v.some (clean_number number v.bytes), omega arith, (word seconds t.some (clean_number seconds t.bytes), tt, tt)),
+        (
+          word number v.some (clean_number number v.bytes),
+          omega arith,
+          (word seconds t.some (clean_number seconds t.bytes), tt, tt),
+        ),
       );
       path = record {
         segments = record { some = split_some 46 path; filled = p.dotted; dots = parts_none (is_byte 46) path };
@@ -243,20 +279,32 @@ line_is path number seconds moment value time n p v t read_value read_time is =
     }
 
 made : (path : List ℕ) (m : Content) (field : Field) (moment : ℤ) → path ≡ path_text m field.0
-    → content_of (said_in [] (codes ".") (written_of path (number_text field.1) (signed_decimal (seconds_of m.time))) (billionths_of field.1) (time_behind moment (seconds_of m.time))) ≡ metric_behind m field moment
+    → content_of (said_in [] (codes ".") (written_of path (number_text field.1) (signed_decimal (seconds_of m.time)))
+    (billionths_of field.1) (time_behind moment (seconds_of m.time))) ≡ metric_behind m field moment
 unfolding written_of in_key_order_on
 made path m field moment is =
-    rw (name_from (slice_split (is_byte 46) path) (split_some 46 path), key_from_none (slice_split (is_byte 46) path), tags_none (length (slice_split (is_byte 46) path)) (slice_split (is_byte 46) path), join_with_byte-slice_split 46 path, is) refl
+    rw (
+      name_from (slice_split (is_byte 46) path) (split_some 46 path),
+      key_from_none (slice_split (is_byte 46) path),
+      tags_none (length (slice_split (is_byte 46) path)) (slice_split (is_byte 46) path),
+      join_with_byte-slice_split 46 path,
+      is,
+    ) refl
 
-few : (path number seconds : List ℕ) (value time : ℤ) → has_too_many (said_in [] (codes ".") (written_of path number seconds) value time) ≡ false
+few : (path number seconds : List ℕ) (value time : ℤ) → has_too_many
+    (said_in [] (codes ".") (written_of path number seconds) value time) ≡ false
 unfolding written_of in_key_order_on
-few path number seconds value time = rw (tags_none (length (slice_split (is_byte 46) path)) (slice_split (is_byte 46) path)) refl
+few path number seconds value time = rw (tags_none (length (slice_split (is_byte 46) path))
+    (slice_split (is_byte 46) path)) refl
 
-spelled : (path number seconds : List ℕ) → ((((path ++ codes " ") ++ number) ++ codes " ") ++ seconds) ≡ line_spelling (written_of path number seconds)
+spelled : (path number seconds : List ℕ) → ((((path ++ codes " ") ++ number) ++ codes " ") ++ seconds) ≡ line_spelling
+    (written_of path number seconds)
 unfolding written_of
-spelled path number seconds = same_line path (codes " ") number (codes " ") seconds (join_with_byte 46 (slice_split (is_byte 46) path)) (join_with_byte-slice_split 46 path)
+spelled path number seconds = same_line path (codes " ") number (codes " ") seconds
+    (join_with_byte 46 (slice_split (is_byte 46) path)) (join_with_byte-slice_split 46 path)
 
-field_back : (m : Content) (moment : ℤ) → IsMetric m → IsDotted m.name → IsSecond (seconds_of m.time) → (field : Field) → IsField field → is_text field.1 ≡ false → IsDottedKey field.0
+field_back : (m : Content) (moment : ℤ) → IsMetric m → IsDotted m.name → IsSecond (seconds_of m.time) → (field : Field)
+    → IsField field → is_text field.1 ≡ false → IsDottedKey field.0
     → reading [] (codes ".") (line_text m field) moment ≡ Ok (Some (metric_behind m field moment))
 unfolding line_text
 field_back m moment is name second field h no_text key =
@@ -265,19 +313,30 @@ field_back m moment is name second field h no_text key =
     let v = value_number field.1 h.1 no_text in
     let s = signed_number (seconds_of m.time) below in
     let w : Written = written_of (path_text m field.0) (number_text field.1) (signed_decimal (seconds_of m.time)) in
-    let line = line_is (path_text m field.0) (number_text field.1) (signed_decimal (seconds_of m.time)) moment (billionths_of field.1) (time_behind moment (seconds_of m.time)) (scaled (seconds_of m.time)) p v s
-    (value_read field.1 h.1 no_text) (signed_read (seconds_of m.time) below) (time_is moment (seconds_of m.time) (scaled_moment m.time is.time second)) in
+    let line = line_is (path_text m field.0) (number_text field.1) (signed_decimal (seconds_of m.time)) moment
+    (billionths_of field.1) (time_behind moment (seconds_of m.time)) (scaled (seconds_of m.time)) p v s
+    (value_read field.1 h.1 no_text) (signed_read (seconds_of m.time) below)
+    (time_is moment (seconds_of m.time) (scaled_moment m.time is.time second)) in
     let text = spelled (path_text m field.0) (number_text field.1) (signed_decimal (seconds_of m.time)) in
-    let utf8 = IsUtf8-from_ascii _ (low_ascii _ (line_low (path_text m field.0) (number_text field.1) (signed_decimal (seconds_of m.time)) p.clean (clean_number (number_text field.1) v.bytes) (clean_number (signed_decimal (seconds_of m.time)) s.bytes))) in
+    let utf8 = IsUtf8-from_ascii _ (low_ascii _ (line_low (path_text m field.0) (number_text field.1)
+    (signed_decimal (seconds_of m.time)) p.clean (clean_number (number_text field.1) v.bytes)
+    (clean_number (signed_decimal (seconds_of m.time)) s.bytes))) in
     ap (λ (t : List ℕ). reading [] (codes ".") t moment) text
-    ∙ written_is_read [] (codes ".") w moment (billionths_of field.1) (time_behind moment (seconds_of m.time)) line (subst IsUtf8 text utf8)
-    (few (path_text m field.0) (number_text field.1) (signed_decimal (seconds_of m.time)) (billionths_of field.1) (time_behind moment (seconds_of m.time)))
+    ∙ written_is_read [] (codes ".") w moment (billionths_of field.1) (time_behind moment (seconds_of m.time)) line
+    (subst IsUtf8 text utf8)
+    (few (path_text m field.0) (number_text field.1) (signed_decimal (seconds_of m.time)) (billionths_of field.1)
+    (time_behind moment (seconds_of m.time)))
     ∙ ap (λ (c : Content). Ok (Some c)) (made (path_text m field.0) m field moment refl)
 
-fields_back : (m : Content) (moment : ℤ) → IsMetric m → IsDotted m.name → IsSecond (seconds_of m.time) → (fields : List Field) → AllByRecursion IsField fields
-    → AllByRecursion (λ (field : Field). is_text field.1 ≡ false → IsDottedKey field.0 → reading [] (codes ".") (line_text m field) moment ≡ Ok (Some (metric_behind m field moment))) fields
+fields_back : (m : Content) (moment : ℤ) → IsMetric m → IsDotted m.name → IsSecond (seconds_of m.time)
+    → (fields : List Field) → AllByRecursion IsField fields
+    → AllByRecursion (λ (field : Field). is_text field.1 ≡ false → IsDottedKey field.0
+    → reading [] (codes ".") (line_text m field) moment ≡ Ok (Some (metric_behind m field moment))) fields
 fields_back m moment is name second [] h = tt
-fields_back m moment is name second (field ∷ fields) h = (field_back m moment is name second field h.0, fields_back m moment is name second fields h.1)
+fields_back m moment is name second (field ∷ fields) h = (
+  field_back m moment is name second field h.0,
+  fields_back m moment is name second fields h.1,
+)
 
 pub written_is_read_back : WrittenIsReadBack
 written_is_read_back m moment is name second = fields_back m moment is name second m.fields is.fields

@@ -1,5 +1,6 @@
 -- The bytes of paths and of numbers.
-use Rattle.std.proofs.Common.{◌≡◌, ℕ, ◌<◌, ◌≤◌, Bool, true, false, cond, leb, List, [], ◌∷◌, map, refl, sym, ap, subst, ◌∙◌, arith}
+use Rattle.std.proofs.Common.{◌≡◌, ℕ, ◌<◌, ◌≤◌, Bool, true, false, cond, leb, List, [], ◌∷◌, map, refl, sym, ap, subst}
+use Rattle.std.proofs.Common.{◌∙◌, arith}
 use Rattle.std.specs.Prelude.{◌==◌, ◌||◌, ◌&&◌}
 use Rattle.std.specs.Char.{is_ascii_alphanumeric}
 use Rattle.std.specs.Int.{is_in_range}
@@ -44,14 +45,16 @@ and_second true b e = e
 and_second false b e = absurd cc
 
 range_low : (low high b : ℕ) → high < 128 → is_in_range low high b ≡ true → b < 128
-range_low low high b small e = let le : b ≤ high = leb-true b high (and_second (leb low b) (leb b high) e) in omega arith
+range_low low high b small e = let le : b ≤ high = leb-true b high (and_second (leb low b) (leb b high) e) in
+    omega arith
 
 kept_ascii : (b : ℕ) → is_kept b ≡ true → b < 128
 kept_ascii b e =
     or_either (is_ascii_alphanumeric b || b == 95) (b == 45) (b < 128) e
     (λ f. or_either (is_ascii_alphanumeric b) (b == 95) (b < 128) f
     (λ g. or_either (is_in_range 48 57 b || is_in_range 65 90 b) (is_in_range 97 122 b) (b < 128) g
-    (λ h. or_either (is_in_range 48 57 b) (is_in_range 65 90 b) (b < 128) h (range_low 48 57 b (omega arith)) (range_low 65 90 b (omega arith)))
+    (λ h. or_either (is_in_range 48 57 b) (is_in_range 65 90 b) (b < 128) h (range_low 48 57 b (omega arith))
+    (range_low 65 90 b (omega arith)))
     (range_low 97 122 b (omega arith)))
     (λ g. let is : b ≡ 95 = eqb-true b 95 g in omega arith))
     (λ f. let is : b ≡ 45 = eqb-true b 45 f in omega arith)
@@ -74,7 +77,8 @@ value_no_dot b = elim (is_kept b) as (λ t. is_kept b ≡ t → (cond t b 95 == 
 ] refl
 
 name_kept : (b : ℕ) → (is_kept b || b == 46) ≡ true → IsClean b
-name_kept b e = or_either (is_kept b) (b == 46) (IsClean b) e (kept_clean b) (λ f. subst IsClean (sym (eqb-true b 46 f)) (record { no_space = refl; no_semicolon = refl; ascii = omega arith }))
+name_kept b e = or_either (is_kept b) (b == 46) (IsClean b) e (kept_clean b)
+    (λ f. subst IsClean (sym (eqb-true b 46 f)) (record { no_space = refl; no_semicolon = refl; ascii = omega arith }))
 
 pub name_clean : (b : ℕ) → IsClean (name_byte b)
 unfolding name_byte
@@ -103,7 +107,11 @@ pub clean_point : IsClean 46
 clean_point = record { no_space = refl; no_semicolon = refl; ascii = omega arith }
 
 number_clean : (b : ℕ) → IsNumberByte b → IsClean b
-number_clean b is = record { no_space = ne_eqb b 32 (λ e. absurd (omega (arith, is.0))); no_semicolon = ne_eqb b 59 (λ e. absurd (omega (arith, is.1))); ascii = omega (arith, is.1) }
+number_clean b is = record {
+  no_space = ne_eqb b 32 (λ e. absurd (omega (arith, is.0)));
+  no_semicolon = ne_eqb b 59 (λ e. absurd (omega (arith, is.1)));
+  ascii = omega (arith, is.1);
+}
 
 pub clean_number : (bs : List ℕ) → AllByRecursion IsNumberByte bs → AreClean bs
 clean_number [] h = tt

@@ -12,7 +12,8 @@ unfolding path_of
 path_some text path e =
     let segments = bind_ok (segments_of (first_part 59 text).0) _ path e in
     let tags = bind_ok (pairs_of 59 (first_part 59 text).1) _ path segments.2 in
-    let all = each_all segment (λ (t : List ℕ). 0 < length t) segment_some (parts_of 46 (0, (first_part 59 text).0)) segments.0 segments.1 in
+    let all = each_all segment (λ (t : List ℕ). 0 < length t) segment_some (parts_of 46 (0, (first_part 59 text).0))
+    segments.0 segments.1 in
     subst IsPath (same_ok {F = ShapeFault} (record { segments = segments.0; tags = tags.0 }) path tags.2)
     (record {
       some = omega (arith, all.1, parts_some 46 0 (first_part 59 text).0);

@@ -7,7 +7,8 @@ use Rattle.graphite_text.specs.declared.fault.GraphiteFault.{GraphiteFault}
 use Rattle.graphite_text.specs.Reading.{reading}
 use Rattle.graphite_text.specs.Grammar.{SaysAtMost, most_said}
 
-one_at_most : (r : Result (Option Content) GraphiteFault) → IfOk r (λ metric. length (option_to_list metric) ≤ most_said)
+one_at_most : (r : Result (Option Content) GraphiteFault) → IfOk r
+    (λ metric. length (option_to_list metric) ≤ most_said)
 one_at_most (Ok None) = omega arith
 one_at_most (Ok (Some metric)) = omega arith
 one_at_most (Err fault) = tt

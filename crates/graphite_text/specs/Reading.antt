@@ -25,9 +25,9 @@ use Rattle.graphite_text.specs.Path.{Path, path_of}
 use Rattle.format_words.specs.Template.{Shape}
 use Rattle.graphite_text.specs.Applied.{used, name_of, key_of, tags_of}
 
--- a fault at a place
+-- a fault at an offset
 abbrev pub fault : {A : Type 0} → GraphiteKind → ℕ → Result A GraphiteFault
-fault kind place = Err (record { kind = kind; place = place })
+fault kind offset = Err (record { kind = kind; offset = offset })
 
 -- ---- the words of a line
 
@@ -61,11 +61,11 @@ abbrev pub or_bad_path : Result Path ShapeFault → Result Path GraphiteFault
 or_bad_path (Ok path) = Ok path
 or_bad_path (Err Malformed) = fault BadPath 0
 
--- a number that begins at a place, and the kind of fault where a text is none
+-- a number that begins at an offset, and the kind of fault where a text is none
 abbrev pub number_at : GraphiteKind → ℕ → Result ℤ NumFault → Result ℤ GraphiteFault
-number_at kind place (Ok number) = Ok number
-number_at kind place (Err numbers.NotANumber) = fault kind place
-number_at kind place (Err numbers.NumberRange) = fault NumberRange place
+number_at kind offset (Ok number) = Ok number
+number_at kind offset (Err numbers.NotANumber) = fault kind offset
+number_at kind offset (Err numbers.NumberRange) = fault NumberRange offset
 
 abbrev pub value_of : PartAt → Result ℤ GraphiteFault
 value_of part = number_at BadValue part.0 (read_as part.1)
@@ -82,10 +82,10 @@ is_minus_one (negsuc n) = n == 999999999
 
 -- the time of so many nanoseconds; -1 s stands for the moment
 abbrev pub moment_of : ℕ → ℤ → ℤ → Result ℤ GraphiteFault
-moment_of place moment nanoseconds =
+moment_of offset moment nanoseconds =
     if is_minus_one nanoseconds then Ok moment
     else if is_moment nanoseconds then Ok nanoseconds
-    else fault NumberRange place
+    else fault NumberRange offset
 
 -- the billionths of a number of seconds are its nanoseconds; without a time it is the moment
 unfoldable pub time_of : ℤ → Option PartAt → Result ℤ GraphiteFault

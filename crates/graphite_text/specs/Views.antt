@@ -22,4 +22,4 @@ line_view line = record {
 -- the result is the reading, or memory ran out
 abbrev pub Answers : Result (Option Content) GraphiteFault → Result (Option Content) GraphiteFault → Type 0
 Answers (Ok metric) reading = reading ≡ Ok metric
-Answers (Err e) reading = (e ≡ record { kind = kinds.OutOfMemory; place = 0 }) ⊎ (reading ≡ Err e)
+Answers (Err e) reading = (e ≡ record { kind = kinds.OutOfMemory; offset = 0 }) ⊎ (reading ≡ Err e)

@@ -31,18 +31,18 @@ pub struct GraphiteFault {
     pub kind: GraphiteKind,
     /// An index into the piece: the first byte of the value or of the time at fault, or the end of the
     /// longest valid front for `NotUtf8`; else 0.
-    pub place: usize,
+    pub offset: usize,
 }
 
 /// What is answered where no memory was left.
 pub(crate) const NO_MEMORY: GraphiteFault = GraphiteFault {
     kind: GraphiteKind::OutOfMemory,
-    place: 0,
+    offset: 0,
 };
 
-/// A fault at a place.
-pub(crate) fn fault(kind: GraphiteKind, place: usize) -> ReadError<GraphiteFault>
-    ensures { result ≡ ReadError.Fault (record { kind = kind; place = place }) }
+/// A fault at an offset.
+pub(crate) fn fault(kind: GraphiteKind, offset: usize) -> ReadError<GraphiteFault>
+    ensures { result ≡ ReadError.Fault (record { kind = kind; offset = offset }) }
 {
-    ReadError::Fault(GraphiteFault { kind, place })
+    ReadError::Fault(GraphiteFault { kind, offset })
 }

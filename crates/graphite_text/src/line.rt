@@ -52,7 +52,7 @@ pub(crate) fn line_of(piece: &str) -> Result<Option<Line<'_>>, ReadError<Graphit
     ensures { Gives (option_map line_view) result (line_of (words_of (0, piece.now))) }
 {
     let mut words = Words::of(Placed {
-        place: 0,
+        offset: 0,
         text: piece,
     });
     match words.next() {

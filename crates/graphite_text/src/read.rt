@@ -32,12 +32,12 @@ fn read_path(alloc: Global, text: &str) -> Result<Path<'_>, ReadError<GraphiteFa
 
 /// The number that a part is, and the kind of fault where it is none.
 fn number_at(kind: GraphiteKind, part: &Placed) -> Result<Fixed, ReadError<GraphiteFault>>
-    ensures { Gives (λ x. x) result (number_at kind part.now.place (read_as part.now.text.now)) }
+    ensures { Gives (λ x. x) result (number_at kind part.now.offset (read_as part.now.text.now)) }
 {
     match Fixed::read(part.text.as_bytes()) {
         Ok(number) => Ok(number),
-        Err(NumFault::NotANumber) => Err(fault(kind, part.place)),
-        Err(NumFault::NumberRange) => Err(fault(GraphiteKind::NumberRange, part.place)),
+        Err(NumFault::NotANumber) => Err(fault(kind, part.offset)),
+        Err(NumFault::NumberRange) => Err(fault(GraphiteKind::NumberRange, part.offset)),
     }
 }
 
@@ -57,17 +57,17 @@ fn is_moment(nanoseconds: i128) -> bool
 
 /// The time of so many nanoseconds.
 fn moment_of(
-    place: usize,
+    offset: usize,
     moment: Moment,
     nanoseconds: i128,
 ) -> Result<Moment, ReadError<GraphiteFault>>
-    ensures { Gives (λ x. x) result (moment_of place moment nanoseconds) }
+    ensures { Gives (λ x. x) result (moment_of offset moment nanoseconds) }
 {
     if is_minus_one(nanoseconds) {
         return Ok(moment);
     }
     if !is_moment(nanoseconds) {
-        return Err(fault(GraphiteKind::NumberRange, place));
+        return Err(fault(GraphiteKind::NumberRange, offset));
     }
     Ok(nanoseconds as i64)
 }
@@ -80,7 +80,7 @@ fn time_of(moment: Moment, time: &Option<Placed>) -> Result<Moment, ReadError<Gr
     match time {
         Some(part) => {
             let number = number_at(GraphiteKind::BadTime, part)?;
-            moment_of(part.place, moment, number.billionths())
+            moment_of(part.offset, moment, number.billionths())
         }
         None => Ok(moment),
     }
@@ -133,7 +133,7 @@ fn read_piece(
 {
     match utf8_text(piece) {
         Ok(text) => read_text(alloc, templates, separator, text, moment),
-        Err(place) => Err(fault(GraphiteKind::NotUtf8, place)),
+        Err(offset) => Err(fault(GraphiteKind::NotUtf8, offset)),
     }
 }
 
@@ -143,7 +143,7 @@ fn read_piece(
 /// measurement. What is collected for one thing is joined by the separator. The metric has one field. None
 /// where the piece has no word. Without a time, or with one that is -1, its time is the moment. `NotUtf8`
 /// comes before all else; then the first fault of the number of words, of the path, of the value, of the time
-/// and of the number of tags counts, with its place. `OutOfMemory`, at place 0, may come in place of any
+/// and of the number of tags counts, with its offset. `OutOfMemory`, at offset 0, may come in place of any
 /// answer.
 pub fn read_line(
     alloc: Global,

@@ -22,7 +22,8 @@ entries_text-append known (x ∷ es) more =
     ap (λ (t : List ℕ). first ++ t) (entries_text-append (known ++ named_by x) es more)
     ∙ ap (λ (all : List Content). first ++ (entries_text (known ++ named_by x) es ++ entries_text all more))
     (append_assoc known (named_by x) (items es))
-    ∙ sym (append_assoc first (entries_text (known ++ named_by x) es) (entries_text (known ++ (named_by x ++ items es)) more))
+    ∙ sym (append_assoc first (entries_text (known ++ named_by x) es)
+    (entries_text (known ++ (named_by x ++ items es)) more))
 
 pub fronts_stay : FrontsStay
 fronts_stay front rest = entries_text-append [] front rest

@@ -42,7 +42,8 @@ front_plain b bs plain front =
 front_other : (b : ℕ) (bs : List ℕ) → is_plain b ≡ false → IsFront (b ∷ bs)
 front_other b bs other = record {
   is = rw other refl;
-  other = λ c others e. let same : b ∷ bs ≡ c ∷ others = rw other at e in ap is_plain (sym (ap (λ l. get_or l 0 0) same)) ∙ other;
+  other = λ c others e. let same : b ∷ bs ≡ c ∷ others = rw other at e in
+      ap is_plain (sym (ap (λ l. get_or l 0 0) same)) ∙ other;
 }
 
 never : (c : ℕ) (others : List ℕ) → [] ≡ c ∷ others → is_plain c ≡ false
@@ -51,7 +52,8 @@ never c others e = absurd (cc)
 front : (bytes : List ℕ) → IsFront bytes
 unfolding escaped
 front [] = record { is = refl; other = never }
-front (b ∷ bs) = elim (is_plain b) as (λ t. is_plain b ≡ t → IsFront (b ∷ bs)) [ true ↦ λ plain. front_plain b bs plain (front bs) | false ↦ λ no. front_other b bs no ] refl
+front (b ∷ bs) = elim (is_plain b) as (λ t. is_plain b ≡ t → IsFront (b ∷ bs))
+    [ true ↦ λ plain. front_plain b bs plain (front bs) | false ↦ λ no. front_other b bs no ] refl
 
 -- bytes cut behind their plain front
 pub record IsCut (bytes : List ℕ) (n : ℕ) (first behind : List ℕ) : Type 0 where
@@ -84,7 +86,8 @@ pub escaped_end : {bytes : List ℕ} {n : ℕ} {first behind : List ℕ} → IsC
     length behind ≡ 0 → (out new all : List ℕ) → out ++ escaped bytes ≡ all → new ≡ out ++ first → new ≡ all
 unfolding escaped
 escaped_end {bytes = bytes} {first = first} {behind = behind} cut none out new all before then =
-    then ∙ ap (λ t. out ++ t) (sym (append-nil first) ∙ ap (λ t. first ++ escaped t) (sym (nil_from_length behind none)) ∙ parts_are cut) ∙ before
+    then ∙ ap (λ t. out ++ t) (sym (append-nil first) ∙ ap (λ t. first ++ escaped t) (sym (nil_from_length behind none))
+    ∙ parts_are cut) ∙ before
 
 -- plain bytes, and one that is escaped
 pub escaped_more : {bytes : List ℕ} {n : ℕ} {first behind : List ℕ} → IsCut bytes n first behind →

@@ -1,5 +1,6 @@
 -- A journal's text so far, entry by entry.
-use Rattle.std.proofs.Common.{◌≡◌, ◌≤◌, ◌<◌, ◌+◌, ℕ, zero, suc, List, [], ◌∷◌, ◌++◌, length, drop, refl, sym, ap, ◌∙◌, arith, append-nil, ◌==◌, false, take, get_or, subst, append_assoc}
+use Rattle.std.proofs.Common.{◌≡◌, ◌≤◌, ◌<◌, ◌+◌, ℕ, zero, suc, List, [], ◌∷◌, ◌++◌, length, drop, refl, sym, ap, ◌∙◌}
+use Rattle.std.proofs.Common.{arith, append-nil, ◌==◌, false, take, get_or, subst, append_assoc}
 use Rattle.std.specs.List.{slice_get}
 use Rattle.std.specs.Option.{option_to_list}
 use Rattle.metric.specs.declared.metric.Content.{Content}
@@ -18,7 +19,8 @@ use Rattle.journal_text.specs.SoFar.{text_so_far, noted_text, front_text, IsSpel
 use Rattle.account.proofs.RouteLemmas.{order_after, in_order-push, unrouted-push, next_of, alone}
 
 -- the first of those that a drop leaves is the one at its place
-first_left : {X : Type 0} (all item rest : List X) (n : ℕ) → length item ≡ 1 → drop n all ≡ item ++ rest → item ≡ option_to_list (slice_get all n)
+first_left : {X : Type 0} (all item rest : List X) (n : ℕ) → length item ≡ 1 → drop n all ≡ item ++ rest
+    → item ≡ option_to_list (slice_get all n)
 first_left [] [] rest n l e = absurd (omega (arith, l))
 first_left (x ∷ all) [] rest n l e = absurd (omega (arith, l))
 first_left [] (y ∷ item) rest zero l e = absurd (let h : [] ≡ y ∷ (item ++ rest) = e in cc)
@@ -32,12 +34,15 @@ none_of [] l = refl
 none_of (x ∷ xs) l = absurd (omega (arith, l))
 
 -- the item at hand is that of the entry
-pub item_is : (all item rest : List Content) (routed known : ℕ) (e : Entry) → IsNextRoute routed known e → HasItem item e → drop routed all ++ named_by e ≡ item ++ rest → item ≡ item_of all e
-item_is all item rest routed known (Gather input moment pieces refused passed filtered metrics group reports) h i e = none_of item i
+pub item_is : (all item rest : List Content) (routed known : ℕ) (e : Entry) → IsNextRoute routed known e
+    → HasItem item e → drop routed all ++ named_by e ≡ item ++ rest → item ≡ item_of all e
+item_is all item rest routed known (Gather input moment pieces refused passed filtered metrics group reports) h i e =
+    none_of item i
 item_is all item rest routed known (Ended input) h i e = none_of item i
 item_is all item rest routed known (Take taken) h i e = none_of item i
 item_is all item rest routed known (Route number whole verdict aggs outs reports) h i e =
-    first_left all item rest routed i (sym (append-nil (drop routed all)) ∙ e) ∙ ap (λ (n : ℕ). option_to_list (slice_get all n)) (sym h.0)
+    first_left all item rest routed i (sym (append-nil (drop routed all)) ∙ e)
+    ∙ ap (λ (n : ℕ). option_to_list (slice_get all n)) (sym h.0)
 item_is all item rest routed known (Tick moment made) h i e = none_of item i
 item_is all item rest routed known (Stop moment made) h i e = none_of item i
 item_is all item rest routed known (Begin output from to) h i e = none_of item i
@@ -62,14 +67,20 @@ unfolding entries_text
 no_entries known = refl
 
 -- one entry, where its item is at hand
-pub spells_entry : (e : Entry) (item kept left : List Content) (text new_text : List ℕ) → HasItem item e → kept ++ named_by e ≡ item ++ left → new_text ≡ text ++ entry_text item e → SpellsOn (e ∷ []) kept left text new_text
+pub spells_entry : (e : Entry) (item kept left : List Content) (text new_text : List ℕ) → HasItem item e
+    → kept ++ named_by e ≡ item ++ left → new_text ≡ text ++ entry_text item e
+    → SpellsOn (e ∷ []) kept left text new_text
 spells_entry e item kept left text new_text has rest is journal kept_is order more =
     let next = (next_of (routes journal) (length (items journal)) e [] more).0 in
-    let at_hand : unrouted_items journal ++ named_by e ≡ item ++ left = ap (λ (xs : List Content). xs ++ named_by e) (sym kept_is) ∙ rest in
-    let known : item ≡ item_of (items journal) e = item_is (items journal) item left (routes journal) (length (items journal)) e next has at_hand in
+    let at_hand : unrouted_items journal ++ named_by e ≡ item ++ left =
+    ap (λ (xs : List Content). xs ++ named_by e) (sym kept_is) ∙ rest in
+    let known : item ≡ item_of (items journal) e = item_is (items journal) item left (routes journal)
+    (length (items journal)) e next has at_hand in
     record {
-      left_are = sym (drop_at item left (routes_by e) (has_length item e has)) ∙ ap (drop (routes_by e)) (sym at_hand) ∙ sym (unrouted-push journal e order);
-      spelled = is ∙ ap (λ (i : List Content). text ++ entry_text i e) known ∙ ap (λ (t : List ℕ). text ++ t) (sym (one_entry (items journal) e));
+      left_are = sym (drop_at item left (routes_by e) (has_length item e has)) ∙ ap (drop (routes_by e)) (sym at_hand)
+          ∙ sym (unrouted-push journal e order);
+      spelled = is ∙ ap (λ (i : List Content). text ++ entry_text i e) known
+          ∙ ap (λ (t : List ℕ). text ++ t) (sym (one_entry (items journal) e));
       in_order = in_order-push journal e order next;
     }
 
@@ -77,9 +88,11 @@ spells_entry e item kept left text new_text has rest is journal kept_is order mo
 abbrev pub SpellsFirst : ℕ → List Entry → List Content → List Content → List ℕ → List ℕ → Type 0
 SpellsFirst n entries kept left text new_text =
     (journal : List Entry) → kept ≡ unrouted_items journal → RoutesInOrder 0 0 journal → RouteOnInOrder journal entries
-    → IsSpelled journal (take n entries) left text new_text × RouteOnInOrder (journal ++ take n entries) (drop n entries)
+    → IsSpelled journal (take n entries) left text new_text × RouteOnInOrder (journal ++ take n entries)
+    (drop n entries)
 
-pub spells_no_more : (entries : List Entry) (kept : List Content) (text : List ℕ) → SpellsFirst 0 entries kept kept text text
+pub spells_no_more : (entries : List Entry) (kept : List Content) (text : List ℕ)
+    → SpellsFirst 0 entries kept kept text text
 spells_no_more entries kept text journal kept_is order more = (
   record {
     left_are = kept_is ∙ ap unrouted_items (sym (append-nil journal));
@@ -92,42 +105,58 @@ spells_no_more entries kept text journal kept_is order more = (
 items-append : (es more : List Entry) → items (es ++ more) ≡ items es ++ items more
 unfolding items
 items-append [] more = refl
-items-append (e ∷ es) more = ap (λ (xs : List Content). named_by e ++ xs) (items-append es more) ∙ sym (append_assoc (named_by e) (items es) (items more))
+items-append (e ∷ es) more = ap (λ (xs : List Content). named_by e ++ xs) (items-append es more)
+    ∙ sym (append_assoc (named_by e) (items es) (items more))
 
 -- entries behind others, which know what those named
-pub text_behind : (journal es more : List Entry) → entries_text (items journal) (es ++ more) ≡ entries_text (items journal) es ++ entries_text (items (journal ++ es)) more
+pub text_behind : (journal es more : List Entry) → entries_text (items journal) (es ++ more) ≡ entries_text
+    (items journal) es ++ entries_text (items (journal ++ es)) more
 text_behind journal es more =
-    entries_text-append (items journal) es more ∙ ap (λ (known : List Content). entries_text (items journal) es ++ entries_text known more) (sym (items-append journal es))
+    entries_text-append (items journal) es more ∙ ap (λ (known : List Content). entries_text (items journal) es
+    ++ entries_text known more) (sym (items-append journal es))
 
-pub spells_more : (n : ℕ) (entries : List Entry) (e : Entry) (kept mid left : List Content) (text mid_text new_text : List ℕ) → n < length entries → e ≡ get_or entries n e → SpellsFirst n entries kept mid text mid_text → SpellsOn (e ∷ []) mid left mid_text new_text
+pub spells_more : (n : ℕ) (entries : List Entry) (e : Entry) (kept mid left : List Content)
+    (text mid_text new_text : List ℕ) → n < length entries → e ≡ get_or entries n e
+    → SpellsFirst n entries kept mid text mid_text → SpellsOn (e ∷ []) mid left mid_text new_text
     → SpellsFirst (n + 1) entries kept left text new_text
 spells_more n entries e kept mid left text mid_text new_text l is first one journal kept_is order more =
     let so = first journal kept_is order more in
     let front : List Entry = journal ++ take n entries in
-    let split : drop n entries ≡ e ∷ drop (n + 1) entries = drop_more entries n e l ∙ ap (λ (x : Entry). x ∷ drop (n + 1) entries) (sym is) in
-    let next = next_of (routes front) (length (items front)) e (drop (n + 1) entries) (subst (λ (es : List Entry). RouteOnInOrder front es) split so.1) in
-    let behind : take n entries ++ e ∷ [] ≡ take (n + 1) entries = ap (λ (x : Entry). take n entries ++ x ∷ []) is ∙ sym (take_more entries n e l) in
-    let grown : front ++ e ∷ [] ≡ journal ++ take (n + 1) entries = append_assoc journal (take n entries) (e ∷ []) ∙ ap (λ (es : List Entry). journal ++ es) behind in
+    let split : drop n entries ≡ e ∷ drop (n + 1) entries = drop_more entries n e l
+    ∙ ap (λ (x : Entry). x ∷ drop (n + 1) entries) (sym is) in
+    let next = next_of (routes front) (length (items front)) e (drop (n + 1) entries)
+    (subst (λ (es : List Entry). RouteOnInOrder front es) split so.1) in
+    let behind : take n entries ++ e ∷ [] ≡ take (n + 1) entries =
+    ap (λ (x : Entry). take n entries ++ x ∷ []) is ∙ sym (take_more entries n e l) in
+    let grown : front ++ e ∷ [] ≡ journal ++ take (n + 1) entries =
+    append_assoc journal (take n entries) (e ∷ []) ∙ ap (λ (es : List Entry). journal ++ es) behind in
     let last = one front so.0.left_are so.0.in_order (alone (routes front) (length (items front)) e next.0) in (
       record {
         left_are = last.left_are ∙ ap unrouted_items grown;
         spelled = last.spelled ∙ ap (λ (t : List ℕ). t ++ entries_text (items front) (e ∷ [])) so.0.spelled
             ∙ append_assoc text (entries_text (items journal) (take n entries)) (entries_text (items front) (e ∷ []))
-            ∙ ap (λ (t : List ℕ). text ++ t) (sym (text_behind journal (take n entries) (e ∷ [])) ∙ ap (entries_text (items journal)) behind);
+            ∙ ap (λ (t : List ℕ). text ++ t) (sym (text_behind journal (take n entries) (e ∷ []))
+            ∙ ap (entries_text (items journal)) behind);
         in_order = subst (RoutesInOrder 0 0) grown last.in_order;
       },
-      subst (λ (p : List Entry). RouteOnInOrder p (drop (n + 1) entries)) grown (order_after front e (drop (n + 1) entries) next.1),
+      subst (λ (p : List Entry). RouteOnInOrder p (drop (n + 1) entries)) grown
+          (order_after front e (drop (n + 1) entries) next.1),
     )
 
-pub spells_all : (n : ℕ) (entries : List Entry) (kept left : List Content) (text new_text : List ℕ) → length entries ≤ n → SpellsFirst n entries kept left text new_text → SpellsOn entries kept left text new_text
+pub spells_all : (n : ℕ) (entries : List Entry) (kept left : List Content) (text new_text : List ℕ) → length entries ≤ n
+    → SpellsFirst n entries kept left text new_text → SpellsOn entries kept left text new_text
 spells_all n entries kept left text new_text l first journal kept_is order more =
-    subst (λ (es : List Entry). IsSpelled journal es left text new_text) (take_all n entries l) (first journal kept_is order more).0
+    subst (λ (es : List Entry). IsSpelled journal es left text new_text) (take_all n entries l)
+    (first journal kept_is order more).0
 
 -- the text so far with entries behind it
-pub so_far_more : (setup : JournalSetup) (journal entries : List Entry) → text_so_far setup (journal ++ entries) ≡ text_so_far setup journal ++ entries_text (items journal) entries
-so_far_more setup journal entries = ap (λ (t : List ℕ). setup_text setup ++ t) (all journal) ∙ sym (append_assoc (setup_text setup) (entries_text [] journal) (entries_text (items journal) entries))
+pub so_far_more : (setup : JournalSetup) (journal entries : List Entry)
+    → text_so_far setup (journal ++ entries) ≡ text_so_far setup journal ++ entries_text (items journal) entries
+so_far_more setup journal entries = ap (λ (t : List ℕ). setup_text setup ++ t) (all journal)
+    ∙ sym (append_assoc (setup_text setup) (entries_text [] journal) (entries_text (items journal) entries))
   where
-    all : (journal : List Entry) → entries_text [] (journal ++ entries) ≡ entries_text [] journal ++ entries_text (items journal) entries
+    all : (journal : List Entry) → entries_text [] (journal ++ entries) ≡ entries_text [] journal
+        ++ entries_text (items journal) entries
     all journal = entries_text-append [] journal entries
 
 none_known : items [] ≡ []
@@ -135,7 +164,9 @@ unfolding items
 none_known = refl
 
 -- what was put, the front of the next part, and its entries are the text so far then
-pub part_text : (setup : JournalSetup) (count : ℕ) (journal entries : List Entry) → count ≡ length journal → noted_text setup journal ++ (front_text setup count ++ entries_text (items journal) entries) ≡ text_so_far setup (journal ++ entries)
+pub part_text : (setup : JournalSetup) (count : ℕ) (journal entries : List Entry) → count ≡ length journal
+    → noted_text setup journal ++ (front_text setup count ++ entries_text (items journal) entries) ≡ text_so_far setup
+    (journal ++ entries)
 part_text setup count [] entries none = rw (none, none_known) refl
 part_text setup zero (e ∷ journal) entries some = absurd (omega (arith, some))
 part_text setup (suc n) (e ∷ journal) entries some =
@@ -143,7 +174,8 @@ part_text setup (suc n) (e ∷ journal) entries some =
     rw later (sym (so_far_more setup (e ∷ journal) entries))
 
 -- some entries: the text so far is what is put
-pub noted_some : (setup : JournalSetup) (journal entries : List Entry) → length entries ≢ 0 → noted_text setup (journal ++ entries) ≡ text_so_far setup (journal ++ entries)
+pub noted_some : (setup : JournalSetup) (journal entries : List Entry) → length entries ≢ 0
+    → noted_text setup (journal ++ entries) ≡ text_so_far setup (journal ++ entries)
 noted_some setup [] [] some = absurd (some refl)
 noted_some setup [] (e ∷ entries) some = refl
 noted_some setup (x ∷ journal) entries some = refl

@@ -32,7 +32,8 @@ ends_before k b rest e none = (e, no_escape k b rest none)
 
 pub escaped-IsUtf8 : (marks : List ℕ) → ((b : ℕ) → is_mark marks b ≡ true → b < 128) → (text : List ℕ) → IsUtf8 text
     → IsUtf8 (escaped (as_written marks) text)
-escaped-IsUtf8 marks low text u = escaped_utf8 (as_written marks) (record { marks = low; written = λ b small. small }) text u
+escaped-IsUtf8 marks low text u = escaped_utf8 (as_written marks) (record { marks = low; written = λ b small. small })
+    text u
 
 -- ---- the kinds of a line's parts
 
@@ -72,8 +73,10 @@ once_more false false = refl
 
 pub name_same : (text : List ℕ) → escaped (escapes_of NAME_MARKS) text ≡ escaped name_escapes text
 name_same text =
-    let same : (b : ℕ) → is_mark_of NAME_MARKS b ≡ is_mark (codes ", ") b = λ b. once_more (b == 44) (b == 32) ∙ sym (name_marks b) in
-    escaped-same (escapes_of NAME_MARKS) name_escapes same (λ b is. written_as_it_is NAME_MARKS refl b (same b ∙ is)) text
+    let same : (b : ℕ) → is_mark_of NAME_MARKS b ≡ is_mark (codes ", ") b =
+    λ b. once_more (b == 44) (b == 32) ∙ sym (name_marks b) in
+    escaped-same (escapes_of NAME_MARKS) name_escapes same (λ b is. written_as_it_is NAME_MARKS refl b (same b ∙ is))
+    text
 
 pub key_same : (text : List ℕ) → escaped (escapes_of KEY_MARKS) text ≡ escaped key_escapes text
 key_same text =
@@ -82,8 +85,10 @@ key_same text =
 
 pub text_same : (text : List ℕ) → escaped (escapes_of TEXT_MARKS) text ≡ escaped text_escapes text
 text_same text =
-    let same : (b : ℕ) → is_mark_of TEXT_MARKS b ≡ is_mark (codes "\"\\") b = λ b. once_more (b == 34) (b == 92) ∙ sym (text_marks b) in
-    escaped-same (escapes_of TEXT_MARKS) text_escapes same (λ b is. written_as_it_is TEXT_MARKS refl b (same b ∙ is)) text
+    let same : (b : ℕ) → is_mark_of TEXT_MARKS b ≡ is_mark (codes "\"\\") b =
+    λ b. once_more (b == 34) (b == 92) ∙ sym (text_marks b) in
+    escaped-same (escapes_of TEXT_MARKS) text_escapes same (λ b is. written_as_it_is TEXT_MARKS refl b (same b ∙ is))
+    text
 
 turned_key : (x y z : Bool) → ((y || x) || z) ≡ true → ((x || y) || z) ≡ true
 turned_key true y z e = refl
@@ -136,7 +141,11 @@ either true y e = inl refl
 either false y e = inr e
 
 low_two : (b x y : ℕ) → x < 128 → y < 128 → (b == x || b == y) ≡ true → b < 128
-low_two b x y lx ly e = elim (either (b == x) (b == y) e) [ inl w ↦ omega (arith, eqb-true b x w) | inr w ↦ omega (arith, eqb-true b y w) ]
+low_two b x y lx ly e =
+    elim (either (b == x) (b == y) e) [
+      | inl w ↦ omega (arith, eqb-true b x w)
+      | inr w ↦ omega (arith, eqb-true b y w)
+    ]
 
 pub name_low : (b : ℕ) → is_mark (codes ", ") b ≡ true → b < 128
 name_low b e = low_two b 44 32 (omega arith) (omega arith) (sym (name_marks b) ∙ e)

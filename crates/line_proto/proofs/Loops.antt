@@ -15,8 +15,10 @@ comma_within piece at e = elim (ltb at (length piece)) as (λ t. ltb at (length 
   | false ↦ λ ge. absurd (omega (arith, get_or_past piece at 0 (ltb-false at (length piece) ge), comma_is piece at e))
 ] refl
 
-pub comma_boundary : (piece : List ℕ) (at : ℕ) → IsUtf8 piece → eqb (get_or piece at 0) 44 ≡ true → IsCharBoundary piece (at + 1)
-comma_boundary piece at u e = IsCharBoundary-after_ascii piece at u (comma_within piece at e) (omega (arith, comma_is piece at e))
+pub comma_boundary : (piece : List ℕ) (at : ℕ) → IsUtf8 piece → eqb (get_or piece at 0) 44 ≡ true
+    → IsCharBoundary piece (at + 1)
+comma_boundary piece at u e = IsCharBoundary-after_ascii piece at u (comma_within piece at e)
+    (omega (arith, comma_is piece at e))
 
 pub no_comma : (piece : List ℕ) (at : ℕ) → eqb (get_or piece at 0) 44 ≡ false → get_or piece at 0 ≢ 44
 no_comma piece at e = eqb-false (get_or piece at 0) 44 e

@@ -1,5 +1,6 @@
 -- Bytes that pass no test.
-use Rattle.std.proofs.Common.{◌≡◌, ℕ, zero, suc, Bool, true, false, List, [], ◌∷◌, ◌++◌, get_or, reverse, refl, sym, subst, arith}
+use Rattle.std.proofs.Common.{◌≡◌, ℕ, zero, suc, Bool, true, false, List, [], ◌∷◌, ◌++◌, get_or, reverse, refl, sym}
+use Rattle.std.proofs.Common.{subst, arith}
 use Rattle.std.specs.Prelude.{◌||◌, ◌==◌, nat_lt}
 use Rattle.std.specs.List.{list_any, list_all, prefix_len}
 use Rattle.std.specs.Str.{IsUtf8, IsAscii}
@@ -21,7 +22,8 @@ none_at p (x ∷ xs) (suc k) past h = none_at p xs k past h.1
 
 none_reverse : (p : ℕ → Bool) (xs : List ℕ) → HasNone p xs → HasNone p (reverse xs)
 none_reverse p [] h = tt
-none_reverse p (x ∷ xs) h = subst (HasNone p) (sym (reverse-append (x ∷ []) xs)) (none_append p (reverse xs) (x ∷ []) (none_reverse p xs h.1) (h.0, tt))
+none_reverse p (x ∷ xs) h = subst (HasNone p) (sym (reverse-append (x ∷ []) xs))
+    (none_append p (reverse xs) (x ∷ []) (none_reverse p xs h.1) (h.0, tt))
 
 none_front : (p : ℕ → Bool) (xs : List ℕ) → HasNone p xs → prefix_len p xs ≡ 0
 none_front p [] h = refl
@@ -71,13 +73,17 @@ pub record Clean (text : List ℕ) : Type 0 where
   pub none : HasNone is_unclean text
 
 pub clean-append : (xs ys : List ℕ) → Clean xs → Clean ys → Clean (xs ++ ys)
-clean-append xs ys x y = record { utf8 = IsUtf8-append xs ys x.utf8 y.utf8; none = none_append is_unclean xs ys x.none y.none }
+clean-append xs ys x y = record {
+  utf8 = IsUtf8-append xs ys x.utf8 y.utf8;
+  none = none_append is_unclean xs ys x.none y.none;
+}
 
 pub clean_none : Clean []
 clean_none = record { utf8 = ([], (refl, refl)); none = tt }
 
 -- a word of ASCII that is given
-pub clean_word : (word : List ℕ) → list_all (λ b. nat_lt b 128) word ≡ true → list_any is_unclean word ≡ false → Clean word
+pub clean_word : (word : List ℕ) → list_all (λ b. nat_lt b 128) word ≡ true → list_any is_unclean word ≡ false
+    → Clean word
 clean_word word low none = record { utf8 = IsUtf8-from_ascii word (ascii word low); none = none_of word none }
   where
     ascii : (word : List ℕ) → list_all (λ b. nat_lt b 128) word ≡ true → IsAscii word
@@ -87,4 +93,5 @@ clean_word word low none = record { utf8 = IsUtf8-from_ascii word (ascii word lo
 
     none_of : (word : List ℕ) → list_any is_unclean word ≡ false → HasNone is_unclean word
     none_of [] none = tt
-    none_of (b ∷ bs) none = let parts = or_parts (is_unclean b) (list_any is_unclean bs) none in (parts.0, none_of bs parts.1)
+    none_of (b ∷ bs) none = let parts = or_parts (is_unclean b) (list_any is_unclean bs) none in
+        (parts.0, none_of bs parts.1)

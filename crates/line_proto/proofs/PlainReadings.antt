@@ -13,7 +13,8 @@ use Rattle.fixed_num.specs.Whole.{int_read_as, uint_read_as}
 use Rattle.metric.specs.declared.value.Value.{Value}
 use Rattle.metric.specs.declared.value.Value.TheVariants as values
 use Rattle.metric.specs.declared.metric.Content.{Content}
-use Rattle.metric.specs.Pairs.{in_key_order, in_key_order_on, in_first_order, in_first_order_on, with_sorted, with_pair, with_values}
+use Rattle.metric.specs.Pairs.{in_key_order, in_key_order_on, in_first_order, in_first_order_on, with_sorted, with_pair}
+use Rattle.metric.specs.Pairs.{with_values}
 use Rattle.metric.proofs.MetricLemmas.{each_pair, each_sorted}
 use Rattle.text_parts.specs.Pairs.{pair_text, pairs_text, AllAre}
 use Rattle.metric.specs.Draft.{Tag, Field, has_too_many}
@@ -36,7 +37,8 @@ pub record IsPlainKind (k : Kind) : Type 0 where
   pub means : (b : ℕ) → k.means b ≡ b
   pub backslash : k.escapes 92 ≡ false
 
-none_meant : (k : Kind) → ((b : ℕ) → k.means b ≡ b) → (p : ℕ → Bool) (marks : List Mark) → HasNone p (spelled marks) → HasNone p (meant k marks)
+none_meant : (k : Kind) → ((b : ℕ) → k.means b ≡ b) → (p : ℕ → Bool) (marks : List Mark) → HasNone p (spelled marks)
+    → HasNone p (meant k marks)
 none_meant k means p [] h = tt
 none_meant k means p (Escaped c ∷ marks) h = (rw (means c) (h.1).0, none_meant k means p marks (h.1).1)
 none_meant k means p (Bare b ∷ marks) h = (h.0, none_meant k means p marks h.1)
@@ -52,7 +54,8 @@ no_backslash k none c e = ne_eqb c 92 (λ is. absurd (true_false (sym e ∙ ap k
     true_false : true ≡ false → ⊥
     true_false e = cc
 
-shown_bare : (k : Kind) (b : ℕ) (rest : List ℕ) → BeginsHidden k rest → is_escape k (b ∷ rest) ≡ false → (b == 92) ≡ false
+shown_bare : (k : Kind) (b : ℕ) (rest : List ℕ) → BeginsHidden k rest → is_escape k (b ∷ rest) ≡ false
+    → (b == 92) ≡ false
 shown_bare k b [] h e = absurd h
 shown_bare k b (c ∷ rest) h e = elim (b == 92) as (λ t. (t && k.escapes c) ≡ false → t ≡ false) [
   | true ↦ λ e. absurd (true_false (sym h ∙ e))
@@ -70,14 +73,18 @@ some_meant : (k : Kind) (u : Mark) (marks : List Mark) → 0 < length (meant k (
 some_meant k (Escaped c) marks = omega arith
 some_meant k (Bare b) marks = omega arith
 
-no_end : (k : Kind) → IsPlainKind k → (marks : List Mark) (rest : List ℕ) → IsPart k marks rest → BeginsHidden k rest → NoBackslashEnd (meant k marks)
+no_end : (k : Kind) → IsPlainKind k → (marks : List Mark) (rest : List ℕ) → IsPart k marks rest → BeginsHidden k rest
+    → NoBackslashEnd (meant k marks)
 no_end k plain [] rest h hidden = tt
 no_end k plain (Escaped c ∷ []) rest h hidden = rw (plain.means c) (no_backslash k plain.backslash c h.0)
 no_end k plain (Bare b ∷ []) rest h hidden = shown_bare k b rest hidden h.1
-no_end k plain (Escaped c ∷ u ∷ marks) rest h hidden = end_cons (k.means c) (meant k (u ∷ marks)) (some_meant k u marks) (no_end k plain (u ∷ marks) rest h.1 hidden)
-no_end k plain (Bare b ∷ u ∷ marks) rest h hidden = end_cons b (meant k (u ∷ marks)) (some_meant k u marks) (no_end k plain (u ∷ marks) rest h.2 hidden)
+no_end k plain (Escaped c ∷ u ∷ marks) rest h hidden = end_cons (k.means c) (meant k (u ∷ marks)) (some_meant k u marks)
+    (no_end k plain (u ∷ marks) rest h.1 hidden)
+no_end k plain (Bare b ∷ u ∷ marks) rest h hidden = end_cons b (meant k (u ∷ marks)) (some_meant k u marks)
+    (no_end k plain (u ∷ marks) rest h.2 hidden)
 
-plain_word : (k : Kind) → IsPlainKind k → (written rest text : List ℕ) → IsWritten k written rest text → HasNone ends_line written
+plain_word : (k : Kind) → IsPlainKind k → (written rest text : List ℕ) → IsWritten k written rest text
+    → HasNone ends_line written
     → BeginsHidden k rest → IsPlainWord text
 plain_word k plain written rest text is none hidden =
     let shown : HasNone ends_line (spelled is.marks) = subst (HasNone ends_line) is.is none in
@@ -99,7 +106,8 @@ hidden_spaces : (k : Kind) → k.escapes 32 ≡ true → (n : ℕ) (rest : List 
 hidden_spaces k e zero rest some = absurd (omega arith)
 hidden_spaces k e (suc n) rest some = e
 
-hidden_pairs : (k : Kind) → k.escapes 44 ≡ true → (ws : List (List ℕ × List ℕ)) (rest : List ℕ) → BeginsHidden k rest → BeginsHidden k (pairs_text ws ++ rest)
+hidden_pairs : (k : Kind) → k.escapes 44 ≡ true → (ws : List (List ℕ × List ℕ)) (rest : List ℕ) → BeginsHidden k rest
+    → BeginsHidden k (pairs_text ws ++ rest)
 hidden_pairs k e [] rest h = h
 hidden_pairs k e (w ∷ ws) rest h = e
 
@@ -114,7 +122,8 @@ PlainField field = IsPlainWord field.0 × IsPlainValue field.1
 pair_none : (w : List ℕ × List ℕ) → HasNone ends_line (pair_text w) → HasNone ends_line w.0 × HasNone ends_line w.1
 pair_none w h = let split = none_split ends_line w.0 (61 ∷ w.1) h in (split.0, (split.1).1)
 
-tags_plain : (ws : List (List ℕ × List ℕ)) (rest : List ℕ) (tags : List Tag) → AllAre IsTag ws rest tags → BeginsHidden tag_value_part rest
+tags_plain : (ws : List (List ℕ × List ℕ)) (rest : List ℕ) (tags : List Tag) → AllAre IsTag ws rest tags
+    → BeginsHidden tag_value_part rest
     → HasNone ends_line (pairs_text ws) → AllByRecursion PlainTag tags
 tags_plain [] rest [] are hidden none = tt
 tags_plain [] rest (tag ∷ tags) are hidden none = absurd are
@@ -124,27 +133,35 @@ tags_plain (w ∷ ws) rest (tag ∷ tags) are hidden none =
     let pair = pair_none w split.0 in (
       (
         plain_word key_part plain_key w.0 _ tag.0 (are.0).key pair.0 refl,
-        plain_word tag_value_part plain_tag_value w.1 (pairs_text ws ++ rest) tag.1 (are.0).value pair.1 (hidden_pairs tag_value_part refl ws rest hidden),
+        plain_word tag_value_part plain_tag_value w.1 (pairs_text ws ++ rest) tag.1 (are.0).value pair.1
+            (hidden_pairs tag_value_part refl ws rest hidden),
       ),
       tags_plain ws rest tags are.1 hidden split.1,
     )
 
-typed_plain : {A : Type 0} (make : A → Value) → ((x : A) → IsPlainValue (make x)) → (r : Result A NumFault) (v : Value) → typed make r ≡ Ok v → IsPlainValue v
+typed_plain : {A : Type 0} (make : A → Value) → ((x : A) → IsPlainValue (make x)) → (r : Result A NumFault) (v : Value)
+    → typed make r ≡ Ok v → IsPlainValue v
 typed_plain make plain (Ok x) v e = let same : make x ≡ v = cc in subst IsPlainValue same (plain x)
 typed_plain make plain (Err numbers.NotANumber) v e = absurd cc
 typed_plain make plain (Err numbers.NumberRange) v e = absurd cc
 
 number_plain : (text : List ℕ) (v : Value) → number_of text ≡ Ok v → IsPlainValue v
 unfolding number_of
-number_plain text v e = elim (last_byte text == 105) as (λ t. cond t (typed values.Int (int_read_as (before_last_byte text))) (cond (last_byte text == 117) (typed values.Uint (uint_read_as (before_last_byte text))) (typed values.Fixed (read_as text))) ≡ Ok v → IsPlainValue v) [
-  | true ↦ λ e. typed_plain values.Int (λ x. tt) (int_read_as (before_last_byte text)) v e
-  | false ↦ λ e. elim (last_byte text == 117) as (λ t. cond t (typed values.Uint (uint_read_as (before_last_byte text))) (typed values.Fixed (read_as text)) ≡ Ok v → IsPlainValue v) [
-    | true ↦ λ e. typed_plain values.Uint (λ x. tt) (uint_read_as (before_last_byte text)) v e
-    | false ↦ λ e. typed_plain values.Fixed (λ x. tt) (read_as text) v e
-  ] e
-] e
+number_plain text v e = elim (last_byte text == 105) as (λ t. cond t
+    (typed values.Int (int_read_as (before_last_byte text)))
+    (cond (last_byte text == 117) (typed values.Uint (uint_read_as (before_last_byte text)))
+    (typed values.Fixed (read_as text))) ≡ Ok v → IsPlainValue v) [
+      | true ↦ λ e. typed_plain values.Int (λ x. tt) (int_read_as (before_last_byte text)) v e
+      | false ↦ λ e. elim (last_byte text == 117) as (λ t. cond t
+          (typed values.Uint (uint_read_as (before_last_byte text)))
+          (typed values.Fixed (read_as text)) ≡ Ok v → IsPlainValue v) [
+            | true ↦ λ e. typed_plain values.Uint (λ x. tt) (uint_read_as (before_last_byte text)) v e
+            | false ↦ λ e. typed_plain values.Fixed (λ x. tt) (read_as text) v e
+          ] e
+    ] e
 
-from_plain : (truth : Option Bool) (number : Result Value LineKind) (v : Value) → (number ≡ Ok v → IsPlainValue v) → value_from truth number ≡ Ok v → IsPlainValue v
+from_plain : (truth : Option Bool) (number : Result Value LineKind) (v : Value) → (number ≡ Ok v → IsPlainValue v)
+    → value_from truth number ≡ Ok v → IsPlainValue v
 from_plain (Some b) number v h e = let same : values.«Bool» b ≡ v = cc in subst IsPlainValue same tt
 from_plain None number v h e = h e
 
@@ -156,7 +173,8 @@ value_plain w rest v (inl is) none =
     subst IsPlainValue is.says (none_meant text_part (λ b. refl) ends_line is.marks shown)
 value_plain w rest v (inr is) none = from_plain (truth_of w) (number_of w) v (number_plain w v) is.says
 
-fields_plain : (ws : List (List ℕ × List ℕ)) (rest : List ℕ) (fields : List Field) → AllAre IsField ws rest fields → HasNone ends_line (pairs_text ws)
+fields_plain : (ws : List (List ℕ × List ℕ)) (rest : List ℕ) (fields : List Field) → AllAre IsField ws rest fields
+    → HasNone ends_line (pairs_text ws)
     → AllByRecursion PlainField fields
 fields_plain [] rest [] are none = tt
 fields_plain [] rest (field ∷ fields) are none = absurd are
@@ -164,37 +182,46 @@ fields_plain (w ∷ ws) rest [] are none = absurd are
 fields_plain (w ∷ ws) rest (field ∷ fields) are none =
     let split = none_split ends_line (pair_text w) (pairs_text ws) none.1 in
     let pair = pair_none w split.0 in (
-      (plain_word key_part plain_key w.0 _ field.0 (are.0).key pair.0 refl, value_plain w.1 _ field.1 (are.0).value pair.1),
+      (
+        plain_word key_part plain_key w.0 _ field.0 (are.0).key pair.0 refl,
+        value_plain w.1 _ field.1 (are.0).value pair.1,
+      ),
       fields_plain ws rest fields are.1 split.1,
     )
 
 -- ---- what is kept of them
 
-kept_sorted : {X : Type 0} (P : List ℕ × X → Type 0) (kept given : List (List ℕ × X)) → AllByRecursion P kept → AllByRecursion P given
+kept_sorted : {X : Type 0} (P : List ℕ × X → Type 0) (kept given : List (List ℕ × X)) → AllByRecursion P kept
+    → AllByRecursion P given
     → AllByRecursion P (in_key_order_on kept given)
 unfolding in_key_order_on
 kept_sorted P kept [] h g = h
-kept_sorted P kept (pair ∷ given) h g = kept_sorted P (with_sorted kept pair.0 pair.1) given (each_sorted P kept pair.0 pair.1 g.0 h) g.1
+kept_sorted P kept (pair ∷ given) h g = kept_sorted P (with_sorted kept pair.0 pair.1) given
+    (each_sorted P kept pair.0 pair.1 g.0 h) g.1
 
-kept_first : {X : Type 0} (P : List ℕ × X → Type 0) (kept given : List (List ℕ × X)) → AllByRecursion P kept → AllByRecursion P given
+kept_first : {X : Type 0} (P : List ℕ × X → Type 0) (kept given : List (List ℕ × X)) → AllByRecursion P kept
+    → AllByRecursion P given
     → AllByRecursion P (in_first_order_on kept given)
 unfolding in_first_order_on
 kept_first P kept [] h g = h
-kept_first P kept (pair ∷ given) h g = kept_first P (with_pair kept pair.0 pair.1) given (each_pair P kept pair.0 pair.1 g.0 h) g.1
+kept_first P kept (pair ∷ given) h g = kept_first P (with_pair kept pair.0 pair.1) given
+    (each_pair P kept pair.0 pair.1 g.0 h) g.1
 
 valued : (P : Tag → Type 0) (tags : List Tag) → AllByRecursion P tags → AllByRecursion P (with_values tags)
 valued P [] h = tt
-valued P (tag ∷ tags) h = elim (length tag.1 == 0) as (λ t. AllByRecursion P (cond (not t) (tag ∷ with_values tags) (with_values tags))) [
-  | true ↦ valued P tags h.1
-  | false ↦ (h.0, valued P tags h.1)
-]
+valued P (tag ∷ tags) h = elim (length tag.1 == 0) as (λ t. AllByRecursion P
+    (cond (not t) (tag ∷ with_values tags) (with_values tags))) [
+      | true ↦ valued P tags h.1
+      | false ↦ (h.0, valued P tags h.1)
+    ]
 
 fewer : (tags : List Tag) → length (with_values tags) ≤ length tags
 fewer [] = omega arith
-fewer (tag ∷ tags) = elim (length tag.1 == 0) as (λ t. length (cond (not t) (tag ∷ with_values tags) (with_values tags)) ≤ length (tag ∷ tags)) [
-  | true ↦ (let h = fewer tags in omega arith)
-  | false ↦ (let h = fewer tags in omega arith)
-]
+fewer (tag ∷ tags) = elim (length tag.1 == 0) as (λ t. length (cond (not t) (tag ∷ with_values tags) (with_values tags))
+    ≤ length (tag ∷ tags)) [
+      | true ↦ (let h = fewer tags in omega arith)
+      | false ↦ (let h = fewer tags in omega arith)
+    ]
 
 -- ---- the line
 
@@ -208,7 +235,8 @@ no_hash c e = elim (either (c == 44) (c == 32) e) [
   | inr w ↦ let is : c ≡ 32 = eqb-true c 32 w in rw is refl
 ]
 
-marks_no_hash : (marks : List Mark) (rest : List ℕ) → IsPart name_part marks rest → NoHash (spelled marks) → NoHash (meant name_part marks)
+marks_no_hash : (marks : List Mark) (rest : List ℕ) → IsPart name_part marks rest → NoHash (spelled marks)
+    → NoHash (meant name_part marks)
 marks_no_hash [] rest part h = tt
 marks_no_hash (Escaped c ∷ marks) rest part h = no_hash c part.0
 marks_no_hash (Bare b ∷ marks) rest part h = h
@@ -219,25 +247,33 @@ line_plain w line moment is none few =
     let front = none_split ends_line (spaces w.before) (w.name ++ behind_name w) none in
     let named = none_split ends_line w.name (behind_name w) front.1 in
     let tagged = none_split ends_line (pairs_text w.tags) (behind_tags w) named.1 in
-    let spaced = none_split ends_line (spaces w.gap) (pair_text w.first ++ (pairs_text w.others ++ behind_fields w)) tagged.1 in
+    let spaced = none_split ends_line (spaces w.gap) (pair_text w.first ++ (pairs_text w.others ++ behind_fields w))
+    tagged.1 in
     let first = none_split ends_line (pair_text w.first) (pairs_text w.others ++ behind_fields w) spaced.1 in
     let others = none_split ends_line (pairs_text w.others) (behind_fields w) first.1 in
-    let pairs : HasNone ends_line (pairs_text (w.first ∷ w.others)) = (refl, none_append ends_line (pair_text w.first) (pairs_text w.others) first.0 others.0) in
+    let pairs : HasNone ends_line (pairs_text (w.first ∷ w.others)) =
+    (refl, none_append ends_line (pair_text w.first) (pairs_text w.others) first.0 others.0) in
     let gap : BeginsHidden tag_value_part (behind_tags w) = hidden_spaces tag_value_part refl w.gap _ is.gap in
-    let name_gap : BeginsHidden name_part (behind_name w) = hidden_pairs name_part refl w.tags (behind_tags w) (hidden_spaces name_part refl w.gap _ is.gap) in
+    let name_gap : BeginsHidden name_part (behind_name w) = hidden_pairs name_part refl w.tags (behind_tags w)
+    (hidden_spaces name_part refl w.gap _ is.gap) in
     let limits = or_parts _ _ few in
     let most_tags : length (in_key_order line.tags) ≤ 64 = ltb-false 64 (length (in_key_order line.tags)) limits.0 in
-    let most_fields : length (in_first_order line.fields) ≤ 256 = ltb-false 256 (length (in_first_order line.fields)) limits.1 in
+    let most_fields : length (in_first_order line.fields) ≤ 256 =
+    ltb-false 256 (length (in_first_order line.fields)) limits.1 in
     record {
       name = plain_word name_part plain_name w.name (behind_name w) line.name is.name named.0 name_gap;
-      no_comment = subst NoHash is.name.says (marks_no_hash is.name.marks (behind_name w) is.name.part (subst NoHash is.name.is is.no_comment));
-      tags = valued PlainTag (in_key_order line.tags) (kept_sorted PlainTag [] line.tags tt (tags_plain w.tags (behind_tags w) line.tags is.tags gap tagged.0));
+      no_comment = subst NoHash is.name.says (marks_no_hash is.name.marks (behind_name w) is.name.part
+          (subst NoHash is.name.is is.no_comment));
+      tags = valued PlainTag (in_key_order line.tags) (kept_sorted PlainTag [] line.tags tt
+          (tags_plain w.tags (behind_tags w) line.tags is.tags gap tagged.0));
       few_tags = omega (arith, most_tags, fewer (in_key_order line.tags));
-      fields = kept_first PlainField [] line.fields tt (fields_plain (w.first ∷ w.others) (behind_fields w) line.fields is.fields pairs);
+      fields = kept_first PlainField [] line.fields tt (fields_plain (w.first ∷ w.others)
+          (behind_fields w) line.fields is.fields pairs);
       few_fields = most_fields;
     }
 
-pub read_is_plain : (piece : List ℕ) (moment : ℤ) (content : Content) → HasNone ends_line piece → reading piece moment ≡ Ok (Some content) → IsPlain content
+pub read_is_plain : (piece : List ℕ) (moment : ℤ) (content : Content) → HasNone ends_line piece
+    → reading piece moment ≡ Ok (Some content) → IsPlain content
 read_is_plain piece moment content none e =
     let r = read_is_written piece moment content e in
     subst IsPlain (sym r.6) (line_plain r.0 r.1 moment r.4 (subst (HasNone ends_line) r.2 none) r.5)

@@ -1,5 +1,6 @@
 -- The line of a plain metric is read as the metric.
-use Rattle.std.proofs.Common.{◌≡◌, ◌<◌, ◌-◌, ℕ, ℤ, true, false, Bool, cond, List, [], ◌∷◌, ◌++◌, length, map, reverse, Some}
+use Rattle.std.proofs.Common.{◌≡◌, ◌<◌, ◌-◌, ℕ, ℤ, true, false, Bool, cond, List, [], ◌∷◌, ◌++◌, length, map, reverse}
+use Rattle.std.proofs.Common.{Some}
 use Rattle.std.proofs.Common.{Ok, refl, sym, ap, subst, ◌∙◌, arith, append_assoc, inl, inr, get_or, ◌+◌}
 use Rattle.std.specs.Prelude.{codes, ◌==◌, ◌||◌, ◌⊎◌}
 use Rattle.std.specs.Fmt.{signed_decimal}
@@ -21,7 +22,8 @@ use Rattle.metric.specs.Draft.{Tag, Field}
 use Rattle.line_proto.specs.Kinds.{name_part, key_part, tag_value_part, text_part}
 use Rattle.line_proto.specs.Grammar.{NoHash, NoQuote, Written, line_spelling, IsTag, IsField}
 use Rattle.line_proto.specs.Grammar.{IsQuoted, IsUnquoted, IsLine}
-use Rattle.line_proto.specs.LineText.{on_one_line, trimmed, name_text, key_text, value_text, tag_text, field_text, name_escapes, key_escapes, text_escapes}
+use Rattle.line_proto.specs.LineText.{on_one_line, trimmed, name_text, key_text, value_text, tag_text, field_text}
+use Rattle.line_proto.specs.LineText.{name_escapes, key_escapes, text_escapes}
 use Rattle.text_parts.specs.Escaped.{escaped}
 use Rattle.line_proto.specs.LineText.{head_text, line_text}
 use Rattle.line_proto.specs.Reading.{Line, content_of, reading}
@@ -29,7 +31,8 @@ use Rattle.line_proto.specs.OneLine.{ends_line}
 use Rattle.text_parts.specs.Escaped.{Escapes, Suits, NoBackslashEnd}
 use Rattle.line_proto.specs.RoundTrip.{IsPlainWord, IsPlainValue, IsPlain}
 use Rattle.text_parts.proofs.Utf8.{one_ascii}
-use Rattle.line_proto.proofs.EscapedParts.{ends_before, escaped-IsUtf8, suits_name, suits_key, suits_tag_value, suits_text, name_low, key_low, text_low}
+use Rattle.line_proto.proofs.EscapedParts.{ends_before, escaped-IsUtf8, suits_name, suits_key, suits_tag_value}
+use Rattle.line_proto.proofs.EscapedParts.{suits_text, name_low, key_low, text_low}
 use Rattle.text_parts.proofs.Escaping.{escaped_is_part}
 use Rattle.metric.proofs.KeptPairs.{sorted_stay, distinct_stay, filled_stay, few}
 use Rattle.line_proto.proofs.NumberTexts.{plain_value, plain_time}
@@ -46,10 +49,11 @@ one_line_is (b ∷ bs) h = rw (h.0) (ap (λ (t : List ℕ). b ∷ t) (one_line_i
 
 front_stands : (p : ℕ → Bool) (xs ys : List ℕ) → 0 < length xs → prefix_len p xs ≡ 0 → prefix_len p (xs ++ ys) ≡ 0
 front_stands p [] ys some e = absurd (omega arith)
-front_stands p (x ∷ xs) ys some e = elim (p x) as (λ t. cond t (1 + prefix_len p xs) 0 ≡ 0 → cond t (1 + prefix_len p (xs ++ ys)) 0 ≡ 0) [
-  | true ↦ λ e. absurd (omega (arith, e))
-  | false ↦ λ e. refl
-] e
+front_stands p (x ∷ xs) ys some e = elim (p x) as (λ t. cond t (1 + prefix_len p xs) 0 ≡ 0
+    → cond t (1 + prefix_len p (xs ++ ys)) 0 ≡ 0) [
+      | true ↦ λ e. absurd (omega (arith, e))
+      | false ↦ λ e. refl
+    ] e
 
 no_suffix : (text : List ℕ) → NoBackslashEnd text → suffix_len (λ b. b == 92) text ≡ 0
 no_suffix [] h = refl
@@ -58,27 +62,32 @@ no_suffix (b ∷ c ∷ bs) h =
     let split : reverse (b ∷ c ∷ bs) ≡ reverse (c ∷ bs) ++ b ∷ [] = reverse-append (b ∷ []) (c ∷ bs) in
     let one : reverse (c ∷ bs) ≡ reverse bs ++ c ∷ [] = reverse-append (c ∷ []) bs in
     let some : 0 < length (reverse (c ∷ bs)) = omega (arith, ap length one, length-append (reverse bs) (c ∷ [])) in
-    ap (prefix_len (λ b. b == 92)) split ∙ front_stands (λ b. b == 92) (reverse (c ∷ bs)) (b ∷ []) some (no_suffix (c ∷ bs) h)
+    ap (prefix_len (λ b. b == 92)) split ∙ front_stands (λ b. b == 92) (reverse (c ∷ bs)) (b ∷ []) some
+    (no_suffix (c ∷ bs) h)
 
 trimmed_is : (text : List ℕ) → NoBackslashEnd text → trimmed text ≡ text
 trimmed_is text h = rw (no_suffix text h) (take_all (length text - 0) text (omega arith))
 
 key_is : (key : List ℕ) → 0 < length key → IsPlainWord key → key_text key ≡ escaped key_escapes key
-key_is key some h = sym (kept_key key key (sym (trimmed_is key h.end)) some) ∙ ap (escaped key_escapes) (one_line_is key h.none)
+key_is key some h = sym (kept_key key key (sym (trimmed_is key h.end)) some)
+    ∙ ap (escaped key_escapes) (one_line_is key h.none)
 
 no_hash_first : (name : List ℕ) → 0 < length name → NoHash name → (get_or name 0 0 == 35) ≡ false
 no_hash_first [] some h = absurd (omega arith)
 no_hash_first (b ∷ bs) some h = h
 
-name_is : (name : List ℕ) → 0 < length name → NoHash name → IsPlainWord name → name_text name ≡ escaped name_escapes name
+name_is : (name : List ℕ) → 0 < length name → NoHash name → IsPlainWord name
+    → name_text name ≡ escaped name_escapes name
 name_is name some no_comment h =
-    sym (kept_name name name 0 (sym (trimmed_is name h.end)) some (no_hash_first name some no_comment)) ∙ ap (escaped name_escapes) (one_line_is name h.none)
+    sym (kept_name name name 0 (sym (trimmed_is name h.end)) some (no_hash_first name some no_comment))
+    ∙ ap (escaped name_escapes) (one_line_is name h.none)
 
 escaped_some : (e : Escapes) (text : List ℕ) → 0 < length text → 0 < length (escaped e text)
 unfolding escaped
 escaped_some e [] some = absurd (omega arith)
 escaped_some e (b ∷ bs) some =
-    elim (e.is_mark b) as (λ t. 0 < length (cond t (92 ∷ e.written b ∷ []) (b ∷ []) ++ escaped e bs)) [ true ↦ omega arith | false ↦ omega arith ]
+    elim (e.is_mark b) as (λ t. 0 < length (cond t (92 ∷ e.written b ∷ []) (b ∷ []) ++ escaped e bs))
+    [ true ↦ omega arith | false ↦ omega arith ]
 
 word_written : (k : Kind) (e : Escapes) (text written rest : List ℕ) → Suits k e text → 0 < length text
     → written ≡ escaped e text → Ends k rest → IsWritten k written rest text
@@ -94,18 +103,21 @@ word_written k e text written rest suits some is ends =
 
 key_written : (key rest : List ℕ) → IsWord key → IsPlainWord key → IsWritten key_part (key_text key) (61 ∷ rest) key
 key_written key rest is plain =
-    word_written key_part key_escapes key (key_text key) (61 ∷ rest) (suits_key key plain.end) is.filled (key_is key is.filled plain)
+    word_written key_part key_escapes key (key_text key) (61 ∷ rest) (suits_key key plain.end) is.filled
+    (key_is key is.filled plain)
     (ends_before key_part 61 rest refl refl)
 
 tag_value_written : (value rest : List ℕ) → IsWord value → IsPlainWord value → Ends tag_value_part rest
     → IsWritten tag_value_part (key_text value) rest value
 tag_value_written value rest is plain ends =
-    word_written tag_value_part key_escapes value (key_text value) rest (suits_tag_value value plain.end) is.filled (key_is value is.filled plain) ends
+    word_written tag_value_part key_escapes value (key_text value) rest (suits_tag_value value plain.end) is.filled
+    (key_is value is.filled plain) ends
 
 name_written : (name rest : List ℕ) → IsWord name → IsPlainWord name → NoHash name → Ends name_part rest
     → IsWritten name_part (name_text name) rest name
 name_written name rest is plain no_comment ends =
-    word_written name_part name_escapes name (name_text name) rest (suits_name name plain.end) is.filled (name_is name is.filled no_comment plain) ends
+    word_written name_part name_escapes name (name_text name) rest (suits_name name plain.end) is.filled
+    (name_is name is.filled no_comment plain) ends
 
 -- ---- values
 
@@ -126,7 +138,8 @@ value_written (Uint n) rest is plain = inr (unquoted_of (Uint n) is tt)
 value_written (Fixed n) rest is plain = inr (unquoted_of (Fixed n) is tt)
 value_written (Truth b) rest is plain = inr (unquoted_of (Truth b) is tt)
 value_written (Text text) rest is plain =
-    let part = escaped_is_part text_part text_escapes text (34 ∷ rest) (suits_text text) (ends_before text_part 34 rest refl refl) in
+    let part = escaped_is_part text_part text_escapes text (34 ∷ rest) (suits_text text)
+    (ends_before text_part 34 rest refl refl) in
     inl (record {
       marks = part.0;
       is = ap (λ (t : List ℕ). 34 ∷ (t ++ 34 ∷ [])) (ap (escaped text_escapes) (one_line_is text plain) ∙ part.1);
@@ -140,7 +153,8 @@ utf8_none : IsUtf8 []
 utf8_none = ([], (refl, refl))
 
 key_utf8 : (key : List ℕ) → IsWord key → IsPlainWord key → IsUtf8 (key_text key)
-key_utf8 key is plain = subst IsUtf8 (sym (key_is key is.filled plain)) (escaped-IsUtf8 (codes ",= ") key_low key is.utf8)
+key_utf8 key is plain = subst IsUtf8 (sym (key_is key is.filled plain))
+    (escaped-IsUtf8 (codes ",= ") key_low key is.utf8)
 
 value_utf8 : (value : Value) → IsValue value → IsPlainValue value → IsUtf8 (value_text value)
 unfolding value_text
@@ -151,11 +165,13 @@ value_utf8 (Truth b) is plain = (plain_value (Truth b) is tt).clean.utf8
 value_utf8 (Text text) is plain =
     IsUtf8-append (34 ∷ escaped text_escapes (on_one_line text)) (34 ∷ [])
     (IsUtf8-append (34 ∷ []) (escaped text_escapes (on_one_line text)) (one_ascii 34 (omega arith))
-    (subst (λ (t : List ℕ). IsUtf8 (escaped text_escapes t)) (sym (one_line_is text plain)) (escaped-IsUtf8 (codes "\"\\") text_low text is)))
+    (subst (λ (t : List ℕ). IsUtf8 (escaped text_escapes t)) (sym (one_line_is text plain))
+    (escaped-IsUtf8 (codes "\"\\") text_low text is)))
     (one_ascii 34 (omega arith))
 
 pair_utf8 : (pair : List ℕ × List ℕ) → IsUtf8 pair.0 → IsUtf8 pair.1 → IsUtf8 (pair_text pair)
-pair_utf8 pair a b = IsUtf8-append pair.0 (61 ∷ pair.1) a (IsUtf8-append (61 ∷ []) pair.1 (one_ascii 61 (omega arith)) b)
+pair_utf8 pair a b = IsUtf8-append pair.0 (61 ∷ pair.1) a (IsUtf8-append (61 ∷ []) pair.1
+    (one_ascii 61 (omega arith)) b)
 
 -- ---- tags and fields
 
@@ -174,55 +190,74 @@ written_field field = (key_text field.0, value_text field.1)
 tags_text : (tags : List Tag) → flat_map tag_text tags ≡ pairs_text (map written_tag tags)
 unfolding tag_text
 tags_text [] = refl
-tags_text (tag ∷ tags) = ap (λ (t : List ℕ). 44 ∷ (t ++ flat_map tag_text tags)) (append_assoc (key_text tag.0) (61 ∷ []) (key_text tag.1)) ∙ ap (λ (t : List ℕ). 44 ∷ (pair_text (written_tag tag) ++ t)) (tags_text tags)
+tags_text (tag ∷ tags) = ap (λ (t : List ℕ). 44 ∷ (t ++ flat_map tag_text tags))
+    (append_assoc (key_text tag.0) (61 ∷ []) (key_text tag.1))
+    ∙ ap (λ (t : List ℕ). 44 ∷ (pair_text (written_tag tag) ++ t)) (tags_text tags)
 
 one_field : (field : Field) → field_text field ≡ pair_text (written_field field)
 unfolding field_text
 one_field field = append_assoc (key_text field.0) (61 ∷ []) (value_text field.1)
 
-fields_text : (fields : List Field) → flat_map (λ (field : Field). codes "," ++ field_text field) fields ≡ pairs_text (map written_field fields)
+fields_text : (fields : List Field) → flat_map (λ (field : Field). codes "," ++ field_text field) fields ≡ pairs_text
+    (map written_field fields)
 fields_text [] = refl
-fields_text (field ∷ fields) = rw (one_field field) (ap (λ (t : List ℕ). 44 ∷ (pair_text (written_field field) ++ t)) (fields_text fields))
+fields_text (field ∷ fields) = rw (one_field field) (ap (λ (t : List ℕ). 44 ∷ (pair_text (written_field field) ++ t))
+    (fields_text fields))
 
 -- a comma or a space stands there
-tags_end : (k : Kind) → k.ends 44 ≡ true → k.ends 32 ≡ true → (tags : List Tag) (rest : List ℕ) → Ends k (pairs_text (map written_tag tags) ++ 32 ∷ rest)
+tags_end : (k : Kind) → k.ends 44 ≡ true → k.ends 32 ≡ true → (tags : List Tag) (rest : List ℕ)
+    → Ends k (pairs_text (map written_tag tags) ++ 32 ∷ rest)
 tags_end k comma space [] rest = ends_before k 32 rest space refl
-tags_end k comma space (tag ∷ tags) rest = ends_before k 44 ((pair_text (written_tag tag) ++ pairs_text (map written_tag tags)) ++ 32 ∷ rest) comma refl
+tags_end k comma space (tag ∷ tags) rest = ends_before k 44 ((pair_text (written_tag tag)
+    ++ pairs_text (map written_tag tags)) ++ 32 ∷ rest) comma refl
 
-tags_are : (tags : List Tag) (rest : List ℕ) → AllByRecursion metrics.IsTag tags → ArePlainTags tags → AllAre IsTag (map written_tag tags) (32 ∷ rest) tags
+tags_are : (tags : List Tag) (rest : List ℕ) → AllByRecursion metrics.IsTag tags → ArePlainTags tags
+    → AllAre IsTag (map written_tag tags) (32 ∷ rest) tags
 tags_are [] rest is plain = tt
 tags_are (tag ∷ tags) rest is plain = (
   record {
     key = key_written tag.0 (key_text tag.1 ++ (pairs_text (map written_tag tags) ++ 32 ∷ rest)) (is.0).0 (plain.0).0;
-    value = tag_value_written tag.1 (pairs_text (map written_tag tags) ++ 32 ∷ rest) (is.0).1 (plain.0).1 (tags_end tag_value_part refl refl tags rest);
+    value = tag_value_written tag.1 (pairs_text (map written_tag tags) ++ 32 ∷ rest) (is.0).1 (plain.0).1
+        (tags_end tag_value_part refl refl tags rest);
   },
   tags_are tags rest is.1 plain.1,
 )
 
-fields_are : (fields : List Field) (rest : List ℕ) → AllByRecursion metrics.IsField fields → ArePlainFields fields → AllAre IsField (map written_field fields) rest fields
+fields_are : (fields : List Field) (rest : List ℕ) → AllByRecursion metrics.IsField fields → ArePlainFields fields
+    → AllAre IsField (map written_field fields) rest fields
 fields_are [] rest is plain = tt
 fields_are (field ∷ fields) rest is plain = (
   record {
-    key = key_written field.0 (value_text field.1 ++ (pairs_text (map written_field fields) ++ rest)) (is.0).0 (plain.0).0;
+    key = key_written field.0 (value_text field.1 ++ (pairs_text (map written_field fields) ++ rest)) (is.0).0
+        (plain.0).0;
     value = value_written field.1 (pairs_text (map written_field fields) ++ rest) (is.0).1 (plain.0).1;
   },
   fields_are fields rest is.1 plain.1,
 )
 
-tags_utf8 : (tags : List Tag) → AllByRecursion metrics.IsTag tags → ArePlainTags tags → IsUtf8 (pairs_text (map written_tag tags))
+tags_utf8 : (tags : List Tag) → AllByRecursion metrics.IsTag tags → ArePlainTags tags
+    → IsUtf8 (pairs_text (map written_tag tags))
 tags_utf8 [] is plain = utf8_none
 tags_utf8 (tag ∷ tags) is plain =
-    IsUtf8-append (44 ∷ []) (pair_text (written_tag tag) ++ pairs_text (map written_tag tags)) (one_ascii 44 (omega arith))
-    (IsUtf8-append (pair_text (written_tag tag)) (pairs_text (map written_tag tags)) (pair_utf8 (written_tag tag) (key_utf8 tag.0 (is.0).0 (plain.0).0) (key_utf8 tag.1 (is.0).1 (plain.0).1)) (tags_utf8 tags is.1 plain.1))
+    IsUtf8-append (44 ∷ []) (pair_text (written_tag tag) ++ pairs_text (map written_tag tags))
+    (one_ascii 44 (omega arith))
+    (IsUtf8-append (pair_text (written_tag tag)) (pairs_text (map written_tag tags))
+    (pair_utf8 (written_tag tag) (key_utf8 tag.0 (is.0).0 (plain.0).0) (key_utf8 tag.1 (is.0).1 (plain.0).1))
+    (tags_utf8 tags is.1 plain.1))
 
-field_utf8 : (field : Field) → metrics.IsField field → IsPlainWord field.0 × IsPlainValue field.1 → IsUtf8 (pair_text (written_field field))
-field_utf8 field is plain = pair_utf8 (written_field field) (key_utf8 field.0 is.0 plain.0) (value_utf8 field.1 is.1 plain.1)
+field_utf8 : (field : Field) → metrics.IsField field → IsPlainWord field.0 × IsPlainValue field.1
+    → IsUtf8 (pair_text (written_field field))
+field_utf8 field is plain = pair_utf8 (written_field field) (key_utf8 field.0 is.0 plain.0)
+    (value_utf8 field.1 is.1 plain.1)
 
-fields_utf8 : (fields : List Field) → AllByRecursion metrics.IsField fields → ArePlainFields fields → IsUtf8 (pairs_text (map written_field fields))
+fields_utf8 : (fields : List Field) → AllByRecursion metrics.IsField fields → ArePlainFields fields
+    → IsUtf8 (pairs_text (map written_field fields))
 fields_utf8 [] is plain = utf8_none
 fields_utf8 (field ∷ fields) is plain =
-    IsUtf8-append (44 ∷ []) (pair_text (written_field field) ++ pairs_text (map written_field fields)) (one_ascii 44 (omega arith))
-    (IsUtf8-append (pair_text (written_field field)) (pairs_text (map written_field fields)) (field_utf8 field is.0 plain.0) (fields_utf8 fields is.1 plain.1))
+    IsUtf8-append (44 ∷ []) (pair_text (written_field field) ++ pairs_text (map written_field fields))
+    (one_ascii 44 (omega arith))
+    (IsUtf8-append (pair_text (written_field field)) (pairs_text (map written_field fields))
+    (field_utf8 field is.0 plain.0) (fields_utf8 fields is.1 plain.1))
 
 -- ---- the line
 
@@ -244,25 +279,35 @@ written name tags field fields time = record {
 }
 
 regroup : (name tags fields others time : List ℕ)
-    → ((((name ++ tags) ++ 32 ∷ []) ++ (fields ++ others)) ++ 32 ∷ []) ++ time ≡ name ++ (tags ++ (32 ∷ (fields ++ (others ++ ((32 ∷ time) ++ [])))))
+    → ((((name ++ tags) ++ 32 ∷ []) ++ (fields ++ others)) ++ 32 ∷ []) ++ time ≡ name
+    ++ (tags ++ (32 ∷ (fields ++ (others ++ ((32 ∷ time) ++ [])))))
 regroup name tags fields others time = simp (append_assoc, append-nil)
 
 line_is_spelled : (name : List ℕ) (tags : List Tag) (field : Field) (fields : List Field) (time : ℤ)
-    → (head_text (made name tags (field ∷ fields) time) ++ codes " ") ++ signed_decimal time ≡ line_spelling (written name tags field fields time)
+    → (head_text (made name tags (field ∷ fields) time) ++ codes " ")
+    ++ signed_decimal time ≡ line_spelling (written name tags field fields time)
 unfolding head_text
 line_is_spelled name tags field fields time =
     rw (tags_text tags, one_field field, fields_text fields)
-    (regroup (name_text name) (pairs_text (map written_tag tags)) (pair_text (written_field field)) (pairs_text (map written_field fields)) (signed_decimal time))
+    (regroup (name_text name) (pairs_text (map written_tag tags)) (pair_text (written_field field))
+    (pairs_text (map written_field fields)) (signed_decimal time))
 
 name_no_hash : (e : Escapes) (text : List ℕ) → NoHash text → NoHash (escaped e text)
 unfolding escaped
 name_no_hash e [] h = tt
 name_no_hash e (b ∷ bs) h =
-    elim (e.is_mark b) as (λ t. NoHash (cond t (92 ∷ e.written b ∷ []) (b ∷ []) ++ escaped e bs)) [ true ↦ refl | false ↦ h ]
+    elim (e.is_mark b) as (λ t. NoHash (cond t (92 ∷ e.written b ∷ []) (b ∷ []) ++ escaped e bs))
+    [ true ↦ refl | false ↦ h ]
 
-line_is_line : (name : List ℕ) (tags : List Tag) (field : Field) (fields : List Field) (time moment : ℤ) → IsMetric (made name tags (field ∷ fields) time)
+line_is_line : (name : List ℕ) (tags : List Tag) (field : Field) (fields : List Field) (time moment : ℤ)
+    → IsMetric (made name tags (field ∷ fields) time)
     → IsPlain (made name tags (field ∷ fields) time)
-    → IsLine (written name tags field fields time) (record { name = name; tags = tags; fields = field ∷ fields; time = time }) moment
+    → IsLine (written name tags field fields time) (record {
+      name = name;
+      tags = tags;
+      fields = field ∷ fields;
+      time = time;
+    }) moment
 line_is_line name tags field fields time moment is plain =
     let t = plain_time time is.time in
     let text = name_is name is.name.filled plain.no_comment plain.name in
@@ -275,30 +320,41 @@ line_is_line name tags field fields time moment is plain =
       time = (omega arith, t.none, t.is);
     }
 
-line_utf8 : (name : List ℕ) (tags : List Tag) (field : Field) (fields : List Field) (time : ℤ) → IsMetric (made name tags (field ∷ fields) time)
+line_utf8 : (name : List ℕ) (tags : List Tag) (field : Field) (fields : List Field) (time : ℤ)
+    → IsMetric (made name tags (field ∷ fields) time)
     → IsPlain (made name tags (field ∷ fields) time) → IsUtf8 (line_spelling (written name tags field fields time))
 line_utf8 name tags field fields time is plain =
-    let spaced_time : IsUtf8 ((32 ∷ signed_decimal time) ++ []) = IsUtf8-append (32 ∷ signed_decimal time) [] (IsUtf8-append (32 ∷ []) (signed_decimal time) (one_ascii 32 (omega arith)) (plain_time time is.time).clean.utf8) utf8_none in
-    let others = IsUtf8-append (pairs_text (map written_field fields)) ((32 ∷ signed_decimal time) ++ []) (fields_utf8 fields (is.fields).1 (plain.fields).1) spaced_time in
-    let first = IsUtf8-append (pair_text (written_field field)) _ (field_utf8 field (is.fields).0 (plain.fields).0) others in
+    let spaced_time : IsUtf8 ((32 ∷ signed_decimal time) ++ []) =
+    IsUtf8-append (32 ∷ signed_decimal time) [] (IsUtf8-append (32 ∷ []) (signed_decimal time)
+    (one_ascii 32 (omega arith)) (plain_time time is.time).clean.utf8) utf8_none in
+    let others = IsUtf8-append (pairs_text (map written_field fields)) ((32 ∷ signed_decimal time) ++ [])
+    (fields_utf8 fields (is.fields).1 (plain.fields).1) spaced_time in
+    let first = IsUtf8-append (pair_text (written_field field)) _ (field_utf8 field (is.fields).0 (plain.fields).0)
+    others in
     let behind_tags = IsUtf8-append (32 ∷ []) _ (one_ascii 32 (omega arith)) first in
-    let behind_name = IsUtf8-append (pairs_text (map written_tag tags)) _ (tags_utf8 tags is.tags plain.tags) behind_tags in
-    let front : IsUtf8 (name_text name) = subst IsUtf8 (sym (name_is name is.name.filled plain.no_comment plain.name)) (escaped-IsUtf8 (codes ", ") name_low name is.name.utf8) in
+    let behind_name = IsUtf8-append (pairs_text (map written_tag tags)) _
+    (tags_utf8 tags is.tags plain.tags) behind_tags in
+    let front : IsUtf8 (name_text name) = subst IsUtf8 (sym (name_is name is.name.filled plain.no_comment plain.name))
+    (escaped-IsUtf8 (codes ", ") name_low name is.name.utf8) in
     IsUtf8-append (name_text name) _ front behind_name
 
 -- the line of a metric is the metric's
-content_is : (m : Content) → IsMetric m → content_of (record { name = m.name; tags = m.tags; fields = m.fields; time = m.time }) ≡ m
+content_is : (m : Content) → IsMetric m → content_of (record
+    { name = m.name; tags = m.tags; fields = m.fields; time = m.time }) ≡ m
 content_is m is =
-    let tags : with_values (in_key_order m.tags) ≡ m.tags = ap with_values (sorted_stay m.tags is.sorted) ∙ filled_stay m.tags is.tags in
+    let tags : with_values (in_key_order m.tags) ≡ m.tags = ap with_values (sorted_stay m.tags is.sorted)
+    ∙ filled_stay m.tags is.tags in
     let fields : in_first_order m.fields ≡ m.fields = distinct_stay m.fields is.distinct in
     ap (λ (ts : List Tag). record { name = m.name; tags = ts; fields = in_first_order m.fields; time = m.time }) tags
     ∙ ap (λ (fs : List Field). record { name = m.name; tags = m.tags; fields = fs; time = m.time }) fields
 
 -- what is told of a metric's line
 abbrev Told : Content → ℤ → Type 0
-Told m moment = (line : List ℕ) × (line_text m ≡ line ++ codes "\n") × HasNone ends_line line × (reading line moment ≡ Ok (Some m))
+Told m moment = (line : List ℕ) × (line_text m ≡ line ++ codes "\n") × HasNone ends_line line
+    × (reading line moment ≡ Ok (Some m))
 
-told : (name : List ℕ) (tags : List Tag) (fields : List Field) (time moment : ℤ) → IsMetric (made name tags fields time) → IsPlain (made name tags fields time)
+told : (name : List ℕ) (tags : List Tag) (fields : List Field) (time moment : ℤ) → IsMetric (made name tags fields time)
+    → IsPlain (made name tags fields time)
     → Told (made name tags fields time) moment
 unfolding line_text
 told name tags [] time moment is plain = absurd (omega (arith, is.some))
@@ -306,16 +362,20 @@ told name tags (field ∷ fields) time moment is plain =
     let m = made name tags (field ∷ fields) time in
     let line : Line = record { name = name; tags = tags; fields = field ∷ fields; time = time } in
     let w = written name tags field fields time in
-    let count = few tags (field ∷ fields) (sorted_stay tags is.sorted) (distinct_stay (field ∷ fields) is.distinct) plain.few_tags plain.few_fields in
-    let read = written_is_read w line moment (line_is_line name tags field fields time moment is plain) (line_utf8 name tags field fields time is plain) count in
+    let count = few tags (field ∷ fields) (sorted_stay tags is.sorted) (distinct_stay (field ∷ fields) is.distinct)
+    plain.few_tags plain.few_fields in
+    let read = written_is_read w line moment (line_is_line name tags field fields time moment is plain)
+    (line_utf8 name tags field fields time is plain) count in
     let same = line_is_spelled name tags field fields time in
     let one = single m is in (
       (head_text m ++ codes " ") ++ signed_decimal time,
       refl,
       one,
-      ap (λ (l : List ℕ). reading l moment) same ∙ read ∙ ap (λ (content : Content). Ok (Some content)) (content_is m is),
+      ap (λ (l : List ℕ). reading l moment) same ∙ read ∙ ap (λ (content : Content). Ok (Some content))
+          (content_is m is),
     )
 
 pub is_read_back : (m : Content) (moment : ℤ) → IsMetric m → IsPlain m
-    → (line : List ℕ) × (line_text m ≡ line ++ codes "\n") × HasNone ends_line line × (reading line moment ≡ Ok (Some m))
+    → (line : List ℕ) × (line_text m ≡ line ++ codes "\n") × HasNone ends_line line
+    × (reading line moment ≡ Ok (Some m))
 is_read_back m moment is plain = told m.name m.tags m.fields m.time moment is plain

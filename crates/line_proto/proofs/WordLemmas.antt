@@ -1,5 +1,6 @@
 -- Texts of plain bytes are written as they are.
-use Rattle.std.proofs.Common.{◌≡◌, ◌==◌, ◌-◌, ◌<◌, ℕ, zero, suc, true, false, List, [], ◌∷◌, length, take, get_or, refl, sym, ap, ◌∙◌}
+use Rattle.std.proofs.Common.{◌≡◌, ◌==◌, ◌-◌, ◌<◌, ℕ, zero, suc, true, false, List, [], ◌∷◌, length, take, get_or, refl}
+use Rattle.std.proofs.Common.{sym, ap, ◌∙◌}
 use Rattle.std.specs.Prelude.{codes}
 use Rattle.std.specs.List.{list_all, suffix_len}
 use Rattle.std.proofs.lemmas.Bool.{and_parts, ne_eqb}
@@ -49,17 +50,34 @@ no_backslash = refl
 
 bare_key : (b : ℕ) → is_plain b ≡ true → is_bare (codes ",= ") b ≡ true
 bare_key b plain =
-    rw (apart b 10 plain no_newline, apart b 13 plain no_carriage_return, apart_from b 44 plain no_comma, apart_from b 61 plain no_equals_sign, apart_from b 32 plain no_space) refl
+    rw (
+      apart b 10 plain no_newline,
+      apart b 13 plain no_carriage_return,
+      apart_from b 44 plain no_comma,
+      apart_from b 61 plain no_equals_sign,
+      apart_from b 32 plain no_space,
+    ) refl
 
 bare_name : (b : ℕ) → is_plain b ≡ true → is_bare (codes ", ") b ≡ true
 bare_name b plain =
-    rw (apart b 10 plain no_newline, apart b 13 plain no_carriage_return, apart_from b 44 plain no_comma, apart_from b 32 plain no_space) refl
+    rw (
+      apart b 10 plain no_newline,
+      apart b 13 plain no_carriage_return,
+      apart_from b 44 plain no_comma,
+      apart_from b 32 plain no_space,
+    ) refl
 
 bare_quoted : (b : ℕ) → is_plain b ≡ true → is_bare (codes "\"\\") b ≡ true
 bare_quoted b plain =
-    rw (apart b 10 plain no_newline, apart b 13 plain no_carriage_return, apart_from b 34 plain no_double_quote, apart_from b 92 plain no_backslash) refl
+    rw (
+      apart b 10 plain no_newline,
+      apart b 13 plain no_carriage_return,
+      apart_from b 34 plain no_double_quote,
+      apart_from b 92 plain no_backslash,
+    ) refl
 
-all_bare : (marks text : List ℕ) → ((b : ℕ) → is_plain b ≡ true → is_bare marks b ≡ true) → list_all is_plain text ≡ true
+all_bare : (marks text : List ℕ) → ((b : ℕ) → is_plain b ≡ true → is_bare marks b ≡ true)
+    → list_all is_plain text ≡ true
     → list_all (is_bare marks) text ≡ true
 all_bare marks [] bare h = refl
 all_bare marks (b ∷ bs) bare h =
@@ -77,14 +95,18 @@ kept_plain : (text kept : List ℕ) → kept ≡ trimmed text → list_all is_pl
 kept_plain text kept is h =
     ap (list_all is_plain) is ∙ front_plain (length text - suffix_len (λ b. b == 92) text) text h
 
-pub word_key : (key kept : List ℕ) → kept ≡ trimmed key → 0 < length kept → list_all is_plain key ≡ true → kept ≡ key_text key
+pub word_key : (key kept : List ℕ) → kept ≡ trimmed key → 0 < length kept → list_all is_plain key ≡ true
+    → kept ≡ key_text key
 word_key key kept is some h =
-    sym (bare_text (codes ",= ") kept (all_bare (codes ",= ") kept bare_key (kept_plain key kept is h))) ∙ kept_key key kept is some
+    sym (bare_text (codes ",= ") kept (all_bare (codes ",= ") kept bare_key (kept_plain key kept is h)))
+    ∙ kept_key key kept is some
 
-pub word_name : (name kept : List ℕ) → kept ≡ trimmed name → 0 < length kept → (get_or kept 0 0 == 35) ≡ false → list_all is_plain name ≡ true
+pub word_name : (name kept : List ℕ) → kept ≡ trimmed name → 0 < length kept → (get_or kept 0 0 == 35) ≡ false
+    → list_all is_plain name ≡ true
     → kept ≡ name_text name
 word_name name kept is some no_hash h =
-    sym (bare_text (codes ", ") kept (all_bare (codes ", ") kept bare_name (kept_plain name kept is h))) ∙ kept_name name kept 0 is some no_hash
+    sym (bare_text (codes ", ") kept (all_bare (codes ", ") kept bare_name (kept_plain name kept is h)))
+    ∙ kept_name name kept 0 is some no_hash
 
 pub word_quoted : (text : List ℕ) → list_all is_plain text ≡ true → text ≡ escaped text_escapes (on_one_line text)
 word_quoted text h = sym (bare_text (codes "\"\\") text (all_bare (codes "\"\\") text bare_quoted h))

@@ -1,5 +1,6 @@
 -- What the writer of lines appends.
-use Rattle.std.proofs.Common.{◌≡◌, ◌==◌, ◌||◌, ◌&&◌, ◌-◌, ◌<◌, ◌≤◌, ℕ, Bool, true, false, not, cond, List, [], ◌∷◌, ◌++◌, length, take, drop, get_or, map, reverse, refl, sym, ap, ◌∙◌, arith}
+use Rattle.std.proofs.Common.{◌≡◌, ◌==◌, ◌||◌, ◌&&◌, ◌-◌, ◌<◌, ◌≤◌, ℕ, Bool, true, false, not, cond, List, [], ◌∷◌}
+use Rattle.std.proofs.Common.{◌++◌, length, take, drop, get_or, map, reverse, refl, sym, ap, ◌∙◌, arith}
 use Rattle.std.specs.List.{list_all, list_any, flat_map, join_by, prefix_len, suffix_len}
 use Rattle.std.proofs.lemmas.Bool.{and_parts, not-true, eqb-true}
 use Rattle.std.proofs.lemmas.Grind.{common_steps}
@@ -9,7 +10,8 @@ use Rattle.std.specs.List.{take-map}
 use Rattle.std.specs.Prelude.{codes}
 use Rattle.metric.specs.declared.value.Value.{Value}
 use Rattle.line_proto.specs.OneLine.{ends_line}
-use Rattle.line_proto.specs.LineText.{spaced, on_one_line, trimmed, or_underscore, without_hash, key_text, name_text, field_text, as_written, name_escapes, key_escapes}
+use Rattle.line_proto.specs.LineText.{spaced, on_one_line, trimmed, or_underscore, without_hash, key_text, name_text}
+use Rattle.line_proto.specs.LineText.{field_text, as_written, name_escapes, key_escapes}
 use Rattle.text_parts.specs.Escaped.{Escapes, escaped, escaped_byte}
 
 -- ---- bytes that are written as they are
@@ -27,17 +29,20 @@ bare_byte marks b h =
     let no_mark : list_any (λ mark. mark == b) marks ≡ false = not-true _ ends.1 in
     rw (no_newline, no_return, no_mark) refl
 
-written_bytes : (e : Escapes) (text : List ℕ) → escaped e (on_one_line text) ≡ flat_map (λ b. escaped_byte e (spaced b)) text
+written_bytes : (e : Escapes) (text : List ℕ) → escaped e (on_one_line text) ≡ flat_map
+    (λ b. escaped_byte e (spaced b)) text
 unfolding escaped
 written_bytes e text = flat_map-map (escaped_byte e) spaced text
 
-bare_bytes : (marks text : List ℕ) → list_all (is_bare marks) text ≡ true → flat_map (λ b. escaped_byte (as_written marks) (spaced b)) text ≡ text
+bare_bytes : (marks text : List ℕ) → list_all (is_bare marks) text ≡ true
+    → flat_map (λ b. escaped_byte (as_written marks) (spaced b)) text ≡ text
 bare_bytes marks [] h = refl
 bare_bytes marks (b ∷ bs) h =
     let parts = and_parts (is_bare marks b) (list_all (is_bare marks) bs) h in
     rw (bare_byte marks b parts.0) (ap (λ rest. b ∷ rest) (bare_bytes marks bs parts.1))
 
-pub bare_text : (marks text : List ℕ) → list_all (is_bare marks) text ≡ true → escaped (as_written marks) (on_one_line text) ≡ text
+pub bare_text : (marks text : List ℕ) → list_all (is_bare marks) text ≡ true
+    → escaped (as_written marks) (on_one_line text) ≡ text
 bare_text marks text h = written_bytes (as_written marks) text ∙ bare_bytes marks text h
 
 -- a text without ends of lines is in one line
@@ -57,7 +62,8 @@ spaced_backslash : (b : ℕ) → is_backslash (spaced b) ≡ is_backslash b
 spaced_backslash b =
     elim (b == 10) as (λ t. (b == 10) ≡ t → is_backslash (cond (t || b == 13) 32 b) ≡ is_backslash b) [
       | true ↦ λ e. let is : b ≡ 10 = eqb-true b 10 e in rw is refl
-      | false ↦ λ e. elim (b == 13) as (λ t. (b == 13) ≡ t → is_backslash (cond t 32 b) ≡ is_backslash b) [ true ↦ λ e'. let is : b ≡ 13 = eqb-true b 13 e' in rw is refl | false ↦ λ e'. refl ] refl
+      | false ↦ λ e. elim (b == 13) as (λ t. (b == 13) ≡ t → is_backslash (cond t 32 b) ≡ is_backslash b)
+          [ true ↦ λ e'. let is : b ≡ 13 = eqb-true b 13 e' in rw is refl | false ↦ λ e'. refl ] refl
     ] refl
 
 prefix_len-map : (text : List ℕ) → prefix_len is_backslash (map spaced text) ≡ prefix_len is_backslash text
@@ -72,16 +78,19 @@ reverse-map f (x ∷ xs) =
 
 pub trimmed-on_one_line : (text : List ℕ) → trimmed (on_one_line text) ≡ on_one_line (trimmed text)
 trimmed-on_one_line text =
-    let tail : suffix_len is_backslash (map spaced text) ≡ suffix_len is_backslash text = ap (prefix_len is_backslash) (reverse-map spaced text) ∙ prefix_len-map (reverse text) in
+    let tail : suffix_len is_backslash (map spaced text) ≡ suffix_len is_backslash text =
+    ap (prefix_len is_backslash) (reverse-map spaced text) ∙ prefix_len-map (reverse text) in
     rw (length-map text spaced, tail) (take-map spaced (length text - suffix_len is_backslash text) text)
 
 -- ---- loops
 
 -- all bytes were written
-pub all_written : (out old : List ℕ) (e : Escapes) (text : List ℕ) (i : ℕ) → length text ≤ i → out ≡ old ++ flat_map (λ b. escaped_byte e (spaced b)) (take i text) → out ≡ old ++ escaped e (on_one_line text)
+pub all_written : (out old : List ℕ) (e : Escapes) (text : List ℕ) (i : ℕ) → length text ≤ i
+    → out ≡ old ++ flat_map (λ b. escaped_byte e (spaced b)) (take i text) → out ≡ old ++ escaped e (on_one_line text)
 all_written out old e text i end h =
     let all : take i text ≡ text = grind (arith, common_steps) in
-    h ∙ ap (λ bytes. old ++ flat_map (λ b. escaped_byte e (spaced b)) bytes) all ∙ ap (λ bytes. old ++ bytes) (sym (written_bytes e text))
+    h ∙ ap (λ bytes. old ++ flat_map (λ b. escaped_byte e (spaced b)) bytes) all
+    ∙ ap (λ bytes. old ++ bytes) (sym (written_bytes e text))
 
 -- ---- keys and names
 
@@ -89,12 +98,15 @@ some_byte : (text : List ℕ) → 0 < length text → or_underscore (on_one_line
 some_byte [] lt = absurd (omega arith)
 some_byte (b ∷ bs) lt = refl
 
-pub kept_key : (key kept : List ℕ) → kept ≡ trimmed key → 0 < length kept → escaped key_escapes (on_one_line kept) ≡ key_text key
+pub kept_key : (key kept : List ℕ) → kept ≡ trimmed key → 0 < length kept
+    → escaped key_escapes (on_one_line kept) ≡ key_text key
 unfolding key_text
 kept_key key kept is lt =
-    ap (escaped key_escapes) (sym (some_byte kept lt) ∙ ap (λ text. or_underscore (on_one_line text)) is ∙ ap or_underscore (sym (trimmed-on_one_line key)))
+    ap (escaped key_escapes) (sym (some_byte kept lt) ∙ ap (λ text. or_underscore (on_one_line text)) is
+    ∙ ap or_underscore (sym (trimmed-on_one_line key)))
 
-empty_text : (text kept : List ℕ) → kept ≡ trimmed text → length kept ≡ 0 → or_underscore (trimmed (on_one_line text)) ≡ 95 ∷ []
+empty_text : (text kept : List ℕ) → kept ≡ trimmed text → length kept ≡ 0
+    → or_underscore (trimmed (on_one_line text)) ≡ 95 ∷ []
 empty_text text [] is none = ap or_underscore (trimmed-on_one_line text ∙ ap on_one_line (sym is))
 empty_text text (b ∷ bs) is none = absurd (omega arith)
 
@@ -110,16 +122,20 @@ spaced_hash : (b : ℕ) → (b == 35) ≡ false → (spaced b == 35) ≡ false
 spaced_hash b h =
     elim (b == 10 || b == 13) as (λ t. (cond t 32 b == 35) ≡ false) [ true ↦ refl | false ↦ h ]
 
-no_hash : (kept : List ℕ) (d : ℕ) → 0 < length kept → (get_or kept 0 d == 35) ≡ false → without_hash (or_underscore (on_one_line kept)) ≡ on_one_line kept
+no_hash : (kept : List ℕ) (d : ℕ) → 0 < length kept → (get_or kept 0 d == 35) ≡ false
+    → without_hash (or_underscore (on_one_line kept)) ≡ on_one_line kept
 no_hash [] d lt h = absurd (omega arith)
 no_hash (b ∷ bs) d lt h = rw (spaced_hash b h) refl
 
-pub kept_name : (name kept : List ℕ) (d : ℕ) → kept ≡ trimmed name → 0 < length kept → (get_or kept 0 d == 35) ≡ false → escaped name_escapes (on_one_line kept) ≡ name_text name
+pub kept_name : (name kept : List ℕ) (d : ℕ) → kept ≡ trimmed name → 0 < length kept → (get_or kept 0 d == 35) ≡ false
+    → escaped name_escapes (on_one_line kept) ≡ name_text name
 unfolding name_text
 kept_name name kept d is lt h =
-    ap (escaped name_escapes) (sym (no_hash kept d lt h) ∙ ap (λ text. without_hash (or_underscore (on_one_line text))) is ∙ ap (λ text. without_hash (or_underscore text)) (sym (trimmed-on_one_line name)))
+    ap (escaped name_escapes) (sym (no_hash kept d lt h) ∙ ap (λ text. without_hash (or_underscore (on_one_line text)))
+    is ∙ ap (λ text. without_hash (or_underscore text)) (sym (trimmed-on_one_line name)))
 
-hash : (kept : List ℕ) → 0 < length kept → get_or kept 0 0 ≡ 35 → without_hash (or_underscore (on_one_line kept)) ≡ 95 ∷ on_one_line (take (length kept - 1) (drop 1 kept))
+hash : (kept : List ℕ) → 0 < length kept → get_or kept 0 0 ≡ 35
+    → without_hash (or_underscore (on_one_line kept)) ≡ 95 ∷ on_one_line (take (length kept - 1) (drop 1 kept))
 hash [] lt h = absurd (omega arith)
 hash (b ∷ bs) lt h =
     let rest : take (length (b ∷ bs) - 1) bs ≡ bs = take_all _ _ (omega arith) in
@@ -129,12 +145,14 @@ pub hashed_name : (name kept : List ℕ) → kept ≡ trimmed name → 0 < lengt
     → (95 ∷ []) ++ escaped name_escapes (on_one_line (take (length kept - 1) (drop 1 kept))) ≡ name_text name
 unfolding name_text escaped
 hashed_name name kept is lt h =
-    ap (escaped name_escapes) (sym (hash kept lt h) ∙ ap (λ text. without_hash (or_underscore (on_one_line text))) is ∙ ap (λ text. without_hash (or_underscore text)) (sym (trimmed-on_one_line name)))
+    ap (escaped name_escapes) (sym (hash kept lt h) ∙ ap (λ text. without_hash (or_underscore (on_one_line text))) is
+    ∙ ap (λ text. without_hash (or_underscore text)) (sym (trimmed-on_one_line name)))
 
 -- ---- fields
 
 pub first_field : (fields : List (List ℕ × Value)) (d : List ℕ × Value) → 0 < length fields → d ≡ get_or fields 0 d
-    → field_text d ++ flat_map (λ field. codes "," ++ field_text field) (take (length fields - 1) (drop 1 fields)) ≡ join_by field_text (codes ",") fields
+    → field_text d ++ flat_map (λ field. codes "," ++ field_text field) (take (length fields - 1) (drop 1 fields))
+    ≡ join_by field_text (codes ",") fields
 first_field [] d lt is = absurd (omega arith)
 first_field (field ∷ fields) d lt is =
     let rest : take (length (field ∷ fields) - 1) fields ≡ fields = take_all _ _ (omega arith) in

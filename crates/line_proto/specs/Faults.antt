@@ -5,7 +5,7 @@ use Rattle.std.specs.Str.{IsUtf8, IsValidUpTo}
 use Rattle.text_parts.specs.Bytes.{space, double_quote, comma, equals_sign}
 use Rattle.text_parts.specs.Grammar.{Ends, HasNone, IsWritten}
 use Rattle.text_parts.specs.Pairs.{pairs_text, AllAre}
-use Rattle.text_parts.specs.Places.{word_at, Follows, is_decimal}
+use Rattle.text_parts.specs.Offsets.{word_at, Follows, is_decimal}
 use Rattle.fixed_num.specs.Whole.{is_numeral, behind_sign}
 use Rattle.metric.specs.declared.value.Value.{Value}
 use Rattle.metric.specs.Draft.{Tag, has_too_many}
@@ -21,7 +21,7 @@ use Rattle.line_proto.specs.Reading.{Line, reading}
 -- a fault is at a byte of the piece, or behind its last one
 abbrev pub FaultIsWithin : Type 0
 FaultIsWithin = (piece : List ℕ) (moment : ℤ) (fault : LineFault)
-    → reading piece moment ≡ Err fault → fault.place ≤ length piece
+    → reading piece moment ≡ Err fault → fault.offset ≤ length piece
 
 -- ---- what stands there
 
@@ -53,42 +53,42 @@ pub record IsHeadAlone (piece : List ℕ) : Type 0 where
   pub are_tags : AllAre IsTag pairs (spaces after) tags
 
 -- behind the spaces at the front a comma stands, where the measurement would begin
-pub record HasNoName (piece : List ℕ) (place : ℕ) : Type 0 where
-  pub front : HasNone (λ b. not (b == space)) (take place piece)
-  pub comma : slice_index piece place ≡ comma
+pub record HasNoName (piece : List ℕ) (offset : ℕ) : Type 0 where
+  pub front : HasNone (λ b. not (b == space)) (take offset piece)
+  pub comma : slice_index piece offset ≡ comma
 
--- a key stands at the place, with an equals sign behind it
-pub record HasKey (piece : List ℕ) (place : ℕ) : Type 0 where
+-- a key stands at the offset, with an equals sign behind it
+pub record HasKey (piece : List ℕ) (offset : ℕ) : Type 0 where
   pub word : List ℕ
   pub rest : List ℕ
   pub key : List ℕ
-  pub is : drop place piece ≡ word ++ equals_sign ∷ rest
+  pub is : drop offset piece ≡ word ++ equals_sign ∷ rest
   pub written : IsWritten key_part word (equals_sign ∷ rest) key
 
--- a comma or a space stands before the place, and no key at it
-pub record HasNoKey (piece : List ℕ) (place : ℕ) : Type 0 where
-  pub follows : Follows comma piece place ⊎ Follows space piece place
-  pub none : HasKey piece place → ⊥
+-- a comma or a space stands before the offset, and no key at it
+pub record HasNoKey (piece : List ℕ) (offset : ℕ) : Type 0 where
+  pub follows : Follows comma piece offset ⊎ Follows space piece offset
+  pub none : HasKey piece offset → ⊥
 
--- a text between double quotes stands at the place, in front of the value's end
-pub record HasText (piece : List ℕ) (place : ℕ) : Type 0 where
+-- a text between double quotes stands at the offset, in front of the value's end
+pub record HasText (piece : List ℕ) (offset : ℕ) : Type 0 where
   pub word : List ℕ
   pub rest : List ℕ
   pub value : Value
-  pub is : drop place piece ≡ word ++ rest
+  pub is : drop offset piece ≡ word ++ rest
   pub quoted : IsQuoted word rest value
   pub ends : Ends value_part rest
 
--- a double quote stands at the place, and no text between double quotes; or no number up to the value's end
+-- a double quote stands at the offset, and no text between double quotes; or no number up to the value's end
 abbrev pub HasNoValue : List ℕ → ℕ → Type 0
-HasNoValue piece place =
-    ((slice_index piece place ≡ double_quote) × (HasText piece place → ⊥))
-    ⊎ (is_number (word_at ends_word piece place) ≡ false)
+HasNoValue piece offset =
+    ((slice_index piece offset ≡ double_quote) × (HasText piece offset → ⊥))
+    ⊎ (is_number (word_at ends_word piece offset) ≡ false)
 
--- a whole number stands before the place, behind a space
-pub record HasTimeBefore (piece : List ℕ) (place : ℕ) : Type 0 where
+-- a whole number stands before the offset, behind a space
+pub record HasTimeBefore (piece : List ℕ) (offset : ℕ) : Type 0 where
   pub begins : ℕ
-  pub before : begins < place
+  pub before : begins < offset
   pub follows : Follows space piece begins
   pub whole : is_whole (word_at is_space piece begins) ≡ true
 
@@ -100,32 +100,32 @@ pub record HasTooMany (piece : List ℕ) (moment : ℤ) : Type 0 where
   pub is_line : IsLine written line moment
   pub many : has_too_many line.tags line.fields ≡ true
 
--- what stands in the piece, where a fault of a kind is at a place
+-- what stands in the piece, where a fault of a kind is at an offset
 abbrev pub StandsAt : List ℕ → ℤ → ℕ → LineKind → Type 0
 -- no reading runs out of memory
-StandsAt piece moment place OutOfMemory = ⊥
--- nothing but spaces stands behind the measurement and its tags, up to the place, where the piece ends
-StandsAt piece moment place NoFields = (place ≡ length piece) × IsHeadAlone piece
+StandsAt piece moment offset OutOfMemory = ⊥
+-- nothing but spaces stands behind the measurement and its tags, up to the offset, where the piece ends
+StandsAt piece moment offset NoFields = (offset ≡ length piece) × IsHeadAlone piece
 -- no measurement stands there at the front, or no key behind a comma or a space
-StandsAt piece moment place BadKey = HasNoName piece place ⊎ HasNoKey piece place
+StandsAt piece moment offset BadKey = HasNoName piece offset ⊎ HasNoKey piece offset
 -- no value stands behind an equals sign
-StandsAt piece moment place BadValue = Follows equals_sign piece place × HasNoValue piece place
+StandsAt piece moment offset BadValue = Follows equals_sign piece offset × HasNoValue piece offset
 -- behind a space no whole number stands, up to the next space; or one stands before, and this is one word more
-StandsAt piece moment place BadTime =
-    Follows space piece place × ((is_whole (word_at is_space piece place) ≡ false) ⊎ HasTimeBefore piece place)
+StandsAt piece moment offset BadTime =
+    Follows space piece offset × ((is_whole (word_at is_space piece offset) ≡ false) ⊎ HasTimeBefore piece offset)
 -- a number stands behind an equals sign, or a whole number behind a space
-StandsAt piece moment place NumberRange =
-    (Follows equals_sign piece place × (is_number (word_at ends_word piece place) ≡ true))
-    ⊎ (Follows space piece place × (is_whole (word_at is_space piece place) ≡ true))
--- the bytes before the place are UTF-8, and those of no longer front are
-StandsAt piece moment place NotUtf8 = IsValidUpTo piece place
+StandsAt piece moment offset NumberRange =
+    (Follows equals_sign piece offset × (is_number (word_at ends_word piece offset) ≡ true))
+    ⊎ (Follows space piece offset × (is_whole (word_at is_space piece offset) ≡ true))
+-- the bytes before the offset are UTF-8, and those of no longer front are
+StandsAt piece moment offset NotUtf8 = IsValidUpTo piece offset
 -- a line is written that has too many parts
-StandsAt piece moment place TooMany = HasTooMany piece moment
+StandsAt piece moment offset TooMany = HasTooMany piece moment
 
 -- a piece with a fault is UTF-8, unless that is the fault
 pub record Says (piece : List ℕ) (moment : ℤ) (fault : LineFault) : Type 0 where
   pub utf8 : (fault.kind ≡ NotUtf8) ⊎ IsUtf8 piece
-  pub stands : StandsAt piece moment fault.place fault.kind
+  pub stands : StandsAt piece moment fault.offset fault.kind
 
 -- each fault's kind says what stands in the piece
 abbrev pub FaultSays : Type 0

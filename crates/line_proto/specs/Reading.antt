@@ -20,20 +20,20 @@ use Rattle.line_proto.specs.declared.fault.LineKind.TheVariants.{TooMany}
 use Rattle.line_proto.specs.Kinds.{name_part, key_part, tag_value_part, text_part, value_part}
 use Rattle.line_proto.specs.Values.{value_of, time_of}
 
--- a fault at a place
+-- a fault at an offset
 abbrev pub fault : {A : Type 0} → LineKind → ℕ → Result A LineFault
-fault kind place = Err (record { kind = kind; place = place })
+fault kind offset = Err (record { kind = kind; offset = offset })
 
--- what is read from a part that begins at a place
+-- what is read from a part that begins at an offset
 abbrev pub placed : {A : Type 0} → ℕ → Result A LineKind → Result A LineFault
-placed place (Ok x) = Ok x
-placed place (Err kind) = fault kind place
+placed offset (Ok x) = Ok x
+placed offset (Err kind) = fault kind offset
 
--- behind the spaces that stand at a place
+-- behind the spaces that stand at an offset
 abbrev pub behind_spaces : List ℕ → ℕ → ℕ
 behind_spaces piece i = i + position_or_len (λ b. not (b == space)) (drop i piece)
 
--- a part, which isn't empty; each of these gives what begins at a place, and the place behind it
+-- a part, which isn't empty; each of these gives what begins at an offset, and the offset behind it
 abbrev pub filled_at : Kind → LineKind → List ℕ → ℕ → Result (List ℕ × ℕ) LineFault
 filled_at part kind piece i =
     if len_at part piece i == 0 then fault kind i else Ok (text_at part piece i, i + len_at part piece i)
@@ -54,7 +54,8 @@ unfoldable pub tag_value_at : List ℕ → ℕ → Result (List ℕ × ℕ) Line
 tag_value_at piece i = filled_at tag_value_part BadValue piece i
 
 -- a key, and a value behind its equals sign
-abbrev pub keyed_at : {V : Type 0} → (List ℕ → ℕ → Result (V × ℕ) LineFault) → List ℕ → ℕ → Result ((List ℕ × V) × ℕ) LineFault
+abbrev pub keyed_at : {V : Type 0} → (List ℕ → ℕ → Result (V × ℕ) LineFault) → List ℕ → ℕ
+    → Result ((List ℕ × V) × ℕ) LineFault
 keyed_at value_at piece i = do
   key ← key_at piece i
   value ← value_at piece key.1
@@ -68,7 +69,7 @@ tag_at piece i = keyed_at tag_value_at piece i
 abbrev pub is_value_end : List ℕ → ℕ → Bool
 is_value_end piece i = i == length piece || slice_index piece i == comma || slice_index piece i == space
 
--- a text between double quotes, of which the first stands at the place
+-- a text between double quotes, of which the first stands at the offset
 unfoldable pub text_value_at : List ℕ → ℕ → Result (Value × ℕ) LineFault
 text_value_at piece i =
     let close = i + 1 + len_at text_part piece (i + 1) in
@@ -127,7 +128,7 @@ pub record Line : Type 0 where
   pub fields : List Field
   pub time : ℤ
 
--- the line that begins at a place
+-- the line that begins at an offset
 unfoldable pub line_at : List ℕ → ℕ → ℤ → Result Line LineFault
 line_at piece i moment = do
   name ← name_at piece i
@@ -149,7 +150,7 @@ content_of line = record {
 abbrev pub limited : Line → Result (Option Content) LineFault
 limited line = if has_too_many line.tags line.fields then fault TooMany 0 else Ok (Some (content_of line))
 
--- the metric of the line that begins at a place
+-- the metric of the line that begins at an offset
 unfoldable pub metric_at : List ℕ → ℕ → ℤ → Result (Option Content) LineFault
 metric_at piece i moment = do
   line ← line_at piece i moment

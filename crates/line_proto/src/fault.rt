@@ -29,11 +29,11 @@ pub struct LineFault {
     /// The first byte of the part at fault: an index into the piece, or its length where something is missing
     /// at its end. It is 0 for `OutOfMemory` and `TooMany`, and the end of the longest valid front for
     /// `NotUtf8`.
-    pub place: usize,
+    pub offset: usize,
 }
 
 /// What is answered where no memory was left.
 pub(crate) const NO_MEMORY: LineFault = LineFault {
     kind: LineKind::OutOfMemory,
-    place: 0,
+    offset: 0,
 };

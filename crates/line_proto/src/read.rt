@@ -16,7 +16,7 @@ use metric::{Draft, DraftFault, Metric};
 use std::alloc::Global;
 use text_parts::{ReadError, answer, utf8_text};
 
-/// The place of the fields behind the spaces at a place.
+/// The offset of the fields behind the spaces at an offset.
 #[tactic(auto, unfolding(crate::specs::Reading::spaced_fields_at))]
 fn fields_start(piece: &str, i: usize) -> Result<usize, ReadError<LineFault>>
     requires { IsCharBoundary piece.now i }
@@ -66,7 +66,7 @@ fn read_rest(
     time_at(piece.as_bytes(), i, moment)
 }
 
-/// The metric of the line that begins at a place.
+/// The metric of the line that begins at an offset.
 fn metric_at(
     alloc: Global,
     piece: &str,
@@ -108,14 +108,14 @@ fn read_piece(
 {
     match utf8_text(piece) {
         Ok(text) => read_text(alloc, text, moment),
-        Err(place) => Err(fault(LineKind::NotUtf8, place)),
+        Err(offset) => Err(fault(LineKind::NotUtf8, offset)),
     }
 }
 
 /// Reads a piece without its newline as a line of line protocol. `NotUtf8` comes before all else, in comments
 /// too. `None` exactly where the piece is blank (nothing but spaces) or a comment (its first byte other than
 /// a space is `#`). Where the line has no time, the moment is its time. The first fault from left to right
-/// counts, with its place, which may be the length of the piece; `TooMany` comes last, where the line has no
+/// counts, with its offset, which may be the length of the piece; `TooMany` comes last, where the line has no
 /// other fault. `OutOfMemory` may come in place of any answer.
 pub fn read_line(alloc: Global, piece: &[u8], moment: Moment) -> Result<Option<Metric>, LineFault>
     ensures { Answers result (reading piece.now moment) }

@@ -18,7 +18,7 @@ use metric::{Draft, Text, Value};
 use std::alloc::Global;
 use text_parts::{ReadError, Span, part_text, span_text};
 
-/// Whether a comma stands at a place.
+/// Whether a comma stands at an offset.
 fn comma_at(piece: &str, at: usize) -> bool
     ensures { result ≡ (slice_index piece.now at == comma) }
 {
@@ -95,7 +95,7 @@ fn put_field(
     Ok(())
 }
 
-/// Puts the tags that stand at a place into a draft, and gives the place behind them.
+/// Puts the tags that stand at an offset into a draft, and gives the offset behind them.
 pub(crate) fn read_tags(
     alloc: Global,
     piece: &str,
@@ -117,7 +117,7 @@ pub(crate) fn read_tags(
     Ok(at)
 }
 
-/// Puts the fields that stand at a place into a draft, and gives the place behind them.
+/// Puts the fields that stand at an offset into a draft, and gives the offset behind them.
 pub(crate) fn read_fields(
     alloc: Global,
     piece: &str,

@@ -47,14 +47,14 @@ pub(crate) const TEXT: Part = Part {
     newlines: false,
 };
 
-/// A fault at a place.
-pub(crate) fn fault(kind: LineKind, place: usize) -> ReadError<LineFault>
-    ensures { result ≡ ReadError.Fault (record { kind = kind; place = place }) }
+/// A fault at an offset.
+pub(crate) fn fault(kind: LineKind, offset: usize) -> ReadError<LineFault>
+    ensures { result ≡ ReadError.Fault (record { kind = kind; offset = offset }) }
 {
-    ReadError::Fault(LineFault { kind, place })
+    ReadError::Fault(LineFault { kind, offset })
 }
 
-/// Where the measurement stands that begins at a place.
+/// Where the measurement stands that begins at an offset.
 fn name_span(piece: &str, i: usize) -> Span
     requires boundary { IsCharBoundary piece.now i }
     ensures start { result.start ≡ i }
@@ -63,7 +63,7 @@ fn name_span(piece: &str, i: usize) -> Span
     span_at(&NAME, piece, i)
 }
 
-/// Where the key stands that begins at a place.
+/// Where the key stands that begins at an offset.
 fn key_span(piece: &str, i: usize) -> Span
     requires boundary { IsCharBoundary piece.now i }
     ensures start { result.start ≡ i }
@@ -72,7 +72,7 @@ fn key_span(piece: &str, i: usize) -> Span
     span_at(&KEY, piece, i)
 }
 
-/// Where the value of a tag stands that begins at a place.
+/// Where the value of a tag stands that begins at an offset.
 fn tag_value_span(piece: &str, i: usize) -> Span
     requires boundary { IsCharBoundary piece.now i }
     ensures start { result.start ≡ i }
@@ -81,7 +81,7 @@ fn tag_value_span(piece: &str, i: usize) -> Span
     span_at(&TAG_VALUE, piece, i)
 }
 
-/// Where the text stands that begins at a place, behind its double quote.
+/// Where the text stands that begins at an offset, behind its double quote.
 pub(crate) fn text_span(piece: &str, i: usize) -> Span
     requires boundary { IsCharBoundary piece.now i }
     ensures start { result.start ≡ i }
@@ -113,7 +113,7 @@ fn first_other(bytes: &[u8]) -> Option<usize>
     bytes.iter().position(|b| *b != b' ')
 }
 
-/// What stands at a place before the next comma or space: a value that is no text.
+/// What stands at an offset before the next comma or space: a value that is no text.
 pub(crate) fn word_at(piece: &str, i: usize) -> &str
     requires boundary { IsCharBoundary piece.now i }
     ensures value { IsPartAt value_part piece.now i result.now }
@@ -124,7 +124,7 @@ pub(crate) fn word_at(piece: &str, i: usize) -> &str
     word
 }
 
-/// What stands at a place before the next space.
+/// What stands at an offset before the next space.
 pub(crate) fn unspaced_at(piece: &[u8], i: usize) -> &[u8]
     requires { i ≤ length piece.now }
     ensures len { length result.now ≡ time_len piece.now i }
@@ -136,7 +136,7 @@ pub(crate) fn unspaced_at(piece: &[u8], i: usize) -> &[u8]
     word
 }
 
-/// The place behind the spaces that stand at a place.
+/// The offset behind the spaces that stand at an offset.
 pub(crate) fn behind_spaces(piece: &[u8], i: usize) -> usize
     requires { i ≤ length piece.now }
     ensures value { result ≡ behind_spaces piece.now i }
@@ -147,7 +147,7 @@ pub(crate) fn behind_spaces(piece: &[u8], i: usize) -> usize
     i + first_other(rest).unwrap_or(rest.len())
 }
 
-/// The measurement that begins at a place.
+/// The measurement that begins at an offset.
 #[tactic(auto, unfolding(crate::specs::Reading::name_at))]
 pub(crate) fn name_at(piece: &str, i: usize) -> Result<Span, ReadError<LineFault>>
     requires boundary { IsCharBoundary piece.now i }
@@ -162,14 +162,14 @@ pub(crate) fn name_at(piece: &str, i: usize) -> Result<Span, ReadError<LineFault
     Ok(name)
 }
 
-/// Whether an equals sign stands at a place.
+/// Whether an equals sign stands at an offset.
 fn equals_at(bytes: &[u8], at: usize) -> bool
     ensures { result ≡ (slice_index bytes.now at == equals_sign) }
 {
     at < bytes.len() && bytes[at] == b'='
 }
 
-/// The key that begins at a place, behind which an equals sign stands.
+/// The key that begins at an offset, behind which an equals sign stands.
 #[tactic(auto, unfolding(crate::specs::Reading::key_at))]
 pub(crate) fn key_at(piece: &str, i: usize) -> Result<Span, ReadError<LineFault>>
     requires boundary { IsCharBoundary piece.now i }
@@ -186,7 +186,7 @@ pub(crate) fn key_at(piece: &str, i: usize) -> Result<Span, ReadError<LineFault>
     Ok(key)
 }
 
-/// The value of a tag that begins at a place.
+/// The value of a tag that begins at an offset.
 #[tactic(auto, unfolding(crate::specs::Reading::tag_value_at))]
 fn tag_value_at(piece: &str, i: usize) -> Result<Span, ReadError<LineFault>>
     requires boundary { IsCharBoundary piece.now i }
@@ -202,7 +202,7 @@ fn tag_value_at(piece: &str, i: usize) -> Result<Span, ReadError<LineFault>>
     Ok(value)
 }
 
-/// The tag that begins at a place.
+/// The tag that begins at an offset.
 #[tactic(auto, unfolding(crate::specs::Reading::tag_at))]
 pub(crate) fn tag_at(piece: &str, i: usize) -> Result<(Span, Span), ReadError<LineFault>>
     requires boundary { IsCharBoundary piece.now i }

@@ -119,7 +119,7 @@ fn value_of(text: &str) -> Result<Value, LineKind>
     }
 }
 
-/// The value that begins at a place where no double quote stands, and the place behind it.
+/// The value that begins at an offset where no double quote stands, and the offset behind it.
 #[tactic(auto, unfolding(crate::specs::Reading::plain_value_at))]
 fn plain_value_at(piece: &str, i: usize) -> Result<(Value, usize), ReadError<LineFault>>
     requires boundary { IsCharBoundary piece.now i }
@@ -134,14 +134,14 @@ fn plain_value_at(piece: &str, i: usize) -> Result<(Value, usize), ReadError<Lin
     }
 }
 
-/// Whether a double quote stands at a place.
+/// Whether a double quote stands at an offset.
 fn quote_at(bytes: &[u8], at: usize) -> bool
     ensures { result ≡ (slice_index bytes.now at == double_quote) }
 {
     at < bytes.len() && bytes[at] == b'"'
 }
 
-/// Whether a comma, a space or the end stands at a place.
+/// Whether a comma, a space or the end stands at an offset.
 fn value_ends(bytes: &[u8], at: usize) -> bool
     requires { at ≤ length bytes.now }
     ensures { result ≡ is_value_end bytes.now at }
@@ -161,7 +161,7 @@ fn text_of(alloc: Global, piece: &str, span: &Span) -> Result<Text, OutOfMemory>
     Text::of(alloc, span_text(piece, span))
 }
 
-/// The text that begins with the double quote at a place, and the place behind it.
+/// The text that begins with the double quote at an offset, and the offset behind it.
 #[tactic(auto, unfolding(crate::specs::Reading::text_value_at))]
 fn text_value_at(
     alloc: Global,
@@ -182,7 +182,7 @@ fn text_value_at(
     Ok((Value::Text(value), text.end + 1))
 }
 
-/// The value that begins at a place, and the place behind it.
+/// The value that begins at an offset, and the offset behind it.
 #[tactic(auto, unfolding(crate::specs::Reading::value_at))]
 fn value_at(alloc: Global, piece: &str, i: usize) -> Result<(Value, usize), ReadError<LineFault>>
     requires boundary { IsCharBoundary piece.now i }
@@ -197,7 +197,7 @@ fn value_at(alloc: Global, piece: &str, i: usize) -> Result<(Value, usize), Read
     }
 }
 
-/// The field that begins at a place, and the place behind it.
+/// The field that begins at an offset, and the offset behind it.
 #[tactic(auto, unfolding(crate::specs::Reading::field_at))]
 pub(crate) fn field_at(
     alloc: Global,
@@ -228,7 +228,7 @@ fn time_of(text: &[u8]) -> Result<Moment, LineKind>
     }
 }
 
-/// The time that begins at a place, behind which nothing but spaces may follow.
+/// The time that begins at an offset, behind which nothing but spaces may follow.
 #[tactic(auto, unfolding(crate::specs::Reading::written_time_at))]
 fn written_time_at(piece: &[u8], i: usize) -> Result<Moment, ReadError<LineFault>>
     requires { i ≤ length piece.now }
@@ -248,7 +248,7 @@ fn written_time_at(piece: &[u8], i: usize) -> Result<Moment, ReadError<LineFault
     }
 }
 
-/// The time behind the spaces that stand at a place, or the moment where none is written.
+/// The time behind the spaces that stand at an offset, or the moment where none is written.
 #[tactic(auto, unfolding(crate::specs::Reading::time_at))]
 pub(crate) fn time_at(
     piece: &[u8],

@@ -3,11 +3,10 @@ ghost use Rattle.std.specs.Prelude.{◌≡◌, ◌++◌, not, true, flat_map, co
 ghost use Rattle.std.specs.List.{list_all, join_by};
 ghost use Rattle.metric.specs.Plain.{is_plain};
 ghost use Rattle.line_proto.specs.OneLine.{ends_line};
-ghost use Rattle.line_proto.specs.LineText.{spaced, on_one_line, trimmed, text_escapes};
+ghost use Rattle.line_proto.specs.LineText.{spaced, on_one_line, trimmed, text_escapes, name_text, key_text};
+ghost use Rattle.line_proto.specs.LineText.{value_text, tag_text, field_text, head_text, line_text};
 ghost use Rattle.text_parts.specs.Escaped.{escaped};
 ghost use Rattle.text_parts.specs.Marks.{escapes_of};
-ghost use Rattle.line_proto.specs.LineText.{name_text, key_text, value_text, tag_text, field_text, head_text};
-ghost use Rattle.line_proto.specs.LineText.{line_text};
 ghost use Rattle.text_parts.specs.Adds.{Adds};
 
 use fixed_num::OutOfMemory;

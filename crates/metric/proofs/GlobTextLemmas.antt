@@ -4,12 +4,13 @@ use Rattle.std.proofs.Common.{ap, ◌∙◌, append_assoc}
 use Rattle.std.specs.Prelude.{Option, Some, None, option_map}
 use Rattle.std.specs.Prelude.{option_and_then, take, suc, Bool, cond, not, ltb, position}
 use Rattle.std.specs.List.{position_or_len}
-use Rattle.std.proofs.Common.{arith, inl, inr}
+use Rattle.std.proofs.Common.{◌≢◌, ◌⊎◌, arith, inl, inr, ne_eqb}
 use Rattle.std.proofs.lemmas.Bool.{lt-ltb, le-ltb, cases_lt}
 use Rattle.metric.specs.declared.glob.Element.{Element}
 use Rattle.metric.specs.declared.glob_text.Mark.{Mark}
 use Rattle.metric.specs.Glob.{opens, closes, elements_of, element_of, set_and_rest, with_set, with_element}
-use Rattle.metric.specs.Glob.{set_of}
+use Rattle.metric.specs.Glob.{set_of, marks_of, with_mark}
+use Rattle.metric.specs.declared.glob_text.Mark.TheVariants.{Bare, Escaped}
 use Rattle.std.proofs.lemmas.List.{append-nil, drop-drop, drop_all}
 
 -- what is read, behind what was read before
@@ -40,6 +41,37 @@ module _ {X Y : Type 0} (read : List X → Option (List Y)) where
       sym h ∙ ap (λ xs. in_front items (read xs)) (drop_all at all past) ∙ ap (in_front items) none
       ∙ ap Some (append-nil items)
 
+-- ---- the first mark
+
+pub escaped : (c d : ℕ) (behind left : List ℕ) → c ≡ 92 → behind ≡ d ∷ left
+    → marks_of (c ∷ behind) ≡ with_mark (Escaped d) (marks_of left)
+unfolding marks_of
+escaped c d behind left h e = rw (e, h) refl
+
+pub unescaped : (c : ℕ) (behind : List ℕ) → c ≡ 92 → behind ≡ [] → marks_of (c ∷ behind) ≡ None
+unfolding marks_of
+unescaped c behind h e = rw (e, h) refl
+
+pub brace : (c : ℕ) (text : List ℕ) → (c ≡ 123) ⊎ ((c ≢ 123) × (c ≡ 125)) → marks_of (c ∷ text) ≡ None
+unfolding marks_of
+brace c [] (inl h) = rw h refl
+brace c [] (inr h) = rw h.1 refl
+brace c (d ∷ text) (inl h) = rw h refl
+brace c (d ∷ text) (inr h) = rw h.1 refl
+
+pub bare : (c : ℕ) (text : List ℕ) → c ≢ 92 → c ≢ 123 → c ≢ 125
+    → marks_of (c ∷ text) ≡ with_mark (Bare c) (marks_of text)
+unfolding marks_of
+bare c [] h a b = rw (ne_eqb c 92 h, ne_eqb c 123 a, ne_eqb c 125 b) refl
+bare c (d ∷ text) h a b = rw (ne_eqb c 92 h, ne_eqb c 123 a, ne_eqb c 125 b) refl
+
+-- none is left
+pub marks_end : (text rest : List ℕ) (marks : List Mark) → in_front marks (marks_of rest) ≡ marks_of text → rest ≡ []
+    → marks_of text ≡ Some marks
+unfolding marks_of
+marks_end text rest marks h none =
+    sym h ∙ ap (λ xs. in_front marks (marks_of xs)) none ∙ ap Some (append-nil marks)
+
 -- ---- one element
 
 pub opened : (mark : Mark) (marks : List Mark) → opens mark ≡ true
@@ -60,7 +92,7 @@ front_of marks elements = (marks, elements)
 abbrev front_with : Mark → List Mark × List Element → List Mark × List Element
 front_with mark inside = (mark ∷ inside.0, inside.1)
 
--- the marks of a set up to a place, and the elements behind its end
+-- the marks of a set up to an index, and the elements behind its end
 pub behind_end : List Mark → ℕ → Option (List Mark × List Element)
 behind_end inside at = option_map (front_of (take at inside)) (elements_of (drop (suc at) inside))
 

@@ -8,7 +8,8 @@ use Rattle.std.specs.Str.{IsUtf8, bytes_eq}
 use Rattle.std.specs.Prelude.{◌==◌, FitsSigned, Result, Ok, Err, OnOk, OnErr}
 use Rattle.fixed_num.specs.declared.memory.OutOfMemory.{OutOfMemory}
 use Rattle.std.proofs.lemmas.Bool.{eqb-false, or_parts}
-use Rattle.metric.specs.Pairs.{with_pair, with_sorted, beside, with_values, has_empty_key, has_empty_value, IsInKeyOrder}
+use Rattle.metric.specs.Pairs.{with_pair, with_sorted, beside, with_values, has_empty_key, has_empty_value}
+use Rattle.metric.specs.Pairs.{IsInKeyOrder}
 use Rattle.metric.specs.Building.{Parts, IsBuilt}
 use Rattle.metric.specs.Metric.{IsMetric, IsFilled, IsWord, IsValue, IsTag, IsField}
 use Rattle.metric.specs.declared.value.Value.{Value}
@@ -21,7 +22,8 @@ pub each_pair : {X : Type 0} (P : List ℕ × X → Type 0) (pairs : List (List 
 unfolding with_pair
 each_pair P [] key value p h = (p, tt)
 each_pair P (pair ∷ pairs) key value p h =
-    elim (bytes_eq pair.0 key) as (λ t. AllByRecursion P (cond t ((key, value) ∷ pairs) (pair ∷ with_pair pairs key value)))
+    elim (bytes_eq pair.0 key) as (λ t. AllByRecursion P (cond t ((key, value) ∷ pairs)
+    (pair ∷ with_pair pairs key value)))
     [ true ↦ (p, h.1) | false ↦ (h.0, each_pair P pairs key value p h.1) ]
 
 pub each_sorted : {X : Type 0} (P : List ℕ × X → Type 0) (pairs : List (List ℕ × X)) (key : List ℕ) (value : X)
@@ -29,7 +31,8 @@ pub each_sorted : {X : Type 0} (P : List ℕ × X → Type 0) (pairs : List (Lis
 unfolding with_sorted
 each_sorted P [] key value p h = (p, tt)
 each_sorted P (pair ∷ pairs) key value p h =
-    elim (key_cmp pair.0 key) as (λ o. AllByRecursion P (beside o pair (key, value) pairs (with_sorted pairs key value)))
+    elim (key_cmp pair.0 key) as (λ o. AllByRecursion P (beside o pair (key, value) pairs
+    (with_sorted pairs key value)))
     [ Less ↦ (h.0, each_sorted P pairs key value p h.1) | Equal ↦ (p, h.1) | Greater ↦ (p, h) ]
 
 pub built_none : (name : List ℕ) → IsUtf8 name → IsBuilt (record { name = name; tags = []; fields = [] })
@@ -65,14 +68,16 @@ word : (text : List ℕ) → (length text == 0) ≡ false → IsUtf8 text → Is
 word text e u = record { filled = filled text e; utf8 = u }
 
 all_fields : (fields : List (List ℕ × Value)) → has_empty_key fields ≡ false
-    → AllByRecursion (λ (field : List ℕ × Value). IsUtf8 field.0 × IsValue field.1) fields → AllByRecursion IsField fields
+    → AllByRecursion (λ (field : List ℕ × Value). IsUtf8 field.0 × IsValue field.1) fields
+    → AllByRecursion IsField fields
 all_fields [] e h = tt
 all_fields (field ∷ fields) e h =
     let parts = or_parts _ _ e in ((word field.0 parts.0 h.0.0, h.0.1), all_fields fields parts.1 h.1)
 
 -- values that are filled, at filled keys
 all_tags : (tags : List (List ℕ × List ℕ)) → has_empty_key tags ≡ false
-    → AllByRecursion (λ (tag : List ℕ × List ℕ). IsUtf8 tag.0 × IsUtf8 tag.1) tags → AllByRecursion IsTag (with_values tags)
+    → AllByRecursion (λ (tag : List ℕ × List ℕ). IsUtf8 tag.0 × IsUtf8 tag.1) tags
+    → AllByRecursion IsTag (with_values tags)
 all_tags [] e h = tt
 all_tags (tag ∷ tags) e h =
     let parts = or_parts _ _ e in
@@ -118,9 +123,11 @@ is_metric p time h fits name tags fields some = record {
 }
 
 -- after a call that may fail
-pub built_tags : (p : Parts) (tags : List (List ℕ × List ℕ)) (key value : List ℕ) (result : Result (Unit {0}) OutOfMemory)
+pub built_tags : (p : Parts) (tags : List (List ℕ × List ℕ)) (key value : List ℕ)
+    (result : Result (Unit {0}) OutOfMemory)
     → IsUtf8 key → IsUtf8 value → IsBuilt p
-    → OnOk result (tags ≡ with_sorted p.tags key value) → OnErr result (tags ≡ p.tags) → IsBuilt (record p { tags = tags })
+    → OnOk result (tags ≡ with_sorted p.tags key value) → OnErr result (tags ≡ p.tags)
+    → IsBuilt (record p { tags = tags })
 built_tags p tags key value (Ok x) ku vu h ok err = rw ok (built_tag p key value ku vu h)
 built_tags p tags key value (Err x) ku vu h ok err = rw err h
 

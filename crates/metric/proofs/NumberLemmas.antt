@@ -4,7 +4,8 @@ use Rattle.std.specs.Prelude.{codes}
 use Rattle.std.specs.Fmt.{decimal, digits}
 use Rattle.fixed_num.specs.Fixed.{read_as}
 use Rattle.fixed_num.proofs.Again.{reads_canonical}
-use Rattle.fixed_num.proofs.NumberTexts.{IsNumberText, magnitude_below, decimal_number, signed_number, canonical_number, decimal_read, signed_read}
+use Rattle.fixed_num.proofs.NumberTexts.{IsNumberText, magnitude_below, decimal_number, signed_number, canonical_number}
+use Rattle.fixed_num.proofs.NumberTexts.{decimal_read, signed_read}
 use Rattle.metric.specs.declared.value.Value.{Value}
 use Rattle.metric.specs.declared.value.Value.TheVariants.{Int, Uint, Fixed, «Bool» as Truth, Text}
 use Rattle.metric.specs.Metric.{IsValue}

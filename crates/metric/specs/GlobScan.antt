@@ -28,7 +28,7 @@ abbrev pub holds_later : (List ℕ → Bool) → List ℕ → Bool
 holds_later test [] = false
 holds_later test (c ∷ text) = holds_behind test text
 
--- do the elements behind the last run match at a later place
+-- do the elements behind the last run match further on
 abbrev pub matches_again : Option (List Element × List ℕ) → Bool
 matches_again None = false
 matches_again (Some tried) = holds_later (matches tried.0) tried.1
@@ -43,21 +43,21 @@ abbrev pub IsTried : ℕ → List ℕ → Option (List Element × List ℕ) → 
 IsTried most text None = Unit {0}
 IsTried most text (Some tried) = (length text ≤ length tried.1) × (length tried.0 ≤ most)
 
--- what is true of a scan of at most so many elements: where the elements behind the last run match at a later
--- place, those that are left do so too
+-- what is true of a scan of at most so many elements: where the elements behind the last run match
+-- further on, those that are left do so too
 pub record IsScan (most : ℕ) (l : Looking) : Type 0 where
   pub last : matches_again l.again ≡ true → holds_later (matches l.elements) l.text ≡ true
   pub few : length l.elements ≤ most
   pub tried : IsTried most l.text l.again
 
--- how many places are still to be tried
-abbrev pub places : List ℕ → Option (List Element × List ℕ) → ℕ
-places text None = length text + 1
-places text (Some tried) = length tried.1
+-- at how many offsets the elements behind the last run are still to be tried
+abbrev pub tries : List ℕ → Option (List Element × List ℕ) → ℕ
+tries text None = length text + 1
+tries text (Some tried) = length tried.1
 
 -- how much of a scan is left
 abbrev pub left : ℕ → Looking → ℕ
-left most l = places l.text l.again * (most + 1) + length l.elements
+left most l = tries l.text l.again * (most + 1) + length l.elements
 
 -- a step further: the answer stays as it is, and less is left
 pub record Advances (most : ℕ) (old new : Looking) : Type 0 where

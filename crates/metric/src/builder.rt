@@ -3,9 +3,9 @@ ghost use Rattle.std.specs.Prelude.{◌≡◌, [], length, OnOk, OnErr, IfOk};
 ghost use Rattle.std.specs.List.{position};
 ghost use Rattle.std.specs.Str.{bytes_eq};
 ghost use Rattle.metric.specs.Building.{IsBuilt, IsWhole, parts_of, finished, Completes, Finishes};
-ghost use Rattle.metric.specs.Metric.{IsMetric, IsValue};
+ghost use Rattle.metric.specs.Metric.{IsMetric};
 ghost use Rattle.metric.specs.declared.builder.BuildFault.TheVariants.{OutOfMemory};
-ghost use Rattle.metric.specs.Pairs.{with_pair, with_sorted, has_empty_key, has_empty_value, HasPlace};
+ghost use Rattle.metric.specs.Pairs.{with_pair, with_sorted, has_empty_key, has_empty_value, HasIndex};
 ghost use Rattle.metric.specs.Pairs.{with_values, IsInKeyOrder};
 
 use crate::{Content, Metric, Text, Value};
@@ -154,7 +154,7 @@ impl Builder {
             (self.new ≡ record self.old { fields = with_pair self.old.fields key.now value }) }
         ensures err { OnErr result (self.new ≡ self.old) }
     {
-        shows_in_range(&value);
+        value.shows_value();
         put_field(self.alloc, &mut self.content.fields, key, value)
     }
 
@@ -227,28 +227,6 @@ fn complete(alloc: Global, content: &mut Content, time: Moment) -> Result<(), Bu
     Ok(())
 }
 
-/// Says that a value is in the range of its type, and UTF-8 where it is a text.
-#[inline(always)]
-pub(crate) fn shows_in_range(value: &Value)
-    ensures { IsValue value.now }
-{
-    match value {
-        Value::Int(n) => {
-            let _n = *n;
-        }
-        Value::Uint(n) => {
-            let _n = *n;
-        }
-        Value::Fixed(n) => {
-            let _n = n.billionths();
-        }
-        Value::Bool(_) => {}
-        Value::Text(text) => {
-            let _text = text.as_str();
-        }
-    }
-}
-
 /// One more tag among tags sorted by key.
 pub(crate) fn put_tag(
     alloc: Global,
@@ -274,7 +252,7 @@ pub(crate) fn put_texts(
     ensures ok { OnOk result (tags.new ≡ with_sorted tags.old key value) }
     ensures err { OnErr result (tags.new ≡ tags.old) }
 {
-    match place_of(tags.as_slice(), key.as_str()) {
+    match index_of(tags.as_slice(), key.as_str()) {
         Ok(i) => tags.set(i, (key, value)),
         Err(i) => tags.insert(alloc, i, (key, value))?,
     }
@@ -301,9 +279,9 @@ pub(crate) fn put_field(
 
 /// Where the tag of a key stands, or where one has to be put, among tags sorted by key. It is looked for from
 /// the end, since tags mostly come in order.
-fn place_of(tags: &[(Text, Text)], key: &str) -> Result<usize, usize>
+fn index_of(tags: &[(Text, Text)], key: &str) -> Result<usize, usize>
     requires { IsInKeyOrder tags.now }
-    ensures { HasPlace tags.now key.now result }
+    ensures { HasIndex tags.now key.now result }
 {
     let mut at = tags.len();
     while at > 0 {

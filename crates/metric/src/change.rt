@@ -61,7 +61,7 @@ pub(crate) fn set_tag(
     }
 }
 
-/// The content with a field: at the place of the one of its key, or behind the others.
+/// The content with a field: over the one of its key, or behind the others.
 pub(crate) fn set_field(
     content: &mut Arc<Content>,
     alloc: Global,

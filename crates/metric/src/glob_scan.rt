@@ -7,7 +7,7 @@ ghost use Rattle.metric.specs.GlobScan.{looking, IsScan, IsStep};
 use crate::glob::Element;
 
 /// The first character of a text and the text behind it.
-fn first_character(text: &str) -> Option<(char, &str)>
+pub(crate) fn first_character(text: &str) -> Option<(char, &str)>
     ensures { MatchOption result (chars text.now ≡ [])
         (λ first. chars text.now ≡ first.0 ∷ chars first.1.now) }
 {

@@ -8,6 +8,7 @@ ghost use Rattle.metric.specs.Glob.{set_of_ranges, ranges_of, with_range, charac
 ghost use Rattle.metric.specs.declared.glob.Element.TheVariants.{OneOf, NoneOf};
 
 use crate::glob::Element;
+use crate::glob_scan::first_character;
 use fixed_num::{OutOfMemory, Seq};
 use std::alloc::Global;
 
@@ -46,55 +47,44 @@ impl Mark {
 pub(crate) fn read_elements(alloc: Global, text: &str) -> Result<Option<Vec<Element>>, OutOfMemory>
     ensures { IfOk result (λ elements. option_map vec_items elements ≡ glob_of (chars text.now)) }
 {
-    let characters = characters_of(alloc, text)?;
-    let Some(marks) = marks_of(alloc, characters.as_slice())? else {
+    let Some(marks) = marks_of(alloc, text)? else {
         return Ok(None);
     };
     elements_of(alloc, marks.as_slice())
 }
 
-/// The characters of a text.
-fn characters_of(alloc: Global, text: &str) -> Result<Vec<char>, OutOfMemory>
-    ensures { IfOk result (λ characters. characters.items ≡ chars text.now) }
-{
-    Ok(text.chars().collect(alloc)?)
-}
-
-/// The marks that characters spell; None where they spell none.
-fn marks_of(alloc: Global, characters: &[char]) -> Result<Option<Vec<Mark>>, OutOfMemory>
-    ensures { IfOk result (λ marks. option_map vec_items marks ≡ marks_of characters.now) }
+/// The marks that a text spells; None where it spells none.
+fn marks_of(alloc: Global, text: &str) -> Result<Option<Vec<Mark>>, OutOfMemory>
+    ensures { IfOk result (λ marks. option_map vec_items marks ≡ marks_of (chars text.now)) }
 {
     let mut marks = Vec::new(alloc);
-    let mut at = 0;
-    while at < characters.len() {
-        let Some((mark, width)) = first_mark(&characters[at..]) else {
+    let mut rest = text;
+    while let Some((first, behind)) = first_character(rest) {
+        let Some((mark, left)) = first_mark(first, behind) else {
             return Ok(None);
         };
         marks.push(mark)?;
-        at += width;
+        rest = left;
     }
     Ok(Some(marks))
 }
 
-/// The first mark of characters, of which there are some, and how many characters it takes.
-#[tactic(auto, unfolding(crate::specs::Glob::marks_of))]
-fn first_mark(characters: &[char]) -> Option<(Mark, usize)>
-    requires { 0 < length characters.now }
-    ensures value { MatchOption result (marks_of characters.now ≡ None)
-        (λ first. marks_of characters.now ≡ with_mark first.0 (marks_of (drop first.1 characters.now))) }
-    ensures width { IfSome result (λ first. (0 < first.1) × (first.1 ≤ length characters.now)) }
+/// The mark that begins with a character, and the text behind it.
+fn first_mark<'a>(first: char, behind: &'a str) -> Option<(Mark, &'a str)>
+    ensures value { MatchOption result (marks_of (first ∷ chars behind.now) ≡ None)
+        (λ read. marks_of (first ∷ chars behind.now) ≡ with_mark read.0 (marks_of (chars read.1.now))) }
+    ensures shorter { IfSome result (λ read. length (chars read.1.now) ≤ length (chars behind.now)) }
 {
-    match characters {
-        ['\\', escaped, ..] => Some((Mark::Escaped(*escaped), 2)),
-        [c, ..] => {
-            if *c == '\\' || *c == '{' || *c == '}' {
-                None
-            } else {
-                Some((Mark::Bare(*c), 1))
-            }
-        }
-        [] => None,
+    if first == '\\' {
+        let Some((escaped, left)) = first_character(behind) else {
+            return None;
+        };
+        return Some((Mark::Escaped(escaped), left));
     }
+    if first == '{' || first == '}' {
+        return None;
+    }
+    Some((Mark::Bare(first), behind))
 }
 
 /// The elements that marks spell; None where they spell no glob.
@@ -144,9 +134,9 @@ fn first_set(alloc: Global, inside: &[Mark]) -> Result<Option<(Element, usize)>,
     Ok(Some((set, end + 1)))
 }
 
-/// Where a set ends: the place of the first unescaped `]`.
+/// Where a set ends: the index of the first unescaped `]`.
 fn end_of_set(inside: &[Mark]) -> Option<usize>
-    ensures place { result ≡ position closes inside.now }
+    ensures index { result ≡ position closes inside.now }
     ensures within { IfSome result (λ end. end < length inside.now) }
 {
     inside.iter().position(|mark| mark.is_bare(']'))

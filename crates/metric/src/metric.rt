@@ -7,7 +7,6 @@ ghost use Rattle.metric.specs.Metric.{IsFilled, IsFilledTag, IsMetric};
 ghost use Rattle.metric.specs.Changing.{loses_field, without_field, without_key};
 ghost use Rattle.metric.specs.Pairs.{has_key, value_at, with_all_missing, with_pair, with_sorted};
 
-use crate::builder::shows_in_range;
 use crate::missing::{add_missing, behind_known, field_copies, tag_copies};
 use crate::{Series, Text, Value, change};
 use fixed_num::{Moment, OutOfMemory, Seq};
@@ -108,7 +107,7 @@ impl Metric {
         self.with_missing(alloc, given, from)
     }
 
-    // The same, with the tags of the list from a place on, of which it lacks one.
+    // The same, with the tags of the list from an index on, of which it lacks one.
     #[inline(never)]
     fn with_missing(
         self,
@@ -165,12 +164,12 @@ impl Metric {
             (self.new ≡ record self.old { fields = with_pair self.old.fields key.now value }) }
         ensures err { OnErr result (self.new ≡ self.old) }
     {
-        shows_in_range(&value);
+        value.shows_value();
         change::set_field(&mut self.content, alloc, key, value)
     }
 
-    /// The tag of a key goes: true exactly where there was one. After an error, which comes where the content is shared,
-    /// the metric is as before.
+    /// The tag of a key goes: true exactly where there was one. It may take memory where other metrics share the
+    /// content. After an error the metric is as before.
     pub fn drop_tag(&mut self, alloc: Global, key: &str) -> Result<bool, OutOfMemory>
         ensures gone { IfOk result (λ gone. gone ≡ has_key self.old.tags key.now) }
         ensures ok { OnOk result
@@ -180,8 +179,8 @@ impl Metric {
         change::drop_tag(&mut self.content, alloc, key)
     }
 
-    /// The field of a key goes, unless it is the only one: true exactly where it went. After an error, which comes where
-    /// the content is shared, the metric is as before.
+    /// The field of a key goes, unless it is the only one: true exactly where it went. It may take memory where other
+    /// metrics share the content. After an error the metric is as before.
     pub fn drop_field(&mut self, alloc: Global, key: &str) -> Result<bool, OutOfMemory>
         ensures gone { IfOk result (λ gone. gone ≡ loses_field self.old.fields key.now) }
         ensures ok { OnOk result

@@ -60,7 +60,7 @@ fn add_one(
     Ok(())
 }
 
-/// Adds the tags of the list from a place on, each where no tag has its key then.
+/// Adds the tags of the list from an index on, each where no tag has its key then.
 pub(crate) fn add_missing(
     alloc: Global,
     tags: &mut Seq<(Text, Text)>,

@@ -3,7 +3,7 @@ ghost use Rattle.std.specs.Prelude.{◌≡◌, if◌then◌else◌};
 ghost use Rattle.std.specs.List.{list_all};
 ghost use Rattle.metric.specs.Plain.{is_plain};
 
-/// `0` at the place of each plain byte, and `1` at every other place.
+/// `0` at the index of each plain byte, and `1` at every other one.
 static MARKS: [u8; 256] = *b"\
     11111111111111111111111111111111\
     11111111111110010000000000011111\

@@ -1,6 +1,7 @@
 //! The value of a field.
 ghost use Rattle.std.specs.Prelude.{◌≡◌, ◌++◌, [], ◌∷◌, decimal, IfOk, OnOk, OnErr};
 ghost use Rattle.std.specs.Fmt.{signed_decimal};
+ghost use Rattle.metric.specs.Metric.{IsValue};
 ghost use Rattle.metric.specs.Numbers.{is_text, number_text};
 
 use crate::Text;
@@ -34,6 +35,28 @@ impl Value {
             Value::Bool(b) => Value::Bool(*b),
             Value::Text(text) => Value::Text(text.copy()?),
         })
+    }
+
+    /// Says to a caller's proof what is true of each value: a number is in the range of its type, a text is UTF-8.
+    #[inline(always)]
+    pub fn shows_value(&self)
+        ensures { IsValue self.now }
+    {
+        match self {
+            Value::Int(n) => {
+                let _n = *n;
+            }
+            Value::Uint(n) => {
+                let _n = *n;
+            }
+            Value::Fixed(n) => {
+                let _n = n.billionths();
+            }
+            Value::Bool(_) => {}
+            Value::Text(text) => {
+                let _text = text.as_str();
+            }
+        }
     }
 
     /// Is it a text, which is no number?

@@ -107,7 +107,8 @@ no_rule_applied rules m h some =
     let f = and_parts _ (length rules.tagpass == 0) e.0 in
     let g = and_parts (length rules.namepass == 0) (length rules.namedrop == 0) f.0 in
     let selected : selects rules m ≡ true =
-    rw (none_of rules.namepass g.0, none_of rules.namedrop g.1, none_of rules.tagpass f.1, none_of rules.tagdrop e.1) refl in
+    rw (none_of rules.namepass g.0, none_of rules.namedrop g.1, none_of rules.tagpass f.1, none_of rules.tagdrop e.1)
+    refl in
     let fields : keeps_each rules.fieldinclude rules.fieldexclude m.fields ≡ true =
     rw (none_of rules.fieldinclude d.1, none_of rules.fieldexclude c.1) (all_kept m.fields) in
     let tags : keeps_each rules.taginclude rules.tagexclude m.tags ≡ true =

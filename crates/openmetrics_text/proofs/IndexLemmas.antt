@@ -1,10 +1,11 @@
 -- Where the group of a key stands, and what is put there.
-use Rattle.std.proofs.Common.{◌≡◌, ◌<◌, ℕ, zero, suc, Bool, true, false, cond, List, [], ◌∷◌, ◌++◌, length, get_or, set, Option, Some, None, refl, sym, ap, subst, ◌∙◌, arith}
+use Rattle.std.proofs.Common.{◌≡◌, ◌<◌, ℕ, zero, suc, Bool, true, false, cond, List, [], ◌∷◌, ◌++◌, length, get_or, set}
+use Rattle.std.proofs.Common.{Option, Some, None, refl, sym, ap, subst, ◌∙◌, arith}
 use Rattle.std.specs.Option.{option_map}
 use Rattle.std.specs.Str.{bytes_eq}
 use Rattle.std.proofs.lemmas.Slice.Eq.{bytes_eq-Decides}
 use Rattle.openmetrics_text.specs.Groups.{Grouped, Written, put_in, with_last}
-use Rattle.openmetrics_text.specs.WriteViews.{HasMore, place_in}
+use Rattle.openmetrics_text.specs.WriteViews.{HasMore, index_in}
 
 -- ---- options
 
@@ -15,18 +16,19 @@ some_or d None = d
 some_same : (i j : ℕ) → Some i ≡ Some j → i ≡ j
 some_same i j same = ap (some_or i) same
 
-abbrev or_place : Option ℕ → Option ℕ → Option ℕ
-or_place (Some i) other = Some i
-or_place None other = other
+abbrev or_index : Option ℕ → Option ℕ → Option ℕ
+or_index (Some i) other = Some i
+or_index None other = other
 
-or_next : (o : Option ℕ) (t : Bool) (n : ℕ) → option_map suc (or_place o (cond t (Some n) None)) ≡ or_place (option_map suc o) (cond t (Some (suc n)) None)
+or_next : (o : Option ℕ) (t : Bool) (n : ℕ) → option_map suc (or_index o (cond t (Some n) None)) ≡ or_index
+    (option_map suc o) (cond t (Some (suc n)) None)
 or_next (Some i) t n = refl
 or_next None true n = refl
 or_next None false n = refl
 
 -- ---- the group of a key that is there
 
--- the group at a place, changed
+-- the group at an index, changed
 abbrev changed : (List Written → List Written) → List Grouped → ℕ → Grouped → List Grouped
 changed change gs i d = set gs i ((get_or gs i d).0, change (get_or gs i d).1)
 
@@ -35,63 +37,79 @@ module _ (change : List Written → List Written) (key : List ℕ) (d : Grouped)
   IsFound gs i = (i < length gs) × (changed change gs i d ≡ put_in change [] gs key)
 
   -- behind another group
-  found_later : (g : Grouped) (gs : List Grouped) (i : ℕ) (place : Option ℕ) → place_in key gs ≡ place → ((j : ℕ) → place_in key gs ≡ Some j → IsFound gs j) → option_map suc place ≡ Some i
+  found_later : (g : Grouped) (gs : List Grouped) (i : ℕ) (index : Option ℕ) → index_in key gs ≡ index
+      → ((j : ℕ) → index_in key gs ≡ Some j → IsFound gs j) → option_map suc index ≡ Some i
       → (i < length (g ∷ gs)) × (changed change (g ∷ gs) i d ≡ g ∷ put_in change [] gs key)
   found_later g gs i None is found e = absurd cc
   found_later g gs i (Some j) is found e =
       let before = found j is in
-      subst (λ (n : ℕ). (n < length (g ∷ gs)) × (changed change (g ∷ gs) n d ≡ g ∷ put_in change [] gs key)) (some_same (suc j) i e) (omega (arith, before.0), ap (λ (rest : List Grouped). g ∷ rest) before.1)
+      subst (λ (n : ℕ). (n < length (g ∷ gs)) × (changed change (g ∷ gs) n d ≡ g ∷ put_in change [] gs key))
+      (some_same (suc j) i e) (omega (arith, before.0), ap (λ (rest : List Grouped). g ∷ rest) before.1)
 
-  found : (gs : List Grouped) (i : ℕ) → place_in key gs ≡ Some i → IsFound gs i
+  found : (gs : List Grouped) (i : ℕ) → index_in key gs ≡ Some i → IsFound gs i
   unfolding put_in
   found [] i e = absurd cc
   found (g ∷ gs) i e =
-      elim (bytes_eq key g.0) as (λ t. cond t (Some 0) (option_map suc (place_in key gs)) ≡ Some i → (i < length (g ∷ gs)) × (changed change (g ∷ gs) i d ≡ cond t ((g.0, change g.1) ∷ gs) (g ∷ put_in change [] gs key))) [
-        | true ↦ λ here. subst (λ (n : ℕ). (n < length (g ∷ gs)) × (changed change (g ∷ gs) n d ≡ (g.0, change g.1) ∷ gs)) (some_same 0 i here) (omega arith, refl)
-        | false ↦ λ later. found_later g gs i (place_in key gs) refl (found gs) later
+      elim (bytes_eq key g.0) as (λ t. cond t (Some 0) (option_map suc (index_in key gs)) ≡ Some i
+      → (i < length (g ∷ gs)) × (changed change (g ∷ gs) i d ≡ cond t ((g.0, change g.1) ∷ gs)
+      (g ∷ put_in change [] gs key))) [
+        | true ↦ λ here. subst (λ (n : ℕ). (n < length (g ∷ gs))
+            × (changed change (g ∷ gs) n d ≡ (g.0, change g.1) ∷ gs)) (some_same 0 i here) (omega arith, refl)
+        | false ↦ λ later. found_later g gs i (index_in key gs) refl (found gs) later
       ] e
 
-pub place_within : (key : List ℕ) (gs : List Grouped) (i : ℕ) → place_in key gs ≡ Some i → i < length gs
-place_within key gs i e = (found (λ samples. samples) key ([], []) gs i e).0
+pub index_within : (key : List ℕ) (gs : List Grouped) (i : ℕ) → index_in key gs ≡ Some i → i < length gs
+index_within key gs i e = (found (λ samples. samples) key ([], []) gs i e).0
 
-pub put_there : (key : List ℕ) (gs new : List Grouped) (i : ℕ) (sample : Written) → place_in key gs ≡ Some i → HasMore gs i sample new → new ≡ put_in (with_last sample) [] gs key
+pub put_there : (key : List ℕ) (gs new : List Grouped) (i : ℕ) (sample : Written) → index_in key gs ≡ Some i
+    → HasMore gs i sample new → new ≡ put_in (with_last sample) [] gs key
 put_there key gs new i sample e more = more ([], []) ∙ (found (with_last sample) key ([], []) gs i e).1
 
 -- no key changes
-keys_stay : (q : List ℕ) (gs : List Grouped) (i : ℕ) (d : Grouped) (samples : List Written) → place_in q (set gs i ((get_or gs i d).0, samples)) ≡ place_in q gs
+keys_stay : (q : List ℕ) (gs : List Grouped) (i : ℕ) (d : Grouped) (samples : List Written)
+    → index_in q (set gs i ((get_or gs i d).0, samples)) ≡ index_in q gs
 keys_stay q [] i d samples = refl
 keys_stay q (g ∷ gs) zero d samples = refl
-keys_stay q (g ∷ gs) (suc i) d samples = ap (λ (place : Option ℕ). cond (bytes_eq q g.0) (Some 0) (option_map suc place)) (keys_stay q gs i d samples)
+keys_stay q (g ∷ gs) (suc i) d samples = ap (λ (index : Option ℕ). cond (bytes_eq q g.0) (Some 0)
+    (option_map suc index)) (keys_stay q gs i d samples)
 
-pub places_stay : (q : List ℕ) (gs new : List Grouped) (i : ℕ) (sample : Written) → HasMore gs i sample new → place_in q gs ≡ place_in q new
-places_stay q gs new i sample more = sym (keys_stay q gs i ([], []) (with_last sample (get_or gs i ([], [])).1)) ∙ ap (place_in q) (sym (more ([], [])))
+pub indices_stay : (q : List ℕ) (gs new : List Grouped) (i : ℕ) (sample : Written) → HasMore gs i sample new
+    → index_in q gs ≡ index_in q new
+indices_stay q gs new i sample more = sym (keys_stay q gs i ([], []) (with_last sample (get_or gs i ([], [])).1))
+    ∙ ap (index_in q) (sym (more ([], [])))
 
 -- ---- a new key
 
-pub put_behind : (change : List Written → List Written) (gs : List Grouped) (key : List ℕ) → place_in key gs ≡ None → gs ++ (key, change []) ∷ [] ≡ put_in change [] gs key
+pub put_behind : (change : List Written → List Written) (gs : List Grouped) (key : List ℕ) → index_in key gs ≡ None
+    → gs ++ (key, change []) ∷ [] ≡ put_in change [] gs key
 unfolding put_in
 put_behind change [] key e = refl
 put_behind change (g ∷ gs) key e =
-    elim (bytes_eq key g.0) as (λ t. cond t (Some 0) (option_map suc (place_in key gs)) ≡ None → g ∷ (gs ++ (key, change []) ∷ []) ≡ cond t ((g.0, change g.1) ∷ gs) (g ∷ put_in change [] gs key)) [
+    elim (bytes_eq key g.0) as (λ t. cond t (Some 0) (option_map suc (index_in key gs)) ≡ None
+    → g ∷ (gs ++ (key, change []) ∷ []) ≡ cond t ((g.0, change g.1) ∷ gs) (g ∷ put_in change [] gs key)) [
       | true ↦ λ here. absurd cc
-      | false ↦ λ later. ap (λ (rest : List Grouped). g ∷ rest) (put_behind change gs key (no_later (place_in key gs) later))
+      | false ↦ λ later. ap (λ (rest : List Grouped). g ∷ rest)
+          (put_behind change gs key (no_later (index_in key gs) later))
     ] e
   where
-    no_later : (place : Option ℕ) → option_map suc place ≡ None → place ≡ None
+    no_later : (index : Option ℕ) → option_map suc index ≡ None → index ≡ None
     no_later None none = refl
     no_later (Some i) none = absurd cc
 
-place-push : (q : List ℕ) (gs : List Grouped) (group : Grouped) → place_in q (gs ++ group ∷ []) ≡ or_place (place_in q gs) (cond (bytes_eq q group.0) (Some (length gs)) None)
-place-push q [] group = refl
-place-push q (g ∷ gs) group =
-    elim (bytes_eq q g.0) as (λ t. cond t (Some 0) (option_map suc (place_in q (gs ++ group ∷ []))) ≡ or_place (cond t (Some 0) (option_map suc (place_in q gs))) (cond (bytes_eq q group.0) (Some (length (g ∷ gs))) None)) [
+index-push : (q : List ℕ) (gs : List Grouped) (group : Grouped)
+    → index_in q (gs ++ group ∷ []) ≡ or_index (index_in q gs) (cond (bytes_eq q group.0) (Some (length gs)) None)
+index-push q [] group = refl
+index-push q (g ∷ gs) group =
+    elim (bytes_eq q g.0) as (λ t. cond t (Some 0) (option_map suc (index_in q (gs ++ group ∷ []))) ≡ or_index
+    (cond t (Some 0) (option_map suc (index_in q gs))) (cond (bytes_eq q group.0) (Some (length (g ∷ gs))) None)) [
       | true ↦ refl
-      | false ↦ ap (option_map suc) (place-push q gs group) ∙ or_next (place_in q gs) (bytes_eq q group.0) (length gs)
+      | false ↦ ap (option_map suc) (index-push q gs group) ∙ or_next (index_in q gs) (bytes_eq q group.0) (length gs)
     ]
 
 turned : (a b : List ℕ) (t : Bool) → bytes_eq a b ≡ t → bytes_eq b a ≡ t
 turned a b true e = (bytes_eq-Decides b a).1 (sym ((bytes_eq-Decides a b).0 e))
-turned a b false e = not_true (bytes_eq b a) (λ same. true_false (sym ((bytes_eq-Decides a b).1 (sym ((bytes_eq-Decides b a).0 same))) ∙ e))
+turned a b false e = not_true (bytes_eq b a) (λ same. true_false
+    (sym ((bytes_eq-Decides a b).1 (sym ((bytes_eq-Decides b a).0 same))) ∙ e))
   where
     true_false : true ≡ false → ⊥
     true_false e = absurd cc
@@ -100,17 +118,19 @@ turned a b false e = not_true (bytes_eq b a) (λ same. true_false (sym ((bytes_e
     not_true true h = absurd (h refl)
     not_true false h = refl
 
--- the new key has the last place, and each other one has the place that it had
-pub places_more : (q : List ℕ) (gs : List Grouped) (key : List ℕ) (samples : List Written) → place_in key gs ≡ None
-    → cond (bytes_eq key q) (Some (length gs)) (place_in q gs) ≡ place_in q (gs ++ (key, samples) ∷ [])
-places_more q gs key samples none =
-    elim (bytes_eq key q) as (λ t. bytes_eq key q ≡ t → cond t (Some (length gs)) (place_in q gs) ≡ place_in q (gs ++ (key, samples) ∷ [])) [
+-- the new key has the last index, and each other one has the index that it had
+pub indices_more : (q : List ℕ) (gs : List Grouped) (key : List ℕ) (samples : List Written) → index_in key gs ≡ None
+    → cond (bytes_eq key q) (Some (length gs)) (index_in q gs) ≡ index_in q (gs ++ (key, samples) ∷ [])
+indices_more q gs key samples none =
+    elim (bytes_eq key q) as (λ t. bytes_eq key q ≡ t → cond t (Some (length gs)) (index_in q gs) ≡ index_in q
+    (gs ++ (key, samples) ∷ [])) [
       | true ↦ λ same.
-          let absent : place_in q gs ≡ None = subst (λ (k : List ℕ). place_in k gs ≡ None) ((bytes_eq-Decides key q).0 same) none in
-          rw (place-push q gs (key, samples), absent, turned key q true same) refl
-      | false ↦ λ other. rw (place-push q gs (key, samples), turned key q false other) (same_place (place_in q gs))
+          let absent : index_in q gs ≡ None = subst (λ (k : List ℕ). index_in k gs ≡ None)
+          ((bytes_eq-Decides key q).0 same) none in
+          rw (index-push q gs (key, samples), absent, turned key q true same) refl
+      | false ↦ λ other. rw (index-push q gs (key, samples), turned key q false other) (same_index (index_in q gs))
     ] refl
   where
-    same_place : (place : Option ℕ) → place ≡ or_place place None
-    same_place (Some i) = refl
-    same_place None = refl
+    same_index : (index : Option ℕ) → index ≡ or_index index None
+    same_index (Some i) = refl
+    same_index None = refl

@@ -1,5 +1,6 @@
 -- What stands for a set of labels stands for no other.
-use Rattle.std.proofs.Common.{◌≡◌, ℕ, ◌+◌, Bool, true, false, cond, List, [], ◌∷◌, ◌++◌, length, take, drop, refl, sym, ap, subst, ◌∙◌, append_assoc, inl, arith}
+use Rattle.std.proofs.Common.{◌≡◌, ℕ, ◌+◌, Bool, true, false, cond, List, [], ◌∷◌, ◌++◌, length, take, drop, refl, sym}
+use Rattle.std.proofs.Common.{ap, subst, ◌∙◌, append_assoc, inl, arith}
 use Rattle.std.specs.Prelude.{◌&&◌, ◌||◌, ◌==◌}
 use Rattle.std.specs.List.{flat_map}
 use Rattle.std.specs.Str.{bytes_eq}
@@ -26,7 +27,8 @@ quote_of b e = rw (eqb-true b 34 e) refl
 hidden : (b : ℕ) → ((b == 92 || b == 34) || b == 10) ≡ true → value_part.escapes (label_escapes.written b) ≡ true
 hidden b e = elim (b == 10) as (λ t. (b == 10) ≡ t → value_part.escapes (cond t 110 b) ≡ true) [
   | true ↦ λ n. refl
-  | false ↦ λ n. plain_mark (b == 92) (b == 34) (b == 110) (subst (λ (t : Bool). ((b == 92 || b == 34) || t) ≡ true) n e)
+  | false ↦ λ n. plain_mark (b == 92) (b == 34) (b == 110) (subst (λ (t : Bool). ((b == 92 || b == 34) || t) ≡ true) n
+      e)
 ] refl
   where
     plain_mark : (x y z : Bool) → ((x || y) || false) ≡ true → ((x || y) || z) ≡ true
@@ -66,28 +68,43 @@ read_back : (text rest : List ℕ) → read (quoted text ++ rest) ≡ (text, res
 read_back text rest =
     let p = escaped_is_part value_part label_escapes text (34 ∷ rest) (suits text) (quote_ends rest) in
     let r = part_is_read value_part p.0 (34 ∷ rest) p.2 in
-    let is : quoted text ++ rest ≡ spelled p.0 ++ 34 ∷ rest = append_assoc (escaped label_escapes text) (34 ∷ []) rest ∙ ap (λ t. t ++ 34 ∷ rest) p.1 in
+    let is : quoted text ++ rest ≡ spelled p.0 ++ 34 ∷ rest =
+    append_assoc (escaped label_escapes text) (34 ∷ []) rest ∙ ap (λ t. t ++ 34 ∷ rest) p.1 in
     ap read is ∙ rw (r.0)
-    (λ j. ((ap (plain value_part) (take_at (spelled p.0) (34 ∷ rest) (length (spelled p.0)) refl) ∙ r.1 ∙ p.3) j, behind (spelled p.0) rest j))
+    (λ j. (
+      (ap (plain value_part) (take_at (spelled p.0) (34 ∷ rest) (length (spelled p.0)) refl) ∙ r.1 ∙ p.3) j,
+      behind (spelled p.0) rest j,
+    ))
   where
     behind : (front rest : List ℕ) → drop (length front + 1) (front ++ 34 ∷ rest) ≡ rest
-    behind front rest = ap (λ t. drop (length front + 1) t) (sym (append_assoc front (34 ∷ []) rest)) ∙ drop_at (front ++ 34 ∷ []) rest (length front + 1) (omega (arith, length-append front (34 ∷ [])))
+    behind front rest = ap (λ t. drop (length front + 1) t) (sym (append_assoc front (34 ∷ []) rest))
+        ∙ drop_at (front ++ 34 ∷ []) rest (length front + 1) (omega (arith, length-append front (34 ∷ [])))
 
-quoted_apart : (one other front back : List ℕ) → quoted one ++ front ≡ quoted other ++ back → (one ≡ other) × (front ≡ back)
+quoted_apart : (one other front back : List ℕ) → quoted one ++ front ≡ quoted other ++ back
+    → (one ≡ other) × (front ≡ back)
 quoted_apart one other front back e =
     let same : (one, front) ≡ (other, back) = sym (read_back one front) ∙ ap read e ∙ read_back other back in
     (ap (λ (p : List ℕ × List ℕ). p.0) same, ap (λ (p : List ℕ × List ℕ). p.1) same)
 
 -- ---- labels
 
-label_apart : (one other : Tag) (front back : List ℕ) → quoted_label one ++ front ≡ quoted_label other ++ back → (one ≡ other) × (front ≡ back)
+label_apart : (one other : Tag) (front back : List ℕ) → quoted_label one ++ front ≡ quoted_label other ++ back
+    → (one ≡ other) × (front ≡ back)
 label_apart one other front back e =
-    let names = quoted_apart one.0 other.0 (quoted one.1 ++ front) (quoted other.1 ++ back) (sym (append_assoc (quoted one.0) (quoted one.1) front) ∙ e ∙ append_assoc (quoted other.0) (quoted other.1) back) in
+    let names = quoted_apart one.0 other.0 (quoted one.1 ++ front) (quoted other.1 ++ back)
+    (sym (append_assoc (quoted one.0) (quoted one.1) front) ∙ e
+    ∙ append_assoc (quoted other.0) (quoted other.1) back) in
     let values = quoted_apart one.1 other.1 front back names.1 in
     (λ j. (names.0 j, values.0 j), values.1)
 
 quoted_filled : (tag : Tag) (rest : List ℕ) → [] ≡ quoted_label tag ++ rest → ⊥
-quoted_filled tag rest e = absurd (omega (arith, ap length e, length-append (quoted_label tag) rest, length-append (quoted tag.0) (quoted tag.1), length-append (escaped label_escapes tag.1) (34 ∷ [])))
+quoted_filled tag rest e = absurd (omega (
+  arith,
+  ap length e,
+  length-append (quoted_label tag) rest,
+  length-append (quoted tag.0) (quoted tag.1),
+  length-append (escaped label_escapes tag.1) (34 ∷ []),
+))
 
 labels_apart : (tags others : List Tag) → flat_map quoted_label tags ≡ flat_map quoted_label others → tags ≡ others
 labels_apart [] [] e = refl
@@ -123,11 +140,16 @@ same_as_itself [] = refl
 same_as_itself (tag ∷ tags) = rw (same_texts tag.0 tag.0 refl, same_texts tag.1 tag.1 refl, same_as_itself tags) refl
 
 -- two sets of labels are the same where what stands for them is
-same_text : (tags others : List Tag) → same_tags tags others ≡ bytes_eq (flat_map quoted_label tags) (flat_map quoted_label others)
-same_text tags others = elim (same_tags tags others) as (λ t. same_tags tags others ≡ t → t ≡ bytes_eq (flat_map quoted_label tags) (flat_map quoted_label others)) [
-  | true ↦ λ e. sym (same_texts (flat_map quoted_label tags) (flat_map quoted_label others) (ap (flat_map quoted_label) (same_is tags others e)))
-  | false ↦ λ e. sym (not_same (bytes_eq (flat_map quoted_label tags) (flat_map quoted_label others)) (λ is. apart e (labels_apart tags others ((bytes_eq-Decides (flat_map quoted_label tags) (flat_map quoted_label others)).0 is))))
-] refl
+same_text : (tags others : List Tag) → same_tags tags others ≡ bytes_eq (flat_map quoted_label tags)
+    (flat_map quoted_label others)
+same_text tags others = elim (same_tags tags others) as (λ t. same_tags tags others ≡ t
+    → t ≡ bytes_eq (flat_map quoted_label tags) (flat_map quoted_label others)) [
+      | true ↦ λ e. sym (same_texts (flat_map quoted_label tags) (flat_map quoted_label others)
+          (ap (flat_map quoted_label) (same_is tags others e)))
+      | false ↦ λ e. sym (not_same (bytes_eq (flat_map quoted_label tags) (flat_map quoted_label others))
+          (λ is. apart e (labels_apart tags others ((bytes_eq-Decides (flat_map quoted_label tags)
+          (flat_map quoted_label others)).0 is))))
+    ] refl
   where
     true_false : true ≡ false → ⊥
     true_false e = absurd cc
@@ -135,6 +157,7 @@ same_text tags others = elim (same_tags tags others) as (λ t. same_tags tags ot
     apart : same_tags tags others ≡ false → tags ≡ others → ⊥
     apart e is = true_false (sym (same_as_itself tags) ∙ ap (same_tags tags) is ∙ e)
 
-pub one_key : (labels others : List Tag) → same_tags (in_key_order labels) (in_key_order others) ≡ bytes_eq (series_key labels) (series_key others)
+pub one_key : (labels others : List Tag) → same_tags (in_key_order labels) (in_key_order others) ≡ bytes_eq
+    (series_key labels) (series_key others)
 unfolding series_key
 one_key labels others = same_text (in_key_order labels) (in_key_order others)

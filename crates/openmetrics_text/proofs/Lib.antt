@@ -1,7 +1,7 @@
 pub mod TypeLemmas
 pub mod NameLemmas
 pub mod LabelLemmas
-pub mod Places
+pub mod Offsets
 pub mod SaidLemmas
 pub mod TagLemmas
 pub mod Chains
@@ -27,3 +27,4 @@ pub mod PutLemmas
 pub mod StayLemmas
 pub mod Telling
 pub mod MostLemmas
+pub mod PassingLemmas

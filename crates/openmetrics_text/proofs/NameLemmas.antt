@@ -11,7 +11,8 @@ use Rattle.openmetrics_text.specs.Names.{ends, ends_label, ends_name}
 use Rattle.text_parts.proofs.Spans.{position_or_len_le}
 
 -- behind bytes that are ASCII
-pub ascii_boundary : (text : List ℕ) (n : ℕ) → IsUtf8 text → n ≤ length text → ((k : ℕ) → k < n → get_or text k 0 < 128) → IsCharBoundary text n
+pub ascii_boundary : (text : List ℕ) (n : ℕ) → IsUtf8 text → n ≤ length text → ((k : ℕ) → k < n → get_or text k 0 < 128)
+    → IsCharBoundary text n
 ascii_boundary text zero u within low = IsCharBoundary-start text u
 ascii_boundary text (suc n) u within low =
     let e : n + 1 ≡ suc n = omega arith in
@@ -28,5 +29,7 @@ pub alphabet_low : (alphabet : Alphabet) (b : ℕ) → ends alphabet b ≡ false
 alphabet_low Labels b e = label_low b e
 alphabet_low Samples b e = name_low b e
 
-pub front_boundary : (p : ℕ → Bool) → ((b : ℕ) → p b ≡ false → b < 128) → (text : List ℕ) → IsUtf8 text → IsCharBoundary text (position_or_len p text)
-front_boundary p low text u = ascii_boundary text (position_or_len p text) u (position_or_len_le p text) (λ k lt. low (get_or text k 0) (fails_before_first p text k 0 lt))
+pub front_boundary : (p : ℕ → Bool) → ((b : ℕ) → p b ≡ false → b < 128) → (text : List ℕ) → IsUtf8 text
+    → IsCharBoundary text (position_or_len p text)
+front_boundary p low text u = ascii_boundary text (position_or_len p text) u (position_or_len_le p text)
+    (λ k lt. low (get_or text k 0) (fails_before_first p text k 0 lt))

@@ -1,10 +1,11 @@
 -- What stands where a fault is.
-use Rattle.std.specs.Prelude.{◌≡◌, ◌≢◌, ◌<◌, ◌⊎◌, ℕ, ℤ, Bool, true, false, List, [], ◌∷◌, ◌++◌, length, codes, Option, Some}
+use Rattle.std.specs.Prelude.{◌≡◌, ◌≢◌, ◌<◌, ◌⊎◌, ℕ, ℤ, Bool, true, false, List, [], ◌∷◌, ◌++◌, length, codes, Option}
+use Rattle.std.specs.Prelude.{Some}
 use Rattle.std.specs.Prelude.{None, Err}
 use Rattle.std.specs.Str.{IsUtf8, IsValidUpTo}
 use Rattle.text_parts.specs.Bytes.{newline, space}
 use Rattle.text_parts.specs.Grammar.{HasNone}
-use Rattle.text_parts.specs.Places.{word_at, Follows, is_decimal}
+use Rattle.text_parts.specs.Offsets.{word_at, Follows, is_decimal}
 use Rattle.text_parts.specs.Split.{is_byte}
 use Rattle.metric.specs.Draft.{Tag}
 use Rattle.openmetrics_text.specs.declared.fault.ExpositionFault.{ExpositionFault}
@@ -50,7 +51,7 @@ pub record HasNoLabels (line : List ℕ) : Type 0 where
 
 -- the line is none that is written, isn't written as a sample is, and has no fault between its braces
 pub record HasNoShape (line : List ℕ) : Type 0 where
-  pub no_line : (w : WrittenLine) (says : LineSays) → IsLine w says → line_text w ≢ line
+  pub no_line : (w : WrittenLine) (says : LineSays) → IsLine true w says → line_text w ≢ line
   pub no_sample : (w : WrittenSample) (labels : List Tag) → IsShaped line w labels → ⊥
   pub no_fault : HasNoLabels line → ⊥
 
@@ -63,29 +64,30 @@ IsTimed decimal (Some text) = is_decimal text ≡ decimal
 abbrev pub HasSample : List ℕ → (WrittenSample → List Tag → Type 0) → Type 0
 HasSample line Is = (w : WrittenSample) × (labels : List Tag) × IsShaped line w labels × Is w labels
 
--- what a line is that has a fault of a kind
-abbrev pub LineTells : List ℕ → ExpositionKind → Type 0
+-- what a line is that has a fault of a kind, where what is out of range is passed over or not
+abbrev pub LineTells : Bool → List ℕ → ExpositionKind → Type 0
 -- no line has this shape
-LineTells line BadLine = HasNoShape line
+LineTells passing line BadLine = HasNoShape line
 -- no labels stand between its braces
-LineTells line BadLabel = HasNoLabels line
+LineTells passing line BadLabel = HasNoLabels line
 -- a sample whose number is no decimal, no infinity and not NaN
-LineTells line BadNumber =
+LineTells passing line BadNumber =
     HasSample line (λ w labels. (is_decimal w.number ≡ false) × (is_no_decimal (lower w.number) ≡ false))
 -- a sample whose time is no decimal
-LineTells line BadTime = HasSample line (λ w labels. IsTimed false w.time)
--- a sample whose number is a decimal, or whose time is
-LineTells line NumberRange = HasSample line (λ w labels. (is_decimal w.number ≡ true) ⊎ IsTimed true w.time)
+LineTells passing line BadTime = HasSample line (λ w labels. IsTimed false w.time)
+-- a sample whose number is a decimal, or whose time is; nothing is passed over for that
+LineTells passing line NumberRange =
+    (passing ≡ false) × HasSample line (λ w labels. (is_decimal w.number ≡ true) ⊎ IsTimed true w.time)
 -- a sample with more than 64 labels
-LineTells line TooMany = HasSample line (λ w labels. 64 < length labels)
+LineTells passing line TooMany = HasSample line (λ w labels. 64 < length labels)
 -- the other kinds are no faults of lines
-LineTells line kind = ⊥
+LineTells passing line kind = ⊥
 
 -- ---- what stands in the piece
 
--- a line begins at the place
+-- a line begins at the offset
 abbrev pub BeginsLine : List ℕ → ℕ → Type 0
-BeginsLine piece place = (place ≡ 0) ⊎ Follows newline piece place
+BeginsLine piece offset = (offset ≡ 0) ⊎ Follows newline piece offset
 
 -- the last line is `# EOF`, with a newline behind it or without
 pub record EndsWithEof (piece : List ℕ) : Type 0 where
@@ -94,21 +96,22 @@ pub record EndsWithEof (piece : List ℕ) : Type 0 where
   pub is : piece ≡ front ++ (codes "# EOF" ++ end_text ended)
   pub begins : (front ≡ []) ⊎ ((text : List ℕ) × (front ≡ text ++ newline ∷ []))
 
--- what stands in the piece, where a fault of a kind is at a place
-abbrev pub StandsAt : List ℕ → ℕ → ExpositionKind → Type 0
+-- what stands in the piece, where a fault of a kind is at an offset
+abbrev pub StandsAt : Bool → List ℕ → ℕ → ExpositionKind → Type 0
 -- the last line isn't `# EOF`, and the piece ends there
-StandsAt piece place NoEof = (place ≡ length piece) × (EndsWithEof piece → ⊥)
--- the bytes before the place are UTF-8, and those of no longer front are
-StandsAt piece place NotUtf8 = IsValidUpTo piece place
+StandsAt passing piece offset NoEof = (offset ≡ length piece) × (EndsWithEof piece → ⊥)
+-- the bytes before the offset are UTF-8, and those of no longer front are
+StandsAt passing piece offset NotUtf8 = IsValidUpTo piece offset
 -- a line begins there that has the fault
-StandsAt piece place kind = BeginsLine piece place × LineTells (word_at (is_byte newline) piece place) kind
+StandsAt passing piece offset kind =
+    BeginsLine piece offset × LineTells passing (word_at (is_byte newline) piece offset) kind
 
 -- a piece with a fault is UTF-8, unless that is the fault
-pub record Says (piece : List ℕ) (fault : ExpositionFault) : Type 0 where
+pub record Says (passing : Bool) (piece : List ℕ) (fault : ExpositionFault) : Type 0 where
   pub utf8 : (fault.kind ≡ NotUtf8) ⊎ IsUtf8 piece
-  pub stands : StandsAt piece fault.place fault.kind
+  pub stands : StandsAt passing piece fault.offset fault.kind
 
 -- each fault's kind says what stands in the piece
 abbrev pub FaultSays : Type 0
-FaultSays = (piece : List ℕ) (moment : ℤ) (typed : Bool) (fault : ExpositionFault)
-    → reading piece moment typed ≡ Err fault → Says piece fault
+FaultSays = (piece : List ℕ) (moment : ℤ) (typed passing : Bool) (fault : ExpositionFault)
+    → reading piece moment typed passing ≡ Err fault → Says passing piece fault

@@ -17,7 +17,7 @@ use Rattle.openmetrics_text.specs.Lines.{LineSays, Typed, Nothing, Sampled, is_t
 use Rattle.openmetrics_text.specs.Lines.{help_word, unit_word}
 use Rattle.openmetrics_text.specs.Names.{ends_label, ends_name}
 use Rattle.openmetrics_text.specs.Reading.{exposition_of, reading}
-use Rattle.openmetrics_text.specs.Sample.{Said, number_of, time_of, is_out_of_range, value_said, time_said}
+use Rattle.openmetrics_text.specs.Sample.{Said, number_of, time_of, is_out_of_range, number_said, time_said}
 
 -- ---- what is written
 
@@ -118,8 +118,8 @@ abbrev pub HasNoSpace : Option (List ℕ) → Type 0
 HasNoSpace None = Unit {0}
 HasNoSpace (Some text) = HasNone (is_byte space) text
 
--- a sample that is written
-pub record IsSample (w : WrittenSample) (said : Said) : Type 0 where
+-- a sample that is written: its number and its time are in range, unless what is out of range is passed over
+pub record IsSample (passing : Bool) (w : WrittenSample) (said : Said) : Type 0 where
   pub name : IsName ends_name w.name
   pub same : said.name ≡ w.name
   pub labels : AreBraced w.labels said.labels
@@ -131,8 +131,8 @@ pub record IsSample (w : WrittenSample) (said : Said) : Type 0 where
   pub is_number : number_of w.number ≡ Ok number
   pub time : Time
   pub is_time : time_of w.time ≡ Ok time
-  pub in_range : is_out_of_range number time ≡ false
-  pub value_is : said.value ≡ value_said number
+  pub in_range : passing ≡ false → is_out_of_range said.number ≡ false
+  pub number_is : said.number ≡ number_said number time
   pub time_is : said.time ≡ time_said time
 
 -- no word of metadata begins the line
@@ -142,33 +142,35 @@ pub record IsOther (text : List ℕ) : Type 0 where
   pub no_unit : begins_with unit_word (hash ∷ text) ≡ false
 
 -- a line that is written
-abbrev pub IsLine : WrittenLine → LineSays → Type 0
-IsLine (TypeLine name kind) says = IsName ends_name name × (is_type kind ≡ true) × (says ≡ Typed name kind)
-IsLine (HelpLine name text) says = IsName ends_name name × (says ≡ Nothing)
-IsLine (UnitLine name text) says = IsName ends_name name × (says ≡ Nothing)
-IsLine (OtherLine text) says = IsOther text × (says ≡ Nothing)
-IsLine (SampleLine sample) says = (said : Said) × IsSample sample said × (says ≡ Sampled said)
+abbrev pub IsLine : Bool → WrittenLine → LineSays → Type 0
+IsLine passing (TypeLine name kind) says =
+    IsName ends_name name × (is_type kind ≡ true) × (says ≡ Typed name kind)
+IsLine passing (HelpLine name text) says = IsName ends_name name × (says ≡ Nothing)
+IsLine passing (UnitLine name text) says = IsName ends_name name × (says ≡ Nothing)
+IsLine passing (OtherLine text) says = IsOther text × (says ≡ Nothing)
+IsLine passing (SampleLine sample) says = (said : Said) × IsSample passing sample said × (says ≡ Sampled said)
 
 -- lines that are written, none of them with a newline in it
-abbrev pub AreLines : List WrittenLine → List LineSays → Type 0
-AreLines [] [] = Unit {0}
-AreLines [] (says ∷ others) = ⊥
-AreLines (line ∷ lines) [] = ⊥
-AreLines (line ∷ lines) (says ∷ others) =
-    HasNone (is_byte newline) (line_text line) × IsLine line says × AreLines lines others
+abbrev pub AreLines : Bool → List WrittenLine → List LineSays → Type 0
+AreLines passing [] [] = Unit {0}
+AreLines passing [] (says ∷ others) = ⊥
+AreLines passing (line ∷ lines) [] = ⊥
+AreLines passing (line ∷ lines) (says ∷ others) =
+    HasNone (is_byte newline) (line_text line) × IsLine passing line says × AreLines passing lines others
 
 -- an exposition that is written is read as what its lines say
 abbrev pub WrittenIsRead : Type 0
-WrittenIsRead = (lines : List WrittenLine) (says : List LineSays) (ended : Bool) (moment : ℤ) (typed : Bool)
-    → AreLines lines says → IsUtf8 (exposition_text lines ended)
-    → reading (exposition_text lines ended) moment typed ≡ Ok (exposition_of moment typed says)
+WrittenIsRead = (lines : List WrittenLine) (says : List LineSays) (ended : Bool)
+    → (moment : ℤ) (typed passing : Bool)
+    → AreLines passing lines says → IsUtf8 (exposition_text lines ended)
+    → reading (exposition_text lines ended) moment typed passing ≡ Ok (exposition_of moment typed says)
 
 -- what is read is an exposition that is written
 abbrev pub ReadIsWritten : Type 0
-ReadIsWritten = (piece : List ℕ) (moment : ℤ) (typed : Bool) (exposition : Exposition)
-    → reading piece moment typed ≡ Ok exposition
+ReadIsWritten = (piece : List ℕ) (moment : ℤ) (typed passing : Bool) (exposition : Exposition)
+    → reading piece moment typed passing ≡ Ok exposition
     → (lines : List WrittenLine) × (says : List LineSays) × (ended : Bool)
-    × (piece ≡ exposition_text lines ended) × IsUtf8 piece × AreLines lines says
+    × (piece ≡ exposition_text lines ended) × IsUtf8 piece × AreLines passing lines says
     × (exposition ≡ exposition_of moment typed says)
 
 -- ---- how many metrics are said
@@ -179,5 +181,6 @@ most_said size = size / 4
 
 -- no piece says more
 abbrev pub SaysAtMost : Type 0
-SaysAtMost = (piece : List ℕ) (moment : ℤ) (typed : Bool)
-    → IfOk (reading piece moment typed) (λ exposition. length exposition.metrics ≤ most_said (length piece))
+SaysAtMost = (piece : List ℕ) (moment : ℤ) (typed passing : Bool)
+    → IfOk (reading piece moment typed passing)
+    (λ exposition. length exposition.metrics ≤ most_said (length piece))

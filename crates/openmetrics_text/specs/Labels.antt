@@ -23,16 +23,16 @@ value_part = record {
   means = λ b. if b == small_n then newline else b;
 }
 
--- how many bytes the name of a label has that begins at a place
+-- how many bytes the name of a label has that begins at an offset
 abbrev pub label_len : List ℕ → ℕ → ℕ
 label_len line i = name_len ends_label (drop i line)
 
--- an equals sign and a double quote stand at a place
+-- an equals sign and a double quote stand at an offset
 abbrev pub is_opened_at : List ℕ → ℕ → Bool
 is_opened_at line i = (slice_index line i == equals_sign) && (slice_index line (i + 1) == double_quote)
 
--- the name of a label, and the place behind the equals sign and the double quote that follow it; each of these
--- gives what begins at a place, and the place behind it
+-- the name of a label, and the offset behind the equals sign and the double quote that follow it; each of these
+-- gives what begins at an offset, and the offset behind it
 unfoldable pub label_name_at : List ℕ → ℕ → Result (List ℕ × ℕ) ExpositionKind
 label_name_at line i =
     if label_len line i == 0 || not (is_opened_at line (i + label_len line i)) then Err BadLabel
@@ -58,7 +58,8 @@ some_labels_at line i = some_items_at label_at comma line i
 -- a text is among others, or occurs twice
 unfoldable pub has_twice : List (List ℕ) → List (List ℕ) → Bool
 has_twice before [] = false
-has_twice before (text ∷ texts) = list_any (λ other. bytes_eq other text) before || has_twice (before ++ text ∷ []) texts
+has_twice before (text ∷ texts) = list_any (λ other. bytes_eq other text) before
+    || has_twice (before ++ text ∷ []) texts
 
 abbrev pub names_of : List Tag → List (List ℕ)
 names_of labels = map (λ (label : Tag). label.0) labels
@@ -69,7 +70,7 @@ closed_at line labels =
     if not (slice_index line labels.1 == right_brace) || has_twice [] (names_of labels.0) then Err BadLabel
     else Ok (labels.0, labels.1 + 1)
 
--- the labels behind an opening brace, and the place behind the closing one
+-- the labels behind an opening brace, and the offset behind the closing one
 unfoldable pub labels_at : List ℕ → ℕ → Result (List Tag × ℕ) ExpositionKind
 labels_at line i =
     if slice_index line i == right_brace then Ok ([], i + 1) else (do

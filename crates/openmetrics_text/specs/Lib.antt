@@ -16,3 +16,4 @@ pub mod WriteViews
 pub mod Texts
 pub mod RoundTrip
 pub mod FaultLines
+pub mod Passing

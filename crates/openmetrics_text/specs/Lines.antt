@@ -63,11 +63,11 @@ hash_line line =
     else if begins_with unit_word line then about_line (drop 7 line)
     else Ok Nothing
 
-unfoldable pub sample_line : List ℕ → Result LineSays ExpositionKind
-sample_line line = do
-  said ← sample_of line
+unfoldable pub sample_line : Bool → List ℕ → Result LineSays ExpositionKind
+sample_line passing line = do
+  said ← sample_of passing line
   Ok (Sampled said)
 
--- a line
-unfoldable pub line_of : List ℕ → Result LineSays ExpositionKind
-line_of line = if slice_index line 0 == hash then hash_line line else sample_line line
+-- a line, where what is out of range is passed over or not
+unfoldable pub line_of : Bool → List ℕ → Result LineSays ExpositionKind
+line_of passing line = if slice_index line 0 == hash then hash_line line else sample_line passing line

@@ -13,6 +13,8 @@ use Rattle.metric.specs.Pairs.{in_key_order, with_values}
 use Rattle.openmetrics_text.specs.declared.exposition.Exposition.{Exposition}
 use Rattle.openmetrics_text.specs.declared.fault.ExpositionFault.{ExpositionFault}
 use Rattle.openmetrics_text.specs.declared.fault.ExpositionKind.TheVariants.{NoEof, NotUtf8}
+use Rattle.openmetrics_text.specs.declared.number.Number.{Number}
+use Rattle.openmetrics_text.specs.declared.number.Number.TheVariants.{Decimal, NoDecimal, OutOfRange}
 use Rattle.openmetrics_text.specs.Faults.{fault, placed_at}
 use Rattle.openmetrics_text.specs.Lines.{LineSays, Typed, Nothing, Sampled, line_of}
 use Rattle.openmetrics_text.specs.Sample.{Said}
@@ -38,13 +40,14 @@ content_of moment typed kind said number = record {
   time = or_moment moment said.time;
 }
 
--- the metric of a sample, where its number is a decimal
-abbrev pub contents_by : ℤ → Bool → List ℕ → Said → Option ℤ → List Content
-contents_by moment typed kind said None = []
-contents_by moment typed kind said (Some number) = content_of moment typed kind said number ∷ []
+-- the metric of a sample, where its number is a decimal in range
+abbrev pub contents_by : ℤ → Bool → List ℕ → Said → Number → List Content
+contents_by moment typed kind said (Decimal number) = content_of moment typed kind said number ∷ []
+contents_by moment typed kind said NoDecimal = []
+contents_by moment typed kind said OutOfRange = []
 
 abbrev pub contents_of : ℤ → Bool → List ℕ → Said → List Content
-contents_of moment typed kind said = contents_by moment typed kind said said.value
+contents_of moment typed kind said = contents_by moment typed kind said said.number
 
 -- the metrics of lines, of which some TYPE lines went before
 unfoldable pub metrics_from : ℤ → Bool → List Tag → List LineSays → List Content
@@ -55,22 +58,37 @@ metrics_from moment typed types (Nothing ∷ lines) = metrics_from moment typed 
 metrics_from moment typed types (Sampled said ∷ lines) =
     contents_of moment typed (type_of said.name types) said ++ metrics_from moment typed types lines
 
--- how many samples have a number that is no decimal
-abbrev pub passed_by : Option ℤ → ℕ
-passed_by None = 1
-passed_by (Some number) = 0
+-- how many samples have a number that is no decimal in range
+abbrev pub passed_by : Number → ℕ
+passed_by (Decimal number) = 0
+passed_by NoDecimal = 1
+passed_by OutOfRange = 1
 
 unfoldable pub passed_in : List LineSays → ℕ
 passed_in [] = 0
 passed_in (Typed name kind ∷ lines) = passed_in lines
 passed_in (Nothing ∷ lines) = passed_in lines
-passed_in (Sampled said ∷ lines) = passed_by said.value + passed_in lines
+passed_in (Sampled said ∷ lines) = passed_by said.number + passed_in lines
 
--- the exposition that lines are: the samples that are passed over are counted up to 2^32 - 1
+-- how many of these have one out of range
+abbrev pub out_by : Number → ℕ
+out_by (Decimal number) = 0
+out_by NoDecimal = 0
+out_by OutOfRange = 1
+
+unfoldable pub out_in : List LineSays → ℕ
+out_in [] = 0
+out_in (Typed name kind ∷ lines) = out_in lines
+out_in (Nothing ∷ lines) = out_in lines
+out_in (Sampled said ∷ lines) = out_by said.number + out_in lines
+
+-- the exposition that lines are: the samples that are passed over are counted up to 2^32 - 1, and so are those
+-- of them that are out of range
 abbrev pub exposition_of : ℤ → Bool → List LineSays → Exposition
 exposition_of moment typed lines = record {
   metrics = metrics_from moment typed [] lines;
   passed = min (passed_in lines) (2 ^ 32 - 1);
+  out_of_range = min (out_in lines) (2 ^ 32 - 1);
 }
 
 -- ---- the lines
@@ -94,30 +112,32 @@ before_last text =
     else if ends_with (newline ∷ codes "# EOF") text then Some (Some (without_end (newline ∷ codes "# EOF") text))
     else None
 
--- the lines before the last one, each with its place
+-- the lines before the last one, each with its offset
 abbrev pub lines_of : Option (List ℕ) → List PartAt
 lines_of None = []
 lines_of (Some text) = parts_of newline (0, text)
 
--- what a line says
-unfoldable pub line_at : PartAt → Result LineSays ExpositionFault
-line_at line = placed_at line.0 (line_of line.1)
+-- what a line says, where what is out of range is passed over or not
+unfoldable pub line_at : Bool → PartAt → Result LineSays ExpositionFault
+line_at passing line = placed_at line.0 (line_of passing line.1)
 
 -- the exposition that the lines before the last one are
-unfoldable pub lines_reading : ℤ → Bool → Option (List ℕ) → Result Exposition ExpositionFault
-lines_reading moment typed text = do
-  lines ← each line_at (lines_of text)
+unfoldable pub lines_reading : ℤ → Bool → Bool → Option (List ℕ) → Result Exposition ExpositionFault
+lines_reading moment typed passing text = do
+  lines ← each (line_at passing) (lines_of text)
   Ok (exposition_of moment typed lines)
 
-abbrev pub ended_reading : ℤ → Bool → ℕ → Option (Option (List ℕ)) → Result Exposition ExpositionFault
-ended_reading moment typed size None = fault NoEof size
-ended_reading moment typed size (Some text) = lines_reading moment typed text
+abbrev pub ended_reading :
+    ℤ → Bool → Bool → ℕ → Option (Option (List ℕ)) → Result Exposition ExpositionFault
+ended_reading moment typed passing size None = fault NoEof size
+ended_reading moment typed passing size (Some text) = lines_reading moment typed passing text
 
-unfoldable pub text_reading : List ℕ → ℤ → Bool → Result Exposition ExpositionFault
-text_reading piece moment typed = ended_reading moment typed (length piece) (before_last (without_newline piece))
+unfoldable pub text_reading : List ℕ → ℤ → Bool → Bool → Result Exposition ExpositionFault
+text_reading piece moment typed passing =
+    ended_reading moment typed passing (length piece) (before_last (without_newline piece))
 
--- the exposition that a piece is; the piece has to be UTF-8, else the fault is at the end of its longest front
--- that is
-unfoldable pub reading : List ℕ → ℤ → Bool → Result Exposition ExpositionFault
-reading piece moment typed =
-    if is_utf8 piece then text_reading piece moment typed else fault NotUtf8 (utf8_valid_len piece)
+-- the exposition that a piece is, with a tag for each type or without, where samples out of range are passed over
+-- or refuse it; the piece has to be UTF-8, else the fault is at the end of its longest front that is
+unfoldable pub reading : List ℕ → ℤ → Bool → Bool → Result Exposition ExpositionFault
+reading piece moment typed passing =
+    if is_utf8 piece then text_reading piece moment typed passing else fault NotUtf8 (utf8_valid_len piece)

@@ -30,5 +30,8 @@ HasFewTags m = length m.tags ≤ 64
 abbrev pub WrittenIsReadBack : Type 0
 WrittenIsReadBack = (batch : List Content) (moment : ℤ)
     → AllByRecursion IsMetric batch → AllByRecursion HasFewTags batch
-    → reading (batch_text batch) moment false
-    ≡ Ok (record { metrics = map content_behind (in_written_order (points_of batch)); passed = 0 })
+    → reading (batch_text batch) moment false false ≡ Ok (record {
+      metrics = map content_behind (in_written_order (points_of batch));
+      passed = 0;
+      out_of_range = 0;
+    })

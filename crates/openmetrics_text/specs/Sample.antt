@@ -1,5 +1,5 @@
 -- A sample: a name, labels, a number, perhaps a time.
-use Rattle.std.specs.Prelude.{ℕ, ℤ, pos, negsuc, ◌+◌, ◌^◌, ◌==◌, ◌&&◌, ◌||◌, Bool, true, false, List, []}
+use Rattle.std.specs.Prelude.{ℕ, ℤ, pos, negsuc, ◌+◌, ◌^◌, ◌==◌, ◌&&◌, ◌||◌, not, Bool, true, false, List, []}
 use Rattle.std.specs.Prelude.{length, take, drop, map, codes, nat_lt, Option, Some, None, Result, Ok, Err}
 use Rattle.std.specs.Prelude.{slice_index, if◌then◌else◌}
 use Rattle.std.specs.Char.{to_ascii_lowercase}
@@ -24,7 +24,7 @@ use Rattle.openmetrics_text.specs.Labels.{labels_at}
 
 -- ---- the name and the labels
 
--- the name, the labels, and the place behind them
+-- the name, the labels, and the offset behind them
 pub record Head : Type 0 where
   pub name : List ℕ
   pub labels : List Tag
@@ -46,7 +46,7 @@ head_of line =
       behind = name_len ends_name line;
     })
 
--- what stands behind a space at a place
+-- what stands behind a space at an offset
 unfoldable pub behind_space : List ℕ → ℕ → Result (List ℕ) ExpositionKind
 behind_space line i = if slice_index line i == space then Ok (drop (i + 1) line) else Err BadLine
 
@@ -118,50 +118,47 @@ time_of (Some text) = time_from (read_as text)
 
 -- ---- the sample
 
--- a sample: its value where it is a decimal, and its time where one is written
+-- a sample: its number, which is out of range where its time is, and its time where one in range is written
 pub record Said : Type 0 where
   pub name : List ℕ
   pub labels : List Tag
-  pub value : Option ℤ
+  pub number : Number
   pub time : Option ℤ
 
-abbrev pub value_said : Number → Option ℤ
-value_said (Decimal number) = Some number
-value_said NoDecimal = None
-value_said OutOfRange = None
+abbrev pub number_said : Number → Time → Number
+number_said number times.Unwritten = number
+number_said number (times.At time) = number
+number_said number times.OutOfRange = OutOfRange
 
 abbrev pub time_said : Time → Option ℤ
 time_said times.Unwritten = None
 time_said (times.At time) = Some time
 time_said times.OutOfRange = None
 
-abbrev pub is_out_of_range : Number → Time → Bool
-is_out_of_range OutOfRange time = true
-is_out_of_range (Decimal number) times.OutOfRange = true
-is_out_of_range (Decimal number) times.Unwritten = false
-is_out_of_range (Decimal number) (times.At time) = false
-is_out_of_range NoDecimal times.OutOfRange = true
-is_out_of_range NoDecimal times.Unwritten = false
-is_out_of_range NoDecimal (times.At time) = false
+abbrev pub is_out_of_range : Number → Bool
+is_out_of_range (Decimal number) = false
+is_out_of_range NoDecimal = false
+is_out_of_range OutOfRange = true
 
--- the number and the time are in range, and at most 64 labels are written
-unfoldable pub limited : Head → Number → Time → Result Said ExpositionKind
-limited head number time =
-    if is_out_of_range number time then Err NumberRange
+-- the number and the time are in range, unless what is out of range is passed over, and at most 64 labels are
+-- written
+unfoldable pub limited : Bool → Head → Number → Time → Result Said ExpositionKind
+limited passing head number time =
+    if is_out_of_range (number_said number time) && not passing then Err NumberRange
     else if nat_lt 64 (length head.labels) then Err TooMany
     else Ok (record {
       name = head.name;
       labels = head.labels;
-      value = value_said number;
+      number = number_said number time;
       time = time_said time;
     })
 
--- the sample that a line is: its shape comes before its numbers
-unfoldable pub sample_of : List ℕ → Result Said ExpositionKind
-sample_of line = do
+-- the sample that a line is, where what is out of range is passed over or not: its shape comes before its numbers
+unfoldable pub sample_of : Bool → List ℕ → Result Said ExpositionKind
+sample_of passing line = do
   head ← head_of line
   text ← behind_space line head.behind
   shape ← shape_of text
   number ← number_of shape.number
   time ← time_of shape.time
-  limited head number time
+  limited passing head number time

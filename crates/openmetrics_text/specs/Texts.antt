@@ -1,15 +1,15 @@
--- The texts of samples among others, by their places.
+-- The texts of samples among others, by their extents.
 use Rattle.std.specs.Prelude.{◌≡◌, ◌≤◌, ◌-◌, ℕ, List, ◌++◌, length, take}
 use Rattle.std.specs.List.{AllZip, between}
 use Rattle.openmetrics_text.specs.Groups.{Written, written_of}
 use Rattle.openmetrics_text.specs.Writing.{Point}
-use Rattle.openmetrics_text.specs.declared.texts.Place.{Place}
+use Rattle.openmetrics_text.specs.declared.texts.Extent.{Extent}
 use Rattle.openmetrics_text.specs.declared.texts.Row.{Row}
 use Rattle.openmetrics_text.specs.declared.texts.Texts.{Texts}
 
--- the bytes at a place
-abbrev pub text_in : List ℕ → Place → List ℕ
-text_in bytes place = between place.from place.to bytes
+-- the bytes at an extent
+abbrev pub text_in : List ℕ → Extent → List ℕ
+text_in bytes extent = between extent.from extent.to bytes
 
 abbrev pub written_in : List ℕ → Row → Written
 written_in bytes row = record {
@@ -19,22 +19,22 @@ written_in bytes row = record {
   text = text_in bytes row.line;
 }
 
--- a place is one of these bytes
-pub record IsPlaceIn (bytes : List ℕ) (place : Place) : Type 0 where
-  pub ordered : place.from ≤ place.to
-  pub within : place.to ≤ length bytes
+-- an extent is one of these bytes
+pub record IsExtentIn (bytes : List ℕ) (extent : Extent) : Type 0 where
+  pub ordered : extent.from ≤ extent.to
+  pub within : extent.to ≤ length bytes
 
 pub record IsWithin (bytes : List ℕ) (row : Row) : Type 0 where
-  pub line : IsPlaceIn bytes row.line
-  pub series : IsPlaceIn bytes row.series
+  pub line : IsExtentIn bytes row.line
+  pub series : IsExtentIn bytes row.series
   pub family : row.family ≤ row.line.to - row.line.from
 
--- a text stands at a place
-pub record IsAt (bytes : List ℕ) (place : Place) (text : List ℕ) : Type 0 where
-  pub place_in : IsPlaceIn bytes place
-  pub is : text_in bytes place ≡ text
+-- a text stands at an extent
+pub record IsAt (bytes : List ℕ) (extent : Extent) (text : List ℕ) : Type 0 where
+  pub extent_in : IsExtentIn bytes extent
+  pub is : text_in bytes extent ≡ text
 
--- the texts of a sample stand at the places of a row
+-- the texts of a sample stand at the extents of a row
 pub record IsIn (bytes : List ℕ) (row : Row) (point : Point) : Type 0 where
   pub within : IsWithin bytes row
   pub is : written_in bytes row ≡ written_of point

@@ -8,7 +8,7 @@ use Rattle.metric.specs.Draft.{Tag}
 use Rattle.openmetrics_text.specs.declared.types.Types.{Types}
 use Rattle.openmetrics_text.specs.Types.{last_of}
 
--- the types are those of these names and types, and each name has its last place
+-- the types are those of these names and types, and each name has its last index
 pub record HaveTypes (types : Types) (pairs : List Tag) : Type 0 where
   pub kinds : map (λ kind. kind.now) types.kinds.items ≡ map (λ (pair : Tag). pair.1) pairs
   pub last : (name : List ℕ)

@@ -37,20 +37,20 @@ type_from found sample (pair ∷ pairs) =
 abbrev pub type_of : List ℕ → List Tag → List ℕ
 type_of sample pairs = type_from (codes "unknown") sample pairs
 
--- ---- by places
+-- ---- by indices
 
--- the place of a pair in front of others: behind it that of the last of these, where one has a place
+-- the index of a pair in front of others: behind it that of the last of these, where one has an index
 abbrev pub in_front : Bool → Option ℕ → Option ℕ
-in_front test (Some place) = Some (place + 1)
+in_front test (Some index) = Some (index + 1)
 in_front test None = if test then Some 0 else None
 
--- the place of the last pair whose name passes the test
+-- the index of the last pair whose name passes the test
 unfoldable pub last_of : (List ℕ → Bool) → List Tag → Option ℕ
 last_of p [] = None
 last_of p (pair ∷ pairs) = in_front (p pair.0) (last_of p pairs)
 
--- the later of two places
+-- the later of two indices
 abbrev pub later : Option ℕ → Option ℕ → Option ℕ
 later None other = other
-later (Some place) None = Some place
-later (Some place) (Some other) = Some (max place other)
+later (Some index) None = Some index
+later (Some index) (Some other) = Some (max index other)

@@ -24,7 +24,7 @@ use Rattle.openmetrics_text.specs.Sample as said
 
 -- a part, as the code has it
 abbrev pub part_at : Placed → PartAt
-part_at part = (part.place, part.text.now)
+part_at part = (part.offset, part.text.now)
 
 abbrev pub text_view : LabelText → List ℕ
 text_view (Plain text) = text.now
@@ -47,7 +47,7 @@ abbrev pub sample_view : Sample → Said
 sample_view sample = record {
   name = sample.name.now;
   labels = map label_view sample.labels.items;
-  value = sample.value;
+  number = sample.number;
   time = sample.time;
 }
 
@@ -71,9 +71,13 @@ abbrev pub texts_view : Option (Option (Bor (List ℕ))) → Option (Option (Lis
 texts_view texts = option_map (λ text. option_map (λ (t : Bor (List ℕ)). t.now) text) texts
 
 abbrev pub said_view : Collected → Exposition
-said_view collected = record { metrics = collected.metrics.items; passed = collected.passed }
+said_view collected = record {
+  metrics = collected.metrics.items;
+  passed = collected.passed;
+  out_of_range = collected.out_of_range;
+}
 
 -- the result is the reading, or memory ran out
 abbrev pub Answers : Result Exposition ExpositionFault → Result Exposition ExpositionFault → Type 0
 Answers (Ok exposition) reading = reading ≡ Ok exposition
-Answers (Err e) reading = (e ≡ record { kind = OutOfMemory; place = 0 }) ⊎ (reading ≡ Err e)
+Answers (Err e) reading = (e ≡ record { kind = OutOfMemory; offset = 0 }) ⊎ (reading ≡ Err e)

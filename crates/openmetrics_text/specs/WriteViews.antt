@@ -55,18 +55,18 @@ group_view group = (group.key.now, map line_view group.samples)
 abbrev pub groups_view : Groups → List Grouped
 groups_view groups = map group_view groups.groups.items
 
--- the place of the first group of a key
-abbrev pub place_in : List ℕ → List Grouped → Option ℕ
-place_in key [] = None
-place_in key (group ∷ groups) =
-    if bytes_eq key group.0 then Some 0 else option_map suc (place_in key groups)
+-- the index of the first group of a key
+abbrev pub index_in : List ℕ → List Grouped → Option ℕ
+index_in key [] = None
+index_in key (group ∷ groups) =
+    if bytes_eq key group.0 then Some 0 else option_map suc (index_in key groups)
 
--- each key has the place of its group
+-- each key has the index of its group
 abbrev pub IsIndexed : Groups → Type 0
 IsIndexed groups = (key : List ℕ)
-    → get_by (λ k. slice_cmp nat_cmp key k.now) groups.places ≡ place_in key (groups_view groups)
+    → get_by (λ k. slice_cmp nat_cmp key k.now) groups.indices ≡ index_in key (groups_view groups)
 
--- the group at a place has one sample more
+-- the group at an index has one sample more
 abbrev pub HasMore : List Grouped → ℕ → Written → List Grouped → Type 0
-HasMore old place sample new = (d : Grouped)
-    → new ≡ slice_set old place ((slice_index_or old place d).0, with_last sample (slice_index_or old place d).1)
+HasMore old index sample new = (d : Grouped)
+    → new ≡ slice_set old index ((slice_index_or old index d).0, with_last sample (slice_index_or old index d).1)

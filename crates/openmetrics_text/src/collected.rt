@@ -1,5 +1,6 @@
 //! What the lines of an exposition have said so far.
-ghost use Rattle.std.specs.Prelude.{◌≡◌, ◌<◌, ◌++◌, true, [], ◌∷◌, List, ℤ, Bool, length, map, OnOk, IfOk};
+ghost use Rattle.std.specs.Prelude.{◌≡◌, ◌<◌, ◌+◌, ◌-◌, ◌^◌, ◌++◌, true, [], ◌∷◌, List, ℤ, Bool, length, map};
+ghost use Rattle.std.specs.Prelude.{min, OnOk, IfOk};
 ghost use Rattle.metric.specs.Draft.{Tag};
 ghost use Rattle.metric.specs.Pairs.{in_key_order, in_key_order_on, with_sorted};
 ghost use Rattle.openmetrics_text.specs.Collecting.{HaveSaid};
@@ -10,13 +11,15 @@ ghost use Rattle.openmetrics_text.specs.Views.{label_view, sample_view, line_vie
 
 use crate::labels::Label;
 use crate::line::Line;
+use crate::number::Number;
 use crate::sample::Sample;
 use crate::types::Types;
 use fixed_num::{Fixed, Moment, OutOfMemory};
 use metric::{Builder, Metric, Text, Value};
 use std::alloc::Global;
 
-/// The metrics of the samples so far, how many were passed over, and the types so far.
+/// The metrics of the samples so far, how many were passed over, how many of these were out of range, and the
+/// types so far.
 #[derive(Drop)]
 pub(crate) struct Collected<'a> {
     alloc: Global,
@@ -26,6 +29,7 @@ pub(crate) struct Collected<'a> {
     typed: bool,
     pub(crate) metrics: Vec<Metric>,
     pub(crate) passed: u32,
+    pub(crate) out_of_range: u32,
     types: Types<'a>,
 }
 
@@ -129,6 +133,7 @@ impl<'a> Collected<'a> {
             typed,
             metrics: Vec::new(alloc),
             passed: 0,
+            out_of_range: 0,
             types: Types::new(alloc),
         }
     }
@@ -181,6 +186,13 @@ impl<'a> Collected<'a> {
         builder.complete(or_moment(self.moment, sample.time))
     }
 
+    // One more sample that is passed over.
+    fn pass(&mut self)
+        ensures { self.new ≡ record self.old { passed = min (self.old.passed + 1) (2 ^ 32 - 1) } }
+    {
+        self.passed = self.passed.saturating_add(1);
+    }
+
     // One more sample.
     fn add_sample(&mut self, sample: &Sample) -> Result<(), OutOfMemory>
         requires { IsFilled sample.now }
@@ -188,15 +200,20 @@ impl<'a> Collected<'a> {
             → HaveSaid moment typed self.old lines
             → HaveSaid moment typed self.new (lines ++ Sampled (sample_view sample.now) ∷ [])) }
     {
-        match sample.value {
-            Some(number) => {
+        match sample.number {
+            Number::Decimal(number) => {
                 let kind = self.kind_of(sample.name);
                 let metric = self.metric_of(sample, number, kind)?;
                 self.metrics.push(metric)?;
                 Ok(())
             }
-            None => {
-                self.passed = self.passed.saturating_add(1);
+            Number::NoDecimal => {
+                self.pass();
+                Ok(())
+            }
+            Number::OutOfRange => {
+                self.pass();
+                self.out_of_range = self.out_of_range.saturating_add(1);
                 Ok(())
             }
         }

@@ -19,7 +19,8 @@ pub enum ExpositionKind {
     BadNumber,
     /// A time is no decimal.
     BadTime,
-    /// A number is outside the range of numbers, or a time outside that of times.
+    /// A number is outside the range of numbers, or a time outside that of times, and such samples aren't passed
+    /// over.
     NumberRange,
     /// The text is no UTF-8.
     NotUtf8,
@@ -34,13 +35,13 @@ pub struct ExpositionFault {
     pub kind: ExpositionKind,
     /// The first byte of the line at fault; the length of the text for `NoEof`, the end of the longest valid
     /// front for `NotUtf8`, 0 for `OutOfMemory`.
-    pub place: usize,
+    pub offset: usize,
 }
 
 /// What is answered where no memory was left.
 pub(crate) const NO_MEMORY: ExpositionFault = ExpositionFault {
     kind: ExpositionKind::OutOfMemory,
-    place: 0,
+    offset: 0,
 };
 
 /// A fault of a line.

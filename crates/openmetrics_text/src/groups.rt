@@ -33,23 +33,23 @@ pub(crate) struct Group<'a> {
 /// finds them: no choice of keys makes it slow.
 #[derive(Debug, Drop)]
 pub(crate) struct Groups<'a> {
-    /// The place of each key's group.
-    places: BTreeMap<&'a [u8], usize>,
+    /// The index of each key's group.
+    indices: BTreeMap<&'a [u8], usize>,
     groups: Vec<Group<'a>>,
 }
 
-/// One more sample of the group at a place.
+/// One more sample of the group at an index.
 fn add_to<'a>(
     alloc: Global,
     groups: &mut Vec<Group<'a>>,
-    place: usize,
+    index: usize,
     sample: SampleLine<'a>,
 ) -> Result<(), OutOfMemory>
-    requires { place < length groups.old.items }
-    ensures { OnOk result (HasMore (map group_view groups.old.items) place (line_view sample.entry)
+    requires { index < length groups.old.items }
+    ensures { OnOk result (HasMore (map group_view groups.old.items) index (line_view sample.entry)
         (map group_view groups.new.items)) }
 {
-    groups[place].samples.push(alloc, sample)?;
+    groups[index].samples.push(alloc, sample)?;
     Ok(())
 }
 
@@ -60,7 +60,7 @@ impl<'a> Groups<'a> {
         ensures indexed { IsIndexed result }
     {
         Groups {
-            places: BTreeMap::new(alloc),
+            indices: BTreeMap::new(alloc),
             groups: Vec::new(alloc),
         }
     }
@@ -77,13 +77,13 @@ impl<'a> Groups<'a> {
             ≡ put_in (with_last (line_view sample.entry)) [] (groups_view self.old) key.now) }
         ensures indexed { OnOk result (IsIndexed self.new) }
     {
-        match self.places.get(key).copied() {
-            Some(place) => {
-                add_to(alloc, &mut self.groups, place, sample)?;
+        match self.indices.get(key).copied() {
+            Some(index) => {
+                add_to(alloc, &mut self.groups, index, sample)?;
                 Ok(())
             }
             None => {
-                self.places.insert(key, self.groups.len())?;
+                self.indices.insert(key, self.groups.len())?;
                 self.groups.push(Group {
                     key,
                     samples: Seq::of_one(sample),

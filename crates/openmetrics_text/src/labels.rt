@@ -57,7 +57,7 @@ pub(crate) struct Label<'a> {
     pub(crate) value: LabelText<'a>,
 }
 
-/// Whether a byte stands at a place.
+/// Whether a byte stands at an offset.
 pub(crate) fn is_at(byte: u8, line: &str, at: usize) -> bool
     requires { 0 < byte }
     ensures value { result ≡ (slice_index line.now at == byte) }
@@ -65,7 +65,7 @@ pub(crate) fn is_at(byte: u8, line: &str, at: usize) -> bool
     at < line.len() && line.as_bytes()[at] == byte
 }
 
-/// Whether an equals sign and a double quote stand at a place.
+/// Whether an equals sign and a double quote stand at an offset.
 fn is_opened_at(line: &str, at: usize) -> bool
     requires { at ≤ length line.now }
     ensures { result ≡ is_opened_at line.now at }
@@ -73,7 +73,7 @@ fn is_opened_at(line: &str, at: usize) -> bool
     is_at(b'=', line, at) && is_at(b'"', line, at + 1)
 }
 
-/// The name of the label that begins at a place, behind which an equals sign and a double quote stand.
+/// The name of the label that begins at an offset, behind which an equals sign and a double quote stand.
 #[tactic(auto, unfolding(crate::specs::Labels::label_name_at))]
 fn label_name_at<'a>(line: &'a str, i: usize) -> Result<&'a str, ReadError<ExpositionKind>>
     requires boundary { IsCharBoundary line.now i }
@@ -90,7 +90,7 @@ fn label_name_at<'a>(line: &'a str, i: usize) -> Result<&'a str, ReadError<Expos
     Ok(name)
 }
 
-/// Where the value stands that begins at a place, behind its double quote.
+/// Where the value stands that begins at an offset, behind its double quote.
 fn value_span(line: &str, i: usize) -> Span
     requires boundary { IsCharBoundary line.now i }
     ensures start { result.start ≡ i }
@@ -110,7 +110,7 @@ fn value_text<'a>(alloc: Global, line: &'a str, span: &Span) -> Result<LabelText
     Ok(LabelText::Plain(span_text(line, span)))
 }
 
-/// The value that begins at a place, behind its double quote, and the place behind the one that ends it.
+/// The value that begins at an offset, behind its double quote, and the offset behind the one that ends it.
 #[tactic(auto, unfolding(crate::specs::Labels::label_value_at))]
 fn label_value_at<'a>(
     alloc: Global,
@@ -130,7 +130,7 @@ fn label_value_at<'a>(
     Ok((text, span.end + 1))
 }
 
-/// The label that begins at a place, and the place behind it.
+/// The label that begins at an offset, and the offset behind it.
 #[tactic(auto, unfolding(crate::specs::Labels::label_at))]
 fn label_at<'a>(
     alloc: Global,
@@ -148,7 +148,7 @@ fn label_at<'a>(
     Ok((Label { name, value }, behind))
 }
 
-/// The labels that begin at a place, with commas between them, and the place behind them. They are put into the room.
+/// The labels that begin at an offset, with commas between them, and the offset behind them. They are put into the room.
 fn some_labels_at<'a>(
     alloc: Global,
     line: &'a str,
@@ -215,7 +215,7 @@ fn have_twice(alloc: Global, labels: &[Label]) -> Result<bool, OutOfMemory>
     many_have_twice(alloc, labels)
 }
 
-/// The labels behind an opening brace, up to the closing one, and the place behind that. They are put into the room.
+/// The labels behind an opening brace, up to the closing one, and the offset behind that. They are put into the room.
 #[tactic(auto, unfolding(crate::specs::Labels::labels_at))]
 pub(crate) fn labels_at<'a>(
     alloc: Global,

@@ -1,6 +1,7 @@
 //! Laws of readings.
 ghost use Rattle.openmetrics_text.specs.FaultLines.{FaultSays};
 ghost use Rattle.openmetrics_text.specs.Grammar.{WrittenIsRead, ReadIsWritten, SaysAtMost};
+ghost use Rattle.openmetrics_text.specs.Passing.{InRangeIsSame, PassedOver};
 ghost use Rattle.openmetrics_text.specs.RoundTrip.{WrittenIsReadBack};
 
 /// An exposition that is written is read as what its lines say.
@@ -19,9 +20,19 @@ pub fn written_is_read_back()
     ensures { WrittenIsReadBack }
 {}
 
-/// A fault's kind says what stands in the line that begins at its place, or in the piece.
+/// A fault's kind says what stands in the line that begins at its offset, or in the piece.
 pub fn fault_says()
     ensures { FaultSays }
+{}
+
+/// What is read where a sample out of range refuses its exposition is read the same where it is passed over.
+pub fn in_range_is_same()
+    ensures { InRangeIsSame }
+{}
+
+/// Samples out of range that are passed over are as if their lines weren't there, but for the counts.
+pub fn passed_over()
+    ensures { PassedOver }
 {}
 
 /// An exposition says at most one metric for each four of its bytes.

@@ -21,6 +21,9 @@ mod write;
 
 pub use exposition::Exposition;
 pub use fault::{ExpositionFault, ExpositionKind};
-pub use laws::{fault_says, read_is_written, says_at_most, written_is_read, written_is_read_back};
+pub use laws::{
+    fault_says, in_range_is_same, passed_over, read_is_written, says_at_most, written_is_read,
+    written_is_read_back,
+};
 pub use read::read_exposition;
 pub use write::write_batch;

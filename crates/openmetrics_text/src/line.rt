@@ -124,26 +124,28 @@ fn sample_line<'a>(
     alloc: Global,
     line: &'a str,
     room: &mut Vec<Label<'a>>,
+    passing: bool,
 ) -> Result<Line<'a>, ReadError<ExpositionKind>>
-    ensures gives { Gives line_view result (sample_line line.now) }
+    ensures gives { Gives line_view result (sample_line passing line.now) }
     ensures filled { IfOk result IsFilledLine }
 {
-    let sample = sample_of(alloc, line, taken(alloc, room))?;
+    let sample = sample_of(alloc, line, taken(alloc, room), passing)?;
     Ok(Line::Sampled(sample))
 }
 
-/// What a line says. The labels of a sample take the room.
+/// What a line says, where what is out of range is passed over or not. The labels of a sample take the room.
 #[tactic(auto, unfolding(crate::specs::Lines::line_of))]
 pub(crate) fn line_of<'a>(
     alloc: Global,
     line: &'a str,
     room: &mut Vec<Label<'a>>,
+    passing: bool,
 ) -> Result<Line<'a>, ReadError<ExpositionKind>>
-    ensures gives { Gives line_view result (line_of line.now) }
+    ensures gives { Gives line_view result (line_of passing line.now) }
     ensures filled { IfOk result IsFilledLine }
 {
     if is_at(b'#', line, 0) {
         return hash_line(line);
     }
-    sample_line(alloc, line, room)
+    sample_line(alloc, line, room, passing)
 }

@@ -40,7 +40,7 @@ fn first_beyond(alphabet: Alphabet, bytes: &[u8]) -> Option<usize>
     bytes.iter().position(|byte| !is_of(alphabet, *byte))
 }
 
-/// The place of the first byte that isn't of an alphabet; the length where there is none.
+/// The offset of the first byte that isn't of an alphabet; the length where there is none.
 #[inline(always)]
 fn name_end(alphabet: Alphabet, bytes: &[u8]) -> usize
     ensures { result ≡ position_or_len (ends alphabet) bytes.now }

@@ -53,22 +53,23 @@ fn before_last(text: &str) -> Option<Option<&str>>
     }
 }
 
-/// What a line says. The labels of a sample take the room.
+/// What a line says, where what is out of range is passed over or not. The labels of a sample take the room.
 #[tactic(auto, unfolding(crate::specs::Reading::line_at))]
 fn line_at<'a>(
     alloc: Global,
     line: &Placed<'a>,
     room: &mut Vec<Label<'a>>,
+    passing: bool,
 ) -> Result<Line<'a>, ReadError<ExpositionFault>>
-    ensures gives { Gives line_view result (line_at (part_at line.now)) }
+    ensures gives { Gives line_view result (line_at passing (part_at line.now)) }
     ensures filled { IfOk result IsFilledLine }
 {
-    match line_of(alloc, line.text, room) {
+    match line_of(alloc, line.text, room, passing) {
         Ok(says) => Ok(says),
         Err(ReadError::OutOfMemory) => Err(ReadError::OutOfMemory),
         Err(ReadError::Fault(kind)) => Err(ReadError::Fault(ExpositionFault {
             kind,
-            place: line.place,
+            offset: line.offset,
         })),
     }
 }
@@ -79,18 +80,19 @@ fn read_lines<'a>(
     text: Option<&'a str>,
     moment: Moment,
     typed: bool,
+    passing: bool,
 ) -> Result<Collected<'a>, ReadError<ExpositionFault>>
     ensures { Gives said_view result
-        (lines_reading moment typed (option_map (λ text. text.now) text.entry)) }
+        (lines_reading moment typed passing (option_map (λ text. text.now) text.entry)) }
 {
     let mut collected = Collected::new(alloc, moment, typed);
     let Some(text) = text else {
         return Ok(collected);
     };
     let mut room = Vec::new(alloc);
-    let mut lines = Separated::of(b'\n', Placed { place: 0, text });
+    let mut lines = Separated::of(b'\n', Placed { offset: 0, text });
     while let Some(line) = lines.next() {
-        let says = line_at(alloc, &line, &mut room)?;
+        let says = line_at(alloc, &line, &mut room, passing)?;
         collected.add(says, &mut room)?;
     }
     Ok(collected)
@@ -103,20 +105,22 @@ fn read_text(
     piece: &str,
     moment: Moment,
     typed: bool,
+    passing: bool,
 ) -> Result<Exposition, ReadError<ExpositionFault>>
-    ensures { Gives (λ x. x) result (text_reading piece.now moment typed) }
+    ensures { Gives (λ x. x) result (text_reading piece.now moment typed passing) }
 {
     match before_last(without_newline(piece)) {
         Some(text) => {
-            let said = read_lines(alloc, text, moment, typed)?;
+            let said = read_lines(alloc, text, moment, typed, passing)?;
             Ok(Exposition {
                 metrics: Seq::of(said.metrics),
                 passed: said.passed,
+                out_of_range: said.out_of_range,
             })
         }
         None => Err(ReadError::Fault(ExpositionFault {
             kind: ExpositionKind::NoEof,
-            place: piece.len(),
+            offset: piece.len(),
         })),
     }
 }
@@ -127,14 +131,15 @@ fn read_piece(
     piece: &[u8],
     moment: Moment,
     typed: bool,
+    passing: bool,
 ) -> Result<Exposition, ReadError<ExpositionFault>>
-    ensures { Gives (λ x. x) result (reading piece.now moment typed) }
+    ensures { Gives (λ x. x) result (reading piece.now moment typed passing) }
 {
     match utf8_text(piece) {
-        Ok(text) => read_text(alloc, text, moment, typed),
-        Err(place) => Err(ReadError::Fault(ExpositionFault {
+        Ok(text) => read_text(alloc, text, moment, typed, passing),
+        Err(offset) => Err(ReadError::Fault(ExpositionFault {
             kind: ExpositionKind::NotUtf8,
-            place,
+            offset,
         })),
     }
 }
@@ -142,22 +147,27 @@ fn read_piece(
 /// Reads a piece as an exposition of OpenMetrics 1.0's text format: lines of metadata and of samples, and at its
 /// end `# EOF`, with or without a newline behind it. Each sample whose number is a decimal gives a metric with the
 /// sample's name, its labels as tags, those with an empty value left out, and the field `value`; a sample whose
-/// number is an infinity or NaN is passed over and counted. Without a time the metric's time is the moment. With
+/// number is an infinity or NaN is passed over and counted. With `pass_out_of_range` so is one whose number or
+/// whose time is out of range, and without it that is a fault. Without a time the metric's time is the moment. With
 /// `type_tag` a metric has the tag `om_type`, over a label of that name: the type of the last TYPE line before the
 /// sample whose name is the sample's, or that without one of the suffixes that OpenMetrics gives, else `unknown`.
 /// Metrics one behind the other share long texts that are equal.
 ///
 /// `NotUtf8` comes before all else, then `NoEof`, then the first line with a fault. In a line a fault in the name
 /// or between the braces comes first; then `BadLine`, where the line has another shape, then `BadNumber`,
-/// `BadTime`, `NumberRange` and `TooMany`. One fault refuses the whole. `OutOfMemory`, at place 0, may come in
-/// place of any answer.
+/// `BadTime`, `NumberRange`, which no line has with `pass_out_of_range`, and `TooMany`. One fault refuses the
+/// whole. `OutOfMemory`, at offset 0, may come in place of any answer.
 pub fn read_exposition(
     alloc: Global,
     piece: &[u8],
     moment: Moment,
     type_tag: bool,
+    pass_out_of_range: bool,
 ) -> Result<Exposition, ExpositionFault>
-    ensures { Answers result (reading piece.now moment type_tag) }
+    ensures { Answers result (reading piece.now moment type_tag pass_out_of_range) }
 {
-    answer(read_piece(alloc, piece, moment, type_tag), NO_MEMORY)
+    answer(
+        read_piece(alloc, piece, moment, type_tag, pass_out_of_range),
+        NO_MEMORY,
+    )
 }

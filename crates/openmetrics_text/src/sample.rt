@@ -5,7 +5,7 @@ ghost use Rattle.text_parts.specs.Chain.{Gives};
 ghost use Rattle.text_parts.specs.Split.{first_part};
 ghost use Rattle.openmetrics_text.specs.Labels.{AreNamed};
 ghost use Rattle.openmetrics_text.specs.Sample.{head_of, behind_space, is_exemplar, timed, numbered, shape_of};
-ghost use Rattle.openmetrics_text.specs.Sample.{is_out_of_range, value_said, time_said, limited, sample_of};
+ghost use Rattle.openmetrics_text.specs.Sample.{is_out_of_range, number_said, time_said, limited, sample_of};
 ghost use Rattle.openmetrics_text.specs.Views.{label_view, head_view, shape_view, sample_view};
 ghost use Rattle.openmetrics_text.specs.Views.{IsFilled};
 
@@ -13,7 +13,7 @@ use crate::fault::{ExpositionKind, fault};
 use crate::labels::{Label, is_at, labels_at};
 use crate::names::{Alphabet, name_len};
 use crate::number::{Number, Time, number_of, time_of};
-use fixed_num::{Fixed, Moment};
+use fixed_num::Moment;
 use std::alloc::Global;
 use text_parts::{ReadError, first_part};
 
@@ -27,7 +27,7 @@ pub(crate) struct Head<'a> {
     name: &'a str,
     /// The labels.
     labels: Vec<Label<'a>>,
-    /// The place behind them.
+    /// The offset behind them.
     behind: usize,
 }
 
@@ -47,9 +47,9 @@ pub(crate) struct Sample<'a> {
     pub(crate) name: &'a str,
     /// The labels.
     pub(crate) labels: Vec<Label<'a>>,
-    /// The number, where it is a decimal.
-    pub(crate) value: Option<Fixed>,
-    /// The time, where one is written: nanoseconds since 1970.
+    /// The number, which is out of range where the time is.
+    pub(crate) number: Number,
+    /// The time, where one in range is written: nanoseconds since 1970.
     pub(crate) time: Option<Moment>,
 }
 
@@ -86,7 +86,7 @@ fn head_of<'a>(
     })
 }
 
-/// What stands behind the space at a place.
+/// What stands behind the space at an offset.
 #[tactic(auto, unfolding(crate::specs::Sample::behind_space))]
 fn behind_space(line: &str, i: usize) -> Result<&str, ReadError<ExpositionKind>>
     ensures { Gives (λ text. text.now) result (behind_space line.now i) }
@@ -145,27 +145,23 @@ fn shape_of(text: &str) -> Result<Shape<'_>, ReadError<ExpositionKind>>
     }
 }
 
-/// Whether a number or a time is out of its range.
-fn is_out_of_range(number: &Number, time: &Time) -> bool
-    ensures { result ≡ is_out_of_range number.now time.now }
+/// The number of a sample, which is out of range where its time is.
+fn number_said(number: Number, time: &Time) -> Number
+    ensures { result ≡ number_said number time.now }
 {
-    match number {
-        Number::OutOfRange => true,
-        _ => match time {
-            Time::OutOfRange => true,
-            _ => false,
-        },
+    match time {
+        Time::OutOfRange => Number::OutOfRange,
+        _ => number,
     }
 }
 
-/// The value of a sample.
-fn value_said(number: &Number) -> Option<Fixed>
-    ensures { result ≡ value_said number.now }
+/// Whether a number is out of range.
+fn is_out_of_range(number: &Number) -> bool
+    ensures { result ≡ is_out_of_range number.now }
 {
     match number {
-        Number::Decimal(number) => Some(*number),
-        Number::NoDecimal => None,
-        Number::OutOfRange => None,
+        Number::OutOfRange => true,
+        _ => false,
     }
 }
 
@@ -180,19 +176,22 @@ fn time_said(time: &Time) -> Option<Moment>
     }
 }
 
-/// The sample, where its number and its time are in range and it isn't written with too many labels.
+/// The sample, where its number and its time are in range, unless what is out of range is passed over, and it
+/// isn't written with too many labels.
 #[tactic(auto, unfolding(crate::specs::Sample::limited))]
 fn limited<'a>(
     head: Head<'a>,
-    number: &Number,
+    number: Number,
     time: &Time,
+    passing: bool,
 ) -> Result<Sample<'a>, ReadError<ExpositionKind>>
     requires named { 0 < length head.name.now }
     requires labels { AreNamed (map label_view head.labels.items) }
-    ensures gives { Gives sample_view result (limited (head_view head.entry) number.now time.now) }
+    ensures gives { Gives sample_view result (limited passing (head_view head.entry) number time.now) }
     ensures filled { IfOk result IsFilled }
 {
-    if is_out_of_range(number, time) {
+    let number = number_said(number, time);
+    if is_out_of_range(&number) && !passing {
         return Err(fault(ExpositionKind::NumberRange));
     }
     if head.labels.len() > MOST_LABELS {
@@ -201,20 +200,21 @@ fn limited<'a>(
     Ok(Sample {
         name: head.name,
         labels: head.labels,
-        value: value_said(number),
+        number,
         time: time_said(time),
     })
 }
 
-/// The sample that a line is. Its labels are put into the room.
+/// The sample that a line is, where what is out of range is passed over or not. Its labels are put into the room.
 #[tactic(auto, unfolding(crate::specs::Sample::sample_of))]
 pub(crate) fn sample_of<'a>(
     alloc: Global,
     line: &'a str,
     room: Vec<Label<'a>>,
+    passing: bool,
 ) -> Result<Sample<'a>, ReadError<ExpositionKind>>
     requires { room.items ≡ [] }
-    ensures gives { Gives sample_view result (sample_of line.now) }
+    ensures gives { Gives sample_view result (sample_of passing line.now) }
     ensures filled { IfOk result IsFilled }
 {
     let head = head_of(alloc, line, room)?;
@@ -222,5 +222,5 @@ pub(crate) fn sample_of<'a>(
     let shape = shape_of(text)?;
     let number = number_of(shape.number.as_bytes())?;
     let time = time_of(shape.time)?;
-    limited(head, &number, &time)
+    limited(head, number, &time, passing)
 }

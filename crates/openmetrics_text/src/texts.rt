@@ -11,10 +11,10 @@ use std::alloc::Global;
 
 /// Where a text stands among others.
 #[derive(Clone, Copy, Debug)]
-pub(crate) struct Place {
+pub(crate) struct Extent {
     /// Where it begins.
     pub(crate) from: usize,
-    /// The place behind it.
+    /// The offset behind it.
     pub(crate) to: usize,
 }
 
@@ -24,11 +24,11 @@ pub(crate) struct Row {
     /// How many bytes at the front of its line are its family.
     pub(crate) family: usize,
     /// What stands for the set of its labels.
-    pub(crate) series: Place,
+    pub(crate) series: Extent,
     /// Its time: nanoseconds since 1970.
     pub(crate) time: Moment,
     /// Its line, with the newline.
-    pub(crate) line: Place,
+    pub(crate) line: Extent,
 }
 
 /// The texts of samples: of each metric what stands for the set of its labels, and the lines of its samples.
@@ -52,7 +52,7 @@ impl Texts {
     }
 }
 
-/// The sample whose texts stand at some places.
+/// The sample whose texts stand at some extents.
 fn sample_at<'a>(bytes: &'a [u8], row: &Row) -> SampleLine<'a>
     requires { IsWithin bytes.now row.now }
     ensures { line_view result ≡ written_in bytes.now row.now }

@@ -21,21 +21,21 @@ static SUFFIXES: [&[u8]; 8] = [
     b"_info",
 ];
 
-/// The types of the TYPE lines that were read, and for each of their names the place of its last one.
+/// The types of the TYPE lines that were read, and for each of their names the index of its last one.
 #[derive(Drop)]
 pub(crate) struct Types<'a> {
     kinds: Vec<&'a str>,
     last: BTreeMap<&'a [u8], usize>,
 }
 
-/// The later of two places.
+/// The later of two indices.
 fn later(one: Option<usize>, other: Option<usize>) -> Option<usize>
     ensures { result ≡ later one other }
 {
     match one {
-        Some(place) => match other {
-            Some(another) => Some(place.max(another)),
-            None => Some(place),
+        Some(index) => match other {
+            Some(another) => Some(index.max(another)),
+            None => Some(index),
         },
         None => other,
     }
@@ -62,7 +62,7 @@ impl<'a> Types<'a> {
         Ok(())
     }
 
-    // The place of the last TYPE line of a name.
+    // The index of the last TYPE line of a name.
     fn last_of(&self, name: &[u8]) -> Option<usize>
         ensures { (pairs : List Tag) → HaveTypes self.now pairs
             → result ≡ last_of (λ other. bytes_eq other name.now) pairs }
@@ -70,7 +70,7 @@ impl<'a> Types<'a> {
         self.last.get(name).copied()
     }
 
-    // The place of the last TYPE line of a sample's name without a suffix, where it has that.
+    // The index of the last TYPE line of a sample's name without a suffix, where it has that.
     fn last_without(&self, name: &[u8], suffix: &[u8]) -> Option<usize>
         ensures { (pairs : List Tag) → HaveTypes self.now pairs
             → result ≡ last_of (λ other. bytes_eq (other ++ suffix.now) name.now) pairs }
@@ -81,7 +81,7 @@ impl<'a> Types<'a> {
         }
     }
 
-    // The place of the last TYPE line of a sample's name without one of some suffixes.
+    // The index of the last TYPE line of a sample's name without one of some suffixes.
     fn last_with(&self, name: &[u8], suffixes: &[&[u8]]) -> Option<usize>
         ensures { (pairs : List Tag) → HaveTypes self.now pairs
             → result ≡ last_of (has_suffix_of name.now (map (λ suffix. suffix.now) suffixes.now)) pairs }
@@ -93,7 +93,7 @@ impl<'a> Types<'a> {
         last
     }
 
-    // The place of the last TYPE line of a sample's name, or that without one suffix.
+    // The index of the last TYPE line of a sample's name, or that without one suffix.
     fn last_for(&self, name: &[u8]) -> Option<usize>
         ensures { (pairs : List Tag) → HaveTypes self.now pairs
             → result ≡ last_of (is_family_of name.now) pairs }
@@ -101,13 +101,13 @@ impl<'a> Types<'a> {
         later(self.last_of(name), self.last_with(name, &SUFFIXES))
     }
 
-    // The type at a place.
-    fn kind_at(&self, place: usize) -> &'a str
+    // The type at an index.
+    fn kind_at(&self, index: usize) -> &'a str
         ensures { result.now
-            ≡ slice_index_or (map (λ kind. kind.now) self.now.kinds.items) place (codes "unknown") }
+            ≡ slice_index_or (map (λ kind. kind.now) self.now.kinds.items) index (codes "unknown") }
     {
-        if place < self.kinds.len() {
-            return self.kinds[place];
+        if index < self.kinds.len() {
+            return self.kinds[index];
         }
         "unknown"
     }
@@ -117,7 +117,7 @@ impl<'a> Types<'a> {
         ensures { (pairs : List Tag) → HaveTypes self.now pairs → result.now ≡ type_of name.now pairs }
     {
         match self.last_for(name.as_bytes()) {
-            Some(place) => self.kind_at(place),
+            Some(index) => self.kind_at(index),
             None => "unknown",
         }
     }

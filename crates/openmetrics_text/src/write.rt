@@ -12,7 +12,7 @@ ghost use Rattle.openmetrics_text.specs.Texts.{AreIn, IsAt, Puts};
 use crate::clean::write_family;
 use crate::families::append_families;
 use crate::label_texts::{LabelTexts, label_texts};
-use crate::texts::{Place, Row, Texts, families_of};
+use crate::texts::{Extent, Row, Texts, families_of};
 use fixed_num::{Fixed, Moment, OutOfMemory};
 use metric::{Metric, Text, Value};
 use std::alloc::Global;
@@ -85,7 +85,7 @@ fn append_point(
 #[derive(Clone, Copy)]
 struct Series<'a> {
     labels: &'a [u8],
-    place: Place,
+    extent: Extent,
 }
 
 /// Puts the sample of a field among others, given the text of its family and its series.
@@ -99,7 +99,7 @@ fn put_line(
 ) -> Result<(), OutOfMemory>
     requires family { family.now ≡ (point_of metric.now field.now).family }
     requires labels { series.now.labels.now ≡ written_labels (labels_of metric.now.tags) }
-    requires series { IsAt texts.old.bytes.items series.now.place (series_key (labels_of metric.now.tags)) }
+    requires series { IsAt texts.old.bytes.items series.now.extent (series_key (labels_of metric.now.tags)) }
     ensures { OnOk result (Puts texts.old texts.new (point_of metric.now field.now ∷ [])) }
 {
     let from = texts.bytes.len();
@@ -114,9 +114,9 @@ fn put_line(
     )?;
     texts.rows.push(Row {
         family: family.len(),
-        series: series.place,
+        series: series.extent,
         time,
-        line: Place {
+        line: Extent {
             from,
             to: texts.bytes.len(),
         },
@@ -135,7 +135,7 @@ fn put_field(
     field: &(Text, Value),
 ) -> Result<(), OutOfMemory>
     requires labels { series.now.labels.now ≡ written_labels (labels_of metric.now.tags) }
-    requires series { IsAt texts.old.bytes.items series.now.place (series_key (labels_of metric.now.tags)) }
+    requires series { IsAt texts.old.bytes.items series.now.extent (series_key (labels_of metric.now.tags)) }
     ensures { OnOk result (Puts texts.old texts.new (points_of_field metric.now field.now)) }
 {
     if field.1.is_text() {
@@ -156,7 +156,7 @@ fn put_fields(
     fields: &[(Text, Value)],
 ) -> Result<(), OutOfMemory>
     requires labels { series.now.labels.now ≡ written_labels (labels_of metric.now.tags) }
-    requires series { IsAt texts.old.bytes.items series.now.place (series_key (labels_of metric.now.tags)) }
+    requires series { IsAt texts.old.bytes.items series.now.extent (series_key (labels_of metric.now.tags)) }
     ensures { OnOk result
         (Puts texts.old texts.new (flat_map (points_of_field metric.now) fields.now)) }
 {
@@ -167,13 +167,13 @@ fn put_fields(
 }
 
 /// Puts what stands for labels behind the texts, and says where it stands.
-fn put_series(texts: &mut Texts, key: &[u8]) -> Result<Place, OutOfMemory>
+fn put_series(texts: &mut Texts, key: &[u8]) -> Result<Extent, OutOfMemory>
     ensures puts { OnOk result (Puts texts.old texts.new []) }
-    ensures at { IfOk result (λ place. IsAt texts.new.bytes.items place key.now) }
+    ensures at { IfOk result (λ extent. IsAt texts.new.bytes.items extent key.now) }
 {
     let from = texts.bytes.len();
     append_bytes(&mut texts.bytes, key)?;
-    Ok(Place {
+    Ok(Extent {
         from,
         to: texts.bytes.len(),
     })
@@ -194,7 +194,7 @@ fn put_metric(
     label_texts(alloc, metric, labels)?;
     let series = Series {
         labels: labels.written.as_slice(),
-        place: put_series(texts, labels.key.as_slice())?,
+        extent: put_series(texts, labels.key.as_slice())?,
     };
     put_fields(alloc, texts, family, &series, metric, metric.fields())?;
     Ok(())

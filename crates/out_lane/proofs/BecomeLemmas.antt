@@ -17,7 +17,8 @@ pub stays : (limit : ℕ) (es : List LaneEvent) (e : LaneEvent) (p : ℕ) →
     fate_at limit (es ++ e ∷ []) p ≡ fate_at limit es p
 stays limit es e p v b =
     fate_push limit es e p
-    ∙ same_fate (is_written es p) (list_any (holds p) (newly (ranges_of es).begun e)) (buffered_by limit (ranges_after (ranges_of es) e) p) (buffered_by limit (ranges_of es) p) v b
+    ∙ same_fate (is_written es p) (list_any (holds p) (newly (ranges_of es).begun e))
+    (buffered_by limit (ranges_after (ranges_of es) e) p) (buffered_by limit (ranges_of es) p) v b
     ∙ sym (fate_is limit es p)
 
 pub was_buffered : (limit : ℕ) (es : List LaneEvent) (p : ℕ) → is_written es p ≡ false →
@@ -33,7 +34,8 @@ pub is_now : (limit : ℕ) (es : List LaneEvent) (e : LaneEvent) (p : ℕ) (b : 
     buffered_by limit (ranges_after (ranges_of es) e) p ≡ b → fate_at limit (es ++ e ∷ []) p ≡ fate false b
 is_now limit es e p b w v h =
     fate_push limit es e p
-    ∙ fate_unwritten (is_written es p) (list_any (holds p) (newly (ranges_of es).begun e)) (buffered_by limit (ranges_after (ranges_of es) e) p) b w v h
+    ∙ fate_unwritten (is_written es p) (list_any (holds p) (newly (ranges_of es).begun e))
+    (buffered_by limit (ranges_after (ranges_of es) e) p) b w v h
 
 fate_newly : (w v b : Bool) → v ≡ true → fate (w || v) b ≡ Written
 fate_newly true v b h = refl
@@ -43,7 +45,8 @@ pub is_now_written : (limit : ℕ) (es : List LaneEvent) (e : LaneEvent) (p : �
     list_any (holds p) (newly (ranges_of es).begun e) ≡ true → fate_at limit (es ++ e ∷ []) p ≡ Written
 is_now_written limit es e p v =
     fate_push limit es e p
-    ∙ fate_newly (is_written es p) (list_any (holds p) (newly (ranges_of es).begun e)) (buffered_by limit (ranges_after (ranges_of es) e) p) v
+    ∙ fate_newly (is_written es p) (list_any (holds p) (newly (ranges_of es).begun e))
+    (buffered_by limit (ranges_after (ranges_of es) e) p) v
 
 -- a push: s and t are where the waiting items begin before and after
 pub push_same : (o : Option (ℕ × ℕ)) (s t p : ℕ) → s ≤ t → (p < s) ⊎ (t ≤ p) →

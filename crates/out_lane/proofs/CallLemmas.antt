@@ -21,11 +21,16 @@ module _ {X : Type 0} where
   no_events batch limit es offers lane a =
       subst (λ (xs : List LaneEvent). IsLaneOf batch limit xs offers lane) (sym (append-nil es)) a
 
-  answer_meets : (batch limit : ℕ) (es : List LaneEvent) (offers : List X) (lane : LaneState X) (answer : Result (ℕ × ℕ) BeginAnswer) → IsLaneOf batch limit es offers lane → Answers batch limit es offers lane answer → IsLaneOf batch limit (es ++ events_of_answer answer) offers (after_answer lane answer)
+  answer_meets : (batch limit : ℕ) (es : List LaneEvent) (offers : List X) (lane : LaneState X)
+      (answer : Result (ℕ × ℕ) BeginAnswer) → IsLaneOf batch limit es offers lane
+      → Answers batch limit es offers lane answer → IsLaneOf batch limit (es ++ events_of_answer answer) offers
+      (after_answer lane answer)
   answer_meets batch limit es offers lane (Ok range) a m = m.state
   answer_meets batch limit es offers lane (Err e) a m = no_events batch limit es offers lane a
 
-  pub call_meets : (batch limit : ℕ) (es : List LaneEvent) (offers : List X) (lane : LaneState X) (call : LaneCall X) → IsLaneOf batch limit es offers lane → MayCall lane call → IsLaneOf batch limit (es ++ events_of_call lane call) (offers ++ pushed_by call) (after_call lane call)
+  pub call_meets : (batch limit : ℕ) (es : List LaneEvent) (offers : List X) (lane : LaneState X) (call : LaneCall X)
+      → IsLaneOf batch limit es offers lane → MayCall lane call
+      → IsLaneOf batch limit (es ++ events_of_call lane call) (offers ++ pushed_by call) (after_call lane call)
   call_meets batch limit es offers lane (Pushing item) a m =
       (push_meets batch limit es offers lane item a).state
   call_meets batch limit es offers lane Beginning a m =
@@ -36,17 +41,22 @@ module _ {X : Type 0} where
   call_meets batch limit es offers lane Failing a m =
       no_items batch limit _ offers _ (fail_meets batch limit es offers lane a m).state
 
-  calls_meet_from : (batch limit : ℕ) (es : List LaneEvent) (offers : List X) (lane : LaneState X) (calls : List (LaneCall X)) → IsLaneOf batch limit es offers lane → MayCallAll lane calls → IsLaneOf batch limit (es ++ events_of_calls lane calls) (offers ++ pushed_by_all calls) (after_calls lane calls)
+  calls_meet_from : (batch limit : ℕ) (es : List LaneEvent) (offers : List X) (lane : LaneState X)
+      (calls : List (LaneCall X)) → IsLaneOf batch limit es offers lane → MayCallAll lane calls
+      → IsLaneOf batch limit (es ++ events_of_calls lane calls) (offers ++ pushed_by_all calls) (after_calls lane calls)
   unfolding MayCallAll events_of_calls pushed_by_all after_calls
   calls_meet_from batch limit es offers lane [] a m =
       no_events batch limit es (offers ++ []) lane (no_items batch limit es offers lane a)
   calls_meet_from batch limit es offers lane (call ∷ calls) a m =
       let next : LaneState X = after_call lane call in
-      subst (λ (xs : List LaneEvent). IsLaneOf batch limit xs (offers ++ (pushed_by call ++ pushed_by_all calls)) (after_calls next calls))
+      subst (λ (xs : List LaneEvent). IsLaneOf batch limit xs (offers ++ (pushed_by call ++ pushed_by_all calls))
+      (after_calls next calls))
       (append_assoc es (events_of_call lane call) (events_of_calls next calls))
-      (subst (λ (ys : List X). IsLaneOf batch limit (es ++ events_of_call lane call ++ events_of_calls next calls) ys (after_calls next calls))
+      (subst (λ (ys : List X). IsLaneOf batch limit (es ++ events_of_call lane call ++ events_of_calls next calls) ys
+      (after_calls next calls))
       (append_assoc offers (pushed_by call) (pushed_by_all calls))
-      (calls_meet_from batch limit (es ++ events_of_call lane call) (offers ++ pushed_by call) next calls (call_meets batch limit es offers lane call a m.0) m.1))
+      (calls_meet_from batch limit (es ++ events_of_call lane call) (offers ++ pushed_by call) next calls
+      (call_meets batch limit es offers lane call a m.0) m.1))
 
 pub calls_meet : (X : Type 0) → CallsMeet X
 calls_meet X batch limit calls b f m =

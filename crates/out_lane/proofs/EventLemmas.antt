@@ -29,10 +29,13 @@ buffered_above limit r p s h =
 pub writes_in_order : WritesInOrder
 writes_in_order batch limit es b a old new h u w =
     let s : Steady limit (ranges_of es) = steady_from batch limit no_ranges es b a (steady_none limit) in
-    let at = from_buffered (is_written es old) (buffered_by limit (ranges_of es) old) (sym (fate_is limit es old) ∙ u) in
+    let at = from_buffered (is_written es old) (buffered_by limit (ranges_of es) old)
+    (sym (fate_is limit es old) ∙ u) in
     let above : (ranges_of es).written_to ≤ old = buffered_above limit (ranges_of es) old s at.1 in
-    let wrote = from_written (is_written es new) (buffered_by limit (ranges_of es) new) (sym (fate_is limit es new) ∙ w) in
-    let below : new < (ranges_of es).written_to = written_below batch limit no_ranges es b a (steady_none limit) new wrote in
+    let wrote = from_written (is_written es new) (buffered_by limit (ranges_of es) new)
+    (sym (fate_is limit es new) ∙ w) in
+    let below : new < (ranges_of es).written_to = written_below batch limit no_ranges es b a
+    (steady_none limit) new wrote in
     omega arith
 
 never : true ≡ false → ⊥
@@ -50,7 +53,8 @@ lost_after_push : (limit n w p : ℕ) (o : Option (ℕ × ℕ)) → is_in_open p
     p < max (max w (open_end o)) (n - limit) →
     (is_in_open p o || leb (max (max w (open_end o)) (n + 1 - limit)) p) ≡ false
 lost_after_push limit n w p o i h =
-    let e : leb (max (max w (open_end o)) (n + 1 - limit)) p ≡ false = lt-leb (max (max w (open_end o)) (n + 1 - limit)) p (omega arith) in
+    let e : leb (max (max w (open_end o)) (n + 1 - limit)) p ≡ false =
+    lt-leb (max (max w (open_end o)) (n + 1 - limit)) p (omega arith) in
     rw (i, e) refl
 
 lost_after_done : (ok : Bool) (limit n w p : ℕ) (o : Option (ℕ × ℕ)) → IsOpenIn limit n w o →
@@ -72,7 +76,8 @@ lost_after batch limit r (Done ok) p b s m i h =
 lost_after batch limit r (Begin from to) p b s m i h =
     let z : open_end r.begun ≡ 0 = ap open_end m.closed in
     let low : p < from = omega arith in
-    let e : leb (max (max r.written_to to) (r.pushed - limit)) p ≡ false = lt-leb (max (max r.written_to to) (r.pushed - limit)) p (omega arith) in
+    let e : leb (max (max r.written_to to) (r.pushed - limit)) p ≡ false =
+    lt-leb (max (max r.written_to to) (r.pushed - limit)) p (omega arith) in
     let f : holds p (from, to) ≡ false = holds_before from to p low in
     rw (f, e) refl
 
@@ -104,13 +109,15 @@ fate_lasts batch limit es e p b a m n =
     let s : Steady limit r = steady_from batch limit no_ranges es b a (steady_none limit) in
     fate_push limit es e p
     ∙ elim (cases_Bool (is_written es p)) [
-      | inl t ↦ written_stays (is_written es p) (list_any (holds p) (newly r.begun e)) (buffered_by limit (ranges_after r e) p) (buffered_by limit r p) t
+      | inl t ↦ written_stays (is_written es p) (list_any (holds p) (newly r.begun e))
+          (buffered_by limit (ranges_after r e) p) (buffered_by limit r p) t
       | inr f ↦
           elim (cases_Bool (buffered_by limit r p)) [
             | inl t ↦ absurd (n (fate_is limit es p ∙ is_buffered_fate (is_written es p) (buffered_by limit r p) f t))
             | inr g ↦
                 (let parts = or_parts (is_in_open p r.begun) (leb (oldest_waiting limit r) p) g in
-                same_fate (is_written es p) (list_any (holds p) (newly r.begun e)) (buffered_by limit (ranges_after r e) p) (buffered_by limit r p)
+                same_fate (is_written es p) (list_any (holds p) (newly r.begun e))
+                (buffered_by limit (ranges_after r e) p) (buffered_by limit r p)
                 (not_newly e p r.begun parts.0)
                 (lost_after batch limit r e p b s m parts.0 (leb-false (oldest_waiting limit r) p parts.1) ∙ sym g))
           ]
@@ -137,10 +144,12 @@ fates_last_on : (batch limit : ℕ) (es more : List LaneEvent) → 1 ≤ batch �
 fates_last_on batch limit es [] b a p n = ap (λ (xs : List LaneEvent). fate_at limit xs p) (append-nil es)
 fates_last_on batch limit es (e ∷ more) b a p n =
     let parts = AreLaneEvents-append batch limit no_ranges es (e ∷ more) a in
-    let step : fate_at limit (es ++ e ∷ []) p ≡ fate_at limit es p = fate_lasts batch limit es e p b parts.0 (AreLaneEvents-first batch limit (ranges_of es) e more parts.1) n in
+    let step : fate_at limit (es ++ e ∷ []) p ≡ fate_at limit es p =
+    fate_lasts batch limit es e p b parts.0 (AreLaneEvents-first batch limit (ranges_of es) e more parts.1) n in
     let again : es ++ e ∷ [] ++ more ≡ es ++ e ∷ more = append_assoc es (e ∷ []) more in
     ap (λ (xs : List LaneEvent). fate_at limit xs p) (sym again)
-    ∙ fates_last_on batch limit (es ++ e ∷ []) more b (subst (λ (xs : List LaneEvent). AreLaneEvents batch limit no_ranges xs) (sym again) a) p (λ h. n (sym step ∙ h))
+    ∙ fates_last_on batch limit (es ++ e ∷ []) more b (subst
+    (λ (xs : List LaneEvent). AreLaneEvents batch limit no_ranges xs) (sym again) a) p (λ h. n (sym step ∙ h))
     ∙ step
 
 pub fates_last : FatesLast

@@ -88,11 +88,13 @@ written_push es e p =
     ∙ list_any-append (holds p) (accepted_from None es) (newly (ranges_of es).begun e)
 
 pub fate_push : (limit : ℕ) (es : List LaneEvent) (e : LaneEvent) (p : ℕ) →
-    fate_at limit (es ++ e ∷ []) p ≡ fate (is_written es p || list_any (holds p) (newly (ranges_of es).begun e)) (buffered_by limit (ranges_after (ranges_of es) e) p)
+    fate_at limit (es ++ e ∷ []) p ≡ fate (is_written es p || list_any (holds p) (newly (ranges_of es).begun e))
+    (buffered_by limit (ranges_after (ranges_of es) e) p)
 fate_push limit es e p =
     fate_is limit (es ++ e ∷ []) p
     ∙ ap (λ (w : Bool). fate w (buffered_by limit (ranges_of (es ++ e ∷ [])) p)) (written_push es e p)
-    ∙ ap (λ (r : Ranges). fate (is_written es p || list_any (holds p) (newly (ranges_of es).begun e)) (buffered_by limit r p)) (ranges_from-push no_ranges es e)
+    ∙ ap (λ (r : Ranges). fate (is_written es p || list_any (holds p) (newly (ranges_of es).begun e))
+    (buffered_by limit r p)) (ranges_from-push no_ranges es e)
 
 or_false : (w v : Bool) → v ≡ false → (w || v) ≡ w
 or_false true v h = refl
@@ -146,13 +148,16 @@ written_below batch limit r [] b a s p h = cc
 written_below batch limit r (Push ∷ es) b a s p h =
     written_below batch limit (ranges_after r Push) es b a.1 (steady_after batch limit r Push b a.0 s) p h
 written_below batch limit r (Begin from to ∷ es) b a s p h =
-    written_below batch limit (ranges_after r (Begin from to)) es b a.1 (steady_after batch limit r (Begin from to) b a.0 s) p h
+    written_below batch limit (ranges_after r (Begin from to)) es b a.1
+    (steady_after batch limit r (Begin from to) b a.0 s) p h
 written_below batch limit r (Done false ∷ es) b a s p h =
-    written_below batch limit (ranges_after r (Done false)) es b a.1 (steady_after batch limit r (Done false) b a.0 s) p h
+    written_below batch limit (ranges_after r (Done false)) es b a.1 (steady_after batch limit r (Done false) b a.0 s) p
+    h
 written_below batch limit r (Done true ∷ es) b a s p h =
     let next = ranges_after r (Done true) in
     let t : Steady limit next = steady_after batch limit r (Done true) b a.0 s in
-    elim (or_cases (list_any (holds p) (option_to_list r.begun)) (list_any (holds p) (accepted_from None es)) (sym (list_any-append (holds p) (option_to_list r.begun) (accepted_from None es)) ∙ h)) [
+    elim (or_cases (list_any (holds p) (option_to_list r.begun)) (list_any (holds p) (accepted_from None es))
+    (sym (list_any-append (holds p) (option_to_list r.begun) (accepted_from None es)) ∙ h)) [
       | inl l ↦
           (let low : p < reached true r.written_to r.begun = opened_below p r.written_to r.begun l in
           let up = written_rises batch limit next es b a.1 t in

@@ -13,13 +13,15 @@ module _ {X : Type 0} where
   pub newest_drop : (limit start : ℕ) (ys : List X) → start ≤ length ys →
       newest limit (drop start ys) ≡ drop (max start (length ys - limit)) ys
   newest_drop limit start ys h =
-      let e : start + (length (drop start ys) - limit) ≡ max start (length ys - limit) = omega (arith, length-drop start ys) in
+      let e : start + (length (drop start ys) - limit) ≡ max start (length ys - limit) =
+      omega (arith, length-drop start ys) in
       drop-drop (length (drop start ys) - limit) start ys ∙ ap (λ k. drop k ys) e
 
   pub older_drop : (limit start : ℕ) (ys : List X) → start ≤ length ys →
       older limit (drop start ys) ≡ items_between start (max start (length ys - limit)) ys
   older_drop limit start ys h =
-      let e : length (drop start ys) - limit ≡ max start (length ys - limit) - start = omega (arith, length-drop start ys) in
+      let e : length (drop start ys) - limit ≡ max start (length ys - limit) - start =
+      omega (arith, length-drop start ys) in
       ap (λ k. take k (drop start ys)) e
 
   pub items_between-push : (from to : ℕ) (ys : List X) (y : X) → from ≤ to → to ≤ length ys →
@@ -61,9 +63,11 @@ module _ {X : Type 0} where
 
   pub pushed_out_is : (limit start : ℕ) (ys : List X) → 1 ≤ limit → start ≤ length ys →
       length ys - limit ≤ start →
-      option_to_list (if length (drop start ys) == limit then slice_get (drop start ys) 0 else None) ≡ items_between start (max start (length ys + 1 - limit)) ys
+      option_to_list (if length (drop start ys) == limit then slice_get (drop start ys) 0 else None) ≡ items_between
+      start (max start (length ys + 1 - limit)) ys
   pushed_out_is limit start ys a h l =
-      let e : length (drop start ys) + 1 - limit ≡ max start (length ys + 1 - limit) - start = omega (arith, length-drop start ys) in
+      let e : length (drop start ys) + 1 - limit ≡ max start (length ys + 1 - limit) - start =
+      omega (arith, length-drop start ys) in
       front_out limit (drop start ys) a (omega (arith, length-drop start ys)) ∙ ap (λ k. take k (drop start ys)) e
 
   pub joined : (from to : ℕ) (ys : List X) → from ≤ to → items_between from to ys ++ drop to ys ≡ drop from ys
@@ -79,7 +83,12 @@ module _ {X : Type 0} where
   newest_failed limit from to start ys f t s =
       elim (cases_lt to (length ys - limit)) [
         | inl l ↦
-            (let e : length (items_between from to ys ++ drop start ys) - limit ≡ to - from = omega (arith, length-append (items_between from to ys) (drop start ys), length-items_between from to ys t, length-drop start ys) in
+            (let e : length (items_between from to ys ++ drop start ys) - limit ≡ to - from = omega (
+              arith,
+              length-append (items_between from to ys) (drop start ys),
+              length-items_between from to ys t,
+              length-drop start ys,
+            ) in
             let k : start ≡ max from (length ys - limit) = omega arith in
             ap (λ k. drop k (items_between from to ys ++ drop start ys)) e
             ∙ drop_at (items_between from to ys) (drop start ys) (to - from) (length-items_between from to ys t)
@@ -93,11 +102,17 @@ module _ {X : Type 0} where
 
   pub older_failed : (limit from to start : ℕ) (ys : List X) → from ≤ to → to ≤ length ys →
       start ≡ max to (length ys - limit) →
-      older limit (items_between from to ys ++ drop start ys) ≡ items_between from (min to (max from (length ys - limit))) ys
+      older limit (items_between from to ys ++ drop start ys) ≡ items_between from
+      (min to (max from (length ys - limit))) ys
   older_failed limit from to start ys f t s =
       elim (cases_lt to (length ys - limit)) [
         | inl l ↦
-            (let e : length (items_between from to ys ++ drop start ys) - limit ≡ to - from = omega (arith, length-append (items_between from to ys) (drop start ys), length-items_between from to ys t, length-drop start ys) in
+            (let e : length (items_between from to ys ++ drop start ys) - limit ≡ to - from = omega (
+              arith,
+              length-append (items_between from to ys) (drop start ys),
+              length-items_between from to ys t,
+              length-drop start ys,
+            ) in
             let k : to ≡ min to (max from (length ys - limit)) = omega arith in
             ap (λ k. take k (items_between from to ys ++ drop start ys)) e
             ∙ take_at (items_between from to ys) (drop start ys) (to - from) (length-items_between from to ys t)
@@ -115,7 +130,8 @@ module _ {X : Type 0} where
   pub begun_items : (batch start : ℕ) (ys : List X) → start ≤ length ys →
       take batch (drop start ys) ≡ items_between start (min (start + batch) (length ys)) ys
   begun_items batch start ys h =
-      let e : min batch (length (drop start ys)) ≡ min (start + batch) (length ys) - start = omega (arith, length-drop start ys) in
+      let e : min batch (length (drop start ys)) ≡ min (start + batch) (length ys) - start =
+      omega (arith, length-drop start ys) in
       sym (take_min batch (drop start ys)) ∙ ap (λ k. take k (drop start ys)) e
 
   pub behind_begun : (batch start : ℕ) (ys : List X) → start ≤ length ys →

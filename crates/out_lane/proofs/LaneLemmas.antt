@@ -38,7 +38,14 @@ new_is_lane X batch limit b f = record {
   some = b;
   fits = f;
   legal = tt;
-  state = record { batch = refl; limit = refl; pushed = refl; offered = refl; flight = refl; waiting = sym (drop_all (oldest_waiting limit no_ranges) [] (omega arith)) };
+  state = record {
+    batch = refl;
+    limit = refl;
+    pushed = refl;
+    offered = refl;
+    flight = refl;
+    waiting = sym (drop_all (oldest_waiting limit no_ranges) [] (omega arith));
+  };
 }
 
 open_within : (limit n w : ℕ) (o : Option (ℕ × ℕ)) → IsOpenIn limit n w o → open_end o ≤ n
@@ -46,7 +53,8 @@ open_within limit n w None s = omega arith
 open_within limit n w (Some range) s = s.within
 
 start_within : (limit : ℕ) (r : Ranges) → Steady limit r → oldest_waiting limit r ≤ r.pushed
-start_within limit r s = let e = open_within limit r.pushed r.written_to r.begun s.open_range in let w = s.within in omega arith
+start_within limit r s = let e = open_within limit r.pushed r.written_to r.begun s.open_range in let w = s.within in
+    omega arith
 
 module _ {X : Type 0} where
   pub steady_of : (batch limit : ℕ) (es : List LaneEvent) (offers : List X) (lane : LaneState X) →
@@ -55,7 +63,10 @@ module _ {X : Type 0} where
       steady_from batch limit no_ranges es a.some a.legal (steady_none limit)
 
   -- the lane of the events with one more
-  next_lane : (batch limit : ℕ) (es : List LaneEvent) (e : LaneEvent) (offers : List X) (lane : LaneState X) (offers' : List X) (lane' : LaneState X) → IsLaneOf batch limit es offers lane → MeetsLane batch limit (ranges_of es) e → IsLaneAt batch limit (ranges_after (ranges_of es) e) offers' lane' → IsLaneOf batch limit (es ++ e ∷ []) offers' lane'
+  next_lane : (batch limit : ℕ) (es : List LaneEvent) (e : LaneEvent) (offers : List X) (lane : LaneState X)
+      (offers' : List X) (lane' : LaneState X) → IsLaneOf batch limit es offers lane
+      → MeetsLane batch limit (ranges_of es) e → IsLaneAt batch limit (ranges_after (ranges_of es) e) offers' lane'
+      → IsLaneOf batch limit (es ++ e ∷ []) offers' lane'
   next_lane batch limit es e offers lane offers' lane' a m s = record {
     some = a.some;
     fits = a.fits;
@@ -69,7 +80,8 @@ module _ {X : Type 0} where
       IsFlight o (offers ++ item ∷ []) (after_push lane item)
   flight-push n limit w None offers item lane e s f = f
   flight-push n limit w (Some range) offers item lane e s f =
-      f ∙ ap (λ (xs : List X). Some (range.0, xs)) (sym (items_between-push range.0 range.1 offers item (omega arith) (omega arith)))
+      f ∙ ap (λ (xs : List X). Some (range.0, xs)) (sym (items_between-push range.0 range.1 offers item (omega arith)
+      (omega arith)))
 
   push_at : (batch limit : ℕ) (r : Ranges) (offers : List X) (lane : LaneState X) (item : X) →
       Steady limit r → IsLaneAt batch limit r offers lane →
@@ -104,23 +116,31 @@ module _ {X : Type 0} where
       let next : ℕ = oldest_waiting limit (ranges_after r Push) in
       let h : start ≤ r.pushed = start_within limit r s in
       let up : start ≤ next = omega arith in
-      let in_range : next ≤ length offers = (let k = open_within limit r.pushed r.written_to r.begun s.open_range in let w = s.within in omega arith) in
-      let unwritten : (p : ℕ) → start ≤ p → is_written es p ≡ false = λ p l. is_unwritten batch limit es p a.some a.legal (omega arith) in
+      let in_range : next ≤ length offers = (let k = open_within limit r.pushed r.written_to r.begun s.open_range in
+      let w = s.within in omega arith) in
+      let unwritten : (p : ℕ) → start ≤ p → is_written es p ≡ false =
+      λ p l. is_unwritten batch limit es p a.some a.legal (omega arith) in
       record {
-        state = next_lane batch limit es Push offers lane (offers ++ item ∷ []) (after_push lane item) a tt (push_at batch limit r offers lane item s a.state);
-        comes = is_now limit es Push (length offers) true (unwritten (length offers) (omega arith)) refl (behind_start r.begun next (length offers) in_range);
+        state = next_lane batch limit es Push offers lane (offers ++ item ∷ []) (after_push lane item) a tt
+            (push_at batch limit r offers lane item s a.state);
+        comes = is_now limit es Push (length offers) true (unwritten (length offers) (omega arith)) refl
+            (behind_start r.begun next (length offers) in_range);
         dropped = record {
           from = start;
           to = next;
           ordered = up;
           within = in_range;
           are =
-              ap (λ (xs : List X). option_to_list (if length xs == lane.limit then slice_get xs 0 else None)) a.state.waiting
-              ∙ ap (λ k. option_to_list (if length (drop start offers) == k then slice_get (drop start offers) 0 else None)) a.state.limit
+              ap (λ (xs : List X). option_to_list (if length xs == lane.limit then slice_get xs 0 else None))
+              a.state.waiting
+              ∙ ap (λ k. option_to_list (if length (drop start offers) == k then slice_get
+              (drop start offers) 0 else None)) a.state.limit
               ∙ pushed_out_is limit start offers (omega arith) (omega arith) (omega arith)
-              ∙ ap (λ k. items_between start k offers) (let e : max start (length offers + 1 - limit) ≡ next = omega arith in e);
+              ∙ ap (λ k. items_between start k offers) (let e : max start (length offers + 1 - limit) ≡ next = omega
+              arith in e);
           were = λ p l m. was_buffered limit es p (unwritten p l) (behind_start r.begun start p l);
-          become = λ p l m. is_now limit es Push p false (unwritten p l) refl (before_start r.begun next p (omega arith) m);
+          become = λ p l m. is_now limit es Push p false (unwritten p l) refl
+              (before_start r.begun next p (omega arith) m);
           others = λ p b o. stays limit es Push p refl (push_same r.begun start next p up o);
         };
       }
@@ -183,7 +203,13 @@ module _ {X : Type 0} where
       let end : to ≡ min (start + batch) r.pushed = omega arith in
       let end' : min (start + batch) (length offers) ≡ to = omega arith in
       let behind : to ≡ oldest_waiting limit (ranges_after r (Begin from to)) = omega arith in
-      let meets : IsNextRange batch limit r from to = record { closed = closed; first = omega arith; end = omega arith; some = omega arith } in
+      let meets : IsNextRange batch limit r from to = record {
+        closed = closed;
+        first = omega arith;
+        end =
+            omega arith;
+        some = omega arith;
+      } in
       record {
         meets = meets;
         state = next_lane batch limit es (Begin from to) offers lane offers (after_begin lane) a meets (record {
@@ -215,7 +241,8 @@ module _ {X : Type 0} where
       (ranges_of es).begun ≡ o → IsFlight o offers lane → IsLaneOf batch limit es offers lane →
       Answers batch limit es offers lane (begin_answer lane)
   answers batch limit es offers lane (Some range) opened f a =
-      subst (Answers batch limit es offers lane) (sym (in_flight_answer lane (ap is_some f))) (subst IsOpen (sym opened) tt)
+      subst (Answers batch limit es offers lane) (sym (in_flight_answer lane (ap is_some f)))
+      (subst IsOpen (sym opened) tt)
   answers batch limit es offers lane None closed f a =
       let r : Ranges = ranges_of es in
       let s : Steady limit r = steady_of batch limit es offers lane a in
@@ -275,9 +302,13 @@ module _ {X : Type 0} where
       }
 
   -- the lane behind a batch that is done, where these items wait
-  done_lane : (batch limit : ℕ) (es : List LaneEvent) (ok : Bool) (offers : List X) (lane : LaneState X) (waiting : List X) → IsLaneOf batch limit es offers lane → IsOpen (ranges_of es).begun → waiting ≡ drop (oldest_waiting limit (ranges_after (ranges_of es) (Done ok))) offers → IsLaneOf batch limit (es ++ Done ok ∷ []) offers (record lane { flight = None; waiting = waiting })
+  done_lane : (batch limit : ℕ) (es : List LaneEvent) (ok : Bool) (offers : List X) (lane : LaneState X)
+      (waiting : List X) → IsLaneOf batch limit es offers lane → IsOpen (ranges_of es).begun
+      → waiting ≡ drop (oldest_waiting limit (ranges_after (ranges_of es) (Done ok))) offers
+      → IsLaneOf batch limit (es ++ Done ok ∷ []) offers (record lane { flight = None; waiting = waiting })
   done_lane batch limit es ok offers lane waiting a m w =
-      next_lane batch limit es (Done ok) offers lane offers (record lane { flight = None; waiting = waiting }) a m (record {
+      next_lane batch limit es (Done ok) offers lane offers (record lane { flight = None; waiting = waiting }) a m
+      (record {
         batch = a.state.batch;
         limit = a.state.limit;
         pushed = a.state.pushed;
@@ -292,7 +323,8 @@ module _ {X : Type 0} where
   accepts batch limit es offers lane a o =
       let r : Ranges = ranges_of es in
       let range : ℕ × ℕ = o.range in
-      let wrote : reached true r.written_to r.begun ≡ range.1 = ap (λ (b : Option (ℕ × ℕ)). reached true r.written_to b) o.opened in
+      let wrote : reached true r.written_to r.begun ≡ range.1 =
+      ap (λ (b : Option (ℕ × ℕ)). reached true r.written_to b) o.opened in
       let start : ℕ = oldest_waiting limit r in
       let next : ℕ = oldest_waiting limit (ranges_after r (Done true)) in
       let same : start ≡ next = omega arith in
@@ -300,16 +332,19 @@ module _ {X : Type 0} where
       λ p. ap (λ (b : Option (ℕ × ℕ)). list_any (holds p) (newly b (Done true))) o.opened ∙ once_any (holds p range) in
       record {
         meets = o.is_open;
-        state = done_lane batch limit es true offers lane lane.waiting a o.is_open (a.state.waiting ∙ ap (λ k. drop k offers) same);
+        state = done_lane batch limit es true offers lane lane.waiting a o.is_open
+            (a.state.waiting ∙ ap (λ k. drop k offers) same);
         written = record {
           from = range.0;
           to = range.1;
           ordered = omega arith;
           within = omega arith;
           are = ap batch_items o.flight;
-          were = λ p l m. was_buffered limit es p (is_unwritten batch limit es p a.some a.legal (omega arith)) (o.was p ∙ inside_is_buffered range.0 range.1 start p l m);
+          were = λ p l m. was_buffered limit es p (is_unwritten batch limit es p a.some a.legal (omega arith))
+              (o.was p ∙ inside_is_buffered range.0 range.1 start p l m);
           become = λ p l m. is_now_written limit es (Done true) p (new_is p ∙ holds_inside range.0 range.1 p l m);
-          others = λ p l m. stays limit es (Done true) p (new_is p ∙ outside_is_no_more range.0 range.1 p m) (accept_same range.0 range.1 start next p same m ∙ sym (o.was p));
+          others = λ p l m. stays limit es (Done true) p (new_is p ∙ outside_is_no_more range.0 range.1 p m)
+              (accept_same range.0 range.1 start next p same m ∙ sym (o.was p));
         };
       }
 
@@ -330,7 +365,8 @@ module _ {X : Type 0} where
       let starts' : start ≡ max range.1 (length offers - limit) = omega arith in
       let nexts : next ≡ max range.0 (r.pushed - limit) = omega arith in
       let to : ℕ = min range.1 next in
-      let unwritten : (p : ℕ) → range.0 ≤ p → is_written es p ≡ false = λ p l. is_unwritten batch limit es p a.some a.legal (omega arith) in
+      let unwritten : (p : ℕ) → range.0 ≤ p → is_written es p ≡ false =
+      λ p l. is_unwritten batch limit es p a.some a.legal (omega arith) in
       record {
         meets = o.is_open;
         state = done_lane batch limit es false offers lane (newest lane.limit (flying lane ++ lane.waiting)) a o.is_open
@@ -349,10 +385,13 @@ module _ {X : Type 0} where
               ∙ ap (λ (xs : List X). older limit (xs ++ lane.waiting)) (ap batch_items o.flight)
               ∙ ap (λ (xs : List X). older limit (items_between range.0 range.1 offers ++ xs)) a.state.waiting
               ∙ older_failed limit range.0 range.1 start offers (omega arith) (omega arith) starts'
-              ∙ ap (λ k. items_between range.0 k offers) (let e : min range.1 (max range.0 (length offers - limit)) ≡ to = omega arith in e);
-          were = λ p l m. was_buffered limit es p (unwritten p l) (o.was p ∙ inside_is_buffered range.0 range.1 start p l (omega arith));
+              ∙ ap (λ k. items_between range.0 k offers) (let e : min range.1
+              (max range.0 (length offers - limit)) ≡ to = omega arith in e);
+          were = λ p l m. was_buffered limit es p (unwritten p l)
+              (o.was p ∙ inside_is_buffered range.0 range.1 start p l (omega arith));
           become = λ p l m. is_now limit es (Done false) p false (unwritten p l) refl (lt-leb next p (omega arith));
-          others = λ p l m. stays limit es (Done false) p refl (fail_same range.0 range.1 start next (r.pushed - limit) p (omega arith) starts nexts m ∙ sym (o.was p));
+          others = λ p l m. stays limit es (Done false) p refl
+              (fail_same range.0 range.1 start next (r.pushed - limit) p (omega arith) starts nexts m ∙ sym (o.was p));
         };
       }
 
@@ -394,12 +433,16 @@ module _ {X : Type 0} where
       let first : waiting_from lane ≡ start = waiting_from_is batch limit r offers lane s a.state in
       let buffered : buffered_by limit r p ≡ true → fate_at limit es p ≡ Buffered =
       λ b. was_buffered limit es p (is_unwritten batch limit es p a.some a.legal (buffered_above limit r p s b)) b in (
-        λ h. elim (or_cases (is_in_open p r.begun) (leb start p) (from_buffered (is_written es p) (buffered_by limit r p) (sym (fate_is limit es p) ∙ h)).1) [
-          | inl i ↦ inl (kept_in_flight limit r.pushed r.written_to p r.begun offers lane n s.open_range a.state.flight i)
-          | inr b ↦ inr (let k = leb-true start p b in (omega arith, omega arith))
-        ],
+        λ h. elim (or_cases (is_in_open p r.begun) (leb start p)
+            (from_buffered (is_written es p) (buffered_by limit r p) (sym (fate_is limit es p) ∙ h)).1) [
+              | inl i ↦ inl (kept_in_flight limit r.pushed r.written_to p r.begun offers lane n s.open_range
+                  a.state.flight
+                  i)
+              | inr b ↦ inr (let k = leb-true start p b in (omega arith, omega arith))
+            ],
         λ k. elim k [
-          | inl i ↦ buffered (or_left (is_in_open p r.begun) (leb start p) (in_flight_kept limit r.pushed r.written_to p r.begun offers lane n s.open_range a.state.flight i))
+          | inl i ↦ buffered (or_left (is_in_open p r.begun) (leb start p)
+              (in_flight_kept limit r.pushed r.written_to p r.begun offers lane n s.open_range a.state.flight i))
           | inr w ↦ buffered (behind_start r.begun start p (omega arith))
         ],
       )

@@ -23,7 +23,12 @@ pub record Steady (limit : ℕ) (ranges : Ranges) : Type 0 where
 
 steady_push : (limit n w : ℕ) (o : Option (ℕ × ℕ)) → IsOpenIn limit n w o → IsOpenIn limit (n + 1) w o
 steady_push limit n w None s = tt
-steady_push limit n w (Some range) s = record { some = s.some; behind = s.behind; oldest = omega arith; within = omega arith }
+steady_push limit n w (Some range) s = record {
+  some = s.some;
+  behind = s.behind;
+  oldest = omega arith;
+  within = omega arith;
+}
 
 reached_within : (ok : Bool) (limit n w : ℕ) (o : Option (ℕ × ℕ)) → w ≤ n → IsOpenIn limit n w o →
     reached ok w o ≤ n
@@ -33,12 +38,19 @@ reached_within false limit n w o h s = h
 
 pub steady_after : (batch limit : ℕ) (r : Ranges) (e : LaneEvent) → 1 ≤ batch → MeetsLane batch limit r e →
     Steady limit r → Steady limit (ranges_after r e)
-steady_after batch limit r Push b m s = record { within = omega arith; open_range = steady_push limit r.pushed r.written_to r.begun s.open_range }
+steady_after batch limit r Push b m s = record {
+  within = omega arith;
+  open_range = steady_push limit r.pushed r.written_to r.begun s.open_range;
+}
 steady_after batch limit r (Begin from to) b m s = record {
   within = s.within;
   open_range = record { some = omega arith; behind = omega arith; oldest = omega arith; within = omega arith };
 }
-steady_after batch limit r (Done ok) b m s = record { within = reached_within ok limit r.pushed r.written_to r.begun s.within s.open_range; open_range = tt }
+steady_after batch limit r (Done ok) b m s = record {
+  within = reached_within ok limit r.pushed r.written_to r.begun
+      s.within s.open_range;
+  open_range = tt;
+}
 
 pub steady_from : (batch limit : ℕ) (r : Ranges) (es : List LaneEvent) → 1 ≤ batch →
     AreLaneEvents batch limit r es → Steady limit r → Steady limit (ranges_from r es)
@@ -88,5 +100,6 @@ accepted_from-push r (Push ∷ es) e = accepted_from-push (ranges_after r Push) 
 accepted_from-push r (Begin from to ∷ es) e = accepted_from-push (ranges_after r (Begin from to)) es e
 accepted_from-push r (Done true ∷ es) e =
     ap (λ (xs : List (ℕ × ℕ)). option_to_list r.begun ++ xs) (accepted_from-push (ranges_after r (Done true)) es e)
-    ∙ sym (append_assoc (option_to_list r.begun) (accepted_from None es) (newly (ranges_from (ranges_after r (Done true)) es).begun e))
+    ∙ sym (append_assoc (option_to_list r.begun) (accepted_from None es)
+    (newly (ranges_from (ranges_after r (Done true)) es).begun e))
 accepted_from-push r (Done false ∷ es) e = accepted_from-push (ranges_after r (Done false)) es e

@@ -48,7 +48,8 @@ abbrev pub test_at : (Fate → Bool) → ℕ → List LaneEvent → ℕ → Bool
 test_at t limit events p = t (fate_of (fate_at limit events p))
 
 by_view : (t : Fate → Bool) (limit : ℕ) (events : List LaneEvent) (position item : ℕ) (view : Option Content) →
-    count_by t (fate_of_view limit events position view ∷ []) ≡ kept_out_by t verdicts.Passes view + positions_counted (test_at t limit events) position (length (offer_of item view))
+    count_by t (fate_of_view limit events position view ∷ []) ≡ kept_out_by t verdicts.Passes view + positions_counted
+    (test_at t limit events) position (length (offer_of item view))
 by_view t limit events position item None = omega (arith, one (t fate.Filtered))
 by_view t limit events position item (Some view) = omega (arith, one (t (fate_of (fate_at limit events position))))
 
@@ -60,14 +61,18 @@ fates_in xs = map (λ (x : ItemFate). x.fate) xs
 abbrev of_item : ℕ → List Fate → List ItemFate
 of_item item all = map (λ (fate : Fate). record { item = item; fate = fate }) all
 
-by_verdict : (t : Fate → Bool) (limit : ℕ) (events : List LaneEvent) (position item : ℕ) (verdict : Verdict) (view : Option Content) → count_by t (fates_in (of_item item (fates_by_verdict limit events position verdict view))) ≡ kept_out_by t verdict view + positions_counted (test_at t limit events) position (length (offered item verdict view))
+by_verdict : (t : Fate → Bool) (limit : ℕ) (events : List LaneEvent) (position item : ℕ) (verdict : Verdict)
+    (view : Option Content) → count_by t (fates_in (of_item item (fates_by_verdict limit events position verdict view)))
+    ≡ kept_out_by t verdict view + positions_counted (test_at t limit events) position
+    (length (offered item verdict view))
 by_verdict t limit events position item verdicts.Passes view = by_view t limit events position item view
 by_verdict t limit events position item verdicts.Consumed view = omega (arith, one (t fate.Consumed))
 by_verdict t limit events position item verdicts.Late view = omega (arith, one (t fate.Late))
 by_verdict t limit events position item verdicts.Removed view = omega arith
 
 by_entry : (t : Fate → Bool) (limit o : ℕ) (events : List LaneEvent) (position : ℕ) (e : Entry) →
-    count_by t (fates_in (fates_by limit o events position e)) ≡ kept_out t o e + positions_counted (test_at t limit events) position (length (offered_by o e))
+    count_by t (fates_in (fates_by limit o events position e)) ≡ kept_out t o e + positions_counted
+    (test_at t limit events) position (length (offered_by o e))
 by_entry t limit o events position (Gather input moment pieces refused passed filtered metrics group reports) =
     omega arith
 by_entry t limit o events position (Ended input) = omega arith
@@ -83,26 +88,39 @@ count_by-in : (t : Fate → Bool) (xs ys : List ItemFate) →
     count_by t (fates_in (xs ++ ys)) ≡ count_by t (fates_in xs) + count_by t (fates_in ys)
 count_by-in t [] ys = omega arith
 count_by-in t (x ∷ xs) ys =
-    omega (arith, count_by-in t xs ys, count_by-more t x.fate (fates_in (xs ++ ys)), count_by-more t x.fate (fates_in xs))
+    omega (
+      arith,
+      count_by-in t xs ys,
+      count_by-more t x.fate (fates_in (xs ++ ys)),
+      count_by-more t x.fate (fates_in xs),
+    )
 
 -- of the fates, those of metrics that came to no lane, and those of positions
 fates_from-counted : (t : Fate → Bool) (limit o : ℕ) (events : List LaneEvent) (position : ℕ) (es : List Entry) →
-    count_by t (fates_in (fates_from limit o events position es)) ≡ total_by (kept_out t o) es + positions_counted (test_at t limit events) position (length (offers o es))
+    count_by t (fates_in (fates_from limit o events position es)) ≡ total_by (kept_out t o) es + positions_counted
+    (test_at t limit events) position (length (offers o es))
 unfolding fates_from total_by offers
 fates_from-counted t limit o events position [] = omega arith
 fates_from-counted t limit o events position (e ∷ es) =
     let n : ℕ = length (offered_by o e) in
     let m : ℕ = length (offers o es) in
     let all : length (offered_by o e ++ offers o es) ≡ n + m = length-append (offered_by o e) (offers o es) in
-    let both : positions_counted (test_at t limit events) position (length (offered_by o e ++ offers o es)) ≡ positions_counted (test_at t limit events) position n + positions_counted (test_at t limit events) (position + n) m =
-    ap (positions_counted (test_at t limit events) position) all ∙ positions_counted-add (test_at t limit events) position n m in
-    let front : count_by t (fates_in (fates_by limit o events position e)) ≡ kept_out t o e + positions_counted (test_at t limit events) position n = by_entry t limit o events position e in
-    let back : count_by t (fates_in (fates_from limit o events (position + n) es)) ≡ total_by (kept_out t o) es + positions_counted (test_at t limit events) (position + n) m = fates_from-counted t limit o events (position + n) es in
+    let both : positions_counted (test_at t limit events) position (length (offered_by o e ++ offers o es))
+    ≡ positions_counted (test_at t limit events) position n + positions_counted (test_at t limit events)
+    (position + n) m =
+    ap (positions_counted (test_at t limit events) position) all
+    ∙ positions_counted-add (test_at t limit events) position n m in
+    let front : count_by t (fates_in (fates_by limit o events position e)) ≡ kept_out t o e + positions_counted
+    (test_at t limit events) position n = by_entry t limit o events position e in
+    let back : count_by t (fates_in (fates_from limit o events (position + n) es)) ≡ total_by
+    (kept_out t o) es + positions_counted (test_at t limit events) (position + n) m =
+    fates_from-counted t limit o events (position + n) es in
     omega (arith, count_by-in t (fates_by limit o events position e) (fates_from limit o events (position + n) es))
 
 -- how many of the routed metrics have a fate that passes a test
 pub fates-counted : (t : Fate → Bool) (limit o : ℕ) (es : List Entry) →
-    count_by t (fates limit o es) ≡ total_by (kept_out t o) es + fates_counted (λ f. t (fate_of f)) limit (lane_events o es) (length (offers o es))
+    count_by t (fates limit o es) ≡ total_by (kept_out t o) es + fates_counted (λ f. t (fate_of f)) limit
+    (lane_events o es) (length (offers o es))
 fates-counted t limit o es = fates_from-counted t limit o (lane_events o es) 0 es
 
 pub total_by-push : (count : Entry → ℕ) (es : List Entry) (e : Entry) →
@@ -113,7 +131,8 @@ total_by-push count (x ∷ es) e = omega (arith, total_by-push count es e)
 
 -- each fate is exactly one of the six
 six : (f : Fate) →
-    cond (is_filtered f) 1 0 + cond (is_late f) 1 0 + cond (is_consumed f) 1 0 + cond (is_written f) 1 0 + cond (is_buffered f) 1 0 + cond (is_dropped f) 1 0 ≡ 1
+    cond (is_filtered f) 1 0 + cond (is_late f) 1 0 + cond (is_consumed f) 1 0 + cond (is_written f) 1 0 + cond
+    (is_buffered f) 1 0 + cond (is_dropped f) 1 0 ≡ 1
 six fate.Filtered = refl
 six fate.Late = refl
 six fate.Consumed = refl
@@ -122,12 +141,25 @@ six fate.Buffered = refl
 six fate.Dropped = refl
 
 all_six : (xs : List Fate) →
-    count_by is_filtered xs + count_by is_late xs + count_by is_consumed xs + count_by is_written xs + count_by is_buffered xs + count_by is_dropped xs ≡ length xs
+    count_by is_filtered xs + count_by is_late xs + count_by is_consumed xs + count_by is_written xs + count_by
+    is_buffered xs + count_by is_dropped xs ≡ length xs
 all_six [] = refl
 all_six (x ∷ xs) =
-    omega (arith, all_six xs, six x, count_by-more is_filtered x xs, count_by-more is_late x xs, count_by-more is_consumed x xs, count_by-more is_written x xs, count_by-more is_buffered x xs, count_by-more is_dropped x xs)
+    omega (
+      arith,
+      all_six xs,
+      six x,
+      count_by-more is_filtered x xs,
+      count_by-more is_late x xs,
+      count_by-more is_consumed x xs,
+      count_by-more is_written x xs,
+      count_by-more is_buffered x xs,
+      count_by-more is_dropped x xs,
+    )
 
-by_verdict-length : (limit : ℕ) (events : List LaneEvent) (position item : ℕ) (verdict : Verdict) (view : Option Content) → length (of_item item (fates_by_verdict limit events position verdict view)) ≡ (if is_removed verdict then 0 else 1)
+by_verdict-length : (limit : ℕ) (events : List LaneEvent) (position item : ℕ) (verdict : Verdict)
+    (view : Option Content) → length (of_item item (fates_by_verdict limit events position verdict view))
+    ≡ (if is_removed verdict then 0 else 1)
 by_verdict-length limit events position item verdicts.Passes view = refl
 by_verdict-length limit events position item verdicts.Consumed view = refl
 by_verdict-length limit events position item verdicts.Late view = refl
@@ -152,7 +184,12 @@ unfolding fates_from total_by
 fates_from-length limit o events position [] = refl
 fates_from-length limit o events position (e ∷ es) =
     let n : ℕ = length (offered_by o e) in
-    omega (arith, length-append (fates_by limit o events position e) (fates_from limit o events (position + n) es), by_entry-length limit o events position e, fates_from-length limit o events (position + n) es)
+    omega (
+      arith,
+      length-append (fates_by limit o events position e) (fates_from limit o events (position + n) es),
+      by_entry-length limit o events position e,
+      fates_from-length limit o events (position + n) es,
+    )
 
 -- the six fates add up to the routed metrics
 pub fates_add_up : FatesAddUp

@@ -94,7 +94,8 @@ module _ {X : Type 0} (value : List Entry → Entry → X) where
 
 -- each entry has the reports that the definition gives it
 pub each_is_told : (m : Content) → each (reports_at setup) [] (journal m) ≡ map reports_of (journal m)
-unfolding each reports_at origins items taken routes group_inputs offers lane_events fates_from ranges_from accepted_from
+unfolding each reports_at origins items taken routes group_inputs offers lane_events fates_from ranges_from
+    accepted_from
 each_is_told m = refl
 
 -- an item and its fate
@@ -117,6 +118,7 @@ fates_at_second m = refl
 
 -- of the seven groups three were delivered and four rejected, and none is live
 pub counts : (m : Content) →
-    input_total 0 true (journal m) ≡ record (unread_input true) { pieces = 7; gathered = 8; delivered = 3; rejected = 4 }
+    input_total 0 true (journal m) ≡ record (unread_input true)
+    { pieces = 7; gathered = 8; delivered = 3; rejected = 4 }
 unfolding input_total_from reported_with
 counts m = refl

@@ -82,8 +82,11 @@ legal-push : (setup : Setup) (before es : List Entry) (e : Entry) → AreLegal s
     Meets setup (before ++ es) e → AreLegal setup before (es ++ e ∷ [])
 unfolding AreLegal
 legal-push setup before [] e h m = (subst (λ (p : List Entry). Meets setup p e) (append-nil before) m, tt)
-legal-push setup before (x ∷ es) e h m =
-    (h.0, legal-push setup (before ++ x ∷ []) es e h.1 (subst (λ (p : List Entry). Meets setup p e) (sym (append_assoc before (x ∷ []) es)) m))
+legal-push setup before (x ∷ es) e h m = (
+  h.0,
+  legal-push setup (before ++ x ∷ []) es e h.1 (subst (λ (p : List Entry). Meets setup p e)
+      (sym (append_assoc before (x ∷ []) es)) m),
+)
 
 -- a legal journal with an entry that may come
 pub IsLegal-push : (setup : Setup) (es : List Entry) (e : Entry) → IsLegal setup es → Meets setup es e →
@@ -110,7 +113,8 @@ unfolding AreLegal
 taken_within setup before [] h l = rw append-nil l
 taken_within setup before (e ∷ es) h l =
     subst (λ (p : List Entry). taken p ≤ length (items p)) (append_assoc before (e ∷ []) es)
-    (taken_within setup (before ++ e ∷ []) es h.1 (rw (taken-push before e, items-push before e) (omega (arith, length-append (items before) (named_by e), within_by setup before e h.0 l))))
+    (taken_within setup (before ++ e ∷ []) es h.1 (rw (taken-push before e, items-push before e)
+    (omega (arith, length-append (items before) (named_by e), within_by setup before e h.0 l))))
 
 pub few_taken : (setup : Setup) (es : List Entry) → IsLegal setup es → taken es ≤ length (items es)
 unfolding items taken
@@ -120,5 +124,6 @@ few_taken setup es h = taken_within setup [] es h (omega arith)
 pub raw_items-push : (setup : Setup) (es : List Entry) (e : Entry) → IsLegal setup es →
     raw_items (es ++ e ∷ []) ≡ drop (takes_by e) (raw_items es ++ named_by e)
 raw_items-push setup es e h =
-    ap (drop (taken (es ++ e ∷ []))) (items-push es e) ∙ ap (λ (n : ℕ). drop n (items es ++ named_by e)) (taken-push es e ∙ omega arith) ∙ sym (drop-drop (takes_by e) (taken es) (items es ++ named_by e))
+    ap (drop (taken (es ++ e ∷ []))) (items-push es e) ∙ ap (λ (n : ℕ). drop n (items es ++ named_by e))
+    (taken-push es e ∙ omega arith) ∙ sym (drop-drop (takes_by e) (taken es) (items es ++ named_by e))
     ∙ ap (drop (takes_by e)) (drop-append-le (taken es) (items es) (named_by e) (few_taken setup es h))

@@ -23,7 +23,7 @@ use Rattle.account.specs.declared.numbers.InputNumbers.{InputNumbers}
 use Rattle.account.specs.declared.numbers.OutputNumbers.{OutputNumbers}
 use Rattle.out_lane.specs.Lane.{LaneState, empty_lane}
 use Rattle.out_lane.specs.Lane as lane
-use Rattle.pipeline_core.specs.Offers.{view_at, views_of}
+use Rattle.pipeline_core.specs.Offers.{view_at, offered_views}
 use Rattle.pipeline_core.specs.declared.output.Offer.{Offer}
 use Rattle.pipeline_core.proofs.Offering.{lanes_with-at, outputs_with-at, length-lanes_with}
 use Rattle.pipeline_core.proofs.Offering.{length-outputs_with}
@@ -31,7 +31,8 @@ use Rattle.pipeline_core.specs.declared.setup.CoreSetup.{CoreSetup}
 use Rattle.pipeline_core.specs.declared.setup.InSetup.{InSetup}
 use Rattle.pipeline_core.specs.declared.setup.OutSetup.{OutSetup}
 use Rattle.pipeline_core.specs.CoreState.{setup_of, lane_of, sizes, most_undelivered, is_tracked, CoreState}
-use Rattle.pipeline_core.specs.CoreState.{IsCore, IsOutput, OutputsAgree, InputsAgree, ItemsAgree, sizes_at, flights, in_flight}
+use Rattle.pipeline_core.specs.CoreState.{IsCore, IsOutput, OutputsAgree, InputsAgree, ItemsAgree, sizes_at, flights}
+use Rattle.pipeline_core.specs.CoreState.{in_flight}
 use Rattle.pipeline_core.specs.CoreState.{held_count, lane_at}
 use Rattle.pipeline_core.specs.declared.gathering.Gathered.{Gathered}
 use Rattle.pipeline_core.specs.Steps.{after_gather, after_ended, after_take, lanes_routed, numbers_routed}
@@ -46,15 +47,22 @@ pub flights-le : (lanes : List (LaneState Offer)) → flights lanes ≤ length l
 flights-le lanes = omega (arith, sum_by-le in_flight 1 lanes (λ k d h. in_flight-le (get_or lanes k d)))
 
 -- entries, the moment and the stop have no part in it
-pub kept_entries : (s : CoreState) (stored : List Entry) (counted : ℤ) (stopped : Bool) → IsCore s → IsCore (record s { stored = stored; counted = counted; stopped = stopped })
+pub kept_entries : (s : CoreState) (stored : List Entry) (counted : ℤ) (stopped : Bool) → IsCore s
+    → IsCore (record s { stored = stored; counted = counted; stopped = stopped })
 kept_entries s stored counted stopped h =
     record { outputs = h.outputs; inputs = h.inputs; items = h.items; plain = h.plain }
 
 -- an input's numbers have no part in the others
-inputs_kept : (inputs : List (Option ℕ)) (numbers : List InputNumbers) (ended : List Bool) (i : ℕ) (x : InputNumbers) → InputsAgree inputs numbers ended → InputsAgree inputs (set numbers i x) ended
-inputs_kept inputs numbers ended i x h = record { number_count = length-set numbers i x ∙ h.number_count; ended_count = h.ended_count }
+inputs_kept : (inputs : List (Option ℕ)) (numbers : List InputNumbers) (ended : List Bool) (i : ℕ) (x : InputNumbers)
+    → InputsAgree inputs numbers ended → InputsAgree inputs (set numbers i x) ended
+inputs_kept inputs numbers ended i x h = record {
+  number_count = length-set numbers i x
+      ∙ h.number_count;
+  ended_count = h.ended_count;
+}
 
-pub kept_gather : (s : CoreState) (g : Gathered) (stored : List Entry) → IsCore s → HasNumbers s g → HasItems s g → IsCore (record (after_gather s g) { stored = stored })
+pub kept_gather : (s : CoreState) (g : Gathered) (stored : List Entry) → IsCore s → HasNumbers s g → HasItems s g
+    → IsCore (record (after_gather s g) { stored = stored })
 kept_gather s g stored h few items =
     record {
       outputs = h.outputs;
@@ -68,16 +76,22 @@ kept_gather s g stored h few items =
       plain = h.plain;
     }
 
-pub kept_ended : (s : CoreState) (input : ℕ) (stored : List Entry) → IsCore s → IsCore (record (after_ended s input) { stored = stored })
+pub kept_ended : (s : CoreState) (input : ℕ) (stored : List Entry) → IsCore s
+    → IsCore (record (after_ended s input) { stored = stored })
 kept_ended s input stored h =
     record {
       outputs = h.outputs;
-      inputs = record { number_count = length-set s.numbers.inputs _ _ ∙ h.inputs.number_count; ended_count = length-set s.ended _ _ ∙ h.inputs.ended_count };
+      inputs = record {
+        number_count = length-set s.numbers.inputs _ _
+            ∙ h.inputs.number_count;
+        ended_count = length-set s.ended _ _ ∙ h.inputs.ended_count;
+      };
       items = h.items;
       plain = h.plain;
     }
 
-pub kept_take : (s : CoreState) (stored : List Entry) → IsCore s → s.held ≡ None → 0 < length s.raw → IsCore (record (after_take s) { stored = stored })
+pub kept_take : (s : CoreState) (stored : List Entry) → IsCore s → s.held ≡ None → 0 < length s.raw
+    → IsCore (record (after_take s) { stored = stored })
 kept_take s stored h empty some =
     record {
       outputs = h.outputs;
@@ -114,27 +128,64 @@ output_pushed : (size : ℕ × ℕ) (routed : ℕ) (x : OutputNumbers) (at : Lan
 output_pushed size routed x at view h b =
     let all = at.waiting ++ view ∷ [] in
     let whole : length all ≡ length at.waiting + 1 = length-append at.waiting (view ∷ []) in
-    let kept : length (drop (length all - at.limit) all) ≡ length all - (length all - at.limit) = length-drop (length all - at.limit) all in
+    let kept : length (drop (length all - at.limit) all) ≡ length all - (length all - at.limit) =
+    length-drop (length all - at.limit) all in
     rw (not_full (length at.waiting) at.limit b)
-    (record { batch = h.batch; limit = h.limit; some = h.some; fits = h.fits; waits = omega (arith, kept); flies = h.flies; buffered = omega (arith, kept, whole, h.buffered); all = omega (arith, h.all); pushed = omega (arith, h.pushed) })
+    (record {
+      batch = h.batch;
+      limit = h.limit;
+      some = h.some;
+      fits = h.fits;
+      waits = omega (arith, kept);
+      flies = h.flies;
+      buffered = omega (arith, kept, whole, h.buffered);
+      all = omega (arith, h.all);
+      pushed = omega (arith, h.pushed);
+    })
 
 -- one more waits, and the oldest doesn't
-output_pushed_full : (size : ℕ × ℕ) (routed : ℕ) (x : OutputNumbers) (at : LaneState Offer) (view : Offer) → IsOutput size routed x at → length at.waiting ≡ at.limit → IsOutput size (routed + 1) (buffered_more at x) (lane.after_push at view)
+output_pushed_full : (size : ℕ × ℕ) (routed : ℕ) (x : OutputNumbers) (at : LaneState Offer) (view : Offer)
+    → IsOutput size routed x at → length at.waiting ≡ at.limit
+    → IsOutput size (routed + 1) (buffered_more at x) (lane.after_push at view)
 output_pushed_full size routed x at view h e =
     let all = at.waiting ++ view ∷ [] in
     let whole : length all ≡ length at.waiting + 1 = length-append at.waiting (view ∷ []) in
-    let kept : length (drop (length all - at.limit) all) ≡ length all - (length all - at.limit) = length-drop (length all - at.limit) all in
+    let kept : length (drop (length all - at.limit) all) ≡ length all - (length all - at.limit) =
+    length-drop (length all - at.limit) all in
     rw (full (length at.waiting) at.limit e)
-    (record { batch = h.batch; limit = h.limit; some = h.some; fits = h.fits; waits = omega (arith, kept); flies = h.flies; buffered = omega (arith, kept, whole, e, h.buffered); all = omega (arith, h.all); pushed = omega (arith, h.pushed) })
+    (record {
+      batch = h.batch;
+      limit = h.limit;
+      some = h.some;
+      fits = h.fits;
+      waits = omega (arith, kept);
+      flies = h.flies;
+      buffered = omega (arith, kept, whole, e, h.buffered);
+      all = omega (arith, h.all);
+      pushed = omega (arith, h.pushed);
+    })
 
 -- an output agrees once a metric was kept from it
-output_kept : (size : ℕ × ℕ) (routed : ℕ) (x y : OutputNumbers) (at : LaneState Offer) → y.buffered ≡ x.buffered → sum_of_fates y ≡ sum_of_fates x + 1 →
+output_kept : (size : ℕ × ℕ) (routed : ℕ) (x y : OutputNumbers) (at : LaneState Offer) → y.buffered ≡ x.buffered
+    → sum_of_fates y ≡ sum_of_fates x + 1 →
     IsOutput size routed x at → IsOutput size (routed + 1) y at
 output_kept size routed x y at same more h =
-    record { batch = h.batch; limit = h.limit; some = h.some; fits = h.fits; waits = h.waits; flies = h.flies; buffered = same ∙ h.buffered; all = omega (arith, h.all, more); pushed = omega (arith, h.pushed) }
+    record {
+      batch = h.batch;
+      limit = h.limit;
+      some = h.some;
+      fits = h.fits;
+      waits = h.waits;
+      flies = h.flies;
+      buffered = same ∙ h.buffered;
+      all = omega (arith, h.all, more);
+      pushed = omega (arith, h.pushed);
+    }
 
 -- an output agrees once a view was offered to it
-pub output_offered : (size : ℕ × ℕ) (routed : ℕ) (x : OutputNumbers) (at : LaneState Offer) (item : ℕ) (view : Option Content) → IsOutput size routed x at → IsOutput size (routed + 1) (numbers_with view at x) (lane_with item view at)
+pub output_offered : (size : ℕ × ℕ) (routed : ℕ) (x : OutputNumbers) (at : LaneState Offer) (item : ℕ)
+    (view : Option Content) → IsOutput size routed x at → IsOutput size (routed + 1) (numbers_with view at x)
+    (lane_with item view at)
 output_offered size routed x at item None h = output_kept size routed x (numbers_with None at x) at refl (omega arith) h
 output_offered size routed x at item (Some view) h =
     elim (eq-or-lt_of_le h.waits) [
@@ -146,32 +197,79 @@ output_offered size routed x at item (Some view) h =
 pub output_begun : (size : ℕ × ℕ) (routed : ℕ) (x : OutputNumbers) (at : LaneState Offer) →
     at.flight ≡ None → IsOutput size routed x at → IsOutput size routed x (lane.after_begin at)
 output_begun size routed x at none h =
-    record { batch = h.batch; limit = h.limit; some = h.some; fits = h.fits; waits = omega (arith, length-drop at.batch at.waiting, h.waits); flies = omega (arith, length-take at.batch at.waiting); buffered = omega (arith, length-drop at.batch at.waiting, length-take at.batch at.waiting, h.buffered, ap (λ (o : Option (ℕ × List Offer)). length (lane.batch_items o)) none); all = h.all; pushed = h.pushed }
+    record {
+      batch = h.batch;
+      limit = h.limit;
+      some = h.some;
+      fits = h.fits;
+      waits = omega (arith, length-drop at.batch at.waiting, h.waits);
+      flies = omega (arith, length-take at.batch at.waiting);
+      buffered = omega (
+        arith,
+        length-drop at.batch at.waiting,
+        length-take at.batch at.waiting,
+        h.buffered,
+        ap (λ (o : Option (ℕ × List Offer)). length (lane.batch_items o)) none,
+      );
+      all = h.all;
+      pushed = h.pushed;
+    }
 
 -- an output agrees once its batch was accepted, or failed
 pub output_done : (ok : Bool) (size : ℕ × ℕ) (routed : ℕ) (x : OutputNumbers) (at : LaneState Offer) →
     IsOutput size routed x at → IsOutput size routed (counted_done ok (count_done ok at) x) (lane_done ok at)
 output_done true size routed x at h =
-    record { batch = h.batch; limit = h.limit; some = h.some; fits = h.fits; waits = h.waits; flies = omega arith; buffered = omega (arith, h.buffered); all = omega (arith, h.all, h.buffered); pushed = h.pushed }
+    record {
+      batch = h.batch;
+      limit = h.limit;
+      some = h.some;
+      fits = h.fits;
+      waits = h.waits;
+      flies = omega arith;
+      buffered = omega (arith, h.buffered);
+      all = omega (arith, h.all, h.buffered);
+      pushed = h.pushed;
+    }
 output_done false size routed x at h =
     let all = lane.flying at ++ at.waiting in
     let whole : length all ≡ length (lane.flying at) + length at.waiting = length-append (lane.flying at) at.waiting in
-    let kept : length (drop (length all - at.limit) all) ≡ length all - (length all - at.limit) = length-drop (length all - at.limit) all in
-    let gone : length (take (length all - at.limit) all) ≡ length all - at.limit = length-take-le (length all - at.limit) all (omega arith) in
-    record { batch = h.batch; limit = h.limit; some = h.some; fits = h.fits; waits = omega (arith, kept); flies = omega arith; buffered = omega (arith, kept, gone, whole, h.buffered); all = omega (arith, h.all, h.buffered, gone, whole); pushed = h.pushed }
+    let kept : length (drop (length all - at.limit) all) ≡ length all - (length all - at.limit) =
+    length-drop (length all - at.limit) all in
+    let gone : length (take (length all - at.limit) all) ≡ length all - at.limit =
+    length-take-le (length all - at.limit) all (omega arith) in
+    record {
+      batch = h.batch;
+      limit = h.limit;
+      some = h.some;
+      fits = h.fits;
+      waits = omega (arith, kept);
+      flies = omega arith;
+      buffered = omega (arith, kept, gone, whole, h.buffered);
+      all = omega (arith, h.all, h.buffered, gone, whole);
+      pushed = h.pushed;
+    }
 
 -- with another lane and other numbers at one output, each output agrees
-pub each_with : (sizes : List (ℕ × ℕ)) (routed : ℕ) (all : List OutputNumbers) (lanes : List (LaneState Offer)) (o : ℕ) (x : OutputNumbers) (at : LaneState Offer) → o < length all → o < length lanes →
-    ((k : ℕ) → k < length sizes → IsOutput (get_or sizes k (0, 0)) routed (get_or all k unreached_output) (lane_at lanes k)) → IsOutput (get_or sizes o (0, 0)) routed x at →
+pub each_with : (sizes : List (ℕ × ℕ)) (routed : ℕ) (all : List OutputNumbers) (lanes : List (LaneState Offer)) (o : ℕ)
+    (x : OutputNumbers) (at : LaneState Offer) → o < length all → o < length lanes →
+    ((k : ℕ) → k < length sizes → IsOutput (get_or sizes k (0, 0)) routed (get_or all k unreached_output)
+    (lane_at lanes k)) → IsOutput (get_or sizes o (0, 0)) routed x at →
     (k : ℕ) → k < length sizes →
     IsOutput (get_or sizes k (0, 0)) routed (get_or (set all o x) k unreached_output) (lane_at (set lanes o at) k)
 each_with sizes routed all lanes o x at a b h new k c =
     elim (cases_lt k o) [
-      | inl m ↦ rw (get_or-set_other all o k x unreached_output (omega arith), get_or-set_other lanes o k at (empty_lane 0 0) (omega arith)) (h k c)
+      | inl m ↦ rw (
+        get_or-set_other all o k x unreached_output (omega arith),
+        get_or-set_other lanes o k at (empty_lane 0 0) (omega arith),
+      ) (h k c)
       | inr m ↦ elim (eq-or-lt_of_le m) [
-        | inl e ↦ subst (λ (n : ℕ). IsOutput (get_or sizes n (0, 0)) routed (get_or (set all o x) n unreached_output) (lane_at (set lanes o at) n)) e
+        | inl e ↦ subst (λ (n : ℕ). IsOutput (get_or sizes n (0, 0)) routed (get_or (set all o x) n unreached_output)
+            (lane_at (set lanes o at) n)) e
             (rw (get_or-set_same all o x unreached_output a, get_or-set_same lanes o at (empty_lane 0 0) b) new)
-        | inr m2 ↦ rw (get_or-set_other all o k x unreached_output (omega arith), get_or-set_other lanes o k at (empty_lane 0 0) (omega arith)) (h k c)
+        | inr m2 ↦ rw (
+          get_or-set_other all o k x unreached_output (omega arith),
+          get_or-set_other lanes o k at (empty_lane 0 0) (omega arith),
+        ) (h k c)
       ]
     ]
 
@@ -179,22 +277,30 @@ each_with sizes routed all lanes o x at a b h new k c =
 routed_items : (s : CoreState) (item : ℕ) → s.held ≡ Some item → IsCore s →
     ItemsAgree (length s.raw) s.taken 0 s.gathered s.numbers.made s.numbers.removed (s.numbers.routed + 1)
 routed_items s item held h =
-    record { come = h.items.come; few = h.items.few; few_gathered = h.items.few_gathered; gone = omega (arith, h.items.gone, ap held_count held) }
+    record {
+      come = h.items.come;
+      few = h.items.few;
+      few_gathered = h.items.few_gathered;
+      gone = omega (arith, h.items.gone, ap held_count held);
+    }
 
 -- an item is counted at each output
 counted_at_each : (more : OutputNumbers → OutputNumbers) (s : CoreState) → ((o : ℕ) → o < length s.setup.outputs →
-    IsOutput (sizes_at s.setup o) (s.numbers.routed + 1) (more (output_numbers s.numbers o)) (lane_at s.lanes o)) → IsCore s →
+    IsOutput (sizes_at s.setup o) (s.numbers.routed + 1) (more (output_numbers s.numbers o)) (lane_at s.lanes o))
+    → IsCore s →
     OutputsAgree s.setup.outputs (s.numbers.routed + 1) (map more s.numbers.outputs) s.lanes
 counted_at_each more s each h =
     record {
       lane_count = h.outputs.lane_count;
       number_count = length-map s.numbers.outputs more ∙ h.outputs.number_count;
       few = h.outputs.few;
-      each = λ o b. rw (get_or-map more s.numbers.outputs o unreached_output unreached_output (omega (arith, b, h.outputs.number_count))) (each o b);
+      each = λ o b. rw (get_or-map more s.numbers.outputs o unreached_output unreached_output
+          (omega (arith, b, h.outputs.number_count))) (each o b);
     }
 
 -- an item is offered and counted by its verdict
-kept_as : (verdict : Verdict) (s : CoreState) (outs : List (Option Content)) (item : ℕ) (stored : List Entry) → s.held ≡ Some item → IsCore s →
+kept_as : (verdict : Verdict) (s : CoreState) (outs : List (Option Content)) (item : ℕ) (stored : List Entry)
+    → s.held ≡ Some item → IsCore s →
     IsCore (record s {
       held =
           None;
@@ -209,8 +315,12 @@ kept_as verdicts.Passes s outs item stored held h =
         number_count = length-outputs_with outs s.lanes s.numbers.outputs ∙ h.outputs.number_count;
         few = h.outputs.few;
         each =
-            λ o b. rw (lanes_with-at item outs s.lanes o (omega (arith, h.outputs.lane_count)), outputs_with-at outs s.lanes s.numbers.outputs o (omega (arith, h.outputs.number_count)))
-            (output_offered (sizes_at s.setup o) s.numbers.routed (output_numbers s.numbers o) (lane_at s.lanes o) item (view_at o outs) (h.outputs.each o b));
+            λ o b. rw (
+              lanes_with-at item outs s.lanes o (omega (arith, h.outputs.lane_count)),
+              outputs_with-at outs s.lanes s.numbers.outputs o (omega (arith, h.outputs.number_count)),
+            )
+            (output_offered (sizes_at s.setup o) s.numbers.routed (output_numbers s.numbers o) (lane_at s.lanes o) item
+            (view_at o outs) (h.outputs.each o b));
       };
       inputs = h.inputs;
       items = routed_items s item held h;
@@ -218,14 +328,18 @@ kept_as verdicts.Passes s outs item stored held h =
     }
 kept_as verdicts.Consumed s outs item stored held h =
     record {
-      outputs = counted_at_each consumed_more s (λ o b. output_kept (sizes_at s.setup o) s.numbers.routed (output_numbers s.numbers o) (consumed_more (output_numbers s.numbers o)) (lane_at s.lanes o) refl (omega arith) (h.outputs.each o b)) h;
+      outputs = counted_at_each consumed_more s (λ o b. output_kept (sizes_at s.setup o) s.numbers.routed
+          (output_numbers s.numbers o) (consumed_more (output_numbers s.numbers o)) (lane_at s.lanes o) refl
+          (omega arith) (h.outputs.each o b)) h;
       inputs = h.inputs;
       items = routed_items s item held h;
       plain = h.plain;
     }
 kept_as verdicts.Late s outs item stored held h =
     record {
-      outputs = counted_at_each late_more s (λ o b. output_kept (sizes_at s.setup o) s.numbers.routed (output_numbers s.numbers o) (late_more (output_numbers s.numbers o)) (lane_at s.lanes o) refl (omega arith) (h.outputs.each o b)) h;
+      outputs = counted_at_each late_more s (λ o b. output_kept (sizes_at s.setup o) s.numbers.routed
+          (output_numbers s.numbers o) (late_more (output_numbers s.numbers o)) (lane_at s.lanes o) refl (omega arith)
+          (h.outputs.each o b)) h;
       inputs = h.inputs;
       items = routed_items s item held h;
       plain = h.plain;
@@ -234,18 +348,26 @@ kept_as verdicts.Removed s outs item stored held h =
     record {
       outputs = h.outputs;
       inputs = h.inputs;
-      items = record { come = h.items.come; few = h.items.few; few_gathered = h.items.few_gathered; gone = omega (arith, h.items.gone, ap held_count held) };
+      items = record {
+        come = h.items.come;
+        few = h.items.few;
+        few_gathered = h.items.few_gathered;
+        gone = omega (arith, h.items.gone, ap held_count held);
+      };
       plain = h.plain;
     }
 
-pub length-lanes_routed : (item : ℕ) (verdict : Verdict) (outs : List (Option Content)) (lanes : List (LaneState Offer)) → length (lanes_routed item verdict outs lanes) ≡ length lanes
+pub length-lanes_routed : (item : ℕ) (verdict : Verdict) (outs : List (Option Content)) (lanes : List (LaneState Offer))
+    → length (lanes_routed item verdict outs lanes) ≡ length lanes
 length-lanes_routed item verdicts.Passes outs lanes = length-lanes_with item outs lanes
 length-lanes_routed item verdicts.Consumed outs lanes = refl
 length-lanes_routed item verdicts.Late outs lanes = refl
 length-lanes_routed item verdicts.Removed outs lanes = refl
 
-pub kept_route : (s : CoreState) (verdict : Verdict) (outs : List (Option Content)) (item : ℕ) (lanes : List (LaneState Offer)) (numbers : Numbers) (stored : List Entry) → s.held ≡ Some item →
-    lanes ≡ lanes_routed item verdict outs s.lanes → numbers ≡ numbers_routed verdict outs s.lanes s.numbers → IsCore s → IsCore (record s {
+pub kept_route : (s : CoreState) (verdict : Verdict) (outs : List (Option Content)) (item : ℕ)
+    (lanes : List (LaneState Offer)) (numbers : Numbers) (stored : List Entry) → s.held ≡ Some item →
+    lanes ≡ lanes_routed item verdict outs s.lanes → numbers ≡ numbers_routed verdict outs s.lanes s.numbers → IsCore s
+    → IsCore (record s {
       held =
           None;
       lanes = lanes;
@@ -253,8 +375,18 @@ pub kept_route : (s : CoreState) (verdict : Verdict) (outs : List (Option Conten
       stored = stored;
     })
 kept_route s verdict outs item lanes numbers stored held l n h =
-    subst (λ (x : List (LaneState Offer)). IsCore (record s { held = None; lanes = x; numbers = numbers; stored = stored })) (sym l)
-    (subst (λ (x : Numbers). IsCore (record s { held = None; lanes = lanes_routed item verdict outs s.lanes; numbers = x; stored = stored })) (sym n)
+    subst (λ (x : List (LaneState Offer)). IsCore (record s {
+      held = None;
+      lanes = x;
+      numbers = numbers;
+      stored = stored;
+    })) (sym l)
+    (subst (λ (x : Numbers). IsCore (record s {
+      held = None;
+      lanes = lanes_routed item verdict outs s.lanes;
+      numbers = x;
+      stored = stored;
+    })) (sym n)
     (kept_as verdict s outs item stored held h))
 
 -- few enough metrics came to each output that one more may
@@ -263,10 +395,17 @@ pub has_few : (s : CoreState) → IsCore s → (o : ℕ) → o < length s.lanes 
 has_few s h o b =
     let e = h.outputs.each o (omega (arith, h.outputs.lane_count)) in
     let few = few_routed s h in
-    record { filtered = omega (arith, few, e.all); buffered = omega (arith, few, e.all); dropped = omega (arith, few, e.all); pushed = omega (arith, few, e.pushed) }
+    record {
+      filtered = omega (arith, few, e.all);
+      buffered = omega (arith, few, e.all);
+      dropped = omega (arith, few, e.all);
+      pushed = omega (arith, few, e.pushed);
+    }
 
 -- a batch is begun
-pub kept_begin : (s : CoreState) (o : ℕ) (at : LaneState Offer) (stored : List Entry) → o < length s.setup.outputs → (lane_at s.lanes o).flight ≡ None → at ≡ lane.after_begin (lane_at s.lanes o) → IsCore s → IsCore (record s { lanes = set s.lanes o at; stored = stored })
+pub kept_begin : (s : CoreState) (o : ℕ) (at : LaneState Offer) (stored : List Entry) → o < length s.setup.outputs
+    → (lane_at s.lanes o).flight ≡ None → at ≡ lane.after_begin (lane_at s.lanes o) → IsCore s
+    → IsCore (record s { lanes = set s.lanes o at; stored = stored })
 kept_begin s o at stored b none e h =
     record {
       outputs = record {
@@ -274,9 +413,14 @@ kept_begin s o at stored b none e h =
         number_count = h.outputs.number_count;
         few = h.outputs.few;
         each =
-            λ k c. subst (λ (xs : List OutputNumbers). IsOutput (sizes_at s.setup k) s.numbers.routed (get_or xs k unreached_output) (lane_at (set s.lanes o at) k)) (set-get_or s.numbers.outputs o unreached_output)
-            (each_with s.setup.outputs s.numbers.routed s.numbers.outputs s.lanes o (output_numbers s.numbers o) at (omega (arith, h.outputs.number_count)) (omega (arith, h.outputs.lane_count)) h.outputs.each
-            (subst (IsOutput (sizes_at s.setup o) s.numbers.routed (output_numbers s.numbers o)) (sym e) (output_begun (sizes_at s.setup o) s.numbers.routed (output_numbers s.numbers o) (lane_at s.lanes o) none (h.outputs.each o b))) k c);
+            λ k c. subst (λ (xs : List OutputNumbers). IsOutput (sizes_at s.setup k) s.numbers.routed
+            (get_or xs k unreached_output) (lane_at (set s.lanes o at) k))
+            (set-get_or s.numbers.outputs o unreached_output)
+            (each_with s.setup.outputs s.numbers.routed s.numbers.outputs s.lanes o (output_numbers s.numbers o) at
+            (omega (arith, h.outputs.number_count)) (omega (arith, h.outputs.lane_count)) h.outputs.each
+            (subst (IsOutput (sizes_at s.setup o) s.numbers.routed (output_numbers s.numbers o)) (sym e)
+            (output_begun (sizes_at s.setup o) s.numbers.routed (output_numbers s.numbers o) (lane_at s.lanes o) none
+            (h.outputs.each o b))) k c);
       };
       inputs = h.inputs;
       items = h.items;
@@ -284,8 +428,10 @@ kept_begin s o at stored b none e h =
     }
 
 -- a batch is done
-pub kept_done : (s : CoreState) (o : ℕ) (ok : Bool) (at : LaneState Offer) (numbers : Numbers) (stored : List Entry) → o < length s.setup.outputs → at ≡ lane_done ok (lane_at s.lanes o) →
-    numbers ≡ with_output s.numbers o (counted_done ok (count_done ok (lane_at s.lanes o)) (output_numbers s.numbers o)) → IsCore s → IsCore (record s {
+pub kept_done : (s : CoreState) (o : ℕ) (ok : Bool) (at : LaneState Offer) (numbers : Numbers) (stored : List Entry)
+    → o < length s.setup.outputs → at ≡ lane_done ok (lane_at s.lanes o) →
+    numbers ≡ with_output s.numbers o (counted_done ok (count_done ok (lane_at s.lanes o)) (output_numbers s.numbers o))
+    → IsCore s → IsCore (record s {
       lanes =
           set s.lanes o at;
       numbers = numbers;
@@ -300,8 +446,11 @@ kept_done s o ok at numbers stored b e n h =
         number_count = length-set s.numbers.outputs o x ∙ h.outputs.number_count;
         few = h.outputs.few;
         each =
-            each_with s.setup.outputs s.numbers.routed s.numbers.outputs s.lanes o x at (omega (arith, h.outputs.number_count)) (omega (arith, h.outputs.lane_count)) h.outputs.each
-            (subst (IsOutput (sizes_at s.setup o) s.numbers.routed x) (sym e) (output_done ok (sizes_at s.setup o) s.numbers.routed (output_numbers s.numbers o) (lane_at s.lanes o) (h.outputs.each o b)));
+            each_with s.setup.outputs s.numbers.routed s.numbers.outputs s.lanes o x at
+            (omega (arith, h.outputs.number_count)) (omega (arith, h.outputs.lane_count)) h.outputs.each
+            (subst (IsOutput (sizes_at s.setup o) s.numbers.routed x) (sym e)
+            (output_done ok (sizes_at s.setup o) s.numbers.routed (output_numbers s.numbers o) (lane_at s.lanes o)
+            (h.outputs.each o b)));
       };
       inputs = h.inputs;
       items = h.items;
@@ -312,7 +461,12 @@ kept_done s o ok at numbers stored b e n h =
 pub flights_done : (lanes : List (LaneState Offer)) (o : ℕ) (at : LaneState Offer) → o < length lanes →
     IsSome (lane_at lanes o).flight → at.flight ≡ None → flights (set lanes o at) + 1 ≡ flights lanes
 flights_done lanes o at b some none =
-    omega (arith, sum_by-set in_flight lanes o at (empty_lane 0 0) b, one_flies (lane_at lanes o) some, none_flies at none)
+    omega (
+      arith,
+      sum_by-set in_flight lanes o at (empty_lane 0 0) b,
+      one_flies (lane_at lanes o) some,
+      none_flies at none,
+    )
 
 -- once a batch is done none is in flight
 pub none_left : (ok : Bool) (at : LaneState Offer) → (lane_done ok at).flight ≡ None
@@ -331,7 +485,17 @@ spare_at_first outputs lanes e = ap flights e ∙ none_flies_yet outputs
 -- an output at which nothing waits agrees
 empty_output : (x : OutSetup) → 1 ≤ x.batch → x.batch ≤ x.limit →
     IsOutput (x.batch, x.limit) 0 unreached_output (lane_of x)
-empty_output x some fits = record { batch = refl; limit = refl; some = some; fits = fits; waits = omega arith; flies = omega arith; buffered = refl; all = refl; pushed = omega arith }
+empty_output x some fits = record {
+  batch = refl;
+  limit = refl;
+  some = some;
+  fits = fits;
+  waits = omega arith;
+  flies = omega arith;
+  buffered = refl;
+  all = refl;
+  pushed = omega arith;
+}
 
 -- what stands where a list of set-ups has no output, and no input
 pub no_output : OutSetup
@@ -342,9 +506,14 @@ no_input = record { tracked = false; max_undelivered = 0 }
 
 each_at_first : (outputs : List OutSetup) →
     All (λ (x : OutSetup). (1 ≤ x.batch) × (x.batch ≤ x.limit)) outputs → (k : ℕ) → k < length outputs →
-    IsOutput (get_or (map sizes outputs) k (0, 0)) 0 (get_or (replicate (length outputs) unreached_output) k unreached_output) (lane_at (map lane_of outputs) k)
+    IsOutput (get_or (map sizes outputs) k (0, 0)) 0 (get_or (replicate (length outputs) unreached_output) k
+    unreached_output) (lane_at (map lane_of outputs) k)
 each_at_first outputs h k b =
-    rw (get_or-map sizes outputs k no_output (0, 0) b, get_or-map lane_of outputs k no_output (empty_lane 0 0) b, get_or-replicate (length outputs) k unreached_output unreached_output b)
+    rw (
+      get_or-map sizes outputs k no_output (0, 0) b,
+      get_or-map lane_of outputs k no_output (empty_lane 0 0) b,
+      get_or-replicate (length outputs) k unreached_output unreached_output b,
+    )
     (empty_output (get_or outputs k no_output) (h k no_output b).0 (h k no_output b).1)
 
 untracked_at_first : (inputs : List InSetup) → All (λ (x : InSetup). x.tracked ≡ false) inputs →
@@ -355,10 +524,25 @@ untracked_at_first inputs h k d b =
     ∙ ap (λ (t : Bool). if t then Some (get_or inputs k no_input).max_undelivered else None) (h k no_input within)
 
 -- a core in which nothing happened
-pub kept_first : (setup : CoreSetup) (raw : List Content) (lanes : List (LaneState Offer)) (numbers : Numbers) (stored : List Entry) (counted : ℤ) (ended : List Bool) →
-    length setup.outputs ≤ 16 → All (λ (x : InSetup). x.tracked ≡ false) setup.inputs → All (λ (x : OutSetup). (1 ≤ x.batch) × (x.batch ≤ x.limit)) setup.outputs →
-    raw ≡ [] → lanes ≡ map lane_of setup.outputs → numbers ≡ no_numbers (map is_tracked setup.inputs) (length setup.outputs) → ended ≡ replicate (length setup.inputs) false →
-    IsCore (record { setup = setup_of setup; raw = raw; taken = 0; held = None; lanes = lanes; numbers = numbers; stored = stored; gathered = 0; counted = counted; ended = ended; stopped = false })
+pub kept_first : (setup : CoreSetup) (raw : List Content) (lanes : List (LaneState Offer)) (numbers : Numbers)
+    (stored : List Entry) (counted : ℤ) (ended : List Bool) →
+    length setup.outputs ≤ 16 → All (λ (x : InSetup). x.tracked ≡ false) setup.inputs
+    → All (λ (x : OutSetup). (1 ≤ x.batch) × (x.batch ≤ x.limit)) setup.outputs →
+    raw ≡ [] → lanes ≡ map lane_of setup.outputs → numbers ≡ no_numbers (map is_tracked setup.inputs)
+    (length setup.outputs) → ended ≡ replicate (length setup.inputs) false →
+    IsCore (record {
+      setup = setup_of setup;
+      raw = raw;
+      taken = 0;
+      held = None;
+      lanes = lanes;
+      numbers = numbers;
+      stored = stored;
+      gathered = 0;
+      counted = counted;
+      ended = ended;
+      stopped = false;
+    })
 kept_first setup raw lanes numbers stored counted ended few untracked sized r l n e =
     rw (r, l, n, e)
     (record {
@@ -369,15 +553,18 @@ kept_first setup raw lanes numbers stored counted ended few untracked sized r l 
         each = λ k b. each_at_first setup.outputs sized k (omega (arith, length-map setup.outputs sizes));
       };
       inputs = record {
-        number_count = length-map _ unread_input ∙ length-map setup.inputs is_tracked ∙ sym (length-map setup.inputs most_undelivered);
+        number_count = length-map _ unread_input ∙ length-map setup.inputs is_tracked
+            ∙ sym (length-map setup.inputs most_undelivered);
         ended_count = length-replicate (length setup.inputs) false ∙ sym (length-map setup.inputs most_undelivered);
       };
       items = record { come = refl; few = omega arith; few_gathered = omega arith; gone = refl };
       plain = record { untracked = untracked_at_first setup.inputs untracked; no_aggs = refl };
     })
 
-pub kept_gathered : (s : CoreState) (g : Gathered) (raw : List Content) (numbers : Numbers) (gathered : ℕ) (stored : List Entry) → IsCore s → HasNumbers s g → HasItems s g →
-    raw ≡ s.raw ++ g.metrics → numbers ≡ (after_gather s g).numbers → gathered ≡ s.gathered + length g.metrics → IsCore (record s {
+pub kept_gathered : (s : CoreState) (g : Gathered) (raw : List Content) (numbers : Numbers) (gathered : ℕ)
+    (stored : List Entry) → IsCore s → HasNumbers s g → HasItems s g →
+    raw ≡ s.raw ++ g.metrics → numbers ≡ (after_gather s g).numbers → gathered ≡ s.gathered + length g.metrics
+    → IsCore (record s {
       raw =
           raw;
       numbers = numbers;
@@ -395,8 +582,14 @@ flies s o at h b e =
 
 -- a batch has metrics
 pub some_begun : (s : CoreState) (o : ℕ) (metrics : List Content) → IsCore s → o < length s.setup.outputs →
-    metrics ≡ views_of (take (lane_at s.lanes o).batch (lane_at s.lanes o).waiting) → 0 < length (lane_at s.lanes o).waiting →
-    0 < length metrics
+    metrics ≡ offered_views (take (lane_at s.lanes o).batch (lane_at s.lanes o).waiting) →
+    0 < length (lane_at s.lanes o).waiting → 0 < length metrics
 some_begun s o metrics h b e some =
     let x : LaneState Offer = lane_at s.lanes o in
-    omega (arith, ap length e, length-map (take x.batch x.waiting) (λ (offer : Offer). offer.view), length-take x.batch x.waiting, (h.outputs.each o b).some)
+    omega (
+      arith,
+      ap length e,
+      length-map (take x.batch x.waiting) (λ (offer : Offer). offer.view),
+      length-take x.batch x.waiting,
+      (h.outputs.each o b).some,
+    )

@@ -57,9 +57,12 @@ abbrev pub second : Content → ℕ → List Report → Entry
 second m item reports = Route item (Some m) Passes (None ∷ []) (None ∷ Some m ∷ []) reports
 
 -- Group 0 of the first input has items 0 and 1, which are both consumed. Group 1 of the second input has item 2, which
--- comes too late. Items 3 and 4 are made. Group 2 of the second input has item 5. Item 3 comes to the first output, where
--- item 4 takes its place, and item 5 to the second one, which accepts it. Group 3 of the first input has no metric. Group
--- 4 of it has item 6, which comes to the first output in the place of item 4. Item 7 is made as the run stops, and takes
+-- comes too late. Items 3 and 4 are made. Group 2 of the second input has item 5. Item 3 comes to the first output,
+-- where
+-- item 4 takes its place, and item 5 to the second one, which accepts it. Group 3 of the first input has no metric.
+-- Group
+-- 4 of it has item 6, which comes to the first output in the place of item 4. Item 7 is made as the run stops, and
+-- takes
 -- its place there by the last entry, so that group 4 is rejected.
 abbrev pub front : Content → List Entry
 front m =
@@ -127,13 +130,15 @@ group_due before None = None
 group_due before (Some says) = next_group (slice_index_or setup.inputs says.input None) before
 
 -- each Gather has the next group
-pub each_is_next : (m : Content) → each (λ before e. group_due before (gather_of e)) [] (journal m) ≡ map (λ (e : Entry). group_said (gather_of e)) (journal m)
+pub each_is_next : (m : Content) → each (λ before e. group_due before (gather_of e)) [] (journal m) ≡ map
+    (λ (e : Entry). group_said (gather_of e)) (journal m)
 unfolding each group_inputs
 each_is_next m = refl
 
 -- each entry has the reports that the definition gives it
 pub each_is_told : (m : Content) → each (reports_at setup) [] (journal m) ≡ map reports_of (journal m)
-unfolding each reports_at origins items taken routes group_inputs offers lane_events fates_from ranges_from accepted_from
+unfolding each reports_at origins items taken routes group_inputs offers lane_events fates_from ranges_from
+    accepted_from
 each_is_told m = refl
 
 -- the copies of the five groups behind an entry
@@ -154,7 +159,8 @@ unfolding each origins items taken routes group_inputs offers lane_events fates_
 copies_behind_each m = refl
 
 -- the last entry settles the last group alone
-pub last_settles : (m : Content) → each (λ before e. map (settles setup before e) (0 ∷ 1 ∷ 2 ∷ 3 ∷ 4 ∷ [])) (front m) (back m) ≡ (false ∷ false ∷ false ∷ false ∷ true ∷ []) ∷ []
+pub last_settles : (m : Content) → each (λ before e. map (settles setup before e) (0 ∷ 1 ∷ 2 ∷ 3 ∷ 4 ∷ [])) (front m)
+    (back m) ≡ (false ∷ false ∷ false ∷ false ∷ true ∷ []) ∷ []
 unfolding each origins items taken routes group_inputs offers lane_events fates_from ranges_from accepted_from
 last_settles m = refl
 
@@ -176,7 +182,8 @@ routed_behind_each m = refl
 abbrev pub pushed_both : List Entry → ℕ → ℕ × ℕ
 pushed_both es item = (length (pushed true es item), length (pushed false es item))
 
-pub pushed_are : (m : Content) → map (pushed_both (journal m)) (2 ∷ 4 ∷ 5 ∷ 7 ∷ []) ≡ (3, 3) ∷ (3, 5) ∷ (4, 6) ∷ (5, 8) ∷ []
+pub pushed_are : (m : Content) → map (pushed_both (journal m)) (2 ∷ 4 ∷ 5 ∷ 7 ∷ []) ≡ (3, 3) ∷ (3, 5) ∷ (4, 6) ∷
+    (5, 8) ∷ []
 unfolding items origins
 pushed_are m = refl
 
@@ -208,6 +215,7 @@ unfolding total_by input_total_from reported_with offers lane_events fates_from 
 totals_are m = refl
 
 -- and those of its entries before the last one: the last group hasn't settled
-pub totals_before : (m : Content) → (totals setup (front m)).inputs ≡ tracked 3 3 2 0 1 false ∷ tracked 2 2 2 0 0 false ∷ []
+pub totals_before : (m : Content) → (totals setup (front m)).inputs ≡ tracked 3 3 2 0 1 false ∷ tracked 2 2 2 0 0 false
+    ∷ []
 unfolding input_total_from reported_with
 totals_before m = refl

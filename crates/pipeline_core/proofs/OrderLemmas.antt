@@ -1,17 +1,23 @@
--- What is sent before more is gathered, with one entry more.
+-- What is sent before more is gathered and before the Stop, with one entry more.
 use Rattle.std.proofs.Common.{◌≡◌, ◌<◌, ◌⊎◌, ℕ, List, [], ◌∷◌, ◌++◌, length, sym, subst, append_assoc, append-nil}
 use Rattle.account.specs.Setup.{Setup}
-use Rattle.account.specs.Origins.{raw_of}
 use Rattle.account.specs.declared.entry.Entry.{Entry}
 use Rattle.pipeline_core.specs.Offers.{lane_events}
-use Rattle.pipeline_core.specs.Order.{NothingBuffered, EndsFailed, IsTicked, IsDrained, IsOrderly, AreOrderly, InOrder}
+use Rattle.pipeline_core.specs.Order.{NothingBuffered, EndsFailed, IsTicked, IsFlushed, IsOrderly, AreOrderly, InOrder}
+use Rattle.pipeline_core.specs.Windows.{HasNoAggs}
 
-AreOrderly-push : (setup : Setup) (before es : List Entry) (e : Entry) → AreOrderly setup before es → IsOrderly setup (before ++ es) e → AreOrderly setup before (es ++ e ∷ [])
+AreOrderly-push : (setup : Setup) (before es : List Entry) (e : Entry) → AreOrderly setup before es
+    → IsOrderly setup (before ++ es) e → AreOrderly setup before (es ++ e ∷ [])
 unfolding AreOrderly
 AreOrderly-push setup before [] e h o = (subst (λ (p : List Entry). IsOrderly setup p e) (append-nil before) o, tt)
-AreOrderly-push setup before (d ∷ es) e h o = (h.0, AreOrderly-push setup (before ++ d ∷ []) es e h.1 (subst (λ (p : List Entry). IsOrderly setup p e) (sym (append_assoc before (d ∷ []) es)) o))
+AreOrderly-push setup before (d ∷ es) e h o = (
+  h.0,
+  AreOrderly-push setup (before ++ d ∷ []) es e h.1
+      (subst (λ (p : List Entry). IsOrderly setup p e) (sym (append_assoc before (d ∷ []) es)) o),
+)
 
-pub in_order-push : (setup : Setup) (journal : List Entry) (e : Entry) → InOrder setup journal → IsOrderly setup journal e → InOrder setup (journal ++ e ∷ [])
+pub in_order-push : (setup : Setup) (journal : List Entry) (e : Entry) → InOrder setup journal
+    → IsOrderly setup journal e → InOrder setup (journal ++ e ∷ [])
 in_order-push setup journal e h o = AreOrderly-push setup [] journal e h o
 
 -- nothing happened
@@ -20,11 +26,12 @@ unfolding AreOrderly
 in_order_first setup = tt
 
 -- without aggregators no Tick has to come
-pub ticked_plain : (setup : Setup) (before : List Entry) → setup.aggs ≡ [] → IsTicked setup before
+pub ticked_plain : (setup : Setup) (before : List Entry) → HasNoAggs setup → IsTicked setup before
 ticked_plain setup before none some = absurd (some none)
 
--- without aggregators it is enough that no item of the input is raw, and that all was sent or the last batch failed
-pub drained_plain : (setup : Setup) (before : List Entry) (input : ℕ) → setup.aggs ≡ [] → raw_of input before ≡ [] → ((output : ℕ) → output < length setup.outputs → NothingBuffered setup before output ⊎ EndsFailed (lane_events output before))
-    → IsDrained setup before input
-drained_plain setup before input none none_raw each =
-    record { none_raw = none_raw; each = each; ticked = ticked_plain setup before none }
+-- without aggregators it is enough that at each output all was sent or the last batch failed
+pub flushed_plain : (setup : Setup) (before : List Entry) → HasNoAggs setup
+    → ((output : ℕ) → output < length setup.outputs
+    → NothingBuffered setup before output ⊎ EndsFailed (lane_events output before))
+    → IsFlushed setup before
+flushed_plain setup before none each = record { each = each; ticked = ticked_plain setup before none }

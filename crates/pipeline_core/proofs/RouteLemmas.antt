@@ -11,56 +11,69 @@ use Rattle.pipeline_core.proofs.JournalPush.{taken-push, in_hand-push, few_taken
 use Rattle.account.specs.Routes.{IsNextRoute, RoutesInOrder, RouteOnInOrder}
 use Rattle.account.proofs.RouteLemmas.{routes-push, known-push, order_split}
 
--- what is in hand, by how many items were routed and how many taken: nothing where all taken ones were routed, else the last one taken, which is the next to be routed
+-- what is in hand, by how many items were routed and how many taken: nothing where all taken ones were routed, else the
+-- last one taken, which is the next to be routed
 abbrev HandFits : Option ℕ → ℕ → ℕ → Type 0
 HandFits None routed fetched = routed ≡ fetched
 HandFits (Some item) routed fetched = (item ≡ routed) × (fetched ≡ item + 1)
 
-hand_stays : (held : Option ℕ) (routed fetched : ℕ) → HandFits held routed fetched → HandFits held (routed + 0) (fetched + 0)
+hand_stays : (held : Option ℕ) (routed fetched : ℕ) → HandFits held routed fetched
+    → HandFits held (routed + 0) (fetched + 0)
 hand_stays None routed fetched h = omega (arith, h)
 hand_stays (Some item) routed fetched h = (omega (arith, h.0), omega (arith, h.1))
 
-hand_after : (setup : Setup) (before : List Entry) (e : Entry) → Meets setup before e → HandFits (in_hand before) (routes before) (taken before)
+hand_after : (setup : Setup) (before : List Entry) (e : Entry) → Meets setup before e
+    → HandFits (in_hand before) (routes before) (taken before)
     → HandFits (held_after (in_hand before) e) (routes before + routes_by e) (taken before + takes_by e)
-hand_after setup before (Gather input moment pieces refused passed filtered metrics group reports) m h = hand_stays (in_hand before) (routes before) (taken before) h
+hand_after setup before (Gather input moment pieces refused passed filtered metrics group reports) m h =
+    hand_stays (in_hand before) (routes before) (taken before) h
 hand_after setup before (Ended input) m h = hand_stays (in_hand before) (routes before) (taken before) h
 hand_after setup before (Take item) m h =
-    let all : routes before ≡ taken before = subst (λ (held : Option ℕ). HandFits held (routes before) (taken before)) m.line.empty_handed h in
+    let all : routes before ≡ taken before = subst (λ (held : Option ℕ). HandFits held (routes before) (taken before))
+    m.line.empty_handed h in
     (omega (arith, m.line.first, all), omega (arith, m.line.first))
 hand_after setup before (Route item whole verdict aggs outs reports) m h =
-    let last : (item ≡ routes before) × (taken before ≡ item + 1) = subst (λ (held : Option ℕ). HandFits held (routes before) (taken before)) m.line.held h in
+    let last : (item ≡ routes before) × (taken before ≡ item + 1) =
+    subst (λ (held : Option ℕ). HandFits held (routes before) (taken before)) m.line.held h in
     omega (arith, last.0, last.1)
 hand_after setup before (Tick moment made) m h = hand_stays (in_hand before) (routes before) (taken before) h
 hand_after setup before (Stop moment made) m h = hand_stays (in_hand before) (routes before) (taken before) h
 hand_after setup before (Begin output from to) m h = hand_stays (in_hand before) (routes before) (taken before) h
 hand_after setup before (Done output ok reports) m h = hand_stays (in_hand before) (routes before) (taken before) h
 
-hand_more : (setup : Setup) (before : List Entry) (e : Entry) → Meets setup before e → HandFits (in_hand before) (routes before) (taken before)
+hand_more : (setup : Setup) (before : List Entry) (e : Entry) → Meets setup before e
+    → HandFits (in_hand before) (routes before) (taken before)
     → HandFits (in_hand (before ++ e ∷ [])) (routes (before ++ e ∷ [])) (taken (before ++ e ∷ []))
-hand_more setup before e m h = rw (in_hand-push before e, routes-push before e, taken-push before e) (hand_after setup before e m h)
+hand_more setup before e m h = rw (in_hand-push before e, routes-push before e, taken-push before e)
+    (hand_after setup before e m h)
 
-is_next : (setup : Setup) (before : List Entry) (e : Entry) → Meets setup before e → taken before ≤ length (items before) → HandFits (in_hand before) (routes before) (taken before)
+is_next : (setup : Setup) (before : List Entry) (e : Entry) → Meets setup before e
+    → taken before ≤ length (items before) → HandFits (in_hand before) (routes before) (taken before)
     → IsNextRoute (routes before) (length (items before)) e
 is_next setup before (Gather input moment pieces refused passed filtered metrics group reports) m l h = tt
 is_next setup before (Ended input) m l h = tt
 is_next setup before (Take item) m l h = tt
 is_next setup before (Route item whole verdict aggs outs reports) m l h =
-    let last : (item ≡ routes before) × (taken before ≡ item + 1) = subst (λ (held : Option ℕ). HandFits held (routes before) (taken before)) m.line.held h in
+    let last : (item ≡ routes before) × (taken before ≡ item + 1) =
+    subst (λ (held : Option ℕ). HandFits held (routes before) (taken before)) m.line.held h in
     (last.0, omega (arith, last.0, last.1, l))
 is_next setup before (Tick moment made) m l h = tt
 is_next setup before (Stop moment made) m l h = tt
 is_next setup before (Begin output from to) m l h = tt
 is_next setup before (Done output ok reports) m l h = tt
 
-order_before : (before : List Entry) (e : Entry) (es : List Entry) → RouteOnInOrder (before ++ e ∷ []) es → RoutesInOrder (routes before + routes_by e) (length (items before) + length (named_by e)) es
+order_before : (before : List Entry) (e : Entry) (es : List Entry) → RouteOnInOrder (before ++ e ∷ []) es
+    → RoutesInOrder (routes before + routes_by e) (length (items before) + length (named_by e)) es
 order_before before e es h = rw (sym (routes-push before e), sym (known-push before e)) h
 
-order_from : (setup : Setup) (before es : List Entry) → IsLegal setup before → AreLegal setup before es → HandFits (in_hand before) (routes before) (taken before) → RouteOnInOrder before es
+order_from : (setup : Setup) (before es : List Entry) → IsLegal setup before → AreLegal setup before es
+    → HandFits (in_hand before) (routes before) (taken before) → RouteOnInOrder before es
 unfolding AreLegal RoutesInOrder
 order_from setup before [] legal more h = tt
 order_from setup before (e ∷ es) legal more h = (
   is_next setup before e more.0 (few_taken setup before legal) h,
-  order_before before e es (order_from setup (before ++ e ∷ []) es (IsLegal-push setup before e legal more.0) more.1 (hand_more setup before e more.0 h)),
+  order_before before e es (order_from setup (before ++ e ∷ []) es (IsLegal-push setup before e legal more.0) more.1
+      (hand_more setup before e more.0 h)),
 )
 
 -- the Routes of a legal journal come in order
@@ -69,7 +82,9 @@ unfolding AreLegal in_hand_from taken routes items
 legal_in_order setup journal legal = order_from setup [] journal tt legal refl
 
 -- so do those of its entries behind a front of it
-pub legal_rest_in_order : (setup : Setup) (front stored : List Entry) → IsLegal setup (front ++ stored) → RouteOnInOrder front stored
+pub legal_rest_in_order : (setup : Setup) (front stored : List Entry) → IsLegal setup (front ++ stored)
+    → RouteOnInOrder front stored
 legal_rest_in_order setup front stored legal =
     subst (λ (n : ℕ). RoutesInOrder n (length (items front)) stored) (zero-add (routes front))
-    (subst (λ (n : ℕ). RoutesInOrder (0 + routes front) n stored) (zero-add (length (items front))) (order_split 0 0 front stored (legal_in_order setup (front ++ stored) legal)))
+    (subst (λ (n : ℕ). RoutesInOrder (0 + routes front) n stored) (zero-add (length (items front)))
+    (order_split 0 0 front stored (legal_in_order setup (front ++ stored) legal)))

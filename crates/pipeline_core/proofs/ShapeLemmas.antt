@@ -7,7 +7,8 @@ use Rattle.metric.specs.declared.metric.Content.{Content}
 use Rattle.account.specs.declared.entry.Verdict.TheVariants as verdicts
 use Rattle.pipeline_core.specs.Shapes.{EntriesHaveShape}
 use Rattle.pipeline_core.specs.Steps.{gather_entry, route_entry, tick_entry, stop_entry, done_entry}
-use Rattle.pipeline_core.specs.Windows.{NothingAggregates, RemovedHasNoWhole, verdict_of, judged, made_by_tick, made_by_stop}
+use Rattle.pipeline_core.specs.Windows.{NothingAggregates, RemovedHasNoWhole, verdict_of, judged, made_by_tick}
+use Rattle.pipeline_core.specs.Windows.{made_by_stop}
 
 pub entries-have-shape : EntriesHaveShape
 unfolding gather_entry route_entry tick_entry stop_entry done_entry

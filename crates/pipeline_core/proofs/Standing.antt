@@ -25,7 +25,8 @@ pub record Grows (s t : CoreState) (journal : List Entry) (e : Entry) : Type 0 w
   pub taken_is : t.taken ≡ s.taken + takes_by e
   pub held : t.held ≡ held_after s.held e
   pub lanes : (o : ℕ) → o < length s.setup.outputs →
-      IsLaneOf (sizes_at s.setup o).0 (sizes_at s.setup o).1 (lane_events o journal ++ lane_events_by o e) (offers o journal ++ offered_by o e) (lane_at t.lanes o)
+      IsLaneOf (sizes_at s.setup o).0 (sizes_at s.setup o).1 (lane_events o journal ++ lane_events_by o e)
+      (offers o journal ++ offered_by o e) (lane_at t.lanes o)
   pub lane_count : length t.lanes ≡ length s.lanes
   pub numbers : t.numbers ≡ totals s.setup (journal ++ e ∷ [])
   pub stored : t.stored ≡ s.stored ++ e ∷ []
@@ -36,20 +37,24 @@ pub record Grows (s t : CoreState) (journal : List Entry) (e : Entry) : Type 0 w
   pub ended_count : length t.ended ≡ length s.ended
   pub stopped : t.stopped ≡ (s.stopped || is_stop e)
 
-pub stands_grows : (s t : CoreState) (journal : List Entry) (e : Entry) → Stands s journal → Grows s t journal e → Stands (record t { setup = s.setup }) (journal ++ e ∷ [])
+pub stands_grows : (s t : CoreState) (journal : List Entry) (e : Entry) → Stands s journal → Grows s t journal e
+    → Stands (record t { setup = s.setup }) (journal ++ e ∷ [])
 stands_grows s t journal e h g =
     record {
       legal = IsLegal-push s.setup journal e h.legal g.meets;
-      raw = g.raw ∙ ap (λ (xs : List Content). drop (takes_by e) (xs ++ named_by e)) h.raw ∙ sym (raw_items-push s.setup journal e h.legal);
+      raw = g.raw ∙ ap (λ (xs : List Content). drop (takes_by e) (xs ++ named_by e)) h.raw
+          ∙ sym (raw_items-push s.setup journal e h.legal);
       taken_is = g.taken_is ∙ ap (λ (n : ℕ). n + takes_by e) h.taken_is ∙ sym (taken-push journal e);
       held = g.held ∙ ap (λ (x : Option ℕ). held_after x e) h.held ∙ sym (in_hand-push journal e);
       lanes = λ o b. rw (lane_events-push o journal e, offers-push o journal e) (g.lanes o b);
       lane_count = g.lane_count ∙ h.lane_count;
       numbers = g.numbers;
       front = h.front;
-      stored = ap (λ (j : List Entry). j ++ e ∷ []) h.stored ∙ append_assoc h.front s.stored (e ∷ []) ∙ ap (λ (j : List Entry). h.front ++ j) (sym g.stored);
+      stored = ap (λ (j : List Entry). j ++ e ∷ []) h.stored ∙ append_assoc h.front s.stored (e ∷ [])
+          ∙ ap (λ (j : List Entry). h.front ++ j) (sym g.stored);
       gathered = g.gathered ∙ ap (λ (n : ℕ). n + gathered_by e) h.gathered ∙ sym (gathered_count-push journal e);
-      counted = g.counted ∙ ap (λ (m : ℤ). moment_after m e) h.counted ∙ sym (counted_from-push s.setup.start journal e);
+      counted = g.counted ∙ ap (λ (m : ℤ). moment_after m e) h.counted
+          ∙ sym (counted_from-push s.setup.start journal e);
       ended = λ i b. g.ended i b ∙ ap Some (sym (has_ended-push i journal e));
       ended_count = g.ended_count ∙ h.ended_count;
       stopped = g.stopped ∙ ap (λ (b : Bool). b || is_stop e) h.stopped ∙ sym (has_stop-push journal e);
@@ -58,7 +63,8 @@ stands_grows s t journal e h g =
 -- an entry that does nothing at the lanes
 pub lanes_stay : (s : CoreState) (journal : List Entry) → Stands s journal → (o : ℕ) →
     o < length s.setup.outputs →
-    IsLaneOf (sizes_at s.setup o).0 (sizes_at s.setup o).1 (lane_events o journal ++ []) (offers o journal ++ []) (lane_at s.lanes o)
+    IsLaneOf (sizes_at s.setup o).0 (sizes_at s.setup o).1 (lane_events o journal ++ []) (offers o journal ++ [])
+    (lane_at s.lanes o)
 lanes_stay s journal h o b =
     rw (append-nil (lane_events o journal), append-nil (offers o journal)) (h.lanes o b)
 

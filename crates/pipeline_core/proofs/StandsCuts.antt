@@ -52,11 +52,13 @@ cut_stands s n q journal h = subst (λ (m : CoreState). Stands m journal) (sym q
 
 lanes_at_first : (outputs : List OutSetup) →
     All (λ (x : OutSetup). (1 ≤ x.batch) × (x.batch ≤ x.limit)) outputs → (o : ℕ) → o < length outputs →
-    IsLaneOf (get_or (map sizes outputs) o (0, 0)).0 (get_or (map sizes outputs) o (0, 0)).1 (lane_events o []) (offers o []) (lane_at (map lane_of outputs) o)
+    IsLaneOf (get_or (map sizes outputs) o (0, 0)).0 (get_or (map sizes outputs) o (0, 0)).1 (lane_events o [])
+    (offers o []) (lane_at (map lane_of outputs) o)
 unfolding lane_events offers
 lanes_at_first outputs sized o b =
     rw (get_or-map sizes outputs o no_output (0, 0) b, get_or-map lane_of outputs o no_output (empty_lane 0 0) b)
-    (new_is_lane Offer (get_or outputs o no_output).batch (get_or outputs o no_output).limit (sized o no_output b).0 (sized o no_output b).1)
+    (new_is_lane Offer (get_or outputs o no_output).batch (get_or outputs o no_output).limit (sized o no_output b).0
+    (sized o no_output b).1)
 
 some_if : (t : Bool) (n : ℕ) → is_some (if t then Some n else None) ≡ t
 some_if true n = refl
@@ -68,12 +70,15 @@ unfolding input_total_from
 inputs_at_first setup =
     let n : length (setup_of setup).inputs ≡ length setup.inputs = length-map setup.inputs most_undelivered in
     let m : length (map is_tracked setup.inputs) ≡ length setup.inputs = length-map setup.inputs is_tracked in
-    let l : length (map unread_input (map is_tracked setup.inputs)) ≡ length setup.inputs = length-map (map is_tracked setup.inputs) unread_input ∙ m in
-    ext_get_or (unread_input false) (map unread_input (map is_tracked setup.inputs)) (totals (setup_of setup) []).inputs (l ∙ sym n ∙ sym (length-inputs (setup_of setup) []))
+    let l : length (map unread_input (map is_tracked setup.inputs)) ≡ length setup.inputs =
+    length-map (map is_tracked setup.inputs) unread_input ∙ m in
+    ext_get_or (unread_input false) (map unread_input (map is_tracked setup.inputs)) (totals (setup_of setup) []).inputs
+    (l ∙ sym n ∙ sym (length-inputs (setup_of setup) []))
     (λ i b. let c : i < length setup.inputs = omega arith in
     get_or-map unread_input (map is_tracked setup.inputs) i false (unread_input false) (omega arith)
     ∙ ap unread_input (get_or-map is_tracked setup.inputs i no_input false c)
-    ∙ ap unread_input (sym (ap is_some (get_or-map most_undelivered setup.inputs i no_input None c) ∙ some_if (get_or setup.inputs i no_input).tracked (get_or setup.inputs i no_input).max_undelivered))
+    ∙ ap unread_input (sym (ap is_some (get_or-map most_undelivered setup.inputs i no_input None c)
+    ∙ some_if (get_or setup.inputs i no_input).tracked (get_or setup.inputs i no_input).max_undelivered))
     ∙ sym (inputs-at (setup_of setup) [] i (omega arith)))
 
 outputs_at_first : (setup : CoreSetup) →
@@ -81,9 +86,12 @@ outputs_at_first : (setup : CoreSetup) →
 unfolding fates_from
 outputs_at_first setup =
     let n : length (setup_of setup).outputs ≡ length setup.outputs = length-map setup.outputs sizes in
-    let m : length (replicate (length setup.outputs) unreached_output) ≡ length setup.outputs = length-replicate (length setup.outputs) unreached_output in
-    ext_get_or unreached_output (replicate (length setup.outputs) unreached_output) (totals (setup_of setup) []).outputs (m ∙ sym n ∙ sym (length-outputs (setup_of setup) []))
-    (λ o b. get_or-replicate (length setup.outputs) o unreached_output unreached_output (omega arith) ∙ sym (outputs-at (setup_of setup) [] o (omega arith)))
+    let m : length (replicate (length setup.outputs) unreached_output) ≡ length setup.outputs =
+    length-replicate (length setup.outputs) unreached_output in
+    ext_get_or unreached_output (replicate (length setup.outputs) unreached_output) (totals (setup_of setup) []).outputs
+    (m ∙ sym n ∙ sym (length-outputs (setup_of setup) []))
+    (λ o b. get_or-replicate (length setup.outputs) o unreached_output unreached_output (omega arith)
+    ∙ sym (outputs-at (setup_of setup) [] o (omega arith)))
 
 pub stands_first : (setup : CoreSetup) →
     All (λ (x : OutSetup). (1 ≤ x.batch) × (x.batch ≤ x.limit)) setup.outputs → Stands (first_state setup) []
@@ -96,14 +104,17 @@ stands_first setup sized =
       held = refl;
       lanes = λ o b. lanes_at_first setup.outputs sized o (omega (arith, length-map setup.outputs sizes));
       lane_count = length-map setup.outputs lane_of ∙ sym (length-map setup.outputs sizes);
-      numbers = same_totals (first_state setup).numbers (totals (setup_of setup) []) (inputs_at_first setup) refl refl refl (outputs_at_first setup);
+      numbers = same_totals (first_state setup).numbers (totals (setup_of setup) [])
+          (inputs_at_first setup) refl refl refl (outputs_at_first setup);
       front = [];
       stored = refl;
       gathered = refl;
       counted = refl;
       ended =
-          λ i b. slice_get-get_or (replicate (length setup.inputs) false) i false (omega (arith, length-replicate (length setup.inputs) false, length-map setup.inputs most_undelivered))
-          ∙ ap Some (get_or-replicate (length setup.inputs) i false false (omega (arith, length-map setup.inputs most_undelivered)));
+          λ i b. slice_get-get_or (replicate (length setup.inputs) false) i false
+          (omega (arith, length-replicate (length setup.inputs) false, length-map setup.inputs most_undelivered))
+          ∙ ap Some (get_or-replicate (length setup.inputs) i false false
+          (omega (arith, length-map setup.inputs most_undelivered)));
       ended_count = length-replicate (length setup.inputs) false ∙ sym (length-map setup.inputs most_undelivered);
       stopped = refl;
     }

@@ -56,58 +56,93 @@ lane_is_done true b l es offs x some h = (accept_meets b l es offs x h some).sta
 lane_is_done false b l es offs x some h = (fail_meets b l es offs x h some).state
 
 -- entries of one output
-lanes_one : (s : CoreState) (journal : List Entry) (e : Entry) (o : ℕ) (x : LaneState Offer) (event : LaneEvent) → Stands s journal → o < length s.setup.outputs → lane_events_by o e ≡ event ∷ [] →
+lanes_one : (s : CoreState) (journal : List Entry) (e : Entry) (o : ℕ) (x : LaneState Offer) (event : LaneEvent)
+    → Stands s journal → o < length s.setup.outputs → lane_events_by o e ≡ event ∷ [] →
     ((k : ℕ) → k ≢ o → lane_events_by k e ≡ []) → ((k : ℕ) → offered_by k e ≡ []) →
     IsLaneOf (sizes_at s.setup o).0 (sizes_at s.setup o).1 (lane_events o journal ++ event ∷ []) (offers o journal) x →
     (k : ℕ) → k < length s.setup.outputs →
-    IsLaneOf (sizes_at s.setup k).0 (sizes_at s.setup k).1 (lane_events k journal ++ lane_events_by k e) (offers k journal ++ offered_by k e) (lane_at (set s.lanes o x) k)
+    IsLaneOf (sizes_at s.setup k).0 (sizes_at s.setup k).1 (lane_events k journal ++ lane_events_by k e)
+    (offers k journal ++ offered_by k e) (lane_at (set s.lanes o x) k)
 lanes_one s journal e o x event h b here others none new k c =
-    let stays : k ≢ o → IsLaneOf (sizes_at s.setup k).0 (sizes_at s.setup k).1 (lane_events k journal ++ lane_events_by k e) (offers k journal ++ offered_by k e) (lane_at (set s.lanes o x) k) =
-    λ d. subst (λ (ls : List LaneEvent). IsLaneOf (sizes_at s.setup k).0 (sizes_at s.setup k).1 (lane_events k journal ++ ls) (offers k journal ++ offered_by k e) (lane_at (set s.lanes o x) k)) (sym (others k d))
-    (subst (λ (vs : List Offer). IsLaneOf (sizes_at s.setup k).0 (sizes_at s.setup k).1 (lane_events k journal ++ []) (offers k journal ++ vs) (lane_at (set s.lanes o x) k)) (sym (none k))
-    (subst (IsLaneOf (sizes_at s.setup k).0 (sizes_at s.setup k).1 (lane_events k journal ++ []) (offers k journal ++ [])) (sym (get_or-set_other s.lanes o k x (empty_lane 0 0) d)) (lanes_stay s journal h k c))) in
+    let stays : k ≢ o → IsLaneOf (sizes_at s.setup k).0 (sizes_at s.setup k).1
+    (lane_events k journal ++ lane_events_by k e) (offers k journal ++ offered_by k e) (lane_at (set s.lanes o x) k) =
+    λ d. subst (λ (ls : List LaneEvent). IsLaneOf (sizes_at s.setup k).0 (sizes_at s.setup k).1
+    (lane_events k journal ++ ls) (offers k journal ++ offered_by k e) (lane_at (set s.lanes o x) k)) (sym (others k d))
+    (subst (λ (vs : List Offer). IsLaneOf (sizes_at s.setup k).0 (sizes_at s.setup k).1 (lane_events k journal ++ [])
+    (offers k journal ++ vs) (lane_at (set s.lanes o x) k)) (sym (none k))
+    (subst (IsLaneOf (sizes_at s.setup k).0 (sizes_at s.setup k).1 (lane_events k journal ++ [])
+    (offers k journal ++ [])) (sym (get_or-set_other s.lanes o k x (empty_lane 0 0) d)) (lanes_stay s journal h k c)))
+    in
     elim (cases_lt k o) [
       | inl l ↦ stays (omega arith)
       | inr l ↦ elim (eq-or-lt_of_le l) [
-        | inl q ↦ subst (λ (j : ℕ). IsLaneOf (sizes_at s.setup j).0 (sizes_at s.setup j).1 (lane_events j journal ++ lane_events_by j e) (offers j journal ++ offered_by j e) (lane_at (set s.lanes o x) j)) q
-            (subst (λ (ls : List LaneEvent). IsLaneOf (sizes_at s.setup o).0 (sizes_at s.setup o).1 (lane_events o journal ++ ls) (offers o journal ++ offered_by o e) (lane_at (set s.lanes o x) o)) (sym here)
-            (subst (λ (vs : List Offer). IsLaneOf (sizes_at s.setup o).0 (sizes_at s.setup o).1 (lane_events o journal ++ event ∷ []) vs (lane_at (set s.lanes o x) o)) (sym (append-nil (offers o journal)) ∙ ap (λ (vs : List Offer). offers o journal ++ vs) (sym (none o)))
-            (subst (IsLaneOf (sizes_at s.setup o).0 (sizes_at s.setup o).1 (lane_events o journal ++ event ∷ []) (offers o journal)) (sym (get_or-set_same s.lanes o x (empty_lane 0 0) (omega (arith, h.lane_count)))) new)))
+        | inl q ↦ subst (λ (j : ℕ). IsLaneOf (sizes_at s.setup j).0 (sizes_at s.setup j).1
+            (lane_events j journal ++ lane_events_by j e) (offers j journal ++ offered_by j e)
+            (lane_at (set s.lanes o x) j)) q
+            (subst (λ (ls : List LaneEvent). IsLaneOf (sizes_at s.setup o).0 (sizes_at s.setup o).1
+            (lane_events o journal ++ ls) (offers o journal ++ offered_by o e) (lane_at (set s.lanes o x) o)) (sym here)
+            (subst (λ (vs : List Offer). IsLaneOf (sizes_at s.setup o).0 (sizes_at s.setup o).1
+            (lane_events o journal ++ event ∷ []) vs (lane_at (set s.lanes o x) o))
+            (sym (append-nil (offers o journal)) ∙ ap (λ (vs : List Offer). offers o journal ++ vs) (sym (none o)))
+            (subst (IsLaneOf (sizes_at s.setup o).0 (sizes_at s.setup o).1 (lane_events o journal ++ event ∷ [])
+            (offers o journal)) (sym (get_or-set_same s.lanes o x (empty_lane 0 0) (omega (arith, h.lane_count))))
+            new)))
         | inr q ↦ stays (omega arith)
       ]
     ]
 
 pub stands_begin : (s : CoreState) (o from to : ℕ) → IsCore s → o < length s.setup.outputs →
     (lane_at s.lanes o).flight ≡ None → 0 < length (lane_at s.lanes o).waiting →
-    from ≡ waiting_from (lane_at s.lanes o) → to ≡ waiting_from (lane_at s.lanes o) + min (lane_at s.lanes o).batch (length (lane_at s.lanes o).waiting) → Continues s (after_begin s o from to) (Begin o from to)
+    from ≡ waiting_from (lane_at s.lanes o) → to ≡ waiting_from (lane_at s.lanes o) + min (lane_at s.lanes o).batch
+    (length (lane_at s.lanes o).waiting) → Continues s (after_begin s o from to) (Begin o from to)
 stands_begin s o from to core b none some f t journal h =
     let e : Entry = Begin o from to in
     let x : LaneState Offer = lane_at s.lanes o in
     let es : List LaneEvent = lane_events o journal in
     let batch : ℕ = (sizes_at s.setup o).0 in
     let limit : ℕ = (sizes_at s.setup o).1 in
-    let raw : Begins batch limit es (offers o journal) x (waiting_from x, waiting_from x + min x.batch (length x.waiting)) = subst (Answers batch limit es (offers o journal) x) (begun_answer x none (λ z. absurd (omega (arith, z)))) (begin_meets batch limit es (offers o journal) x (h.lanes o b)) in
+    let raw : Begins batch limit es (offers o journal) x (
+      waiting_from x,
+      waiting_from x + min x.batch (length x.waiting),
+    ) = subst (Answers batch limit es (offers o journal) x) (begun_answer x none (λ z. absurd (omega (arith, z))))
+    (begin_meets batch limit es (offers o journal) x (h.lanes o b)) in
     let got : Begins batch limit es (offers o journal) x (from, to) =
-    subst (λ (n : ℕ). Begins batch limit es (offers o journal) x (n, to)) (sym f) (subst (λ (n : ℕ). Begins batch limit es (offers o journal) x (waiting_from x, n)) (sym t) raw) in
-    let here : lane_events_by o e ≡ events.Begin from to ∷ [] = ap (λ (q : Bool). if q then events.Begin from to ∷ [] else []) (same_number o) in
-    let others : (k : ℕ) → k ≢ o → lane_events_by k e ≡ [] = λ k d. ap (λ (q : Bool). if q then events.Begin from to ∷ [] else []) (differs o k (omega arith)) in
-    let totals_stay : (k : ℕ) → k < length s.setup.outputs → output_total (sizes_at s.setup k).1 k (journal ++ e ∷ []) ≡ output_total (sizes_at s.setup k).1 k journal = λ k c. elim (cases_lt k o) [
+    subst (λ (n : ℕ). Begins batch limit es (offers o journal) x (n, to)) (sym f)
+    (subst (λ (n : ℕ). Begins batch limit es (offers o journal) x (waiting_from x, n)) (sym t) raw) in
+    let here : lane_events_by o e ≡ events.Begin from to ∷ [] =
+    ap (λ (q : Bool). if q then events.Begin from to ∷ [] else []) (same_number o) in
+    let others : (k : ℕ) → k ≢ o → lane_events_by k e ≡ [] =
+    λ k d. ap (λ (q : Bool). if q then events.Begin from to ∷ [] else []) (differs o k (omega arith)) in
+    let totals_stay : (k : ℕ) → k < length s.setup.outputs → output_total (sizes_at s.setup k).1 k
+    (journal ++ e ∷ []) ≡ output_total (sizes_at s.setup k).1 k journal = λ k c. elim (cases_lt k o) [
       | inl l ↦ output_stays (sizes_at s.setup k).1 k journal e (others k (omega arith)) refl (λ t. refl)
       | inr l ↦ elim (eq-or-lt_of_le l) [
-        | inl q ↦ subst (λ (j : ℕ). output_total (sizes_at s.setup j).1 j (journal ++ e ∷ []) ≡ output_total (sizes_at s.setup j).1 j journal) q (output_begins limit o journal e (events.Begin from to) here refl (λ t. refl) got.fates)
+        | inl q ↦ subst (λ (j : ℕ). output_total (sizes_at s.setup j).1 j (journal ++ e ∷ []) ≡ output_total
+            (sizes_at s.setup j).1 j journal) q (output_begins limit o journal e (events.Begin from to) here refl
+            (λ t. refl) got.fates)
         | inr q ↦ output_stays (sizes_at s.setup k).1 k journal e (others k (omega arith)) refl (λ t. refl)
       ]
     ] in
     stands_grows s (after_begin s o from to) journal e h
     (record {
-      meets = record { line = record { batch = batch; limit = limit; known = slice_get-get_or s.setup.outputs o (0, 0) b; next = got.meets }; reports = settles_none s journal e core h refl refl };
+      meets = record {
+        line = record {
+          batch = batch;
+          limit = limit;
+          known = slice_get-get_or s.setup.outputs o
+              (0, 0) b;
+          next = got.meets;
+        };
+        reports = settles_none s journal e core h refl refl;
+      };
       raw = sym (append-nil s.raw);
       taken_is = omega arith;
       held = refl;
       lanes = lanes_one s journal e o (lane.after_begin x) (events.Begin from to) h b here others (λ k. refl) got.state;
       lane_count = length-set s.lanes o (lane.after_begin x);
       numbers =
-          totals-push s.setup journal e s.numbers s.numbers h.numbers (inputs_stay s journal e h (λ i y. nothing_reported i y)) (omega arith) (omega arith) (omega arith)
+          totals-push s.setup journal e s.numbers s.numbers h.numbers
+          (inputs_stay s journal e h (λ i y. nothing_reported i y)) (omega arith) (omega arith) (omega arith)
           (ap (λ (n : Numbers). n.outputs) h.numbers ∙ sym (outputs-same s.setup journal e totals_stay));
       stored = refl;
       gathered = omega arith;
@@ -131,22 +166,37 @@ stands_done s o ok core b some journal h =
     let x : LaneState Offer = lane_at s.lanes o in
     let batch : ℕ = (sizes_at s.setup o).0 in
     let limit : ℕ = (sizes_at s.setup o).1 in
-    let here : lane_events_by o e ≡ events.Done ok ∷ [] = ap (λ (q : Bool). if q then events.Done ok ∷ [] else []) (same_number o) in
-    let others : (k : ℕ) → k ≢ o → lane_events_by k e ≡ [] = λ k d. ap (λ (q : Bool). if q then events.Done ok ∷ [] else []) (differs o k (omega arith)) in
+    let here : lane_events_by o e ≡ events.Done ok ∷ [] = ap (λ (q : Bool). if q then events.Done ok ∷ [] else [])
+    (same_number o) in
+    let others : (k : ℕ) → k ≢ o → lane_events_by k e ≡ [] =
+    λ k d. ap (λ (q : Bool). if q then events.Done ok ∷ [] else []) (differs o k (omega arith)) in
     let old : OutputNumbers = get_or (totals s.setup journal).outputs o unreached_output in
     stands_grows s (after_done s o ok) journal e h
     (record {
-      meets = record { line = record { known = b; begun = (accept_meets batch limit (lane_events o journal) (offers o journal) x (h.lanes o b) some).meets }; reports = settles_none s journal e core h refl refl };
+      meets = record {
+        line = record {
+          known = b;
+          begun = (accept_meets batch limit (lane_events o journal)
+              (offers o journal) x (h.lanes o b) some).meets;
+        };
+        reports = settles_none s journal e core h refl refl;
+      };
       raw = sym (append-nil s.raw);
       taken_is = omega arith;
       held = refl;
-      lanes = lanes_one s journal e o (lane_done ok x) (events.Done ok) h b here others (λ k. refl) (lane_is_done ok batch limit (lane_events o journal) (offers o journal) x some (h.lanes o b));
+      lanes = lanes_one s journal e o (lane_done ok x) (events.Done ok) h b here others (λ k. refl)
+          (lane_is_done ok batch limit (lane_events o journal) (offers o journal) x some (h.lanes o b));
       lane_count = length-set s.lanes o (lane_done ok x);
       numbers =
-          totals-push s.setup journal e s.numbers (after_done s o ok).numbers h.numbers (inputs_stay s journal e h (λ i y. nothing_reported i y)) (omega arith) (omega arith) (omega arith)
-          (ap (λ (n : Numbers). set n.outputs o (counted_done ok (count_done ok x) (get_or n.outputs o unreached_output))) h.numbers
-          ∙ sym (outputs-set s.setup journal e o (counted_done ok (count_done ok x) old) b (λ k c d. output_stays (sizes_at s.setup k).1 k journal e (others k d) refl (λ t. refl))
-          (output_ends ok limit o journal e x here refl (λ t. refl) (views_end ok batch limit (lane_events o journal) (offers o journal) x some (h.lanes o b)) ∙ ap (counted_done ok (count_done ok x)) (sym (outputs-at s.setup journal o b)))));
+          totals-push s.setup journal e s.numbers (after_done s o ok).numbers h.numbers
+          (inputs_stay s journal e h (λ i y. nothing_reported i y)) (omega arith) (omega arith) (omega arith)
+          (ap (λ (n : Numbers). set n.outputs o (counted_done ok (count_done ok x)
+          (get_or n.outputs o unreached_output))) h.numbers
+          ∙ sym (outputs-set s.setup journal e o (counted_done ok (count_done ok x) old) b
+          (λ k c d. output_stays (sizes_at s.setup k).1 k journal e (others k d) refl (λ t. refl))
+          (output_ends ok limit o journal e x here refl (λ t. refl)
+          (views_end ok batch limit (lane_events o journal) (offers o journal) x some (h.lanes o b))
+          ∙ ap (counted_done ok (count_done ok x)) (sym (outputs-at s.setup journal o b)))));
       stored = refl;
       gathered = omega arith;
       counted = refl;
@@ -163,73 +213,105 @@ no_views s aggs core number =
     (sym (nil_of_length aggs (number ∙ ap length core.plain.no_aggs))) tt
 
 -- a view that is offered, at its output's lane
-lane_is_offered : (item : ℕ) (view : Option Content) (b l : ℕ) (es : List LaneEvent) (offs : List Offer) (x : LaneState Offer) → IsLaneOf b l es offs x → IsLaneOf b l (es ++ pushes (offer_of item view)) (offs ++ offer_of item view) (lane_with item view x)
+lane_is_offered : (item : ℕ) (view : Option Content) (b l : ℕ) (es : List LaneEvent) (offs : List Offer)
+    (x : LaneState Offer) → IsLaneOf b l es offs x → IsLaneOf b l (es ++ pushes (offer_of item view))
+    (offs ++ offer_of item view) (lane_with item view x)
 lane_is_offered item None b l es offs x h = rw (append-nil es, append-nil offs) h
-lane_is_offered item (Some view) b l es offs x h = (push_meets b l es offs x (record { item = item; view = view }) h).state
+lane_is_offered item (Some view) b l es offs x h = (push_meets b l es offs x
+    (record { item = item; view = view }) h).state
 
 -- whether a metric that passes with such a view is kept out, and passes a test
 abbrev kept_view : (Fate → Bool) → Option Content → ℕ
 kept_view t view = kept_out_by t verdicts.Passes view
 
 -- and its numbers
-total_is_offered : (view : Option Content) (b l o : ℕ) (journal : List Entry) (item : ℕ) (whole : Option Content) (aggs outs : List (Option Content)) (x : LaneState Offer) → view_at o outs ≡ view → 1 ≤ x.limit → length x.waiting ≤ x.limit →
-    IsLaneOf b l (lane_events o journal) (offers o journal) x → output_total l o (journal ++ Route item whole verdicts.Passes aggs outs [] ∷ []) ≡ numbers_with view x (output_total l o journal)
+total_is_offered : (view : Option Content) (b l o : ℕ) (journal : List Entry) (item : ℕ) (whole : Option Content)
+    (aggs outs : List (Option Content)) (x : LaneState Offer) → view_at o outs ≡ view → 1 ≤ x.limit
+    → length x.waiting ≤ x.limit →
+    IsLaneOf b l (lane_events o journal) (offers o journal) x
+    → output_total l o (journal ++ Route item whole verdicts.Passes aggs outs [] ∷ []) ≡ numbers_with view x
+    (output_total l o journal)
 total_is_offered None b l o journal item whole aggs outs x v some most h =
     let e : Entry = Route item whole verdicts.Passes aggs outs [] in
-    output_filters l o journal e (ap (λ (w : Option Content). pushes (offer_of item w)) v) (ap (offer_of item) v) (λ t. ap (kept_view t) v)
+    output_filters l o journal e (ap (λ (w : Option Content). pushes (offer_of item w)) v) (ap (offer_of item) v)
+    (λ t. ap (kept_view t) v)
 total_is_offered (Some view) b l o journal item whole aggs outs x v some most h =
     let e : Entry = Route item whole verdicts.Passes aggs outs [] in
-    output_pushes b l o journal e (record { item = item; view = view }) x (ap (λ (w : Option Content). pushes (offer_of item w)) v) (ap (offer_of item) v) (λ t. ap (kept_view t) v) some most (push_meets b l (lane_events o journal) (offers o journal) x (record { item = item; view = view }) h)
+    output_pushes b l o journal e (record { item = item; view = view }) x
+    (ap (λ (w : Option Content). pushes (offer_of item w)) v) (ap (offer_of item) v) (λ t. ap (kept_view t) v) some most
+    (push_meets b l (lane_events o journal) (offers o journal) x (record { item = item; view = view }) h)
 
 -- the lanes, once an item was routed with a verdict
-lanes_grow : (verdict : Verdict) (s : CoreState) (journal : List Entry) (item : ℕ) (whole : Option Content) (aggs outs : List (Option Content)) → Stands s journal →
+lanes_grow : (verdict : Verdict) (s : CoreState) (journal : List Entry) (item : ℕ) (whole : Option Content)
+    (aggs outs : List (Option Content)) → Stands s journal →
     let e : Entry = Route item whole verdict aggs outs [] in
     (o : ℕ) → o < length s.setup.outputs →
-    IsLaneOf (sizes_at s.setup o).0 (sizes_at s.setup o).1 (lane_events o journal ++ lane_events_by o e) (offers o journal ++ offered_by o e) (lane_at (lanes_routed item verdict outs s.lanes) o)
+    IsLaneOf (sizes_at s.setup o).0 (sizes_at s.setup o).1 (lane_events o journal ++ lane_events_by o e)
+    (offers o journal ++ offered_by o e) (lane_at (lanes_routed item verdict outs s.lanes) o)
 lanes_grow verdicts.Passes s journal item whole aggs outs h o b =
-    subst (IsLaneOf (sizes_at s.setup o).0 (sizes_at s.setup o).1 (lane_events o journal ++ pushes (offer_of item (view_at o outs))) (offers o journal ++ offer_of item (view_at o outs))) (sym (lanes_with-at item outs s.lanes o (omega (arith, b, h.lane_count))))
-    (lane_is_offered item (view_at o outs) (sizes_at s.setup o).0 (sizes_at s.setup o).1 (lane_events o journal) (offers o journal) (lane_at s.lanes o) (h.lanes o b))
+    subst (IsLaneOf (sizes_at s.setup o).0 (sizes_at s.setup o).1
+    (lane_events o journal ++ pushes (offer_of item (view_at o outs)))
+    (offers o journal ++ offer_of item (view_at o outs))) (sym
+    (lanes_with-at item outs s.lanes o (omega (arith, b, h.lane_count))))
+    (lane_is_offered item (view_at o outs) (sizes_at s.setup o).0 (sizes_at s.setup o).1 (lane_events o journal)
+    (offers o journal) (lane_at s.lanes o) (h.lanes o b))
 lanes_grow verdicts.Consumed s journal item whole aggs outs h o b = lanes_stay s journal h o b
 lanes_grow verdicts.Late s journal item whole aggs outs h o b = lanes_stay s journal h o b
 lanes_grow verdicts.Removed s journal item whole aggs outs h o b = lanes_stay s journal h o b
 
 -- an item is counted at each output
-counted_at_each : (more : OutputNumbers → OutputNumbers) (s : CoreState) (journal : List Entry) (e : Entry) → IsCore s → Stands s journal →
+counted_at_each : (more : OutputNumbers → OutputNumbers) (s : CoreState) (journal : List Entry) (e : Entry) → IsCore s
+    → Stands s journal →
     ((l o : ℕ) → output_total l o (journal ++ e ∷ []) ≡ more (output_total l o journal)) →
     map more s.numbers.outputs ≡ (totals s.setup (journal ++ e ∷ [])).outputs
 counted_at_each more s journal e core h each =
-    sym (outputs-as s.setup journal e (map more s.numbers.outputs) (length-map s.numbers.outputs more ∙ core.outputs.number_count)
+    sym (outputs-as s.setup journal e (map more s.numbers.outputs)
+    (length-map s.numbers.outputs more ∙ core.outputs.number_count)
     (λ o b. each (sizes_at s.setup o).1 o
-    ∙ ap more (sym (ap (λ (n : Numbers). get_or n.outputs o unreached_output) h.numbers ∙ outputs-at s.setup journal o b))
-    ∙ sym (get_or-map more s.numbers.outputs o unreached_output unreached_output (omega (arith, b, core.outputs.number_count)))))
+    ∙ ap more (sym (ap (λ (n : Numbers). get_or n.outputs o unreached_output) h.numbers
+    ∙ outputs-at s.setup journal o b))
+    ∙ sym (get_or-map more s.numbers.outputs o unreached_output unreached_output
+    (omega (arith, b, core.outputs.number_count)))))
 
 -- the numbers, once an item was routed with a verdict
-numbers_grow : (verdict : Verdict) (s : CoreState) (journal : List Entry) (item : ℕ) (whole : Option Content) (aggs outs : List (Option Content)) → IsCore s → Stands s journal →
+numbers_grow : (verdict : Verdict) (s : CoreState) (journal : List Entry) (item : ℕ) (whole : Option Content)
+    (aggs outs : List (Option Content)) → IsCore s → Stands s journal →
     let e : Entry = Route item whole verdict aggs outs [] in
     numbers_routed verdict outs s.lanes s.numbers ≡ totals s.setup (journal ++ e ∷ [])
 numbers_grow verdicts.Passes s journal item whole aggs outs core h =
     let e : Entry = Route item whole verdicts.Passes aggs outs [] in
-    totals-push s.setup journal e s.numbers (numbers_routed verdicts.Passes outs s.lanes s.numbers) h.numbers (inputs_stay s journal e h (λ i y. nothing_reported i y)) (omega arith) (omega arith) (omega arith)
-    (sym (outputs-as s.setup journal e (outputs_with outs s.lanes s.numbers.outputs) (length-outputs_with outs s.lanes s.numbers.outputs ∙ core.outputs.number_count)
-    (λ o b. total_is_offered (view_at o outs) (sizes_at s.setup o).0 (sizes_at s.setup o).1 o journal item whole aggs outs (lane_at s.lanes o) refl (omega (arith, (core.outputs.each o b).some, (core.outputs.each o b).fits)) (core.outputs.each o b).waits (h.lanes o b)
-    ∙ ap (numbers_with (view_at o outs) (lane_at s.lanes o)) (sym (ap (λ (n : Numbers). get_or n.outputs o unreached_output) h.numbers ∙ outputs-at s.setup journal o b))
+    totals-push s.setup journal e s.numbers (numbers_routed verdicts.Passes outs s.lanes s.numbers) h.numbers
+    (inputs_stay s journal e h (λ i y. nothing_reported i y)) (omega arith) (omega arith) (omega arith)
+    (sym (outputs-as s.setup journal e (outputs_with outs s.lanes s.numbers.outputs)
+    (length-outputs_with outs s.lanes s.numbers.outputs ∙ core.outputs.number_count)
+    (λ o b. total_is_offered (view_at o outs) (sizes_at s.setup o).0 (sizes_at s.setup o).1 o journal item whole aggs
+    outs (lane_at s.lanes o) refl (omega (arith, (core.outputs.each o b).some, (core.outputs.each o b).fits))
+    (core.outputs.each o b).waits (h.lanes o b)
+    ∙ ap (numbers_with (view_at o outs) (lane_at s.lanes o))
+    (sym (ap (λ (n : Numbers). get_or n.outputs o unreached_output) h.numbers ∙ outputs-at s.setup journal o b))
     ∙ sym (outputs_with-at outs s.lanes s.numbers.outputs o (omega (arith, core.outputs.number_count))))))
 numbers_grow verdicts.Consumed s journal item whole aggs outs core h =
     let e : Entry = Route item whole verdicts.Consumed aggs outs [] in
-    totals-push s.setup journal e s.numbers (numbers_routed verdicts.Consumed outs s.lanes s.numbers) h.numbers (inputs_stay s journal e h (λ i y. nothing_reported i y)) (omega arith) (omega arith) (omega arith)
+    totals-push s.setup journal e s.numbers (numbers_routed verdicts.Consumed outs s.lanes s.numbers) h.numbers
+    (inputs_stay s journal e h (λ i y. nothing_reported i y)) (omega arith) (omega arith) (omega arith)
     (counted_at_each consumed_more s journal e core h (λ l o. output_consumes l o journal e refl refl (λ t. refl)))
 numbers_grow verdicts.Late s journal item whole aggs outs core h =
     let e : Entry = Route item whole verdicts.Late aggs outs [] in
-    totals-push s.setup journal e s.numbers (numbers_routed verdicts.Late outs s.lanes s.numbers) h.numbers (inputs_stay s journal e h (λ i y. nothing_reported i y)) (omega arith) (omega arith) (omega arith)
+    totals-push s.setup journal e s.numbers (numbers_routed verdicts.Late outs s.lanes s.numbers) h.numbers
+    (inputs_stay s journal e h (λ i y. nothing_reported i y)) (omega arith) (omega arith) (omega arith)
     (counted_at_each late_more s journal e core h (λ l o. output_lates l o journal e refl refl (λ t. refl)))
 numbers_grow verdicts.Removed s journal item whole aggs outs core h =
     let e : Entry = Route item whole verdicts.Removed aggs outs [] in
-    totals-push s.setup journal e s.numbers (numbers_routed verdicts.Removed outs s.lanes s.numbers) h.numbers (inputs_stay s journal e h (λ i y. nothing_reported i y)) (omega arith) (omega arith) (omega arith)
-    (ap (λ (n : Numbers). n.outputs) h.numbers ∙ sym (outputs_stay s.setup journal e (λ o. refl) (λ o. refl) (λ o t. refl)))
+    totals-push s.setup journal e s.numbers (numbers_routed verdicts.Removed outs s.lanes s.numbers) h.numbers
+    (inputs_stay s journal e h (λ i y. nothing_reported i y)) (omega arith) (omega arith) (omega arith)
+    (ap (λ (n : Numbers). n.outputs) h.numbers ∙ sym (outputs_stay s.setup journal e (λ o. refl) (λ o. refl)
+    (λ o t. refl)))
 
 -- an item is routed with the verdict of the windows
-stands_routed : (verdict : Verdict) (whole : Option Content) (s : CoreState) (item : ℕ) (aggs outs : List (Option Content)) →
-    IsCore s → s.held ≡ Some item → length aggs ≡ length s.setup.aggs → length outs ≡ length s.setup.outputs → HasViews whole (aggs ++ outs) →
+stands_routed : (verdict : Verdict) (whole : Option Content) (s : CoreState) (item : ℕ)
+    (aggs outs : List (Option Content)) →
+    IsCore s → s.held ≡ Some item → length aggs ≡ length s.setup.aggs → length outs ≡ length s.setup.outputs
+    → HasViews whole (aggs ++ outs) →
     ((journal : List Entry) → Stands s journal → verdict ≡ judged s.setup journal whole aggs) →
     Continues s (record s {
       held =
@@ -248,7 +330,17 @@ stands_routed verdict whole s item aggs outs core held number count views is jou
       stored = s.stored ++ e ∷ [];
     }) journal e h
     (record {
-      meets = record { line = record { held = sym h.held ∙ held; aggregators = number; outputs = count; views = views; made = λ m. no_views s aggs core number; verdict_is = is journal h }; reports = settles_none s journal e core h refl refl };
+      meets = record {
+        line = record {
+          held = sym h.held ∙ held;
+          aggregators = number;
+          outputs = count;
+          views = views;
+          made = λ m. no_views s aggs core number;
+          verdict_is = is journal h;
+        };
+        reports = settles_none s journal e core h refl refl;
+      };
       raw = sym (append-nil s.raw);
       taken_is = omega arith;
       held = refl;
@@ -274,7 +366,8 @@ route_stands s n r q core held number count views =
 
 pub begin_stands : (s n : CoreState) (o from to : ℕ) → n ≡ after_begin s o from to → IsCore s →
     o < length s.setup.outputs → (lane_at s.lanes o).flight ≡ None → 0 < length (lane_at s.lanes o).waiting →
-    from ≡ waiting_from (lane_at s.lanes o) → to ≡ waiting_from (lane_at s.lanes o) + min (lane_at s.lanes o).batch (length (lane_at s.lanes o).waiting) → Continues s n (Begin o from to)
+    from ≡ waiting_from (lane_at s.lanes o) → to ≡ waiting_from (lane_at s.lanes o) + min (lane_at s.lanes o).batch
+    (length (lane_at s.lanes o).waiting) → Continues s n (Begin o from to)
 begin_stands s n o from to q core b none some f t =
     subst (λ (m : CoreState). Continues s m (Begin o from to)) (sym q) (stands_begin s o from to core b none some f t)
 

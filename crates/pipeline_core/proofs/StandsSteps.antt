@@ -31,7 +31,7 @@ use Rattle.pipeline_core.specs.CoreState.{CoreState, IsCore, sizes_at}
 use Rattle.pipeline_core.specs.Stands.{Stands, Continues}
 use Rattle.pipeline_core.specs.Steps.{after_gather, after_ended, after_take, after_stop, gather_entry}
 use Rattle.pipeline_core.specs.Steps.{stop_entry, stop_made, with_made, moment_at}
-use Rattle.pipeline_core.specs.Steps.{HasNumbers, HasPlace}
+use Rattle.pipeline_core.specs.Steps.{HasNumbers, HasRawRoom}
 use Rattle.pipeline_core.specs.declared.gathering.Gathered.{Gathered}
 use Rattle.std.proofs.lemmas.Bool.Decides.{nat_tests}
 use Rattle.std.proofs.lemmas.Int.{ints}
@@ -80,10 +80,13 @@ settles_none s journal e core h none quiet =
     quiet ∙ sym (nothing_settles s.setup journal e core.plain.untracked h.legal none)
 
 -- an input's numbers with those of a Gather that has no group
-ungrouped_more : (x : InputNumbers) (says : GatherSays) → says.group ≡ None → gathers_too x says ≡ gathered_more x says.pieces says.refused says.passed says.filtered (length says.metrics)
+ungrouped_more : (x : InputNumbers) (says : GatherSays) → says.group ≡ None
+    → gathers_too x says ≡ gathered_more x says.pieces says.refused says.passed says.filtered (length says.metrics)
 ungrouped_more x says none =
-    ap (λ (n : ℕ). record (gathered_more x says.pieces says.refused says.passed says.filtered (length says.metrics)) { undelivered = n })
-    (ap (λ (group : Option ℕ). x.undelivered + group_count group) none ∙ (let e : x.undelivered + 0 ≡ x.undelivered = omega arith in e))
+    ap (λ (n : ℕ). record (gathered_more x says.pieces says.refused says.passed says.filtered (length says.metrics))
+    { undelivered = n })
+    (ap (λ (group : Option ℕ). x.undelivered + group_count group) none
+    ∙ (let e : x.undelivered + 0 ≡ x.undelivered = omega arith in e))
 
 -- an entry that does nothing at the outputs
 pub outputs_stay : (setup : Setup) (journal : List Entry) (e : Entry) → ((o : ℕ) → lane_events_by o e ≡ []) →
@@ -105,7 +108,8 @@ totals_stay : (s : CoreState) (journal : List Entry) (e : Entry) (more : ℕ) �
     more ≡ s.numbers.made + made_by e → removed_by e ≡ 0 → routed_by e ≡ 0 →
     record s.numbers { made = more } ≡ totals s.setup (journal ++ e ∷ [])
 totals_stay s journal e more h none l v k made removed routed =
-    totals-push s.setup journal e s.numbers (record s.numbers { made = more }) h.numbers (inputs_stay s journal e h none) made (omega (arith, removed)) (omega (arith, routed))
+    totals-push s.setup journal e s.numbers (record s.numbers { made = more }) h.numbers
+    (inputs_stay s journal e h none) made (omega (arith, removed)) (omega (arith, routed))
     (ap (λ (n : Numbers). n.outputs) h.numbers ∙ sym (outputs_stay s.setup journal e l v k))
 
 pub stands_take : (s : CoreState) → IsCore s → s.held ≡ None → 0 < length s.raw →
@@ -114,13 +118,22 @@ stands_take s core none some journal h =
     let e : Entry = Take s.taken in
     stands_grows s (after_take s) journal e h
     (record {
-      meets = record { line = record { empty_handed = sym h.held ∙ none; first = h.taken_is; raw = omega (arith, ap length h.raw, length-drop (taken journal) (items journal), h.taken_is) }; reports = settles_none s journal e core h refl refl };
+      meets = record {
+        line = record {
+          empty_handed = sym h.held
+              ∙ none;
+          first = h.taken_is;
+          raw = omega (arith, ap length h.raw, length-drop (taken journal) (items journal), h.taken_is);
+        };
+        reports = settles_none s journal e core h refl refl;
+      };
       raw = ap (drop 1) (sym (append-nil s.raw));
       taken_is = refl;
       held = refl;
       lanes = lanes_stay s journal h;
       lane_count = refl;
-      numbers = totals_stay s journal e s.numbers.made h (λ i x. nothing_reported i x) (λ o. refl) (λ o. refl) (λ o t. refl) (omega arith) refl refl;
+      numbers = totals_stay s journal e s.numbers.made h (λ i x. nothing_reported i x) (λ o. refl) (λ o. refl)
+          (λ o t. refl) (omega arith) refl refl;
       stored = refl;
       gathered = omega arith;
       counted = refl;
@@ -130,24 +143,42 @@ stands_take s core none some journal h =
     })
 
 -- what is made, as it stands in the state
-made_as : (made : List Content) (s : CoreState) → with_made made s ≡ record s { raw = s.raw ++ made; numbers = record s.numbers { made = s.numbers.made + length made } }
+made_as : (made : List Content) (s : CoreState) → with_made made s ≡ record s {
+  raw = s.raw
+      ++ made;
+  numbers = record s.numbers { made = s.numbers.made + length made };
+}
 made_as [] s =
     ap (λ (raw : List Content). record s { raw = raw }) (sym (append-nil s.raw))
-    ∙ ap (λ (n : ℕ). record s { raw = s.raw ++ []; numbers = record s.numbers { made = n } }) (let e : s.numbers.made ≡ s.numbers.made + 0 = omega arith in e)
+    ∙ ap (λ (n : ℕ). record s { raw = s.raw ++ []; numbers = record s.numbers { made = n } })
+    (let e : s.numbers.made ≡ s.numbers.made + 0 = omega arith in e)
 made_as (metric ∷ others) s = refl
 
 -- the run is stopped, and what the windows make as it stops become items
 stands_stopped : (made : List Content) (s : CoreState) (moment : ℤ) → IsCore s → s.stopped ≡ false →
     ((journal : List Entry) → Stands s journal → made ≡ made_by_stop s.setup journal (moment_at s moment)) →
-    Continues s (with_made made (record s { stored = s.stored ++ Stop (moment_at s moment) made ∷ []; counted = moment_at s moment; stopped = true })) (Stop (moment_at s moment) made)
+    Continues s (with_made made (record s {
+      stored = s.stored
+          ++ Stop (moment_at s moment) made ∷ [];
+      counted = moment_at s moment;
+      stopped = true;
+    })) (Stop (moment_at s moment) made)
 stands_stopped made s moment core going is journal h =
     let e : Entry = Stop (moment_at s moment) made in
     let t : CoreState = record s { stored = s.stored ++ e ∷ []; counted = moment_at s moment; stopped = true } in
     subst (λ (n : CoreState). Stands n (journal ++ e ∷ [])) (sym (made_as made t))
-    (stands_grows s (record t { raw = s.raw ++ made; numbers = record s.numbers { made = s.numbers.made + length made } }) journal e h
+    (stands_grows s (record t {
+      raw = s.raw ++ made;
+      numbers = record s.numbers { made = s.numbers.made + length made };
+    }) journal e h
     (record {
       meets = record {
-        line = record { going = sym h.stopped ∙ going; later = subst (λ (m : ℤ). m ≤ℤ moment_at s moment) h.counted (below_max moment s.counted); all_made = is journal h };
+        line = record {
+          going = sym h.stopped ∙ going;
+          later = subst (λ (m : ℤ). m ≤ℤ moment_at s moment) h.counted
+              (below_max moment s.counted);
+          all_made = is journal h;
+        };
         reports = settles_none s journal e core h refl refl;
       };
       raw = refl;
@@ -155,7 +186,8 @@ stands_stopped made s moment core going is journal h =
       held = refl;
       lanes = lanes_stay s journal h;
       lane_count = refl;
-      numbers = totals_stay s journal e (s.numbers.made + length made) h (λ i x. nothing_reported i x) (λ o. refl) (λ o. refl) (λ o t. refl) refl refl refl;
+      numbers = totals_stay s journal e (s.numbers.made + length made) h (λ i x. nothing_reported i x) (λ o. refl)
+          (λ o. refl) (λ o t. refl) refl refl refl;
       stored = refl;
       gathered = omega arith;
       counted = refl;
@@ -168,7 +200,8 @@ pub stands_stop : (s : CoreState) (moment : ℤ) → IsCore s → s.stopped ≡ 
     Continues s (after_stop s moment) (stop_entry s moment)
 unfolding stop_entry
 stands_stop s moment core going =
-    stands_stopped (stop_made s moment) s moment core going (λ journal h. sym (nothing-aggregates.stops s.setup journal (moment_at s moment) core.plain.no_aggs))
+    stands_stopped (stop_made s moment) s moment core going (λ journal h. sym
+    (nothing-aggregates.stops s.setup journal (moment_at s moment) core.plain.no_aggs))
 
 -- which inputs have ended with one more
 ended_more : (s : CoreState) (journal : List Entry) (input : ℕ) → slice_get s.ended input ≡ Some false →
@@ -177,14 +210,22 @@ ended_more : (s : CoreState) (journal : List Entry) (input : ℕ) → slice_get 
 ended_more s journal input reading h i b =
     let n : input < length s.ended = slice_get_within s.ended input false reading in
     let len : length (set s.ended input true) ≡ length s.ended = length-set s.ended input true in
-    let at : slice_get (set s.ended input true) i ≡ Some (get_or (set s.ended input true) i false) = slice_get-get_or (set s.ended input true) i false (omega (arith, h.ended_count)) in
-    let was : get_or s.ended i false ≡ has_ended i journal = get_or_from_slice_get s.ended i (has_ended i journal) false (h.ended i b) in
+    let at : slice_get (set s.ended input true) i ≡ Some (get_or (set s.ended input true) i false) =
+    slice_get-get_or (set s.ended input true) i false (omega (arith, h.ended_count)) in
+    let was : get_or s.ended i false ≡ has_ended i journal =
+    get_or_from_slice_get s.ended i (has_ended i journal) false (h.ended i b) in
     elim (cases_lt i input) [
-      | inl l ↦ at ∙ ap Some (get_or-set_other s.ended input i true false (omega arith) ∙ was ∙ sym (or-false (has_ended i journal)) ∙ ap (λ (t : Bool). has_ended i journal || t) (sym (differs input i (omega arith))))
+      | inl l ↦ at ∙ ap Some (get_or-set_other s.ended input i true false (omega arith) ∙ was
+          ∙ sym (or-false (has_ended i journal)) ∙ ap (λ (t : Bool). has_ended i journal || t)
+          (sym (differs input i (omega arith))))
       | inr l ↦ elim (eq-or-lt_of_le l) [
         | inl q ↦ subst (λ (j : ℕ). slice_get (set s.ended input true) j ≡ Some (has_ended j journal || (input == j))) q
-            (slice_get-get_or (set s.ended input true) input false (omega arith) ∙ ap Some (get_or-set_same s.ended input true false n ∙ sym (or_true (has_ended input journal)) ∙ ap (λ (t : Bool). has_ended input journal || t) (sym (same_number input))))
-        | inr q ↦ at ∙ ap Some (get_or-set_other s.ended input i true false (omega arith) ∙ was ∙ sym (or-false (has_ended i journal)) ∙ ap (λ (t : Bool). has_ended i journal || t) (sym (differs input i (omega arith))))
+            (slice_get-get_or (set s.ended input true) input false (omega arith)
+            ∙ ap Some (get_or-set_same s.ended input true false n ∙ sym (or_true (has_ended input journal))
+            ∙ ap (λ (t : Bool). has_ended input journal || t) (sym (same_number input))))
+        | inr q ↦ at ∙ ap Some (get_or-set_other s.ended input i true false (omega arith) ∙ was
+            ∙ sym (or-false (has_ended i journal)) ∙ ap (λ (t : Bool). has_ended i journal || t)
+            (sym (differs input i (omega arith))))
       ]
     ]
 
@@ -192,21 +233,43 @@ pub stands_ended : (s : CoreState) (input : ℕ) → IsCore s → slice_get s.en
     s.stopped ≡ false → Continues s (after_ended s input) (Ended input)
 stands_ended s input core reading going journal h =
     let e : Entry = Ended input in
-    let n : input < length s.setup.inputs = omega (arith, slice_get_within s.ended input false reading, h.ended_count) in
+    let n : input < length s.setup.inputs = omega (
+      arith,
+      slice_get_within s.ended input false reading,
+      h.ended_count,
+    ) in
     stands_grows s (after_ended s input) journal e h
     (record {
-      meets = record { line = record { known = n; going = sym h.stopped ∙ going; reading = some_same (has_ended input journal) false (sym (h.ended input n) ∙ reading) }; reports = settles_none s journal e core h refl refl };
+      meets = record {
+        line = record {
+          known = n;
+          going = sym h.stopped
+              ∙ going;
+          reading = some_same (has_ended input journal) false (sym (h.ended input n) ∙ reading);
+        };
+        reports = settles_none s journal e core h refl refl;
+      };
       raw = sym (append-nil s.raw);
       taken_is = omega arith;
       held = refl;
       lanes = lanes_stay s journal h;
       lane_count = refl;
       numbers = totals-push s.setup journal e s.numbers (after_ended s input).numbers h.numbers
-          (ap (λ (m : Numbers). set m.inputs input (record (get_or m.inputs input (unread_input false)) { has_ended = true })) h.numbers
-          ∙ sym (inputs-set s.setup journal e input (record (get_or (totals s.setup journal).inputs input (unread_input false)) { has_ended = true }) n (λ k x d. nothing_reported k (if input == k then record x { has_ended = true } else x) ∙ ap (λ (t : Bool). if t then record x { has_ended = true } else x) (differs input k (omega (arith, d))))
-          (nothing_reported input (if input == input then record (get_or (totals s.setup journal).inputs input (unread_input false)) { has_ended = true } else get_or (totals s.setup journal).inputs input (unread_input false)) ∙ ap (λ (t : Bool). if t then record (get_or (totals s.setup journal).inputs input (unread_input false)) { has_ended = true } else get_or (totals s.setup journal).inputs input (unread_input false)) (same_number input))))
+          (ap (λ (m : Numbers). set m.inputs input (record (get_or m.inputs input (unread_input false))
+          { has_ended = true })) h.numbers
+          ∙ sym (inputs-set s.setup journal e input (record (get_or (totals s.setup journal).inputs input
+          (unread_input false)) { has_ended = true }) n (λ k x d. nothing_reported k
+          (if input == k then record x { has_ended = true } else x)
+          ∙ ap (λ (t : Bool). if t then record x { has_ended = true } else x) (differs input k (omega (arith, d))))
+          (nothing_reported input (if input == input then record
+          (get_or (totals s.setup journal).inputs input (unread_input false)) { has_ended = true } else get_or
+          (totals s.setup journal).inputs input (unread_input false))
+          ∙ ap (λ (t : Bool). if t then record (get_or (totals s.setup journal).inputs input (unread_input false))
+          { has_ended = true } else get_or (totals s.setup journal).inputs input (unread_input false))
+          (same_number input))))
           (omega arith) (omega arith) (omega arith)
-          (ap (λ (m : Numbers). m.outputs) h.numbers ∙ sym (outputs_stay s.setup journal e (λ o. refl) (λ o. refl) (λ o t. refl)));
+          (ap (λ (m : Numbers). m.outputs) h.numbers ∙ sym (outputs_stay s.setup journal e (λ o. refl) (λ o. refl)
+          (λ o t. refl)));
       stored = refl;
       gathered = omega arith;
       counted = refl;
@@ -216,13 +279,29 @@ stands_ended s input core reading going journal h =
     })
 
 pub stands_gather : (s : CoreState) (g : Gathered) → IsCore s → slice_get s.ended g.input ≡ Some false →
-    s.stopped ≡ false → HasNumbers s g → HasPlace s g → Continues s (after_gather s g) (gather_entry s g)
+    s.stopped ≡ false → HasNumbers s g → HasRawRoom s g → Continues s (after_gather s g) (gather_entry s g)
 unfolding gather_entry
 stands_gather s g core reading going few place journal h =
     let e : Entry = gather_entry s g in
-    let says : GatherSays = record { input = g.input; moment = g.moment; pieces = g.pieces; refused = g.refused; passed = g.passed; filtered = g.filtered; metrics = g.metrics; group = None; reports = [] } in
-    let n : g.input < length s.setup.inputs = omega (arith, slice_get_within s.ended g.input false reading, h.ended_count) in
-    let more : InputNumbers → InputNumbers = λ x. gathered_more x g.pieces g.refused g.passed g.filtered (length g.metrics) in
+    let says : GatherSays = record {
+      input = g.input;
+      moment = g.moment;
+      pieces = g.pieces;
+      refused =
+          g.refused;
+      passed = g.passed;
+      filtered = g.filtered;
+      metrics = g.metrics;
+      group = None;
+      reports = [];
+    } in
+    let n : g.input < length s.setup.inputs = omega (
+      arith,
+      slice_get_within s.ended g.input false reading,
+      h.ended_count,
+    ) in
+    let more : InputNumbers → InputNumbers = λ x. gathered_more x g.pieces g.refused g.passed g.filtered
+    (length g.metrics) in
     let old : InputNumbers = get_or (totals s.setup journal).inputs g.input (unread_input false) in
     stands_grows s (after_gather s g) journal e h
     (record {
@@ -233,7 +312,8 @@ stands_gather s g core reading going few place journal h =
           going = sym h.stopped ∙ going;
           reading = some_same (has_ended g.input journal) false (sym (h.ended g.input n) ∙ reading);
           fits = omega (arith, h.gathered, few);
-          room = subst (λ (xs : List Content). (xs ≡ []) ⊎ (length xs + length g.metrics ≤ 10000)) h.raw (placed_raw s.raw (length g.metrics) place);
+          room = subst (λ (xs : List Content). (xs ≡ []) ⊎ (length xs + length g.metrics ≤ 10000)) h.raw
+              (placed_raw s.raw (length g.metrics) place);
           few = tt;
           group = refl;
         };
@@ -246,10 +326,15 @@ stands_gather s g core reading going few place journal h =
       lane_count = refl;
       numbers = totals-push s.setup journal e s.numbers (after_gather s g).numbers h.numbers
           (ap (λ (m : Numbers). set m.inputs g.input (more (get_or m.inputs g.input (unread_input false)))) h.numbers
-          ∙ sym (inputs-set s.setup journal e g.input (more old) n (λ k x d. nothing_reported k (gathered_with k x (Some says)) ∙ ap (λ (t : Bool). if t then gathers_too x says else x) (differs g.input k (omega (arith, d))))
-          (nothing_reported g.input (gathered_with g.input old (Some says)) ∙ ap (λ (t : Bool). if t then gathers_too old says else old) (same_number g.input) ∙ ungrouped_more old says refl)))
+          ∙ sym (inputs-set s.setup journal e g.input (more old) n
+          (λ k x d. nothing_reported k (gathered_with k x (Some says))
+          ∙ ap (λ (t : Bool). if t then gathers_too x says else x) (differs g.input k (omega (arith, d))))
+          (nothing_reported g.input (gathered_with g.input old (Some says))
+          ∙ ap (λ (t : Bool). if t then gathers_too old says else old) (same_number g.input)
+          ∙ ungrouped_more old says refl)))
           (omega arith) (omega arith) (omega arith)
-          (ap (λ (m : Numbers). m.outputs) h.numbers ∙ sym (outputs_stay s.setup journal e (λ o. refl) (λ o. refl) (λ o t. refl)));
+          (ap (λ (m : Numbers). m.outputs) h.numbers ∙ sym (outputs_stay s.setup journal e (λ o. refl) (λ o. refl)
+          (λ o t. refl)));
       stored = refl;
       gathered = refl;
       counted = refl;
@@ -272,7 +357,7 @@ ended_stands s n input q core reading going =
     by_step s n (after_ended s input) (Ended input) q (stands_ended s input core reading going)
 
 pub gather_stands : (s n : CoreState) (g : Gathered) → n ≡ after_gather s g → IsCore s →
-    slice_get s.ended g.input ≡ Some false → s.stopped ≡ false → HasNumbers s g → HasPlace s g →
+    slice_get s.ended g.input ≡ Some false → s.stopped ≡ false → HasNumbers s g → HasRawRoom s g →
     Continues s n (gather_entry s g)
 gather_stands s n g q core reading going few place =
     by_step s n (after_gather s g) (gather_entry s g) q (stands_gather s g core reading going few place)

@@ -11,6 +11,7 @@ use Rattle.account.specs.declared.numbers.InputNumbers.{InputNumbers}
 use Rattle.account.specs.declared.numbers.OutputNumbers.{OutputNumbers}
 use Rattle.account.specs.declared.entry.Entry.{Entry}
 use Rattle.out_lane.specs.Lane.{LaneState, empty_lane, flying}
+use Rattle.pipeline_core.specs.Windows.{HasNoAggs}
 use Rattle.pipeline_core.specs.declared.output.Offer.{Offer}
 use Rattle.pipeline_core.specs.declared.setup.CoreSetup.{CoreSetup}
 use Rattle.pipeline_core.specs.declared.setup.InSetup.{InSetup}
@@ -138,7 +139,7 @@ pub record ItemsAgree (raw taken held gathered made removed routed : ℕ) : Type
 -- no input is tracked, and there are no aggregators
 pub record IsPlain (setup : Setup) : Type 0 where
   pub untracked : All (λ x. x ≡ None) setup.inputs
-  pub no_aggs : setup.aggs ≡ []
+  pub no_aggs : HasNoAggs setup
 
 -- what a core keeps agrees
 pub record IsCore (state : CoreState) : Type 0 where

@@ -41,8 +41,8 @@ offers output [] = []
 offers output (e ∷ es) = offered_by output e ++ offers output es
 
 -- the views of offers
-abbrev pub views_of : List Offer → List Content
-views_of all = map (λ (offer : Offer). offer.view) all
+abbrev pub offered_views : List Offer → List Content
+offered_views all = map (λ (offer : Offer). offer.view) all
 
 -- what is offered comes to the output
 abbrev pub pushes : List Offer → List LaneEvent

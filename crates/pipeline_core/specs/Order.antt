@@ -1,5 +1,6 @@
--- What is routed before more is sent, what is sent before more is gathered, and when a Tick has to come.
-use Rattle.std.specs.Prelude.{◌≡◌, ◌≢◌, ◌<◌, ◌⊎◌, ◌||◌, ℕ, Bool, true, false, not, List, [], ◌∷◌, ◌++◌, length}
+-- What is routed before more is sent, what is sent before more is gathered and before the Stop, and when a Tick has
+-- to come.
+use Rattle.std.specs.Prelude.{◌≡◌, ◌<◌, ◌⊎◌, ◌||◌, ℕ, Bool, true, false, not, List, [], ◌∷◌, ◌++◌, length}
 use Rattle.std.specs.Prelude.{count_by, if◌then◌else◌}
 use Rattle.account.specs.Setup.{Setup}
 use Rattle.account.specs.Items.{raw_items}
@@ -13,6 +14,7 @@ use Rattle.std.specs.declared.option.Option.TheVariants.{Some, None}
 use Rattle.out_lane.specs.LaneEvents.{LaneEvent, Done}
 use Rattle.pipeline_core.specs.Offers.{lane_events}
 use Rattle.pipeline_core.specs.Totals.{totals}
+use Rattle.pipeline_core.specs.Windows.{HasNoAggs}
 
 -- nothing is buffered at an output
 abbrev pub NothingBuffered : Setup → List Entry → ℕ → Type 0
@@ -48,25 +50,33 @@ routed_since_tick journal = count_by (routes_gathered journal) (behind_tick jour
 
 -- where there are aggregators, since the last Tick no item that was gathered was routed
 abbrev pub IsTicked : Setup → List Entry → Type 0
-IsTicked setup before = setup.aggs ≢ [] → routed_since_tick before ≡ 0
+IsTicked setup before = (HasNoAggs setup → ⊥) → routed_since_tick before ≡ 0
 
--- no item of an input is raw, at each output nothing is buffered or the last event is that a batch failed, and
--- a Tick has come since items were routed
-pub record IsDrained (setup : Setup) (before : List Entry) (input : ℕ) : Type 0 where
-  pub none_raw : raw_of input before ≡ []
+-- all was sent, as far as that could be: at each output nothing is buffered or the last event is that a batch
+-- failed, and a Tick has come since items were routed
+pub record IsFlushed (setup : Setup) (before : List Entry) : Type 0 where
   pub each : (output : ℕ) → output < length setup.outputs → NothingBuffered setup before output
       ⊎ EndsFailed (lane_events output before)
   pub ticked : IsTicked setup before
 
--- so it is before a Gather of the input; before a Begin no item at all is raw, and before the Stop a Tick has
--- come since items were routed
+-- and no item of an input is raw
+pub record IsDrained (setup : Setup) (before : List Entry) (input : ℕ) : Type 0 where
+  pub none_raw : raw_of input before ≡ []
+  pub flushed : IsFlushed setup before
+
+-- and no item at all is raw
+pub record IsSettled (setup : Setup) (before : List Entry) : Type 0 where
+  pub none_raw : raw_items before ≡ []
+  pub flushed : IsFlushed setup before
+
+-- so it is before a Gather of the input, and before the Stop; before a Begin no item at all is raw
 abbrev pub IsDrainedFor : Setup → List Entry → Option GatherSays → Type 0
 IsDrainedFor setup before None = Unit {0}
 IsDrainedFor setup before (Some says) = IsDrained setup before says.input
 
 abbrev pub IsOrderly : Setup → List Entry → Entry → Type 0
 IsOrderly setup before (Begin output from to) = raw_items before ≡ []
-IsOrderly setup before (Stop moment made) = IsTicked setup before
+IsOrderly setup before (Stop moment made) = IsSettled setup before
 IsOrderly setup before e = IsDrainedFor setup before (gather_of e)
 
 -- so it is before each of the entries, which come after those before them

@@ -7,7 +7,7 @@ use Rattle.metric.specs.declared.metric.Content.{Content}
 use Rattle.account.specs.declared.entry.Entry.{Entry}
 use Rattle.account.specs.declared.entry.Entry.TheVariants.{Begin}
 use Rattle.account.specs.Says.{DoneSays, done_of}
-use Rattle.pipeline_core.specs.Offers.{offered_by, views_of}
+use Rattle.pipeline_core.specs.Offers.{offered_by, offered_views}
 use Rattle.pipeline_core.specs.declared.output.Offer.{Offer}
 
 -- a batch that is done: the views of its range, and whether it was accepted
@@ -18,7 +18,7 @@ pub record BatchSays : Type 0 where
 -- the views at the positions of a range
 abbrev pub views_in : Option (ℕ × ℕ) → List Offer → List Content
 views_in None all = []
-views_in (Some range) all = views_of (take (range.1 - range.0) (drop range.0 all))
+views_in (Some range) all = offered_views (take (range.1 - range.0) (drop range.0 all))
 
 -- no range of an output is begun once its batch was done
 abbrev pub begun_behind : ℕ → Option (ℕ × ℕ) → Option DoneSays → Option (ℕ × ℕ)

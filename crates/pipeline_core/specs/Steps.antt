@@ -16,7 +16,7 @@ use Rattle.account.specs.declared.entry.Verdict.{Verdict}
 use Rattle.account.specs.declared.entry.Verdict.TheVariants as verdicts
 use Rattle.out_lane.specs.Lane.{LaneState}
 use Rattle.out_lane.specs.Lane as lane
-use Rattle.pipeline_core.specs.Offers.{view_at, views_of}
+use Rattle.pipeline_core.specs.Offers.{view_at, offered_views}
 use Rattle.pipeline_core.specs.Windows.{verdict_of}
 use Rattle.pipeline_core.specs.CoreState.{CoreState, lane_at}
 use Rattle.pipeline_core.specs.declared.gathering.Gathered.{Gathered}
@@ -53,16 +53,16 @@ abbrev pub HasItems : CoreState → Gathered → Type 0
 HasItems state g = state.taken + length state.raw + length g.metrics < 2 ^ 63
 
 -- no item is raw, or the raw ones with these are at most 10,000
-abbrev pub HasPlace : CoreState → Gathered → Type 0
-HasPlace state g = (length state.raw ≡ 0) ⊎ (length state.raw + length g.metrics ≤ 10000)
+abbrev pub HasRawRoom : CoreState → Gathered → Type 0
+HasRawRoom state g = (length state.raw ≡ 0) ⊎ (length state.raw + length g.metrics ≤ 10000)
 
 -- which answer comes when, and that a refusal hands back what was handed in
 abbrev pub IsGatherAnswer : CoreState → Gathered → Result (Unit {0}) GatherRefused → Type 0
-IsGatherAnswer state g (Ok done) = HasNumbers state g × HasPlace state g
-IsGatherAnswer state g (Err OutOfMemory) = HasNumbers state g × HasPlace state g
+IsGatherAnswer state g (Ok done) = HasNumbers state g × HasRawRoom state g
+IsGatherAnswer state g (Err OutOfMemory) = HasNumbers state g × HasRawRoom state g
 IsGatherAnswer state g (Err (RunFull back)) = (back ≡ g) × ¬ HasNumbers state g
 IsGatherAnswer state g (Err (HeldUndelivered back)) = ⊥
-IsGatherAnswer state g (Err (HeldRaw back)) = (back ≡ g) × HasNumbers state g × ¬ HasPlace state g
+IsGatherAnswer state g (Err (HeldRaw back)) = (back ≡ g) × HasNumbers state g × ¬ HasRawRoom state g
 
 -- the input has ended
 abbrev pub after_ended : CoreState → ℕ → CoreState
@@ -206,7 +206,7 @@ lane_done false x = lane.after_fail x
 pub record IsBatchOf (x : LaneState Offer) (batch : Batch) : Type 0 where
   pub from : batch.from ≡ lane.waiting_from x
   pub to : batch.to ≡ lane.waiting_from x + min x.batch (length x.waiting)
-  pub metrics : batch.metrics ≡ views_of (take x.batch x.waiting)
+  pub metrics : batch.metrics ≡ offered_views (take x.batch x.waiting)
 
 -- how many metrics leave an output as its batch is accepted, or fails
 abbrev pub count_done : Bool → LaneState Offer → ℕ

@@ -9,6 +9,10 @@ use Rattle.account.specs.declared.entry.Entry.{Entry}
 use Rattle.account.specs.declared.entry.Verdict.{Verdict}
 use Rattle.account.specs.declared.entry.Verdict.TheVariants.{Passes, Removed}
 
+-- there are no aggregators
+abbrev pub HasNoAggs : Setup → Type 0
+HasNoAggs setup = setup.aggs ≡ []
+
 -- the verdict on an item where there are no aggregators
 abbrev pub verdict_of : Option Content → Verdict
 verdict_of None = Removed
@@ -35,8 +39,8 @@ RemovedHasNoWhole =
 -- without aggregators an item passes unless it was removed, and nothing is made
 pub record NothingAggregates : Type 0 where
   pub verdicts : (setup : Setup) (before : List Entry) (whole : Option Content) (aggs : List (Option Content)) →
-      setup.aggs ≡ [] → judged setup before whole aggs ≡ verdict_of whole
-  pub ticks : (setup : Setup) (before : List Entry) (moment : ℤ) → setup.aggs ≡ [] →
+      HasNoAggs setup → judged setup before whole aggs ≡ verdict_of whole
+  pub ticks : (setup : Setup) (before : List Entry) (moment : ℤ) → HasNoAggs setup →
       made_by_tick setup before moment ≡ []
-  pub stops : (setup : Setup) (before : List Entry) (moment : ℤ) → setup.aggs ≡ [] →
+  pub stops : (setup : Setup) (before : List Entry) (moment : ℤ) → HasNoAggs setup →
       made_by_stop setup before moment ≡ []

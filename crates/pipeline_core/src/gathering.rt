@@ -108,7 +108,7 @@ impl Core {
         if count >= GATHERED_LIMIT - self.gathered as usize {
             return Err(GatherRefused::RunFull(g));
         }
-        if !has_place(self.raw.len(), count) {
+        if !fits_raw(self.raw.len(), count) {
             return Err(GatherRefused::HeldRaw(g));
         }
         if !has_numbers(self.taken, self.raw.len(), count) {
@@ -200,7 +200,7 @@ fn has_numbers(taken: u64, raw: usize, count: usize) -> bool
 }
 
 // Whether so many metrics may come where so many items are raw.
-fn has_place(raw: usize, count: usize) -> bool
+fn fits_raw(raw: usize, count: usize) -> bool
     ensures { IsTrue result ↔ ((raw ≡ 0) ⊎ (raw + count ≤ 10000)) }
 {
     raw == 0 || (raw <= MOST_RAW && count <= MOST_RAW - raw)

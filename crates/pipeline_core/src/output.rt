@@ -5,7 +5,7 @@ ghost use Rattle.out_lane.specs.Lane.{empty_lane, after_push, after_begin, flyin
 ghost use Rattle.pipeline_core.specs.Steps.{IsBatchOf, lane_done, count_done};
 
 use crate::batches::{Batch, BeginAnswer};
-use crate::room::views_of;
+use crate::room::offered_views;
 use fixed_num::{OutOfMemory, Seq};
 use metric::Metric;
 use out_lane::Lane;
@@ -109,7 +109,7 @@ impl Output {
         let Ok((from, to)) = self.lane.begin() else {
             unreachable!();
         };
-        let Ok(metrics) = views_of(alloc, self.lane.flight()) else {
+        let Ok(metrics) = offered_views(alloc, self.lane.flight()) else {
             self.lane.fail(&mut back);
             return Err(OutOfMemory);
         };

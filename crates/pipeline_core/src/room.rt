@@ -1,6 +1,6 @@
 //! Room for entries and copies of metrics.
 ghost use Rattle.std.specs.Prelude.{◌≡◌, ◌+◌, ◌<◌, ◌≤◌, ◌^◌, length, vec_len, vec_capacity, IfOk, OnOk};
-ghost use Rattle.pipeline_core.specs.Offers.{views_of};
+ghost use Rattle.pipeline_core.specs.Offers.{offered_views};
 
 use crate::output::Offer;
 use account::Entry;
@@ -63,8 +63,8 @@ pub(crate) fn queue_of(alloc: Global, metrics: &[Metric]) -> Result<VecDeque<Met
 }
 
 /// Copies of the views of offers, in order.
-pub(crate) fn views_of(alloc: Global, offers: &[Offer]) -> Result<Vec<Metric>, OutOfMemory>
-    ensures { IfOk result (λ views. views.items ≡ views_of offers.now) }
+pub(crate) fn offered_views(alloc: Global, offers: &[Offer]) -> Result<Vec<Metric>, OutOfMemory>
+    ensures { IfOk result (λ views. views.items ≡ offered_views offers.now) }
 {
     let mut views = Vec::with_capacity(alloc, offers.len())?;
     for offer in offers {

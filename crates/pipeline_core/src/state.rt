@@ -8,6 +8,7 @@ ghost use Rattle.pipeline_core.specs.Stands.{Stands, Continues};
 ghost use Rattle.pipeline_core.specs.Totals.{totals};
 ghost use Rattle.pipeline_core.specs.Steps.{after_stop, after_cut, stop_entry};
 ghost use Rattle.account.specs.Numbers.{output_numbers};
+ghost use Rattle.pipeline_core.specs.Windows.{HasNoAggs};
 
 use crate::output::Output;
 use crate::room::make_room;
@@ -60,13 +61,14 @@ impl Model for Core {
 }
 
 impl Core {
-    /// Makes a core in which nothing happened. Its inputs aren't tracked.
+    /// Makes a core in which nothing happened. Its inputs aren't tracked, and there are no aggregators.
     pub fn new(alloc: Global, setup: CoreSetup) -> Result<Core, OutOfMemory>
         requires inputs { length setup.inputs ≤ 16 }
         requires outputs { length setup.outputs ≤ 16 }
         requires untracked { All (λ x. x.tracked ≡ false) setup.inputs }
         requires sizes { All (λ x. (1 ≤ x.batch) × (x.batch ≤ x.limit)) setup.outputs }
         ensures ok { IfOk result (λ core. core ≡ first_state setup) }
+        ensures no_aggregators { IfOk result (λ core. HasNoAggs core.setup) }
         ensures stands { IfOk result (λ core. Stands core []) }
     {
         let inputs = setup.inputs.as_slice().len();
@@ -154,7 +156,7 @@ impl Core {
     /// How many outputs there are. There are no aggregators yet.
     pub fn output_count(&self) -> usize
         ensures outputs { result ≡ length self.now.setup.outputs }
-        ensures no_aggregators { self.now.setup.aggs ≡ [] }
+        ensures no_aggregators { HasNoAggs self.now.setup }
     {
         prove_eq!(self.setup.agg_count(), 0);
         self.outputs.len()

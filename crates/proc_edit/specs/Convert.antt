@@ -1,6 +1,7 @@
 -- What converting makes of a metric.
 use Rattle.std.specs.Ordering.{int_eq}
-use Rattle.std.specs.Prelude.{◌==◌, ◌^◌, neg_ℤ, negsuc, ◌&&◌, ℕ, ℤ, pos, Bool, true, false, not, nat_lt, List, [], ◌∷◌, length, codes, chars, find}
+use Rattle.std.specs.Prelude.{◌==◌, ◌^◌, neg_ℤ, negsuc, ◌&&◌, ℕ, ℤ, pos, Bool, true, false, not, nat_lt, List, [], ◌∷◌}
+use Rattle.std.specs.Prelude.{length, codes, chars, find}
 use Rattle.std.specs.Prelude.{Option, Some, None, option_map, option_and_then, int_div, int_lt, int_le, if◌then◌else◌}
 use Rattle.std.specs.List.{fold, list_any}
 use Rattle.std.specs.Result.{result_ok}
@@ -16,18 +17,19 @@ use Rattle.metric.specs.declared.value.Value.{Value}
 use Rattle.metric.specs.declared.value.Value.TheVariants.{Int, Uint, Fixed, «Bool» as Truth, Text}
 use Rattle.proc_edit.specs.declared.convert.ConvertRules.{ConvertRules}
 use Rattle.proc_edit.specs.declared.target.Target.{Target}
-use Rattle.proc_edit.specs.declared.target.Target.TheVariants.{Tag, Text as ToText, Int as ToInt, Uint as ToUint, «Bool» as ToBool, Fixed as ToFixed}
+use Rattle.proc_edit.specs.declared.target.Target.TheVariants.{Tag, Text as ToText, Int as ToInt, Uint as ToUint}
+use Rattle.proc_edit.specs.declared.target.Target.TheVariants.{«Bool» as ToBool, Fixed as ToFixed}
 
 -- ---- which target counts
 
--- the place of a target in the order
-abbrev pub place_of : Target → ℕ
-place_of Tag = 0
-place_of ToText = 1
-place_of ToInt = 2
-place_of ToUint = 3
-place_of ToBool = 4
-place_of ToFixed = 5
+-- the rank of a target in the order
+abbrev pub rank_of : Target → ℕ
+rank_of Tag = 0
+rank_of ToText = 1
+rank_of ToInt = 2
+rank_of ToUint = 3
+rank_of ToBool = 4
+rank_of ToFixed = 5
 
 -- the targets in their order
 abbrev pub all_targets : List Target
@@ -35,7 +37,7 @@ all_targets = Tag ∷ ToText ∷ ToInt ∷ ToUint ∷ ToBool ∷ ToFixed ∷ []
 
 -- does a rule ask for the target, by a glob that matches the key
 abbrev pub is_asked : List (Target × List Element) → List ℕ → Target → Bool
-is_asked rules key target = list_any (λ rule. place_of rule.0 == place_of target && matches rule.1 (chars key)) rules
+is_asked rules key target = list_any (λ rule. rank_of rule.0 == rank_of target && matches rule.1 (chars key)) rules
 
 -- the first target in the order for which a rule asks
 abbrev pub target_of : List (Target × List Element) → List ℕ → Option Target
@@ -132,7 +134,10 @@ with_value m key (Some value) = record m { fields = with_pair m.fields key value
 abbrev pub as_tag : Content → List ℕ → List ℕ → Content
 as_tag m key text =
     if length text == 0 then m
-    else if loses_field m.fields key then record m { tags = with_sorted m.tags key text; fields = without_key m.fields key }
+    else if loses_field m.fields key then record m {
+      tags = with_sorted m.tags key text;
+      fields = without_key m.fields key;
+    }
     else m
 
 -- with a tag as a field of its value, where there is one

@@ -1,7 +1,6 @@
 //! Values as numbers and as truth values.
 ghost use Rattle.std.specs.Prelude.{◌≡◌};
-ghost use Rattle.proc_edit.specs.Convert.{fixed_of, is_one_of, int_of, truth_of, truth_of_text, true_words};
-ghost use Rattle.proc_edit.specs.Convert.{false_words, uint_of, whole_of};
+ghost use Rattle.proc_edit.specs.Convert.{fixed_of, int_of, truth_of, truth_of_text, uint_of, whole_of};
 
 use fixed_num::Fixed;
 use metric::Value;
@@ -55,31 +54,15 @@ pub(crate) fn fixed_of(value: &Value) -> Option<Fixed>
     }
 }
 
-/// Is the text one of those that stand for true?
-fn is_true_word(text: &str) -> bool
-    ensures { result ≡ is_one_of true_words text.now }
-{
-    matches!(text, "1" | "t" | "T" | "true" | "TRUE" | "True")
-}
-
-/// Is the text one of those that stand for false?
-fn is_false_word(text: &str) -> bool
-    ensures { result ≡ is_one_of false_words text.now }
-{
-    matches!(text, "0" | "f" | "F" | "false" | "FALSE" | "False")
-}
-
 /// The truth value for which a text stands.
 #[tactic(auto, unfolding(crate::specs::Convert::truth_of_text))]
 fn truth_of_text(text: &str) -> Option<bool>
     ensures { result ≡ truth_of_text text.now }
 {
-    if is_true_word(text) {
-        Some(true)
-    } else if is_false_word(text) {
-        Some(false)
-    } else {
-        None
+    match text {
+        "1" | "t" | "T" | "true" | "TRUE" | "True" => Some(true),
+        "0" | "f" | "F" | "false" | "FALSE" | "False" => Some(false),
+        _ => None,
     }
 }
 

@@ -1,6 +1,6 @@
 //! What a tag or a field is converted to.
 ghost use Rattle.std.specs.Prelude.{◌≡◌};
-ghost use Rattle.proc_edit.specs.Convert.{is_asked, place_of, target_of};
+ghost use Rattle.proc_edit.specs.Convert.{is_asked, rank_of, target_of};
 
 use metric::Glob;
 
@@ -21,9 +21,9 @@ pub enum Target {
     Fixed,
 }
 
-/// The place of a target in the order.
-fn place_of(target: Target) -> u8
-    ensures { result ≡ place_of target }
+/// The rank of a target in the order.
+fn rank_of(target: Target) -> u8
+    ensures { result ≡ rank_of target }
 {
     match target {
         Target::Tag => 0,
@@ -39,7 +39,7 @@ fn place_of(target: Target) -> u8
 fn is_asked(rules: &[(Target, Glob)], target: Target, key: &str) -> bool
     ensures { result ≡ is_asked rules.now key.now target }
 {
-    rules.iter().any(|rule| place_of(rule.0) == place_of(target) && rule.1.matches(key))
+    rules.iter().any(|rule| rank_of(rule.0) == rank_of(target) && rule.1.matches(key))
 }
 
 /// The first target in the order for which a rule asks, by a glob that matches the key.

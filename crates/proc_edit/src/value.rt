@@ -2,7 +2,6 @@
 ghost use Rattle.std.specs.Prelude.{◌≡◌, false, IfOk};
 ghost use Rattle.proc_edit.specs.Convert.{converted, text_of};
 ghost use Rattle.metric.specs.Numbers.{is_text, number_text};
-ghost use Rattle.metric.specs.Metric.{IsValue};
 
 use crate::Target;
 use crate::number::{fixed_of, int_of, truth_of, uint_of};
@@ -28,33 +27,12 @@ fn number_text(alloc: Global, number: &Value) -> Result<Text, OutOfMemory>
     requires { is_text number.now ≡ false }
     ensures { IfOk result (λ text. text ≡ number_text number.now) }
 {
-    shows_in_range(number);
+    number.shows_value();
     let mut digits = Vec::new(alloc);
     number.append_number(alloc, &mut digits)?;
     match str::from_utf8(digits.as_slice()) {
         Ok(text) => Text::of(alloc, text),
         Err(_) => unreachable!(),
-    }
-}
-
-/// Says that a value is in the range of its type, and UTF-8 where it is a text.
-fn shows_in_range(value: &Value)
-    ensures { IsValue value.now }
-{
-    match value {
-        Value::Int(n) => {
-            let _n = *n;
-        }
-        Value::Uint(n) => {
-            let _n = *n;
-        }
-        Value::Fixed(n) => {
-            let _n = n.billionths();
-        }
-        Value::Bool(_) => {}
-        Value::Text(text) => {
-            let _text = text.as_str();
-        }
     }
 }
 

@@ -1,5 +1,6 @@
 -- Tags that are put in the order of their keys, and those of them that have a value.
-use Rattle.std.proofs.Common.{◌≡◌, ℕ, ◌<◌, Bool, true, false, cond, not, List, [], ◌∷◌, ◌++◌, length, refl, sym, ap, subst, ◌∙◌, arith}
+use Rattle.std.proofs.Common.{◌≡◌, ℕ, ◌<◌, Bool, true, false, cond, not, List, [], ◌∷◌, ◌++◌, length, refl, sym, ap}
+use Rattle.std.proofs.Common.{subst, ◌∙◌, arith}
 use Rattle.std.specs.Prelude.{◌==◌, ◌||◌}
 use Rattle.std.specs.List.Sorted.{IsStrictlySortedBy}
 use Rattle.std.specs.BTreeMap.{insert_entry}
@@ -11,7 +12,8 @@ use Rattle.std.proofs.lemmas.Cmp.{nat_list_cmp_total}
 use Rattle.std.proofs.lemmas.Map.Text.{is_eq-slice_cmp}
 use Rattle.std.proofs.lemmas.Slice.Eq.{bytes_eq-Decides}
 use Rattle.metric.specs.Draft.{Tag}
-use Rattle.metric.specs.Pairs.{with_sorted, beside, with_values, has_empty_key, in_key_order, in_key_order_on, IsInKeyOrder}
+use Rattle.metric.specs.Pairs.{with_sorted, beside, with_values, has_empty_key, in_key_order, in_key_order_on}
+use Rattle.metric.specs.Pairs.{IsInKeyOrder}
 use Rattle.metric.proofs.PairLemmas.{AllKeys, key_cmp, with_sorted-ordered}
 use Rattle.metric.proofs.MetricLemmas.{sorted_tags}
 use Rattle.metric.proofs.DraftLemmas.{in_key_order_push, keyed_sorted}
@@ -43,10 +45,14 @@ pub keyed_none : IsKeyed []
 unfolding IsStrictlySortedBy
 keyed_none = record { sorted = tt; filled = refl }
 
-pub keyed_more : (tags : List Tag) (key value : List ℕ) → 0 < length key → IsKeyed tags → IsKeyed (with_sorted tags key value)
+pub keyed_more : (tags : List Tag) (key value : List ℕ) → 0 < length key → IsKeyed tags
+    → IsKeyed (with_sorted tags key value)
 keyed_more tags key value some h =
     let filled : (length key == 0) ≡ false = ne_eqb _ _ (λ e. absurd (omega arith)) in
-    record { sorted = with_sorted-ordered tags key value h.sorted; filled = keyed_sorted tags key value filled h.filled }
+    record {
+      sorted = with_sorted-ordered tags key value h.sorted;
+      filled = keyed_sorted tags key value filled h.filled;
+    }
 
 filled_values : (tags : List Tag) → has_empty_key tags ≡ false → has_empty_key (with_values tags) ≡ false
 filled_values [] h = h
@@ -64,7 +70,8 @@ keyed_values tags h = record { sorted = sorted_tags tags h.sorted; filled = fill
 
 -- ---- one more tag among those that have a value
 
-all_less : (a b : List ℕ) (tags : List Tag) → key_cmp a b ≡ Less → AllKeys (λ k. key_cmp b k ≡ Less) tags → AllKeys (λ k. key_cmp a k ≡ Less) tags
+all_less : (a b : List ℕ) (tags : List Tag) → key_cmp a b ≡ Less → AllKeys (λ k. key_cmp b k ≡ Less) tags
+    → AllKeys (λ k. key_cmp a k ≡ Less) tags
 all_less a b [] less h = tt
 all_less a b (tag ∷ tags) less h = (nat_list_cmp_total.trans a b tag.0 less h.0, all_less a b tags less h.1)
 
@@ -75,7 +82,8 @@ all_values P (tag ∷ tags) h =
     [ true ↦ all_values P tags h.1 | false ↦ (h.0, all_values P tags h.1) ]
 
 -- before greater keys a tag is put first
-put_first : (tags : List Tag) (key value : List ℕ) → AllKeys (λ k. key_cmp key k ≡ Less) tags → with_sorted tags key value ≡ (key, value) ∷ tags
+put_first : (tags : List Tag) (key value : List ℕ) → AllKeys (λ k. key_cmp key k ≡ Less) tags
+    → with_sorted tags key value ≡ (key, value) ∷ tags
 unfolding with_sorted
 put_first [] key value h = refl
 put_first (tag ∷ tags) key value h = rw (turned key tag.0 Less h.0) refl
@@ -84,30 +92,39 @@ values_twice : (tags : List Tag) → with_values (with_values tags) ≡ with_val
 values_twice [] = refl
 values_twice (tag ∷ tags) =
     elim (length tag.1 == 0) as (λ t. (length tag.1 == 0) ≡ t
-    → with_values (cond (not t) (tag ∷ with_values tags) (with_values tags)) ≡ cond (not t) (tag ∷ with_values tags) (with_values tags)) [
+    → with_values (cond (not t) (tag ∷ with_values tags) (with_values tags)) ≡ cond (not t) (tag ∷ with_values tags)
+    (with_values tags)) [
       | true ↦ λ e. values_twice tags
       | false ↦ λ e. rw e (ap (λ (ts : List Tag). tag ∷ ts) (values_twice tags))
     ] refl
 
 -- the tag, and those behind it that have a value
-with_first : (key value : List ℕ) (tags : List Tag) → with_values ((key, value) ∷ with_values tags) ≡ with_values ((key, value) ∷ tags)
+with_first : (key value : List ℕ) (tags : List Tag) → with_values ((key, value) ∷ with_values tags) ≡ with_values
+    ((key, value) ∷ tags)
 with_first key value tags = rw (values_twice tags) refl
 
-kept_one : (tags : List Tag) (key value : List ℕ) → IsInKeyOrder tags → with_values (with_sorted (with_values tags) key value) ≡ with_values (with_sorted tags key value)
+kept_one : (tags : List Tag) (key value : List ℕ) → IsInKeyOrder tags
+    → with_values (with_sorted (with_values tags) key value) ≡ with_values (with_sorted tags key value)
 unfolding with_sorted IsStrictlySortedBy
 kept_one [] key value h = refl
 kept_one (tag ∷ tags) key value h =
     elim (length tag.1 == 0) as (λ t. (length tag.1 == 0) ≡ t
-    → with_values (with_sorted (cond (not t) (tag ∷ with_values tags) (with_values tags)) key value) ≡ with_values (with_sorted (tag ∷ tags) key value)) [
+    → with_values (with_sorted (cond (not t) (tag ∷ with_values tags) (with_values tags)) key value) ≡ with_values
+    (with_sorted (tag ∷ tags) key value)) [
       | true ↦ λ none. elim (key_cmp tag.0 key) as (λ o. key_cmp tag.0 key ≡ o
-          → with_values (with_sorted (with_values tags) key value) ≡ with_values (beside o tag (key, value) tags (with_sorted tags key value))) [
+          → with_values (with_sorted (with_values tags) key value) ≡ with_values
+          (beside o tag (key, value) tags (with_sorted tags key value))) [
             | Less ↦ λ e. rw none (kept_one tags key value h.1)
             | Equal ↦ λ e.
-                let above : AllKeys (λ k. key_cmp key k ≡ Less) tags = subst (λ (a : List ℕ). AllKeys (λ k. key_cmp a k ≡ Less) tags) (same_key tag.0 key e) h.0 in
-                rw (put_first (with_values tags) key value (all_values (λ k. key_cmp key k ≡ Less) tags above)) (with_first key value tags)
+                let above : AllKeys (λ k. key_cmp key k ≡ Less) tags =
+                subst (λ (a : List ℕ). AllKeys (λ k. key_cmp a k ≡ Less) tags) (same_key tag.0 key e) h.0 in
+                rw (put_first (with_values tags) key value (all_values (λ k. key_cmp key k ≡ Less) tags above))
+                (with_first key value tags)
             | Greater ↦ λ e.
-                let above : AllKeys (λ k. key_cmp key k ≡ Less) tags = all_less key tag.0 tags (turned tag.0 key Greater e) h.0 in
-                rw (put_first (with_values tags) key value (all_values (λ k. key_cmp key k ≡ Less) tags above), none) (with_first key value tags)
+                let above : AllKeys (λ k. key_cmp key k ≡ Less) tags =
+                all_less key tag.0 tags (turned tag.0 key Greater e) h.0 in
+                rw (put_first (with_values tags) key value (all_values (λ k. key_cmp key k ≡ Less) tags above), none)
+                (with_first key value tags)
           ] refl
       | false ↦ λ some. elim (key_cmp tag.0 key) as (λ o. key_cmp tag.0 key ≡ o
           → with_values (beside o tag (key, value) (with_values tags) (with_sorted (with_values tags) key value))
@@ -120,8 +137,10 @@ kept_one (tag ∷ tags) key value h =
 
 -- a tag among the given tags that have a value is that tag among all given ones
 pub kept_tag : (given : List Tag) (key value : List ℕ) → IsInKeyOrder (in_key_order given)
-    → with_values (with_sorted (with_values (in_key_order given)) key value) ≡ with_values (in_key_order (given ++ (key, value) ∷ []))
-kept_tag given key value h = kept_one (in_key_order given) key value h ∙ ap with_values (sym (in_key_order_push [] given (key, value)))
+    → with_values (with_sorted (with_values (in_key_order given)) key value) ≡ with_values
+    (in_key_order (given ++ (key, value) ∷ []))
+kept_tag given key value h = kept_one (in_key_order given) key value h
+    ∙ ap with_values (sym (in_key_order_push [] given (key, value)))
 
 -- tags put one after the other into no tags are in their order
 pub put_in_order : (tags : List Tag) → IsInKeyOrder tags → in_key_order tags ≡ tags
@@ -129,7 +148,8 @@ put_in_order tags h = sorted_stay tags h
 
 -- ---- lists of tags one behind the other
 
-pub in_key_order_on_more : (kept front back : List Tag) → in_key_order_on kept (front ++ back) ≡ in_key_order_on (in_key_order_on kept front) back
+pub in_key_order_on_more : (kept front back : List Tag) → in_key_order_on kept (front ++ back) ≡ in_key_order_on
+    (in_key_order_on kept front) back
 unfolding in_key_order_on
 in_key_order_on_more kept [] back = refl
 in_key_order_on_more kept (tag ∷ front) back = in_key_order_on_more (with_sorted kept tag.0 tag.1) front back

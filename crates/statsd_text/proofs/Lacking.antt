@@ -1,5 +1,6 @@
 -- Texts without some bytes, and lines up to their `|#`.
-use Rattle.std.proofs.Common.{◌≡◌, ℕ, ℤ, suc, ◌+◌, ◌<◌, ◌≤◌, Bool, true, false, cond, List, [], ◌∷◌, ◌++◌, length, get_or, drop, Ok, Option, Some, None, refl, sym, ap, subst, ◌∙◌, arith}
+use Rattle.std.proofs.Common.{◌≡◌, ℕ, ℤ, suc, ◌+◌, ◌<◌, ◌≤◌, Bool, true, false, cond, List, [], ◌∷◌, ◌++◌, length}
+use Rattle.std.proofs.Common.{get_or, drop, Ok, Option, Some, None, refl, sym, ap, subst, ◌∙◌, arith}
 use Rattle.std.specs.Prelude.{◌||◌, ◌&&◌, ◌==◌, codes}
 use Rattle.std.specs.List.{list_any}
 use Rattle.std.specs.Str.{bytes_eq}
@@ -13,7 +14,9 @@ use Rattle.text_parts.specs.Split.{is_byte}
 use Rattle.text_parts.proofs.Lacking.{none_append}
 use Rattle.fixed_num.specs.Decimal.{Decimal, decimal_of}
 use Rattle.fixed_num.specs.Fixed.{read_as, fixed_of}
-use Rattle.fixed_num.specs.Grammar.{Sign, NoSign, Plus, Minus, sign_text, Power, NoPower, Small, Capital, power_text, FitsPower, Digits, Without, With, digits_text, whole_of, fraction_of, Spelled, spelling, IsDecimal}
+use Rattle.fixed_num.specs.Grammar.{Sign, NoSign, Plus, Minus, sign_text, Power, NoPower, Small, Capital, power_text}
+use Rattle.fixed_num.specs.Grammar.{FitsPower, Digits, Without, With, digits_text, whole_of, fraction_of, Spelled}
+use Rattle.fixed_num.specs.Grammar.{spelling, IsDecimal}
 use Rattle.fixed_num.proofs.Spelling.{spelled_is_read}
 use Rattle.statsd_text.specs.declared.said.MetricType.{MetricType}
 use Rattle.statsd_text.specs.declared.said.MetricType.TheVariants.{Counter, Gauge, Timing, Set}
@@ -54,14 +57,17 @@ power_none NoPower h = tt
 power_none (Small s ds) h = (refl, none_append ends_rate (sign_text s) ds (sign_none s) (digits_none ds h.1))
 power_none (Capital s ds) h = (refl, none_append ends_rate (sign_text s) ds (sign_none s) (digits_none ds h.1))
 
-digits_text_none : (d : Digits) → AllDigits 10 (whole_of d) → AllDigits 10 (fraction_of d) → HasNone ends_rate (digits_text d)
+digits_text_none : (d : Digits) → AllDigits 10 (whole_of d) → AllDigits 10 (fraction_of d)
+    → HasNone ends_rate (digits_text d)
 digits_text_none (Without whole) h k = digits_none whole h
-digits_text_none (With whole fraction) h k = none_append ends_rate whole (46 ∷ fraction) (digits_none whole h) (refl, digits_none fraction k)
+digits_text_none (With whole fraction) h k = none_append ends_rate whole (46 ∷ fraction) (digits_none whole h)
+    (refl, digits_none fraction k)
 
 spelling_none : (s : Spelled) → IsDecimal s → HasNone ends_rate (spelling s)
 spelling_none s h =
     none_append ends_rate (sign_text s.sign) (digits_text s.digits ++ power_text s.power) (sign_none s.sign)
-    (none_append ends_rate (digits_text s.digits) (power_text s.power) (digits_text_none s.digits h.whole h.fraction) (power_none s.power h.power))
+    (none_append ends_rate (digits_text s.digits) (power_text s.power) (digits_text_none s.digits h.whole h.fraction)
+    (power_none s.power h.power))
 
 -- a decimal has neither of these bytes
 pub decimal_none : (text : List ℕ) (n : ℤ) → read_as text ≡ Ok n → HasNone ends_rate text
@@ -103,18 +109,22 @@ type_text text named e = at_c (bytes_eq text (codes "c")) refl e
     at_h false is e = at_s (bytes_eq text (codes "s")) refl e
 
     at_ms : (t : Bool) → bytes_eq text (codes "ms") ≡ t
-        → cond (t || bytes_eq text (codes "h")) (Some Timing) (cond (bytes_eq text (codes "s")) (Some Set) None) ≡ Some named → IsTypeText text
+        → cond (t || bytes_eq text (codes "h")) (Some Timing) (cond (bytes_eq text (codes "s")) (Some Set) None) ≡ Some
+        named → IsTypeText text
     at_ms true is e = same (codes "ms") is (letter 109 (115 ∷ []) (refl, (refl, tt)) refl)
     at_ms false is e = at_h (bytes_eq text (codes "h")) refl e
 
     at_g : (t : Bool) → bytes_eq text (codes "g") ≡ t
-        → cond t (Some Gauge) (cond (bytes_eq text (codes "ms") || bytes_eq text (codes "h")) (Some Timing) (cond (bytes_eq text (codes "s")) (Some Set) None)) ≡ Some named
+        → cond t (Some Gauge) (cond (bytes_eq text (codes "ms") || bytes_eq text (codes "h")) (Some Timing)
+        (cond (bytes_eq text (codes "s")) (Some Set) None)) ≡ Some named
         → IsTypeText text
     at_g true is e = same (codes "g") is (letter 103 [] (refl, tt) refl)
     at_g false is e = at_ms (bytes_eq text (codes "ms")) refl e
 
     at_c : (t : Bool) → bytes_eq text (codes "c") ≡ t
-        → cond t (Some Counter) (cond (bytes_eq text (codes "g")) (Some Gauge) (cond (bytes_eq text (codes "ms") || bytes_eq text (codes "h")) (Some Timing) (cond (bytes_eq text (codes "s")) (Some Set) None)))
+        → cond t (Some Counter) (cond (bytes_eq text (codes "g")) (Some Gauge)
+        (cond (bytes_eq text (codes "ms") || bytes_eq text (codes "h")) (Some Timing)
+        (cond (bytes_eq text (codes "s")) (Some Set) None)))
         ≡ Some named → IsTypeText text
     at_c true is e = same (codes "c") is (letter 99 [] (refl, tt) refl)
     at_c false is e = at_g (bytes_eq text (codes "g")) refl e
@@ -154,7 +164,7 @@ pub unmarked_append : (xs ys : List ℕ) → HasNone (is_byte 124) xs → Unmark
 unmarked_append [] ys h k = k
 unmarked_append (x ∷ xs) ys h k = unmarked_more x (xs ++ ys) h.0 (unmarked_append xs ys h.1 k)
 
--- ---- the first `|#`, at a place
+-- ---- the first `|#`, at an offset
 
 pub end_at : (bs : List ℕ) (i : ℕ) → is_marker (drop i bs) ≡ true → marker_len (drop i bs) ≡ 0
 unfolding marker_len
@@ -171,7 +181,8 @@ more_first [] h some = absurd (omega arith)
 more_first (b ∷ []) h some = refl
 more_first (b ∷ c ∷ bs) h some = rw h refl
 
-pub more_at : (bs : List ℕ) (i : ℕ) → is_marker (drop i bs) ≡ false → i < length bs → marker_len (drop i bs) ≡ 1 + marker_len (drop (i + 1) bs)
+pub more_at : (bs : List ℕ) (i : ℕ) → is_marker (drop i bs) ≡ false → i < length bs
+    → marker_len (drop i bs) ≡ 1 + marker_len (drop (i + 1) bs)
 more_at bs i h lt = more_first (drop i bs) h (omega (arith, length-drop i bs)) ∙ rw drop-drop refl
 
 pub all_read : (bs : List ℕ) (i : ℕ) → length bs ≤ i → marker_len (drop i bs) ≡ 0
@@ -189,7 +200,8 @@ unfolding marker_len
 marked [] lt = absurd (omega arith)
 marked (b ∷ []) lt = absurd (omega arith)
 marked (b ∷ c ∷ bs) lt =
-    elim (b == 124 && c == 35) as (λ t. (b == 124 && c == 35) ≡ t → marker_len (b ∷ c ∷ bs) ≡ cond t 0 (1 + marker_len (c ∷ bs)) → IsMarked (b ∷ c ∷ bs)) [
+    elim (b == 124 && c == 35) as (λ t. (b == 124 && c == 35) ≡ t
+    → marker_len (b ∷ c ∷ bs) ≡ cond t 0 (1 + marker_len (c ∷ bs)) → IsMarked (b ∷ c ∷ bs)) [
       | true ↦ λ e n.
           let both = and_true (b == 124) (c == 35) e in
           record { bar = rw n (eqb-true b 124 both.0); hash = rw n (eqb-true c 35 both.1); within = omega (arith, n) }

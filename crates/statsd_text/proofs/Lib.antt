@@ -1,5 +1,5 @@
 pub mod KeptTags
-pub mod Places
+pub mod Offsets
 pub mod Lacking
 pub mod Spells
 pub mod Founds

@@ -39,27 +39,27 @@ type_name Gauge = codes "gauge"
 type_name Timing = codes "timing"
 type_name Set = codes "set"
 
--- the texts of a part: its value, its type, and what stands behind a second `|`, with the place of that
+-- the texts of a part: its value, its type, and what stands behind a second `|`, with the offset of that
 pub record Texts : Type 0 where
   pub value : List ℕ
   pub metric_type : MetricType
   pub rate : Option PartAt
 
 abbrev pub rate_text : ℕ → Option (List ℕ) → Option PartAt
-rate_text place None = None
-rate_text place (Some text) = Some (place, text)
+rate_text offset None = None
+rate_text offset (Some text) = Some (offset, text)
 
 -- the texts, where the type is one
 abbrev pub typed : ℕ → List ℕ → List ℕ → Option (List ℕ) → Option MetricType → Result Texts StatsdFault
-typed place value name rate None = fault BadType place
-typed place value name rate (Some metric_type) =
-    Ok (record { value = value; metric_type = metric_type; rate = rate_text (place + length name) rate })
+typed offset value name rate None = fault BadType offset
+typed offset value name rate (Some metric_type) =
+    Ok (record { value = value; metric_type = metric_type; rate = rate_text (offset + length name) rate })
 
 -- behind the first `|` stands the type, up to the next `|` or the end
 abbrev pub texts_from : ℕ → ℕ → List ℕ → Option (List ℕ) → Result Texts StatsdFault
-texts_from place end value None = fault BadType end
-texts_from place end value (Some rest) =
-    typed (place + length value + 1) value (first_part bar rest).0 (first_part bar rest).1
+texts_from offset end value None = fault BadType end
+texts_from offset end value (Some rest) =
+    typed (offset + length value + 1) value (first_part bar rest).0 (first_part bar rest).1
     (type_of (first_part bar rest).0)
 
 unfoldable pub texts_of : PartAt → Result Texts StatsdFault
@@ -108,30 +108,30 @@ is_positive (negsuc n) = false
 
 -- a rate is above 0; one that is out of range is a fault of the value, unless it is negative
 abbrev pub rate_from : ℕ → ℕ → Bool → Result ℤ NumFault → Result (Option ℤ) StatsdFault
-rate_from place bar_place negative (Ok rate) =
-    if is_positive rate then Ok (Some rate) else fault BadRate bar_place
-rate_from place bar_place negative (Err numbers.NotANumber) = fault BadRate bar_place
-rate_from place bar_place negative (Err numbers.NumberRange) =
-    if negative then fault BadRate bar_place else fault NumberRange place
+rate_from offset bar_offset negative (Ok rate) =
+    if is_positive rate then Ok (Some rate) else fault BadRate bar_offset
+rate_from offset bar_offset negative (Err numbers.NotANumber) = fault BadRate bar_offset
+rate_from offset bar_offset negative (Err numbers.NumberRange) =
+    if negative then fault BadRate bar_offset else fault NumberRange offset
 
 -- the rate behind its `@`
 abbrev pub rate_read : ℕ → PartAt → Result (Option ℤ) StatsdFault
-rate_read place rate =
+rate_read offset rate =
     if slice_index rate.1 0 == at_sign
-    then rate_from place rate.0 (slice_index rate.1 1 == minus) (read_as (drop 1 rate.1))
+    then rate_from offset rate.0 (slice_index rate.1 1 == minus) (read_as (drop 1 rate.1))
     else fault BadRate rate.0
 
--- the rate of a value at a place, where one is written
+-- the rate of a value at an offset, where one is written
 unfoldable pub rate_of : ℕ → Option PartAt → Result (Option ℤ) StatsdFault
-rate_of place None = Ok None
-rate_of place (Some rate) = rate_read place rate
+rate_of offset None = Ok None
+rate_of offset (Some rate) = rate_read offset rate
 
 -- ---- the part
 
--- a fault of the value that begins at a place
+-- a fault of the value that begins at an offset
 abbrev pub placed_at : {A : Type 0} → ℕ → Result A StatsdKind → Result A StatsdFault
-placed_at place (Ok x) = Ok x
-placed_at place (Err kind) = fault kind place
+placed_at offset (Ok x) = Ok x
+placed_at offset (Err kind) = fault kind offset
 
 abbrev pub quotient_value : Option ℤ → Result Value StatsdKind
 quotient_value None = Err NumberRange

@@ -8,9 +8,9 @@ use Rattle.statsd_text.specs.declared.fault.StatsdFault.{StatsdFault}
 use Rattle.statsd_text.specs.declared.fault.StatsdKind.{StatsdKind}
 use Rattle.statsd_text.specs.declared.fault.StatsdKind.TheVariants.{NoColon}
 
--- a fault at a place
+-- a fault at an offset
 abbrev pub fault : {A : Type 0} → StatsdKind → ℕ → Result A StatsdFault
-fault kind place = Err (record { kind = kind; place = place })
+fault kind offset = Err (record { kind = kind; offset = offset })
 
 -- the bytes begin with `|#`
 abbrev pub is_marker : List ℕ → Bool

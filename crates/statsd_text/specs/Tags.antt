@@ -19,8 +19,8 @@ name_of (first ∷ others) = if length first.1 == 0 then fault BadName 0 else Ok
 
 -- a key that isn't empty, and its value behind an equals sign
 abbrev pub valued : ℕ → List ℕ → Option (List ℕ) → Result Tag StatsdFault
-valued place key None = fault BadTag place
-valued place key (Some value) = if length key == 0 then fault BadTag place else Ok (key, value)
+valued offset key None = fault BadTag offset
+valued offset key (Some value) = if length key == 0 then fault BadTag offset else Ok (key, value)
 
 -- a tag in the name: `key=value`, split at its first `=`
 unfoldable pub head_tag : PartAt → Result Tag StatsdFault

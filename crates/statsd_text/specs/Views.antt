@@ -17,7 +17,7 @@ use Rattle.statsd_text.specs.Said.{Texts}
 
 -- a part, as the code has it
 abbrev pub part_at : Placed → PartAt
-part_at part = (part.place, part.text.now)
+part_at part = (part.offset, part.text.now)
 
 abbrev pub sections_view : Line → Sections
 sections_view line = record { head = line.head.now; parts = part_at line.parts; tags = part_at line.tags }
@@ -47,4 +47,4 @@ HasHead old new (Err e) reading = Fails e reading
 abbrev pub Answers : {A : Type 0} → (A → List Content) → Result A StatsdFault
     → Result (List Content) StatsdFault → Type 0
 Answers listed (Ok metrics) reading = reading ≡ Ok (listed metrics)
-Answers listed (Err e) reading = (e ≡ record { kind = OutOfMemory; place = 0 }) ⊎ (reading ≡ Err e)
+Answers listed (Err e) reading = (e ≡ record { kind = OutOfMemory; offset = 0 }) ⊎ (reading ≡ Err e)

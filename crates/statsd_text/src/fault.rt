@@ -37,18 +37,18 @@ pub struct StatsdFault {
     /// tag, of the value (for `NumberRange` too) or of the type at fault; the end of a part without a `|`;
     /// the `|` before a rate. It is 0 for `OutOfMemory`, `BadName` and `TooMany`, the piece's length for
     /// `NoColon`, and the end of the longest valid front for `NotUtf8`.
-    pub place: usize,
+    pub offset: usize,
 }
 
 /// What is answered where no memory was left.
 pub(crate) const NO_MEMORY: StatsdFault = StatsdFault {
     kind: StatsdKind::OutOfMemory,
-    place: 0,
+    offset: 0,
 };
 
-/// A fault at a place.
-pub(crate) fn fault(kind: StatsdKind, place: usize) -> ReadError<StatsdFault>
-    ensures { result ≡ ReadError.Fault (record { kind = kind; place = place }) }
+/// A fault at an offset.
+pub(crate) fn fault(kind: StatsdKind, offset: usize) -> ReadError<StatsdFault>
+    ensures { result ≡ ReadError.Fault (record { kind = kind; offset = offset }) }
 {
-    ReadError::Fault(StatsdFault { kind, place })
+    ReadError::Fault(StatsdFault { kind, offset })
 }

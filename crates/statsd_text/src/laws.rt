@@ -12,12 +12,12 @@ pub fn read_is_written()
     ensures { ReadIsWritten }
 {}
 
-/// A fault's place is in the piece, or its length.
+/// A fault's offset is in the piece, or its length.
 pub fn fault_is_within()
     ensures { FaultIsWithin }
 {}
 
-/// A fault's kind says what stands in the piece, at its place where it has one.
+/// A fault's kind says what stands in the piece, at its offset where it has one.
 pub fn fault_says()
     ensures { FaultSays }
 {}

@@ -64,7 +64,7 @@ fn read_piece(
 {
     match utf8_text(piece) {
         Ok(text) => read_text(alloc, text, moment),
-        Err(place) => Err(fault(StatsdKind::NotUtf8, place)),
+        Err(offset) => Err(fault(StatsdKind::NotUtf8, offset)),
     }
 }
 
@@ -73,8 +73,8 @@ fn read_piece(
 /// Gives a metric for each part, in order, at the moment that is handed in; none where the piece is empty or
 /// has nothing but spaces. They share the line's name and tags, and the list of a line of one part takes no memory
 /// but its own. `NotUtf8` comes before all else; then the first fault of the head, of the tags
-/// behind `|#`, and of the parts from left to right counts, with its place; `TooMany` comes last, where there
-/// is no other fault. `OutOfMemory`, at place 0, may come in place of any answer.
+/// behind `|#`, and of the parts from left to right counts, with its offset; `TooMany` comes last, where there
+/// is no other fault. `OutOfMemory`, at offset 0, may come in place of any answer.
 pub fn read_line(alloc: Global, piece: &[u8], moment: Moment) -> Result<Seq<Metric>, StatsdFault>
     ensures { Answers (λ metrics. metrics) result (reading piece.now moment) }
 {

@@ -77,7 +77,7 @@ pub(crate) struct PartTexts<'a> {
     pub value: &'a str,
     /// The type behind it.
     pub metric_type: MetricType,
-    /// What stands behind the type's `|`, with the place of that `|`.
+    /// What stands behind the type's `|`, with the offset of that `|`.
     pub rate: Option<Placed<'a>>,
 }
 
@@ -103,26 +103,26 @@ fn texts_of<'a>(part: &Placed<'a>) -> Result<PartTexts<'a>, ReadError<StatsdFaul
 {
     let (value, rest) = first_part(b'|', part.text);
     let Some(rest) = rest else {
-        return Err(fault(StatsdKind::BadType, part.place + part.text.len()));
+        return Err(fault(StatsdKind::BadType, part.offset + part.text.len()));
     };
     let (name, rate) = first_part(b'|', rest);
-    let place = part.place + value.len() + 1;
+    let offset = part.offset + value.len() + 1;
     let Some(metric_type) = type_of(name) else {
-        return Err(fault(StatsdKind::BadType, place));
+        return Err(fault(StatsdKind::BadType, offset));
     };
     Ok(PartTexts {
         value,
         metric_type,
-        rate: rate_text(place + name.len(), rate),
+        rate: rate_text(offset + name.len(), rate),
     })
 }
 
-/// The text of a rate with its place, where there is one.
-fn rate_text<'a>(place: usize, rate: Option<&'a str>) -> Option<Placed<'a>>
-    ensures { option_map part_at result ≡ rate_text place (option_map (λ text. text.now) rate.entry) }
+/// The text of a rate with its offset, where there is one.
+fn rate_text<'a>(offset: usize, rate: Option<&'a str>) -> Option<Placed<'a>>
+    ensures { option_map part_at result ≡ rate_text offset (option_map (λ text. text.now) rate.entry) }
 {
     match rate {
-        Some(text) => Some(Placed { place, text }),
+        Some(text) => Some(Placed { offset, text }),
         None => None,
     }
 }
@@ -138,30 +138,30 @@ fn number_value(text: &str) -> Result<Value, StatsdKind>
     }
 }
 
-/// The value that a text at a place is, for a type.
+/// The value that a text at an offset is, for a type.
 fn value_of(
     alloc: Global,
     metric_type: MetricType,
     text: &str,
-    place: usize,
+    offset: usize,
 ) -> Result<Value, ReadError<StatsdFault>>
-    ensures { Gives (λ x. x) result (placed_at place (value_of metric_type text.now)) }
+    ensures { Gives (λ x. x) result (placed_at offset (value_of metric_type text.now)) }
 {
     match metric_type {
-        MetricType::Set => member_value(alloc, text, place),
+        MetricType::Set => member_value(alloc, text, offset),
         _ => match number_value(text) {
             Ok(value) => Ok(value),
-            Err(kind) => Err(fault(kind, place)),
+            Err(kind) => Err(fault(kind, offset)),
         },
     }
 }
 
-/// The member that a text at a place is.
-fn member_value(alloc: Global, text: &str, place: usize) -> Result<Value, ReadError<StatsdFault>>
-    ensures { Gives (λ x. x) result (placed_at place (member_value text.now)) }
+/// The member that a text at an offset is.
+fn member_value(alloc: Global, text: &str, offset: usize) -> Result<Value, ReadError<StatsdFault>>
+    ensures { Gives (λ x. x) result (placed_at offset (member_value text.now)) }
 {
     if text.is_empty() {
-        return Err(fault(StatsdKind::BadValue, place));
+        return Err(fault(StatsdKind::BadValue, offset));
     }
     Ok(Value::Text(Text::of(alloc, text)?))
 }
@@ -205,39 +205,39 @@ fn is_negative(text: &[u8]) -> bool
 }
 
 /// The rate behind the `|` of a value.
-fn rate_read(place: usize, rate: &Placed) -> Result<Option<Fixed>, ReadError<StatsdFault>>
-    ensures { Gives (λ x. x) result (rate_read place (part_at rate.now)) }
+fn rate_read(offset: usize, rate: &Placed) -> Result<Option<Fixed>, ReadError<StatsdFault>>
+    ensures { Gives (λ x. x) result (rate_read offset (part_at rate.now)) }
 {
     let bytes = rate.text.as_bytes();
     let [b'@', number @ ..] = bytes else {
-        return Err(fault(StatsdKind::BadRate, rate.place));
+        return Err(fault(StatsdKind::BadRate, rate.offset));
     };
     match Fixed::read(number) {
         Ok(number) => {
             if is_positive(number) {
                 Ok(Some(number))
             } else {
-                Err(fault(StatsdKind::BadRate, rate.place))
+                Err(fault(StatsdKind::BadRate, rate.offset))
             }
         }
-        Err(NumFault::NotANumber) => Err(fault(StatsdKind::BadRate, rate.place)),
+        Err(NumFault::NotANumber) => Err(fault(StatsdKind::BadRate, rate.offset)),
         Err(NumFault::NumberRange) => {
             if is_negative(bytes) {
-                Err(fault(StatsdKind::BadRate, rate.place))
+                Err(fault(StatsdKind::BadRate, rate.offset))
             } else {
-                Err(fault(StatsdKind::NumberRange, place))
+                Err(fault(StatsdKind::NumberRange, offset))
             }
         }
     }
 }
 
-/// The rate of a value at a place, where one is written.
+/// The rate of a value at an offset, where one is written.
 #[tactic(auto, unfolding(crate::specs::Said::rate_of))]
-fn rate_of(place: usize, rate: &Option<Placed>) -> Result<Option<Fixed>, ReadError<StatsdFault>>
-    ensures { Gives (λ x. x) result (rate_of place (option_map part_at rate.now)) }
+fn rate_of(offset: usize, rate: &Option<Placed>) -> Result<Option<Fixed>, ReadError<StatsdFault>>
+    ensures { Gives (λ x. x) result (rate_of offset (option_map part_at rate.now)) }
 {
     match rate {
-        Some(rate) => rate_read(place, rate),
+        Some(rate) => rate_read(offset, rate),
         None => Ok(None),
     }
 }
@@ -272,15 +272,15 @@ pub(crate) fn part_of(alloc: Global, part: &Placed) -> Result<Said, ReadError<St
     ensures { Gives (λ x. x) result (part_of (part_at part.now)) }
 {
     let texts = texts_of(part)?;
-    let value = value_of(alloc, texts.metric_type, texts.value, part.place)?;
-    let rate = rate_of(part.place, &texts.rate)?;
+    let value = value_of(alloc, texts.metric_type, texts.value, part.offset)?;
+    let rate = rate_of(part.offset, &texts.rate)?;
     match counted(texts.metric_type, value, rate) {
         Ok(value) => Ok(Said {
             metric_type: texts.metric_type,
             field: field_of(texts.metric_type, texts.value),
             value,
         }),
-        Err(kind) => Err(fault(kind, part.place)),
+        Err(kind) => Err(fault(kind, part.offset)),
     }
 }
 

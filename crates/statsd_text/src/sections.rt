@@ -19,7 +19,7 @@ pub(crate) struct Line<'a> {
     pub tags: Placed<'a>,
 }
 
-/// Whether `|#` stands at a place.
+/// Whether `|#` stands at an offset.
 fn marker_at(bytes: &[u8], i: usize) -> bool
     requires { i ≤ length bytes.now }
     ensures { result ≡ is_marker (drop i bytes.now) }
@@ -79,11 +79,11 @@ pub(crate) fn sections(piece: &str) -> Result<Line<'_>, ReadError<StatsdFault>>
     Ok(Line {
         head,
         parts: Placed {
-            place: start,
+            offset: start,
             text: parts,
         },
         tags: Placed {
-            place: start + parts.len() + 2,
+            offset: start + parts.len() + 2,
             text: tags,
         },
     })

@@ -49,10 +49,10 @@ fn head_tag<'a>(part: &Placed<'a>) -> Result<(&'a str, &'a str), ReadError<Stats
 {
     let (key, value) = first_part(b'=', part.text);
     let Some(value) = value else {
-        return Err(fault(StatsdKind::BadTag, part.place));
+        return Err(fault(StatsdKind::BadTag, part.offset));
     };
     if key.is_empty() {
-        return Err(fault(StatsdKind::BadTag, part.place));
+        return Err(fault(StatsdKind::BadTag, part.offset));
     }
     Ok((key, value))
 }
@@ -88,7 +88,7 @@ pub(crate) fn read_head<'a>(
     let mut parts = Separated::of(
         b',',
         Placed {
-            place: 0,
+            offset: 0,
             text: head,
         },
     );
@@ -112,7 +112,7 @@ fn later_tag<'a>(part: &Placed<'a>) -> Result<(&'a str, &'a str), ReadError<Stat
 {
     let (key, value) = first_part(b':', part.text);
     if has_bar(part.text) || key.is_empty() {
-        return Err(fault(StatsdKind::BadTag, part.place));
+        return Err(fault(StatsdKind::BadTag, part.offset));
     }
     match value {
         Some(value) => Ok((key, value)),

@@ -10,7 +10,8 @@ use Rattle.text_parts.specs.Split.{PartAt, each}
 abbrev pub behind : {A F : Type 0} → List A → Result (List A) F → Result (List A) F
 behind front reading = reading >>= λ xs. Ok (front ++ xs)
 
-regroup : {A F : Type 0} (front : List A) (x : A) (r : Result (List A) F) → behind front (r >>= λ xs. Ok (x ∷ xs)) ≡ behind (front ++ x ∷ []) r
+regroup : {A F : Type 0} (front : List A) (x : A) (r : Result (List A) F)
+    → behind front (r >>= λ xs. Ok (x ∷ xs)) ≡ behind (front ++ x ∷ []) r
 regroup {A = A} front x (Ok xs) = ap (λ (items : List A). Ok items) (simp append_assoc)
 regroup front x (Err fault) = refl
 
@@ -19,7 +20,8 @@ begins (Ok xs) = refl
 begins (Err fault) = refl
 
 -- where a loop over parts stands: it has read the front, and these are left of all parts
-pub record HasRead {A F : Type 0} (read : PartAt → Result A F) (all : List PartAt) (front : List A) (left : List PartAt) : Type 0 where
+pub record HasRead {A F : Type 0} (read : PartAt → Result A F) (all : List PartAt) (front : List A)
+    (left : List PartAt) : Type 0 where
   pub total : behind front (each read left) ≡ each read all
 
 -- at first nothing is read
@@ -27,7 +29,8 @@ pub nothing_read : {A F : Type 0} (read : PartAt → Result A F) (all : List Par
 nothing_read read all = record { total = begins (each read all) }
 
 -- one more part is read
-pub one_more : {A F : Type 0} (read : PartAt → Result A F) (all left : List PartAt) (front : List A) (part : PartAt) (parts : List PartAt) (x : A)
+pub one_more : {A F : Type 0} (read : PartAt → Result A F) (all left : List PartAt) (front : List A) (part : PartAt)
+    (parts : List PartAt) (x : A)
     → HasRead read all front left → left ≡ part ∷ parts → read part ≡ Ok x → HasRead read all (front ++ x ∷ []) parts
 unfolding each
 one_more read all left front part parts x h is one = record {
@@ -38,7 +41,8 @@ one_more read all left front part parts x h is one = record {
 }
 
 -- the first part that fails is the fault
-pub failed_read : {A F : Type 0} (read : PartAt → Result A F) (all left : List PartAt) (front : List A) (part : PartAt) (parts : List PartAt) (e : ReadError F)
+pub failed_read : {A F : Type 0} (read : PartAt → Result A F) (all left : List PartAt) (front : List A) (part : PartAt)
+    (parts : List PartAt) (e : ReadError F)
     → HasRead read all front left → left ≡ part ∷ parts → Fails e (read part) → Fails e (each read all)
 unfolding each
 failed_read read all left front part parts errors.OutOfMemory h is fails = tt

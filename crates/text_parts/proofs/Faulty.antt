@@ -27,18 +27,22 @@ none_faulty P x = record { at = λ f e. absurd cc }
 pub one_faulty : {F A : Type 0} (P : F → Type 0) (f : F) → P f → Faulty {F = F} {A = A} P (Err f)
 one_faulty {F} {A} P f h = record { at = λ g e. subst P (same_err {F = F} {A = A} f g e) h }
 
-pub next_faulty : {F A B : Type 0} (P : F → Type 0) (r : Result A F) (next : A → Result B F) → Faulty P r → ((x : A) → r ≡ Ok x → Faulty P (next x)) → Faulty P (r >>= next)
+pub next_faulty : {F A B : Type 0} (P : F → Type 0) (r : Result A F) (next : A → Result B F) → Faulty P r
+    → ((x : A) → r ≡ Ok x → Faulty P (next x)) → Faulty P (r >>= next)
 next_faulty P (Ok x) next h k = k x refl
 next_faulty {F} {A} {B} P (Err g) next h k = one_faulty {F = F} {A = B} P g (h.at g refl)
 
-pub test_faulty : {F A : Type 0} (P : F → Type 0) (t : Bool) (a b : Result A F) → (t ≡ true → Faulty P a) → (t ≡ false → Faulty P b) → Faulty P (cond t a b)
+pub test_faulty : {F A : Type 0} (P : F → Type 0) (t : Bool) (a b : Result A F) → (t ≡ true → Faulty P a)
+    → (t ≡ false → Faulty P b) → Faulty P (cond t a b)
 test_faulty P true a b h k = h refl
 test_faulty P false a b h k = k refl
 
-pub each_faulty : {F A : Type 0} (P : F → Type 0) (Q : PartAt → Type 0) (read : PartAt → Result A F) → ((part : PartAt) → Q part → Faulty P (read part))
+pub each_faulty : {F A : Type 0} (P : F → Type 0) (Q : PartAt → Type 0) (read : PartAt → Result A F)
+    → ((part : PartAt) → Q part → Faulty P (read part))
     → (parts : List PartAt) → AllByRecursion Q parts → Faulty P (each read parts)
 unfolding each
 each_faulty P Q read one [] h = none_faulty P []
 each_faulty P Q read one (part ∷ parts) h =
     next_faulty P (read part) (λ first. each read parts >>= λ others. Ok (first ∷ others)) (one part h.0)
-    (λ first e. next_faulty P (each read parts) (λ others. Ok (first ∷ others)) (each_faulty P Q read one parts h.1) (λ others f. none_faulty P (first ∷ others)))
+    (λ first e. next_faulty P (each read parts) (λ others. Ok (first ∷ others)) (each_faulty P Q read one parts h.1)
+    (λ others f. none_faulty P (first ∷ others)))

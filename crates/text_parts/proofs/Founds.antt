@@ -1,20 +1,24 @@
 -- Readings that gave an answer.
-use Rattle.std.proofs.Common.{◌≡◌, ℕ, ◌<◌, Bool, true, false, cond, List, length, Result, Ok, Err, refl, ap, subst, arith}
+use Rattle.std.proofs.Common.{◌≡◌, ℕ, ◌<◌, Bool, true, false, cond, List, length, Result, Ok, Err, refl, ap, subst}
+use Rattle.std.proofs.Common.{arith}
 use Rattle.std.specs.Prelude.{◌==◌, not}
 use Rattle.std.proofs.lemmas.Bool.{eqb-false}
 use Rattle.text_parts.specs.declared.error.ReadError.{ReadError}
 use Rattle.text_parts.specs.declared.error.ReadError.TheVariants as errors
 use Rattle.text_parts.specs.Chain.{◌>>=◌, Fails}
 
-pub bind_ok : {F A B : Type 0} (r : Result A F) (next : A → Result B F) (y : B) → (r >>= next) ≡ Ok y → (x : A) × (r ≡ Ok x) × (next x ≡ Ok y)
+pub bind_ok : {F A B : Type 0} (r : Result A F) (next : A → Result B F) (y : B) → (r >>= next) ≡ Ok y
+    → (x : A) × (r ≡ Ok x) × (next x ≡ Ok y)
 bind_ok (Ok x) next y e = (x, refl, e)
 bind_ok (Err fault) next y e = absurd cc
 
-pub chosen_ok : {F A : Type 0} (t : Bool) (fault : F) (r : Result A F) (y : A) → cond t (Err fault) r ≡ Ok y → (t ≡ false) × (r ≡ Ok y)
+pub chosen_ok : {F A : Type 0} (t : Bool) (fault : F) (r : Result A F) (y : A) → cond t (Err fault) r ≡ Ok y
+    → (t ≡ false) × (r ≡ Ok y)
 chosen_ok true fault r y e = absurd cc
 chosen_ok false fault r y e = (refl, e)
 
-pub taken_ok : {F A : Type 0} (t : Bool) (fault : F) (r : Result A F) (y : A) → cond t r (Err fault) ≡ Ok y → (t ≡ true) × (r ≡ Ok y)
+pub taken_ok : {F A : Type 0} (t : Bool) (fault : F) (r : Result A F) (y : A) → cond t r (Err fault) ≡ Ok y
+    → (t ≡ true) × (r ≡ Ok y)
 taken_ok true fault r y e = (refl, e)
 taken_ok false fault r y e = absurd cc
 
@@ -26,11 +30,14 @@ pub same_ok : {F A : Type 0} (a b : A) → let l : Result A F = Ok a in let r : 
 unfolding ok_or
 same_ok {F} {A} a b e = ap (ok_or {F = F} a) e
 
-pub ok_pair : {F A : Type 0} (a b : A) (m n : ℕ) → let l : Result (A × ℕ) F = Ok (a, m) in let r : Result (A × ℕ) F = Ok (b, n) in l ≡ r → (a ≡ b) × (m ≡ n)
-ok_pair {F} {A} a b m n e = let same = same_ok {F = F} (a, m) (b, n) e in (ap (λ (p : A × ℕ). p.0) same, ap (λ (p : A × ℕ). p.1) same)
+pub ok_pair : {F A : Type 0} (a b : A) (m n : ℕ) → let l : Result (A × ℕ) F = Ok (a, m) in
+    let r : Result (A × ℕ) F = Ok (b, n) in l ≡ r → (a ≡ b) × (m ≡ n)
+ok_pair {F} {A} a b m n e = let same = same_ok {F = F} (a, m) (b, n) e in
+    (ap (λ (p : A × ℕ). p.0) same, ap (λ (p : A × ℕ). p.1) same)
 
 -- a fault that a reader gave is that of the reading
-pub fault_given : {F A : Type 0} (e : ReadError F) (fault : F) (r : Result A F) → e ≡ errors.Fault fault → Fails e r → r ≡ Err fault
+pub fault_given : {F A : Type 0} (e : ReadError F) (fault : F) (r : Result A F) → e ≡ errors.Fault fault → Fails e r
+    → r ≡ Err fault
 fault_given {F} {A} e fault r is h = subst (λ (x : ReadError F). Fails x r) is h
 
 -- ---- tests that failed

@@ -25,10 +25,13 @@ none_any p (b ∷ bs) h = rw h.0 (none_any p bs h.1)
 -- ---- the texts of numbers
 
 -- what minus, point and digits don't pass
-pub number_none : (p : ℕ → Bool) → ((b : ℕ) → IsNumberByte b → p b ≡ false) → (text : List ℕ) → AllByRecursion IsNumberByte text → HasNone p text
+pub number_none : (p : ℕ → Bool) → ((b : ℕ) → IsNumberByte b → p b ≡ false) → (text : List ℕ)
+    → AllByRecursion IsNumberByte text → HasNone p text
 number_none p fails [] h = tt
 number_none p fails (b ∷ text) h = (fails b h.0, number_none p fails text h.1)
 
 -- a byte below these
-pub number_lacks : (byte : ℕ) → byte < 45 → (text : List ℕ) → AllByRecursion IsNumberByte text → HasNone (is_byte byte) text
-number_lacks byte low text h = number_none (is_byte byte) (λ b is. ne_eqb b byte (λ e. absurd (omega (arith, is.0)))) text h
+pub number_lacks : (byte : ℕ) → byte < 45 → (text : List ℕ) → AllByRecursion IsNumberByte text
+    → HasNone (is_byte byte) text
+number_lacks byte low text h = number_none (is_byte byte) (λ b is. ne_eqb b byte (λ e. absurd (omega (arith, is.0))))
+    text h

@@ -17,4 +17,4 @@ pub mod Takes
 pub mod EscapedUtf8
 pub mod Faulty
 pub mod ValidFronts
-pub mod PlaceLemmas
+pub mod OffsetLemmas

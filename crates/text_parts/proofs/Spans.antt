@@ -1,6 +1,7 @@
 -- A part up to its first backslash.
 use Rattle.std.proofs.Common.{◌≡◌, ℕ, suc, ◌+◌, ◌-◌, ◌<◌, ◌≤◌, Bool, true, false, cond, ltb, List, [], ◌∷◌}
-use Rattle.std.proofs.Common.{length, get_or, take, drop, Option, Some, None, refl, sym, ap, subst, ◌∙◌, add-zero, arith}
+use Rattle.std.proofs.Common.{length, get_or, take, drop, Option, Some, None, refl, sym, ap, subst, ◌∙◌, add-zero}
+use Rattle.std.proofs.Common.{arith}
 use Rattle.std.proofs.lemmas.List.{length-take-le, length-drop}
 use Rattle.text_parts.specs.declared.span.Span.{Span}
 use Rattle.text_parts.specs.Part.{len_at, text_at}
@@ -74,7 +75,8 @@ front_plain k (b ∷ bs) =
       | false ↦ λ e.
           let m : 1 + position_or_len (stops k) bs ≡ suc (position_or_len (stops k) bs) = omega arith in
           let both = or_false (k.ends b) (b == 92) e in
-          rw m (plain_cons k b (take (position_or_len (stops k) bs) bs) both.1 ∙ ap (λ (t : List ℕ). b ∷ t) (front_plain k bs))
+          rw m (plain_cons k b (take (position_or_len (stops k) bs) bs) both.1
+          ∙ ap (λ (t : List ℕ). b ∷ t) (front_plain k bs))
     ] refl
 
 no_escape : (k : Kind) (bs : List ℕ) → (get_or bs 0 0 == 92) ≡ false → is_escape k bs ≡ false
@@ -90,7 +92,8 @@ ends_there k bs n is none =
       | true ↦ λ e.
           let lt : n < length bs = ltb-true n (length bs) e in
           let stop : stops k (get_or bs n 0) ≡ true = rw is (passes_at_first (stops k) bs 0 (rw (← is) lt)) in
-          let escape : is_escape k (drop n bs) ≡ false = no_escape k (drop n bs) (rw (get_or-drop, add-zero) (none lt)) in
+          let escape : is_escape k (drop n bs) ≡ false = no_escape k (drop n bs)
+          (rw (get_or-drop, add-zero) (none lt)) in
           let zero : part_len k (drop n bs) ≡ 0 = end_at k bs n escape lt (or_first _ _ stop (none lt)) in
           rw (← is) at (part_from k bs) ∙ rw zero (omega arith)
       | false ↦ λ e.
@@ -98,20 +101,24 @@ ends_there k bs n is none =
           rw (← is) at (part_from k bs) ∙ rw zero (omega arith)
     ] refl
 
--- a place that is found is in the text, or its end
+-- an offset that is found is in the text, or its end
 pub position_or_len_le : (p : ℕ → Bool) (bs : List ℕ) → position_or_len p bs ≤ length bs
 position_or_len_le p bs = prefix_len-le-length (λ b. not (p b)) bs
 
--- the first place that passes, or the length
+-- the first offset that passes, or the length
 pub position_or_all : (p : ℕ → Bool) (bs : List ℕ) → unwrap_or (position p bs) (length bs) ≡ position_or_len p bs
 position_or_all p bs =
     elim (ltb (position_or_len p bs) (length bs)) as (λ t. ltb (position_or_len p bs) (length bs) ≡ t
     → unwrap_or (cond t (Some (position_or_len p bs)) None) (length bs) ≡ position_or_len p bs) [
       | true ↦ λ e. refl
-      | false ↦ λ e. omega (arith, ltb-false (position_or_len p bs) (length bs) e, prefix_len-le-length (λ b. not (p b)) bs)
+      | false ↦ λ e. omega (
+        arith,
+        ltb-false (position_or_len p bs) (length bs) e,
+        prefix_len-le-length (λ b. not (p b)) bs,
+      )
     ] refl
 
--- the first place that passes is found in what stands behind a place
+-- the first offset that passes is found in what stands behind an offset
 pub found_len : (p : ℕ → Bool) (piece rest bytes : List ℕ) (i r : ℕ) (found : Option ℕ) → rest ≡ drop i piece
     → bytes ≡ rest → found ≡ position p bytes → r ≡ unwrap_or found (length rest) → r ≡ position_or_len p (drop i piece)
 found_len p piece rest bytes i r found behind same is unwrapped =
@@ -125,7 +132,8 @@ pub unescaped_span : (k : Kind) → EndsLow k → (piece : List ℕ) (i first : 
     → IsSpan k piece (record { start = i; end = i + first; escaped = false })
 unescaped_span k low piece i first at is none =
     let len : part_len k (drop i piece) ≡ first = ends_there k (drop i piece) first is none in
-    let le : part_len k (drop i piece) ≤ length (drop i piece) = omega (arith, len, is, prefix_len-le-length (λ b. not (stops k b)) (drop i piece)) in
+    let le : part_len k (drop i piece) ≤ length (drop i piece) =
+    omega (arith, len, is, prefix_len-le-length (λ b. not (stops k b)) (drop i piece)) in
     let size : i + first - i ≡ first = omega arith in
     let text : plain k (take first (drop i piece)) ≡ take first (drop i piece) = rw is (front_plain k (drop i piece)) in
     record {
@@ -183,10 +191,12 @@ pub unhidden_part : (k : Kind) → HidesNone k → (piece text : List ℕ) (i : 
     → text ≡ take (position_or_len k.ends (drop i piece)) (drop i piece) → IsPartAt k piece i text
 unhidden_part k none piece text i is =
     let n : part_len k (drop i piece) ≡ position_or_len k.ends (drop i piece) = unhidden_len k none (drop i piece) in
-    let le : position_or_len k.ends (drop i piece) ≤ length (drop i piece) = prefix_len-le-length (λ b. not (k.ends b)) (drop i piece) in
+    let le : position_or_len k.ends (drop i piece) ≤ length (drop i piece) =
+    prefix_len-le-length (λ b. not (k.ends b)) (drop i piece) in
     record {
       len = n ∙ sym (ap length is ∙ length-take-le (position_or_len k.ends (drop i piece)) (drop i piece) le);
-      means = ap (λ (m : ℕ). plain k (take m (drop i piece))) n ∙ unhidden_plain k none (take (position_or_len k.ends (drop i piece)) (drop i piece)) ∙ sym is;
+      means = ap (λ (m : ℕ). plain k (take m (drop i piece))) n
+          ∙ unhidden_plain k none (take (position_or_len k.ends (drop i piece)) (drop i piece)) ∙ sym is;
     }
 
 -- a character ends before that byte
@@ -200,11 +210,14 @@ unhidden_boundary k none low piece i within =
 pub unhidden_end : (k : Kind) → HidesNone k → EndsLow k → (piece text : List ℕ) (i : ℕ) → i ≤ length piece
     → text ≡ take (position_or_len k.ends (drop i piece)) (drop i piece) → IsCharBoundary piece (i + length text)
 unhidden_end k none low piece text i within is =
-    let le : position_or_len k.ends (drop i piece) ≤ length (drop i piece) = prefix_len-le-length (λ b. not (k.ends b)) (drop i piece) in
-    let size : length text ≡ position_or_len k.ends (drop i piece) = ap length is ∙ length-take-le (position_or_len k.ends (drop i piece)) (drop i piece) le in
+    let le : position_or_len k.ends (drop i piece) ≤ length (drop i piece) =
+    prefix_len-le-length (λ b. not (k.ends b)) (drop i piece) in
+    let size : length text ≡ position_or_len k.ends (drop i piece) =
+    ap length is ∙ length-take-le (position_or_len k.ends (drop i piece)) (drop i piece) le in
     rw size (unhidden_boundary k none low piece i within)
 
-pub unhidden_rest_boundary : (k : Kind) → HidesNone k → EndsLow k → (bs : List ℕ) → IsCharBoundary bs (position_or_len k.ends bs)
+pub unhidden_rest_boundary : (k : Kind) → HidesNone k → EndsLow k → (bs : List ℕ)
+    → IsCharBoundary bs (position_or_len k.ends bs)
 unhidden_rest_boundary k none low bs =
     let n : part_len k bs ≡ position_or_len k.ends bs = unhidden_len k none bs in
     subst (IsCharBoundary bs) n (part-IsCharBoundary k low bs (rw n (prefix_len-le-length (λ b. not (k.ends b)) bs)))
@@ -224,5 +237,7 @@ pub span_some : (k : Kind) (piece : List ℕ) (span : Span) → IsSpan k piece s
     → 0 < length (text_at k piece span.start)
 span_some k piece span is some =
     let len : 0 < len_at k piece span.start = omega (arith, is.behind) in
-    let within : len_at k piece span.start ≤ length (drop span.start piece) = omega (arith, is.behind, is.last.0, length-drop span.start piece) in
-    plain_some k (take (len_at k piece span.start) (drop span.start piece)) (omega (arith, length-take-le (len_at k piece span.start) (drop span.start piece) within))
+    let within : len_at k piece span.start ≤ length (drop span.start piece) =
+    omega (arith, is.behind, is.last.0, length-drop span.start piece) in
+    plain_some k (take (len_at k piece span.start) (drop span.start piece))
+    (omega (arith, length-take-le (len_at k piece span.start) (drop span.start piece) within))

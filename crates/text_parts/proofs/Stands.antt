@@ -1,19 +1,26 @@
--- What stands between two places of a piece.
-use Rattle.std.proofs.Common.{◌≡◌, ℕ, suc, ◌+◌, ◌<◌, ◌≤◌, true, false, ltb, List, [], ◌∷◌, ◌++◌, length, get_or, take, drop, refl, sym, ap, subst, ◌∙◌, append_assoc, drop-cons, add-one, arith}
+-- What stands between two offsets of a piece.
+use Rattle.std.proofs.Common.{◌≡◌, ℕ, suc, ◌+◌, ◌<◌, ◌≤◌, true, false, ltb, List, [], ◌∷◌, ◌++◌, length, get_or, take}
+use Rattle.std.proofs.Common.{drop, refl, sym, ap, subst, ◌∙◌, append_assoc, drop-cons, add-one, arith}
 use Rattle.std.proofs.lemmas.Bool.{ltb-true, ltb-false}
 use Rattle.std.proofs.lemmas.List.{take_at, drop-drop, get_or_past, length-append, length-drop, take-append-drop}
 use Rattle.text_parts.specs.Part.{Kind, part_len, len_at, text_at, plain}
 use Rattle.text_parts.specs.Grammar.{Mark, spelled, meant, IsPart}
 use Rattle.text_parts.proofs.MarkLemmas.{found, part_is_read}
 
--- the text stands between two places
+-- the text stands between two offsets
 pub record Spans (piece : List ℕ) (i j : ℕ) (text : List ℕ) : Type 0 where
   pub is : drop i piece ≡ text ++ drop j piece
   pub more : i ≤ j
   pub within : j ≤ length piece
 
-pub joins : (piece : List ℕ) (i j k : ℕ) (a b : List ℕ) → Spans piece i j a → Spans piece j k b → Spans piece i k (a ++ b)
-joins piece i j k a b x y = record { is = x.is ∙ ap (λ (t : List ℕ). a ++ t) y.is ∙ sym (append_assoc a b (drop k piece)); more = omega (arith, x.more, y.more); within = y.within }
+pub joins : (piece : List ℕ) (i j k : ℕ) (a b : List ℕ) → Spans piece i j a → Spans piece j k b
+    → Spans piece i k (a ++ b)
+joins piece i j k a b x y = record {
+  is = x.is ∙ ap (λ (t : List ℕ). a ++ t) y.is
+      ∙ sym (append_assoc a b (drop k piece));
+  more = omega (arith, x.more, y.more);
+  within = y.within;
+}
 
 pub none_spans : (piece : List ℕ) (i : ℕ) → i ≤ length piece → Spans piece i i []
 none_spans piece i le = record { is = refl; more = omega arith; within = le }
@@ -32,10 +39,24 @@ byte_at piece m b some e =
 pub byte_spans : (piece : List ℕ) (m b : ℕ) → 0 < b → get_or piece m 0 ≡ b → Spans piece m (m + 1) (b ∷ [])
 byte_spans piece m b some e =
     let is = byte_at piece m b some e in
-    record { is = is; more = omega arith; within = omega (arith, ap length is, length-drop m piece, length-drop (m + 1) piece) }
+    record {
+      is = is;
+      more = omega arith;
+      within = omega (
+        arith,
+        ap length is,
+        length-drop m piece,
+        length-drop (m + 1) piece,
+      );
+    }
 
 pub front_spans : (piece : List ℕ) (i n : ℕ) → i + n ≤ length piece → Spans piece i (i + n) (take n (drop i piece))
-front_spans piece i n within = record { is = sym (take-append-drop n (drop i piece)) ∙ ap (λ (t : List ℕ). take n (drop i piece) ++ t) (drop-drop n i piece); more = omega arith; within = within }
+front_spans piece i n within = record {
+  is = sym (take-append-drop n (drop i piece))
+      ∙ ap (λ (t : List ℕ). take n (drop i piece) ++ t) (drop-drop n i piece);
+  more = omega arith;
+  within = within;
+}
 
 -- a part that is read stands there as marks
 pub record Parted (k : Kind) (piece : List ℕ) (i : ℕ) : Type 0 where
@@ -53,8 +74,10 @@ part_again k piece i le =
     let rest : drop (i + length (spelled f.marks)) piece ≡ drop (part_len k (drop i piece)) (drop i piece) =
     ap (λ (m : ℕ). drop (i + m) piece) (sym len) ∙ sym (drop-drop (part_len k (drop i piece)) i piece) in
     let cut : take (part_len k (drop i piece)) (drop i piece) ≡ spelled f.marks =
-    ap (λ (m : ℕ). take m (drop i piece)) len ∙ ap (take (length (spelled f.marks))) f.text ∙ take_at (spelled f.marks) _ (length (spelled f.marks)) refl in
-    let whole : length (drop i piece) ≡ length (spelled f.marks) + length (drop (part_len k (drop i piece)) (drop i piece)) =
+    ap (λ (m : ℕ). take m (drop i piece)) len ∙ ap (take (length (spelled f.marks))) f.text
+    ∙ take_at (spelled f.marks) _ (length (spelled f.marks)) refl in
+    let whole : length (drop i piece) ≡ length (spelled f.marks) + length
+    (drop (part_len k (drop i piece)) (drop i piece)) =
     ap length f.text ∙ length-append (spelled f.marks) (drop (part_len k (drop i piece)) (drop i piece)) in
     record {
       marks = f.marks;

@@ -1,5 +1,6 @@
--- What stands at a place of a piece, up to its end.
-use Rattle.std.proofs.Common.{◌≡◌, ℕ, ◌+◌, ◌<◌, false, List, [], ◌∷◌, ◌++◌, length, get_or, take, drop, Result, Ok, refl, sym, ap, ◌∙◌, add-zero, arith}
+-- What stands at an offset of a piece, up to its end.
+use Rattle.std.proofs.Common.{◌≡◌, ℕ, ◌+◌, ◌<◌, false, List, [], ◌∷◌, ◌++◌, length, get_or, take, drop, Result, Ok}
+use Rattle.std.proofs.Common.{refl, sym, ap, ◌∙◌, add-zero, arith}
 use Rattle.std.specs.Prelude.{◌==◌}
 use Rattle.std.proofs.lemmas.Bool.{ne_eqb}
 use Rattle.std.proofs.lemmas.List.{take_at, drop_at, drop-drop, get_or-drop, length-append}
@@ -34,7 +35,8 @@ part_takes k piece i w rest marks at is part =
     let here : drop i piece ≡ spelled marks ++ rest = at.is ∙ ap (λ (t : List ℕ). t ++ rest) is in
     let len : part_len k (drop i piece) ≡ length (spelled marks) = ap (part_len k) here ∙ read.0 in
     let cut : take (part_len k (drop i piece)) (drop i piece) ≡ spelled marks =
-    ap (λ (n : ℕ). take n (drop i piece)) len ∙ ap (take (length (spelled marks))) here ∙ take_at (spelled marks) rest (length (spelled marks)) refl in
+    ap (λ (n : ℕ). take n (drop i piece)) len ∙ ap (take (length (spelled marks))) here
+    ∙ take_at (spelled marks) rest (length (spelled marks)) refl in
     (len ∙ ap length (sym is), ap (plain k) cut ∙ read.1)
 
 pub not_none : (w : List ℕ) → 0 < length w → (length w == 0) ≡ false

@@ -1,5 +1,6 @@
 -- The longest front of a piece that is UTF-8.
-use Rattle.std.proofs.Common.{◌≡◌, ℕ, zero, suc, ◌<◌, ◌≤◌, Bool, true, false, cond, ltb, List, length, take, take_all, refl, subst, arith}
+use Rattle.std.proofs.Common.{◌≡◌, ℕ, zero, suc, ◌<◌, ◌≤◌, Bool, true, false, cond, ltb, List, length, take, take_all}
+use Rattle.std.proofs.Common.{refl, subst, arith}
 use Rattle.std.specs.Str.{IsUtf8, IsValidUpTo, is_utf8}
 use Rattle.std.specs.Str.Lossy.{valid_len_up_to, utf8_valid_len}
 use Rattle.std.proofs.lemmas.Bool.{ltb-true, ltb-false}
@@ -7,10 +8,11 @@ use Rattle.std.proofs.lemmas.Str.{IsUtf8-from_is_utf8, is_utf8-from_IsUtf8, IsUt
 
 front_valid : (bs : List ℕ) (m : ℕ) → IsUtf8 (take (valid_len_up_to bs m) bs)
 front_valid bs zero = IsUtf8-nil
-front_valid bs (suc m) = elim (is_utf8 (take (suc m) bs)) as (λ t. is_utf8 (take (suc m) bs) ≡ t → IsUtf8 (take (cond t (suc m) (valid_len_up_to bs m)) bs)) [
-  | true ↦ λ e. IsUtf8-from_is_utf8 (take (suc m) bs) e
-  | false ↦ λ e. front_valid bs m
-] refl
+front_valid bs (suc m) = elim (is_utf8 (take (suc m) bs)) as
+    (λ t. is_utf8 (take (suc m) bs) ≡ t → IsUtf8 (take (cond t (suc m) (valid_len_up_to bs m)) bs)) [
+      | true ↦ λ e. IsUtf8-from_is_utf8 (take (suc m) bs) e
+      | false ↦ λ e. front_valid bs m
+    ] refl
 
 never : (t : Bool) → t ≡ true → t ≡ false → ⊥
 never true e f = absurd cc
@@ -18,17 +20,19 @@ never false e f = absurd cc
 
 no_longer : (bs : List ℕ) (m k : ℕ) → valid_len_up_to bs m < k → k ≤ m → IsUtf8 (take k bs) → ⊥
 no_longer bs zero k over le u = absurd (omega arith)
-no_longer bs (suc m) k over le u = elim (is_utf8 (take (suc m) bs)) as (λ t. is_utf8 (take (suc m) bs) ≡ t → cond t (suc m) (valid_len_up_to bs m) < k → ⊥) [
-  | true ↦ λ e lt. absurd (omega arith)
-  | false ↦ λ e lt. elim (ltb m k) as (λ t. ltb m k ≡ t → ⊥) [
-    | true ↦ λ last.
-        let same : k ≡ suc m = omega (arith, ltb-true m k last) in
-        never (is_utf8 (take (suc m) bs)) (is_utf8-from_IsUtf8 (take (suc m) bs) (subst (λ (n : ℕ). IsUtf8 (take n bs)) same u)) e
-    | false ↦ λ below. no_longer bs m k lt (ltb-false m k below) u
-  ] refl
-] refl over
+no_longer bs (suc m) k over le u = elim (is_utf8 (take (suc m) bs)) as
+    (λ t. is_utf8 (take (suc m) bs) ≡ t → cond t (suc m) (valid_len_up_to bs m) < k → ⊥) [
+      | true ↦ λ e lt. absurd (omega arith)
+      | false ↦ λ e lt. elim (ltb m k) as (λ t. ltb m k ≡ t → ⊥) [
+        | true ↦ λ last.
+            let same : k ≡ suc m = omega (arith, ltb-true m k last) in
+            never (is_utf8 (take (suc m) bs)) (is_utf8-from_IsUtf8 (take (suc m) bs)
+            (subst (λ (n : ℕ). IsUtf8 (take n bs)) same u)) e
+        | false ↦ λ below. no_longer bs m k lt (ltb-false m k below) u
+      ] refl
+    ] refl over
 
--- where a piece isn't UTF-8, its longest front that is ends at the place that is given
+-- where a piece isn't UTF-8, its longest front that is ends at the offset that is given
 pub valid_up_to : (piece : List ℕ) → is_utf8 piece ≡ false → IsValidUpTo piece (utf8_valid_len piece)
 unfolding utf8_valid_len
 valid_up_to piece not = record {

@@ -1,54 +1,64 @@
 -- Words with spaces between them.
-use Rattle.std.proofs.Common.{◌≡◌, ℕ, zero, suc, ◌+◌, ◌<◌, true, false, List, [], ◌∷◌, ◌++◌, length, refl, sym, ap, subst, ◌∙◌, arith}
+use Rattle.std.proofs.Common.{◌≡◌, ℕ, zero, suc, ◌+◌, ◌<◌, true, false, List, [], ◌∷◌, ◌++◌, length, refl, sym, ap}
+use Rattle.std.proofs.Common.{subst, ◌∙◌, arith}
 use Rattle.std.specs.Prelude.{◌==◌, filter}
 use Rattle.std.specs.List.{slice_split}
 use Rattle.std.proofs.lemmas.Bool.{ne_eqb, eqb-true}
 use Rattle.std.proofs.lemmas.List.{append-nil}
 use Rattle.text_parts.specs.Split.{PartAt, is_byte, placed, parts_of}
-use Rattle.text_parts.specs.Words.{is_filled, words_of, spaces, Spaced, spaced_text, spaced_at, IsWord, AreWords, SpacedAreWords, WordsAreSpaced}
+use Rattle.text_parts.specs.Words.{is_filled, words_of, spaces, Spaced, spaced_text, spaced_at, IsWord, AreWords}
+use Rattle.text_parts.specs.Words.{SpacedAreWords, WordsAreSpaced}
 use Rattle.text_parts.proofs.Splits.{split_none, split_found}
 
 -- what stands between spaces, the empty texts left out
 abbrev between : ℕ → List ℕ → List PartAt
-between place text = filter is_filled (placed place (slice_split (is_byte 32) text))
+between offset text = filter is_filled (placed offset (slice_split (is_byte 32) text))
 
-same_place : (m n : ℕ) (text : List ℕ) → m ≡ n → between m text ≡ between n text
-same_place m n text e = ap (λ (k : ℕ). between k text) e
+same_offset : (m n : ℕ) (text : List ℕ) → m ≡ n → between m text ≡ between n text
+same_offset m n text e = ap (λ (k : ℕ). between k text) e
 
-behind_spaces : (n place : ℕ) (text : List ℕ) → between place (spaces n ++ text) ≡ between (place + n) text
-behind_spaces zero place text = same_place place (place + 0) text (omega arith)
-behind_spaces (suc n) place text =
-    behind_spaces n (place + 0 + 1) text ∙ same_place (place + 0 + 1 + n) (place + suc n) text (omega arith)
+behind_spaces : (n offset : ℕ) (text : List ℕ) → between offset (spaces n ++ text) ≡ between (offset + n) text
+behind_spaces zero offset text = same_offset offset (offset + 0) text (omega arith)
+behind_spaces (suc n) offset text =
+    behind_spaces n (offset + 0 + 1) text ∙ same_offset (offset + 0 + 1 + n) (offset + suc n) text (omega arith)
 
-filled_first : (place : ℕ) (word : List ℕ) (parts : List PartAt) → 0 < length word → filter is_filled ((place, word) ∷ parts) ≡ (place, word) ∷ filter is_filled parts
-filled_first place word parts some =
+filled_first : (offset : ℕ) (word : List ℕ) (parts : List PartAt) → 0 < length word
+    → filter is_filled ((offset, word) ∷ parts) ≡ (offset, word) ∷ filter is_filled parts
+filled_first offset word parts some =
     let test : (length word == 0) ≡ false = ne_eqb (length word) 0 (λ e. absurd (omega arith)) in
     rw test refl
 
 -- a word at the end, and one before a space
-last_word : (place : ℕ) (word : List ℕ) → IsWord word → between place word ≡ (place, word) ∷ []
-last_word place word is =
-    ap (λ (texts : List (List ℕ)). filter is_filled (placed place texts)) (split_none (is_byte 32) word is.none)
-    ∙ filled_first place word [] is.filled
+last_word : (offset : ℕ) (word : List ℕ) → IsWord word → between offset word ≡ (offset, word) ∷ []
+last_word offset word is =
+    ap (λ (texts : List (List ℕ)). filter is_filled (placed offset texts)) (split_none (is_byte 32) word is.none)
+    ∙ filled_first offset word [] is.filled
 
-word_before : (place n : ℕ) (word rest : List ℕ) → IsWord word → between place (word ++ (spaces (suc n) ++ rest)) ≡ (place, word) ∷ between (place + length word + suc n) rest
-word_before place n word rest is =
-    ap (λ (texts : List (List ℕ)). filter is_filled (placed place texts)) (split_found (is_byte 32) word 32 (spaces n ++ rest) is.none refl)
-    ∙ filled_first place word (placed (place + length word + 1) (slice_split (is_byte 32) (spaces n ++ rest))) is.filled
-    ∙ ap (λ (parts : List PartAt). (place, word) ∷ parts)
-    (behind_spaces n (place + length word + 1) rest ∙ same_place (place + length word + 1 + n) (place + length word + suc n) rest (omega arith))
+word_before : (offset n : ℕ) (word rest : List ℕ) → IsWord word
+    → between offset (word ++ (spaces (suc n) ++ rest)) ≡ (offset, word) ∷ between (offset + length word + suc n) rest
+word_before offset n word rest is =
+    ap (λ (texts : List (List ℕ)). filter is_filled (placed offset texts))
+    (split_found (is_byte 32) word 32 (spaces n ++ rest) is.none refl)
+    ∙ filled_first offset word (placed (offset + length word + 1) (slice_split (is_byte 32) (spaces n ++ rest)))
+    is.filled
+    ∙ ap (λ (parts : List PartAt). (offset, word) ∷ parts)
+    (behind_spaces n (offset + length word + 1) rest ∙ same_offset (offset + length word + 1 + n)
+    (offset + length word + suc n) rest (omega arith))
 
-spaced_are : (place : ℕ) (words : List Spaced) → AreWords words → between place (spaced_text words) ≡ spaced_at place words
-spaced_are place [] are = refl
-spaced_are place ((word, suc n) ∷ words) are =
-    word_before place n word (spaced_text words) are.0
-    ∙ ap (λ (parts : List PartAt). (place, word) ∷ parts) (spaced_are (place + length word + suc n) words are.2)
-spaced_are place ((word, zero) ∷ []) are = subst (λ (text : List ℕ). between place text ≡ (place, word) ∷ []) (sym (append-nil word)) (last_word place word are.0)
-spaced_are place ((word, zero) ∷ v ∷ words) are = absurd (omega (arith, are.1))
+spaced_are : (offset : ℕ) (words : List Spaced) → AreWords words
+    → between offset (spaced_text words) ≡ spaced_at offset words
+spaced_are offset [] are = refl
+spaced_are offset ((word, suc n) ∷ words) are =
+    word_before offset n word (spaced_text words) are.0
+    ∙ ap (λ (parts : List PartAt). (offset, word) ∷ parts) (spaced_are (offset + length word + suc n) words are.2)
+spaced_are offset ((word, zero) ∷ []) are = subst (λ (text : List ℕ). between offset text ≡ (offset, word) ∷ [])
+    (sym (append-nil word)) (last_word offset word are.0)
+spaced_are offset ((word, zero) ∷ v ∷ words) are = absurd (omega (arith, are.1))
 
 pub spaced_are_words : SpacedAreWords
 unfolding words_of parts_of
-spaced_are_words place before words are = behind_spaces before place (spaced_text words) ∙ spaced_are (place + before) words are
+spaced_are_words offset before words are = behind_spaces before offset (spaced_text words)
+    ∙ spaced_are (offset + before) words are
 
 -- ---- each text
 
@@ -59,11 +69,21 @@ abbrev SpacedAs : List ℕ → Type 0
 SpacedAs text = (before : ℕ) × (words : List Spaced) × (text ≡ spaces before ++ spaced_text words) × AreWords words
 
 -- one byte more at the front
-onto : (b : ℕ) (bs : List ℕ) → (b == 32) ≡ false → (before : ℕ) (words : List Spaced) → bs ≡ spaces before ++ spaced_text words → AreWords words → SpacedAs (b ∷ bs)
+onto : (b : ℕ) (bs : List ℕ) → (b == 32) ≡ false → (before : ℕ) (words : List Spaced)
+    → bs ≡ spaces before ++ spaced_text words → AreWords words → SpacedAs (b ∷ bs)
 onto b bs e before [] is are = (0, (b ∷ [], before) ∷ [], ap (λ (t : List ℕ). b ∷ t) is, (one b e, tt, tt))
-onto b bs e (suc n) (v ∷ words) is are = (0, (b ∷ [], suc n) ∷ v ∷ words, ap (λ (t : List ℕ). b ∷ t) is, (one b e, omega arith, are))
-onto b bs e zero (v ∷ words) is are =
-    (0, (b ∷ v.0, v.1) ∷ words, ap (λ (t : List ℕ). b ∷ t) is, (record { filled = omega arith; none = (e, are.0.none) }, are.1, are.2))
+onto b bs e (suc n) (v ∷ words) is are = (
+  0,
+  (b ∷ [], suc n) ∷ v ∷ words,
+  ap (λ (t : List ℕ). b ∷ t) is,
+  (one b e, omega arith, are),
+)
+onto b bs e zero (v ∷ words) is are = (
+  0,
+  (b ∷ v.0, v.1) ∷ words,
+  ap (λ (t : List ℕ). b ∷ t) is,
+  (record { filled = omega arith; none = (e, are.0.none) }, are.1, are.2),
+)
 
 pub words_are_spaced : WordsAreSpaced
 words_are_spaced [] = (0, [], refl, tt)

@@ -14,5 +14,5 @@ pub mod Stops
 pub mod Escaped
 pub mod Marks
 pub mod Pairs
-pub mod Places
+pub mod Offsets
 pub mod Tables

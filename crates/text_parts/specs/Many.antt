@@ -3,11 +3,11 @@ use Rattle.std.specs.Prelude.{ℕ, zero, suc, ◌+◌, ◌==◌, List, [], ◌�
 use Rattle.std.specs.Prelude.{if◌then◌else◌}
 use Rattle.text_parts.specs.Chain.{◌>>=◌}
 
--- a reader of items of a piece: from a place, the item and the place behind it
+-- a reader of items of a piece: from an offset, the item and the offset behind it
 abbrev pub Reader : Type 0 → Type 0 → Type 0
 Reader A F = List ℕ → ℕ → Result (A × ℕ) F
 
--- the items from a place on, each behind the separator, and the place behind them; there are at most n
+-- the items from an offset on, each behind the separator, and the offset behind them; there are at most n
 unfoldable pub many_at : {A F : Type 0} → Reader A F → ℕ → ℕ → List ℕ → ℕ → Result (List A × ℕ) F
 many_at item_at separator zero piece i = Ok ([], i)
 many_at item_at separator (suc n) piece i =
@@ -17,11 +17,11 @@ many_at item_at separator (suc n) piece i =
       Ok (first.0 ∷ others.0, others.1))
     else Ok ([], i)
 
--- all items from a place on, each behind the separator, and the place behind them
+-- all items from an offset on, each behind the separator, and the offset behind them
 abbrev pub items_at : {A F : Type 0} → Reader A F → ℕ → Reader (List A) F
 items_at item_at separator piece i = many_at item_at separator (length piece) piece i
 
--- one item or more, with separators between them, and the place behind them
+-- one item or more, with separators between them, and the offset behind them
 abbrev pub some_items_at : {A F : Type 0} → Reader A F → ℕ → Reader (List A) F
 some_items_at item_at separator piece i = do
   first ← item_at piece i

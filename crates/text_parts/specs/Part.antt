@@ -29,15 +29,15 @@ is_escape k [] = false
 is_escape k (b ∷ []) = false
 is_escape k (b ∷ c ∷ bs) = b == backslash && k.escapes c
 
--- how many bytes the part has that begins at a place
+-- how many bytes the part has that begins at an offset
 abbrev pub len_at : Kind → List ℕ → ℕ → ℕ
 len_at k piece i = part_len k (drop i piece)
 
--- the text of the part that begins at a place, without its escapes
+-- the text of the part that begins at an offset, without its escapes
 abbrev pub text_at : Kind → List ℕ → ℕ → List ℕ
 text_at k piece i = plain k (take (len_at k piece i) (drop i piece))
 
--- the text is the part of this kind that begins at a place, and it means itself
+-- the text is the part of this kind that begins at an offset, and it means itself
 pub record IsPartAt (k : Kind) (piece : List ℕ) (i : ℕ) (text : List ℕ) : Type 0 where
   pub len : len_at k piece i ≡ length text
   pub means : text_at k piece i ≡ text

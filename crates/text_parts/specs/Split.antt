@@ -6,11 +6,11 @@ use Rattle.std.specs.List.{AllByRecursion}
 use Rattle.text_parts.specs.Chain.{◌>>=◌}
 use Rattle.text_parts.specs.Grammar.{HasNone}
 
--- a part of a piece: the place where it begins there, and its text
+-- a part of a piece: the offset where it begins there, and its text
 abbrev pub PartAt : Type 0
 PartAt = ℕ × List ℕ
 
--- the place behind a part is a number of the machine, with one to spare
+-- the offset behind a part is a number of the machine, with one to spare
 abbrev pub Fits : PartAt → Type 0
 Fits part = part.0 + length part.1 + 1 < 2 ^ 64
 
@@ -25,10 +25,10 @@ first_part byte text = (
       then Some (after_first (is_byte byte) text) else None,
 )
 
--- parts of which the first begins at a place, with one byte between two of them, each with its place
+-- parts of which the first begins at an offset, with one byte between two of them, each with its offset
 abbrev pub placed : ℕ → List (List ℕ) → List PartAt
-placed place [] = []
-placed place (text ∷ texts) = (place, text) ∷ placed (place + length text + 1) texts
+placed offset [] = []
+placed offset (text ∷ texts) = (offset, text) ∷ placed (offset + length text + 1) texts
 
 -- the parts of a part between the separators in it
 unfoldable pub parts_of : ℕ → PartAt → List PartAt

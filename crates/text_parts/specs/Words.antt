@@ -9,7 +9,7 @@ use Rattle.text_parts.specs.Split.{PartAt, is_byte, parts_of}
 abbrev pub is_filled : PartAt → Bool
 is_filled part = not (length part.1 == 0)
 
--- the words of a part of a piece, each with its place there: what stands between spaces and isn't empty
+-- the words of a part of a piece, each with its offset there: what stands between spaces and isn't empty
 unfoldable pub words_of : PartAt → List PartAt
 words_of part = filter is_filled (parts_of space part)
 
@@ -19,7 +19,7 @@ abbrev pub spaces : ℕ → List ℕ
 spaces zero = []
 spaces (suc n) = space ∷ spaces n
 
--- words, each with the number of spaces behind it, as they are written, and as they stand from a place on
+-- words, each with the number of spaces behind it, as they are written, and as they stand from an offset on
 abbrev pub Spaced : Type 0
 Spaced = List ℕ × ℕ
 
@@ -28,8 +28,8 @@ spaced_text [] = []
 spaced_text (word ∷ words) = word.0 ++ (spaces word.1 ++ spaced_text words)
 
 abbrev pub spaced_at : ℕ → List Spaced → List PartAt
-spaced_at place [] = []
-spaced_at place (word ∷ words) = (place, word.0) ∷ spaced_at (place + length word.0 + word.1) words
+spaced_at offset [] = []
+spaced_at offset (word ∷ words) = (offset, word.0) ∷ spaced_at (offset + length word.0 + word.1) words
 
 -- a word isn't empty and has no space
 pub record IsWord (text : List ℕ) : Type 0 where
@@ -47,8 +47,8 @@ AreWords (word ∷ words) = IsWord word.0 × Parted word.1 words × AreWords wor
 
 -- words with one or more spaces between them, and any number around, are these words
 abbrev pub SpacedAreWords : Type 0
-SpacedAreWords = (place before : ℕ) (words : List Spaced) → AreWords words
-    → words_of (place, spaces before ++ spaced_text words) ≡ spaced_at (place + before) words
+SpacedAreWords = (offset before : ℕ) (words : List Spaced) → AreWords words
+    → words_of (offset, spaces before ++ spaced_text words) ≡ spaced_at (offset + before) words
 
 -- each text is such words
 abbrev pub WordsAreSpaced : Type 0

@@ -45,7 +45,7 @@ impl Part {
     }
 }
 
-/// Whether an escape stands at a place.
+/// Whether an escape stands at an offset.
 fn escape_at(part: &Part, bytes: &[u8], i: usize) -> bool
     requires { i ≤ length bytes.now }
     ensures { result ≡ is_escape (kind_of part.now) (drop i bytes.now) }
@@ -92,7 +92,7 @@ pub fn plain_bytes(alloc: Global, part: &Part, bytes: &[u8]) -> Result<Vec<u8>, 
     Ok(text)
 }
 
-/// The text of the part that begins at a place of a text, without its escapes.
+/// The text of the part that begins at an offset of a text, without its escapes.
 pub fn part_text(alloc: Global, part: &Part, piece: &str, i: usize) -> Result<String, AllocError>
     requires boundary { IsCharBoundary piece.now i }
     requires ascii { IsAsciiPart part.now }

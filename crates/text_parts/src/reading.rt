@@ -10,7 +10,7 @@ use std::str;
 /// The text that a piece is; where it is no UTF-8, the length of its longest front that is.
 pub fn utf8_text(piece: &[u8]) -> Result<&str, usize>
     ensures { MatchResult result (λ text. (text.now ≡ piece.now) × (is_utf8 piece.now ≡ true))
-        (λ place. (place ≡ utf8_valid_len piece.now) × (is_utf8 piece.now ≡ false)) }
+        (λ offset. (offset ≡ utf8_valid_len piece.now) × (is_utf8 piece.now ≡ false)) }
 {
     match str::from_utf8(piece) {
         Ok(text) => Ok(text),

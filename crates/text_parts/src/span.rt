@@ -12,9 +12,9 @@ use crate::stops::first_of;
 /// Where a part stands in a piece.
 #[derive(Clone, Copy, Debug, PartialEq, Eq)]
 pub struct Span {
-    /// The place of its first byte.
+    /// The offset of its first byte.
     pub start: usize,
-    /// The place behind its last byte.
+    /// The offset behind its last byte.
     pub end: usize,
     /// Whether it has a backslash. If not its text is what stands there; else `part_text` gives it.
     pub escaped: bool,
@@ -29,7 +29,7 @@ fn stop_at(part: &Part, bytes: &[u8]) -> usize
     first_of([part.ends[0], part.ends[1], part.ends[2], b'\\'], bytes)
 }
 
-/// Where the part stands that begins at a place of a piece. Escapes are looked at only behind the first backslash.
+/// Where the part stands that begins at an offset of a piece. Escapes are looked at only behind the first backslash.
 #[inline(always)]
 pub fn span_at(part: &Part, piece: &str, i: usize) -> Span
     requires boundary { IsCharBoundary piece.now i }
@@ -55,7 +55,7 @@ pub fn span_at(part: &Part, piece: &str, i: usize) -> Span
     }
 }
 
-/// What stands between the places of a span, which is the text of its part where it has no backslash.
+/// What stands between the offsets of a span, which is the text of its part where it has no backslash.
 #[inline(always)]
 pub fn span_text<'a>(piece: &'a str, span: &Span) -> &'a str
     requires first { IsCharBoundary piece.now span.now.start }

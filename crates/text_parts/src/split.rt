@@ -10,13 +10,13 @@ use std::marker::Model;
 /// A part of a piece.
 #[derive(Clone, Copy, Debug)]
 pub struct Placed<'a> {
-    /// The place in the piece where it begins.
-    pub place: usize,
+    /// The offset in the piece where it begins.
+    pub offset: usize,
     /// Its text.
     pub text: &'a str,
 }
 
-/// The place of the first such byte; the length where there is none.
+/// The offset of the first such byte; the length where there is none.
 fn first_byte(byte: u8, bytes: &[u8]) -> usize
     ensures value { result ≡ position_or_len (is_byte byte) bytes.now }
     ensures bound { result ≤ length bytes.now }
@@ -45,7 +45,7 @@ pub fn first_part<'a>(byte: u8, text: &'a str) -> (&'a str, Option<&'a str>)
 #[derive(Debug, Drop)]
 pub struct Separated<'a> {
     separator: u8,
-    place: usize,
+    offset: usize,
     rest: Option<&'a str>,
 }
 
@@ -55,37 +55,37 @@ impl<'a> Model for Separated<'a> {
 
     ghost Value = { List (ℕ × List ℕ) };
 
-    ghost view = { λ p. parts_left p.separator p.place (option_map (λ rest. rest.now) p.rest) };
+    ghost view = { λ p. parts_left p.separator p.offset (option_map (λ rest. rest.now) p.rest) };
 
-    ghost invariant = { λ p. IsLeft p.separator p.place (option_map (λ rest. rest.now) p.rest) };
+    ghost invariant = { λ p. IsLeft p.separator p.offset (option_map (λ rest. rest.now) p.rest) };
 }
 
 impl<'a> Separated<'a> {
     /// The parts of a text of a piece. The separator is ASCII.
     pub fn of(separator: u8, text: Placed<'a>) -> Separated<'a>
         requires ascii { separator < 128 }
-        requires fits { Fits (text.place, text.text.now) }
-        ensures { result ≡ parts_of separator (text.entry.place, text.entry.text.now) }
+        requires fits { Fits (text.offset, text.text.now) }
+        ensures { result ≡ parts_of separator (text.entry.offset, text.entry.text.now) }
     {
         Separated {
             separator,
-            place: text.place,
+            offset: text.offset,
             rest: Some(text.text),
         }
     }
 
-    /// The next part, with its place in the piece; None where all were given.
+    /// The next part, with its offset in the piece; None where all were given.
     pub fn next(&mut self) -> Option<Placed<'a>>
         ensures next { MatchOption result (self.old ≡ [])
-            (λ part. self.old ≡ (part.place, part.text.now) ∷ self.new) }
+            (λ part. self.old ≡ (part.offset, part.text.now) ∷ self.new) }
         ensures end { MatchOption result (self.new ≡ []) (λ part. length self.new < length self.old) }
-        ensures fits { IfSome result (λ part. Fits (part.place, part.text.now)) }
+        ensures fits { IfSome result (λ part. Fits (part.offset, part.text.now)) }
     {
         let text = self.rest?;
         let (part, behind) = first_part(self.separator, text);
-        let place = self.place;
-        self.place += part.len() + 1;
+        let offset = self.offset;
+        self.offset += part.len() + 1;
         self.rest = behind;
-        Some(Placed { place, text: part })
+        Some(Placed { offset, text: part })
     }
 }

@@ -28,7 +28,7 @@ fn any_bits(stops: [u8; 4], bytes: &[u8]) -> u64
     front | equal_bits(lanes, stops[2]) | equal_bits(lanes, stops[3])
 }
 
-/// The place of the lowest bit.
+/// The number of the lowest bit.
 #[inline(always)]
 fn lowest(bits: u64) -> usize
     requires { bits ≢ 0 }
@@ -46,7 +46,7 @@ fn is_any(stops: [u8; 4], byte: u8) -> bool
     byte == stops[0] || byte == stops[1] || byte == stops[2] || byte == stops[3]
 }
 
-/// The place of the first byte that is one of four; the length where there is none. Where there are fewer than four
+/// The offset of the first byte that is one of four; the length where there is none. Where there are fewer than four
 /// such bytes, one of them is given again.
 #[inline(always)]
 pub fn first_of(stops: [u8; 4], bytes: &[u8]) -> usize

@@ -26,18 +26,18 @@ impl<'a> Words<'a> {
     /// The words of a text of a piece.
     #[tactic(auto, unfolding(crate::specs::Words::words_of))]
     pub fn of(text: Placed<'a>) -> Words<'a>
-        requires { Fits (text.place, text.text.now) }
-        ensures { result ≡ words_of (text.entry.place, text.entry.text.now) }
+        requires { Fits (text.offset, text.text.now) }
+        ensures { result ≡ words_of (text.entry.offset, text.entry.text.now) }
     {
         Words {
             parts: Separated::of(b' ', text),
         }
     }
 
-    /// The next word, with its place in the piece; None where all were given.
+    /// The next word, with its offset in the piece; None where all were given.
     pub fn next(&mut self) -> Option<Placed<'a>>
         ensures next { MatchOption result (self.old ≡ [])
-            (λ word. self.old ≡ (word.place, word.text.now) ∷ self.new) }
+            (λ word. self.old ≡ (word.offset, word.text.now) ∷ self.new) }
         ensures end { MatchOption result (self.new ≡ []) (λ word. length self.new < length self.old) }
         ensures filled { IfSome result (λ word. 0 < length word.text.now) }
     {

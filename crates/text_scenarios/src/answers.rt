@@ -10,7 +10,7 @@ use crate::numbers::{
     append_whole,
 };
 use crate::parts::{
-    LABEL, append_cut, append_key, append_part, append_places, append_separated, append_text,
+    LABEL, append_cut, append_key, append_offsets, append_part, append_separated, append_text,
     append_written_label,
 };
 use crate::processors::{append_converted, append_deduplicated, append_renamed};
@@ -74,7 +74,7 @@ fn answer_text(
         "keys" => append_key(alloc, piece, out),
         "separated" => append_separated(piece, out),
         "cut" => append_cut(piece, out),
-        "words" => append_places(piece, out),
+        "words" => append_offsets(piece, out),
         "grown" => append_text(alloc, piece, out),
         "labels_written" => append_written_label(piece, out),
         _ => Err(Fail::new(format_args!("no call for {key}"))),

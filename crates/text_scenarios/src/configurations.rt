@@ -90,9 +90,15 @@ fn append_input(input: &InputConf, out: &mut Vec<u8>) -> Result<(), Fail> {
                 format_args!("graphite, templates {count}, separator '{separator}'\n"),
             )
         }
-        InFormat::Openmetrics { type_tag } => {
-            put(out, format_args!("openmetrics, type_tag {type_tag}\n"))
-        }
+        InFormat::Openmetrics {
+            type_tag,
+            pass_out_of_range,
+        } => put(
+            out,
+            format_args!(
+                "openmetrics, type_tag {type_tag}, pass_out_of_range {pass_out_of_range}\n"
+            ),
+        ),
     }
 }
 

@@ -4,7 +4,7 @@ use crate::pieces::{put, setting};
 use format_words::{InFormat, Template};
 use line_proto::write_line;
 use metric::Metric;
-use openmetrics_text::read_exposition;
+use openmetrics_text::{Exposition, read_exposition};
 use scenario_tables::Row;
 use std::alloc::Global;
 use std::fmt::Debug;
@@ -18,9 +18,9 @@ fn append_metrics(alloc: Global, metrics: &[Metric], out: &mut Vec<u8>) -> Resul
     Ok(())
 }
 
-/// Appends the kind of a fault, and its place.
-fn append_fault<K: Debug + Drop>(kind: K, place: usize, out: &mut Vec<u8>) -> Result<(), Fail> {
-    put(out, format_args!("{kind:?} {place}\n"))
+/// Appends the kind of a fault, and its offset.
+fn append_fault<K: Debug + Drop>(kind: K, offset: usize, out: &mut Vec<u8>) -> Result<(), Fail> {
+    put(out, format_args!("{kind:?} {offset}\n"))
 }
 
 /// Appends what a piece of line protocol is read as, at the moment 7.
@@ -28,7 +28,7 @@ pub fn append_influx(alloc: Global, piece: &[u8], out: &mut Vec<u8>) -> Result<(
     match line_proto::read_line(alloc, piece, 7) {
         Ok(Some(metric)) => write_line(alloc, &metric, out)?,
         Ok(None) => put(out, "none\n")?,
-        Err(fault) => append_fault(fault.kind, fault.place, out)?,
+        Err(fault) => append_fault(fault.kind, fault.offset, out)?,
     }
     Ok(())
 }
@@ -37,24 +37,40 @@ pub fn append_influx(alloc: Global, piece: &[u8], out: &mut Vec<u8>) -> Result<(
 pub fn append_statsd(alloc: Global, piece: &[u8], out: &mut Vec<u8>) -> Result<(), Fail> {
     match statsd_text::read_line(alloc, piece, 50) {
         Ok(metrics) => append_metrics(alloc, metrics.as_slice(), out)?,
-        Err(fault) => append_fault(fault.kind, fault.place, out)?,
+        Err(fault) => append_fault(fault.kind, fault.offset, out)?,
     }
     Ok(())
 }
 
-/// Appends what an exposition of OpenMetrics is read as, at the moment 50, and how many samples are passed over.
+/// Appends how many samples of an exposition are passed over, and how many of these are out of range, where there are
+/// such.
+fn append_passed(exposition: &Exposition, out: &mut Vec<u8>) -> Result<(), Fail> {
+    let (passed, out_of_range) = (exposition.passed, exposition.out_of_range);
+    if out_of_range == 0 {
+        return put(out, format_args!("passed {passed}\n"));
+    }
+    put(
+        out,
+        format_args!("passed {passed}, out of range {out_of_range}\n"),
+    )
+}
+
+/// Appends what an exposition of OpenMetrics is read as, at the moment 50, how many samples are passed over, and how
+/// many of these are out of range, where there are such.
 pub fn append_exposition(
     alloc: Global,
     row: &Row,
     piece: &[u8],
     out: &mut Vec<u8>,
 ) -> Result<(), Fail> {
-    match read_exposition(alloc, piece, 50, row.part("type_tag").is_some()) {
+    let type_tag = row.part("type_tag").is_some();
+    let passing = row.part("pass_out_of_range").is_some();
+    match read_exposition(alloc, piece, 50, type_tag, passing) {
         Ok(exposition) => {
             append_metrics(alloc, exposition.metrics.as_slice(), out)?;
-            put(out, format_args!("passed {}\n", exposition.passed))?;
+            append_passed(&exposition, out)?;
         }
-        Err(fault) => append_fault(fault.kind, fault.place, out)?,
+        Err(fault) => append_fault(fault.kind, fault.offset, out)?,
     }
     Ok(())
 }
@@ -147,6 +163,6 @@ fn append_graphite_line(
     match graphite_text::read_line(alloc, templates, separator, piece, 50) {
         Ok(Some(metric)) => append_counted(alloc, &metric, is_counted, out),
         Ok(None) => Ok(()),
-        Err(fault) => append_fault(fault.kind, fault.place, out),
+        Err(fault) => append_fault(fault.kind, fault.offset, out),
     }
 }

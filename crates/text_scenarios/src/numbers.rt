@@ -105,7 +105,7 @@ pub fn append_one(alloc: Global, element: &str, out: &mut Vec<u8>) -> Result<(),
     append_only(Seq::of_one(element), out)
 }
 
-/// A list without the element at a place, where it has one there.
+/// A list without the element at an index, where it has one there.
 fn without(alloc: Global, mut list: Seq<u32>, at: usize) -> Seq<u32> {
     if at < list.as_slice().len() {
         list.remove(alloc, at);

@@ -24,8 +24,8 @@ pub const LABEL: Part = Part {
     newlines: true,
 };
 
-/// Where texts begin whose parts have places.
-const PLACE: usize = 3;
+/// Where texts begin whose parts have offsets.
+const OFFSET: usize = 3;
 
 /// Appends how many bytes the part at the front of a text has, and what it says.
 pub fn append_part(alloc: Global, part: &Part, text: &[u8], out: &mut Vec<u8>) -> Result<(), Fail> {
@@ -45,12 +45,18 @@ pub fn append_key(alloc: Global, text: &str, out: &mut Vec<u8>) -> Result<(), Fa
     Ok(())
 }
 
-/// Appends the parts between the commas of a text, each with its place.
+/// Appends the parts between the commas of a text, each with its offset.
 pub fn append_separated(text: &str, out: &mut Vec<u8>) -> Result<(), Fail> {
-    let mut parts = Separated::of(b',', Placed { place: PLACE, text });
+    let mut parts = Separated::of(
+        b',',
+        Placed {
+            offset: OFFSET,
+            text,
+        },
+    );
     for _part in 0..u64::MAX {
         match parts.next() {
-            Some(part) => put(out, format_args!("{} {:?}\n", part.place, part.text))?,
+            Some(part) => put(out, format_args!("{} {:?}\n", part.offset, part.text))?,
             None => break,
         }
     }
@@ -63,12 +69,15 @@ pub fn append_cut(text: &str, out: &mut Vec<u8>) -> Result<(), Fail> {
     put(out, format_args!("{key:?} {value:?}\n"))
 }
 
-/// Appends the words of a text, each with its place.
-pub fn append_places(text: &str, out: &mut Vec<u8>) -> Result<(), Fail> {
-    let mut words = Words::of(Placed { place: PLACE, text });
+/// Appends the words of a text, each with its offset.
+pub fn append_offsets(text: &str, out: &mut Vec<u8>) -> Result<(), Fail> {
+    let mut words = Words::of(Placed {
+        offset: OFFSET,
+        text,
+    });
     for _word in 0..u64::MAX {
         match words.next() {
-            Some(word) => put(out, format_args!("{} {:?}\n", word.place, word.text))?,
+            Some(word) => put(out, format_args!("{} {:?}\n", word.offset, word.text))?,
             None => break,
         }
     }

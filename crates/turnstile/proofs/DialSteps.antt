@@ -19,6 +19,7 @@ use Rattle.turnstile.specs.Dials.{Found, Published, Glanced}
 use Rattle.turnstile.specs.Rule.{IsKept}
 use Rattle.turnstile.proofs.ViewLemmas.{live_set, there}
 use Rattle.turnstile.proofs.NumberLemmas.{moves, renumber}
+use Rattle.turnstile.proofs.RuleLemmas.{goes_on}
 use Rattle.turnstile.proofs.TurnLemmas.{turns_still, alone}
 use Rattle.turnstile.proofs.DialLemmas.{dial_word, low_set, behind_set, shows_still}
 
@@ -244,31 +245,24 @@ module _ {S O A : Type 0} (allows : S → O → A → Type 0) (next : S → O �
         w,
         keeps,
         tt,
-        subst Goal (sym same_words) record {
-          history = r.history;
-          before = r.before;
-          done = r.done;
-          owner = r.owner;
-          legal = r.legal;
-          wide = r.wide;
-          numbers = moves r.history r.history (get_or s.words 2 0) s.views r.numbers id v w (
-            at,
-            live,
-          ) refl refl refl live (λ e. let no : Idle ≡ Drawn = sym idle ∙ e in absurd (cc))
-              (λ xs q. q) record { prefix = f.prefix; mine_is = f.mine_is; mine_seen = f.mine_seen }
-              (λ m ne. refl) (λ m cs ne in_log in_seen. in_seen);
-          turns = turns_still next start r.turns id v w at no_turn no_turn refl refl;
-          shows = shows_still next dial_of start dials r.shows id w no_turn refl (λ k h. refl)
-              (λ _. (
-                length-set v.lowest i n ∙ o.0,
-                λ k h. dite (ℕ_discrete k i)
-                    (λ e. subst (λ (m : ℕ). get_or (set v.lowest i n) m 0 ≤ get_or s.words (3 + m) 0) (sym e)
-                    (let a = get_or-set_same v.lowest i n 0 (let len : length v.lowest ≡ dials = o.0 in
-                    omega arith) in omega arith))
-                    (λ ne. let a = get_or-set_other v.lowest i k n 0 ne in let b = o.1 k h in omega arith),
-              ))
-              (λ _ k h. r.shows.behind id v (at, live) no_turn k h);
-        },
+        subst Goal (sym same_words) (goes_on r refl
+            (moves r.history r.history (get_or s.words 2 0) s.views r.numbers id v w (
+              at,
+              live,
+            ) refl refl refl live (λ e. let no : Idle ≡ Drawn = sym idle ∙ e in absurd (cc))
+            (λ xs q. q) record { prefix = f.prefix; mine_is = f.mine_is; mine_seen = f.mine_seen }
+            (λ m ne. refl) (λ m cs ne in_log in_seen. in_seen))
+            (turns_still next start r.turns id v w at no_turn no_turn refl refl)
+            (shows_still next dial_of start dials r.shows id w no_turn refl (λ k h. refl)
+            (λ _. (
+              length-set v.lowest i n ∙ o.0,
+              λ k h. dite (ℕ_discrete k i)
+                  (λ e. subst (λ (m : ℕ). get_or (set v.lowest i n) m 0 ≤ get_or s.words (3 + m) 0) (sym e)
+                  (let a = get_or-set_same v.lowest i n 0 (let len : length v.lowest ≡ dials = o.0 in
+                  omega arith) in omega arith))
+                  (λ ne. let a = get_or-set_other v.lowest i k n 0 ne in let b = o.1 k h in omega arith),
+            ))
+            (λ _ k h. r.shows.behind id v (at, live) no_turn k h))),
         (
           refl,
           λ s' j is' at_word. let same : start ≡ s' = cc in let ij : j ≡ i = omega arith in

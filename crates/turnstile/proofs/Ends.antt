@@ -18,7 +18,7 @@ use Rattle.turnstile.proofs.CallerLemmas.{append_nil}
 use Rattle.turnstile.proofs.HistoryLemmas.{nil_before, none_after, no_calls}
 use Rattle.turnstile.proofs.CountLemmas.{has_times}
 use Rattle.turnstile.proofs.ViewLemmas.{same_view}
-use Rattle.turnstile.proofs.PassNumbers.{first_place, is_first}
+use Rattle.turnstile.proofs.PassNumbers.{first_index, is_first}
 
 module _ {S O A : Type 0} (allows : S → O → A → Type 0) (next : S → O → A → S) (dial_of : S → ℕ
     → ℕ) (start : S) (dials : ℕ) where
@@ -53,7 +53,7 @@ module _ {S O A : Type 0} (allows : S → O → A → Type 0) (next : S → O �
       room = w2;
       given = λ n p q. absurd (omega arith);
       not_given = λ n h. refl;
-      placed = λ id v l nz. absurd (nz (at_start id v l.0).0);
+      parted = λ id v l nz. absurd (nz (at_start id v l.0).0);
       apart = λ i j v w l m ne. absurd (ne ((at_start i v l.0).0 ∙ sym (at_start j w m.0).0));
       fits = λ id v l. subst (λ (x : View O A). Fits [] x) (at_start id v l.0).1 record {
         prefix = ([], refl);
@@ -95,13 +95,13 @@ module _ {S O A : Type 0} (allows : S → O → A → Type 0) (next : S → O �
       × Accounts v
   ends id v s h idle zero_is all_back = let r = h.0 in let at = h.1 in
       let live : is_live v.phase ≡ true = ap is_live idle in let ns = r.numbers in
-      let here = first_place r.history (get_or s.words 2 0) s.views ns id v (at, live) zero_is in
+      let here = first_index r.history (get_or s.words 2 0) s.views ns id v (at, live) zero_is in
       let top = is_first r.history (get_or s.words 2 0) s.views ns id v (at, live) zero_is in
       let none_out : ns.top.split ≡ [] = ap (λ (x : View O A). x.split) (sym top) ∙ all_back in
       let free_word : get_or s.words 0 0 ≡ 0 = dite (ℕ_discrete (get_or s.words 0 0) 0) (λ e. e)
       (λ nz. let b = r.turns.busy nz in
       let only : r.owner ≡ 0 = dite (ℕ_discrete r.owner 0) (λ e. e)
-      (λ n0. let p = (ns.placed r.owner b.1.0 b.1.1 n0).0 in
+      (λ n0. let p = (ns.parted r.owner b.1.0 b.1.1 n0).0 in
       let e : times b.1.0.number ns.top.split ≡ 0 = ap (times b.1.0.number) none_out in absurd (omega arith)) in
       let same : b.1.0 ≡ v = same_view s.views id b.1.0 v (subst
       (λ (k : ℕ). get_elem? s.views k ≡ some b.1.0) (only ∙ sym here) b.1.1.0) at in

@@ -6,6 +6,7 @@ mod ViewLemmas
 mod NumberLemmas
 mod TurnLemmas
 mod DialLemmas
+mod RuleLemmas
 mod TurnSteps
 mod DialSteps
 mod PassNumbers

@@ -17,7 +17,7 @@ length-greater [] ys e = e
 length-greater (x ∷ xs) [] e = absurd (omega arith)
 length-greater (x ∷ xs) (y ∷ ys) e = let i = length-greater xs ys (omega arith) in omega arith
 
--- the greater number at a place
+-- the greater number at an index
 pub greater_at : (xs ys : List ℕ) (i : ℕ) → length xs ≡ length ys
     → get_or (greater xs ys) i 0 ≡ max (get_or xs i 0) (get_or ys i 0)
 greater_at [] [] i e = refl

@@ -24,8 +24,23 @@ module _ {O A : Type 0} where
       (λ (x : View O A). x.number)
       (same_view views 0 v r.top (subst (λ (k : ℕ). get_elem? views k ≡ some v) z l.0) r.top_is.0)
       ∙ r.top_zero in let h = r.room in omega arith)
-      (λ nz. dite (dec_le drawn v.number) (λ h. let p = r.placed id v l nz in
+      (λ nz. dite (dec_le drawn v.number) (λ h. let p = r.parted id v l nz in
       let q = r.not_given v.number (inr h) in absurd (omega arith)) (λ h. omega arith))
+
+  -- numbers stay apart where one view keeps its number
+  pub apart_set : (history : List (Call O A)) (drawn : ℕ) (views : List (View O A))
+      (r : Numbers history drawn views) (id : ℕ) (v w : View O A) → LivesAt views id v → w.number ≡ v.number
+      → (i j : ℕ) (a b : View O A) → LivesAt (set views id w) i a → LivesAt (set views id w) j b → i ≢ j
+      → a.number ≢ b.number
+  apart_set history drawn views r id v w l num i j a b p q ne = ⊎_elim
+      (λ (t : (i ≡ id) × (w ≡ a)). ⊎_elim (λ (u : (j ≡ id) × (w ≡ b)). absurd (ne (t.0 ∙ sym u.0)))
+      (λ (u : (j ≢ id) × LivesAt views j b). λ e. r.apart id j v b l u.1
+      (λ z. u.0 (sym z)) (sym num ∙ (ap (λ (x : View O A). x.number) t.1 ∙ e))) (live_set views id j w b q))
+      (λ (t : (i ≢ id) × LivesAt views i a). ⊎_elim
+      (λ (u : (j ≡ id) × (w ≡ b)). λ e. r.apart i id a v t.1 l t.0 (e
+      ∙ (ap (λ (x : View O A). x.number) (sym u.1) ∙ num)))
+      (λ (u : (j ≢ id) × LivesAt views j b). r.apart i j a b t.1 u.1 ne) (live_set views id j w b q))
+      (live_set views id i w a p)
 
   -- a view changes what it has seen and its phase, and calls of its number may be added
   pub moves : (history history' : List (Call O A)) (drawn : ℕ) (views : List (View O A))
@@ -53,24 +68,12 @@ module _ {O A : Type 0} where
       unused' : (n : ℕ) → drawn ≤ n → calls_by n history' ≡ []
       unused' n h = let b = below history drawn views r id v l in others n (λ e. omega arith) ∙ r.unused n h
 
-      apart' : (i j : ℕ) (a b : View O A) → LivesAt (set views id w) i a → LivesAt (set views id w) j b → i ≢ j
-          → a.number ≢ b.number
-      apart' i j a b p q ne = ⊎_elim
-          (λ (t : (i ≡ id) × (w ≡ a)). ⊎_elim (λ (u : (j ≡ id) × (w ≡ b)). absurd (ne (t.0 ∙ sym u.0)))
-          (λ (u : (j ≢ id) × LivesAt views j b). λ e. r.apart id j v b l u.1
-          (λ z. u.0 (sym z)) (sym num ∙ (ap (λ (x : View O A). x.number) t.1 ∙ e))) (live_set views id j w b q))
-          (λ (t : (i ≢ id) × LivesAt views i a). ⊎_elim
-          (λ (u : (j ≡ id) × (w ≡ b)). λ e. r.apart i id a v t.1 l t.0 (e
-          ∙ (ap (λ (x : View O A). x.number) (sym u.1) ∙ num)))
-          (λ (u : (j ≢ id) × LivesAt views j b). r.apart i j a b t.1 u.1 ne) (live_set views id j w b q))
-          (live_set views id i w a p)
-
-      placed' : (j : ℕ) (u : View O A) → LivesAt (set views id w) j u → j ≢ 0
+      parted' : (j : ℕ) (u : View O A) → LivesAt (set views id w) j u → j ≢ 0
           → (times u.number r.top.split ≡ 1) × (u.joined ≡ []) × (u.split ≡ [])
-      placed' j u h nz = ⊎_elim (λ (t : (j ≡ id) × (w ≡ u)). let p = r.placed id v l (λ z. nz (t.0 ∙ z)) in
+      parted' j u h nz = ⊎_elim (λ (t : (j ≡ id) × (w ≡ u)). let p = r.parted id v l (λ z. nz (t.0 ∙ z)) in
           subst (λ (x : View O A). (times x.number r.top.split ≡ 1) × (x.joined ≡ []) × (x.split ≡ [])) t.1
           (ap (λ (n : ℕ). times n r.top.split) num ∙ p.0, joi ∙ p.1, spl ∙ p.2))
-          (λ (t : (j ≢ id) × LivesAt views j u). r.placed j u t.1 nz) (live_set views id j w u h)
+          (λ (t : (j ≢ id) × LivesAt views j u). r.parted j u t.1 nz) (live_set views id j w u h)
 
       inside : (n : ℕ) (cs : List (Call O A)) (k : ℕ) → get_elem? r.top.joined k ≡ some (n, cs) → 0 < n
       inside n cs k e = dite (ℕ_discrete n 0) (λ z. let a = times_has r.top.joined k n cs e in
@@ -84,11 +87,11 @@ module _ {O A : Type 0} where
         room = r.room;
         given = r.given;
         not_given = r.not_given;
-        placed = placed';
-        apart = apart';
+        parted = parted';
+        apart = apart_set history drawn views r id v w l num;
         fits = fits';
         lists = λ k n cs e. let a = r.lists k n cs e in (
-          others n (λ z. let p = r.placed id v l nz in
+          others n (λ z. let p = r.parted id v l nz in
               let q = r.given n (inside n cs k e) (subst
               (λ (m : ℕ). m < drawn) (sym z) (below history drawn views r id v l)) in
               let has = times_has r.top.joined k n cs e in
@@ -131,9 +134,9 @@ module _ {O A : Type 0} where
                 (λ i. (sym ss i, sym js i)) r.given;
             not_given = subst (λ (t : List ℕ × List (ℕ × List (Call O A))). Outs t.0 t.1)
                 (λ i. (sym ss i, sym js i)) r.not_given;
-            placed = λ j u h nz. let p = placed' j u h nz in
+            parted = λ j u h nz. let p = parted' j u h nz in
                 (ap (λ (xs : List ℕ). times u.number xs) ss ∙ p.0, p.1, p.2);
-            apart = apart';
+            apart = apart_set history drawn views r id v w l num;
             fits = fits';
             lists = λ k n cs e. let e' : get_elem? r.top.joined k ≡ some (n, cs) = subst
                 (λ (ys : List (ℕ × List (Call O A))). get_elem? ys k ≡ some (n, cs)) js e in

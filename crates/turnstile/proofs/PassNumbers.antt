@@ -19,13 +19,13 @@ use Rattle.turnstile.proofs.ListLemmas.{at_end}
 use Rattle.turnstile.proofs.CountLemmas.{one_if, one_if-same, one_if-other, times-snoc, numbers_of-snoc}
 use Rattle.turnstile.proofs.CountLemmas.{last_of-snoc, times_last, times-without, length-without}
 use Rattle.turnstile.proofs.ViewLemmas.{live_set, there, same_view, live_end}
-use Rattle.turnstile.proofs.NumberLemmas.{below}
+use Rattle.turnstile.proofs.NumberLemmas.{below, apart_set}
 
 module _ {O A : Type 0} (history : List (Call O A)) (drawn : ℕ) (views : List (View O A))
     (r : Numbers history drawn views) where
   -- the pass with the number 0 is the first
-  pub first_place : (id : ℕ) (v : View O A) → LivesAt views id v → v.number ≡ 0 → id ≡ 0
-  first_place id v l z = dite (ℕ_discrete id 0) (λ e. e) (λ nz. let p = r.placed id v l nz in
+  pub first_index : (id : ℕ) (v : View O A) → LivesAt views id v → v.number ≡ 0 → id ≡ 0
+  first_index id v l z = dite (ℕ_discrete id 0) (λ e. e) (λ nz. let p = r.parted id v l nz in
       let q = r.not_given 0 (inl refl) in
       let e : times v.number r.top.split ≡ times 0 r.top.split = ap (λ (n : ℕ). times n r.top.split) z in
       absurd (omega arith))
@@ -33,20 +33,7 @@ module _ {O A : Type 0} (history : List (Call O A)) (drawn : ℕ) (views : List 
   -- and its view is that of the first pass
   pub is_first : (id : ℕ) (v : View O A) → LivesAt views id v → v.number ≡ 0 → v ≡ r.top
   is_first id v l z =
-      same_view views 0 v r.top (subst (λ (k : ℕ). get_elem? views k ≡ some v) (first_place id v l z) l.0) r.top_is.0
-
-  -- numbers stay apart where one view keeps its number
-  apart_set : (id : ℕ) (v w : View O A) → LivesAt views id v → w.number ≡ v.number → (i j : ℕ) (a b : View O A)
-      → LivesAt (set views id w) i a → LivesAt (set views id w) j b → i ≢ j → a.number ≢ b.number
-  apart_set id v w l num i j a b p q ne = ⊎_elim
-      (λ (t : (i ≡ id) × (w ≡ a)). ⊎_elim (λ (u : (j ≡ id) × (w ≡ b)). absurd (ne (t.0 ∙ sym u.0)))
-      (λ (u : (j ≢ id) × LivesAt views j b). λ e. r.apart id j v b l u.1
-      (λ z. u.0 (sym z)) (sym num ∙ (ap (λ (x : View O A). x.number) t.1 ∙ e))) (live_set views id j w b q))
-      (λ (t : (i ≢ id) × LivesAt views i a). ⊎_elim
-      (λ (u : (j ≡ id) × (w ≡ b)). λ e. r.apart i id a v t.1 l t.0 (e
-      ∙ (ap (λ (x : View O A). x.number) (sym u.1) ∙ num)))
-      (λ (u : (j ≢ id) × LivesAt views j b). r.apart i j a b t.1 u.1 ne) (live_set views id j w b q))
-      (live_set views id i w a p)
+      same_view views 0 v r.top (subst (λ (k : ℕ). get_elem? views k ≡ some v) (first_index id v l z) l.0) r.top_is.0
 
   -- each view fits the history where the changed one does
   fits_set : (id : ℕ) (w : View O A) → Fits history w → (j : ℕ) (u : View O A) → LivesAt (set views id w) j u
@@ -74,12 +61,12 @@ module _ {O A : Type 0} (history : List (Call O A)) (drawn : ℕ) (views : List 
             omega arith)
             (λ (z : drawn + 1 ≤ n). let o = one_if-other drawn n (λ e. omega arith) in
             let q = r.not_given n (inr (omega arith)) in omega arith) h;
-        placed = λ j u l nz. ⊎_elim (λ (p : (j ≡ 0) × (drawer ≡ u)). absurd (nz p.0))
-            (λ (p : (j ≢ 0) × LivesAt views j u). let o = r.placed j u p.1 nz in
+        parted = λ j u l nz. ⊎_elim (λ (p : (j ≡ 0) × (drawer ≡ u)). absurd (nz p.0))
+            (λ (p : (j ≢ 0) × LivesAt views j u). let o = r.parted j u p.1 nz in
             let b = below history drawn views r j u p.1 in let s = times-snoc u.number drawn t.split in
             let z = one_if-other drawn u.number (λ e. omega arith) in
             (let a = o.0 in omega arith, o.1, o.2)) (live_set views 0 j drawer u l);
-        apart = apart_set 0 t drawer r.top_is refl;
+        apart = apart_set history drawn views r 0 t drawer r.top_is refl;
         fits = fits_set 0 drawer record { prefix = f.prefix; mine_is = f.mine_is; mine_seen = f.mine_seen };
         lists = r.lists;
         unused = λ n h. r.unused n (omega arith);
@@ -110,9 +97,9 @@ module _ {O A : Type 0} (history : List (Call O A)) (drawn : ℕ) (views : List 
         room = r.room;
         given = r.given;
         not_given = r.not_given;
-        placed = λ j u l nz. ⊎_elim
+        parted = λ j u l nz. ⊎_elim
             (λ (p : (j < length vs) × LivesAt vs j u). ⊎_elim (λ (q : (j ≡ 0) × (a ≡ u)). absurd (nz q.0))
-            (λ (q : (j ≢ 0) × LivesAt views j u). r.placed j u q.1 nz) (live_set views 0 j a u p.1))
+            (λ (q : (j ≢ 0) × LivesAt views j u). r.parted j u q.1 nz) (live_set views 0 j a u p.1))
             (λ (p : (j ≡ length vs) × (b ≡ u)). subst
             (λ (z : View O A). (times z.number t.split ≡ 1) × (z.joined ≡ []) × (z.split ≡ [])) p.1 (
               once,
@@ -121,7 +108,8 @@ module _ {O A : Type 0} (history : List (Call O A)) (drawn : ℕ) (views : List 
             )) (live_end vs b j u l);
         apart = λ i j u w l m ne. ⊎_elim
             (λ (p : (i < length vs) × LivesAt vs i u). ⊎_elim
-            (λ (q : (j < length vs) × LivesAt vs j w). apart_set 0 t a r.top_is refl i j u w p.1 q.1 ne)
+            (λ (q : (j < length vs) × LivesAt vs j w).
+            apart_set history drawn views r 0 t a r.top_is refl i j u w p.1 q.1 ne)
             (λ (q : (j ≡ length vs) × (b ≡ w)). λ e. not_new i u p.1 (e
             ∙ ap (λ (z : View O A). z.number) (sym q.1))) (live_end vs b j w m))
             (λ (p : (i ≡ length vs) × (b ≡ u)). ⊎_elim
@@ -197,7 +185,7 @@ module _ {O A : Type 0} (history : List (Call O A)) (drawn : ℕ) (views : List 
       → Numbers history drawn (set (set views 0 (joined_with r.top w)) other spent_view)
   joins_number other w l nz idle = let t = r.top in let b : View O A = joined_with t w in
       let f = r.fits 0 t r.top_is in let g = r.fits other w l in let x : ℕ = w.number in
-      let once = (r.placed other w l nz).0 in
+      let once = (r.parted other w l nz).0 in
       let pos : 0 < times x t.split = omega arith in let live_b : is_live b.phase ≡ true = ap is_live idle in
       let sums : (n : ℕ)
       → times n b.split + times n (numbers_of b.joined) ≡ times n t.split + times n (numbers_of t.joined) =
@@ -216,8 +204,8 @@ module _ {O A : Type 0} (history : List (Call O A)) (drawn : ℕ) (views : List 
             let h = r.room in omega arith;
         given = λ n p q. sums n ∙ r.given n p q;
         not_given = λ n p. sums n ∙ r.not_given n p;
-        placed = λ j u m n0. ⊎_elim (λ (p : (j ≡ 0) × (b ≡ u)). absurd (n0 p.0))
-            (λ (p : (j ≢ 0) × (j ≢ other) × LivesAt views j u). let o = r.placed j u p.2 n0 in
+        parted = λ j u m n0. ⊎_elim (λ (p : (j ≡ 0) × (b ≡ u)). absurd (n0 p.0))
+            (λ (p : (j ≢ 0) × (j ≢ other) × LivesAt views j u). let o = r.parted j u p.2 n0 in
             let a = times-without u.number x t.split pos in
             let z = one_if-other x u.number (λ e. r.apart j other u w p.2 l p.1 (sym e)) in
             (let k = o.0 in omega arith, o.1, o.2)) (live_join b other j u m);

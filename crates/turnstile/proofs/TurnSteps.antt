@@ -26,6 +26,7 @@ use Rattle.turnstile.proofs.HistoryLemmas.{calls_by-own, calls_by-other, but_las
 use Rattle.turnstile.proofs.ListLemmas.{beyond}
 use Rattle.turnstile.proofs.ViewLemmas.{live_set, there}
 use Rattle.turnstile.proofs.NumberLemmas.{moves, renumber}
+use Rattle.turnstile.proofs.RuleLemmas.{goes_on}
 use Rattle.turnstile.proofs.TurnLemmas.{turns_still, alone}
 use Rattle.turnstile.proofs.DialLemmas.{apart_words, unraised, low_set, behind_set, all_shown, shows_still}
 
@@ -362,22 +363,15 @@ module _ {S O A : Type 0} (allows : S → O → A → Type 0) (next : S → O �
         v,
         keeps,
         tt,
-        record {
-          history = r.history;
-          before = r.before;
-          done = r.done;
-          owner = r.owner;
-          legal = r.legal;
-          wide = rw (length-set s.words word x) r.wide;
-          numbers = renumber s.words r.history word x (set s.views id v)
-              (λ e. omega arith) (subst Numbered (sym (set_again s.views id v at)) r.numbers);
-          turns = turns_still next start r.turns id v v at no_turn no_turn
-              (get_or-set_other s.words word 0 x 0 (λ e. omega arith)) (get_or-set_other s.words word 1 x 0
-              (λ e. omega arith));
-          shows = shows_still next dial_of start dials r.shows id v no_turn (get_or-set_other s.words word 0 x 0
-              (λ e. omega arith))
-              (λ i h. get_or-set_other s.words word (3 + i) x 0 (λ e. omega arith)) (λ _. o)
-              (λ _ i h. r.shows.behind id v (at, live) no_turn i h);
-        },
+        goes_on r (length-set s.words word x)
+            (renumber s.words r.history word x (set s.views id v)
+            (λ e. omega arith) (subst Numbered (sym (set_again s.views id v at)) r.numbers))
+            (turns_still next start r.turns id v v at no_turn no_turn
+            (get_or-set_other s.words word 0 x 0 (λ e. omega arith)) (get_or-set_other s.words word 1 x 0
+            (λ e. omega arith)))
+            (shows_still next dial_of start dials r.shows id v no_turn (get_or-set_other s.words word 0 x 0
+            (λ e. omega arith))
+            (λ i h. get_or-set_other s.words word (3 + i) x 0 (λ e. omega arith)) (λ _. o)
+            (λ _ i h. r.shows.behind id v (at, live) no_turn i h)),
         refl,
       )

@@ -15,13 +15,13 @@ module _ {O A : Type 0} where
   live_set views id j w v l = ⊎_elim (λ (t : (j ≡ id) × (w ≡ v)). inl t)
       (λ (t : (j ≢ id) × (get_elem? views j ≡ some v)). inr (t.0, (t.1, l.1))) (at_set views id j w v l.0)
 
-  -- a place with a view is one of the list
+  -- an index with a view is one of the list
   pub there : (views : List (View O A)) (id : ℕ) (v : View O A) → get_elem? views id ≡ some v → id < length views
   there [] id v e = absurd (some-ne-none v (sym e))
   there (x ∷ xs) zero v e = omega arith
   there (x ∷ xs) (suc id) v e = let h = there xs id v e in omega arith
 
-  -- a place has one view
+  -- an index has one view
   pub same_view : (views : List (View O A)) (id : ℕ) (v w : View O A) → get_elem? views id ≡ some v
       → get_elem? views id ≡ some w → v ≡ w
   same_view views id v w p q = some-injective v w (sym p ∙ q)

@@ -1,13 +1,13 @@
 -- A whole call, over plain data.
 use Rattle.std.proofs.Common.{◌≡◌, ℕ, ◌+◌, ◌-◌, ◌%◌, ◌^◌, ◌≤◌, List, [], ◌∷◌, ◌++◌, length, get_or, sym, refl, ap}
 use Rattle.std.proofs.Common.{◌∙◌, subst, arith, Option, Some, None}
-use Rattle.atomic_table.specs.Table.{rest}
+use Rattle.atomic_table.specs.Table.{Me, rest}
 use Rattle.turnstile.specs.declared.history.Call.{Call}
 use Rattle.turnstile.specs.declared.history.View.{View}
 use Rattle.turnstile.specs.declared.history.Phase.TheVariants.{Idle, Holding, Publishing}
 use Rattle.turnstile.specs.History.{call_of, calls_by, but_last, replay, IsLegal}
 use Rattle.turnstile.specs.View.{with_call}
-use Rattle.turnstile.specs.Calls.{Calls}
+use Rattle.turnstile.specs.Calls.{HasTurn, Calls}
 use Rattle.turnstile.specs.Dials.{NoneFell}
 use Rattle.turnstile.proofs.CallerLemmas.{calls_by-append, replay-append, legal-append}
 use Rattle.turnstile.proofs.HistoryLemmas.{calls_by-own, but_last-snoc}
@@ -18,10 +18,20 @@ first_value [] = None
 first_value (x ∷ xs) = x.1
 
 -- the slot that was taken has the machine
-pub same_head : {S : Type 0} (cs : List (ℕ × Option S)) (x : Option S) (y m : S) → cs ≡ (0, Some y) ∷ []
+same_head : {S : Type 0} (cs : List (ℕ × Option S)) (x : Option S) (y m : S) → cs ≡ (0, Some y) ∷ []
     → cs ≡ (0, x) ∷ rest cs → x ≡ Some m → y ≡ m
 unfolding first_value
 same_head cs x y m p q r = let e : Some y ≡ x = ap first_value (sym p ∙ q) in cc
+
+-- who has the turn took the machine out of its home: the view has seen the whole history, and the machine is as that
+-- left it
+pub taken : {S O A : Type 0} {allows : S → O → A → Type 0} {next : S → O → A → S} {dial_of : S → ℕ → ℕ} {start : S}
+    {v : View O A} {me me' : Me (Option S) (View O A)} {cs : List (ℕ × Option S)} {x : Option S} {y : S}
+    (won : HasTurn allows next dial_of start v me) → me.1 ≡ (0, x) ∷ rest me.1 → me' ≡ (me.0, cs) → x ≡ Some y
+    → (me'.0 ≡ record v { seen = v.seen ++ won.more; phase = Holding })
+    × (y ≡ replay next start (v.seen ++ won.more))
+taken won home now is =
+    (ap (λ m. m.0) now ∙ won.view_is, sym (same_head _ _ _ _ won.holds home is) ∙ won.replayed)
 
 module _ {S O A : Type 0} (allows : S → O → A → Type 0) (next : S → O → A → S) (dial_of : S → ℕ → ℕ) (start : S) where
   -- w1 is the view after the turn was taken, with the machine y; the machine is m' after it did o

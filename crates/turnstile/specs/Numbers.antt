@@ -49,7 +49,7 @@ module _ {O A : Type 0} where
     pub room : drawn ≡ 1 + (length top.split + length top.joined)
     pub given : (n : ℕ) → 0 < n → n < drawn → times n top.split + times n (numbers_of top.joined) ≡ 1
     pub not_given : (n : ℕ) → (n ≡ 0) ⊎ (drawn ≤ n) → times n top.split + times n (numbers_of top.joined) ≡ 0
-    pub placed : (id : ℕ) (v : View O A) → LivesAt views id v → id ≢ 0
+    pub parted : (id : ℕ) (v : View O A) → LivesAt views id v → id ≢ 0
         → (times v.number top.split ≡ 1) × (v.joined ≡ []) × (v.split ≡ [])
     pub apart : (i j : ℕ) (v w : View O A) → LivesAt views i v → LivesAt views j w → i ≢ j → v.number ≢ w.number
     pub fits : (id : ℕ) (v : View O A) → LivesAt views id v → Fits history v

@@ -33,13 +33,13 @@ abbrev pub is_live : Phase → Bool
 is_live Spent = false
 is_live _ = true
 
--- the greater number at each place
+-- the greater number at each index
 abbrev pub greater : List ℕ → List ℕ → List ℕ
 greater [] ys = []
 greater (x ∷ xs) [] = x ∷ xs
 greater (x ∷ xs) (y ∷ ys) = max x y ∷ greater xs ys
 
--- a list without the first place at which a number stands
+-- a list without a number where it stands first
 abbrev pub without : ℕ → List ℕ → List ℕ
 without n [] = []
 without n (x ∷ xs) = if x == n then xs else (x ∷ without n xs)
@@ -88,7 +88,7 @@ module _ {O A : Type 0} where
   abbrev pub spent_view : View O A
   spent_view = record { number = 0; seen = []; mine = []; joined = []; split = []; phase = Spent; lowest = [] }
 
-  -- at this place of the table stands the view of a pass of its own
+  -- at this index of the table stands the view of a pass of its own
   abbrev pub LivesAt : List (View O A) → ℕ → View O A → Type 0
   LivesAt views id v = (get_elem? views id ≡ some v) × (is_live v.phase ≡ true)
 

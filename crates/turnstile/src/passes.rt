@@ -117,7 +117,7 @@ impl<M: Machine> Turnstile<M> {
     /// Looks at a dial: not below what this pass glanced at before, nor below the dial in what the pass has seen, and
     /// not above what its next call finds. It waits for nobody, and takes no memory.
     pub fn glance(&self, pass: &mut Pass<M>, dial: u32) -> u64
-        requires place { pass.old.table ≡ self.now.table }
+        requires same_table { pass.old.table ≡ self.now.table }
         requires inside { dial < self.now.dials }
         ensures same { pass.new.table ≡ pass.old.table }
         ensures view { pass.new.view ≡ record pass.old.view { lowest = slice_set pass.old.view.lowest dial result } }
@@ -130,7 +130,7 @@ impl<M: Machine> Turnstile<M> {
     /// Splits a pass off the first one. It has a number of its own, has seen the same, and has no calls. It waits for
     /// nobody, and takes no memory.
     pub fn split(&self, pass: &mut Pass<M>) -> Pass<M>
-        requires place { pass.old.table ≡ self.now.table }
+        requires same_table { pass.old.table ≡ self.now.table }
         requires first { pass.old.view.number ≡ 0 }
         requires few { length pass.old.view.split + length pass.old.view.joined < 2 ^ 32 }
         ensures same { (pass.new.table ≡ pass.old.table) × (result.table ≡ pass.old.table) }
@@ -143,7 +143,7 @@ impl<M: Machine> Turnstile<M> {
     /// Joins a pass back to the first one, which has then seen what either had seen, and keeps the number and the
     /// calls of the other. It waits for nobody, and takes no memory.
     pub fn join(&self, pass: &mut Pass<M>, other: Pass<M>)
-        requires place { (pass.old.table ≡ self.now.table) × (other.table ≡ self.now.table) }
+        requires same_table { (pass.old.table ≡ self.now.table) × (other.table ≡ self.now.table) }
         requires first { pass.old.view.number ≡ 0 }
         ensures same { pass.new.table ≡ pass.old.table }
         ensures joined { pass.new.view ≡ joined_with pass.old.view other.view }
@@ -155,7 +155,7 @@ impl<M: Machine> Turnstile<M> {
     /// Gives the machine back as the whole history left it, which the first pass has seen once all others are joined
     /// back to it. It waits for nobody.
     pub fn close(self, pass: Pass<M>) -> M
-        requires place { pass.table ≡ self.table }
+        requires same_table { pass.table ≡ self.table }
         requires first { pass.view.number ≡ 0 }
         requires all_back { pass.view.split ≡ [] }
         ensures machine { result ≡ replay M.next self.start pass.view.seen }

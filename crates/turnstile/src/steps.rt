@@ -26,11 +26,11 @@ fn commit<M: Machine, C: CommittedCall<M::Op, M::Answer>>(
     answer: &M::Answer,
 ) -> u64
     requires sized { IsSized table.now.table_id table.now.key.1 }
-    requires place { seat.old.table_id ≡ table.now.table_id }
+    requires same_table { seat.old.table_id ≡ table.now.table_id }
     requires holding { seat.old.me.0.phase ≡ Holding }
     requires call { C.call ≡ Some (op.now.value, answer.now) }
     requires allowed { M.allows (replay M.next table.now.key.0.value seat.old.me.0.seen) op.now.value answer.now }
-    ensures place { (seat.new.table_id ≡ seat.old.table_id) × (seat.new.id ≡ seat.old.id)
+    ensures same_table { (seat.new.table_id ≡ seat.old.table_id) × (seat.new.id ≡ seat.old.id)
         × (seat.new.me.1 ≡ seat.old.me.1) }
     ensures committed { seat.new.me.0
         ≡ with_call (call_of seat.old.me.0.number (op.now.value, answer.now)) seat.old.me.0 }
@@ -48,11 +48,11 @@ fn find<M: Machine, B: NextDial<M>>(
     new: u64,
 ) -> u64
     requires sized { IsSized table.now.table_id table.now.key.1 }
-    requires place { seat.old.table_id ≡ table.now.table_id }
+    requires same_table { seat.old.table_id ≡ table.now.table_id }
     requires known { (B.start ≡ Some table.now.key.0.value) × (B.value ≡ Some new) }
     requires next { (seat.old.me.0.phase ≡ Publishing dial) × (dial < table.now.key.1) }
     requires shows { new ≡ M.dial_of (replay M.next table.now.key.0.value seat.old.me.0.seen) dial }
-    ensures place { (seat.new.table_id ≡ seat.old.table_id) × (seat.new.id ≡ seat.old.id)
+    ensures same_table { (seat.new.table_id ≡ seat.old.table_id) × (seat.new.id ≡ seat.old.id)
         × (seat.new.me.1 ≡ seat.old.me.1) }
     ensures found { result ≡ M.dial_of (replay M.next table.now.key.0.value (but_last seat.old.me.0.seen)) dial }
     ensures shown { result ≡ new → seat.new.me.0 ≡ record seat.old.me.0 { phase = Publishing (dial + 1) } }
@@ -64,11 +64,11 @@ fn find<M: Machine, B: NextDial<M>>(
 /// Lets a dial show the machine as it is. Where it does so already, its word is only looked at.
 fn publish<M: Machine>(table: &TurnTable<M>, seat: &mut TurnSeat<M>, machine: &M, dial: u32)
     requires sized { IsSized table.now.table_id table.now.key.1 }
-    requires place { seat.old.table_id ≡ table.now.table_id }
+    requires same_table { seat.old.table_id ≡ table.now.table_id }
     requires next { (seat.old.me.0.phase ≡ Publishing dial) × (dial < table.now.key.1) }
     requires machine { machine.now ≡ replay M.next table.now.key.0.value seat.old.me.0.seen }
     requires none_fell { NoneFell M.next M.dial_of table.now.key.0.value seat.old.me.0.seen }
-    ensures place { (seat.new.table_id ≡ seat.old.table_id) × (seat.new.id ≡ seat.old.id)
+    ensures same_table { (seat.new.table_id ≡ seat.old.table_id) × (seat.new.id ≡ seat.old.id)
         × (seat.new.me.1 ≡ seat.old.me.1) }
     ensures published { seat.new.me.0 ≡ record seat.old.me.0 { phase = Publishing (dial + 1) } }
 {
@@ -83,11 +83,11 @@ fn publish<M: Machine>(table: &TurnTable<M>, seat: &mut TurnSeat<M>, machine: &M
 fn publish_all<M: Machine>(table: &TurnTable<M>, seat: &mut TurnSeat<M>, machine: &M, dials: u32)
     requires dials { dials ≡ table.now.key.1 }
     requires sized { IsSized table.now.table_id table.now.key.1 }
-    requires place { seat.old.table_id ≡ table.now.table_id }
+    requires same_table { seat.old.table_id ≡ table.now.table_id }
     requires next { seat.old.me.0.phase ≡ Publishing 0 }
     requires machine { machine.now ≡ replay M.next table.now.key.0.value seat.old.me.0.seen }
     requires none_fell { NoneFell M.next M.dial_of table.now.key.0.value seat.old.me.0.seen }
-    ensures place { (seat.new.table_id ≡ seat.old.table_id) × (seat.new.id ≡ seat.old.id)
+    ensures same_table { (seat.new.table_id ≡ seat.old.table_id) × (seat.new.id ≡ seat.old.id)
         × (seat.new.me.1 ≡ seat.old.me.1) }
     ensures published { seat.new.me.0 ≡ record seat.old.me.0 { phase = Publishing table.now.key.1 } }
 {
@@ -106,9 +106,9 @@ pub(crate) fn call<M: Machine, R: Wait>(
 ) -> (M::Answer, u64)
     requires dials { dials ≡ table.now.key.1 }
     requires sized { IsSized table.now.table_id table.now.key.1 }
-    requires place { seat.old.table_id ≡ table.now.table_id }
+    requires same_table { seat.old.table_id ≡ table.now.table_id }
     requires rests { Rests seat.old.me }
-    ensures place { (seat.new.table_id ≡ seat.old.table_id) × (seat.new.id ≡ seat.old.id) × Rests seat.new.me }
+    ensures same_table { (seat.new.table_id ≡ seat.old.table_id) × (seat.new.id ≡ seat.old.id) × Rests seat.new.me }
     ensures call { Calls M.allows M.next M.dial_of table.now.key.0.value seat.old.me.0 op
         result.0 result.1 seat.new.me.0 }
 {
@@ -130,11 +130,11 @@ fn glance_from<M: Machine, B: FirstState<M>>(
     dial: u32,
 ) -> u64
     requires sized { IsSized table.now.table_id table.now.key.1 }
-    requires place { seat.old.table_id ≡ table.now.table_id }
+    requires same_table { seat.old.table_id ≡ table.now.table_id }
     requires rests { Rests seat.old.me }
     requires inside { dial < table.now.key.1 }
     requires known { B.start ≡ Some table.now.key.0.value }
-    ensures place { (seat.new.table_id ≡ seat.old.table_id) × (seat.new.id ≡ seat.old.id) × Rests seat.new.me }
+    ensures same_table { (seat.new.table_id ≡ seat.old.table_id) × (seat.new.id ≡ seat.old.id) × Rests seat.new.me }
     ensures view { seat.new.me.0 ≡ record seat.old.me.0 { lowest = slice_set seat.old.me.0.lowest dial result } }
     ensures before { slice_index seat.old.me.0.lowest dial ≤ result }
     ensures seen { M.dial_of (replay M.next table.now.key.0.value seat.old.me.0.seen) dial ≤ result }
@@ -145,10 +145,10 @@ fn glance_from<M: Machine, B: FirstState<M>>(
 /// Looks at a dial without the turn.
 pub(crate) fn glance<M: Machine>(table: &TurnTable<M>, seat: &mut TurnSeat<M>, dial: u32) -> u64
     requires sized { IsSized table.now.table_id table.now.key.1 }
-    requires place { seat.old.table_id ≡ table.now.table_id }
+    requires same_table { seat.old.table_id ≡ table.now.table_id }
     requires rests { Rests seat.old.me }
     requires inside { dial < table.now.key.1 }
-    ensures place { (seat.new.table_id ≡ seat.old.table_id) × (seat.new.id ≡ seat.old.id) × Rests seat.new.me }
+    ensures same_table { (seat.new.table_id ≡ seat.old.table_id) × (seat.new.id ≡ seat.old.id) × Rests seat.new.me }
     ensures view { seat.new.me.0 ≡ record seat.old.me.0 { lowest = slice_set seat.old.me.0.lowest dial result } }
     ensures before { slice_index seat.old.me.0.lowest dial ≤ result }
     ensures seen { M.dial_of (replay M.next table.now.key.0.value seat.old.me.0.seen) dial ≤ result }
@@ -159,12 +159,12 @@ pub(crate) fn glance<M: Machine>(table: &TurnTable<M>, seat: &mut TurnSeat<M>, d
 /// Draws a number, and splits off the pass that has it.
 pub(crate) fn split<M: Machine>(table: &TurnTable<M>, seat: &mut TurnSeat<M>) -> TurnSeat<M>
     requires sized { IsSized table.now.table_id table.now.key.1 }
-    requires place { seat.old.table_id ≡ table.now.table_id }
+    requires same_table { seat.old.table_id ≡ table.now.table_id }
     requires rests { Rests seat.old.me }
     requires first { seat.old.me.0.number ≡ 0 }
     requires few { length seat.old.me.0.split + length seat.old.me.0.joined < 2 ^ 32 }
-    ensures place { (seat.new.table_id ≡ seat.old.table_id) × (seat.new.id ≡ seat.old.id) × Rests seat.new.me }
-    ensures new_place { (result.table_id ≡ seat.old.table_id) × Rests result.me }
+    ensures same_table { (seat.new.table_id ≡ seat.old.table_id) × (seat.new.id ≡ seat.old.id) × Rests seat.new.me }
+    ensures new_table { (result.table_id ≡ seat.old.table_id) × Rests result.me }
     ensures split { IsSplit seat.old.me.0 seat.new.me.0 result.me.0 }
 {
     table.fetch_add::<Draws>(seat, NEXT_NUMBER, 1);
@@ -174,10 +174,10 @@ pub(crate) fn split<M: Machine>(table: &TurnTable<M>, seat: &mut TurnSeat<M>) ->
 /// Joins a pass back to the first one.
 pub(crate) fn join<M: Machine>(table: &TurnTable<M>, seat: &mut TurnSeat<M>, other: TurnSeat<M>)
     requires sized { IsSized table.now.table_id table.now.key.1 }
-    requires place { (seat.old.table_id ≡ table.now.table_id) × (other.table_id ≡ table.now.table_id) }
+    requires same_table { (seat.old.table_id ≡ table.now.table_id) × (other.table_id ≡ table.now.table_id) }
     requires rests { Rests seat.old.me × Rests other.me }
     requires first { seat.old.me.0.number ≡ 0 }
-    ensures place { (seat.new.table_id ≡ seat.old.table_id) × (seat.new.id ≡ seat.old.id) × Rests seat.new.me }
+    ensures same_table { (seat.new.table_id ≡ seat.old.table_id) × (seat.new.id ≡ seat.old.id) × Rests seat.new.me }
     ensures joined { seat.new.me.0 ≡ joined_with seat.old.me.0 other.me.0 }
 {
     table.join_seat::<Parts>(seat, other);

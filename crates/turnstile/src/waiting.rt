@@ -18,10 +18,10 @@ const LOOKS: u32 = 200;
 /// Takes the turn where it is free, and says whether it did.
 fn try_acquire<M: Machine, B: FirstState<M>>(table: &TurnTable<M>, seat: &mut TurnSeat<M>) -> bool
     requires sized { IsSized table.now.table_id table.now.key.1 }
-    requires place { seat.old.table_id ≡ table.now.table_id }
+    requires same_table { seat.old.table_id ≡ table.now.table_id }
     requires rests { Rests seat.old.me }
     requires known { B.start ≡ Some table.now.key.0.value }
-    ensures place { (seat.new.table_id ≡ seat.old.table_id) × (seat.new.id ≡ seat.old.id) }
+    ensures same_table { (seat.new.table_id ≡ seat.old.table_id) × (seat.new.id ≡ seat.old.id) }
     ensures won { result ≡ true
         → HasTurn M.allows M.next M.dial_of table.now.key.0.value seat.old.me.0 seat.new.me }
     ensures lost { result ≡ false → seat.new.me ≡ seat.old.me }
@@ -47,9 +47,9 @@ fn is_free_soon<M: Machine>(table: &TurnTable<M>) -> bool
 fn sleep<M: Machine, R: Wait>(table: &TurnTable<M>, rt: &R, seat: &mut TurnSeat<M>, dials: u32)
     requires dials { dials ≡ table.now.key.1 }
     requires sized { IsSized table.now.table_id table.now.key.1 }
-    requires place { seat.old.table_id ≡ table.now.table_id }
+    requires same_table { seat.old.table_id ≡ table.now.table_id }
     requires rests { Rests seat.old.me }
-    ensures place { (seat.new.table_id ≡ seat.old.table_id) × (seat.new.id ≡ seat.old.id) }
+    ensures same_table { (seat.new.table_id ≡ seat.old.table_id) × (seat.new.id ≡ seat.old.id) }
     ensures same { seat.new.me ≡ seat.old.me }
 {
     let waiting = FIRST_DIAL + dials as usize;
@@ -67,9 +67,9 @@ pub(crate) fn acquire<M: Machine, R: Wait>(
 )
     requires dials { dials ≡ table.now.key.1 }
     requires sized { IsSized table.now.table_id table.now.key.1 }
-    requires place { seat.old.table_id ≡ table.now.table_id }
+    requires same_table { seat.old.table_id ≡ table.now.table_id }
     requires rests { Rests seat.old.me }
-    ensures place { (seat.new.table_id ≡ seat.old.table_id) × (seat.new.id ≡ seat.old.id) }
+    ensures same_table { (seat.new.table_id ≡ seat.old.table_id) × (seat.new.id ≡ seat.old.id) }
     ensures won { HasTurn M.allows M.next M.dial_of table.now.key.0.value seat.old.me.0 seat.new.me }
 {
     for _ in rt.forever() {
@@ -87,10 +87,10 @@ pub(crate) fn acquire<M: Machine, R: Wait>(
 pub(crate) fn release<M: Machine>(table: &TurnTable<M>, seat: &mut TurnSeat<M>, dials: u32)
     requires dials { dials ≡ table.now.key.1 }
     requires sized { IsSized table.now.table_id table.now.key.1 }
-    requires place { seat.old.table_id ≡ table.now.table_id }
+    requires same_table { seat.old.table_id ≡ table.now.table_id }
     requires published { seat.old.me.0.phase ≡ Publishing table.now.key.1 }
     requires machine { seat.old.me.1 ≡ (0, Some (replay M.next table.now.key.0.value seat.old.me.0.seen)) ∷ [] }
-    ensures place { (seat.new.table_id ≡ seat.old.table_id) × (seat.new.id ≡ seat.old.id) }
+    ensures same_table { (seat.new.table_id ≡ seat.old.table_id) × (seat.new.id ≡ seat.old.id) }
     ensures released { (seat.new.me.0 ≡ record seat.old.me.0 { phase = Idle }) × (seat.new.me.1 ≡ []) }
 {
     table.store::<Releases>(seat, TURN, 0);

@@ -26,7 +26,7 @@ module _ {J : Type 0} (number : J → ℕ) where
       map-snoc [] = refl
       map-snoc (x ∷ xs) = ap (λ (ns : List ℕ). number x ∷ ns) (map-snoc xs)
 
-  -- as many jobs, each with the number of the one at its place
+  -- as many jobs, each with the number of the one at its index
   pub same_numbers : (js ks : List J) → length ks ≡ length js
       → ((k : ℕ) (d : J) → k < length js → number (get_or ks k d) ≡ number (get_or js k d))
       → map number ks ≡ map number js

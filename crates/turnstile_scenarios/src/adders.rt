@@ -61,7 +61,7 @@ pub fn add_in_two<R: Threads + Wait + Sync>(
 
 /// Glances at the sum so many times, and answers it as it was last; none where it fell.
 fn watch(stile: &Turnstile<Sum>, mut pass: Pass<Sum>, times: u32) -> (Pass<Sum>, Option<u64>)
-    requires place { pass.table ≡ stile.now.table }
+    requires same_table { pass.table ≡ stile.now.table }
     requires dials { 1 ≤ stile.now.dials }
     ensures { (result.0.table ≡ pass.table) × (result.0.view.number ≡ pass.view.number) }
 {
@@ -146,7 +146,7 @@ fn run_each<T: Threads + Wait + Sync, W: Work<Sum> + Send>(
     requires { All (λ job. job.pass.table ≡ stile.now.table) jobs.items }
     ensures numbers { IfOk result (λ ended. map (λ job. job.pass.view.number) ended.items
         ≡ map (λ job. job.pass.view.number) jobs.items) }
-    ensures places { IfOk result (λ ended. All (λ job. job.pass.table ≡ stile.now.table) ended.items) }
+    ensures same_tables { IfOk result (λ ended. All (λ job. job.pass.table ≡ stile.now.table) ended.items) }
 {
     let ended = thread::map_vec(
         rt,

@@ -10,7 +10,7 @@ pub trait Work<M: Machine>: Drop {
     /// Calls the machine with the pass.
     fn run<T: Wait>(&mut self, rt: &T, stile: &Turnstile<M>, pass: &mut Pass<M>)
         requires { pass.old.table ≡ stile.now.table }
-        ensures place { pass.new.table ≡ pass.old.table }
+        ensures same_table { pass.new.table ≡ pass.old.table }
         ensures number { pass.new.view.number ≡ pass.old.view.number };
 }
 
@@ -28,13 +28,13 @@ pub fn split_each<M: Machine, W: Drop>(
     first: &mut Pass<M>,
     works: Vec<W>,
 ) -> Result<Vec<Job<M, W>>, AllocError>
-    requires place { first.old.table ≡ stile.now.table }
+    requires same_table { first.old.table ≡ stile.now.table }
     requires first { first.old.view.number ≡ 0 }
     requires fresh { (first.old.view.split ≡ []) × (first.old.view.joined ≡ []) }
     requires few { length works.items < 2 ^ 32 }
     ensures first { (first.new.table ≡ first.old.table) × (first.new.view.number ≡ 0) }
     ensures split { IfOk result (λ jobs. map (λ job. job.pass.view.number) jobs.items ≡ first.new.view.split) }
-    ensures places { IfOk result (λ jobs. All (λ job. job.pass.table ≡ stile.now.table) jobs.items) }
+    ensures same_tables { IfOk result (λ jobs. All (λ job. job.pass.table ≡ stile.now.table) jobs.items) }
 {
     let mut jobs = Vec::new(alloc);
     for work in works {
@@ -65,10 +65,10 @@ pub fn join_each<M: Machine, W: Drop>(
     first: &mut Pass<M>,
     jobs: Vec<Job<M, W>>,
 ) -> Result<Vec<W>, AllocError>
-    requires place { first.old.table ≡ stile.now.table }
+    requires same_table { first.old.table ≡ stile.now.table }
     requires first { first.old.view.number ≡ 0 }
     requires split { map (λ job. job.pass.view.number) jobs.items ≡ first.old.view.split }
-    requires places { All (λ job. job.pass.table ≡ stile.now.table) jobs.items }
+    requires same_tables { All (λ job. job.pass.table ≡ stile.now.table) jobs.items }
     ensures first { (first.new.table ≡ first.old.table) × (first.new.view.number ≡ 0) }
     ensures all_back { OnOk result (first.new.view.split ≡ []) }
 {

@@ -26,7 +26,7 @@ pub fn put_each<T: Wait, S: Source>(
     source: &mut S,
 )
     requires { pass.old.table ≡ stile.now.table }
-    ensures place { pass.new.table ≡ pass.old.table }
+    ensures same_table { pass.new.table ≡ pass.old.table }
     ensures number { pass.new.view.number ≡ pass.old.view.number }
     ensures gained { GainedPuts pass.old.view pass.new.view }
 {
@@ -61,7 +61,7 @@ fn run_each<T: Threads + Wait + Sync, W: Work<Shelf> + Send>(
     requires { All (λ job. job.pass.table ≡ stile.now.table) jobs.items }
     ensures numbers { IfOk result (λ ended. map (λ job. job.pass.view.number) ended.items
         ≡ map (λ job. job.pass.view.number) jobs.items) }
-    ensures places { IfOk result (λ ended. All (λ job. job.pass.table ≡ stile.now.table) ended.items) }
+    ensures same_tables { IfOk result (λ ended. All (λ job. job.pass.table ≡ stile.now.table) ended.items) }
 {
     let ended = thread::map_vec(
         rt,

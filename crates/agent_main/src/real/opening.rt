@@ -1,180 +1,159 @@
-//! How a place is opened, and why it isn't.
-ghost use Rattle.std.specs.Prelude.{◌≡◌, ◌≢◌, Some, Contains, IfOk, IfSome, IsErr, codes, true};
+//! What stands behind the standard streams, how a place is opened, and why it isn't.
+ghost use Rattle.std.specs.Prelude.{◌≡◌, ◌≢◌, ◌↔◌, Contains, IfOk, IsErr, IsSome, None, Some, codes};
+ghost use Rattle.std.specs.Fs.{IsFile, file_type};
 
-use super::files::{FileIdentity, OpenFiles, STANDARD_OUTPUT, StandardStream};
-use super::pipes::open_pipe;
+use super::RealWorld;
 use super::streams::{Reader, Writer};
-use std::fmt;
-use std::fs::{self, File, OpenOptions, TryLockError};
-use std::io::{self, ErrorKind, Stderr, Stdin, Stdout};
-use std::os::unix::fs::FileTypeExt;
+use crate::shown::Shown;
+use either::{Left, Right};
+use std::fs::{self, File, Metadata, OpenOptions, TryLockError};
+use std::io::{self, ErrorKind};
+use std::os::fd::IntoRawFd;
+use std::os::unix::fs::{FileTypeExt, MetadataExt};
 use std::rt::Files;
-use std::thread::Threads;
+use std::sync::atomic::{AtomicBool, Ordering};
+use std::thread::{self, Threads};
+
+/// The link by which the system shows the open file behind standard output, whatever has its name by now.
+pub const OUTPUT: &str = "/proc/self/fd/1";
+
+/// Which regular file an open file is, by whatever name it was opened: its device, and its number there. None
+/// of a device, a pipe or a folder.
+pub type FileIdentity = Option<(u64, u64)>;
+
+fn identity_of(found: &Metadata) -> FileIdentity
+    ensures { IsSome result ↔ IsFile (file_type found.now) }
+{
+    found.is_file().then_some((found.dev(), found.ino()))
+}
+
+/// What the run found behind the descriptors 0, 1 and 2; None where one was closed.
+#[derive(Clone, Copy, Debug)]
+pub struct StandardStreams {
+    pub input: Option<FileIdentity>,
+    pub output: Option<FileIdentity>,
+    pub error: Option<FileIdentity>,
+}
+
+/// Opens `/dev/null` where the descriptor of a link was closed, so that it can be read, and not be written. The
+/// system gives the lowest descriptor that is free.
+fn stream_at<R: Files<File = File>>(rt: &R, link: &str) -> io::Result<Option<FileIdentity>> {
+    let is_open = fs::exists(rt, link)?;
+    if !is_open {
+        File::open(rt, "/dev/null")?.into_raw_fd();
+    }
+    let file = identity_of(&fs::metadata(rt, link)?);
+    Ok(is_open.then_some(file))
+}
+
+/// Sees to it that the descriptors 0, 1 and 2 are open, and says what stands behind them. Before this is done
+/// a file that is opened could become a standard stream.
+pub fn open_standard<R: Files<File = File>>(rt: &R) -> io::Result<StandardStreams> {
+    Ok(StandardStreams {
+        input: stream_at(rt, "/proc/self/fd/0")?,
+        output: stream_at(rt, OUTPUT)?,
+        error: stream_at(rt, "/proc/self/fd/2")?,
+    })
+}
 
 /// Why a place isn't opened.
-#[derive(Clone, Copy, Debug)]
-pub enum Refusal {
-    /// It is a folder.
-    Folder,
-    /// It is a regular file that this run has open already.
-    OpenHere,
-    /// It is a regular file that another run has, as an output or as its journal.
-    OpenElsewhere,
-    /// It is a standard stream that was closed as the run began.
-    WasClosed,
-    /// The system refused it.
-    System(io::Error),
-}
+pub type Refusal = io::Error;
 
-impl From<io::Error> for Refusal {
-    fn from(fault: io::Error) -> Refusal {
-        Refusal::System(fault)
-    }
-}
-
-/// The system's reason in plain words, where it has some here.
-fn words_of(fault: &io::Error) -> Option<&'static str> {
-    match (fault.kind(), fault.raw_os_error()) {
-        (ErrorKind::NotFound, _) => Some("there is no such file or folder"),
-        (ErrorKind::PermissionDenied, _) => Some("there is no permission"),
-        (ErrorKind::IsADirectory, _) => Some("it is a folder"),
-        (_, Some(libc::EMFILE)) => Some("too many files are open"),
-        _ => None,
-    }
-}
-
-impl fmt::Display for Refusal {
-    fn fmt<W: fmt::Write>(&self, f: &mut fmt::Formatter<W>) -> fmt::Result {
-        match self {
-            Refusal::Folder => f.write_str("it is a folder"),
-            Refusal::OpenHere => f.write_str("this run has that file open already"),
-            Refusal::OpenElsewhere => f.write_str("another run has it"),
-            Refusal::WasClosed => f.write_str("it was closed as the run began"),
-            Refusal::System(fault) => match words_of(fault) {
-                Some(words) => f.write_str(words),
-                None => write!(f, "{fault}"),
-            },
-        }
-    }
-}
-
-/// What was opened at a place, and which regular file it is.
-#[derive(Drop)]
-pub struct Opened<T> {
-    pub stream: T,
-    pub file: Option<FileIdentity>,
-}
-
-/// What is read at a place, where it can be opened, and is no folder.
-pub fn reader_at<R: Files<File = File>>(
-    rt: &R,
-    stdin: Stdin,
-    files: &OpenFiles,
-    place: &str,
-) -> Result<Opened<Reader>, Refusal>
-    ensures closed { place.now ≡ codes "stdin" → files.now.standard.input.was_closed ≡ true →
-        IsErr result }
-{
-    if place == "stdin" {
-        let input = files.standard.input;
-        if input.was_closed {
-            return Err(Refusal::WasClosed);
-        }
-        return Ok(Opened {
-            stream: Reader::Standard(stdin),
-            file: input.file,
-        });
-    }
-    let opened = File::open(rt, place)?;
-    let found = opened.metadata()?;
-    if found.is_dir() {
-        return Err(Refusal::Folder);
-    }
-    Ok(Opened {
-        stream: Reader::File(opened),
-        file: FileIdentity::of(&found),
-    })
-}
-
-/// Standard output as what is written, or nowhere if it was closed as the run began. A regular file behind it
-/// is opened once more, by the link that leads to the open file, to ask for its length and to cut it.
-pub fn standard_writer<R: Files<File = File>>(
-    rt: &R,
-    stdout: Stdout,
-    output: StandardStream,
-) -> Writer {
-    if output.was_closed {
-        return Writer::nowhere();
-    }
-    if output.file.is_none() {
-        return Writer::standard(stdout, None);
-    }
-    let regular = OpenOptions::new().write(true).open(rt, STANDARD_OUTPUT);
-    Writer::standard(stdout, regular.ok())
-}
-
-/// Opens what is written at its end, and makes it where it isn't there: a named pipe once something reads it.
-fn open_at_end<R: Files<File = File> + Threads>(
-    rt: &R,
-    stderr: Stderr,
-    place: &str,
-) -> io::Result<File> {
-    let is_pipe = match fs::metadata(rt, place) {
-        Ok(found) => found.file_type().is_fifo(),
-        Err(_) => false,
+/// A refusal in plain words, where there are some here.
+pub fn in_plain_words(refusal: Refusal) -> Refusal {
+    let words = match (refusal.kind(), refusal.raw_os_error()) {
+        (ErrorKind::NotFound, _) => "there is no such file or folder",
+        (ErrorKind::PermissionDenied, _) => "there is no permission",
+        (ErrorKind::IsADirectory, _) => "it is a folder",
+        (_, Some(libc::EMFILE)) => "too many files are open",
+        _ => return refusal,
     };
-    if is_pipe {
-        return open_pipe(rt, stderr, place);
-    }
-    OpenOptions::new().append(true).create(true).open(rt, place)
+    io::Error::other(words)
 }
 
-/// Whether another open of a file has its lock; else this one has it from here on. Where the file system has
-/// no locks, none has.
-fn is_locked_elsewhere(file: &File) -> bool {
-    matches!(file.try_lock(), Err(TryLockError::WouldBlock))
-}
+impl<'r, R: Files<File = File> + Threads> RealWorld<'r, R> {
+    /// What is read at a place, where it can be opened and is no folder.
+    pub fn reader_at(&self, place: &str) -> Result<(Reader, FileIdentity), Refusal>
+        ensures closed { place.now ≡ codes "stdin" → self.now.standard.input ≡ None → IsErr result }
+        ensures told { IfOk result (λ opened. opened.0.faults ≡ 0) }
+    {
+        if place == "stdin" {
+            let Some(file) = self.standard.input else {
+                return Err(io::Error::other("it was closed as the run began"));
+            };
+            let stream = Left(self.streams.input);
+            return Ok((Reader { stream, faults: 0 }, file));
+        }
+        let opened = File::open(self.rt, place)?;
+        let found = opened.metadata()?;
+        if found.is_dir() {
+            return Err(io::Error::from(ErrorKind::IsADirectory));
+        }
+        let stream = Right(opened);
+        Ok((Reader { stream, faults: 0 }, identity_of(&found)))
+    }
 
-/// What is written at a place, where it can be opened, and is no regular file that is open, here or in another
-/// run. No byte of a file that is there changes.
-pub fn writer_at<R: Files<File = File> + Threads>(
-    rt: &R,
-    stdout: Stdout,
-    stderr: Stderr,
-    files: &OpenFiles,
-    place: &str,
-) -> Result<Opened<Writer>, Refusal>
-    ensures closed { place.now ≡ codes "stdout" → files.now.standard.output.was_closed ≡ true →
-        IsErr result }
-    ensures places { IfOk result (λ opened. IfSome opened.file (λ identity.
-        Contains files.now.places.items identity → ⊥)) }
-    ensures streams { place.now ≢ codes "stdout" → IfOk result (λ opened. IfSome opened.file (λ identity.
-        (files.now.standard.input.file ≢ Some identity) × (files.now.standard.output.file ≢ Some identity)
-        × (files.now.standard.error.file ≢ Some identity))) }
-{
-    if place == "stdout" {
-        let output = files.standard.output;
-        if output.was_closed {
-            return Err(Refusal::WasClosed);
+    /// Opens what is written at its end, and makes it where it isn't there. A named pipe is opened once
+    /// something reads it; once that has taken a second, standard error says so.
+    fn open_at_end(&self, place: &str) -> io::Result<File> {
+        let (rt, stderr) = (self.rt, self.streams.error);
+        let mut options = OpenOptions::new();
+        options.append(true).create(true);
+        if !fs::metadata(rt, place).is_ok_and(|found| found.file_type().is_fifo()) {
+            return options.open(rt, place);
         }
-        if files.is_place(output.file) {
-            return Err(Refusal::OpenHere);
+        let is_open = AtomicBool::new(false);
+        let tell = || {
+            for _ in 0..100 {
+                if is_open.load(Ordering::SeqCst) {
+                    return;
+                }
+                libc::net::poll(&mut [], 10);
+            }
+            let place = Shown(place);
+            let _ = eprintln!(stderr;
+                "hogzent: {place} is a pipe that nothing reads yet; waiting for a reader"
+            );
+        };
+        let open = || {
+            let opened = OpenOptions::new().append(true).open(rt, place);
+            is_open.store(true, Ordering::SeqCst);
+            opened
+        };
+        thread::join(rt, tell, open).1
+    }
+
+    /// What is written at a place, where it can be opened, and is no regular file that is open, here or in
+    /// another run. No byte of a file that is there changes.
+    pub fn writer_at(&self, place: &str) -> Result<(Writer, FileIdentity), Refusal>
+        ensures closed { place.now ≡ codes "stdout" → self.now.standard.output ≡ None → IsErr result }
+        ensures places { IfOk result (λ opened. IsSome opened.1 → Contains self.now.places.items opened.1 → ⊥) }
+        ensures streams { place.now ≢ codes "stdout" → IfOk result (λ opened. IsSome opened.1 →
+            (self.now.standard.input ≢ Some opened.1) × (self.now.standard.output ≢ Some opened.1)
+            × (self.now.standard.error ≢ Some opened.1)) }
+        ensures told { IfOk result (λ opened. opened.0.faults ≡ 0) }
+    {
+        let standard = self.standard;
+        if place == "stdout" {
+            let Some(file) = standard.output else {
+                return Err(io::Error::other("it was closed as the run began"));
+            };
+            if file.is_some() && self.places.contains(&file) {
+                return Err(io::Error::other("this run has that file open already"));
+            }
+            return Ok((Writer::standard(self.rt, self.streams.output, file), file));
         }
-        return Ok(Opened {
-            stream: standard_writer(rt, stdout, output),
-            file: output.file,
-        });
+        let opened = self.open_at_end(place)?;
+        let file = identity_of(&opened.metadata()?);
+        if file.is_some() {
+            let streams = [standard.input, standard.output, standard.error];
+            if self.places.contains(&file) || streams.contains(&Some(file)) {
+                return Err(io::Error::other("this run has that file open already"));
+            }
+            if matches!(opened.try_lock(), Err(TryLockError::WouldBlock)) {
+                return Err(io::Error::other("another run has it"));
+            }
+        }
+        Ok((Writer::file(opened, file.is_some()), file))
     }
-    let opened = open_at_end(rt, stderr, place)?;
-    let file = FileIdentity::of(&opened.metadata()?);
-    if files.is_open(file) {
-        return Err(Refusal::OpenHere);
-    }
-    if file.is_some() && is_locked_elsewhere(&opened) {
-        return Err(Refusal::OpenElsewhere);
-    }
-    Ok(Opened {
-        stream: Writer::file(opened, file.is_some()),
-        file,
-    })
 }

@@ -1,208 +1,183 @@
 //! What is read and what is written: the standard streams and files.
-ghost use Rattle.std.specs.Io.{ReadsAtMost, WritesAtMost};
+ghost use Rattle.std.specs.Prelude.{◌≡◌, ◌≤◌, None, take, length};
+ghost use Rattle.std.specs.Io.KnownBytes.{Appends};
 
-use std::fs::File;
+use super::opening::{FileIdentity, OUTPUT};
+use agent_base::{Failed, PutFault, Sink, Source};
+use either::{Either, Left, Right};
+use std::fs::{File, OpenOptions};
 use std::io::{self, ErrorKind, Read, Stdin, Stdout, Write};
 use std::os::fd::{AsRawFd, RawFd};
+use std::rt::Files;
 
-/// Waits until a read or a write at a descriptor no longer would block, or can only fail.
-fn wait_until_ready(descriptor: RawFd, event: i16) {
-    let mut asked = [libc::types::pollfd {
-        fd: descriptor,
-        events: event,
-        revents: 0,
-    }];
-    libc::net::poll(&mut asked, -1);
+/// The descriptor of a standard stream or of a file.
+fn descriptor_of<S: AsRawFd>(stream: &Either<S, File>) -> RawFd {
+    match stream {
+        Left(standard) => standard.as_raw_fd(),
+        Right(file) => file.as_raw_fd(),
+    }
 }
 
-/// What is read: standard input or a file. Where a read would block it waits.
+/// Whether a call that failed is made again: it was interrupted, or it would have blocked. Then this waits until the
+/// descriptor is ready, or the call can only fail.
+fn is_made_again(fault: io::Error, descriptor: RawFd, event: i16) -> bool {
+    if fault.kind() == ErrorKind::WouldBlock {
+        let mut asked = [libc::types::pollfd {
+            fd: descriptor,
+            events: event,
+            revents: 0,
+        }];
+        libc::net::poll(&mut asked, -1);
+        return true;
+    }
+    fault.kind() == ErrorKind::Interrupted
+}
+
+/// What is read, and how many reads have failed.
 #[derive(Drop)]
-pub enum Reader {
-    Standard(Stdin),
-    File(File),
+pub struct Reader {
+    pub stream: Either<Stdin, File>,
+    pub faults: u64,
 }
 
-impl Reader {
-    fn descriptor(&self) -> RawFd {
-        match self {
-            Reader::Standard(stdin) => stdin.as_raw_fd(),
-            Reader::File(file) => file.as_raw_fd(),
-        }
-    }
+impl Source for Reader {
+    ghost told = { λ r. record { bytes = None; faults = r.faults } };
 
-    fn read_at_once(&mut self, buf: &mut [u8]) -> io::Result<usize>
-        ensures { ReadsAtMost result buf.new }
-    {
-        match self {
-            Reader::Standard(stdin) => stdin.read(buf),
-            Reader::File(file) => file.read(buf),
-        }
-    }
-}
-
-impl Read for Reader {
-    fn read(&mut self, buf: &mut [u8]) -> io::Result<usize> {
+    fn read(&mut self, buf: &mut [u8]) -> Result<usize, Failed> {
+        let descriptor = descriptor_of(&self.stream);
         for _ in 0..u64::MAX {
-            match self.read_at_once(buf) {
-                Err(fault) if fault.kind() == ErrorKind::WouldBlock => {}
-                answer => return answer,
+            match self.stream.read(buf) {
+                Ok(count) => return Ok(count),
+                Err(fault) => {
+                    if !is_made_again(fault, descriptor, libc::net::POLLIN) {
+                        break;
+                    }
+                }
             }
-            wait_until_ready(self.descriptor(), libc::net::POLLIN);
         }
-        Err(io::Error::from(ErrorKind::TimedOut))
+        self.faults = self.faults.saturating_add(1);
+        Err(Failed)
     }
 }
 
-/// Where bytes go.
-#[derive(Drop)]
-enum Target {
-    /// Nowhere, since standard output was closed as the run began: each write fails.
-    Nowhere,
-    /// Standard output, and the regular file behind it, opened once more.
-    Standard(Stdout, Option<File>),
-    /// A device or a pipe.
-    Stream(File),
-    /// A regular file.
-    Regular(File),
+/// Writes bytes until all are written or a write fails, and says how many were.
+fn write_front<W: Write>(to: &mut W, descriptor: RawFd, bytes: &[u8]) -> usize
+    ensures bound { result ≤ length bytes.now }
+    ensures written { Appends (W.contents to.old) (W.contents to.new) (take result bytes.now) }
+{
+    let mut count = 0;
+    for _ in 0..u64::MAX {
+        if count == bytes.len() {
+            break;
+        }
+        match to.write(&bytes[count..]) {
+            Ok(0) => break,
+            Ok(more) => count += more,
+            Err(fault) => {
+                if !is_made_again(fault, descriptor, libc::net::POLLOUT) {
+                    break;
+                }
+            }
+        }
+    }
+    count
 }
 
-/// What is written. Where a write would block it waits.
-///
-/// A regular file that was there before is made empty at the first write of all bytes, or by `make_empty`.
-/// Where a write of all bytes to a regular file fails behind a part of them, the part is taken back.
+/// What is written, and how many puts have failed. Where a put to a regular file fails behind a part of its bytes,
+/// the part is taken back.
 #[derive(Drop)]
 pub struct Writer {
-    target: Target,
-    is_to_be_emptied: bool,
+    pub stream: Either<Stdout, File>,
+    /// The regular file behind standard output, opened once more to ask for its length and to cut it.
+    pub behind: Option<File>,
+    /// It is a regular file, to which nothing was put yet.
+    pub is_to_be_emptied: bool,
+    pub faults: u64,
 }
 
 impl Writer {
-    /// Each write fails.
-    pub fn nowhere() -> Writer {
-        Writer {
-            target: Target::Nowhere,
-            is_to_be_emptied: false,
-        }
-    }
-
-    /// Standard output, which keeps what it holds, and the regular file behind it, opened once more to write.
-    pub fn standard(stdout: Stdout, regular: Option<File>) -> Writer {
-        Writer {
-            target: Target::Standard(stdout, regular),
-            is_to_be_emptied: false,
-        }
-    }
-
-    /// A file that was opened at its first byte, and whether it is a regular one.
-    pub fn file(file: File, is_regular: bool) -> Writer {
-        Writer {
-            target: if is_regular {
-                Target::Regular(file)
-            } else {
-                Target::Stream(file)
-            },
-            is_to_be_emptied: is_regular,
-        }
-    }
-
-    fn descriptor(&self) -> Option<RawFd> {
-        match &self.target {
-            Target::Nowhere => None,
-            Target::Standard(stdout, _) => Some(stdout.as_raw_fd()),
-            Target::Stream(file) => Some(file.as_raw_fd()),
-            Target::Regular(file) => Some(file.as_raw_fd()),
-        }
-    }
-
-    fn regular(&self) -> Option<&File> {
-        match &self.target {
-            Target::Nowhere => None,
-            Target::Standard(_, regular) => regular.as_ref(),
-            Target::Stream(_) => None,
-            Target::Regular(file) => Some(file),
-        }
-    }
-
-    fn write_at_once(&mut self, buf: &[u8]) -> io::Result<usize>
-        ensures { WritesAtMost result buf.now }
+    /// Standard output, and the regular file behind it, if it is one.
+    pub fn standard<R: Files<File = File>>(rt: &R, stdout: Stdout, file: FileIdentity) -> Writer
+        ensures { result.faults ≡ 0 }
     {
-        match &mut self.target {
-            Target::Nowhere => Err(io::Error::from(ErrorKind::BrokenPipe)),
-            Target::Standard(stdout, _) => stdout.write(buf),
-            Target::Stream(file) => file.write(buf),
-            Target::Regular(file) => file.write(buf),
+        let behind = match file {
+            Some(_) => OpenOptions::new().write(true).open(rt, OUTPUT).ok(),
+            None => None,
+        };
+        Writer {
+            stream: Left(stdout),
+            behind,
+            is_to_be_emptied: false,
+            faults: 0,
         }
+    }
+
+    /// A file that was opened at its end, and whether it is a regular one.
+    pub fn file(file: File, is_regular: bool) -> Writer
+        ensures { result.faults ≡ 0 }
+    {
+        Writer {
+            stream: Right(file),
+            behind: None,
+            is_to_be_emptied: is_regular,
+            faults: 0,
+        }
+    }
+
+    fn opened(&self) -> Option<&File> {
+        match &self.stream {
+            Left(_) => self.behind.as_ref(),
+            Right(file) => Some(file),
+        }
+    }
+
+    /// How long the file is, where it is a regular one.
+    fn length(&self) -> Option<u64> {
+        let found = self.opened()?.metadata().ok()?;
+        found.is_file().then_some(found.len())
     }
 
     /// Makes a file empty that was there before, unless that was done.
-    pub fn make_empty(&mut self) -> io::Result<()> {
-        if self.is_to_be_emptied {
-            if let Some(file) = self.regular() {
-                file.set_len(0)?;
-            }
-            self.is_to_be_emptied = false;
+    pub fn make_empty(&mut self) -> io::Result<()>
+        ensures { self.new.faults ≡ self.old.faults }
+    {
+        if let (true, Some(file)) = (self.is_to_be_emptied, self.opened()) {
+            file.set_len(0)?;
         }
+        self.is_to_be_emptied = false;
         Ok(())
-    }
-
-    /// How long the regular file is.
-    fn length(&self) -> Option<u64> {
-        let found = self.regular()?.metadata().ok()?;
-        Some(found.len())
     }
 
     /// Takes so many bytes back that were written behind the end of a regular file, given how long it was:
     /// cuts them off, and goes back to where they began. Where they stand elsewhere, or something else was
     /// written meanwhile, they stay.
-    fn take_back(&self, length: u64, count: usize) {
+    fn take_back(&self, length: Option<u64>, count: usize) {
+        let (Some(file), Some(length)) = (self.opened(), length) else {
+            return;
+        };
         if count == 0 || self.length() != length.checked_add(count as u64) {
             return;
         }
-        let (Some(file), Some(descriptor)) = (self.regular(), self.descriptor()) else {
-            return;
-        };
-        if let (Ok(()), Ok(end)) = (file.set_len(length), i64::try_from(length)) {
-            libc::lseek(descriptor, end, libc::SEEK_SET);
+        if file.set_len(length).is_ok() && self.stream.is_left() {
+            libc::lseek(libc::STDOUT_FILENO, length.cast_signed(), libc::SEEK_SET);
         }
     }
 }
 
-impl Write for Writer {
-    fn write(&mut self, buf: &[u8]) -> io::Result<usize> {
-        for _ in 0..u64::MAX {
-            match self.write_at_once(buf) {
-                Err(fault) if fault.kind() == ErrorKind::WouldBlock => {}
-                answer => return answer,
-            }
-            if let Some(descriptor) = self.descriptor() {
-                wait_until_ready(descriptor, libc::net::POLLOUT);
-            }
-        }
-        Err(io::Error::from(ErrorKind::TimedOut))
-    }
+impl Sink for Writer {
+    ghost told = { λ w. record { bytes = None; faults = w.faults } };
 
-    fn flush(&mut self) -> io::Result<()> {
-        Ok(())
-    }
-
-    fn write_all(&mut self, buf: &[u8]) -> io::Result<()> {
-        self.make_empty()?;
-        let length = self.length();
-        let mut rest = buf;
-        for _ in 0..u64::MAX {
-            if rest.is_empty() {
+    fn put(&mut self, bytes: &[u8]) -> Result<(), PutFault> {
+        if self.make_empty().is_ok() {
+            let length = self.length();
+            let descriptor = descriptor_of(&self.stream);
+            let count = write_front(&mut self.stream, descriptor, bytes);
+            if count == bytes.len() {
                 return Ok(());
             }
-            match self.write(rest) {
-                Ok(0) => break,
-                Ok(count) => rest = &rest[count..],
-                Err(fault) if fault.kind() == ErrorKind::Interrupted => {}
-                Err(_) => break,
-            }
+            self.take_back(length, count);
         }
-        if let Some(length) = length {
-            self.take_back(length, buf.len() - rest.len());
-        }
-        Err(io::Error::from(ErrorKind::WriteZero))
+        self.faults = self.faults.saturating_add(1);
+        Err(PutFault::Failed)
     }
 }

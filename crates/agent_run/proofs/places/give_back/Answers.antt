@@ -10,8 +10,11 @@ returns-clause-given g c =
     let parts = read_parts g.W.In.Source.told c.args.opened in
     let old = g.W.World.view c.args.world.now in
     let mid = g.W.World.view c.give_each.new.world in
-    gives_all c.args.config.now parts (written_parts g.W.Out.Sink.told c.args.opened) old mid (g.W.World.view c.give_written.new.world)
-    (subst (λ (ps : List (List ℕ)). AreGiven ps parts old.ins mid.ins) (ap places_in c.as_slice.ensures) c.give_each.ensures.given) c.give_each.ensures.only c.give_written.ensures.given c.give_written.ensures.only
+    gives_all c.args.config.now parts (written_parts g.W.Out.Sink.told c.args.opened) old mid
+    (g.W.World.view c.give_written.new.world)
+    (subst (λ (ps : List (List ℕ)). AreGiven ps parts old.ins mid.ins)
+    (ap places_in c.as_slice.ensures) c.give_each.ensures.given) c.give_each.ensures.only c.give_written.ensures.given
+    c.give_written.ensures.only
 
 pub returns-clause-ins_home : goal.returns-clause-ins_home
 returns-clause-ins_home g c = λ home q.
@@ -19,9 +22,13 @@ returns-clause-ins_home g c = λ home q.
     let old = (g.W.World.view c.args.world.now).ins in
     let mid = (g.W.World.view c.give_each.new.world).ins in
     ap (λ (p : Place). p.is_out) (c.give_written.ensures.only.ins q)
-    ∙ given_home (in_places c.args.config.now) parts old mid (subst (λ (ps : List (List ℕ)). AreGiven ps parts old mid) (ap places_in c.as_slice.ensures) c.give_each.ensures.given) home q
+    ∙ given_home (in_places c.args.config.now) parts old mid
+    (subst (λ (ps : List (List ℕ)). AreGiven ps parts old mid)
+    (ap places_in c.as_slice.ensures) c.give_each.ensures.given) home q
 
 pub returns-clause-outs_home : goal.returns-clause-outs_home
 returns-clause-outs_home g c = λ home q.
-    given_home (out_places c.args.config.now) (written_parts g.W.Out.Sink.told c.args.opened) (g.W.World.view c.give_each.new.world).outs (g.W.World.view c.give_written.new.world).outs c.give_written.ensures.given
+    given_home (out_places c.args.config.now) (written_parts g.W.Out.Sink.told c.args.opened)
+    (g.W.World.view c.give_each.new.world).outs (g.W.World.view c.give_written.new.world).outs
+    c.give_written.ensures.given
     (λ other away. ap (λ (p : Place). p.is_out) (c.give_each.ensures.only.outs other) ∙ home other away) q

@@ -2,7 +2,8 @@ use Rattle.std.proofs.Common.{subst}
 use Rattle.agent_run.specs.PlaceLists.{IsLeftUnopened, in_places, out_places}
 use Rattle.agent_workers.specs.Opened.{carried_by, timed_by}
 use Rattle.agent_run.specs.declared.places.Unopened.{Unopened}
-use Rattle.agent_run.proofs.RunningLemmas.{all_first, ins_home_but, only_named, opened_same, outs_home_but, refused_by, runs}
+use Rattle.agent_run.proofs.RunningLemmas.{all_first, ins_home_but, only_named, opened_same, outs_home_but, refused_by}
+use Rattle.agent_run.proofs.RunningLemmas.{runs}
 use Rattle.agent_run.proofs.running.run_config.Goals as goal
 
 pub run_opened-requires-clause-first : goal.run_opened-requires-clause-first
@@ -11,40 +12,57 @@ run_opened-requires-clause-first g c κs within = all_first c.args.config.now _ 
 pub returns-in-Ok-open_places-clause-ends : goal.returns-in-Ok-open_places-clause-ends
 returns-in-Ok-open_places-clause-ends g c = λ ne.
     let opened = c.in-Ok-open_places.opened in
-    runs c.args.config.now c.run_opened.result (g.W.World.view c.args.world.now) (g.W.World.view c.open_places.new.world) (g.W.World.view c.clocks_of-clocks.new.world) (g.W.World.view c.run_opened.new.world)
+    runs c.args.config.now c.run_opened.result (g.W.World.view c.args.world.now)
+    (g.W.World.view c.open_places.new.world) (g.W.World.view c.clocks_of-clocks.new.world)
+    (g.W.World.view c.run_opened.new.world)
     (carried_by g.W.In.Source.told g.W.Out.Sink.told opened) c.in-Ok-open_places.ensures.opened
-    (timed_by g.W.Clk.Clock.told c.clocks_of-clocks.result) c.clocks_of-clocks.ensures.inputs c.clocks_of-clocks.ensures.timer_moments c.clocks_of-clocks.ensures.only.report
+    (timed_by g.W.Clk.Clock.told c.clocks_of-clocks.result) c.clocks_of-clocks.ensures.inputs
+    c.clocks_of-clocks.ensures.timer_moments c.clocks_of-clocks.ensures.only.report
     c.run_opened.ensures.ends
 
 pub returns-in-Ok-open_places-clause-only : goal.returns-in-Ok-open_places-clause-only
 returns-in-Ok-open_places-clause-only g c =
     let opened = c.in-Ok-open_places.opened in
-    only_named c.args.config.now c.run_opened.result (g.W.World.view c.args.world.now) (g.W.World.view c.open_places.new.world) (g.W.World.view c.clocks_of-clocks.new.world) (g.W.World.view c.run_opened.new.world)
+    only_named c.args.config.now c.run_opened.result (g.W.World.view c.args.world.now)
+    (g.W.World.view c.open_places.new.world) (g.W.World.view c.clocks_of-clocks.new.world)
+    (g.W.World.view c.run_opened.new.world)
     (carried_by g.W.In.Source.told g.W.Out.Sink.told opened) c.in-Ok-open_places.ensures.opened
-    c.clocks_of-clocks.ensures.only.ins c.clocks_of-clocks.ensures.only.outs c.clocks_of-clocks.ensures.others c.run_opened.ensures.only.ins c.run_opened.ensures.only.outs c.run_opened.ensures.only.clocks
+    c.clocks_of-clocks.ensures.only.ins c.clocks_of-clocks.ensures.only.outs c.clocks_of-clocks.ensures.others
+    c.run_opened.ensures.only.ins c.run_opened.ensures.only.outs c.run_opened.ensures.only.clocks
 
 pub returns-in-Ok-open_places-clause-opened : goal.returns-in-Ok-open_places-clause-opened
 returns-in-Ok-open_places-clause-opened g c = λ other short.
     let opened = c.in-Ok-open_places.opened in
-    opened_same c.args.config.now c.run_opened.result (g.W.World.view c.args.world.now) (g.W.World.view c.open_places.new.world) (g.W.World.view c.clocks_of-clocks.new.world) (g.W.World.view c.run_opened.new.world)
+    opened_same c.args.config.now c.run_opened.result (g.W.World.view c.args.world.now)
+    (g.W.World.view c.open_places.new.world) (g.W.World.view c.clocks_of-clocks.new.world)
+    (g.W.World.view c.run_opened.new.world)
     (carried_by g.W.In.Source.told g.W.Out.Sink.told opened) c.in-Ok-open_places.ensures.opened
-    c.clocks_of-clocks.ensures.only.ins c.clocks_of-clocks.ensures.only.outs c.run_opened.ensures.opened.ins c.run_opened.ensures.opened.outs
+    c.clocks_of-clocks.ensures.only.ins c.clocks_of-clocks.ensures.only.outs c.run_opened.ensures.opened.ins
+    c.run_opened.ensures.opened.outs
 
 pub returns-in-Ok-open_places-clause-ins_home : goal.returns-in-Ok-open_places-clause-ins_home
 returns-in-Ok-open_places-clause-ins_home g c =
     let opened = c.in-Ok-open_places.opened in
-    c.run_opened.ensures.ins_home (ins_home_but c.args.config.now c.run_opened.result (g.W.World.view c.args.world.now) (g.W.World.view c.open_places.new.world) (g.W.World.view c.clocks_of-clocks.new.world) (g.W.World.view c.run_opened.new.world)
+    c.run_opened.ensures.ins_home (ins_home_but c.args.config.now c.run_opened.result (g.W.World.view c.args.world.now)
+    (g.W.World.view c.open_places.new.world) (g.W.World.view c.clocks_of-clocks.new.world)
+    (g.W.World.view c.run_opened.new.world)
     (carried_by g.W.In.Source.told g.W.Out.Sink.told opened) c.in-Ok-open_places.ensures.opened
     c.requires.ins c.clocks_of-clocks.ensures.only.ins)
 
 pub returns-in-Ok-open_places-clause-outs_home : goal.returns-in-Ok-open_places-clause-outs_home
 returns-in-Ok-open_places-clause-outs_home g c =
     let opened = c.in-Ok-open_places.opened in
-    c.run_opened.ensures.outs_home (outs_home_but c.args.config.now c.run_opened.result (g.W.World.view c.args.world.now) (g.W.World.view c.open_places.new.world) (g.W.World.view c.clocks_of-clocks.new.world) (g.W.World.view c.run_opened.new.world)
+    c.run_opened.ensures.outs_home (outs_home_but c.args.config.now c.run_opened.result
+    (g.W.World.view c.args.world.now) (g.W.World.view c.open_places.new.world)
+    (g.W.World.view c.clocks_of-clocks.new.world) (g.W.World.view c.run_opened.new.world)
     (carried_by g.W.In.Source.told g.W.Out.Sink.told opened) c.in-Ok-open_places.ensures.opened
     c.requires.outs c.clocks_of-clocks.ensures.only.outs)
 
 pub returns-in-Err-Failed-clause-open : goal.returns-in-Err-Failed-clause-open
 returns-in-Err-Failed-clause-open g c = λ e.
-    refused_by c.args.config.now c.report_open_fault.result c.in-Err-Failed.place.now (g.W.World.view c.args.world.now) (g.W.World.view c.open_places.new.world) (g.W.World.view c.report_open_fault.new.world)
-    (subst (λ (u : Unopened). IsLeftUnopened u (in_places c.args.config.now) (out_places c.args.config.now) (g.W.World.view c.args.world.now) (g.W.World.view c.open_places.new.world)) c.in-Err-Failed.field-0-is c.in-Err-Failed.ensures.refused) c.report_open_fault.ensures.only.ins c.report_open_fault.ensures.only.outs c.report_open_fault.ensures.answer e
+    refused_by c.args.config.now c.report_open_fault.result c.in-Err-Failed.place.now (g.W.World.view c.args.world.now)
+    (g.W.World.view c.open_places.new.world) (g.W.World.view c.report_open_fault.new.world)
+    (subst (λ (u : Unopened). IsLeftUnopened u (in_places c.args.config.now) (out_places c.args.config.now)
+    (g.W.World.view c.args.world.now) (g.W.World.view c.open_places.new.world)) c.in-Err-Failed.field-0-is
+    c.in-Err-Failed.ensures.refused) c.report_open_fault.ensures.only.ins c.report_open_fault.ensures.only.outs
+    c.report_open_fault.ensures.answer e

@@ -9,7 +9,9 @@ use Rattle.agent_workers.proofs.input.end_where_met.Goals as goal
 
 pub returns-clause-running : goal.returns-clause-running
 returns-clause-running g c = record {
-  ready = ready_gathered c.args.job.now.input c.args.core.now c.ended.new.self (ended_core c.args.job.now.input c.args.core.now c.ended.new.self c.in_ok-ended.ensures.ok) c.requires.running.ready;
+  ready = ready_gathered c.args.job.now.input c.args.core.now c.ended.new.self
+      (ended_core c.args.job.now.input c.args.core.now c.ended.new.self c.in_ok-ended.ensures.ok)
+      c.requires.running.ready;
   stands = continues c.in_ok-ended.ensures.stands c.requires.running.stands;
   going = search rules;
 }
@@ -21,11 +23,13 @@ pub returns-clause-fits : goal.returns-clause-fits
 returns-clause-fits g c =
     let free : c.args.job.now.held ≡ None = search rules in
     let reading : c.args.job.now.state ≡ states.Reading = search rules in
-    fits_ended c.args.core.now c.ended.new.self (in_of g.S.Source.told g.C.Clock.told c.args.job.now) c.in_ok-ended.ensures.ok free reading c.requires.fits
+    fits_ended c.args.core.now c.ended.new.self (in_of g.S.Source.told g.C.Clock.told c.args.job.now)
+    c.in_ok-ended.ensures.ok free reading c.requires.fits
 
 pub returns-clause-ends : goal.returns-clause-ends
 returns-clause-ends g c =
     let met : c.args.met ≡ true = search rules in
     let free : c.args.job.now.held ≡ None = search rules in
     let reading : c.args.job.now.state ≡ states.Reading = search rules in
-    end_noted c.args.met c.args.core.now c.ended.new.self (in_of g.S.Source.told g.C.Clock.told c.args.job.now) met free reading c.requires.fits.readable.some c.in_ok-ended.ensures.ok c.in_ok-ended.ensures.stands
+    end_noted c.args.met c.args.core.now c.ended.new.self (in_of g.S.Source.told g.C.Clock.told c.args.job.now) met free
+    reading c.requires.fits.readable.some c.in_ok-ended.ensures.ok c.in_ok-ended.ensures.stands

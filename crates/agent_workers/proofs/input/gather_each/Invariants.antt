@@ -10,7 +10,9 @@ invariant-loop-job g l = record {
   running : IsRunning l.core;
   kept : IsGathered l.fn.core l.core;
   inputs : AreInputs (length l.fn.core.setup.inputs) l.core.ended (ins_of g.S.Source.told g.C.Clock.told l.inputs);
-  same : AreSameInputs (ins_of g.S.Source.told g.C.Clock.told l.fn.inputs) (ins_of g.S.Source.told g.C.Clock.told l.inputs);
+  same : AreSameInputs (ins_of g.S.Source.told g.C.Clock.told l.fn.inputs)
+      (ins_of g.S.Source.told g.C.Clock.told l.inputs);
   turned : HasTurned l.job-index l.fn.core l.core (ins_of g.S.Source.told g.C.Clock.told l.inputs);
-  gathers : GathersTo l.job-index l.fn.core l.core (ins_of g.S.Source.told g.C.Clock.told l.fn.inputs) (ins_of g.S.Source.told g.C.Clock.told l.inputs);
+  gathers : GathersTo l.job-index l.fn.core l.core (ins_of g.S.Source.told g.C.Clock.told l.fn.inputs)
+      (ins_of g.S.Source.told g.C.Clock.told l.inputs);
 }

@@ -12,42 +12,55 @@ use Rattle.agent_workers.proofs.input.offer.Goals as goal
 
 pub returns-in-Ok-clause-running : goal.returns-in-Ok-clause-running
 returns-in-Ok-clause-running g c = record {
-  ready = ready_gathered c.args.job.now.input c.args.core.now c.gather.new.self (gathered_core c.args.job.now.input c.args.core.now c.gather.new.self c.in-Some.gathered c.in-Ok.ensures.ok) c.requires.running.ready;
+  ready = ready_gathered c.args.job.now.input c.args.core.now c.gather.new.self
+      (gathered_core c.args.job.now.input c.args.core.now c.gather.new.self c.in-Some.gathered c.in-Ok.ensures.ok)
+      c.requires.running.ready;
   stands = continues c.in-Ok.ensures.stands c.requires.running.stands;
   going = search rules;
 }
 
 pub returns-in-Ok-clause-kept : goal.returns-in-Ok-clause-kept
-returns-in-Ok-clause-kept g c = gathered_core c.args.job.now.input c.args.core.now c.gather.new.self c.in-Some.gathered c.in-Ok.ensures.ok
+returns-in-Ok-clause-kept g c = gathered_core c.args.job.now.input c.args.core.now c.gather.new.self c.in-Some.gathered
+    c.in-Ok.ensures.ok
 
 pub returns-in-Ok-clause-fits : goal.returns-in-Ok-clause-fits
 returns-in-Ok-clause-fits g c =
     let free : c.take.new.self ≡ None = search rules in
     let old : InPart = in_of g.S.Source.told g.C.Clock.told c.args.job.now in
-    subst (λ (x : Option Gathered). FitsInput c.args.job.now.input c.gather.new.self.ended (record old { held = x })) (sym free)
-    (fits_gathered c.args.job.now.input c.args.core.now.ended c.gather.new.self.ended (in_of g.S.Source.told g.C.Clock.told c.args.job.now) (ap (λ (s : CoreState). s.ended) c.in-Ok.ensures.ok) c.requires.fits)
+    subst (λ (x : Option Gathered). FitsInput c.args.job.now.input c.gather.new.self.ended (record old { held = x }))
+    (sym free)
+    (fits_gathered c.args.job.now.input c.args.core.now.ended c.gather.new.self.ended
+    (in_of g.S.Source.told g.C.Clock.told c.args.job.now) (ap (λ (s : CoreState). s.ended) c.in-Ok.ensures.ok)
+    c.requires.fits)
 
 pub returns-in-Ok-clause-gathers : goal.returns-in-Ok-clause-gathers
 returns-in-Ok-clause-gathers g c =
     let held : c.args.job.now.held ≡ Some c.in-Some.gathered = search rules in
     let free : c.take.new.self ≡ None = search rules in
     let old : InPart = in_of g.S.Source.told g.C.Clock.told c.args.job.now in
-    subst (λ (x : Option Gathered). GathersAt c.args.core.now c.gather.new.self old (record old { held = x })) (sym free)
-    (offer_accepted c.args.core.now c.gather.new.self (in_of g.S.Source.told g.C.Clock.told c.args.job.now) c.in-Some.gathered held c.requires.fits.own c.requires.running.ready.no_aggs c.in-Ok.ensures.answer.0 c.in-Ok.ensures.ok c.in-Ok.ensures.stands)
+    subst (λ (x : Option Gathered). GathersAt c.args.core.now c.gather.new.self old (record old { held = x }))
+    (sym free)
+    (offer_accepted c.args.core.now c.gather.new.self (in_of g.S.Source.told g.C.Clock.told c.args.job.now)
+    c.in-Some.gathered held c.requires.fits.own c.requires.running.ready.no_aggs c.in-Ok.ensures.answer.0
+    c.in-Ok.ensures.ok c.in-Ok.ensures.stands)
 
 pub returns-in-None-clause-gathers : goal.returns-in-None-clause-gathers
 returns-in-None-clause-gathers g c =
     let held : c.args.job.now.held ≡ None = search rules in
     let free : c.take.new.self ≡ None = search rules in
     let old : InPart = in_of g.S.Source.told g.C.Clock.told c.args.job.now in
-    gathers_none c.args.core.now c.args.core.now old (record old { held = c.take.new.self }) refl (ap (λ (x : Option Gathered). let p : InPart = record old { held = x } in p) (free ∙ sym held))
+    gathers_none c.args.core.now c.args.core.now old (record old { held = c.take.new.self }) refl
+    (ap (λ (x : Option Gathered). let p : InPart = record old { held = x } in p) (free ∙ sym held))
 
 pub returns-in-Err-RunFull-clause-gathers : goal.returns-in-Err-RunFull-clause-gathers
 returns-in-Err-RunFull-clause-gathers g c =
     let held : c.args.job.now.held ≡ Some c.in-Some.gathered = search rules in
-    offer_full c.args.core.now c.gather.new.self (in_of g.S.Source.told g.C.Clock.told c.args.job.now) c.in-Some.gathered c.in-Err-RunFull.back held (search rules) (search rules) c.requires.fits.readable.some c.requires.fits.none_held (search rules)
+    offer_full c.args.core.now c.gather.new.self (in_of g.S.Source.told g.C.Clock.told c.args.job.now)
+    c.in-Some.gathered c.in-Err-RunFull.back held (search rules) (search rules) c.requires.fits.readable.some
+    c.requires.fits.none_held (search rules)
 
 pub returns-in-Err-HeldRaw-clause-gathers : goal.returns-in-Err-HeldRaw-clause-gathers
 returns-in-Err-HeldRaw-clause-gathers g c =
     let held : c.args.job.now.held ≡ Some c.in-Some.gathered = search rules in
-    offer_kept c.args.core.now c.gather.new.self (in_of g.S.Source.told g.C.Clock.told c.args.job.now) c.in-Some.gathered c.in-Err-HeldRaw.back held (search rules) (search rules)
+    offer_kept c.args.core.now c.gather.new.self (in_of g.S.Source.told g.C.Clock.told c.args.job.now)
+    c.in-Some.gathered c.in-Err-HeldRaw.back held (search rules) (search rules)

@@ -12,39 +12,52 @@ abbrev part : (g : Over) → InJob g.row.S.Denot g.row.C.Denot → InPart
 part g = in_of g.S.Source.told g.C.Clock.told
 
 pub offer-requires-clause-fits : goal.offer-requires-clause-fits
-offer-requires-clause-fits g c = fits_read c.args.core.now.ended (part g c.args.job.now) (part g c.read_where_free.new.job) c.requires.fits c.read_where_free.ensures.same c.in_ok-met.ensures.ended c.in_ok-met.ensures.cut_by c.in_ok-met.ensures.own c.in_ok-met.ensures.none_held
+offer-requires-clause-fits g c = fits_read c.args.core.now.ended (part g c.args.job.now)
+    (part g c.read_where_free.new.job) c.requires.fits c.read_where_free.ensures.same c.in_ok-met.ensures.ended
+    c.in_ok-met.ensures.cut_by c.in_ok-met.ensures.own c.in_ok-met.ensures.none_held
 
 pub end_where_met-requires-clause-fits : goal.end_where_met-requires-clause-fits
-end_where_met-requires-clause-fits g c = fits_own c.read_where_free.new.job.input c.offer.new.core.ended (part g c.offer.new.job) c.in_ok-offer.ensures.fits
+end_where_met-requires-clause-fits g c = fits_own c.read_where_free.new.job.input c.offer.new.core.ended
+    (part g c.offer.new.job) c.in_ok-offer.ensures.fits
 
 pub returns-then-branch-clause-gathers : goal.returns-then-branch-clause-gathers
 returns-then-branch-clause-gathers g c =
-    turns_full c.in_ok-met.met c.args.core.now c.offer.new.core c.offer.new.core (part g c.args.job.now) (part g c.read_where_free.new.job) (part g c.offer.new.job) (part g c.offer.new.job)
-    c.read_where_free.ensures.same.input c.in_ok-offer.ensures.part (c.in_ok-met.ensures.reads c.args.core.now) c.in_ok-met.ensures.met c.in_ok-offer.ensures.gathers
+    turns_full c.in_ok-met.met c.args.core.now c.offer.new.core c.offer.new.core (part g c.args.job.now)
+    (part g c.read_where_free.new.job) (part g c.offer.new.job) (part g c.offer.new.job)
+    c.read_where_free.ensures.same.input c.in_ok-offer.ensures.part (c.in_ok-met.ensures.reads c.args.core.now)
+    c.in_ok-met.ensures.met c.in_ok-offer.ensures.gathers
 
 pub returns-clause-kept : goal.returns-clause-kept
 returns-clause-kept g c =
     gathered_at_then c.args.job.now.input c.args.core.now c.offer.new.core c.end_where_met.new.core
-    (subst (λ (k : ℕ). IsGatheredAt k c.args.core.now c.offer.new.core) c.read_where_free.ensures.same.input c.in_ok-offer.ensures.kept)
-    (subst (λ (k : ℕ). IsGatheredAt k c.offer.new.core c.end_where_met.new.core) (c.offer.ensures.same.input ∙ c.read_where_free.ensures.same.input) c.in_ok-end_where_met.ensures.kept)
+    (subst (λ (k : ℕ). IsGatheredAt k c.args.core.now c.offer.new.core) c.read_where_free.ensures.same.input
+    c.in_ok-offer.ensures.kept)
+    (subst (λ (k : ℕ). IsGatheredAt k c.offer.new.core c.end_where_met.new.core)
+    (c.offer.ensures.same.input ∙ c.read_where_free.ensures.same.input) c.in_ok-end_where_met.ensures.kept)
 
 pub returns-clause-fits : goal.returns-clause-fits
-returns-clause-fits g c = subst (λ (k : ℕ). FitsInput k c.end_where_met.new.core.ended (part g c.end_where_met.new.job)) (c.offer.ensures.same.input ∙ c.read_where_free.ensures.same.input) c.in_ok-end_where_met.ensures.fits
+returns-clause-fits g c = subst (λ (k : ℕ). FitsInput k c.end_where_met.new.core.ended (part g c.end_where_met.new.job))
+    (c.offer.ensures.same.input ∙ c.read_where_free.ensures.same.input) c.in_ok-end_where_met.ensures.fits
 
 pub returns-clause-gathers : goal.returns-clause-gathers
 returns-clause-gathers g c =
-    turns c.in_ok-met.met c.args.core.now c.offer.new.core c.end_where_met.new.core (part g c.args.job.now) (part g c.read_where_free.new.job) (part g c.offer.new.job) (part g c.end_where_met.new.job)
-    c.read_where_free.ensures.same.input c.in_ok-offer.ensures.part (c.in_ok-met.ensures.reads c.args.core.now) c.in_ok-met.ensures.met c.in_ok-offer.ensures.gathers c.offer.ensures.same.input c.in_ok-end_where_met.ensures.ends
+    turns c.in_ok-met.met c.args.core.now c.offer.new.core c.end_where_met.new.core (part g c.args.job.now)
+    (part g c.read_where_free.new.job) (part g c.offer.new.job) (part g c.end_where_met.new.job)
+    c.read_where_free.ensures.same.input c.in_ok-offer.ensures.part (c.in_ok-met.ensures.reads c.args.core.now)
+    c.in_ok-met.ensures.met c.in_ok-offer.ensures.gathers c.offer.ensures.same.input c.in_ok-end_where_met.ensures.ends
 
 pub returns-clause-moved : goal.returns-clause-moved
 returns-clause-moved g c = λ e.
     let reads = c.in_ok-met.ensures in
     let offered = c.in_ok-offer.ensures in
     let ended = c.in_ok-end_where_met.ensures in
-    turn_moved c.in_ok-met.met c.read_where_free.new.job.held c.args.core.now c.offer.new.core c.end_where_met.new.core (part g c.read_where_free.new.job) (part g c.offer.new.job) (part g c.end_where_met.new.job)
-    refl (λ m. (reads.met m).0) reads.moved (offered.offered.moved c.if-branch.false) c.offer.ensures.none (offered.offered.room c.if-branch.false) c.end_where_met.ensures.held ended.out ended.unmet ended.kept.kept.stored
+    turn_moved c.in_ok-met.met c.read_where_free.new.job.held c.args.core.now c.offer.new.core c.end_where_met.new.core
+    (part g c.read_where_free.new.job) (part g c.offer.new.job) (part g c.end_where_met.new.job)
+    refl (λ m. (reads.met m).0) reads.moved (offered.offered.moved c.if-branch.false) c.offer.ensures.none
+    (offered.offered.room c.if-branch.false) c.end_where_met.ensures.held ended.out ended.unmet ended.kept.kept.stored
 
 pub returns-clause-same : goal.returns-clause-same
 returns-clause-same g c =
     same_input (part g c.args.job.now) (part g c.offer.new.job) (part g c.end_where_met.new.job)
-    (same_input (part g c.args.job.now) (part g c.read_where_free.new.job) (part g c.offer.new.job) c.read_where_free.ensures.same c.offer.ensures.same) c.end_where_met.ensures.same
+    (same_input (part g c.args.job.now) (part g c.read_where_free.new.job)
+    (part g c.offer.new.job) c.read_where_free.ensures.same c.offer.ensures.same) c.end_where_met.ensures.same

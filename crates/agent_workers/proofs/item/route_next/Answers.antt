@@ -17,14 +17,19 @@ use Rattle.agent_workers.proofs.item.route_next.Goals as goal
 takes : (g : Over) (c : In_ok-route g) → TakesNext c.args.core.now c.take_next.new.core c.in-Some.item
 takes g c = search rules
 
-routed : (g : Over) (c : In_ok-route g) → c.route.new.self ≡ after_route c.take_next.new.core (routed_by (work_of c.args.proc.now.outs.now) c.in-Some.item.number c.in-Some.item.metric)
+routed : (g : Over) (c : In_ok-route g) → c.route.new.self ≡ after_route c.take_next.new.core
+    (routed_by (work_of c.args.proc.now.outs.now) c.in-Some.item.number c.in-Some.item.metric)
 routed g c = c.in_ok-route.ensures.ok ∙ ap (after_route c.take_next.new.core) c.in_ok-routed.ensures.routed
 
-routes : (g : Over) (c : In_ok-route g) → Continues c.take_next.new.core c.route.new.self (route_entry c.take_next.new.core (routed_by (work_of c.args.proc.now.outs.now) c.in-Some.item.number c.in-Some.item.metric))
-routes g c = subst (λ (r : Routed). Continues c.take_next.new.core c.route.new.self (route_entry c.take_next.new.core r)) c.in_ok-routed.ensures.routed c.in_ok-route.ensures.stands
+routes : (g : Over) (c : In_ok-route g) → Continues c.take_next.new.core c.route.new.self
+    (route_entry c.take_next.new.core (routed_by (work_of c.args.proc.now.outs.now) c.in-Some.item.number
+    c.in-Some.item.metric))
+routes g c = subst (λ (r : Routed). Continues c.take_next.new.core c.route.new.self
+    (route_entry c.take_next.new.core r)) c.in_ok-routed.ensures.routed c.in_ok-route.ensures.stands
 
 kept : (g : Over) (c : In_ok-route g) → IsRoutable c.args.core.now c.route.new.self
-kept g c = item_routed c.args.core.now c.take_next.new.core c.route.new.self c.in-Some.item (work_of c.args.proc.now.outs.now) (takes g c) (routed g c)
+kept g c = item_routed c.args.core.now c.take_next.new.core c.route.new.self c.in-Some.item
+    (work_of c.args.proc.now.outs.now) (takes g c) (routed g c)
 
 pub returns-clause-rests : goal.returns-clause-rests
 returns-clause-rests g c = record {
@@ -37,5 +42,7 @@ returns-clause-kept g c = kept g c
 
 pub returns-clause-goes : goal.returns-clause-goes
 returns-clause-goes g c = λ start now fresh w.
-    subst (λ (outs : List OutputConf). Progress start (record now { core = c.route.new.self; proc = record { outs = outs } })) (sym c.routing.ensures.same)
-    (went_item start c.args.core.now c.take_next.new.core c.route.new.self now (proc_of c.args.proc.now) c.in-Some.item fresh (takes g c) (routed g c) (routes g c) w)
+    subst (λ (outs : List OutputConf). Progress start (record now
+    { core = c.route.new.self; proc = record { outs = outs } })) (sym c.routing.ensures.same)
+    (went_item start c.args.core.now c.take_next.new.core c.route.new.self now (proc_of c.args.proc.now) c.in-Some.item
+    fresh (takes g c) (routed g c) (routes g c) w)

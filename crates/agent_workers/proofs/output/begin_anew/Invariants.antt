@@ -5,4 +5,5 @@ use Rattle.agent_workers.proofs.output.begin_anew.Given as goal
 
 abbrev pub invariant-loop-job : goal.invariant-loop-job
 invariant-loop-job g l =
-    outs_of g.K.Sink.told l.outputs ≡ map anew (take l.job-index (outs_of g.K.Sink.told l.fn.outputs)) ++ drop l.job-index (outs_of g.K.Sink.told l.fn.outputs)
+    outs_of g.K.Sink.told l.outputs ≡ map anew (take l.job-index (outs_of g.K.Sink.told l.fn.outputs))
+    ++ drop l.job-index (outs_of g.K.Sink.told l.fn.outputs)

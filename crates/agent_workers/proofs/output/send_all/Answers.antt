@@ -18,10 +18,15 @@ part g = out_of g.K.Sink.told
 
 -- one batch more was tried
 kept : (g : Over) (c : In_ok-send_next g) → IsSentAt c.args.job.now.output c.args.core.now c.send_next.new.core
-kept g c = sent_more c.args.job.now.output c.args.core.now c.loop-batch.core c.send_next.new.core c.loop-batch.invariant.kept (subst (λ (o : ℕ). IsSentAt o c.loop-batch.core c.send_next.new.core) c.loop-batch.invariant.number c.in_ok-send_next.ensures.kept)
+kept g c = sent_more c.args.job.now.output c.args.core.now c.loop-batch.core c.send_next.new.core
+    c.loop-batch.invariant.kept (subst (λ (o : ℕ). IsSentAt o c.loop-batch.core c.send_next.new.core)
+    c.loop-batch.invariant.number c.in_ok-send_next.ensures.kept)
 
-sends : (g : Over) (c : In_ok-send_next g) → SendsAt c.args.core.now c.send_next.new.core (part g c.args.job.now) (part g c.send_next.new.job)
-sends g c = sends_more c.args.core.now c.loop-batch.core c.send_next.new.core (part g c.args.job.now) (part g c.loop-batch.job) (part g c.send_next.new.job) c.loop-batch.invariant.number c.loop-batch.invariant.sends c.in_ok-send_next.ensures.sends
+sends : (g : Over) (c : In_ok-send_next g) → SendsAt c.args.core.now c.send_next.new.core (part g c.args.job.now)
+    (part g c.send_next.new.job)
+sends g c = sends_more c.args.core.now c.loop-batch.core c.send_next.new.core (part g c.args.job.now)
+    (part g c.loop-batch.job) (part g c.send_next.new.job) c.loop-batch.invariant.number c.loop-batch.invariant.sends
+    c.in_ok-send_next.ensures.sends
 
 pub loop-batch-preserved : goal.loop-batch-preserved
 loop-batch-preserved g c =
@@ -45,8 +50,10 @@ pub returns-in-Failed-clause-flushed : goal.returns-in-Failed-clause-flushed
 returns-in-Failed-clause-flushed g c =
     let is : c.send_next.result ≡ Ok sendings.Failed = search rules in
     let came = c.send_next.ensures.failed is in
-    flushed_failed c.loop-batch.batch c.args.job.now.output c.args.core.now c.loop-batch.core c.send_next.new.core c.args.job.now.failed_since c.loop-batch.job.failed_since c.send_next.new.job.failed_since
-    (subst (λ (o : ℕ). waiting_at c.loop-batch.core o ≢ 0) c.loop-batch.invariant.number came.0) came.1 c.loop-batch.invariant.first c.loop-batch.invariant.waits
+    flushed_failed c.loop-batch.batch c.args.job.now.output c.args.core.now c.loop-batch.core c.send_next.new.core
+    c.args.job.now.failed_since c.loop-batch.job.failed_since c.send_next.new.job.failed_since
+    (subst (λ (o : ℕ). waiting_at c.loop-batch.core o ≢ 0) c.loop-batch.invariant.number came.0) came.1
+    c.loop-batch.invariant.first c.loop-batch.invariant.waits
 
 pub returns-in-Nothing-clause-kept : goal.returns-in-Nothing-clause-kept
 returns-in-Nothing-clause-kept g c = kept g (goal.at.returns-in-Nothing-clause-kept g c).In_ok-send_next

@@ -12,16 +12,34 @@ pub send_all-requires-clause-known : goal.send_all-requires-clause-known
 send_all-requires-clause-known g c =
     let jobs = c.loop-job.outputs in
     let i = c.loop-job.job-index in
-    let b : i < length jobs = omega (arith, c.loop-job-test.true, c.loop-job.auto.outputs, c.loop-job.auto.job-index-end) in
-    let number = part_number g.K.Sink.told jobs i c.job-item.result (length c.args.core.now.setup.outputs) b c.loop-job.invariant.outputs in
-    omega (arith, number, b, c.loop-job.invariant.outputs.count_is, length-map jobs (out_of g.K.Sink.told), ap (λ (s : Setup). length s.outputs) c.loop-job.invariant.kept.setup)
+    let b : i < length jobs = omega (
+      arith,
+      c.loop-job-test.true,
+      c.loop-job.auto.outputs,
+      c.loop-job.auto.job-index-end,
+    ) in
+    let number = part_number g.K.Sink.told jobs i c.job-item.result (length c.args.core.now.setup.outputs) b
+    c.loop-job.invariant.outputs in
+    omega (
+      arith,
+      number,
+      b,
+      c.loop-job.invariant.outputs.count_is,
+      length-map jobs (out_of g.K.Sink.told),
+      ap (λ (s : Setup). length s.outputs) c.loop-job.invariant.kept.setup,
+    )
 
 pub loop-job-preserved : goal.loop-job-preserved
 loop-job-preserved g c =
     let jobs = c.loop-job.outputs in
     let i = c.loop-job.job-index in
     let count = length c.args.core.now.setup.outputs in
-    let b : i < length jobs = omega (arith, c.loop-job-test.true, c.loop-job.auto.outputs, c.loop-job.auto.job-index-end) in
+    let b : i < length jobs = omega (
+      arith,
+      c.loop-job-test.true,
+      c.loop-job.auto.outputs,
+      c.loop-job.auto.job-index-end,
+    ) in
     let outs : List OutPart = outs_of g.K.Sink.told jobs in
     let l : i < length outs = omega (arith, b, length-map jobs (out_of g.K.Sink.told)) in
     let old = get_or jobs i c.job-item.result in
@@ -33,15 +51,23 @@ loop-job-preserved g c =
     let firsts : List OutPart = outs_of g.K.Sink.told c.args.outputs.now in
     let sent = c.in_ok-flush.ensures.kept in
     let flush = c.in_ok-flush.flush in
-    let more = sweeps_part i c.loop-job.sweep.emptied c.loop-job.sweep.accepted flush c.args.core.now c.loop-job.core c.send_all.new.core firsts outs part new l at number sent c.in_ok-flush.ensures.flushed c.loop-job.invariant.swept in
-    let counted = subst (λ (e : Bool). Sweeping (i + 1) e (c.loop-job.sweep.accepted || flush.accepted) c.args.core.now c.send_all.new.core firsts (set outs i new)) (sym c.and-sweep.ensures.emptied) more in
-    let swept_all = subst (λ (a : Bool). Sweeping (i + 1) c.and-sweep.result.emptied a c.args.core.now c.send_all.new.core firsts (set outs i new)) (sym c.and-sweep.ensures.accepted) counted in
-    let sends = sends_then c.args.core.now c.loop-job.core c.send_all.new.core firsts outs (set outs i new) c.loop-job.invariant.sends (sends_at c.loop-job.core c.send_all.new.core i part new outs number l at c.in_ok-flush.ensures.sends) in
+    let more = sweeps_part i c.loop-job.sweep.emptied c.loop-job.sweep.accepted flush c.args.core.now c.loop-job.core
+    c.send_all.new.core firsts outs part new l at number sent c.in_ok-flush.ensures.flushed
+    c.loop-job.invariant.swept in
+    let counted = subst (λ (e : Bool). Sweeping (i + 1) e (c.loop-job.sweep.accepted || flush.accepted) c.args.core.now
+    c.send_all.new.core firsts (set outs i new)) (sym c.and-sweep.ensures.emptied) more in
+    let swept_all = subst (λ (a : Bool). Sweeping (i + 1) c.and-sweep.result.emptied a c.args.core.now
+    c.send_all.new.core firsts (set outs i new)) (sym c.and-sweep.ensures.accepted) counted in
+    let sends = sends_then c.args.core.now c.loop-job.core c.send_all.new.core firsts outs
+    (set outs i new) c.loop-job.invariant.sends (sends_at c.loop-job.core c.send_all.new.core i part new outs number l
+    at c.in_ok-flush.ensures.sends) in
     record {
       rests = c.in_ok-flush.ensures.rests;
       kept = sent_on c.args.core.now c.loop-job.core c.send_all.new.core c.loop-job.invariant.kept sent.kept;
-      outputs = part_set g.K.Sink.told jobs i c.send_all.new.job count b (c.send_all.ensures.number ∙ number) c.loop-job.invariant.outputs;
-      swept = subst (Sweeping (i + 1) c.and-sweep.result.emptied c.and-sweep.result.accepted c.args.core.now c.send_all.new.core firsts) (sym are) swept_all;
+      outputs = part_set g.K.Sink.told jobs i c.send_all.new.job count b
+          (c.send_all.ensures.number ∙ number) c.loop-job.invariant.outputs;
+      swept = subst (Sweeping (i + 1) c.and-sweep.result.emptied c.and-sweep.result.accepted c.args.core.now
+          c.send_all.new.core firsts) (sym are) swept_all;
       sends = subst (SendsOn c.args.core.now c.send_all.new.core firsts) (sym are) sends;
     }
 
@@ -49,6 +75,18 @@ pub returns-clause-swept : goal.returns-clause-swept
 returns-clause-swept g c =
     let firsts : List OutPart = outs_of g.K.Sink.told c.args.outputs.now in
     let outs : List OutPart = outs_of g.K.Sink.told c.loop-job.outputs in
-    let same : length outs ≡ length firsts = omega (arith, length-map c.loop-job.outputs (out_of g.K.Sink.told), length-map c.args.outputs.now (out_of g.K.Sink.told), c.loop-job.auto.outputs) in
-    let all : length firsts ≤ c.loop-job.job-index = omega (arith, length-map c.args.outputs.now (out_of g.K.Sink.told), c.loop-job-test.false, c.loop-job.auto.job-index-end, c.loop-job.auto.outputs) in
-    swept c.loop-job.job-index c.loop-job.sweep c.args.core.now c.loop-job.core firsts outs all same c.loop-job.invariant.swept
+    let same : length outs ≡ length firsts = omega (
+      arith,
+      length-map c.loop-job.outputs (out_of g.K.Sink.told),
+      length-map c.args.outputs.now (out_of g.K.Sink.told),
+      c.loop-job.auto.outputs,
+    ) in
+    let all : length firsts ≤ c.loop-job.job-index = omega (
+      arith,
+      length-map c.args.outputs.now (out_of g.K.Sink.told),
+      c.loop-job-test.false,
+      c.loop-job.auto.job-index-end,
+      c.loop-job.auto.outputs,
+    ) in
+    swept c.loop-job.job-index c.loop-job.sweep c.args.core.now c.loop-job.core firsts outs all same
+    c.loop-job.invariant.swept

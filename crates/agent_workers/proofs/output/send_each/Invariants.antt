@@ -10,6 +10,7 @@ invariant-loop-job g l = record {
   rests : IsAtRest l.core;
   kept : IsSentOn l.fn.core l.core;
   outputs : AreOutputs (length l.fn.core.setup.outputs) (outs_of g.K.Sink.told l.outputs);
-  swept : Sweeping l.job-index l.sweep.emptied l.sweep.accepted l.fn.core l.core (outs_of g.K.Sink.told l.fn.outputs) (outs_of g.K.Sink.told l.outputs);
+  swept : Sweeping l.job-index l.sweep.emptied l.sweep.accepted l.fn.core l.core (outs_of g.K.Sink.told l.fn.outputs)
+      (outs_of g.K.Sink.told l.outputs);
   sends : SendsOn l.fn.core l.core (outs_of g.K.Sink.told l.fn.outputs) (outs_of g.K.Sink.told l.outputs);
 }

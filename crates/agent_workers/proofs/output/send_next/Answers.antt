@@ -11,10 +11,13 @@ use Rattle.agent_workers.proofs.output.send_next.Goals as goal
 
 pub returns-clause-rests : goal.returns-clause-rests
 returns-clause-rests g c =
-    let b : c.args.job.now.output < length c.args.core.now.lanes = omega (arith, c.requires.known, c.requires.rests.ready.lane_count) in
-    let begins : BeginsNext c.args.job.now.output c.args.core.now c.begin_next.new.core c.in-Some.batch = search rules in
+    let b : c.args.job.now.output < length c.args.core.now.lanes =
+    omega (arith, c.requires.known, c.requires.rests.ready.lane_count) in
+    let begins : BeginsNext c.args.job.now.output c.args.core.now c.begin_next.new.core c.in-Some.batch =
+    search rules in
     record {
-      ready = ready_done c.args.core.now c.begin_next.new.core c.done.new.self c.args.job.now.output c.in-Some.batch.from c.in-Some.batch.to _ b begins.after c.done.ensures.after c.requires.rests.ready;
+      ready = ready_done c.args.core.now c.begin_next.new.core c.done.new.self c.args.job.now.output
+          c.in-Some.batch.from c.in-Some.batch.to _ b begins.after c.done.ensures.after c.requires.rests.ready;
       stands = continues c.done.ensures.stands (continues begins.continues c.requires.rests.stands);
     }
 
@@ -23,7 +26,13 @@ returns-clause-sends g c = λ outs b at start now w.
     let here : RunState = record now { outs = outs } in
     let old : OutPart = out_of g.K.Sink.told c.args.job.now in
     let sink : Carried = g.K.Sink.told c.put_batch.new.sink in
-    let begins : BeginsNext c.args.job.now.output c.args.core.now c.begin_next.new.core c.in-Some.batch = search rules in
-    subst (λ (out : OutPart). Progress start (record here { core = c.done.new.self; outs = set outs c.args.job.now.output out }))
+    let begins : BeginsNext c.args.job.now.output c.args.core.now c.begin_next.new.core c.in-Some.batch =
+    search rules in
+    subst (λ (out : OutPart). Progress start (record here {
+      core = c.done.new.self;
+      outs = set outs c.args.job.now.output out;
+    }))
     (sym (c.count_put.ensures ∙ put_again c.in_ok-failed.failed sink old sink.bytes sink.faults))
-    (went_put start c.args.core.now c.begin_next.new.core c.done.new.self here old c.in-Some.batch _ c.in_ok-failed.failed sink c.requires.known c.requires.routed begins refl b at c.in_ok-failed.ensures c.done.ensures.after c.done.ensures.stands w)
+    (went_put start c.args.core.now c.begin_next.new.core c.done.new.self here old c.in-Some.batch _
+    c.in_ok-failed.failed sink c.requires.known c.requires.routed begins refl b at c.in_ok-failed.ensures
+    c.done.ensures.after c.done.ensures.stands w)

@@ -17,27 +17,43 @@ abbrev outs : (g : Over) → List (OutJob g.row.K.Denot g.row.C.Denot) → List 
 outs g = outs_of g.K.Sink.told
 
 -- each output had its turn once more
-sends : (g : Over) (c : In_ok-sweep g) → SendsOn c.args.core.now c.send_each.new.core (outs g c.args.outputs.now) (outs g c.send_each.new.outputs)
-sends g c = sends_then c.args.core.now c.loop-repeat.core c.send_each.new.core (outs g c.args.outputs.now) (outs g c.loop-repeat.outputs) (outs g c.send_each.new.outputs) c.loop-repeat.invariant.sends c.in_ok-sweep.ensures.sends
+sends : (g : Over) (c : In_ok-sweep g) → SendsOn c.args.core.now c.send_each.new.core (outs g c.args.outputs.now)
+    (outs g c.send_each.new.outputs)
+sends g c = sends_then c.args.core.now c.loop-repeat.core c.send_each.new.core (outs g c.args.outputs.now)
+    (outs g c.loop-repeat.outputs) (outs g c.send_each.new.outputs) c.loop-repeat.invariant.sends
+    c.in_ok-sweep.ensures.sends
 
-as_many : (g : Over) (c : In_ok-sweep g) → length (outs g c.send_each.new.outputs) ≡ length (outs g c.loop-repeat.outputs)
+as_many : (g : Over) (c : In_ok-sweep g) → length (outs g c.send_each.new.outputs) ≡ length
+    (outs g c.loop-repeat.outputs)
 as_many g c =
-    length-map c.send_each.new.outputs (out_of g.K.Sink.told) ∙ c.send_each.ensures.count ∙ sym (length-map c.loop-repeat.outputs (out_of g.K.Sink.told))
+    length-map c.send_each.new.outputs (out_of g.K.Sink.told) ∙ c.send_each.ensures.count
+    ∙ sym (length-map c.loop-repeat.outputs (out_of g.K.Sink.told))
 
-failed : (g : Over) (c : After-tries_after-tries g) → length (outs g c.send_each.new.outputs) ≡ length (outs g c.loop-repeat.outputs) →
-    HaveFailed c.tries_after-tries.result c.send_each.new.core (outs g c.send_each.new.outputs) × (1 ≤ c.tries_after-tries.result → AreLeft c.tries_after-tries.result c.send_each.new.core (outs g c.send_each.new.outputs))
+failed : (g : Over) (c : After-tries_after-tries g) → length (outs g c.send_each.new.outputs) ≡ length
+    (outs g c.loop-repeat.outputs) →
+    HaveFailed c.tries_after-tries.result c.send_each.new.core (outs g c.send_each.new.outputs)
+    × (1 ≤ c.tries_after-tries.result → AreLeft c.tries_after-tries.result c.send_each.new.core
+    (outs g c.send_each.new.outputs))
 failed g c same =
-    let few : c.loop-repeat.tries < 2 ^ 32 - 1 = omega (arith, c.loop-repeat.invariant.few, c.ranges.final_tries.fits) in
-    failed_next c.loop-repeat.tries c.tries_after-tries.result c.in_ok-sweep.sweep c.loop-repeat.core c.send_each.new.core (outs g c.loop-repeat.outputs) (outs g c.send_each.new.outputs) few same
-    c.tries_after-tries.ensures.none c.tries_after-tries.ensures.some c.loop-repeat.invariant.failed c.in_ok-sweep.ensures.swept
+    let few : c.loop-repeat.tries < 2 ^ 32 - 1 = omega (
+      arith,
+      c.loop-repeat.invariant.few,
+      c.ranges.final_tries.fits,
+    ) in
+    failed_next c.loop-repeat.tries c.tries_after-tries.result c.in_ok-sweep.sweep c.loop-repeat.core
+    c.send_each.new.core (outs g c.loop-repeat.outputs) (outs g c.send_each.new.outputs) few same
+    c.tries_after-tries.ensures.none c.tries_after-tries.ensures.some c.loop-repeat.invariant.failed
+    c.in_ok-sweep.ensures.swept
 
 pub loop-repeat-preserved : goal.loop-repeat-preserved
 loop-repeat-preserved g c =
     let k = goal.at.loop-repeat-preserved g c in
     record {
       rests = c.in_ok-sweep.ensures.rests;
-      kept = sent_on c.args.core.now c.loop-repeat.core c.send_each.new.core c.loop-repeat.invariant.kept c.in_ok-sweep.ensures.kept;
-      outputs = subst (λ (n : ℕ). AreOutputs n (outs g c.send_each.new.outputs)) (ap (λ (s : Setup). length s.outputs) c.loop-repeat.invariant.kept.setup) c.in_ok-sweep.ensures.outputs;
+      kept = sent_on c.args.core.now c.loop-repeat.core c.send_each.new.core c.loop-repeat.invariant.kept
+          c.in_ok-sweep.ensures.kept;
+      outputs = subst (λ (n : ℕ). AreOutputs n (outs g c.send_each.new.outputs))
+          (ap (λ (s : Setup). length s.outputs) c.loop-repeat.invariant.kept.setup) c.in_ok-sweep.ensures.outputs;
       count = c.send_each.ensures.count ∙ c.loop-repeat.invariant.count;
       few = omega (arith, c.tries_after-tries.ensures.few, c.if-tries-final_tries.false);
       failed = (failed g k.After-tries_after-tries (as_many g k.In_ok-sweep)).0;
@@ -46,7 +62,9 @@ loop-repeat-preserved g c =
 
 pub returns-then-sweep-clause-rest : goal.returns-then-sweep-clause-rest
 returns-then-sweep-clause-rest g c =
-    left_none c.args.final_tries c.in_ok-sweep.sweep c.loop-repeat.core c.send_each.new.core (outs g c.loop-repeat.outputs) (outs g c.send_each.new.outputs) (as_many g (goal.at.returns-then-sweep-clause-rest g c).In_ok-sweep) c.if-sweep.true c.in_ok-sweep.ensures.swept
+    left_none c.args.final_tries c.in_ok-sweep.sweep c.loop-repeat.core c.send_each.new.core
+    (outs g c.loop-repeat.outputs) (outs g c.send_each.new.outputs)
+    (as_many g (goal.at.returns-then-sweep-clause-rest g c).In_ok-sweep) c.if-sweep.true c.in_ok-sweep.ensures.swept
 
 pub returns-then-sweep-clause-sends : goal.returns-then-sweep-clause-sends
 returns-then-sweep-clause-sends g c = sends g (goal.at.returns-then-sweep-clause-sends g c).In_ok-sweep
@@ -54,7 +72,9 @@ returns-then-sweep-clause-sends g c = sends g (goal.at.returns-then-sweep-clause
 pub returns-then-tries-final_tries-clause-rest : goal.returns-then-tries-final_tries-clause-rest
 returns-then-tries-final_tries-clause-rest g c =
     let k = goal.at.returns-then-tries-final_tries-clause-rest g c in
-    rw c.if-tries-final_tries.true at ((failed g k.After-tries_after-tries (as_many g k.In_ok-sweep)).1 (omega (arith, c.if-tries-final_tries.true, c.requires.some)))
+    rw c.if-tries-final_tries.true at ((failed g k.After-tries_after-tries (as_many g k.In_ok-sweep)).1
+    (omega (arith, c.if-tries-final_tries.true, c.requires.some)))
 
 pub returns-then-tries-final_tries-clause-sends : goal.returns-then-tries-final_tries-clause-sends
-returns-then-tries-final_tries-clause-sends g c = sends g (goal.at.returns-then-tries-final_tries-clause-sends g c).In_ok-sweep
+returns-then-tries-final_tries-clause-sends g c = sends g (goal.at.returns-then-tries-final_tries-clause-sends g
+    c).In_ok-sweep

@@ -19,13 +19,21 @@ loop-job-preserved g c =
     let l = c.loop-job in
     record {
       whole = append_assoc l.yielded (c.in-Some.job ∷ []) _ ∙ rw c.in-Some.ensures.steps.0 at l.invariant.whole;
-      taken = rw c.push_reserved.ensures.items (in_taken g.S.Source.told g.C.Clock.told l.sources.items l.yielded c.in-Some.job l.invariant.taken);
-      sources = omega (arith, c.push_reserved.ensures.len, l.invariant.sources, length-append l.yielded (c.in-Some.job ∷ []));
+      taken = rw c.push_reserved.ensures.items (in_taken g.S.Source.told g.C.Clock.told l.sources.items l.yielded
+          c.in-Some.job l.invariant.taken);
+      sources = omega (
+        arith,
+        c.push_reserved.ensures.len,
+        l.invariant.sources,
+        length-append l.yielded (c.in-Some.job ∷ []),
+      );
       room = omega (arith, c.push_reserved.ensures.capacity, l.invariant.room);
     }
 
 pub returns : goal.returns
 returns g c =
     let l = c.loop-job in
-    subst (λ (jobs : List (InJob g.row.S.Denot g.row.C.Denot)). map g.S.Source.told l.sources.items ≡ map in_carried (ins_of g.S.Source.told g.C.Clock.told jobs))
-    (is_all l.yielded (into_iter_items l.job-iterator) c.args.jobs.items (omega (arith, c.in-None.ensures.steps.0, l.job-iterator.rest.ok)) l.invariant.whole) l.invariant.taken
+    subst (λ (jobs : List (InJob g.row.S.Denot g.row.C.Denot)). map g.S.Source.told l.sources.items ≡ map in_carried
+    (ins_of g.S.Source.told g.C.Clock.told jobs))
+    (is_all l.yielded (into_iter_items l.job-iterator) c.args.jobs.items
+    (omega (arith, c.in-None.ensures.steps.0, l.job-iterator.rest.ok)) l.invariant.whole) l.invariant.taken

@@ -9,7 +9,8 @@ use Rattle.agent_workers.proofs.parts.make_room.Goals as goal
 pub returns-clause-core : goal.returns-clause-core
 returns-clause-core g c =
     let same_start : to_z w64 (of_z w64 c.args.start) ≡ c.args.start = to_z-of_z w64 c.args.start c.ranges.start in
-    subst (IsNewCore c.args.config.now c.args.start) (sym c.core.view_is) (subst (λ (m : ℤ). IsNewCore c.args.config.now m c.in_ok-core.core) same_start c.in_ok-core.ensures)
+    subst (IsNewCore c.args.config.now c.args.start) (sym c.core.view_is)
+    (subst (λ (m : ℤ). IsNewCore c.args.config.now m c.in_ok-core.core) same_start c.in_ok-core.ensures)
 
 pub returns-clause-about : goal.returns-clause-about
 returns-clause-about g c =

@@ -25,9 +25,12 @@ loop-part-preserved g c =
     record {
       rests = c.in_ok-note.ensures.rests;
       kept = routable_more c.args.core.now c.route_some.new.core c.note.new.core
-          (routable_more c.args.core.now c.loop-part.core c.route_some.new.core c.loop-part.invariant.kept c.in_ok-route_some.ensures.kept)
+          (routable_more c.args.core.now c.loop-part.core c.route_some.new.core c.loop-part.invariant.kept
+          c.in_ok-route_some.ensures.kept)
           (routable_same c.route_some.new.core c.note.new.core
-          (ap (λ (s : CoreState). s.setup) cut) (ap (λ (s : CoreState). s.ended) cut) (ap (λ (s : CoreState). s.gathered) cut) (ap (λ (s : CoreState). s.stopped) cut) (ap (λ (s : CoreState). s.lanes) cut));
+          (ap (λ (s : CoreState). s.setup) cut) (ap (λ (s : CoreState). s.ended) cut)
+          (ap (λ (s : CoreState). s.gathered) cut) (ap (λ (s : CoreState). s.stopped) cut)
+          (ap (λ (s : CoreState). s.lanes) cut));
       same = c.route_some.ensures.same ∙ c.loop-part.invariant.same;
       routes = routes_more c.args.core.now c.loop-part.core c.route_some.new.core c.note.new.core
           (proc_of c.args.proc.now) (proc_of c.loop-part.proc) (proc_of c.route_some.new.proc)
@@ -37,5 +40,7 @@ loop-part-preserved g c =
 
 pub returns-then-not-branch-clause-routes : goal.returns-then-not-branch-clause-routes
 returns-then-not-branch-clause-routes g c =
-    routes_last c.args.core.now c.loop-part.core c.route_some.new.core (proc_of c.args.proc.now) (proc_of c.loop-part.proc) (proc_of c.route_some.new.proc)
-    (noted g c.args.journal.now) (noted g c.loop-part.journal) c.loop-part.invariant.routes c.in_ok-route_some.ensures.goes
+    routes_last c.args.core.now c.loop-part.core c.route_some.new.core (proc_of c.args.proc.now)
+    (proc_of c.loop-part.proc) (proc_of c.route_some.new.proc)
+    (noted g c.args.journal.now) (noted g c.loop-part.journal) c.loop-part.invariant.routes
+    c.in_ok-route_some.ensures.goes

@@ -10,5 +10,6 @@ invariant-loop-part g l = record {
   rests : IsAtRest l.core;
   kept : IsRoutable l.fn.core l.core;
   same : l.proc.outs.now ≡ l.fn.proc.outs.now;
-  routes : RoutesOn l.fn.core l.core (proc_of l.fn.proc) (proc_of l.proc) (part_of g.K.Sink.told l.fn.journal) (part_of g.K.Sink.told l.journal);
+  routes : RoutesOn l.fn.core l.core (proc_of l.fn.proc) (proc_of l.proc) (part_of g.K.Sink.told l.fn.journal)
+      (part_of g.K.Sink.told l.journal);
 }

@@ -10,4 +10,5 @@ pub returns-clause-setup : goal.returns-clause-setup
 returns-clause-setup c =
     let inputs : c.of.result ≡ map in_setup c.args.config.now.inputs = search rules in
     let outputs : c.of-2.result ≡ map out_setup c.args.config.now.outputs = search rules in
-    core_is c.args.config.now c.of.result c.of-2.result c.args.start _ inputs outputs (to_z-of_z w64 c.args.start c.ranges.start)
+    core_is c.args.config.now c.of.result c.of-2.result c.args.start _ inputs outputs
+    (to_z-of_z w64 c.args.start c.ranges.start)

@@ -10,4 +10,5 @@ pub returns : goal.returns
 returns c =
     let inputs : c.of.result ≡ map limit_by c.args.config.now.inputs = search rules in
     let outputs : c.of-3.result ≡ map sizes_by c.args.config.now.outputs = search rules in
-    about_of c.args.config.now c.args.start _ _ _ _ (to_z-of_z w64 c.args.start c.ranges.start) inputs (search rules) outputs
+    about_of c.args.config.now c.args.start _ _ _ _ (to_z-of_z w64 c.args.start c.ranges.start) inputs
+    (search rules) outputs

@@ -6,15 +6,20 @@ use Rattle.agent_workers.proofs.SetupLemmas.{none_buffered_first, none_ended_fir
 use Rattle.agent_workers.proofs.setup.new_core.Goals as goal
 
 pub new-requires-clause-untracked : goal.new-requires-clause-untracked
-new-requires-clause-untracked c = untracked c.args.config.now.inputs c.in_ok-setup.setup.inputs c.in_ok-setup.ensures.inputs
+new-requires-clause-untracked c = untracked c.args.config.now.inputs c.in_ok-setup.setup.inputs
+    c.in_ok-setup.ensures.inputs
 
 pub new-requires-clause-sizes : goal.new-requires-clause-sizes
-new-requires-clause-sizes c = sizes_fit c.args.config.now.outputs c.in_ok-setup.setup.outputs c.in_ok-setup.ensures.outputs c.requires.sound.sizes
+new-requires-clause-sizes c = sizes_fit c.args.config.now.outputs c.in_ok-setup.setup.outputs
+    c.in_ok-setup.ensures.outputs c.requires.sound.sizes
 
 pub returns : goal.returns
 returns c = record {
-  ready = ready_first c.in_ok-setup.setup (map out_setup c.args.config.now.outputs) c.in_ok-core.core c.in_ok-core.ensures.ok c.in_ok-setup.ensures.outputs (sizes_fit_all c.args.config.now.outputs c.requires.sound.sizes);
-  reading = none_ended_first c.args.config.now.inputs c.in_ok-setup.setup c.in_ok-core.core c.in_ok-core.ensures.ok c.in_ok-setup.ensures.inputs;
+  ready = ready_first c.in_ok-setup.setup (map out_setup c.args.config.now.outputs) c.in_ok-core.core
+      c.in_ok-core.ensures.ok c.in_ok-core.ensures.no_aggregators c.in_ok-setup.ensures.outputs
+      (sizes_fit_all c.args.config.now.outputs c.requires.sound.sizes);
+  reading = none_ended_first c.args.config.now.inputs c.in_ok-setup.setup c.in_ok-core.core c.in_ok-core.ensures.ok
+      c.in_ok-setup.ensures.inputs;
   going = search rules;
   none_buffered = λ o. none_buffered_first c.in_ok-setup.setup c.in_ok-core.core o c.in_ok-core.ensures.ok;
   stands = search rules;

@@ -8,17 +8,20 @@ overflow_sub-value c = (digit_at c.args.digits.now c.loop-b.b-index c.requires.d
 
 pub overflow_mul-value : goal.overflow_mul-value
 overflow_mul-value c =
-    let s = digits_step c.args.start c.loop-b.value c.args.digits.now c.loop-b.b-index c.requires.digits c.loop-b-test.true c.loop-b.invariant in
+    let s = digits_step c.args.start c.loop-b.value c.args.digits.now c.loop-b.b-index c.requires.digits
+    c.loop-b-test.true c.loop-b.invariant in
     omega (arith, s.least, c.requires.fits)
 
 pub overflow_add-value : goal.overflow_add-value
 overflow_add-value c =
-    let s = digits_step c.args.start c.loop-b.value c.args.digits.now c.loop-b.b-index c.requires.digits c.loop-b-test.true c.loop-b.invariant in
+    let s = digits_step c.args.start c.loop-b.value c.args.digits.now c.loop-b.b-index c.requires.digits
+    c.loop-b-test.true c.loop-b.invariant in
     omega (arith, s.least, c.requires.fits)
 
 pub loop-b-preserved : goal.loop-b-preserved
 loop-b-preserved c =
-    let s = digits_step c.args.start c.loop-b.value c.args.digits.now c.loop-b.b-index c.requires.digits c.loop-b-test.true c.loop-b.invariant in
+    let s = digits_step c.args.start c.loop-b.value c.args.digits.now c.loop-b.b-index c.requires.digits
+    c.loop-b-test.true c.loop-b.invariant in
     s.is
 
 pub returns : goal.returns

@@ -4,7 +4,11 @@ use Rattle.fixed_num.proofs.Values.{grown_cap, grown_more}
 use Rattle.fixed_num.proofs.value.grown.Goals as goal
 
 pub loop-zero-preserved : goal.loop-zero-preserved
-loop-zero-preserved c = (omega (arith, c.min-value-in-loop-zero.ensures), λ n h. c.min-value-in-loop-zero.ensures ∙ grown_more n c.loop-zero._zero CAP c.loop-zero.value (c.loop-zero.invariant.1 n h))
+loop-zero-preserved c = (
+  omega (arith, c.min-value-in-loop-zero.ensures),
+  λ n h. c.min-value-in-loop-zero.ensures
+      ∙ grown_more n c.loop-zero._zero CAP c.loop-zero.value (c.loop-zero.invariant.1 n h),
+)
 
 pub returns : goal.returns
 returns c = λ n h.

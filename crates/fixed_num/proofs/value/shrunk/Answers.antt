@@ -1,4 +1,5 @@
-use Rattle.std.proofs.Common.{arith, ◌∙◌, sym, ◌≤◌, ◌-◌, ◌+◌, ◌*◌, ◌≡◌, min, ℕ, List, ◌++◌, length, take, drop, lit≤, refl}
+use Rattle.std.proofs.Common.{arith, ◌∙◌, sym, ◌≤◌, ◌-◌, ◌+◌, ◌*◌, ◌≡◌, min, ℕ, List, ◌++◌, length, take, drop, lit≤}
+use Rattle.std.proofs.Common.{refl}
 use Rattle.std.specs.Str.Parse.{digits_value}
 use Rattle.std.proofs.lemmas.List.{length-append}
 use Rattle.fixed_num.specs.declared.value.TheConstants.{CAP}
@@ -25,6 +26,8 @@ returns c =
     let value = c.kept_of-value.ensures.value in
     let left = mark_at c.kept_of-value.result.1 (digits_value 10 (drop kept ds)) c.kept_of-value.ensures.rest in
     let real = cut_off ds kept c.args.cut all (omega arith) c.requires.some in
-    let got : c.nearest.result ≡ rounded (2 * min (digits_value 10 (take kept ds)) CAP + mark (digits_value 10 (drop kept ds))) 20 = c.nearest.ensures ∙ rw (value, left) refl in
+    let got : c.nearest.result ≡ rounded (2 * min (digits_value 10 (take kept ds)) CAP + mark
+    (digits_value 10 (drop kept ds))) 20 = c.nearest.ensures ∙ rw (value, left) refl in
     let low : 10 * LIMIT ≤ CAP = lit≤ tt in
-    rw (real, got) (capped_agrees LIMIT CAP (digits_value 10 (take kept ds)) (mark (digits_value 10 (drop kept ds))) low)
+    rw (real, got) (capped_agrees LIMIT CAP (digits_value 10 (take kept ds))
+    (mark (digits_value 10 (drop kept ds))) low)

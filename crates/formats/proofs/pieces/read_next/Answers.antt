@@ -5,7 +5,13 @@ use Rattle.formats.proofs.pieces.read_next.Goals as goal
 
 pub returns-in-Err-TooLong-clause-next : goal.returns-in-Err-TooLong-clause-next
 returns-in-Err-TooLong-clause-next g c =
-    record { piece = TooLong; short = tt; counted = c.refuse.ensures.counted _ c.args.moment; first = rw c.in-Err-TooLong.field-0-is at c.in-Err-TooLong.ensures.pieces; whatever_follows = search rules }
+    record {
+      piece = TooLong;
+      short = tt;
+      counted = c.refuse.ensures.counted _ c.args.moment;
+      first = rw c.in-Err-TooLong.field-0-is at c.in-Err-TooLong.ensures.pieces;
+      whatever_follows = search rules;
+    }
 
 pub returns-in-Err-ReadFault-clause-known : goal.returns-in-Err-ReadFault-clause-known
 returns-in-Err-ReadFault-clause-known g c =

@@ -10,7 +10,8 @@ invariant-loop-i l = record {
   name : l.draft.parts.name ≡ l.fn.draft.parts.name;
   within : l.i ≤ length l.segments;
   kept : (given : List Tag) → StandsFor l.fn.draft given []
-      → StandsFor l.draft (given ++ flat_map (tags_at l.separator l.parts (map now_of l.segments)) (take l.i l.parts)) [];
+      → StandsFor l.draft (given ++ flat_map (tags_at l.separator l.parts (map now_of l.segments)) (take l.i l.parts))
+      [];
 }
 
 abbrev pub decreases-loop-i : goal.decreases-loop-i

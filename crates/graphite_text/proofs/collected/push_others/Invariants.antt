@@ -6,4 +6,5 @@ use Rattle.graphite_text.proofs.collected.push_others.Given as goal
 
 abbrev pub invariant-loop-other : goal.invariant-loop-other
 invariant-loop-other l =
-    string_bytes l.text ≡ string_bytes l.fn.text ++ flat_map (λ other. l.separator ++ other) (map now_of (take l.other-index l.others))
+    string_bytes l.text ≡ string_bytes l.fn.text ++ flat_map (λ other. l.separator ++ other)
+    (map now_of (take l.other-index l.others))

@@ -8,10 +8,11 @@ use Rattle.graphite_text.proofs.read.read_piece.Goals as goal
 pub returns-in-Ok : goal.returns-in-Ok
 unfolding reading
 returns-in-Ok c =
-    utf8_gives (λ x. x) (text_reading c.args.templates.now c.args.separator.now) _ c.args.piece.now c.in-Ok.text.now c.args.moment c.read_text.result c.in-Ok.ensures c.ranges.moment c.read_text.ensures
+    utf8_gives (λ x. x) (text_reading c.args.templates.now c.args.separator.now) _ c.args.piece.now c.in-Ok.text.now
+    c.args.moment c.read_text.result c.in-Ok.ensures c.ranges.moment c.read_text.ensures
 
 pub returns-in-Err : goal.returns-in-Err
 unfolding reading
 returns-in-Err c =
-    let fault : ℕ → GraphiteFault = λ n. record { kind = NotUtf8; place = n } in
-    rw c.fault.ensures (not_utf8 c.args.piece.now c.in-Err.place fault _ c.in-Err.ensures.1 c.in-Err.ensures.0)
+    let fault : ℕ → GraphiteFault = λ n. record { kind = NotUtf8; offset = n } in
+    rw c.fault.ensures (not_utf8 c.args.piece.now c.in-Err.offset fault _ c.in-Err.ensures.1 c.in-Err.ensures.0)

@@ -9,9 +9,12 @@ returns-in_err-append_signed c =
 pub returns-in_err-append_spaced : goal.returns-in_err-append_spaced
 returns-in_err-append_spaced c =
     fails _ _ _ _ c.from_residual-in_err-append_spaced.ensures.0
-    (extends_after _ _ _ _ c.in_ok-append_unsigned.ensures (extends_after c.append_unsigned.new.out.items _ _ _ c.in_ok-append_signed.ensures c.in_err-append_spaced.ensures))
+    (extends_after _ _ _ _ c.in_ok-append_unsigned.ensures (extends_after c.append_unsigned.new.out.items _ _ _
+    c.in_ok-append_signed.ensures c.in_err-append_spaced.ensures))
 
 pub returns-in_err-append_group : goal.returns-in_err-append_group
 returns-in_err-append_group c =
     fails _ _ _ _ c.from_residual-in_err-append_group.ensures.0
-    (extends_after _ _ _ _ c.in_ok-append_unsigned.ensures (extends_after c.append_unsigned.new.out.items _ _ _ c.in_ok-append_signed.ensures (extends_after c.append_signed.new.out.items _ _ _ c.in_ok-append_spaced.ensures c.in_err-append_group.ensures)))
+    (extends_after _ _ _ _ c.in_ok-append_unsigned.ensures (extends_after c.append_unsigned.new.out.items _ _ _
+    c.in_ok-append_signed.ensures (extends_after c.append_signed.new.out.items _ _ _ c.in_ok-append_spaced.ensures
+    c.in_err-append_group.ensures)))

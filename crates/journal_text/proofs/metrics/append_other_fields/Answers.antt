@@ -9,4 +9,5 @@ returns-in_err-append_byte c =
 pub returns-in_err-append_field : goal.returns-in_err-append_field
 returns-in_err-append_field c =
     fails _ _ _ _ c.from_residual-in_err-append_field.ensures.0
-    (extends_after _ _ _ _ c.loop-key.invariant (extends_after c.loop-key.out.items _ _ _ c.in_ok-append_byte.ensures c.in_err-append_field.ensures))
+    (extends_after _ _ _ _ c.loop-key.invariant (extends_after c.loop-key.out.items _ _ _ c.in_ok-append_byte.ensures
+    c.in_err-append_field.ensures))

@@ -5,4 +5,5 @@ use Rattle.line_proto.specs.Reading.{reading}
 use Rattle.line_proto.proofs.read.read_line.Goals as goal
 
 pub returns : goal.returns
-returns c = rw c.answer.ensures (answers _ (λ x. x) c.read_piece.result (reading c.args.piece.now c.args.moment) (rw (to_z-of_z w64 c.args.moment c.ranges.moment) at c.read_piece.ensures))
+returns c = rw c.answer.ensures (answers _ (λ x. x) c.read_piece.result (reading c.args.piece.now c.args.moment)
+    (rw (to_z-of_z w64 c.args.moment c.ranges.moment) at c.read_piece.ensures))

@@ -23,12 +23,19 @@ loop-alloc-init c =
         first,
         c.in_ok-key.behind,
         c.in_ok-key.ensures.gives,
-        ([], nothing_read field_at 44 c.args.piece.now c.in_ok-key.behind, λ tags s. c.in_ok-put_field.ensures.ok tags [] s),
+        (
+          [],
+          nothing_read field_at 44 c.args.piece.now c.in_ok-key.behind,
+          λ tags s. c.in_ok-put_field.ensures.ok tags [] s,
+        ),
       ),
     )
 
 pub field_at-requires-in-loop-alloc : goal.field_at-requires-in-loop-alloc
-field_at-requires-in-loop-alloc c = record { boundary = comma_boundary c.args.piece.now c.loop-alloc.at c.utf8.piece (sym c.comma_at.ensures ∙ c.loop-alloc-test.true) }
+field_at-requires-in-loop-alloc c = record {
+  boundary = comma_boundary c.args.piece.now c.loop-alloc.at c.utf8.piece
+      (sym c.comma_at.ensures ∙ c.loop-alloc-test.true);
+}
 
 pub returns-in_err-key-2-clause-fields : goal.returns-in_err-key-2-clause-fields
 unfolding fields_at
@@ -37,7 +44,10 @@ returns-in_err-key-2-clause-fields c = λ tags s.
     let comma = sym c.comma_at.ensures ∙ c.loop-alloc-test.true in
     let start = c.loop-alloc.invariant.2 in
     let so_far = start.3 in
-    rw (p.1, p.2) (other_fails field_at 44 c.args.piece.now c.args.i start.1 start.0 c.in_err-key-2.field-0.0 start.2 (failed_read field_at 44 c.args.piece.now start.1 so_far.0 c.loop-alloc.at c.in_err-key-2.field-0.0 so_far.1 (comma_within c.args.piece.now c.loop-alloc.at comma) (comma_is c.args.piece.now c.loop-alloc.at comma) c.in_err-key-2.ensures.gives))
+    rw (p.1, p.2) (other_fails field_at 44 c.args.piece.now c.args.i start.1 start.0 c.in_err-key-2.field-0.0 start.2
+    (failed_read field_at 44 c.args.piece.now start.1 so_far.0 c.loop-alloc.at c.in_err-key-2.field-0.0 so_far.1
+    (comma_within c.args.piece.now c.loop-alloc.at comma) (comma_is c.args.piece.now c.loop-alloc.at comma)
+    c.in_err-key-2.ensures.gives))
 
 pub loop-alloc-preserved : goal.loop-alloc-preserved
 loop-alloc-preserved c =
@@ -53,7 +63,9 @@ loop-alloc-preserved c =
         start.2,
         (
           so_far.0 ++ field ∷ [],
-          one_more field_at 44 c.args.piece.now start.1 so_far.0 c.loop-alloc.at field c.in_ok-key-2.behind so_far.1 (comma_within c.args.piece.now c.loop-alloc.at comma) (comma_is c.args.piece.now c.loop-alloc.at comma) c.in_ok-key-2.ensures.gives c.in_ok-key-2.ensures.more,
+          one_more field_at 44 c.args.piece.now start.1 so_far.0 c.loop-alloc.at field c.in_ok-key-2.behind so_far.1
+              (comma_within c.args.piece.now c.loop-alloc.at comma) (comma_is c.args.piece.now c.loop-alloc.at comma)
+              c.in_ok-key-2.ensures.gives c.in_ok-key-2.ensures.more,
           λ tags s. c.in_ok-put_field-2.ensures.ok tags (start.0 ∷ so_far.0) (so_far.2 tags s),
         ),
       ),
@@ -65,6 +77,8 @@ returns-clause-fields c = λ tags s.
     let start = c.loop-alloc.invariant.2 in
     let so_far = start.3 in (
       start.0 ∷ so_far.0,
-      items_are field_at 44 c.args.piece.now c.args.i start.1 c.loop-alloc.at start.0 so_far.0 start.2 (all_read field_at 44 c.args.piece.now start.1 so_far.0 c.loop-alloc.at so_far.1 (no_comma c.args.piece.now c.loop-alloc.at (sym c.comma_at.ensures ∙ c.loop-alloc-test.false))),
+      items_are field_at 44 c.args.piece.now c.args.i start.1 c.loop-alloc.at start.0 so_far.0 start.2
+          (all_read field_at 44 c.args.piece.now start.1 so_far.0 c.loop-alloc.at so_far.1
+          (no_comma c.args.piece.now c.loop-alloc.at (sym c.comma_at.ensures ∙ c.loop-alloc-test.false))),
       so_far.2 tags s,
     )

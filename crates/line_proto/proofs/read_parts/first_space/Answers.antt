@@ -4,4 +4,5 @@ use Rattle.line_proto.proofs.Parts.{space_alone}
 use Rattle.line_proto.proofs.read_parts.first_space.Goals as goal
 
 pub returns-clause-value : goal.returns-clause-value
-returns-clause-value c = c.first_of.ensures.value ∙ ap (λ (p : ℕ → Bool). position_or_len p c.args.bytes.now) space_alone
+returns-clause-value c = c.first_of.ensures.value ∙ ap (λ (p : ℕ → Bool). position_or_len p c.args.bytes.now)
+    space_alone

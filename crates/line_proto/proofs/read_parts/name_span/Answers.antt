@@ -5,4 +5,5 @@ use Rattle.line_proto.proofs.Parts.{name_kind}
 use Rattle.line_proto.proofs.read_parts.name_span.Goals as goal
 
 pub returns-clause-span : goal.returns-clause-span
-returns-clause-span c = subst (λ (k : Kind). IsSpan k c.args.piece.now c.span_at.result) name_kind c.span_at.ensures.span
+returns-clause-span c = subst (λ (k : Kind). IsSpan k c.args.piece.now c.span_at.result) name_kind
+    c.span_at.ensures.span

@@ -12,5 +12,7 @@ returns-in_ok-append_field-in-len1-up c =
     let fields = c.args.fields.now in
     let old = c.args.out.now.items in
     let rest = flat_map (λ field. codes "," ++ field_text field) (take (length fields - 1) (drop 1 fields)) in
-    let all = adds_after c.append_rest.result old c.append_field.new.out.items c.append_rest.new.out.items (field_text c.first-item.result) rest c.in_ok-append_field-in-len1-up.ensures c.append_rest.ensures in
-    subst (λ (text : List ℕ). Adds c.append_rest.result old c.append_rest.new.out.items text) (first_field fields c.first-item.result (omega arith) c.first-item.is) all
+    let all = adds_after c.append_rest.result old c.append_field.new.out.items c.append_rest.new.out.items
+    (field_text c.first-item.result) rest c.in_ok-append_field-in-len1-up.ensures c.append_rest.ensures in
+    subst (λ (text : List ℕ). Adds c.append_rest.result old c.append_rest.new.out.items text)
+    (first_field fields c.first-item.result (omega arith) c.first-item.is) all

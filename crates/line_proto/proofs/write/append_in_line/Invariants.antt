@@ -6,4 +6,5 @@ use Rattle.line_proto.specs.LineText.{spaced}
 use Rattle.line_proto.proofs.write.append_in_line.Given as goal
 
 abbrev pub invariant-loop-byte : goal.invariant-loop-byte
-invariant-loop-byte l = l.out.items ≡ l.fn.out.items ++ flat_map (λ b. escaped_byte (escapes_of l.marks) (spaced b)) (take l.byte-index l.text)
+invariant-loop-byte l = l.out.items ≡ l.fn.out.items ++ flat_map (λ b. escaped_byte (escapes_of l.marks) (spaced b))
+    (take l.byte-index l.text)

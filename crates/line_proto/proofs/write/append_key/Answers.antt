@@ -12,17 +12,20 @@ pub returns-then-is_empty : goal.returns-then-is_empty
 returns-then-is_empty c =
     let is = c.trim-kept.ensures ∙ ap trimmed (c.as_bytes.ensures.value ∙ c.as_str.ensures) in
     let none : length c.trim-kept.result.now ≡ 0 = eqb-true _ _ (sym c.is_empty.ensures ∙ c.if-is_empty.true) in
-    c.in_ok-push.ensures.items ∙ ap (λ text. c.args.out.now.items ++ text) (sym (empty_key c.args.key.now c.trim-kept.result.now is none))
+    c.in_ok-push.ensures.items ∙ ap (λ text. c.args.out.now.items ++ text)
+    (sym (empty_key c.args.key.now c.trim-kept.result.now is none))
 
 pub append_part-requires : goal.append_part-requires
 append_part-requires c = λ plain.
     let is = c.trim-kept.ensures ∙ ap trimmed (c.as_bytes.ensures.value ∙ c.as_str.ensures) in
     let some : length c.trim-kept.result.now ≡ 0 → ⊥ = eqb-false _ _ (sym c.is_empty.ensures ∙ c.if-is_empty.false) in
-    key_same (on_one_line c.trim-kept.result.now) ∙ kept_key c.args.key.now c.trim-kept.result.now is (omega arith) ∙ sym (word_key c.args.key.now c.trim-kept.result.now is (omega arith) plain)
+    key_same (on_one_line c.trim-kept.result.now) ∙ kept_key c.args.key.now c.trim-kept.result.now is (omega arith)
+    ∙ sym (word_key c.args.key.now c.trim-kept.result.now is (omega arith) plain)
 
 pub returns : goal.returns
 returns c =
     let is = c.trim-kept.ensures ∙ ap trimmed (c.as_bytes.ensures.value ∙ c.as_str.ensures) in
     let some : length c.trim-kept.result.now ≡ 0 → ⊥ = eqb-false _ _ (sym c.is_empty.ensures ∙ c.if-is_empty.false) in
     subst (λ (text : List ℕ). Adds c.append_part.result c.args.out.now.items c.append_part.new.out.items text)
-    (key_same (on_one_line c.trim-kept.result.now) ∙ kept_key c.args.key.now c.trim-kept.result.now is (omega arith)) c.append_part.ensures
+    (key_same (on_one_line c.trim-kept.result.now) ∙ kept_key c.args.key.now c.trim-kept.result.now is (omega arith))
+    c.append_part.ensures

@@ -25,15 +25,19 @@ record AreWhole (p : Parts) : Type 0 where
 some_field : (fields : List (List ℕ × Value)) → (length fields == 0) ≡ false → 0 < length fields
 some_field fields e = let ne : length fields ≡ 0 → ⊥ = eqb-false (length fields) 0 e in omega arith
 
-whole_metric : (p : Parts) (time : ℤ) → IsBuilt p → FitsSigned w64 time → AreWhole p → IsMetric (content_with p time (with_values p.tags))
+whole_metric : (p : Parts) (time : ℤ) → IsBuilt p → FitsSigned w64 time → AreWhole p
+    → IsMetric (content_with p time (with_values p.tags))
 whole_metric p time built fits h = is_metric p time built fits h.name h.tags h.fields (some_field p.fields h.some)
 
-whole_finished : (p : Parts) (time : ℤ) → AreWhole p → has_empty_value p.tags ≡ false → finished p time ≡ Ok (content_with p time p.tags)
+whole_finished : (p : Parts) (time : ℤ) → AreWhole p → has_empty_value p.tags ≡ false
+    → finished p time ≡ Ok (content_with p time p.tags)
 whole_finished p time h valued =
-    rw (h.name, h.tags, h.fields, h.some) (ap (λ (tags : List (List ℕ × List ℕ)). Ok (content_with p time tags)) (sym (all_valued p.tags valued)))
+    rw (h.name, h.tags, h.fields, h.some) (ap (λ (tags : List (List ℕ × List ℕ)). Ok (content_with p time tags))
+    (sym (all_valued p.tags valued)))
 
 -- what the calls that look for a fault answered, of the texts and lists that they were given
-are_whole : (p : Parts) (name : List ℕ) (tags : List (List ℕ × List ℕ)) (fields some : List (List ℕ × Value)) {no_name no_tag no_field none : Bool}
+are_whole : (p : Parts) (name : List ℕ) (tags : List (List ℕ × List ℕ))
+    (fields some : List (List ℕ × Value)) {no_name no_tag no_field none : Bool}
     → name ≡ p.name → no_name ≡ (length name == 0) → no_name ≡ false
     → tags ≡ p.tags → no_tag ≡ has_empty_key tags → no_tag ≡ false
     → fields ≡ p.fields → no_field ≡ has_empty_key fields → no_field ≡ false
@@ -48,7 +52,8 @@ are_whole p name tags fields some n n-is n-not t t-is t-not f f-is f-not s s-is 
 pub returns-in_ok-leave_out_empty-clause-metric : goal.returns-in_ok-leave_out_empty-clause-metric
 returns-in_ok-leave_out_empty-clause-metric c =
     let whole = are_whole (parts_of c.args.content.now) _ _ _ _ c.as_str.ensures c.is_empty.ensures c.if-is_empty.false
-    c.as_slice-tags.ensures c.tag_without_key.ensures c.if-tag_without_key.false c.as_slice.ensures c.field_without_key.ensures c.if-field_without_key.false
+    c.as_slice-tags.ensures c.tag_without_key.ensures c.if-tag_without_key.false c.as_slice.ensures
+    c.field_without_key.ensures c.if-field_without_key.false
     c.as_slice-2.ensures c.is_empty-2.ensures c.if-is_empty-2.false in
     rw (c.in_ok-leave_out_empty.ensures, to_z-of_z w64 c.args.time c.ranges.time)
     (whole_metric (parts_of c.args.content.now) c.args.time c.requires c.ranges.time whole)
@@ -56,17 +61,22 @@ returns-in_ok-leave_out_empty-clause-metric c =
 pub returns-else-tag_without_value-clause-completes : goal.returns-else-tag_without_value-clause-completes
 returns-else-tag_without_value-clause-completes c =
     let whole = are_whole (parts_of c.args.content.now) _ _ _ _ c.as_str.ensures c.is_empty.ensures c.if-is_empty.false
-    c.as_slice-tags.ensures c.tag_without_key.ensures c.if-tag_without_key.false c.as_slice.ensures c.field_without_key.ensures c.if-field_without_key.false
+    c.as_slice-tags.ensures c.tag_without_key.ensures c.if-tag_without_key.false c.as_slice.ensures
+    c.field_without_key.ensures c.if-field_without_key.false
     c.as_slice-2.ensures c.is_empty-2.ensures c.if-is_empty-2.false in
-    let valued = ap has_empty_value (sym c.as_slice-tags.ensures) ∙ sym c.tag_without_value.ensures ∙ c.if-tag_without_value.false in
+    let valued = ap has_empty_value (sym c.as_slice-tags.ensures) ∙ sym c.tag_without_value.ensures
+    ∙ c.if-tag_without_value.false in
     rw (to_z-of_z w64 c.args.time c.ranges.time) (whole_finished (parts_of c.args.content.now) c.args.time whole valued)
 
 pub returns-else-tag_without_value-clause-metric : goal.returns-else-tag_without_value-clause-metric
 returns-else-tag_without_value-clause-metric c =
     let whole = are_whole (parts_of c.args.content.now) _ _ _ _ c.as_str.ensures c.is_empty.ensures c.if-is_empty.false
-    c.as_slice-tags.ensures c.tag_without_key.ensures c.if-tag_without_key.false c.as_slice.ensures c.field_without_key.ensures c.if-field_without_key.false
+    c.as_slice-tags.ensures c.tag_without_key.ensures c.if-tag_without_key.false c.as_slice.ensures
+    c.field_without_key.ensures c.if-field_without_key.false
     c.as_slice-2.ensures c.is_empty-2.ensures c.if-is_empty-2.false in
-    let valued = ap has_empty_value (sym c.as_slice-tags.ensures) ∙ sym c.tag_without_value.ensures ∙ c.if-tag_without_value.false in
+    let valued = ap has_empty_value (sym c.as_slice-tags.ensures) ∙ sym c.tag_without_value.ensures
+    ∙ c.if-tag_without_value.false in
     rw (to_z-of_z w64 c.args.time c.ranges.time)
-    (subst (λ (tags : List (List ℕ × List ℕ)). IsMetric (content_with (parts_of c.args.content.now) c.args.time tags)) (sym (all_valued c.args.content.now.tags valued))
+    (subst (λ (tags : List (List ℕ × List ℕ)). IsMetric (content_with (parts_of c.args.content.now) c.args.time tags))
+    (sym (all_valued c.args.content.now.tags valued))
     (whole_metric (parts_of c.args.content.now) c.args.time c.requires c.ranges.time whole))

@@ -8,4 +8,5 @@ returns-in-Some-clause-ok c =
 
 pub returns-in_ok-push-in-None-clause-ok : goal.returns-in_ok-push-in-None-clause-ok
 returns-in_ok-push-in-None-clause-ok c =
-    push_pair _ _ _ _ _ _ c.as_slice.ensures c.in_ok-of.ensures c.in_ok-push-in-None.ensures.ok (sym c.field_at.ensures ∙ c.in-None.is)
+    push_pair _ _ _ _ _ _ c.as_slice.ensures c.in_ok-of.ensures c.in_ok-push-in-None.ensures.ok
+    (sym c.field_at.ensures ∙ c.in-None.is)

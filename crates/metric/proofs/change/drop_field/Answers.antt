@@ -8,23 +8,27 @@ use Rattle.metric.proofs.change.drop_field.Goals as goal
 pub returns-in_default-clause-gone : goal.returns-in_default-clause-gone
 returns-in_default-clause-gone c =
     let read = c.as_slice-fields.ensures ∙ ap (λ (m : Content). m.fields) c.deref.ensures in
-    let none = no_key (arc_value c.args.content.now).fields c.args.key.now (found_at _ _ _ _ _ read c.field_at.ensures c.in_default.is) in
+    let none = no_key (arc_value c.args.content.now).fields c.args.key.now
+    (found_at _ _ _ _ _ read c.field_at.ensures c.in_default.is) in
     rw none refl
 
 pub returns-in_default-clause-ok : goal.returns-in_default-clause-ok
 returns-in_default-clause-ok c =
     let read = c.as_slice-fields.ensures ∙ ap (λ (m : Content). m.fields) c.deref.ensures in
-    field_kept _ _ (no_key (arc_value c.args.content.now).fields c.args.key.now (found_at _ _ _ _ _ read c.field_at.ensures c.in_default.is))
+    field_kept _ _ (no_key (arc_value c.args.content.now).fields c.args.key.now
+    (found_at _ _ _ _ _ read c.field_at.ensures c.in_default.is))
 
 pub returns-in-Some-get_mut-clause-gone : goal.returns-in-Some-get_mut-clause-gone
 returns-in-Some-get_mut-clause-gone c =
     let read = c.as_slice-fields.ensures ∙ ap (λ (m : Content). m.fields) c.deref.ensures in
     let more = subst (λ (fields : List (List ℕ × Value)). 1 < length fields) read c.if-fields-le-LEAST_FIELDS.false in
-    sym (is_lost _ _ (key_at (arc_value c.args.content.now).fields _ c.args.key.now (found_at _ _ _ _ _ read c.field_at.ensures c.in-Some.is)) more)
+    sym (is_lost _ _ (key_at (arc_value c.args.content.now).fields _ c.args.key.now
+    (found_at _ _ _ _ _ read c.field_at.ensures c.in-Some.is)) more)
 
 pub returns-in-Some-get_mut-clause-ok : goal.returns-in-Some-get_mut-clause-ok
 returns-in-Some-get_mut-clause-ok c =
     let read = c.as_slice-fields.ensures ∙ ap (λ (m : Content). m.fields) c.deref.ensures in
     let more = subst (λ (fields : List (List ℕ × Value)). 1 < length fields) read c.if-fields-le-LEAST_FIELDS.false in
-    field_taken _ c.in-Some-get_mut.own.now _ _ _ (c.in-Some-get_mut.ensures.value ∙ c.unshare.ensures) c.remove.ensures c.requires more
+    field_taken _ c.in-Some-get_mut.own.now _ _ _ (c.in-Some-get_mut.ensures.value ∙ c.unshare.ensures) c.remove.ensures
+    c.requires more
     (found_at _ _ _ _ _ read c.field_at.ensures c.in-Some.is)

@@ -1,13 +1,16 @@
-use Rattle.std.proofs.Common.{◌≡◌, ◌≤◌, ◌-◌, length, drop}
+use denote.Shadow.{shadow}
+use denote.Text.{Utf8}
+use Rattle.std.proofs.Common.{◌≡◌, length}
+use Rattle.std.specs.Prelude.{chars}
 use Rattle.metric.specs.Glob.{marks_of}
 use Rattle.metric.proofs.GlobTextLemmas.{in_front}
 use Rattle.metric.proofs.glob_text.marks_of.Given as goal
 
-abbrev pub invariant-loop-at : goal.invariant-loop-at
-invariant-loop-at l = record {
-  within : l.at ≤ length l.characters;
-  rest : in_front l.marks.items (marks_of (drop l.at l.characters)) ≡ marks_of l.characters;
+abbrev pub invariant-loop-first : goal.invariant-loop-first
+invariant-loop-first l = record {
+  text : shadow (Utf8 l.rest);
+  left : in_front l.marks.items (marks_of (chars l.rest)) ≡ marks_of (chars l.text);
 }
 
-abbrev pub decreases-loop-at : goal.decreases-loop-at
-decreases-loop-at l = length l.characters - l.at
+abbrev pub decreases-loop-first : goal.decreases-loop-first
+decreases-loop-first l = length (chars l.rest)

@@ -7,5 +7,7 @@ use Rattle.openmetrics_text.proofs.families.append_each_series.Goals as goal
 
 pub returns : goal.returns
 returns c =
-    swept_all (λ g. series_group (group_view g)) c.args.groups.now c.args.out.now.items c.loop-group.out.items c.loop-group.group-index c.loop-group-test.false c.loop-group.invariant
-    ∙ ap (λ (text : List ℕ). c.args.out.now.items ++ text) (sym (flat_map-map series_group group_view c.args.groups.now))
+    swept_all (λ g. series_group (group_view g)) c.args.groups.now c.args.out.now.items c.loop-group.out.items
+    c.loop-group.group-index c.loop-group-test.false c.loop-group.invariant
+    ∙ ap (λ (text : List ℕ). c.args.out.now.items ++ text) (sym
+    (flat_map-map series_group group_view c.args.groups.now))

@@ -12,11 +12,13 @@ returns-in-len1 c =
     let samples = c.as_slice-samples.result.now in
     let one : length c.as_slice-samples.result.now ≡ 1 = omega (arith, c.in-len1.len_at_least, c.in-len1.len_below) in
     subst (Adds c.append_bytes.result c.args.out.now.items c.append_bytes.new.out.items)
-    (only_in_family samples _ one ∙ ap (λ (all : List SampleLine). samples_text (map line_view all)) c.as_slice-samples.ensures) c.append_bytes.ensures
+    (only_in_family samples _ one ∙ ap (λ (all : List SampleLine). samples_text (map line_view all))
+    c.as_slice-samples.ensures) c.append_bytes.ensures
 
 pub returns : goal.returns
 unfolding samples_text
 returns c =
     c.in_ok-append_each_series.ensures
     ∙ ap (λ (groups : List Grouped). c.args.out.now.items ++ flat_map series_group groups)
-    (c.as_slice.ensures ∙ c.in_ok-groups.ensures ∙ ap (λ (all : List SampleLine). by_series (map line_view all)) c.as_slice-samples.ensures)
+    (c.as_slice.ensures ∙ c.in_ok-groups.ensures ∙ ap (λ (all : List SampleLine). by_series (map line_view all))
+    c.as_slice-samples.ensures)

@@ -10,4 +10,5 @@ loop-sample-init c = ap (map line_entry) c.new-lines.ensures.empty
 
 pub loop-sample-preserved : goal.loop-sample-preserved
 loop-sample-preserved c =
-    lines_more c.args.samples.now c.loop-sample.sample-index _ (lines_view c.loop-sample.lines) (lines_view c.add_line.new.lines) c.loop-sample-test.true c.loop-sample.invariant c.in_ok-add_line.ensures
+    lines_more c.args.samples.now c.loop-sample.sample-index _ (lines_view c.loop-sample.lines)
+    (lines_view c.add_line.new.lines) c.loop-sample-test.true c.loop-sample.invariant c.in_ok-add_line.ensures

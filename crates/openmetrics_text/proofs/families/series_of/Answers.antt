@@ -12,5 +12,7 @@ loop-sample-init c = record { indexed = c.new-groups.ensures.indexed; so_far = c
 pub loop-sample-preserved : goal.loop-sample-preserved
 loop-sample-preserved c = record {
   indexed = c.in_ok-put.ensures.indexed;
-  so_far = grouped_more (λ sample. sample.series) line_view c.args.samples.now c.loop-sample.sample-index _ _ (groups_view c.loop-sample.groups) (groups_view c.put.new.self) c.loop-sample-test.true refl c.loop-sample.invariant.so_far c.in_ok-put.ensures.put;
+  so_far = grouped_more (λ sample. sample.series) line_view c.args.samples.now c.loop-sample.sample-index _ _
+      (groups_view c.loop-sample.groups) (groups_view c.put.new.self) c.loop-sample-test.true refl
+      c.loop-sample.invariant.so_far c.in_ok-put.ensures.put;
 }

@@ -11,7 +11,8 @@ returns-then-is_among c =
     let lt : c.loop-i.i < length names = omega (arith, names_len labels) in
     let label = c.index-labels-i.result in
     let is = name_at labels c.loop-i.i label c.loop-i-test.true c.index-labels-i.is in
-    sym (twice_here names c.loop-i.i label.name.now lt is (among labels c.loop-i.i label.name.now true (sym c.if-is_among.true ∙ c.is_among.ensures))) ∙ c.loop-i.invariant
+    sym (twice_here names c.loop-i.i label.name.now lt is (among labels c.loop-i.i label.name.now true
+    (sym c.if-is_among.true ∙ c.is_among.ensures))) ∙ c.loop-i.invariant
 
 pub loop-i-preserved : goal.loop-i-preserved
 loop-i-preserved c =
@@ -20,7 +21,8 @@ loop-i-preserved c =
     let lt : c.loop-i.i < length names = omega (arith, names_len labels) in
     let label = c.index-labels-i.result in
     let is = name_at labels c.loop-i.i label c.loop-i-test.true c.index-labels-i.is in
-    twice_later names c.loop-i.i label.name.now lt is (among labels c.loop-i.i label.name.now false (sym c.if-is_among.false ∙ c.is_among.ensures)) ∙ c.loop-i.invariant
+    twice_later names c.loop-i.i label.name.now lt is (among labels c.loop-i.i label.name.now false
+    (sym c.if-is_among.false ∙ c.is_among.ensures)) ∙ c.loop-i.invariant
 
 pub returns : goal.returns
 returns c =

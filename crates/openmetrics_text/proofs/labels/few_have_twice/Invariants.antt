@@ -5,4 +5,5 @@ use Rattle.openmetrics_text.proofs.LabelLemmas.{twice_from}
 use Rattle.openmetrics_text.proofs.labels.few_have_twice.Given as goal
 
 abbrev pub invariant-loop-i : goal.invariant-loop-i
-invariant-loop-i l = twice_from (names_of (map label_view l.labels)) l.i ≡ has_twice [] (names_of (map label_view l.labels))
+invariant-loop-i l = twice_from (names_of (map label_view l.labels)) l.i ≡ has_twice []
+    (names_of (map label_view l.labels))

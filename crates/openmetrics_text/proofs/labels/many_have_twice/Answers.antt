@@ -16,7 +16,8 @@ returns-then-is_some c =
     let lt : c.loop-label.label-index < length names = omega (arith, names_len labels) in
     let label = c.label-item.result in
     let is = name_at labels c.loop-label.label-index label c.loop-label-test.true c.label-item.is in
-    let seen = sym c.if-is_some.true ∙ c.is_some.ensures ∙ ap is_some c.in_ok-insert.ensures.old ∙ c.loop-label.invariant.seen label.name.now in
+    let seen = sym c.if-is_some.true ∙ c.is_some.ensures ∙ ap is_some c.in_ok-insert.ensures.old
+    ∙ c.loop-label.invariant.seen label.name.now in
     sym (twice_here names c.loop-label.label-index label.name.now lt is (sym seen)) ∙ c.loop-label.invariant.so_far
 
 pub loop-label-preserved : goal.loop-label-preserved
@@ -26,11 +27,16 @@ loop-label-preserved c =
     let lt : c.loop-label.label-index < length names = omega (arith, names_len labels) in
     let label = c.label-item.result in
     let is = name_at labels c.loop-label.label-index label c.loop-label-test.true c.label-item.is in
-    let seen = sym c.if-is_some.false ∙ c.is_some.ensures ∙ ap is_some c.in_ok-insert.ensures.old ∙ c.loop-label.invariant.seen label.name.now in record {
-      so_far = twice_later names c.loop-label.label-index label.name.now lt is (sym seen) ∙ c.loop-label.invariant.so_far;
+    let seen = sym c.if-is_some.false ∙ c.is_some.ensures ∙ ap is_some c.in_ok-insert.ensures.old
+    ∙ c.loop-label.invariant.seen label.name.now in record {
+      so_far = twice_later names c.loop-label.label-index label.name.now lt is (sym seen)
+          ∙ c.loop-label.invariant.so_far;
       seen = λ other.
-          ap is_some (btree_map_updates_str label.name.now c.loop-label.before c.insert.new.self (Some tt) c.in_ok-insert.ensures.updates other)
-          ∙ seen_more names c.loop-label.label-index label.name.now other (get_by (λ key. slice_cmp nat_cmp other key.now) c.loop-label.before) lt is (c.loop-label.invariant.seen other);
+          ap is_some (btree_map_updates_str label.name.now c.loop-label.before c.insert.new.self
+          (Some tt) c.in_ok-insert.ensures.updates other)
+          ∙ seen_more names c.loop-label.label-index label.name.now other
+          (get_by (λ key. slice_cmp nat_cmp other key.now) c.loop-label.before) lt is
+          (c.loop-label.invariant.seen other);
     }
 
 pub returns : goal.returns

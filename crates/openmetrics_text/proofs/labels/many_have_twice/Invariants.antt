@@ -12,6 +12,8 @@ use Rattle.openmetrics_text.proofs.labels.many_have_twice.Given as goal
 
 abbrev pub invariant-loop-label : goal.invariant-loop-label
 invariant-loop-label l = record {
-  so_far : twice_from (names_of (map label_view l.labels)) l.label-index ≡ has_twice [] (names_of (map label_view l.labels));
-  seen : (name : List ℕ) → is_some (get_by (λ key. slice_cmp nat_cmp name key.now) l.before) ≡ list_any (λ other. bytes_eq other name) (take l.label-index (names_of (map label_view l.labels)));
+  so_far : twice_from (names_of (map label_view l.labels)) l.label-index ≡ has_twice []
+      (names_of (map label_view l.labels));
+  seen : (name : List ℕ) → is_some (get_by (λ key. slice_cmp nat_cmp name key.now) l.before) ≡ list_any
+      (λ other. bytes_eq other name) (take l.label-index (names_of (map label_view l.labels)));
 }

@@ -11,7 +11,8 @@ invariant-labels l =
     IsCharBoundary l.line l.at
     × AreNamed (map label_view l.labels.items)
     × ((first : Tag) × (behind : ℕ) × (label_at l.line l.fn.i ≡ Ok (first, behind))
-    × ((others : List Tag) × Reads label_at 44 l.line behind others l.at × (map label_view l.labels.items ≡ first ∷ others)))
+    × ((others : List Tag) × Reads label_at 44 l.line behind others l.at
+    × (map label_view l.labels.items ≡ first ∷ others)))
 
 abbrev pub decreases-labels : goal.decreases-labels
 decreases-labels l = length l.line - l.at

@@ -1,5 +1,5 @@
 use Rattle.std.proofs.Common.{arith}
-use Rattle.openmetrics_text.proofs.Places.{behind_byte}
+use Rattle.openmetrics_text.proofs.Offsets.{behind_byte}
 use Rattle.openmetrics_text.proofs.line.behind_word.Goals as goal
 
 pub split_at-requires : goal.split_at-requires

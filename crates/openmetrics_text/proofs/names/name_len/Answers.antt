@@ -10,4 +10,5 @@ returns-clause-bound c = rw c.name_end.ensures (position_or_len_le (ends c.args.
 
 pub returns-clause-boundary : goal.returns-clause-boundary
 returns-clause-boundary c = λ u.
-    subst (IsCharBoundary c.args.bytes.now) (sym c.name_end.ensures) (front_boundary (ends c.args.alphabet) (alphabet_low c.args.alphabet) c.args.bytes.now u)
+    subst (IsCharBoundary c.args.bytes.now) (sym c.name_end.ensures)
+    (front_boundary (ends c.args.alphabet) (alphabet_low c.args.alphabet) c.args.bytes.now u)

@@ -6,7 +6,8 @@ use Rattle.openmetrics_text.specs.Reading.{line_at}
 use Rattle.openmetrics_text.proofs.read.read_lines.Given as goal
 
 abbrev pub invariant-loop-line : goal.invariant-loop-line
-invariant-loop-line l = (says : List LineSays) × HasRead line_at l.initial.lines says l.lines × HaveSaid l.moment l.typed l.collected says
+invariant-loop-line l = (says : List LineSays) × HasRead (line_at l.passing) l.initial.lines says l.lines
+    × HaveSaid l.moment l.typed l.collected says
 
 abbrev pub decreases-loop-line : goal.decreases-loop-line
 decreases-loop-line l = length l.lines

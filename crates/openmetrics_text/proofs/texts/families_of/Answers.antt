@@ -12,5 +12,8 @@ loop-row-init c = record { indexed = c.new-groups.ensures.indexed; so_far = c.ne
 pub loop-row-preserved : goal.loop-row-preserved
 loop-row-preserved c = record {
   indexed = c.in_ok-put.ensures.indexed;
-  so_far = grouped_more (λ sample. sample.family) (written_in c.args.bytes.now) c.args.rows.now c.loop-row.row-index _ (line_view c.sample_at-sample.result) (groups_view c.loop-row.groups) (groups_view c.put.new.self) c.loop-row-test.true c.sample_at-sample.ensures c.loop-row.invariant.so_far c.in_ok-put.ensures.put;
+  so_far = grouped_more (λ sample. sample.family) (written_in c.args.bytes.now) c.args.rows.now c.loop-row.row-index _
+      (line_view c.sample_at-sample.result) (groups_view c.loop-row.groups)
+      (groups_view c.put.new.self) c.loop-row-test.true c.sample_at-sample.ensures c.loop-row.invariant.so_far
+      c.in_ok-put.ensures.put;
 }

@@ -14,10 +14,13 @@ pub families_of-requires : goal.families_of-requires
 families_of-requires c =
     let texts = c.in_ok-texts.texts in
     subst (λ (bytes : List ℕ). All (IsWithin bytes) c.as_slice-2.result.now) (sym c.as_slice.ensures.value)
-    (subst (λ (rows : List Row). All (IsWithin texts.bytes.items) rows) (sym c.as_slice-2.ensures.value) (all_within texts.bytes.items texts.rows.items (points_of c.args.batch.now) c.in_ok-texts.ensures))
+    (subst (λ (rows : List Row). All (IsWithin texts.bytes.items) rows) (sym c.as_slice-2.ensures.value)
+    (all_within texts.bytes.items texts.rows.items (points_of c.args.batch.now) c.in_ok-texts.ensures))
 
 pub returns-in_err-append_words : goal.returns-in_err-append_words
-returns-in_err-append_words c = fails _ _ _ _ c.from_residual-in_err-append_words.ensures.0 (extends_after c.args.out.now.items c.append_families.new.out.items c.append_words.new.out.items _ c.in_ok-append_families.ensures c.in_err-append_words.ensures)
+returns-in_err-append_words c = fails _ _ _ _ c.from_residual-in_err-append_words.ensures.0
+    (extends_after c.args.out.now.items c.append_families.new.out.items c.append_words.new.out.items _
+    c.in_ok-append_families.ensures c.in_err-append_words.ensures)
 
 pub returns : goal.returns
 unfolding families_text
@@ -31,4 +34,5 @@ returns c =
     ∙ (λ j. by_family (map (written_in (bytes j)) (rows j)))
     ∙ ap by_family (rows_are texts.bytes.items texts.rows.items points c.in_ok-texts.ensures) in
     after _ _ _ _ _ c.in_ok-append_families.ensures c.in_ok-append_words.ensures
-    ∙ ap (λ (text : List ℕ). c.args.out.now.items ++ text) (ap (λ (gs : List Grouped). flat_map family_group gs ++ codes "# EOF\n") groups ∙ text_is points)
+    ∙ ap (λ (text : List ℕ). c.args.out.now.items ++ text) (ap (λ (gs : List Grouped). flat_map family_group gs
+    ++ codes "# EOF\n") groups ∙ text_is points)

@@ -16,6 +16,9 @@ returns c =
     let number : List ℕ = number_text c.args.field.now.1 in
     let rest : List ℕ = c.args.series.now.labels.now ++ 32 ∷ (number ++ 32 ∷ (canonical_text time ++ 10 ∷ [])) in
     let pushed = rw same at c.in_ok-push.ensures.items in
-    let line = line_is c.args.metric.now c.args.field.now c.args.family.now c.args.series.now.labels.now time c.requires.family c.requires.labels (same ∙ c.time-time.ensures) in
-    puts_line c.args.texts.now _ (point_of c.args.metric.now c.args.field.now) c.args.series.now.place c.args.family.now rest _ c.len-from.result c.len.result c.time-time.result
-    c.in_ok-append_point.ensures pushed from to (assembled c.args.family.now c.args.series.now.labels.now number (canonical_text time)) line c.requires.family c.time-time.ensures c.requires.series
+    let line = line_is c.args.metric.now c.args.field.now c.args.family.now c.args.series.now.labels.now time
+    c.requires.family c.requires.labels (same ∙ c.time-time.ensures) in
+    puts_line c.args.texts.now _ (point_of c.args.metric.now c.args.field.now) c.args.series.now.extent
+    c.args.family.now rest _ c.len-from.result c.len.result c.time-time.result
+    c.in_ok-append_point.ensures pushed from to (assembled c.args.family.now c.args.series.now.labels.now number
+    (canonical_text time)) line c.requires.family c.time-time.ensures c.requires.series

@@ -8,7 +8,9 @@ loop-metric-init c = none_in c.new-texts.result c.new-texts.ensures
 
 pub loop-metric-preserved : goal.loop-metric-preserved
 loop-metric-preserved c =
-    in_more c.args.batch.now c.loop-metric.texts c.put_metric.new.texts c.loop-metric.metric-index c.metric-item.result c.loop-metric-test.true c.metric-item.is c.loop-metric.invariant c.in_ok-put_metric.ensures
+    in_more c.args.batch.now c.loop-metric.texts c.put_metric.new.texts c.loop-metric.metric-index c.metric-item.result
+    c.loop-metric-test.true c.metric-item.is c.loop-metric.invariant c.in_ok-put_metric.ensures
 
 pub returns : goal.returns
-returns c = in_all c.args.batch.now c.loop-metric.texts c.loop-metric.metric-index c.loop-metric-test.false c.loop-metric.invariant
+returns c = in_all c.args.batch.now c.loop-metric.texts c.loop-metric.metric-index c.loop-metric-test.false
+    c.loop-metric.invariant

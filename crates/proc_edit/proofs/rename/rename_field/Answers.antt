@@ -11,9 +11,12 @@ pub of-requires : goal.of-requires
 of-requires c =
     let from = c.args.from.now in
     let dest = c.args.dest.now in
-    let has = sym (ap (λ (fields : List (List ℕ × Value)). has_key fields from) c.fields.ensures) ∙ sym c.has_key.ensures ∙ c.if-not-has_key.false in
-    field_renamed c.args.m.now from dest _ _ _ _ c.shows_metric.ensures c.requires.filled c.utf8.dest c.requires.other has
+    let has = sym (ap (λ (fields : List (List ℕ × Value)). has_key fields from) c.fields.ensures)
+    ∙ sym c.has_key.ensures ∙ c.if-not-has_key.false in
+    field_renamed c.args.m.now from dest _ _ _ _ c.shows_metric.ensures c.requires.filled c.utf8.dest c.requires.other
+    has
     (c.in_ok-copy.ensures ∙ c.name.ensures.name)
     (c.in_ok-tag_copies.ensures ∙ c.tags.ensures)
-    (c.in_ok-renamed_fields.ensures ∙ ap (λ (fields : List (List ℕ × Value)). with_key_renamed fields from dest) c.fields-2.ensures)
+    (c.in_ok-renamed_fields.ensures ∙ ap (λ (fields : List (List ℕ × Value)). with_key_renamed fields from dest)
+    c.fields-2.ensures)
     (to_z-of_z w64 c.time.result (search rules) ∙ c.time.ensures)

@@ -11,5 +11,5 @@ unreachable-requires c =
     let number = c.args.number.now in
     let written = c.as_slice.ensures.value ∙ c.in_ok-append_number.ensures.ok
     ∙ ap (λ (digits : List ℕ). digits ++ number_text number) c.new-digits.ensures.items in
-    let digits = IsUtf8-from_ascii _ (ascii_of _ (value_number number c.shows_in_range.ensures c.requires).bytes) in
+    let digits = IsUtf8-from_ascii _ (ascii_of _ (value_number number c.shows_value.ensures c.requires).bytes) in
     c.in-Err.ensures.cases.0 (subst IsUtf8 (sym written) digits)

@@ -23,9 +23,11 @@ record HasAll (b : Parts) (name : List ℕ) (tags : List Tag) (key : List ℕ) (
   fields : b.fields ≡ (key, value) ∷ []
 
 one_key : (key : List ℕ) (value : Value) → 0 < length key → has_empty_key ((key, value) ∷ []) ≡ false
-one_key key value some = let filled : (length key == 0) ≡ false = ne_eqb _ _ (λ e. absurd (omega arith)) in rw filled refl
+one_key key value some = let filled : (length key == 0) ≡ false = ne_eqb _ _ (λ e. absurd (omega arith)) in
+    rw filled refl
 
-all_ready : (b : Parts) (name : List ℕ) (tags : List Tag) (key : List ℕ) (value : Value) → HasAll b name tags key value → 0 < length name → IsKeyed tags → 0 < length key → IsWhole b
+all_ready : (b : Parts) (name : List ℕ) (tags : List Tag) (key : List ℕ) (value : Value) → HasAll b name tags key value
+    → 0 < length name → IsKeyed tags → 0 < length key → IsWhole b
 all_ready b name tags key value h named keyed some = record {
   named = subst (λ (n : List ℕ). 0 < length n) (sym h.named) named;
   tag_keys = ap has_empty_key h.tagged ∙ keyed.filled;
@@ -41,10 +43,17 @@ field_filled names.Member = omega arith
 pub complete-requires : goal.complete-requires
 complete-requires c =
     let put = c.in_ok-put_said.ensures in
-    let all : HasAll c.put_said.new.builder c.args.name (with_sorted c.args.tags.now (codes "metric_type") (type_name c.args.said.metric_type)) (field_name c.args.said.field) c.args.said.value =
-    record { named = put.name ∙ ap (λ (b : Parts). b.name) c.of-builder.ensures; tagged = put.tags; fields = put.fields } in
-    all_ready c.put_said.new.builder c.args.name (with_sorted c.args.tags.now (codes "metric_type") (type_name c.args.said.metric_type)) (field_name c.args.said.field) c.args.said.value all c.requires.named
-    (keyed_more c.args.tags.now (codes "metric_type") (type_name c.args.said.metric_type) (omega arith) c.requires.keyed)
+    let all : HasAll c.put_said.new.builder c.args.name (with_sorted c.args.tags.now (codes "metric_type")
+    (type_name c.args.said.metric_type)) (field_name c.args.said.field) c.args.said.value =
+    record {
+      named = put.name ∙ ap (λ (b : Parts). b.name) c.of-builder.ensures;
+      tagged = put.tags;
+      fields = put.fields;
+    } in
+    all_ready c.put_said.new.builder c.args.name (with_sorted c.args.tags.now (codes "metric_type")
+    (type_name c.args.said.metric_type)) (field_name c.args.said.field) c.args.said.value all c.requires.named
+    (keyed_more c.args.tags.now (codes "metric_type") (type_name c.args.said.metric_type)
+    (omega arith) c.requires.keyed)
     (field_filled c.args.said.field)
 
 same_ok : (r : Result Content OutOfMemory) (a b : Content) → IfOk r (λ m. m ≡ a) → a ≡ b → IfOk r (λ m. m ≡ b)
@@ -53,7 +62,8 @@ same_ok r a b h e = subst (λ (x : Content). IfOk r (λ m. m ≡ x)) e h
 pub returns : goal.returns
 returns c =
     let put = c.in_ok-put_said.ensures in
-    let named : c.put_said.new.builder.name ≡ c.args.name = put.name ∙ ap (λ (b : Parts). b.name) c.of-builder.ensures in
+    let named : c.put_said.new.builder.name ≡ c.args.name = put.name
+    ∙ ap (λ (b : Parts). b.name) c.of-builder.ensures in
     same_ok c.complete.result (record {
       name = c.put_said.new.builder.name;
       tags = with_values c.put_said.new.builder.tags;

@@ -7,4 +7,7 @@ pub returns-in-Ok : goal.returns-in-Ok
 returns-in-Ok c = (c.in-Ok.ensures.cases.0, is_utf8-from_IsUtf8 c.args.piece.now c.in-Ok.ensures.cases.1)
 
 pub returns-in-Err : goal.returns-in-Err
-returns-in-Err c = (c.valid_up_to.ensures ∙ c.in-Err.ensures.valid_len, isnt_utf8 c.args.piece.now c.in-Err.ensures.cases.0)
+returns-in-Err c = (
+  c.valid_up_to.ensures ∙ c.in-Err.ensures.valid_len,
+  isnt_utf8 c.args.piece.now c.in-Err.ensures.cases.0,
+)

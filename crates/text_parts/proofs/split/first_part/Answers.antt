@@ -18,13 +18,16 @@ split_at-requires c =
 pub split_at-requires-2 : goal.split_at-requires-2
 split_at-requires-2 c =
     let is = c.first_byte-at.ensures.value ∙ ap (position_or_len (is_byte c.args.byte)) c.as_bytes.ensures.value in
-    let lt : position_or_len (is_byte c.args.byte) c.args.text.now < length c.args.text.now = omega (arith, is, c.split_at.ensures.back_len, c.if-at-text.false) in
-    subst (λ (n : ℕ). IsCharBoundary c.args.text.now (n + 1)) (sym is) (behind_boundary c.args.byte c.args.text.now c.requires.ascii c.utf8.text lt)
+    let lt : position_or_len (is_byte c.args.byte) c.args.text.now < length c.args.text.now =
+    omega (arith, is, c.split_at.ensures.back_len, c.if-at-text.false) in
+    subst (λ (n : ℕ). IsCharBoundary c.args.text.now (n + 1)) (sym is)
+    (behind_boundary c.args.byte c.args.text.now c.requires.ascii c.utf8.text lt)
 
 pub returns-clause-value : goal.returns-clause-value
 returns-clause-value c =
     let is = c.first_byte-at.ensures.value ∙ ap (position_or_len (is_byte c.args.byte)) c.as_bytes.ensures.value in
-    let lt : position_or_len (is_byte c.args.byte) c.args.text.now < length c.args.text.now = omega (arith, is, c.split_at.ensures.back_len, c.if-at-text.false) in
+    let lt : position_or_len (is_byte c.args.byte) c.args.text.now < length c.args.text.now =
+    omega (arith, is, c.split_at.ensures.back_len, c.if-at-text.false) in
     let front = c.split_at.ensures.front ∙ ap (λ (n : ℕ). take n c.args.text.now) is in
     let behind = c.split_at-2.ensures.back ∙ ap (λ (n : ℕ). drop (n + 1) c.args.text.now) is in
     rw (front, behind) (sym (some_first c.args.byte c.args.text.now lt))

@@ -8,14 +8,14 @@ pub fetch_add-found-requires : goal.fetch_add-found-requires
 fetch_add-found-requires g c =
     let h = c.requires.sized in
     let said : g.row.M-Op.Denot × g.row.M-Answer.Denot = (c.args.op.now.value, c.args.answer.now) in (
-      c.requires.place,
+      c.requires.same_table,
       omega arith,
       commits g.M.Machine.allows g.M.Machine.next g.M.Machine.dial_of _ _ _ _ _ _ said c.requires.call
           c.requires.holding c.requires.allowed g.met.M.Machine.dials_rise,
     )
 
-pub returns-clause-place : goal.returns-clause-place
-returns-clause-place g c =
+pub returns-clause-same_table : goal.returns-clause-same_table
+returns-clause-same_table g c =
     let e = c.fetch_add-found.ensures in
     let t = e.2 (c.args.op.now.value, c.args.answer.now) c.requires.call in
     (e.0, e.1, t.1)

@@ -6,7 +6,7 @@ pub load-requires : goal.load-requires
 load-requires g c =
     let h = c.requires.sized in
     let inside = c.requires.next.1 in (
-      c.requires.place,
+      c.requires.same_table,
       omega arith,
       finds g.M.Machine.allows g.M.Machine.next g.M.Machine.dial_of _ _ _ _ c.args.dial c.args.new _ _ _
           c.requires.known.0 c.requires.known.1 c.requires.next.0 (omega arith) c.requires.shows (omega arith),

@@ -4,14 +4,14 @@ use Rattle.turnstile.proofs.steps.glance_from.Goals as goal
 
 pub load-requires : goal.load-requires
 load-requires g c = let h = c.requires.sized in let n = c.requires.inside in (
-  c.requires.place,
+  c.requires.same_table,
   omega arith,
   glances g.M.Machine.allows g.M.Machine.next g.M.Machine.dial_of _ _ _ _ _ _ _ c.requires.known
       c.requires.rests.0 (omega arith),
 )
 
-pub returns-clause-place : goal.returns-clause-place
-returns-clause-place g c =
+pub returns-clause-same_table : goal.returns-clause-same_table
+returns-clause-same_table g c =
     let t = c.load.ensures.2 in
     let d = t.1 _ c.args.dial c.requires.known refl in
     (c.load.ensures.0, c.load.ensures.1, (ap (λ v. v.phase) d.0 ∙ c.requires.rests.0, t.0 ∙ c.requires.rests.1))

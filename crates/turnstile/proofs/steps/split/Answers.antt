@@ -10,7 +10,7 @@ use Rattle.turnstile.proofs.steps.split.Goals as goal
 
 pub fetch_add-requires : goal.fetch_add-requires
 fetch_add-requires g c = let h = c.requires.sized in (
-  c.requires.place,
+  c.requires.same_table,
   omega arith,
   draws g.M.Machine.allows g.M.Machine.next g.M.Machine.dial_of _ _ _ _ _ c.requires.rests.0 c.requires.first
       c.requires.few,
@@ -41,5 +41,6 @@ split_views {O = O} {A = A} v w a b n unused idle drew kept made =
 
 pub returns-clause-split : goal.returns-clause-split
 returns-clause-split g c =
-    split_views c.args.seat.now.me.0 c.fetch_add.new.seat.me.0 _ _ c.fetch_add.result c.fetch_add.ensures.2.2 c.requires.rests.0
+    split_views c.args.seat.now.me.0 c.fetch_add.new.seat.me.0 _ _ c.fetch_add.result c.fetch_add.ensures.2.2
+    c.requires.rests.0
     c.fetch_add.ensures.2.1 (ap (λ m. m.0) c.split_seat.ensures.2) (ap (λ m. m.0) c.split_seat.ensures.4)

@@ -4,7 +4,7 @@ use Rattle.turnstile.proofs.waiting.sleep.Goals as goal
 
 pub fetch_add-requires : goal.fetch_add-requires
 fetch_add-requires g c = let h = c.requires.sized in let d = c.requires.dials in (
-  c.requires.place,
+  c.requires.same_table,
   omega arith,
   waits g.M.Machine.allows g.M.Machine.next g.M.Machine.dial_of _ _ _ _ (3 + c.args.dials) 1 c.args.seat.now.me
       (λ n. (n + 1) % 2 ^ 64) (omega arith) c.requires.rests.0,

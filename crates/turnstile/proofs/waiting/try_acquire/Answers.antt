@@ -6,7 +6,7 @@ use Rattle.turnstile.proofs.waiting.try_acquire.Goals as goal
 
 pub compare_exchange-requires : goal.compare_exchange-requires
 compare_exchange-requires g c = let h = c.requires.sized in (
-  c.requires.place,
+  c.requires.same_table,
   omega arith,
   acquires g.M.Machine.allows g.M.Machine.next g.M.Machine.dial_of _ _ _ _ _ _ c.requires.known
       (ap is_live c.requires.rests.0) c.requires.rests.1,

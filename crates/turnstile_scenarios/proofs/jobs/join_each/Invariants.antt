@@ -3,8 +3,8 @@ use Rattle.turnstile_scenarios.proofs.jobs.join_each.Given as goal
 
 abbrev pub invariant-loop-job : goal.invariant-loop-job
 invariant-loop-job g l = record {
-  place : l.first.table ≡ l.fn.first.table;
+  same_table : l.first.table ≡ l.fn.first.table;
   number : l.first.view.number ≡ 0;
   split : map (λ job. job.pass.view.number) l.job-iterator.rest.items ≡ l.first.view.split;
-  places : All (λ job. job.pass.table ≡ l.fn.stile.table) l.job-iterator.rest.items;
+  same_tables : All (λ job. job.pass.table ≡ l.fn.stile.table) l.job-iterator.rest.items;
 }

@@ -34,7 +34,7 @@ returns-in-Put-Err-clause-gained g c = gains c.args.pass.now.view c.loop.pass.vi
 pub loop-preserved-in-Ok-1 : goal.loop-preserved-in-Ok-1
 loop-preserved-in-Ok-1 g c = record {
   can = search rules;
-  place = search rules;
+  same_table = search rules;
   number = ap (λ v. v.number) c.call-answer.ensures.call.view_is ∙ c.loop.invariant.number;
   gained = gains c.args.pass.now.view c.loop.pass.view c.call-answer.new.pass.view _ _ _ _
       c.loop.invariant.gained c.call-answer.ensures.call;
@@ -43,7 +43,7 @@ loop-preserved-in-Ok-1 g c = record {
 pub loop-preserved : goal.loop-preserved
 loop-preserved g c = record {
   can = search rules;
-  place = search rules;
+  same_table = search rules;
   number = ap (λ v. v.number) c.call-answer.ensures.call.view_is ∙ c.loop.invariant.number;
   gained = gains c.args.pass.now.view c.loop.pass.view c.call-answer.new.pass.view _ _ _ _
       c.loop.invariant.gained c.call-answer.ensures.call;

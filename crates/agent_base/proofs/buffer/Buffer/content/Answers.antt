@@ -12,4 +12,6 @@ with_newline kind front is = ap (λ (k : CutKind). content k front) (sym is)
 pub returns-in-Expositions-clause-content : goal.returns-in-Expositions-clause-content
 returns-in-Expositions-clause-content c =
     let s = c.args.self.now in
-    rw c.deref-in-Expositions.ensures.value (whole_piece s.kind s.buf.items s.start s.end c.args.i c.requires.end (omega (arith, piece_within s.kind s.buf.items s.start s.end c.args.i c.requires.end)) ∙ with_newline s.kind _ c.in-Expositions.is)
+    rw c.deref-in-Expositions.ensures.value (whole_piece s.kind s.buf.items s.start s.end c.args.i c.requires.end
+    (omega (arith, piece_within s.kind s.buf.items s.start s.end c.args.i c.requires.end))
+    ∙ with_newline s.kind _ c.in-Expositions.is)

@@ -9,7 +9,8 @@ pub returns-then-self-clause-pieces : goal.returns-then-self-clause-pieces
 returns-then-self-clause-pieces c =
     let t = c.skip_all.new.self in
     let after : Hand = record { kind = t.kind; bytes = bytes_of t; is_passing = false; taken = t.taken } in
-    ends_passed (hand_of c.args.self.now) after c.skip_all.ensures.kind c.if-self.true refl c.requires.none c.skip_all.ensures.bytes
+    ends_passed (hand_of c.args.self.now) after c.skip_all.ensures.kind c.if-self.true refl c.requires.none
+    c.skip_all.ensures.bytes
 
 pub returns-then-self-2-clause-pieces : goal.returns-then-self-2-clause-pieces
 returns-then-self-2-clause-pieces c =
@@ -20,8 +21,10 @@ returns-then-self-2-clause-pieces c =
 pub returns-clause-pieces : goal.returns-clause-pieces
 returns-clause-pieces c =
     let s = c.args.self.now in
-    ends_last (hand_of s) (hand_of c.skip_all-2.new.self) c.of.result c.skip_all-2.ensures.kind c.if-self.false (c.skip_all-2.ensures.passing ∙ c.if-self.false) c.requires.none
-    (omega (arith, length-take (s.end - s.start) (drop s.start s.buf.items), length-drop s.start s.buf.items)) (omega (arith, length-take (s.end - s.start) (drop s.start s.buf.items), length-drop s.start s.buf.items))
+    ends_last (hand_of s) (hand_of c.skip_all-2.new.self) c.of.result c.skip_all-2.ensures.kind c.if-self.false
+    (c.skip_all-2.ensures.passing ∙ c.if-self.false) c.requires.none
+    (omega (arith, length-take (s.end - s.start) (drop s.start s.buf.items), length-drop s.start s.buf.items))
+    (omega (arith, length-take (s.end - s.start) (drop s.start s.buf.items), length-drop s.start s.buf.items))
     (c.of.ensures ∙ c.filled-bytes.ensures ∙ rw c.deref.ensures.value refl) c.skip_all-2.ensures.bytes
 
 pub returns-then-self-clause-spent : goal.returns-then-self-clause-spent
@@ -36,4 +39,5 @@ returns-then-self-2-clause-spent c =
     ends_empty (hand_of s) c.if-self.false (empty_bytes s.buf.items s.start s.end (omega arith))
 
 pub returns-clause-spent : goal.returns-clause-spent
-returns-clause-spent c = ends_empty (hand_of c.skip_all-2.new.self) (c.skip_all-2.ensures.passing ∙ c.if-self.false) c.skip_all-2.ensures.bytes
+returns-clause-spent c = ends_empty (hand_of c.skip_all-2.new.self) (c.skip_all-2.ensures.passing ∙ c.if-self.false)
+    c.skip_all-2.ensures.bytes

@@ -7,9 +7,12 @@ use Rattle.agent_base.proofs.buffer.Buffer.read_piece.Goals as goal
 use Rattle.agent_base.proofs.buffer.Buffer.read_piece.Goals.{After-read_more}
 
 -- what was taken so far, behind one more read
-taken : (g : given.Over) (c : After-read_more g) → Takes (g.S.Source.told c.args.src.now).bytes (g.S.Source.told c.read_more.new.src).bytes (hand_of c.args.self.now) (hand_of c.read_more.new.self)
+taken : (g : given.Over) (c : After-read_more g) → Takes (g.S.Source.told c.args.src.now).bytes
+    (g.S.Source.told c.read_more.new.src).bytes (hand_of c.args.self.now) (hand_of c.read_more.new.self)
 taken g c =
-    takes_more (g.S.Source.told c.args.src.now).bytes (g.S.Source.told c.reads.src).bytes (g.S.Source.told c.read_more.new.src).bytes (hand_of c.args.self.now) (hand_of c.reads.self) (hand_of c.make_room.new.self) (hand_of c.read_more.new.self)
+    takes_more (g.S.Source.told c.args.src.now).bytes (g.S.Source.told c.reads.src).bytes
+    (g.S.Source.told c.read_more.new.src).bytes (hand_of c.args.self.now) (hand_of c.reads.self)
+    (hand_of c.make_room.new.self) (hand_of c.read_more.new.self)
     c.reads.invariant.takes c.make_room.ensures.same c.read_more.ensures.takes
 
 pub reads-preserved : goal.reads-preserved
@@ -28,7 +31,8 @@ returns-then-self-eq-MAX_TAKEN_BYTES-clause-gives g c =
     let takes = taken g (goal.at.returns-then-self-eq-MAX_TAKEN_BYTES-clause-gives g c).After-read_more in
     record {
       pieces = search rules;
-      whatever_follows = takes_byte_limit (g.S.Source.told c.args.src.now).bytes (g.S.Source.told c.read_more.new.src).bytes (hand_of c.args.self.now) (hand_of c.read_more.new.self) takes;
+      whatever_follows = takes_byte_limit (g.S.Source.told c.args.src.now).bytes
+          (g.S.Source.told c.read_more.new.src).bytes (hand_of c.args.self.now) (hand_of c.read_more.new.self) takes;
       counted = search rules;
       grows = search rules;
       kind = search rules;
@@ -41,10 +45,13 @@ returns-then-self-eq-MAX_TAKEN_BYTES-clause-gives g c =
 pub returns-in-Some-clause-gives : goal.returns-in-Some-clause-gives
 returns-in-Some-clause-gives g c =
     let takes = taken g (goal.at.returns-in-Some-clause-gives g c).After-read_more in
-    let found : Takes (g.S.Source.told c.args.src.now).bytes (g.S.Source.told c.read_more.new.src).bytes (hand_of c.args.self.now) (hand_of c.find_end.new.self) = rw c.find_end.ensures.same takes in
+    let found : Takes (g.S.Source.told c.args.src.now).bytes (g.S.Source.told c.read_more.new.src).bytes
+    (hand_of c.args.self.now) (hand_of c.find_end.new.self) = rw c.find_end.ensures.same takes in
     record {
       pieces = search rules;
-      whatever_follows = takes_piece (g.S.Source.told c.args.src.now).bytes (g.S.Source.told c.read_more.new.src).bytes (hand_of c.args.self.now) (hand_of c.find_end.new.self) (hand_of c.give.new.self) c.give.result found c.give.ensures.pieces c.give.ensures.given;
+      whatever_follows = takes_piece (g.S.Source.told c.args.src.now).bytes (g.S.Source.told c.read_more.new.src).bytes
+          (hand_of c.args.self.now) (hand_of c.find_end.new.self) (hand_of c.give.new.self) c.give.result found
+          c.give.ensures.pieces c.give.ensures.given;
       counted = search rules;
       grows = search rules;
       kind = search rules;

@@ -2,4 +2,4 @@ use Rattle.std.proofs.Common.{refl}
 use Rattle.agent_base.proofs.mem_world.MemWorld.new.Goals as goal
 
 pub returns-clause-nothing_stands : goal.returns-clause-nothing_stands
-returns-clause-nothing_stands g c = rw (c.new.ensures.items, c.new-2.ensures.items, c.new-3.ensures.items) refl
+returns-clause-nothing_stands g c = rw (c.new.ensures, c.new-2.ensures, c.new-3.ensures.items) refl

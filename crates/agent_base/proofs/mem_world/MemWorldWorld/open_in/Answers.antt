@@ -1,7 +1,8 @@
 use Rattle.agent_base.proofs.SlotLemmas.{opened_told}
-use Rattle.agent_base.specs.Slots.{slot_at}
+use Rattle.agent_base.specs.Slots.{slot_of}
 use Rattle.agent_base.proofs.mem_world.MemWorldWorld.open_in.Goals as goal
 
 pub returns-clause-refused : goal.returns-clause-refused
 returns-clause-refused g c =
-    (opened_told g.S.Source.told c.open.result (slot_at c.args.self.now.ins.items c.args.place.now) (slot_at c.open.new.slots.items c.args.place.now) c.requires c.open.ensures.opened).1
+    (opened_told g.S.Source.told c.open.result (slot_of c.args.self.now.ins c.args.place.now)
+    (slot_of c.open.new.self c.args.place.now) c.requires c.open.ensures.opened).1

@@ -13,6 +13,9 @@ returns g c =
     let after : JournalPart = part_of g.K.Sink.told c.write_lines.new.self in
     let mid : List Content = c.item_of.new.unrouted_items.items in
     let count : c.in_ok-self.field-0 ≡ after.entries + 1 = search rules in
-    spells_one c.args.entry.now item mid c.keep_named.new.unrouted_items.items old after c.in_ok-self.field-0 c.args.text.now.items c.write_lines.new.text.items c.in_ok-item.ensures.one c.in_ok-item.ensures.rest
-    (subst (λ (i : List Content). GoesOut (record old { kept = mid }) after c.args.text.now.items (entry_text i c.args.entry.now) c.write_lines.new.text.items) (slice_is c.in_ok-item.item c.as_slice.result.now c.as_slice.ensures) c.in_ok-write_lines.ensures)
+    spells_one c.args.entry.now item mid c.keep_named.new.unrouted_items.items old after c.in_ok-self.field-0
+    c.args.text.now.items c.write_lines.new.text.items c.in_ok-item.ensures.one c.in_ok-item.ensures.rest
+    (subst (λ (i : List Content). GoesOut (record old { kept = mid }) after c.args.text.now.items
+    (entry_text i c.args.entry.now) c.write_lines.new.text.items)
+    (slice_is c.in_ok-item.item c.as_slice.result.now c.as_slice.ensures) c.in_ok-write_lines.ensures)
     c.in_ok-keep_named.ensures count

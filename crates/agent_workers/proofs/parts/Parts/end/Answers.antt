@@ -31,7 +31,9 @@ state g = state_of g.S.Source.told g.K.Sink.told g.C.Clock.told
 
 pub returns-clause-same : goal.returns-clause-same
 returns-clause-same g c =
-    same_inputs (ins_of g.S.Source.told g.C.Clock.told c.args.self.now.inputs.items) (ins_of g.S.Source.told g.C.Clock.told c.rounds.new.self.inputs.items) (ins_of g.S.Source.told g.C.Clock.told c.stop.new.self.inputs.items)
+    same_inputs (ins_of g.S.Source.told g.C.Clock.told c.args.self.now.inputs.items)
+    (ins_of g.S.Source.told g.C.Clock.told c.rounds.new.self.inputs.items)
+    (ins_of g.S.Source.told g.C.Clock.told c.stop.new.self.inputs.items)
     c.in_ok-rounds.ensures.about.inputs c.in_ok-stop.ensures.about.inputs
 
 pub returns-clause-finished : goal.returns-clause-finished
@@ -40,27 +42,43 @@ returns-clause-finished g c = λ job tries start counted is starts_count outs_co
     let same_moment : moment ≡ c.now-moment.result = to_z-of_z w64 c.now-moment.result (search rules) in
     let first : RunState = record (state g c.args.core.now c.args.self.now) { counted_at = counted } in
     let rounded : RunState = record (state g c.rounds.new.core c.rounds.new.self) { counted_at = counted } in
-    let went = went_timed start rounded (g.C.Clock.told c.now-moment.new.self) (c.in_ok-rounds.ensures.runs start counted settled w) in
+    let went = went_timed start rounded (g.C.Clock.told c.now-moment.new.self)
+    (c.in_ok-rounds.ensures.runs start counted settled w) in
     let counts : List ℤ = counted ++ int_max moment (last_of start.start counted) ∷ [] in
     let last : RunState = record (state g c.stop.new.core c.stop.new.self) { counted_at = counts } in
     let stopped : Progress start last = c.in_ok-stop.ensures.stops start counted went in
-    let put_so = c.in_ok-account.ensures.ends (journal_setup_of (setup_at start)) start.noted start.note_faults stopped.text.written stopped.text.notes (stored_in_order start c.stop.new.core last.journal stopped.journal stopped.text) in
-    let in_count : length c.stop.new.core.setup.inputs ≡ length start.job.inputs = ap (λ (s : Setup). length s.inputs) stopped.text.setup_is ∙ length-map start.job.inputs limit_of in
-    let out_count : length c.stop.new.core.setup.outputs ≡ length start.job.outputs = ap (λ (s : Setup). length s.outputs) stopped.text.setup_is ∙ length-map start.job.outputs sizes_of in
-    let tried : c.rounds.new.self.final_tries ≡ start.job.tries = c.rounds.ensures.parts.tries ∙ sym tries ∙ sym (ap (λ (j : Job). j.tries) is) in
+    let put_so = c.in_ok-account.ensures.ends (journal_setup_of (setup_at start)) start.noted start.note_faults
+    stopped.text.written stopped.text.notes (stored_in_order start c.stop.new.core last.journal stopped.journal
+    stopped.text) in
+    let in_count : length c.stop.new.core.setup.inputs ≡ length start.job.inputs =
+    ap (λ (s : Setup). length s.inputs) stopped.text.setup_is ∙ length-map start.job.inputs limit_of in
+    let out_count : length c.stop.new.core.setup.outputs ≡ length start.job.outputs =
+    ap (λ (s : Setup). length s.outputs) stopped.text.setup_is ∙ length-map start.job.outputs sizes_of in
+    let tried : c.rounds.new.self.final_tries ≡ start.job.tries =
+    c.rounds.ensures.parts.tries ∙ sym tries ∙ sym (ap (λ (j : Job). j.tries) is) in
     let over : OneIsFull c.stop.new.core.gathered last.ins ⊎ AreOut last.ins = elim c.in_ok-rounds.ensures.over [
-      | inl full ↦ inl (subst (λ (k : ℕ). OneIsFull k last.ins) (sym c.in_ok-stop.ensures.stopped.gathered) (subst (OneIsFull c.rounds.new.core.gathered) (sym c.in_ok-stop.ensures.stopped.ins) full))
+      | inl full ↦ inl (subst (λ (k : ℕ). OneIsFull k last.ins) (sym c.in_ok-stop.ensures.stopped.gathered)
+          (subst (OneIsFull c.rounds.new.core.gathered) (sym c.in_ok-stop.ensures.stopped.ins) full))
       | inr out ↦ inr (subst AreOut (sym c.in_ok-stop.ensures.stopped.ins) out)
     ] in
-    let gives : Gives first.timer.moments first.timer.place (g.C.Clock.told c.stop.new.self.timer).place moment =
-    subst (λ (t : Timed). Gives t.moments t.place (g.C.Clock.told c.stop.new.self.timer).place moment) c.in_ok-rounds.ensures.about.timer
-    (subst (λ (t : Timed). Gives (g.C.Clock.told c.rounds.new.self.timer).moments (g.C.Clock.told c.rounds.new.self.timer).place t.place moment) (sym c.in_ok-stop.ensures.about.timer) (rw same_moment c.now-moment.ensures.gives)) in
+    let gives : Gives first.timer.moments first.timer.next (g.C.Clock.told c.stop.new.self.timer).next moment =
+    subst (λ (t : Timed). Gives t.moments t.next (g.C.Clock.told c.stop.new.self.timer).next moment)
+    c.in_ok-rounds.ensures.about.timer
+    (subst (λ (t : Timed). Gives (g.C.Clock.told c.rounds.new.self.timer).moments
+    (g.C.Clock.told c.rounds.new.self.timer).next t.next moment) (sym c.in_ok-stop.ensures.about.timer)
+    (rw same_moment c.now-moment.ensures.gives)) in
     finished start last stopped
-    c.in_ok-stop.ensures.stopped.stopped c.in_ok-stop.ensures.stopped.none_raw c.in_ok-stop.ensures.rests.ready.empty_handed
-    (starts_count ∙ w.in_count) (outs_count ∙ w.out_count) (subst (λ (n : ℕ). AreLeft n c.stop.new.core last.outs) tried c.in_ok-stop.ensures.stopped.rest)
-    c.stop.new.core.ended (subst (λ (k : ℕ). AreInputs k c.stop.new.core.ended last.ins) in_count c.in_ok-stop.ensures.fit.inputs)
+    c.in_ok-stop.ensures.stopped.stopped c.in_ok-stop.ensures.stopped.none_raw
+    c.in_ok-stop.ensures.rests.ready.empty_handed
+    (starts_count ∙ w.in_count) (outs_count ∙ w.out_count) (subst (λ (n : ℕ). AreLeft n c.stop.new.core last.outs) tried
+    c.in_ok-stop.ensures.stopped.rest)
+    c.stop.new.core.ended (subst (λ (k : ℕ). AreInputs k c.stop.new.core.ended last.ins) in_count
+    c.in_ok-stop.ensures.fit.inputs)
     (subst (λ (k : ℕ). AreOutputs k last.outs) out_count c.in_ok-stop.ensures.fit.outputs) over
-    _ first c.end_journal.new.core (part_of g.K.Sink.told c.end_journal.new.journal) (g.C.Clock.told c.stop.new.self.timer) moment c.in_ok-account.ensures.cut gives refl
-    (subst (λ (jobs : List (InJob g.row.S.Denot g.row.C.Denot)). IsOneIn states.LimitReached (ins_of g.S.Source.told g.C.Clock.told jobs) c.is_one_in.result) c.deref.ensures.value c.is_one_in.ensures)
-    (subst (λ (jobs : List (InJob g.row.S.Denot g.row.C.Denot)). IsOneIn states.Faulted (ins_of g.S.Source.told g.C.Clock.told jobs) c.is_one_in-2.result) c.deref-2.ensures.value c.is_one_in-2.ensures)
+    _ first c.end_journal.new.core (part_of g.K.Sink.told c.end_journal.new.journal)
+    (g.C.Clock.told c.stop.new.self.timer) moment c.in_ok-account.ensures.cut gives refl
+    (subst (λ (jobs : List (InJob g.row.S.Denot g.row.C.Denot)). IsOneIn states.LimitReached
+    (ins_of g.S.Source.told g.C.Clock.told jobs) c.is_one_in.result) c.deref.ensures.value c.is_one_in.ensures)
+    (subst (λ (jobs : List (InJob g.row.S.Denot g.row.C.Denot)). IsOneIn states.Faulted
+    (ins_of g.S.Source.told g.C.Clock.told jobs) c.is_one_in-2.result) c.deref-2.ensures.value c.is_one_in-2.ensures)
     c.in_ok-account.ensures.left c.in_ok-account.ensures.account put_so

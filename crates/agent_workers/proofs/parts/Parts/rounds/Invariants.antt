@@ -10,7 +10,10 @@ invariant-loop-round g l = record {
   running : IsRunning l.core;
   parts : AreSameParts l.fn.self l.self;
   fit : AreFit (state_of g.S.Source.told g.K.Sink.told g.C.Clock.told l.core l.self);
-  about : IsAboutSame (state_of g.S.Source.told g.K.Sink.told g.C.Clock.told l.fn.core l.fn.self) (state_of g.S.Source.told g.K.Sink.told g.C.Clock.told l.core l.self);
-  settled : AreSettled l.fn.core (outs_of g.K.Sink.told l.fn.self.outputs.items) → AreSettled l.core (outs_of g.K.Sink.told l.self.outputs.items);
-  runs : RunsOn (state_of g.S.Source.told g.K.Sink.told g.C.Clock.told l.fn.core l.fn.self) (state_of g.S.Source.told g.K.Sink.told g.C.Clock.told l.core l.self);
+  about : IsAboutSame (state_of g.S.Source.told g.K.Sink.told g.C.Clock.told l.fn.core l.fn.self)
+      (state_of g.S.Source.told g.K.Sink.told g.C.Clock.told l.core l.self);
+  settled : AreSettled l.fn.core (outs_of g.K.Sink.told l.fn.self.outputs.items)
+      → AreSettled l.core (outs_of g.K.Sink.told l.self.outputs.items);
+  runs : RunsOn (state_of g.S.Source.told g.K.Sink.told g.C.Clock.told l.fn.core l.fn.self)
+      (state_of g.S.Source.told g.K.Sink.told g.C.Clock.told l.core l.self);
 }

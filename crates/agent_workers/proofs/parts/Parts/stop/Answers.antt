@@ -24,7 +24,7 @@ use Rattle.agent_workers.specs.declared.parts.Parts.{Parts}
 use Rattle.agent_workers.proofs.InLemmas.{inputs_still, inputs_themselves}
 use Rattle.agent_workers.proofs.OutLemmas.{are_anew, outputs_still, ready_same}
 use Rattle.agent_workers.proofs.PartsLemmas.{state_by}
-use Rattle.agent_workers.proofs.ProgressLemmas.{went_anew, went_stop}
+use Rattle.agent_workers.proofs.ProgressLemmas.{went_stop}
 use Rattle.agent_workers.proofs.StandingLemmas.{continues}
 use Rattle.agent_workers.proofs.parts.Parts.stop.Given.{Over}
 use Rattle.agent_workers.proofs.parts.Parts.stop.Goals.{In_ok-send_rest}
@@ -41,14 +41,19 @@ abbrev state : (g : Over) → CoreState → Parts g.row.S.Denot g.row.K.Denot g.
 state g = state_of g.S.Source.told g.K.Sink.told g.C.Clock.told
 
 -- the jobs that were lent as slices
-fresh : (g : Over) (c : In_ok-send_rest g) → outs g c.begin_anew.new.outputs ≡ map anew (outs g c.args.self.now.outputs.items)
-fresh g c = c.begin_anew.ensures.fresh ∙ ap (λ (jobs : List (OutJob g.row.K.Denot g.row.C.Denot)). map anew (outs g jobs)) c.deref_mut.ensures.value
+fresh : (g : Over) (c : In_ok-send_rest g) → outs g c.begin_anew.new.outputs ≡ map anew
+    (outs g c.args.self.now.outputs.items)
+fresh g c = c.begin_anew.ensures.fresh ∙ ap (λ (jobs : List (OutJob g.row.K.Denot g.row.C.Denot)). map anew
+    (outs g jobs)) c.deref_mut.ensures.value
 
 mids : (g : Over) (c : In_ok-send_rest g) → c.deref_mut-2.result.now ≡ c.begin_anew.new.outputs
-mids g c = c.deref_mut-2.ensures.value ∙ with_items_is c.args.self.now.outputs c.begin_anew.new.outputs (omega (arith, c.deref_mut.ensures.len, c.begin_anew.ensures.count))
+mids g c = c.deref_mut-2.ensures.value ∙ with_items_is c.args.self.now.outputs c.begin_anew.new.outputs
+    (omega (arith, c.deref_mut.ensures.len, c.begin_anew.ensures.count))
 
-out_jobs : (g : Over) (c : In_ok-send_rest g) → (with_items (with_items c.args.self.now.outputs c.begin_anew.new.outputs) c.send_rest.new.outputs).items ≡ c.send_rest.new.outputs
-out_jobs g c = with_items_is (with_items c.args.self.now.outputs c.begin_anew.new.outputs) c.send_rest.new.outputs (omega (arith, c.deref_mut-2.ensures.len, c.send_rest.ensures.count))
+out_jobs : (g : Over) (c : In_ok-send_rest g) → (with_items (with_items c.args.self.now.outputs
+    c.begin_anew.new.outputs) c.send_rest.new.outputs).items ≡ c.send_rest.new.outputs
+out_jobs g c = with_items_is (with_items c.args.self.now.outputs c.begin_anew.new.outputs) c.send_rest.new.outputs
+    (omega (arith, c.deref_mut-2.ensures.len, c.send_rest.ensures.count))
 
 -- the parts, and what the run consists of, behind the stop
 abbrev parts : (g : Over) → In_ok-send_rest g → Parts g.row.S.Denot g.row.K.Denot g.row.C.Denot
@@ -61,7 +66,8 @@ abbrev last : (g : Over) → In_ok-send_rest g → RunState
 last g c = record (state g c.send_rest.new.core (parts g c)) { outs = outs g c.send_rest.new.outputs }
 
 is_last : (g : Over) (c : In_ok-send_rest g) → state g c.send_rest.new.core (parts g c) ≡ last g c
-is_last g c = state_by g.S.Source.told g.K.Sink.told g.C.Clock.told c.send_rest.new.core (parts g c) c.args.self.now.inputs.items c.send_rest.new.outputs refl (out_jobs g c)
+is_last g c = state_by g.S.Source.told g.K.Sink.told g.C.Clock.told c.send_rest.new.core
+    (parts g c) c.args.self.now.inputs.items c.send_rest.new.outputs refl (out_jobs g c)
 
 -- what the stop leaves
 routed_setup : (g : Over) (c : In_ok-send_rest g) → c.route_all.new.core.setup ≡ c.args.core.now.setup
@@ -71,16 +77,20 @@ setup : (g : Over) (c : In_ok-send_rest g) → c.send_rest.new.core.setup ≡ c.
 setup g c = c.in_ok-send_rest.ensures.kept.setup ∙ routed_setup g c
 
 ended : (g : Over) (c : In_ok-send_rest g) → c.send_rest.new.core.ended ≡ c.args.core.now.ended
-ended g c = c.in_ok-send_rest.ensures.kept.ended ∙ c.in_ok-route_all.ensures.kept.ended ∙ ap (λ (s : CoreState). s.ended) c.in_ok-stop.ensures.ok
+ended g c = c.in_ok-send_rest.ensures.kept.ended ∙ c.in_ok-route_all.ensures.kept.ended
+    ∙ ap (λ (s : CoreState). s.ended) c.in_ok-stop.ensures.ok
 
 fit : (g : Over) (c : In_ok-send_rest g) → AreFit (last g c)
 fit g c =
     let in_count = ap (λ (s : Setup). length s.inputs) (setup g c) in
     let out_count = ap (λ (s : Setup). length s.outputs) (setup g c) in
     record {
-      inputs = subst (λ (n : ℕ). AreInputs n c.send_rest.new.core.ended (ins g c.args.self.now.inputs.items)) (sym in_count)
-          (inputs_still (length c.args.core.now.setup.inputs) c.args.core.now.ended c.send_rest.new.core.ended (ins g c.args.self.now.inputs.items) (ended g c) c.requires.fit.inputs);
-      outputs = subst (λ (n : ℕ). AreOutputs n (outs g c.send_rest.new.outputs)) (ap (λ (s : Setup). length s.outputs) (routed_setup g c) ∙ sym out_count) c.in_ok-send_rest.ensures.outputs;
+      inputs = subst (λ (n : ℕ). AreInputs n c.send_rest.new.core.ended (ins g c.args.self.now.inputs.items))
+          (sym in_count)
+          (inputs_still (length c.args.core.now.setup.inputs) c.args.core.now.ended c.send_rest.new.core.ended
+          (ins g c.args.self.now.inputs.items) (ended g c) c.requires.fit.inputs);
+      outputs = subst (λ (n : ℕ). AreOutputs n (outs g c.send_rest.new.outputs))
+          (ap (λ (s : Setup). length s.outputs) (routed_setup g c) ∙ sym out_count) c.in_ok-send_rest.ensures.outputs;
       filters = ap length c.route_all.ensures.same ∙ c.requires.fit.filters ∙ sym out_count;
     }
 
@@ -92,10 +102,13 @@ about g c = record {
   timer = refl;
 }
 
-stopped : (g : Over) (c : In_ok-send_rest g) → HasStopped c.args.self.now.final_tries (state g c.args.core.now c.args.self.now) (last g c)
+stopped : (g : Over) (c : In_ok-send_rest g) → HasStopped c.args.self.now.final_tries
+    (state g c.args.core.now c.args.self.now) (last g c)
 stopped g c = record {
-  stopped = c.in_ok-send_rest.ensures.kept.stopped ∙ c.in_ok-route_all.ensures.kept.stopped ∙ ap (λ (s : CoreState). s.stopped) c.in_ok-stop.ensures.ok;
-  gathered = c.in_ok-send_rest.ensures.kept.gathered ∙ c.in_ok-route_all.ensures.kept.gathered ∙ ap (λ (s : CoreState). s.gathered) c.in_ok-stop.ensures.ok;
+  stopped = c.in_ok-send_rest.ensures.kept.stopped ∙ c.in_ok-route_all.ensures.kept.stopped
+      ∙ ap (λ (s : CoreState). s.stopped) c.in_ok-stop.ensures.ok;
+  gathered = c.in_ok-send_rest.ensures.kept.gathered ∙ c.in_ok-route_all.ensures.kept.gathered
+      ∙ ap (λ (s : CoreState). s.gathered) c.in_ok-stop.ensures.ok;
   ended = ended g c;
   none_raw = c.in_ok-send_rest.ensures.kept.raw ∙ c.in_ok-route_all.ensures.none;
   ins = refl;
@@ -108,26 +121,40 @@ stops g c = λ start counted w.
     let news : List OutPart = outs g c.begin_anew.new.outputs in
     let zero : AreAnew news = subst AreAnew (sym (fresh g c)) (are_anew olds) in
     let first : RunState = record (state g c.args.core.now c.args.self.now) { counted_at = counted } in
-    let here : RunState = record first { outs = news } in
     let same : to_z w64 (of_z w64 c.args.moment) ≡ c.args.moment = to_z-of_z w64 c.args.moment c.ranges.moment in
     let after = subst (λ (m : ℤ). c.stop.new.self ≡ after_stop c.args.core.now m) same c.in_ok-stop.ensures.ok in
-    let stands = subst (λ (m : ℤ). Continues c.args.core.now c.stop.new.self (stop_entry c.args.core.now m)) same c.in_ok-stop.ensures.stands in
-    let a = went_anew start c.args.core.now first olds news (fresh g c) w in
-    let b = went_stop start c.args.core.now c.stop.new.self here c.args.moment c.requires.running.ready.no_aggs zero after stands a in
-    let sends = subst (λ (jobs : List (OutJob g.row.K.Denot g.row.C.Denot)). SendsOn c.route_all.new.core c.send_rest.new.core (outs g jobs) (outs g c.send_rest.new.outputs)) (mids g c) c.in_ok-send_rest.ensures.sends in
-    let now_stopped : RunState = record here { counted_at = counted ++ int_max c.args.moment (last_of start.start counted) ∷ [] } in
+    let stands = subst (λ (m : ℤ). Continues c.args.core.now c.stop.new.self (stop_entry c.args.core.now m)) same
+    c.in_ok-stop.ensures.stands in
+    let b =
+    went_stop start c.args.core.now c.stop.new.self first olds news c.args.moment c.requires.running.ready.no_aggs
+    c.requires.sent.none_raw c.requires.sent.settled (fresh g c) zero after stands w in
+    let sends = subst (λ (jobs : List (OutJob g.row.K.Denot g.row.C.Denot)). SendsOn c.route_all.new.core
+    c.send_rest.new.core (outs g jobs) (outs g c.send_rest.new.outputs)) (mids g c) c.in_ok-send_rest.ensures.sends in
+    let counts : List ℤ = counted ++ int_max c.args.moment (last_of start.start counted) ∷ [] in
+    let now_stopped : RunState = record first { outs = news; counted_at = counts } in
     let d = c.in_ok-route_all.ensures.goes start now_stopped zero b in
     sends start (record now_stopped { proc = proc_of c.route_all.new.proc }) d
 
 pub route_all-requires-clause-rests : goal.route_all-requires-clause-rests
-route_all-requires-clause-rests g c = record { ready = ready_same c.args.core.now c.stop.new.self (ap (λ (s : CoreState). s.setup) c.in_ok-stop.ensures.ok) (ap (λ (s : CoreState). s.lanes) c.in_ok-stop.ensures.ok) (ap (λ (s : CoreState). s.held) c.in_ok-stop.ensures.ok) c.requires.running.ready; stands = continues c.in_ok-stop.ensures.stands c.requires.running.stands }
+route_all-requires-clause-rests g c = record {
+  ready = ready_same c.args.core.now c.stop.new.self
+      (ap (λ (s : CoreState). s.setup) c.in_ok-stop.ensures.ok)
+      (ap (λ (s : CoreState). s.lanes) c.in_ok-stop.ensures.ok) (ap (λ (s : CoreState). s.held) c.in_ok-stop.ensures.ok)
+      c.requires.running.ready;
+  stands = continues c.in_ok-stop.ensures.stands c.requires.running.stands;
+}
 
 pub send_rest-requires-clause-outputs : goal.send_rest-requires-clause-outputs
 send_rest-requires-clause-outputs g c =
-    let fresh : outs g c.begin_anew.new.outputs ≡ map anew (outs g c.args.self.now.outputs.items) = c.begin_anew.ensures.fresh ∙ ap (λ (jobs : List (OutJob g.row.K.Denot g.row.C.Denot)). map anew (outs g jobs)) c.deref_mut.ensures.value in
-    let mids = c.deref_mut-2.ensures.value ∙ with_items_is c.args.self.now.outputs c.begin_anew.new.outputs (omega (arith, c.deref_mut.ensures.len, c.begin_anew.ensures.count)) in
-    outputs_still (length c.args.core.now.setup.outputs) (length c.route_all.new.core.setup.outputs) (outs g c.args.self.now.outputs.items) (outs g c.deref_mut-2.result.now) (ap (outs g) mids ∙ fresh)
-    (ap (λ (s : Setup). length s.outputs) (c.in_ok-route_all.ensures.kept.setup ∙ ap (λ (s : CoreState). s.setup) c.in_ok-stop.ensures.ok)) c.requires.fit.outputs
+    let fresh : outs g c.begin_anew.new.outputs ≡ map anew (outs g c.args.self.now.outputs.items) =
+    c.begin_anew.ensures.fresh ∙ ap (λ (jobs : List (OutJob g.row.K.Denot g.row.C.Denot)). map anew (outs g jobs))
+    c.deref_mut.ensures.value in
+    let mids = c.deref_mut-2.ensures.value ∙ with_items_is c.args.self.now.outputs c.begin_anew.new.outputs
+    (omega (arith, c.deref_mut.ensures.len, c.begin_anew.ensures.count)) in
+    outputs_still (length c.args.core.now.setup.outputs) (length c.route_all.new.core.setup.outputs)
+    (outs g c.args.self.now.outputs.items) (outs g c.deref_mut-2.result.now) (ap (outs g) mids ∙ fresh)
+    (ap (λ (s : Setup). length s.outputs) (c.in_ok-route_all.ensures.kept.setup
+    ∙ ap (λ (s : CoreState). s.setup) c.in_ok-stop.ensures.ok)) c.requires.fit.outputs
 
 pub returns-clause-fit : goal.returns-clause-fit
 returns-clause-fit g c = subst AreFit (sym (is_last g c)) (fit g c)
@@ -136,7 +163,9 @@ pub returns-clause-about : goal.returns-clause-about
 returns-clause-about g c = subst (IsAboutSame (state g c.args.core.now c.args.self.now)) (sym (is_last g c)) (about g c)
 
 pub returns-clause-stopped : goal.returns-clause-stopped
-returns-clause-stopped g c = subst (HasStopped c.args.self.now.final_tries (state g c.args.core.now c.args.self.now)) (sym (is_last g c)) (stopped g c)
+returns-clause-stopped g c = subst (HasStopped c.args.self.now.final_tries (state g c.args.core.now c.args.self.now))
+    (sym (is_last g c)) (stopped g c)
 
 pub returns-clause-stops : goal.returns-clause-stops
-returns-clause-stops g c = subst (StopsAt c.args.moment (state g c.args.core.now c.args.self.now)) (sym (is_last g c)) (stops g c)
+returns-clause-stops g c = subst (StopsAt c.args.moment (state g c.args.core.now c.args.self.now)) (sym (is_last g c))
+    (stops g c)

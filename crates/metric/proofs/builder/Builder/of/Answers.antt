@@ -5,4 +5,5 @@ use Rattle.metric.proofs.builder.Builder.of.Goals as goal
 
 pub invariant_of-result : goal.invariant_of-result
 invariant_of-result c =
-    rw (c.of.ensures ∙ c.new.ensures.items, c.of-2.ensures ∙ c.new-2.ensures.items) (built_none c.args.name (subst IsUtf8 c.as_str-text.ensures c.as_str-text.utf8))
+    rw (c.of.ensures ∙ c.new.ensures.items, c.of-2.ensures ∙ c.new-2.ensures.items)
+    (built_none c.args.name (subst IsUtf8 c.as_str-text.ensures c.as_str-text.utf8))

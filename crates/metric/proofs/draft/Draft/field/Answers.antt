@@ -6,11 +6,13 @@ use Rattle.metric.proofs.draft.Draft.field.Goals as goal
 
 pub returns-then-self-clause-ok : goal.returns-then-self-clause-ok
 returns-then-self-clause-ok c = λ tags fields s.
-    full_field c.args.self.now tags fields (c.args.key.now, c.args.value) (ap (λ d. d.too_many) (sym c.self.view_is) ∙ c.if-self.true) s
+    full_field c.args.self.now tags fields (c.args.key.now, c.args.value) (ap (λ d. d.too_many) (sym c.self.view_is)
+    ∙ c.if-self.true) s
 
 pub returns-clause-ok : goal.returns-clause-ok
 returns-clause-ok c = λ tags fields s.
     let old : Drafted = record { parts = c.self.inside.builder; too_many = c.self.inside.too_many } in
     let new : Drafted = record { parts = c.field.new.self; too_many = nat_lt 256 c.field_count.result } in
-    one_field old new tags fields (c.args.key.now, c.args.value) c.if-self.false c.requires c.in_ok-field.ensures.ok (ap (nat_lt 256) c.field_count.ensures)
+    one_field old new tags fields (c.args.key.now, c.args.value) c.if-self.false c.requires c.in_ok-field.ensures.ok
+    (ap (nat_lt 256) c.field_count.ensures)
     (subst (λ (d : Drafted). StandsFor d tags fields) (sym c.self.view_is) s)

@@ -4,4 +4,5 @@ use Rattle.metric.proofs.draft.Draft.of.Goals as goal
 
 pub returns-clause-none : goal.returns-clause-none
 returns-clause-none c =
-    none_yet (record { parts = c.of.result; too_many = false }) refl (ap (λ b. b.tags) c.of.ensures) (ap (λ b. b.fields) c.of.ensures)
+    none_yet (record { parts = c.of.result; too_many = false }) refl (ap (λ b. b.tags) c.of.ensures)
+    (ap (λ b. b.fields) c.of.ensures)

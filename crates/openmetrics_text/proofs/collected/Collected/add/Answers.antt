@@ -7,4 +7,5 @@ use Rattle.openmetrics_text.proofs.collected.Collected.add.Goals as goal
 
 pub returns-in-Nothing : goal.returns-in-Nothing
 returns-in-Nothing c = λ lines moment typed h.
-    subst (λ (l : Line). HaveSaid moment typed c.args.self.now (lines ++ line_view l ∷ [])) (sym c.in-Nothing.is) (said_nothing moment typed c.args.self.now lines h)
+    subst (λ (l : Line). HaveSaid moment typed c.args.self.now (lines ++ line_view l ∷ [])) (sym c.in-Nothing.is)
+    (said_nothing moment typed c.args.self.now lines h)

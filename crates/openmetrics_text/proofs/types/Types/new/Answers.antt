@@ -11,5 +11,6 @@ pub returns : goal.returns
 unfolding last_of
 returns c = record {
   kinds = ap (map (λ (kind : Bor (List ℕ)). kind.now)) c.new.ensures.items;
-  last = λ name. ap (λ (entries : List (Bor (List ℕ) × ℕ)). lookup (is_at (λ (key : Bor (List ℕ)). slice_cmp nat_cmp name key.now)) entries) c.new-2.ensures.empty;
+  last = λ name. ap (λ (entries : List (Bor (List ℕ) × ℕ)). lookup
+      (is_at (λ (key : Bor (List ℕ)). slice_cmp nat_cmp name key.now)) entries) c.new-2.ensures.empty;
 }

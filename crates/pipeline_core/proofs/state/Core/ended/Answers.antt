@@ -14,4 +14,5 @@ invariant_of-self-2 c =
 
 pub returns-clause-stands : goal.returns-clause-stands
 returns-clause-stands c =
-    ended_stands c.args.self.now _ c.args.input (search rules) (subst IsCore c.self.view_is c.self.invariant.core) c.requires.reading c.requires.going
+    ended_stands c.args.self.now _ c.args.input (search rules) (subst IsCore c.self.view_is c.self.invariant.core)
+    c.requires.reading c.requires.going

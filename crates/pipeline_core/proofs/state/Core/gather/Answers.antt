@@ -13,11 +13,15 @@ pub invariant_of-self-2 : goal.invariant_of-self-2
 invariant_of-self-2 c =
     record {
       core =
-          kept_gathered (core_state c.self.inside) c.args.g c.append.new.self.items c.gathered.new.self _ _ c.self.invariant.core
+          kept_gathered (core_state c.self.inside) c.args.g c.append.new.self.items c.gathered.new.self _ _
+          c.self.invariant.core
           (omega (arith, ap length c.as_slice-count.ensures))
           (grind (arith, common_steps))
-          (c.in_ok-append.ensures.items ∙ ap (λ (xs : List Content). c.self.inside.raw.items ++ xs) (c.in_ok-copies.ensures ∙ c.as_slice.ensures))
-          (c.gathered.ensures ∙ ap (λ (xs : List Content). with_input c.self.inside.account c.args.g.input (gathered_more (input_numbers c.self.inside.account c.args.g.input) c.args.g.pieces c.args.g.refused c.args.g.passed c.args.g.filtered (length xs))) c.as_slice-count.ensures)
+          (c.in_ok-append.ensures.items ∙ ap (λ (xs : List Content). c.self.inside.raw.items ++ xs)
+          (c.in_ok-copies.ensures ∙ c.as_slice.ensures))
+          (c.gathered.ensures ∙ ap (λ (xs : List Content). with_input c.self.inside.account c.args.g.input
+          (gathered_more (input_numbers c.self.inside.account c.args.g.input) c.args.g.pieces c.args.g.refused
+          c.args.g.passed c.args.g.filtered (length xs))) c.as_slice-count.ensures)
           (ap (λ (xs : List Content). c.self.inside.gathered + length xs) c.as_slice-count.ensures);
       spare = omega (arith, flights-le c.self.inside.outputs.items, c.in_ok-make_room_for.ensures.room);
     }
@@ -25,5 +29,7 @@ invariant_of-self-2 c =
 pub returns-clause-stands : goal.returns-clause-stands
 unfolding gather_entry
 returns-clause-stands c =
-    gather_stands c.args.self.now _ c.args.g (search rules) (subst IsCore c.self.view_is c.self.invariant.core) c.requires.reading c.requires.going
-    (omega (arith, ap (λ (s : CoreState). s.gathered) c.self.view_is, ap length c.as_slice-count.ensures)) (grind (arith, common_steps))
+    gather_stands c.args.self.now _ c.args.g (search rules) (subst IsCore c.self.view_is c.self.invariant.core)
+    c.requires.reading c.requires.going
+    (omega (arith, ap (λ (s : CoreState). s.gathered) c.self.view_is, ap length c.as_slice-count.ensures))
+    (grind (arith, common_steps))

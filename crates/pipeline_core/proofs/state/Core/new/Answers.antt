@@ -10,15 +10,26 @@ use Rattle.pipeline_core.proofs.state.Core.new.Goals as goal
 
 pub invariant_of-result : goal.invariant_of-result
 invariant_of-result c =
-    let lanes : c.in_ok-outputs.outputs.items ≡ map lane_of c.args.setup.outputs = c.in_ok-outputs.ensures ∙ ap (map lane_of) c.as_slice-2.ensures in
-    let flags : c.in_ok-ended.ended.items ≡ replicate (length c.args.setup.inputs) false = c.in_ok-ended.ensures.items_if_clones_equal (λ y h. h) ∙ ap (λ (xs : List InSetup). replicate (length xs) false) c.as_slice-inputs.ensures in
-    let tracked : c.as_slice-3.result.now ≡ map is_tracked c.args.setup.inputs = c.as_slice-3.ensures.value ∙ c.in_ok-tracked.ensures ∙ ap (map is_tracked) c.as_slice.ensures in
-    let count : c.len.result ≡ length c.args.setup.outputs = omega (arith, ap length lanes, length-map c.args.setup.outputs lane_of) in
+    let lanes : c.in_ok-outputs.outputs.items ≡ map lane_of c.args.setup.outputs =
+    c.in_ok-outputs.ensures ∙ ap (map lane_of) c.as_slice-2.ensures in
+    let flags : c.in_ok-ended.ended.items ≡ replicate (length c.args.setup.inputs) false =
+    c.in_ok-ended.ensures.items_if_clones_equal (λ y h. h) ∙ ap (λ (xs : List InSetup). replicate (length xs) false)
+    c.as_slice-inputs.ensures in
+    let tracked : c.as_slice-3.result.now ≡ map is_tracked c.args.setup.inputs =
+    c.as_slice-3.ensures.value ∙ c.in_ok-tracked.ensures ∙ ap (map is_tracked) c.as_slice.ensures in
+    let count : c.len.result ≡ length c.args.setup.outputs =
+    omega (arith, ap length lanes, length-map c.args.setup.outputs lane_of) in
     record {
       core =
-          kept_first c.args.setup c.new-2.result.items c.in_ok-outputs.outputs.items c.in_ok-account.account _ _ c.in_ok-ended.ended.items c.requires.outputs c.requires.untracked c.requires.sizes c.new-2.ensures.items lanes
-          (c.in_ok-account.ensures ∙ ap (λ (xs : List Bool). no_numbers xs c.len.result) tracked ∙ ap (no_numbers (map is_tracked c.args.setup.inputs)) count) flags;
-      spare = omega (arith, spare_at_first c.args.setup.outputs c.in_ok-outputs.outputs.items lanes, c.new-3.ensures.len);
+          kept_first c.args.setup c.new-2.result.items c.in_ok-outputs.outputs.items c.in_ok-account.account _ _
+          c.in_ok-ended.ended.items c.requires.outputs c.requires.untracked c.requires.sizes c.new-2.ensures.items lanes
+          (c.in_ok-account.ensures ∙ ap (λ (xs : List Bool). no_numbers xs c.len.result) tracked
+          ∙ ap (no_numbers (map is_tracked c.args.setup.inputs)) count) flags;
+      spare = omega (
+        arith,
+        spare_at_first c.args.setup.outputs c.in_ok-outputs.outputs.items lanes,
+        c.new-3.ensures.len,
+      );
     }
 
 pub returns-clause-stands : goal.returns-clause-stands

@@ -16,4 +16,5 @@ invariant_of-self-2 c =
 pub returns-clause-stands : goal.returns-clause-stands
 unfolding stop_entry
 returns-clause-stands c =
-    stop_stands c.args.self.now _ c.args.moment (search rules) (subst IsCore c.self.view_is c.self.invariant.core) c.requires
+    stop_stands c.args.self.now _ c.args.moment (search rules) (subst IsCore c.self.view_is c.self.invariant.core)
+    c.requires

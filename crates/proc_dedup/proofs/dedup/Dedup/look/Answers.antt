@@ -13,5 +13,7 @@ returns-clause-repeated c = λ interval list stands is.
     let after = same_held interval list memory c.make_room.new.kept.entries before c.make_room.ensures.same in
     let read = to_z-of_z w64 c.self.inside.interval (search rules) in
     let gone = seen interval list memory c.args.m.now c.in_ok-repeated.repeated before
-    (c.in_ok-repeated.ensures ∙ ap (λ (i : ℤ). repeats i (held memory.kept (series_of c.args.m.now)) c.args.m.now) read) in
-    none_kept interval list _ c.args.m.now after (sym gone ∙ seen_repeated c.in_ok-repeated.repeated c.in_ok-fresh.fresh _ c.sight.ensures is)
+    (c.in_ok-repeated.ensures ∙ ap (λ (i : ℤ). repeats i (held memory.kept (series_of c.args.m.now)) c.args.m.now)
+    read) in
+    none_kept interval list _ c.args.m.now after (sym gone ∙ seen_repeated c.in_ok-repeated.repeated c.in_ok-fresh.fresh
+    _ c.sight.ensures is)

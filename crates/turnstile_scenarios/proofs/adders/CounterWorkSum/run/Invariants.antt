@@ -3,6 +3,6 @@ use Rattle.turnstile_scenarios.proofs.adders.CounterWorkSum.run.Given as goal
 
 abbrev pub invariant-loop : goal.invariant-loop
 invariant-loop g l = record {
-  place : l.pass.table ≡ l.fn.pass.table;
+  same_table : l.pass.table ≡ l.fn.pass.table;
   number : l.pass.view.number ≡ l.fn.pass.view.number;
 }

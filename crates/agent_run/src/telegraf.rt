@@ -1,0 +1,102 @@
+//! Keys that Telegraf has and a configuration here hasn't, with what to do about each. The table in
+//! docs/users/from-telegraf.md has the same words, key by key.
+use agent_config::Class;
+
+/// What to do about a key of the table `agent`.
+fn about_agent(key: &str) -> Option<&'static str> {
+    match key {
+        "logtarget"
+        | "logformat"
+        | "log_with_timezone"
+        | "logfile_rotation_interval"
+        | "logfile_rotation_max_size"
+        | "logfile_rotation_max_archives" => {
+            Some("leave it out: there is no log, and standard error says what matters")
+        }
+        "metric_buffer_strategy" | "buffer_strategy" | "buffer_directory" => {
+            Some("leave it out: metrics wait in memory")
+        }
+        "statefile" => Some("leave it out: nothing is kept from one run to the next"),
+        "skip_processors_after_aggregators" | "snmp_translator" | "collection_offset" => {
+            Some("leave it out: there is nothing that it is about")
+        }
+        "always_include_local_tags" | "always_include_global_tags" => {
+            Some("leave it out: each metric of an input gets the global tags that it lacks")
+        }
+        _ => None,
+    }
+}
+
+/// What to do about a key of an input.
+fn about_input(key: &str) -> Option<&'static str> {
+    match key {
+        "interval" | "collection_jitter" | "collection_offset" => {
+            Some("leave it out: an input is read to its end, without a pause")
+        }
+        "name_override" | "name_prefix" | "name_suffix" => {
+            Some("leave it out: an input renames no metric")
+        }
+        "tags" => Some("write the tags into [global_tags]: an input has none of its own"),
+        "file_tag" => Some("leave it out: write the tag into [global_tags]"),
+        "character_encoding" => Some("leave it out: a text is read as UTF-8"),
+        _ => None,
+    }
+}
+
+/// What to do about a key of an output.
+fn about_output(key: &str) -> Option<&'static str> {
+    match key {
+        "rotation_interval" | "rotation_max_size" | "rotation_max_archives" => {
+            Some("leave it out: a file isn't rotated")
+        }
+        "use_batch_format" => Some("leave it out: a batch is always written at once"),
+        "compression_algorithm" | "compression_level" => {
+            Some("leave it out: nothing is compressed")
+        }
+        "influx_max_line_bytes"
+        | "influx_sort_fields"
+        | "influx_uint_support"
+        | "influx_omit_timestamp" => {
+            Some("leave it out: a line has any length, its fields in their order, and `u` numbers")
+        }
+        "prefix"
+        | "template"
+        | "graphite_tag_support"
+        | "graphite_separator"
+        | "graphite_strict_sanitize_regex" => {
+            Some("leave it out: lines of Graphite are written with tags")
+        }
+        "flush_interval" | "flush_jitter" => { Some("leave it out: each round is sent at once") }
+        "name_override" | "name_prefix" | "name_suffix" => {
+            Some("leave it out: an output renames no metric")
+        }
+        _ => None,
+    }
+}
+
+/// What to do about a key of an input or an output.
+fn about_plugin(key: &str) -> Option<&'static str> {
+    match key {
+        "metricpass" => Some("leave it out: write namepass, namedrop, tagpass or tagdrop"),
+        "precision" => Some("leave it out: times are whole nanoseconds"),
+        "log_level" | "startup_error_behavior" => {
+            Some("leave it out: there is nothing that it is about")
+        }
+        _ => None,
+    }
+}
+
+/// What to do about a key of Telegraf's that a table hasn't; None where Telegraf has none of this name there.
+pub(crate) fn about(class: &Class, key: &str) -> Option<&'static str> {
+    let own = match class {
+        Class::Agent => return about_agent(key),
+        Class::Inputs => about_input(key),
+        Class::Outputs => about_output(key),
+        _ => None,
+    };
+    if own.is_some() {
+        own
+    } else {
+        about_plugin(key)
+    }
+}

@@ -4,7 +4,8 @@ Without a PAGE it takes README.md and docs/users/*.md. A block of a page (lines 
 one) is looked at where a mark stands before it, an HTML comment in a line of its own with nothing but empty lines
 behind it:
 
-  <!-- folder -->            what follows has a new folder; a page begins with one. `hogzent` in it is the program
+  <!-- folder -->            what follows has a new folder; a page begins with one. `hogzent` in it is the program, and
+                             `tools` the folder of that name
   <!-- file: NAME -->        the block is written to the file NAME
   <!-- run -->               the block is run by bash, and must end with the status 0
   <!-- run 5 -->             the same, but with the status 5
@@ -119,7 +120,8 @@ class Page:
 
     def begin_folder(self):
         self.folders.append(tempfile.TemporaryDirectory(prefix="hogzent-documents-"))
-        os.symlink(self.program, os.path.join(self.folders[-1].name, "hogzent"))
+        os.symlink(self.program, self.place("hogzent"))
+        os.symlink(os.path.join(TOP, "tools"), self.place("tools"))
         self.last = None
 
     def place(self, name):

@@ -13,7 +13,9 @@ use crate::parts::{
     LABEL, append_cut, append_key, append_offsets, append_part, append_separated, append_text,
     append_written_label,
 };
-use crate::processors::{append_converted, append_deduplicated, append_renamed};
+use crate::processors::{
+    append_converted, append_deduplicated, append_pattern, append_renamed, append_rewritten,
+};
 use crate::written::{append_batch, append_lines, append_made};
 use fixed_num::{read_int, read_uint};
 use scenario_tables::Row;
@@ -63,6 +65,8 @@ fn answer_text(
         "renamed" => append_renamed(alloc, row, piece, out),
         "converted" => append_converted(alloc, row, piece, out),
         "deduplicated" => append_deduplicated(alloc, row, piece, out),
+        "rewritten" => append_rewritten(alloc, row, piece, out),
+        "patterns" => append_pattern(alloc, piece, out),
         "globs" => append_glob(alloc, piece, out),
         "filtered" => append_filtered(alloc, row, piece, out),
         "left" => append_left(alloc, row, piece, out),

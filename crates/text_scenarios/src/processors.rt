@@ -1,11 +1,15 @@
 //! Processors that edit metrics, or remove them.
+ghost use Rattle.std.specs.Prelude.{◌≡◌, true};
+ghost use Rattle.proc_regex.specs.Rewrite.{has_keys};
+
 use crate::pieces::{cut, put, setting};
 use crate::written::metrics_of;
 use fixed_num::Seq;
 use line_proto::write_line;
-use metric::{Glob, Part, Text};
+use metric::{Glob, Metric, Part, Text};
 use proc_dedup::Dedup;
 use proc_edit::{Convert, ConvertRules, Rename, RenameRule, Target, have_dests};
+use proc_regex::{Rewrite, is_pattern};
 use scenario_tables::Row;
 use std::alloc::Global;
 use std::test::Fail;
@@ -121,4 +125,61 @@ pub fn append_deduplicated(
         }
     }
     Ok(())
+}
+
+/// A metric rewritten.
+fn rewritten(alloc: Global, rewrite: &Rewrite, metric: &Metric) -> Result<Metric, Fail> {
+    let mut matcher = rewrite.matcher(alloc)?;
+    Ok(rewrite.apply(&mut matcher, metric.copy()?)?)
+}
+
+/// Appends the lines of metrics that are rewritten by the row's pattern, replacement and result key, at the tag or the
+/// text field of a key; or why there is no such rewriting.
+fn append_by_pattern(
+    alloc: Global,
+    row: &Row,
+    part: Part,
+    lines: &str,
+    out: &mut Vec<u8>,
+) -> Result<(), Fail>
+    requires { has_keys part ≡ true }
+{
+    let key = row.value("key");
+    if key.is_empty() {
+        return Err(Fail::new("no key"));
+    }
+    let (pattern, replacement) = (row.value("pattern"), row.value("replacement"));
+    let result_key = row.value("result_key");
+    match Rewrite::new(alloc, part, key, pattern, replacement, result_key) {
+        Ok(rewrite) => {
+            for metric in &metrics_of(alloc, lines)? {
+                write_line(alloc, &rewritten(alloc, &rewrite, metric)?, out)?;
+            }
+            Ok(())
+        }
+        Err(fault) => put(out, format_args!("{fault:?}: {fault}\n")),
+    }
+}
+
+/// Appends the lines of metrics whose tag or text field is rewritten, as the row says.
+pub fn append_rewritten(
+    alloc: Global,
+    row: &Row,
+    lines: &str,
+    out: &mut Vec<u8>,
+) -> Result<(), Fail> {
+    match row.value("part") {
+        "tag" => append_by_pattern(alloc, row, Part::Tag, lines, out),
+        "field" => append_by_pattern(alloc, row, Part::Field, lines, out),
+        word => Err(Fail::new(format_args!("no part with keys: {word}"))),
+    }
+}
+
+/// Appends whether a text is a pattern.
+pub fn append_pattern(alloc: Global, text: &str, out: &mut Vec<u8>) -> Result<(), Fail> {
+    if is_pattern(alloc, text)? {
+        put(out, "a pattern\n")
+    } else {
+        put(out, "no pattern\n")
+    }
 }

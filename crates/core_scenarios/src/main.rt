@@ -1,12 +1,14 @@
 //! Calls of the outside and of the core, one after another, as the tables in `data/` show them.
 #![tactic(auto)]
 
+mod aggregators;
 mod cores;
 mod journals;
 mod lanes;
 mod pieces;
 mod singles;
 
+use aggregators::StatsCalls;
 use cores::CoreCalls;
 use journals::JournalCalls;
 use lanes::LaneCalls;
@@ -76,6 +78,7 @@ fn main(rt: HostRuntime) -> Result<(), Fail> {
     all &= table::<LaneCalls>(&rt, "lanes")?;
     all &= table::<JournalCalls>(&rt, "journals")?;
     all &= table::<CoreCalls>(&rt, "cores")?;
+    all &= table::<StatsCalls>(&rt, "statistics")?;
     if all {
         Ok(())
     } else {

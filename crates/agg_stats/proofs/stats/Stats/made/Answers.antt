@@ -1,0 +1,25 @@
+use Rattle.std.proofs.Common.{◌∙◌, ℤ, ap, subst, sym}
+use Rattle.std.specs.Int.{w64}
+use Rattle.std.specs.List.{flat_map}
+use Rattle.std.specs.Prelude.{vec_capacity}
+use Rattle.std.proofs.lemmas.Int.{to_z-of_z}
+use Rattle.agg_stats.specs.Kept.{made_at, Memory, StandsFor}
+use Rattle.agg_stats.proofs.MemberLemmas.{made_is}
+use Rattle.agg_stats.proofs.stats.Stats.made.Goals as goal
+
+pub returns : goal.returns
+returns c = λ kind members stands.
+    let i = c.self.inside in
+    let time = c.args.time in
+    let memory : Memory = record {
+      asked = i.asked;
+      kept = i.kept.entries;
+      order = i.order.items;
+      room = vec_capacity i.order;
+      ready = i.ready;
+    } in
+    c.in_ok-made.ensures
+    ∙ ap (λ (t : ℤ). flat_map (made_at i.asked t i.kept.entries) c.as_slice-order.result.now)
+    (to_z-of_z w64 time c.ranges.time)
+    ∙ ap (flat_map (made_at i.asked time i.kept.entries)) c.as_slice-order.ensures.value
+    ∙ made_is kind time members memory (subst (StandsFor kind members) (sym c.self.view_is) stands)

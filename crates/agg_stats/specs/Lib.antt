@@ -1,0 +1,5 @@
+pub mod Asked
+pub mod Folds
+pub mod Kept
+pub mod Laws
+pub mod Summary

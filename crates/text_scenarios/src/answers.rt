@@ -1,4 +1,5 @@
 //! Which call a piece is put to.
+use crate::chains::append_chained;
 use crate::changes::{append_changed, append_series};
 use crate::configurations::{append_configuration, append_interval};
 use crate::formats::{
@@ -67,6 +68,7 @@ fn answer_text(
         "deduplicated" => append_deduplicated(alloc, row, piece, out),
         "rewritten" => append_rewritten(alloc, row, piece, out),
         "patterns" => append_pattern(alloc, piece, out),
+        "chained" => append_chained(alloc, row, piece, out),
         "globs" => append_glob(alloc, piece, out),
         "filtered" => append_filtered(alloc, row, piece, out),
         "left" => append_left(alloc, row, piece, out),

@@ -5,6 +5,7 @@
 #![tactic(auto)]
 
 mod answers;
+mod chains;
 mod changes;
 mod configurations;
 mod formats;

@@ -43,6 +43,15 @@ fn rules_of(alloc: Global, lines: &str) -> Result<Vec<RenameRule>, Fail> {
     Ok(rules)
 }
 
+/// The renaming by the rules of lines.
+pub fn rename_of(alloc: Global, lines: &str) -> Result<Rename, Fail> {
+    let rules = rules_of(alloc, lines)?;
+    if !have_dests(rules.as_slice()) {
+        return Err(Fail::new("a rule without a new name"));
+    }
+    Ok(Rename::new(alloc, rules))
+}
+
 /// Appends the lines of metrics whose parts are renamed by the row's rules.
 pub fn append_renamed(
     alloc: Global,
@@ -50,11 +59,7 @@ pub fn append_renamed(
     lines: &str,
     out: &mut Vec<u8>,
 ) -> Result<(), Fail> {
-    let rules = rules_of(alloc, setting(alloc, row, "rules")?.as_str())?;
-    if !have_dests(rules.as_slice()) {
-        return Err(Fail::new("a rule without a new name"));
-    }
-    let rename = Rename::new(alloc, rules);
+    let rename = rename_of(alloc, setting(alloc, row, "rules")?.as_str())?;
     for metric in &metrics_of(alloc, lines)? {
         write_line(alloc, &rename.apply(metric.copy()?)?, out)?;
     }
@@ -74,18 +79,24 @@ fn target_of(word: &str) -> Result<Target, Fail> {
     }
 }
 
-/// The target and the glob of a line `TARGET GLOB`.
-fn target_rule(alloc: Global, line: &str) -> Result<(Target, Glob), Fail> {
-    let (word, glob) = cut(line, " ")?;
-    let target = target_of(word)?;
+/// The glob that a text spells.
+pub fn glob_of(alloc: Global, glob: &str) -> Result<Glob, Fail> {
     match Glob::read(alloc, glob) {
-        Ok(glob) => Ok((target, glob)),
+        Ok(glob) => Ok(glob),
         Err(fault) => Err(Fail::new(format_args!("{fault:?}: {glob}"))),
     }
 }
 
+/// The target and the glob of a line `TARGET GLOB`.
+fn target_rule(alloc: Global, line: &str) -> Result<(Target, Glob), Fail> {
+    let (word, glob) = cut(line, " ")?;
+    let target = target_of(word)?;
+    let glob = glob_of(alloc, glob)?;
+    Ok((target, glob))
+}
+
 /// The targets and globs of lines.
-fn targets_of(alloc: Global, lines: &str) -> Result<Seq<(Target, Glob)>, Fail> {
+pub fn targets_of(alloc: Global, lines: &str) -> Result<Seq<(Target, Glob)>, Fail> {
     let mut targets = Vec::new(alloc);
     for line in lines.lines() {
         targets.push(target_rule(alloc, line)?)?;

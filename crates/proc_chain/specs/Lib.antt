@@ -1,0 +1,4 @@
+pub mod Chain
+pub mod Seen
+pub mod Stage
+pub mod Steps

@@ -1,5 +1,6 @@
-//! Calls of the aggregators that fold numbers.
-use crate::{Calls, metric};
+//! Calls of aggregators.
+use crate::{Calls, metric, next};
+use agg_keep::{Final, Merge};
 use agg_stats::{Stats, StatsKind};
 use line_proto::write_line;
 use metric::Metric;
@@ -7,12 +8,115 @@ use scenario_tables::Row;
 use std::alloc::Global;
 use std::test::Fail;
 
-/// An aggregator, and whether its calls are made in two steps each.
-#[derive(Drop)]
-pub struct StatsCalls {
-    stats: Stats,
-    is_in_steps: bool,
+/// An aggregator.
+trait Aggregates {
+    /// Adds a metric, in two steps where that is asked for.
+    fn add(&mut self, in_steps: bool, m: &Metric) -> Result<(), Fail>;
+
+    /// What it gives at what words say, in two steps where that is asked for.
+    fn emit(&mut self, in_steps: bool, words: &str) -> Result<Vec<Metric>, Fail>;
 }
+
+/// The lines of metrics, with none behind the last.
+fn lines_of(alloc: Global, metrics: &[Metric]) -> Result<String, Fail> {
+    let mut lines = Vec::new(alloc);
+    for metric in metrics {
+        write_line(alloc, metric, &mut lines)?;
+    }
+    let _ = lines.pop();
+    Ok(String::from_utf8(lines)?)
+}
+
+/// Adds the metrics of lines in order, and says what a line `emit` with its words gives.
+fn answered<A: Aggregates>(
+    alloc: Global,
+    aggregator: &mut A,
+    in_steps: bool,
+    call: &str,
+) -> Result<String, Fail> {
+    let mut given = String::new(alloc);
+    for line in call.lines() {
+        if let Some(words) = line.strip_prefix("emit") {
+            given = lines_of(alloc, aggregator.emit(in_steps, words)?.as_slice())?;
+        } else if let Some(metric) = metric(alloc, line)? {
+            aggregator.add(in_steps, &metric)?;
+        } else {
+            return Err(Fail::new(format_args!("no metric: {line}")));
+        }
+    }
+    Ok(given)
+}
+
+impl Aggregates for Stats {
+    fn add(&mut self, in_steps: bool, m: &Metric) -> Result<(), Fail> {
+        if in_steps {
+            self.prepare(m)?;
+            self.add_prepared();
+        } else {
+            Stats::add(self, m)?;
+        }
+        Ok(())
+    }
+
+    fn emit(&mut self, in_steps: bool, words: &str) -> Result<Vec<Metric>, Fail> {
+        let time = next(&mut words.split_whitespace());
+        if !in_steps {
+            return Ok(Stats::emit(self, time)?);
+        }
+        let metrics = self.made(time)?;
+        self.forget();
+        Ok(metrics)
+    }
+}
+
+impl Aggregates for Merge {
+    fn add(&mut self, in_steps: bool, m: &Metric) -> Result<(), Fail> {
+        if in_steps {
+            self.prepare(m)?;
+            self.add_prepared();
+        } else {
+            Merge::add(self, m)?;
+        }
+        Ok(())
+    }
+
+    fn emit(&mut self, in_steps: bool, _words: &str) -> Result<Vec<Metric>, Fail> {
+        if !in_steps {
+            return Ok(Merge::emit(self)?);
+        }
+        let metrics = self.made()?;
+        self.forget();
+        Ok(metrics)
+    }
+}
+
+impl Aggregates for Final {
+    fn add(&mut self, in_steps: bool, m: &Metric) -> Result<(), Fail> {
+        if in_steps {
+            self.prepare(m)?;
+            self.add_prepared();
+        } else {
+            Final::add(self, m)?;
+        }
+        Ok(())
+    }
+
+    fn emit(&mut self, in_steps: bool, words: &str) -> Result<Vec<Metric>, Fail> {
+        let mut words = words.split_whitespace();
+        let moment = next(&mut words);
+        let all = words.next() == Some("all");
+        if !in_steps {
+            return Ok(Final::emit(self, moment, all)?);
+        }
+        let metrics = self.made(moment, all)?;
+        self.forget(moment, all);
+        Ok(metrics)
+    }
+}
+
+/// The statistics of metrics, and whether calls are made in two steps each.
+#[derive(Drop)]
+pub struct StatsCalls(Stats, bool);
 
 /// What the words of a row ask for: `minmax`, or those of basicstats.
 fn kind_of(words: &str) -> StatsKind {
@@ -27,61 +131,42 @@ fn kind_of(words: &str) -> StatsKind {
     }
 }
 
-/// The lines of metrics, with none behind the last.
-fn lines_of(alloc: Global, metrics: &[Metric]) -> Result<String, Fail> {
-    let mut lines = Vec::new(alloc);
-    for metric in metrics {
-        write_line(alloc, metric, &mut lines)?;
-    }
-    let _ = lines.pop();
-    Ok(String::from_utf8(lines)?)
-}
-
-impl StatsCalls {
-    /// Adds the metric of a line.
-    fn add(&mut self, alloc: Global, line: &str) -> Result<(), Fail> {
-        let Some(metric) = metric(alloc, line)? else {
-            return Err(Fail::new(format_args!("no metric: {line}")));
-        };
-        if self.is_in_steps {
-            self.stats.prepare(&metric)?;
-            self.stats.add_prepared();
-        } else {
-            self.stats.add(&metric)?;
-        }
-        Ok(())
-    }
-
-    /// The lines of what is given at a time.
-    fn emit(&mut self, alloc: Global, time: &str) -> Result<String, Fail> {
-        let time = time.parse()?;
-        let metrics = if self.is_in_steps {
-            let metrics = self.stats.made(time)?;
-            self.stats.forget();
-            metrics
-        } else {
-            self.stats.emit(time)?
-        };
-        lines_of(alloc, metrics.as_slice())
-    }
-}
-
 impl Calls for StatsCalls {
     fn begin(alloc: Global, row: &Row<'_>, word: &str) -> Result<StatsCalls, Fail> {
-        Ok(StatsCalls {
-            stats: Stats::new(alloc, kind_of(row.value("kind"))),
-            is_in_steps: word == "steps",
-        })
+        let stats = Stats::new(alloc, kind_of(row.value("kind")));
+        Ok(StatsCalls(stats, word == "steps"))
     }
 
     fn make(&mut self, alloc: Global, call: &str) -> Result<String, Fail> {
-        let mut given = String::new(alloc);
-        for line in call.lines() {
-            match line.strip_prefix("emit ") {
-                Some(time) => given = self.emit(alloc, time)?,
-                None => self.add(alloc, line)?,
-            }
-        }
-        Ok(given)
+        answered(alloc, &mut self.0, self.1, call)
+    }
+}
+
+/// Metrics that are merged, and whether calls are made in two steps each.
+#[derive(Drop)]
+pub struct MergeCalls(Merge, bool);
+
+impl Calls for MergeCalls {
+    fn begin(alloc: Global, _row: &Row<'_>, word: &str) -> Result<MergeCalls, Fail> {
+        Ok(MergeCalls(Merge::new(alloc), word == "steps"))
+    }
+
+    fn make(&mut self, alloc: Global, call: &str) -> Result<String, Fail> {
+        answered(alloc, &mut self.0, self.1, call)
+    }
+}
+
+/// The last metrics of series, and whether calls are made in two steps each.
+#[derive(Drop)]
+pub struct FinalCalls(Final, bool);
+
+impl Calls for FinalCalls {
+    fn begin(alloc: Global, row: &Row<'_>, word: &str) -> Result<FinalCalls, Fail> {
+        let timeout = next(&mut row.value("timeout").split_whitespace());
+        Ok(FinalCalls(Final::new(alloc, timeout), word == "steps"))
+    }
+
+    fn make(&mut self, alloc: Global, call: &str) -> Result<String, Fail> {
+        answered(alloc, &mut self.0, self.1, call)
     }
 }

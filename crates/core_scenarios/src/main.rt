@@ -8,7 +8,7 @@ mod lanes;
 mod pieces;
 mod singles;
 
-use aggregators::StatsCalls;
+use aggregators::{FinalCalls, MergeCalls, StatsCalls};
 use cores::CoreCalls;
 use journals::JournalCalls;
 use lanes::LaneCalls;
@@ -79,6 +79,8 @@ fn main(rt: HostRuntime) -> Result<(), Fail> {
     all &= table::<JournalCalls>(&rt, "journals")?;
     all &= table::<CoreCalls>(&rt, "cores")?;
     all &= table::<StatsCalls>(&rt, "statistics")?;
+    all &= table::<MergeCalls>(&rt, "merges")?;
+    all &= table::<FinalCalls>(&rt, "finals")?;
     if all {
         Ok(())
     } else {

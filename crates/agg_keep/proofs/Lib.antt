@@ -1,0 +1,7 @@
+pub mod DueLemmas
+pub mod FinalLawLemmas
+pub mod FinalLemmas
+pub mod KeyLemmas
+pub mod MergeLawLemmas
+pub mod MergeLemmas
+pub mod SpotLemmas

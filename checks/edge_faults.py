@@ -43,9 +43,10 @@ FRAGMENTS = [
     said("inputs.http_listener_v2", BOTH + '[[inputs.http_listener_v2]]\n  service_address = ":8080"\n  paths = ["/telegraf"]\n'
          '  data_format = "influx"\n', "UnknownKind inputs 1", f"[[inputs.http_listener_v2]]: {NO_INPUT}"),
     said("processors.rename", BOTH + '[[processors.rename]]\n  [[processors.rename.replace]]\n    measurement = "network_interface"\n'
-         '    dest = "throughput"\n', "UnknownKind processors 0", "[[processors.rename]]: there are no processors"),
+         '    dest = "throughput"\n', "ok"),
     said("processors.starlark", BOTH + "[[processors.starlark]]\n  source = '''\ndef apply(metric):\n\treturn metric\n'''\n",
-         "UnknownKind processors 0", "[[processors.starlark]]: there are no processors"),
+         "UnknownKind processors 0", "[[processors.starlark]]: there are no such processors; there are `converter`, `dedup`, "
+         "`regex` and `rename`"),
     said("aggregators.basicstats", BOTH + '[[aggregators.basicstats]]\n  period = "30s"\n  drop_original = false\n',
          "UnknownKind aggregators 0", "[[aggregators.basicstats]]: there are no aggregators"),
     said("outputs.influxdb_v2", BOTH + '[[outputs.influxdb_v2]]\n  urls = ["http://127.0.0.1:8086"]\n  token = ""\n'
@@ -152,6 +153,7 @@ def listed_case(table, key, words):
     texts = {
         "agent": ("[agent]\n" + line + BOTH, "agent", "[agent]"),
         "inputs": (INPUT + line + OUTPUT, "inputs", "[[inputs.file]]"),
+        "processors": (BOTH + "[[processors.regex]]\n" + line, "processors", "[[processors.regex]]"),
         "outputs": (BOTH + line, "outputs", "[[outputs.file]]"),
     }
     text, name, shown = texts[table]

@@ -80,6 +80,49 @@ def plugin(chance, word):
     return [head] + ["%s = %s" % it for it in keys.items()]
 
 
+def table(chance, keys):
+    """An inline table of some of the keys, each with a value of a list."""
+    picked = chance.sample(sorted(keys), chance.randrange(len(keys) + 1)) if chance.random() < 0.3 else sorted(keys)
+    return "{" + ", ".join("%s = %s" % (key, chance.choice(keys[key])) for key in picked) + "}"
+
+
+def tables(chance, keys):
+    items = [table(chance, keys) for _ in range(chance.randrange(3))]
+    if chance.random() < 0.05:
+        items.append("1")
+    return "[" + ", ".join(items) + "]"
+
+
+def processor(chance):
+    """The lines of a processor."""
+    kind = chance.choices([*plain.PROCESSORS, "starlark"], [8, 8, 8, 8, 1])[0]
+    keys = {}
+    if chance.random() < 0.3:
+        keys["order"] = chance.choice(["0", "-5", "3", "3", '"1"', "1.0"])
+    if chance.random() < 0.3:
+        keys["namepass"] = a_list(chance, GLOBS[:3] if chance.random() < 0.7 else GLOBS)
+    if kind == "dedup" and chance.random() < 0.8:
+        keys["dedup_interval"] = chance.choice(TIMES)
+    if kind == "converter":
+        lists = [a_list(chance, GLOBS[:3] if chance.random() < 0.8 else GLOBS) for _ in range(3)]
+        for key in chance.sample(["fields", "tags"], chance.randrange(3)):
+            types = chance.sample(["string", "integer", "unsigned", "boolean", "float", "tag"], chance.randrange(3))
+            keys[key] = table(chance, {name: lists for name in types}) if types else "{}"
+    if kind == "regex":
+        texts = ['"a"', '"b"', '""', "1"] if chance.random() < 0.2 else ['"a"', '"b"']
+        patterns = [json.dumps(it) for it, right in plain.PATTERNS.items() if right or chance.random() < 0.1]
+        rule = {"key": texts, "pattern": patterns, "replacement": ['"$1"', '""'], "result_key": ['""', '"c"']}
+        for key in chance.sample(["fields", "tags"], chance.randrange(3)):
+            keys[key] = tables(chance, rule)
+    if kind == "rename":
+        texts = ['"a"', '"b"', '""'] if chance.random() < 0.2 else ['"a"', '"b"']
+        sources = chance.sample(plain.SOURCES, chance.choices([1, 0, 2], [20, 1, 1])[0])
+        keys["replace"] = tables(chance, {key: texts for key in (*sources, "dest")})
+    if chance.random() < 0.03:
+        keys["files"] = '["a"]'
+    return ["[[processors.%s]]" % kind] + ["%s = %s" % it for it in keys.items()]
+
+
 def agent(chance):
     """The lines of the table `agent`."""
     keys = {}
@@ -106,8 +149,9 @@ def made(chance):
     if chance.random() < 0.3:
         tags = ["%s = %s" % (key, chance.choice(['"x"', '""', "1"])) for key in chance.sample(["dc", '""', "é"], 1)]
         parts.append(["[global_tags]"] + tags)
+    parts += [processor(chance) for _ in range(chance.choice([0, 0, 1, 2]))]
     if chance.random() < 0.05:
-        parts.append(plugin(chance, chance.choice(["processors", "aggregators"])))
+        parts.append(plugin(chance, "aggregators"))
     if chance.random() < 0.03:
         parts.insert(0, ["zz = 1"])
     chance.shuffle(parts)

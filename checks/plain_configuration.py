@@ -146,7 +146,11 @@ def tag_globs(value):
     return None
 
 
-def time(value):
+def time_from(least):
+    return lambda value: time(value, least)
+
+
+def time(value, least=1):
     if is_int(value):
         sum_of = Fraction(value * 10**9)
     elif isinstance(value, str):
@@ -155,7 +159,7 @@ def time(value):
         sum_of = sum(Fraction(decimal(number)) * UNITS[unit] for number, unit in PAIR.findall(value))
     else:
         return "WrongType"
-    return None if sum_of.denominator == 1 and 0 < sum_of <= GREATEST_INT else "OutOfRange"
+    return None if sum_of.denominator == 1 and least <= sum_of <= GREATEST_INT else "OutOfRange"
 
 
 def all_pairs(text):
@@ -173,6 +177,46 @@ def decimal(text):
     return ("0" + text).rstrip(".") if "." in text else text
 
 
+def whole(value):
+    return None if is_int(value) else "WrongType"
+
+
+def pattern(value):
+    if not isinstance(value, str):
+        return "WrongType"
+    if value not in PATTERNS:
+        raise Unsure
+    return None if PATTERNS[value] else "BadPattern"
+
+
+def inner(keys, value, needed=(), sources=()):
+    """The first fault of a table in the value of a key: of its keys, then that it lacks some."""
+    fault = key_fault(keys, value)
+    if fault:
+        return fault
+    if sources and sum(key in value for key in sources) != 1:
+        return "Missing"
+    return next(("Missing" for key in needed if key not in value), None)
+
+
+def table_of(keys):
+    return lambda value: inner(keys, value) if isinstance(value, dict) else "WrongType"
+
+
+def tables_of(keys, needed, sources=()):
+    def fault_in(value):
+        if not isinstance(value, list) or not all(isinstance(it, dict) for it in value):
+            return "WrongType"
+        return next((it for it in (inner(keys, table, needed, sources) for table in value) if it), None)
+
+    return fault_in
+
+
+# Texts by whether Rust's regex takes them as patterns.
+PATTERNS = {
+    "": True, "a": True, "^/v(\\d+)/.*$": True, "[a-c]+": True, "(?i)x|y": True, "a{2,3}": True, "(?P<n>.)": True,
+    "(": False, ")": False, "[": False, "*": False, "a{3,2}": False, "(?=a)": False, "\\1": False, "[b-a]": False,
+}
 AGENT = {
     "metric_batch_size": count(10_000),
     "metric_buffer_limit": count(10_000),
@@ -199,6 +243,28 @@ OUTPUT = PLUGIN | {
     "data_format": format_name(OUT_FORMATS),
     "metric_batch_size": count(10_000),
     "metric_buffer_limit": count(10_000),
+}
+
+
+PROCESSOR = {key: fault for key, fault in PLUGIN.items() if key != "files"} | {"order": whole}
+TYPES = {key: globs for key in ("string", "integer", "unsigned", "boolean", "float")}
+REWRITING = tables_of(
+    {"key": place, "pattern": pattern, "replacement": any_text, "result_key": any_text},
+    ("key", "pattern", "replacement"),
+)
+SOURCES = ("measurement", "tag", "field")
+REPLACEMENTS = tables_of({key: place for key in (*SOURCES, "dest")}, ("dest",), SOURCES)
+PROCESSORS = {
+    "converter": PROCESSOR | {"fields": table_of(TYPES | {"tag": globs}), "tags": table_of(TYPES)},
+    "dedup": PROCESSOR | {"dedup_interval": time_from(0)},
+    "regex": PROCESSOR | {"fields": REWRITING, "tags": REWRITING},
+    "rename": PROCESSOR | {"replace": REPLACEMENTS},
+}
+KINDS = {
+    "inputs": {"file": INPUT},
+    "processors": PROCESSORS,
+    "aggregators": {},
+    "outputs": {"file": OUTPUT},
 }
 
 
@@ -233,14 +299,14 @@ def plugins_of(table):
     return plugins
 
 
-def plugin_fault(word, value, limits):
-    """The first fault of an input or output of files."""
+def plugin_fault(word, kind, value, limits):
+    """The first fault of a plugin whose kind is known."""
     if not isinstance(value, dict):
         return "WrongType"
-    fault = key_fault(INPUT if word == "inputs" else OUTPUT, value)
+    fault = key_fault(KINDS[word][kind], value)
     if fault:
         return fault
-    if "files" not in value:
+    if word != "processors" and "files" not in value:
         return "Missing"
     if word == "outputs":
         batch, limit = limits_of(value, *limits)
@@ -254,10 +320,10 @@ def class_fault(word, plugins, limits):
     if len(plugins) > 16:
         return "TooManyPlugins", 16
     for number, (kind, _) in enumerate(plugins):
-        if word in ("processors", "aggregators") or kind != "file":
+        if kind not in KINDS[word]:
             return "UnknownKind", number
-    for number, (_, value) in enumerate(plugins):
-        fault = plugin_fault(word, value, limits)
+    for number, (kind, value) in enumerate(plugins):
+        fault = plugin_fault(word, kind, value, limits)
         if fault:
             return fault, number
     return None

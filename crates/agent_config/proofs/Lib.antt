@@ -1,7 +1,9 @@
 mod DecimalLemmas
 mod FaultlessLemmas
-mod FewLemmas
+mod NameLemmas
+mod OrderLemmas
 mod ReadLemmas
+mod RuleLemmas
 mod SoundLemmas
 mod TextLemmas
 mod TimeLemmas

@@ -22,6 +22,14 @@ use Rattle.agent_config.specs.Unless.{unless}
 use Rattle.agent_config.specs.declared.shapes.Shape.{Shape}
 use Rattle.agent_config.specs.declared.shapes.Shape.TheVariants.{Anything, Count, Truth, Place, AnyText, Files}
 use Rattle.agent_config.specs.declared.shapes.Shape.TheVariants.{OneOf, Templates, Time, Globs, TagGlobs}
+use Rattle.agent_config.specs.declared.shapes.Shape.TheVariants.{WholeNumber, Table, Tables}
+use Rattle.agent_config.specs.Inner.{count_of, inner_key, inner_needs, sources}
+use Rattle.agent_config.specs.declared.inner.Inner.{Inner}
+use Rattle.agent_config.specs.declared.inner.Inner.TheVariants.{Replacement}
+use Rattle.agent_config.specs.declared.inner.InnerShape.{InnerShape}
+use Rattle.agent_config.specs.declared.inner.InnerShape.TheVariants.{FilledText, Pattern}
+use Rattle.agent_config.specs.declared.inner.InnerShape.TheVariants.{AnyText as InnerText, Globs as InnerGlobs}
+use Rattle.proc_regex.specs.Pattern.{is_pattern}
 use Rattle.agent_config.specs.declared.table.Keys.{Keys}
 use Rattle.agent_config.specs.declared.table.Keys.TheVariants as tables
 use Rattle.agent_config.specs.declared.table.Kind.{Kind}
@@ -31,7 +39,8 @@ use Rattle.agent_config.specs.declared.fault.Fault.{Fault}
 use Rattle.agent_config.specs.declared.fault.FaultKind.{FaultKind}
 use Rattle.agent_config.specs.declared.fault.FaultKind.TheVariants.{NotToml, UnknownKind, UnknownKey}
 use Rattle.agent_config.specs.declared.fault.FaultKind.TheVariants.{WrongType}
-use Rattle.agent_config.specs.declared.fault.FaultKind.TheVariants.{Missing, OutOfRange, BadGlob, BadTemplate}
+use Rattle.agent_config.specs.declared.fault.FaultKind.TheVariants.{Missing, OutOfRange, BadGlob, BadPattern}
+use Rattle.agent_config.specs.declared.fault.FaultKind.TheVariants.{BadTemplate}
 use Rattle.agent_config.specs.declared.fault.FaultKind.TheVariants.{TooManyPlugins}
 use Rattle.agent_config.specs.declared.fault.FaultKind.TheVariants.{NoInput, NoOutput}
 use Rattle.agent_config.specs.declared.fault.FaultKind.TheVariants.{SamePlace}
@@ -47,11 +56,14 @@ first (x ∷ xs) = Some x
 
 -- ---- values
 
+-- what each of some items is read as, or None where one isn't
+abbrev pub all_of : {X : Type 0} → (Data → Option X) → Items → Option (List X)
+all_of read no_items = Some []
+all_of read (item value items) = option_and_then (λ x. option_map (λ xs. x ∷ xs) (all_of read items)) (read value)
+
 -- the texts of items, or None where an item is none
 abbrev pub texts_of : Items → Option (List (List ℕ))
-texts_of no_items = Some []
-texts_of (item value items) =
-    option_and_then (λ text. option_map (λ texts. text ∷ texts) (texts_of items)) (as_str value)
+texts_of items = all_of as_str items
 
 -- the texts of a value that is a list of texts
 abbrev pub texts_in : Data → Option (List (List ℕ))
@@ -132,6 +144,79 @@ abbrev pub tagged_faults : List ℕ → Option Members → List Wrong
 tagged_faults key None = wrong WrongType key ∷ []
 tagged_faults key (Some members) = tag_faults key members
 
+-- ---- tables inside values. A fault there is about the outer key, and has the inner one as its text
+
+-- a text that isn't empty, at a key of an inner table
+abbrev pub filled_faults : List ℕ → List ℕ → Option (List ℕ) → List Wrong
+filled_faults key inner None = wrong_text WrongType key inner ∷ []
+filled_faults key inner (Some text) = unless (not (length text == 0)) (wrong_text OutOfRange key inner)
+
+-- a pattern; of another text the fault has the text itself
+abbrev pub pattern_faults : List ℕ → List ℕ → Option (List ℕ) → List Wrong
+pattern_faults key inner None = wrong_text WrongType key inner ∷ []
+pattern_faults key inner (Some text) = unless (is_pattern text) (wrong_text BadPattern key text)
+
+-- a list of globs
+abbrev pub inner_glob_faults : List ℕ → List ℕ → Option (List (List ℕ)) → List Wrong
+inner_glob_faults key inner None = wrong_text WrongType key inner ∷ []
+inner_glob_faults key inner (Some texts) = glob_faults key texts
+
+-- what is wrong with one key of an inner table: it isn't known, or its value is wrong
+abbrev pub inner_value_faults : List ℕ → List ℕ → Option InnerShape → Data → List Wrong
+inner_value_faults key inner None value = wrong_text UnknownKey key inner ∷ []
+inner_value_faults key inner (Some FilledText) value = filled_faults key inner (as_str value)
+inner_value_faults key inner (Some InnerText) value = unless (is_some (as_str value)) (wrong_text WrongType key inner)
+inner_value_faults key inner (Some Pattern) value = pattern_faults key inner (as_str value)
+inner_value_faults key inner (Some InnerGlobs) value = inner_glob_faults key inner (texts_in value)
+
+-- what is wrong with its keys, in order
+abbrev pub inner_keys_faults : List ℕ → Inner → Members → List Wrong
+inner_keys_faults key kind no_members = []
+inner_keys_faults key kind (member inner value members) =
+    inner_value_faults key inner (inner_key kind inner) value ++ inner_keys_faults key kind members
+
+-- what is renamed stands at just one key
+abbrev pub source_faults : List ℕ → Inner → Members → List Wrong
+source_faults key Replacement members = unless (count_of sources members == 1) (wrong Missing key)
+source_faults key kind _ = []
+
+-- keys that it needs and that aren't there
+abbrev pub inner_missing_faults : List ℕ → List (List ℕ) → Members → List Wrong
+inner_missing_faults key [] _ = []
+inner_missing_faults key (inner ∷ inners) members =
+    unless (is_some (get_member inner members)) (wrong_text Missing key inner)
+    ++ inner_missing_faults key inners members
+
+-- what is wrong with an inner table: its keys in order, then those that it lacks
+abbrev pub inner_faults : List ℕ → Inner → Members → List Wrong
+inner_faults key kind members =
+    inner_keys_faults key kind members
+    ++ (source_faults key kind members ++ inner_missing_faults key (inner_needs kind) members)
+
+-- what is wrong with a value that is an inner table
+abbrev pub table_value_faults : List ℕ → Inner → Option Members → List Wrong
+table_value_faults key kind None = wrong WrongType key ∷ []
+table_value_faults key kind (Some members) = inner_faults key kind members
+
+-- the tables of items, or None where an item is none
+abbrev pub tables_of : Items → Option (List Members)
+tables_of items = all_of as_table items
+
+-- the tables of a value that is a list of tables
+abbrev pub tables_in : Data → Option (List Members)
+tables_in value = option_and_then tables_of (as_array value)
+
+-- what is wrong with each of some inner tables, from the first on
+abbrev pub each_table_faults : List ℕ → Inner → List Members → List Wrong
+each_table_faults key kind [] = []
+each_table_faults key kind (members ∷ tables) =
+    inner_faults key kind members ++ each_table_faults key kind tables
+
+-- what is wrong with a list of inner tables: WrongType where it is none, before all else in it
+abbrev pub tables_faults : List ℕ → Inner → Option (List Members) → List Wrong
+tables_faults key kind None = wrong WrongType key ∷ []
+tables_faults key kind (Some tables) = each_table_faults key kind tables
+
 -- what is wrong with the value of a key
 abbrev pub value_faults : List ℕ → Shape → Data → List Wrong
 value_faults key Anything value = []
@@ -145,6 +230,9 @@ value_faults key Files value = file_faults key (texts_in value)
 value_faults key (Time row) value = time_faults key row.least value
 value_faults key Globs value = list_faults key (texts_in value)
 value_faults key TagGlobs value = tagged_faults key (as_table value)
+value_faults key WholeNumber value = unless (is_some (as_integer value)) (wrong WrongType key)
+value_faults key (Table kind) value = table_value_faults key kind (as_table value)
+value_faults key (Tables kind) value = tables_faults key kind (tables_in value)
 
 -- ---- tables
 
@@ -254,10 +342,15 @@ only_text_at key members =
     unwrap_or (option_and_then as_str (option_and_then only_item (option_and_then as_array
     (get_member key members)))) []
 
+-- the text of the list of one place that a key has, where there is such a key
+abbrev pub place_at : Option (List ℕ) → Members → List ℕ
+place_at None _ = []
+place_at (Some key) members = only_text_at key members
+
 -- the place of a plugin, where its kind is known
 abbrev pub place_by : Option Kind → Members → List ℕ
 place_by None _ = []
-place_by (Some kind) members = only_text_at (place_key kind) members
+place_by (Some kind) members = place_at (place_key kind) members
 
 abbrev pub place_of : Class → Plugin → List ℕ
 place_of class plugin = place_by (kind_of class plugin.name) (members_in (as_table plugin.value))

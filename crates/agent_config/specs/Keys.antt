@@ -8,7 +8,9 @@ use Rattle.agent_config.specs.declared.shapes.Shape.{Shape}
 use Rattle.agent_config.specs.declared.shapes.UsualText.{UsualText}
 use Rattle.agent_config.specs.declared.shapes.UsualText.TheVariants.{Journal, Point}
 use Rattle.agent_config.specs.declared.shapes.Shape.TheVariants.{Anything, Count, Truth, Place, AnyText, Files}
+use Rattle.agent_config.specs.declared.inner.Inner.TheVariants.{Replacement, FieldTargets, TagTargets, Rewriting}
 use Rattle.agent_config.specs.declared.shapes.Shape.TheVariants.{OneOf, Templates, Time, Globs, TagGlobs}
+use Rattle.agent_config.specs.declared.shapes.Shape.TheVariants.{WholeNumber, Table, Tables}
 
 -- is the key one of these
 abbrev pub is_one_of : List (List ℕ) → List ℕ → Bool
@@ -103,3 +105,30 @@ file_output_key key =
     else if is_one_of (codes "metric_batch_size" ∷ codes "metric_buffer_limit" ∷ []) key
     then agent_number_key key
     else plugin_key key
+
+-- ---- processors
+
+-- what a key takes that each processor has
+abbrev pub processor_key : List ℕ → Option Shape
+processor_key key = if bytes_eq key (codes "order") then Some WholeNumber else plugin_key key
+
+-- what a key of a processor takes that converts
+abbrev pub converter_key : List ℕ → Option Shape
+converter_key key =
+    if bytes_eq key (codes "fields") then Some (Table FieldTargets)
+    else if bytes_eq key (codes "tags") then Some (Table TagTargets)
+    else processor_key key
+
+-- of one that removes what is repeated: ten minutes where nothing is said
+abbrev pub dedup_key : List ℕ → Option Shape
+dedup_key key =
+    if bytes_eq key (codes "dedup_interval") then time_from 0 600000000000 else processor_key key
+
+-- of one that rewrites by patterns
+abbrev pub regex_key : List ℕ → Option Shape
+regex_key key =
+    if is_one_of (codes "fields" ∷ codes "tags" ∷ []) key then Some (Tables Rewriting) else processor_key key
+
+-- of one that renames
+abbrev pub rename_key : List ℕ → Option Shape
+rename_key key = if bytes_eq key (codes "replace") then Some (Tables Replacement) else processor_key key

@@ -1,49 +1,66 @@
 -- The kinds of plugins: by which class and name each is known, which keys it has and needs, where its place is, and
 -- which faults are its own.
-use Rattle.std.specs.Prelude.{◌||◌, ℕ, ℤ, Bool, false, List, [], ◌∷◌, codes, nat_le, Option, Some, None, if◌then◌else◌}
+use Rattle.std.specs.Prelude.{◌||◌, ℕ, ℤ, pos, Bool, false, List, [], ◌∷◌, codes, nat_le, Option, Some, None}
+use Rattle.std.specs.Prelude.{option_and_then, unwrap_or, if◌then◌else◌}
 use Rattle.std.specs.Str.{bytes_eq}
-use Rattle.toml.specs.Data.{Members, get_member}
+use Rattle.toml.specs.Data.{Members, as_integer, get_member}
 use Rattle.agent_config.specs.Found.{Wrong, whole}
-use Rattle.agent_config.specs.Keys.{agent_key, file_input_key, file_output_key}
+use Rattle.agent_config.specs.Keys.{agent_key, converter_key, dedup_key, file_input_key, file_output_key, regex_key}
+use Rattle.agent_config.specs.Keys.{rename_key}
 use Rattle.agent_config.specs.Rows.{count_row, faulty_by, row_number, row_text, row_time, row_truth, usual_of}
 use Rattle.agent_config.specs.Unless.{unless}
 use Rattle.agent_config.specs.declared.fault.Class.{Class}
-use Rattle.agent_config.specs.declared.fault.Class.TheVariants.{Inputs, Outputs}
+use Rattle.agent_config.specs.declared.fault.Class.TheVariants.{Inputs, Outputs, Processors}
 use Rattle.agent_config.specs.declared.fault.FaultKind.TheVariants.{BatchAboveLimit}
 use Rattle.agent_config.specs.declared.shapes.Shape.{Shape}
 use Rattle.agent_config.specs.declared.table.Keys.{Keys}
 use Rattle.agent_config.specs.declared.table.Keys.TheVariants.{Agent, Plugin, Unknown}
 use Rattle.agent_config.specs.declared.table.Kind.{Kind}
-use Rattle.agent_config.specs.declared.table.Kind.TheVariants.{FileInput, FileOutput}
+use Rattle.agent_config.specs.declared.table.Kind.TheVariants.{FileInput, FileOutput, Converter, Dedup, Regex, Rename}
 use Rattle.agent_config.specs.declared.tables.Limits.{Limits}
 
--- the kind of inputs, and that of outputs, of a name
+-- the kind of inputs, that of outputs, and that of processors, of a name
 abbrev pub input_kind : List ℕ → Option Kind
 input_kind name = if bytes_eq name (codes "file") then Some FileInput else None
 
 abbrev pub output_kind : List ℕ → Option Kind
 output_kind name = if bytes_eq name (codes "file") then Some FileOutput else None
 
+abbrev pub processor_kind : List ℕ → Option Kind
+processor_kind name =
+    if bytes_eq name (codes "converter") then Some Converter
+    else if bytes_eq name (codes "dedup") then Some Dedup
+    else if bytes_eq name (codes "regex") then Some Regex
+    else if bytes_eq name (codes "rename") then Some Rename
+    else None
+
 -- the kind of a class that has a name
 unfoldable pub kind_of : Class → List ℕ → Option Kind
 kind_of Inputs name = input_kind name
 kind_of Outputs name = output_kind name
+kind_of Processors name = processor_kind name
 kind_of class name = None
 
 -- what a key of a plugin of a kind takes
 abbrev pub kind_key : Kind → List ℕ → Option Shape
 kind_key FileInput key = file_input_key key
 kind_key FileOutput key = file_output_key key
+kind_key Converter key = converter_key key
+kind_key Dedup key = dedup_key key
+kind_key Regex key = regex_key key
+kind_key Rename key = rename_key key
 
 -- the keys that a plugin of a kind needs
 abbrev pub needs : Kind → List (List ℕ)
 needs FileInput = codes "files" ∷ []
 needs FileOutput = codes "files" ∷ []
+needs kind = []
 
--- the key at which its place stands
-abbrev pub place_key : Kind → List ℕ
-place_key FileInput = codes "files"
-place_key FileOutput = codes "files"
+-- the key at which its place stands, where it has one
+abbrev pub place_key : Kind → Option (List ℕ)
+place_key FileInput = Some (codes "files")
+place_key FileOutput = Some (codes "files")
+place_key kind = None
 
 -- ---- the keys of tables
 
@@ -76,6 +93,10 @@ agent_number key agent = number_at Agent key (usual_of (count_row (row_of Agent 
 -- the truth value at a key
 unfoldable pub truth_at : Keys → List ℕ → Members → Bool
 truth_at keys key members = row_truth (row_of keys key) key members
+
+-- the whole number at a key; 0 where none is said
+unfoldable pub whole_number_at : List ℕ → Members → ℤ
+whole_number_at key members = unwrap_or (option_and_then as_integer (get_member key members)) (pos 0)
 
 -- the time at a key
 unfoldable pub time_at : Keys → List ℕ → Members → ℤ
@@ -114,5 +135,5 @@ limits_faults limits =
 
 -- the faults of a plugin of a kind that no key of it has alone
 abbrev pub own_faults : Kind → Limits → Members → List Wrong
-own_faults FileInput _ _ = []
 own_faults FileOutput limits members = limits_faults (own_limits (Plugin FileOutput) limits members)
+own_faults kind _ _ = []

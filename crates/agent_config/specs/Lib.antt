@@ -1,7 +1,9 @@
 pub mod Durations
 pub mod Faults
 pub mod FaultyKey
+pub mod Filters
 pub mod Found
+pub mod Inner
 pub mod Keys
 pub mod Kinds
 pub mod Listed
@@ -12,6 +14,7 @@ pub mod Reading
 pub mod Rows
 pub mod Seen
 pub mod Sound
+pub mod Steps
 pub mod Sums
 pub mod Told
 pub mod Unless

@@ -14,6 +14,7 @@ kind_told kinds.WrongType = told.WrongType
 kind_told kinds.Missing = told.Missing
 kind_told kinds.OutOfRange = told.OutOfRange
 kind_told kinds.BadGlob = told.BadGlob
+kind_told kinds.BadPattern = told.BadPattern
 kind_told kinds.BadTemplate = told.BadTemplate
 kind_told kinds.TooManyPlugins = told.TooManyPlugins
 kind_told kinds.NoInput = told.NoInput

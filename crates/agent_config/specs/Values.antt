@@ -1,16 +1,15 @@
 -- The values of a configuration, each with its default.
-use Rattle.std.specs.Prelude.{◌==◌, ◌++◌, ℕ, false, List, [], ◌∷◌, length, map, chars}
+use Rattle.std.specs.Prelude.{◌==◌, ◌++◌, ℕ, false, List, [], ◌∷◌, length, map}
 use Rattle.std.specs.Prelude.{codes, Option, Some, None, option_and_then, option_to_list, if◌then◌else◌}
 use Rattle.std.specs.Str.{bytes_eq}
-use Rattle.toml.specs.Data.{Members, no_members, member, get_member, as_str, as_table}
-use Rattle.metric.specs.Glob.{glob_of}
-use Rattle.metric.specs.declared.glob.Element.{Element}
-use Rattle.metric_filter.specs.declared.rules.FilterRules.{FilterRules}
+use Rattle.toml.specs.Data.{Members, no_members, member, get_member, as_str}
 use Rattle.format_words.specs.Template.{Shape as Template}
 use Rattle.agent_config.specs.Faults.{Plugin, journal_of, place_of, plugins_at, template_in, texts_in}
+use Rattle.agent_config.specs.Filters.{filter_of, plugin_members}
 use Rattle.agent_config.specs.Kinds.{agent_limits, agent_number, keys_of, own_limits, text_at, time_at}
 use Rattle.agent_config.specs.Kinds.{truth_at}
-use Rattle.agent_config.specs.Rows.{members_in, table_at}
+use Rattle.agent_config.specs.Rows.{table_at}
+use Rattle.agent_config.specs.Steps.{in_order, step_of}
 use Rattle.agent_config.specs.Usual.{usual_undelivered}
 use Rattle.agent_config.specs.declared.fault.Class.TheVariants.{Inputs, Outputs}
 use Rattle.agent_config.specs.declared.table.Keys.{Keys}
@@ -46,43 +45,6 @@ global_tag key (Some value) = if length value == 0 then [] else (key, value) ∷
 abbrev pub globals_of : Members → List (List ℕ × List ℕ)
 globals_of no_members = []
 globals_of (member key value members) = global_tag key (as_str value) ++ globals_of members
-
--- ---- filters
-
--- the globs that texts spell; a text that spells none is left out
-abbrev pub globs_of : List (List ℕ) → List (List Element)
-globs_of [] = []
-globs_of (text ∷ texts) = option_to_list (glob_of (chars text)) ++ globs_of texts
-
--- the globs of a value that is a list of texts; another has none
-abbrev pub globs_in : Option (List (List ℕ)) → List (List Element)
-globs_in None = []
-globs_in (Some texts) = globs_of texts
-
--- the globs at a key
-unfoldable pub globs_at : List ℕ → Members → List (List Element)
-globs_at key members = globs_in (option_and_then texts_in (get_member key members))
-
--- the globs of each key of a table
-abbrev pub tag_globs_of : Members → List (List ℕ × List (List Element))
-tag_globs_of no_members = []
-tag_globs_of (member key value members) = (key, globs_in (texts_in value)) ∷ tag_globs_of members
-
-unfoldable pub tag_globs_at : List ℕ → Members → List (List ℕ × List (List Element))
-tag_globs_at key members = tag_globs_of (table_at key members)
-
--- the filter of a plugin: the older names of two lists are added behind the newer ones
-unfoldable pub filter_of : Members → FilterRules
-filter_of members = record {
-  namepass = globs_at (codes "namepass") members;
-  namedrop = globs_at (codes "namedrop") members;
-  fieldinclude = globs_at (codes "fieldinclude") members ++ globs_at (codes "fieldpass") members;
-  fieldexclude = globs_at (codes "fieldexclude") members ++ globs_at (codes "fielddrop") members;
-  taginclude = globs_at (codes "taginclude") members;
-  tagexclude = globs_at (codes "tagexclude") members;
-  tagpass = tag_globs_at (codes "tagpass") members;
-  tagdrop = tag_globs_at (codes "tagdrop") members;
-}
 
 -- ---- formats
 
@@ -130,9 +92,6 @@ out_format name =
 
 -- ---- inputs and outputs
 
-abbrev pub plugin_members : Plugin → Members
-plugin_members plugin = members_in (as_table plugin.value)
-
 abbrev pub input_of : Plugin → InputConf
 input_of plugin = record {
   place = place_of Inputs plugin;
@@ -160,6 +119,7 @@ config_of root = record {
   agent = agent_of (table_at (codes "agent") root);
   globals = globals_of (table_at (codes "global_tags") root);
   inputs = map input_of (plugins_at (codes "inputs") root);
+  steps = map step_of (in_order (plugins_at (codes "processors") root));
   outputs = map (output_of (agent_limits (table_at (codes "agent") root))) (plugins_at
       (codes "outputs") root);
 }

@@ -4,7 +4,8 @@ use Rattle.std.specs.List.{AllZip}
 use Rattle.toml.specs.Data.{Members, as_integer, get_member}
 use Rattle.agent_config.specs.Faults.{Plugin, plugins_at, text_faults, tree_of}
 use Rattle.agent_config.specs.Rows.{table_at, time_in}
-use Rattle.agent_config.specs.Values.{config_of, plugin_members}
+use Rattle.agent_config.specs.Filters.{plugin_members}
+use Rattle.agent_config.specs.Values.{config_of}
 use Rattle.agent_config.specs.declared.config.AgentConf.{AgentConf}
 use Rattle.agent_config.specs.declared.config.Config.{Config}
 use Rattle.agent_config.specs.declared.config.OutputConf.{OutputConf}

@@ -3,6 +3,7 @@ use fixed_num::Seq;
 use format_words::{InFormat, OutFormat};
 use metric::Text;
 use metric_filter::Filter;
+use proc_chain::Step;
 
 /// What holds for the whole run.
 #[derive(Debug, Drop)]
@@ -60,6 +61,8 @@ pub struct Config {
     pub globals: Seq<(Text, Text)>,
     /// The inputs, in the order of their numbers.
     pub inputs: Seq<InputConf>,
+    /// The steps that each metric goes through, in order.
+    pub steps: Seq<Step>,
     /// The outputs, in the order of their numbers.
     pub outputs: Seq<OutputConf>,
 }

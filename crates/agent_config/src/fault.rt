@@ -79,7 +79,8 @@ pub struct ListedFault {
     /// The key that it is about, or the name of a plugin's kind that isn't known. None where it is about a whole
     /// table, or about more than one.
     pub key: Option<Text>,
-    /// The text in the key's value that is no glob, or no template.
+    /// The text in the key's value that is no glob, no pattern or no template, or the key of a table in it that
+    /// isn't known, isn't there or has a value that it doesn't take.
     pub text: Option<Text>,
 }
 
@@ -93,6 +94,7 @@ pub(crate) enum FaultKind {
     Missing,
     OutOfRange,
     BadGlob,
+    BadPattern,
     BadTemplate,
     TooManyPlugins,
     NoInput,
@@ -114,6 +116,7 @@ impl FaultKind {
             FaultKind::Missing => ConfigKind::Missing,
             FaultKind::OutOfRange => ConfigKind::OutOfRange,
             FaultKind::BadGlob => ConfigKind::BadGlob,
+            FaultKind::BadPattern => ConfigKind::BadPattern,
             FaultKind::BadTemplate => ConfigKind::BadTemplate,
             FaultKind::TooManyPlugins => ConfigKind::TooManyPlugins,
             FaultKind::NoInput => ConfigKind::NoInput,
@@ -156,7 +159,7 @@ pub(crate) struct Wrong<'a> {
     pub(crate) kind: FaultKind,
     /// The key, or the name of a plugin's kind; None where it is about a whole table, or about more than one.
     pub(crate) key: Option<&'a str>,
-    /// The text that is no glob, or no template.
+    /// The text that is no glob, no pattern or no template, or the key of a table in the key's value.
     pub(crate) text: Option<&'a str>,
     /// Does it come only of the default in a faulty value's place, or of a place that no value says?
     pub(crate) follows: bool,

@@ -6,8 +6,8 @@ ghost use Rattle.metric.specs.Glob.{glob_of};
 ghost use Rattle.agent_config.specs.Faults.{texts_in};
 ghost use Rattle.agent_config.specs.Rows.{members_in};
 ghost use Rattle.agent_config.specs.Seen.{now_of};
-ghost use Rattle.agent_config.specs.Values.{filter_of, globs_at, globs_in, globs_of, tag_globs_at};
-ghost use Rattle.agent_config.specs.Values.{tag_globs_of};
+ghost use Rattle.agent_config.specs.Filters.{filter_of, globs_at, globs_in, globs_of, tag_globs_at};
+ghost use Rattle.agent_config.specs.Filters.{tag_globs_of};
 
 use crate::tables::value_at;
 use crate::texts::{read_glob, texts_in};
@@ -18,7 +18,7 @@ use std::alloc::Global;
 use toml::{Table, Value};
 
 /// The filter of a plugin: the older names of two lists are added behind the newer ones.
-#[tactic(auto, unfolding(crate::specs::Values::filter_of))]
+#[tactic(auto, unfolding(crate::specs::Filters::filter_of))]
 pub(crate) fn filter_of(alloc: Global, table: &Table) -> Result<Filter, OutOfMemory>
     ensures { IfOk result (λ filter. filter ≡ filter_of (table_view table.now)) }
 {
@@ -63,7 +63,7 @@ fn both_globs_at(
 }
 
 /// Adds the globs at a key.
-#[tactic(auto, unfolding(crate::specs::Values::globs_at))]
+#[tactic(auto, unfolding(crate::specs::Filters::globs_at))]
 fn add_globs_at(
     alloc: Global,
     globs: &mut Vec<Glob>,
@@ -80,7 +80,11 @@ fn add_globs_at(
 }
 
 /// Adds the globs of a value.
-fn add_globs_in(alloc: Global, globs: &mut Vec<Glob>, value: &Value) -> Result<(), OutOfMemory>
+pub(crate) fn add_globs_in(
+    alloc: Global,
+    globs: &mut Vec<Glob>,
+    value: &Value,
+) -> Result<(), OutOfMemory>
     ensures { IfOk result (λ _. globs.new.items ≡ globs.old.items ++ globs_in (texts_in (view value.now))) }
 {
     match texts_in(alloc, value)? {
@@ -111,7 +115,7 @@ fn add_glob(alloc: Global, globs: &mut Vec<Glob>, text: &str) -> Result<(), OutO
 }
 
 /// The globs of each key of the table at a key.
-#[tactic(auto, unfolding(crate::specs::Values::tag_globs_at))]
+#[tactic(auto, unfolding(crate::specs::Filters::tag_globs_at))]
 fn tag_globs_at(
     alloc: Global,
     table: &Table,

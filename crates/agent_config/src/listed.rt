@@ -4,10 +4,12 @@ ghost use Rattle.toml.specs.View.{table_view};
 ghost use Rattle.agent_config.specs.Faults.{faults_of, found_in};
 ghost use Rattle.agent_config.specs.Found.{AddsFound, found_view, founds_view, unfollowed};
 ghost use Rattle.agent_config.specs.Listed.{faults_listed, listed_of};
+ghost use Rattle.agent_config.specs.Naming.{names_in, names_listed};
 ghost use Rattle.agent_config.specs.Unless.{unless};
 
 use crate::fault::{Class, FaultKind, Found, ListedFault, Wrong, fault_of};
 use crate::finding::faults_of;
+use crate::naming::{FaultNames, names_of_all};
 use crate::read::tree_of;
 use fixed_num::{OutOfMemory, Seq};
 use metric::Text;
@@ -21,6 +23,8 @@ pub struct TextFaults {
     pub first: Seq<ListedFault>,
     /// How many there are, these too.
     pub count: usize,
+    /// What a message names of each of the first; of a text that is no TOML nothing.
+    pub names: Seq<FaultNames>,
 }
 
 /// The first faults of a text, so many at most, each with what it is about, and how many there are. Those that only
@@ -29,10 +33,19 @@ pub struct TextFaults {
 pub fn text_faults(alloc: Global, text: &[u8], most: usize) -> Result<TextFaults, OutOfMemory>
     ensures first { IfOk result (λ faults. faults.first ≡ take most (faults_listed text.now)) }
     ensures count { IfOk result (λ faults. faults.count ≡ length (faults_listed text.now)) }
+    ensures names { IfOk result (λ faults. faults.names ≡ take most (names_listed text.now)) }
 {
     match tree_of(alloc, text)? {
-        Some(root) => tree_faults(alloc, &root, most),
-        None => told(alloc, &[not_toml()], most),
+        Some(root) => Ok(tree_faults(alloc, &root, most)?),
+        None => {
+            let (first, count) = told(alloc, &[not_toml()], most)?;
+            let names = Seq::of(Vec::new(alloc));
+            Ok(TextFaults {
+                first,
+                count,
+                names,
+            })
+        }
     }
 }
 
@@ -58,26 +71,31 @@ fn tree_faults(alloc: Global, root: &Table, most: usize) -> Result<TextFaults, O
         ≡ take most (map listed_of (unfollowed (faults_of (table_view root.now))))) }
     ensures count { IfOk result (λ faults. faults.count
         ≡ length (map listed_of (unfollowed (faults_of (table_view root.now))))) }
+    ensures names { IfOk result (λ faults. faults.names ≡ map (names_in (table_view root.now)) faults.first) }
 {
     let empty = Table::new(alloc);
     let founds = faults_of(alloc, root, &empty)?;
-    let faults = told(alloc, founds.as_slice(), most)?;
-    Ok(faults)
+    let (first, count) = told(alloc, founds.as_slice(), most)?;
+    let names = names_of_all(alloc, root, first.as_slice())?;
+    Ok(TextFaults {
+        first,
+        count,
+        names,
+    })
 }
 
 /// The first of faults as they are told, and how many there are, but for those that only follow from others.
-fn told(alloc: Global, founds: &[Found], most: usize) -> Result<TextFaults, OutOfMemory>
-    ensures first { IfOk result (λ faults. faults.first
-        ≡ take most (map listed_of (unfollowed (founds_view founds.now)))) }
-    ensures count { IfOk result (λ faults. faults.count
-        ≡ length (map listed_of (unfollowed (founds_view founds.now)))) }
+fn told(
+    alloc: Global,
+    founds: &[Found],
+    most: usize,
+) -> Result<(Seq<ListedFault>, usize), OutOfMemory>
+    ensures first { IfOk result (λ told. told.0 ≡ take most (map listed_of (unfollowed (founds_view founds.now)))) }
+    ensures count { IfOk result (λ told. told.1 ≡ length (map listed_of (unfollowed (founds_view founds.now)))) }
 {
     let unfollowed = unfollowed(alloc, founds)?;
     let all = unfollowed.as_slice();
-    Ok(TextFaults {
-        first: listed(alloc, front(all, most))?,
-        count: all.len(),
-    })
+    Ok((listed(alloc, front(all, most))?, all.len()))
 }
 
 /// Those that don't follow from others.

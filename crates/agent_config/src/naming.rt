@@ -1,14 +1,16 @@
 //! What messages name: the tables of faults, and what keys take.
-ghost use Rattle.std.specs.Prelude.{◌≡◌, ◌≤◌, option_map};
+ghost use Rattle.std.specs.Prelude.{◌≡◌, IfOk, map, option_map};
 ghost use Rattle.toml.specs.Data.{no_members};
-ghost use Rattle.toml.specs.View.{table_view};
+ghost use Rattle.toml.specs.View.{table_view, view};
 ghost use Rattle.agent_config.specs.Kinds.{row_of};
-ghost use Rattle.agent_config.specs.Naming.{keys_in, takes_of};
+ghost use Rattle.agent_config.specs.Naming.{class_table, count_in, first_at, inner_takes, keys_in, names_in, names_of};
+ghost use Rattle.agent_config.specs.Naming.{other_name, plugin_name, same_before, takes_of};
+ghost use Rattle.agent_config.specs.Plugins.{plugins_view};
 
-use crate::fault::{Class, ConfigKind, ListedFault};
+use crate::fault::{Class, ConfigFault, ConfigKind, ListedFault};
+use crate::inner::Inner;
 use crate::places::place_of;
 use crate::plugins::{Plugin, plugins_of};
-use crate::read::tree_of;
 use crate::shapes::{Names, Shape};
 use crate::table::{Keys, keys_of};
 use crate::tables::{members_in, table_at};
@@ -38,12 +40,24 @@ pub enum Takes {
     Templates,
     /// A list of one place.
     Files,
-    /// A time.
+    /// A time above 0.
     Time,
+    /// A time.
+    TimeFromZero,
     /// A list of globs.
     Globs,
     /// A table of lists of globs.
     TagGlobs,
+    /// Any whole number.
+    WholeNumber,
+    /// A list of tables of what is renamed, and what to.
+    Replacements,
+    /// A table of lists of globs by what fields are converted to.
+    FieldTargets,
+    /// A table of lists of globs by what tags are converted to.
+    TagTargets,
+    /// A list of tables of how texts are rewritten.
+    Rewritings,
 }
 
 /// What a key takes of the table `agent`, or of a plugin of a class whose kind has this name; None where it isn't known.
@@ -80,9 +94,29 @@ fn takes_of(shape: Shape) -> Takes
         Shape::OneOf(Names::WrittenFormats) => Takes::WrittenFormat,
         Shape::Templates => Takes::Templates,
         Shape::Files => Takes::Files,
-        Shape::Time(_) => Takes::Time,
+        Shape::Time(row) => {
+            if row.least == 0 {
+                Takes::TimeFromZero
+            } else {
+                Takes::Time
+            }
+        }
         Shape::Globs => Takes::Globs,
         Shape::TagGlobs => Takes::TagGlobs,
+        Shape::WholeNumber => Takes::WholeNumber,
+        Shape::Table(inner) | Shape::Tables(inner) => inner_takes(inner),
+    }
+}
+
+/// What a key takes whose value has such tables in it.
+fn inner_takes(inner: Inner) -> Takes
+    ensures { result ≡ inner_takes inner }
+{
+    match inner {
+        Inner::Replacement => Takes::Replacements,
+        Inner::FieldTargets => Takes::FieldTargets,
+        Inner::TagTargets => Takes::TagTargets,
+        Inner::Rewriting => Takes::Rewritings,
     }
 }
 
@@ -108,18 +142,18 @@ pub struct FaultNames {
     pub other: Option<PluginName>,
 }
 
-/// What messages name of faults of a text, in their order; nothing where it is no TOML.
-pub fn fault_names(
+/// What a message names of each of some faults of a tree.
+pub(crate) fn names_of_all(
     alloc: Global,
-    text: &[u8],
+    root: &Table,
     faults: &[ListedFault],
-) -> Result<Seq<FaultNames>, OutOfMemory> {
+) -> Result<Seq<FaultNames>, OutOfMemory>
+    ensures { IfOk result (λ names. names ≡ map (names_in (table_view root.now)) faults.now) }
+{
+    let empty = Table::new(alloc);
     let mut names = Vec::new(alloc);
-    if let Some(root) = tree_of(alloc, text)? {
-        let empty = Table::new(alloc);
-        for listed in faults {
-            names.push(names_of(alloc, &root, &empty, listed)?)?;
-        }
+    for listed in faults {
+        names.push(names_of(alloc, root, &empty, &listed.fault)?)?;
     }
     Ok(Seq::of(names))
 }
@@ -127,6 +161,7 @@ pub fn fault_names(
 /// The table of a class of plugins; the empty one for other classes.
 fn class_table<'a>(root: &'a Table, class: &Class, empty: &'a Table) -> &'a Table
     requires { table_view empty.now ≡ no_members }
+    ensures { table_view result.now ≡ class_table class.now (table_view root.now) }
 {
     match class {
         Class::Inputs => table_at(root, "inputs", empty),
@@ -142,26 +177,27 @@ fn names_of<'a>(
     alloc: Global,
     root: &'a Table,
     empty: &'a Table,
-    listed: &ListedFault,
+    fault: &ConfigFault,
 ) -> Result<FaultNames, OutOfMemory>
     requires { table_view empty.now ≡ no_members }
+    ensures { IfOk result (λ names. names ≡ names_of fault.now (class_table fault.now.class (table_view root.now))) }
 {
-    let fault = &listed.fault;
     let table = class_table(root, &fault.class, empty);
-    let number = fault.number as usize;
     let plugin = match fault.kind {
         ConfigKind::TooManyPlugins => None,
-        _ => plugin_name(alloc, table, number)?,
+        _ => plugin_name(alloc, table, fault.number as usize)?,
     };
     let other = match fault.kind {
-        ConfigKind::SamePlace => other_name(alloc, &fault.class, table, number, empty)?,
+        ConfigKind::SamePlace => other_name(alloc, &fault.class, table, fault.number, empty)?,
         _ => None,
     };
     Ok(FaultNames { plugin, other })
 }
 
 /// How many plugins of its kind a value stands for.
-fn count_in(value: &Value) -> usize {
+fn count_in(value: &Value) -> usize
+    ensures { result ≡ count_in (view value.now) }
+{
     match value.as_array() {
         Some(items) => items.len(),
         None => 1,
@@ -173,13 +209,15 @@ fn plugin_name(
     alloc: Global,
     class: &Table,
     number: usize,
-) -> Result<Option<PluginName>, OutOfMemory> {
+) -> Result<Option<PluginName>, OutOfMemory>
+    ensures { IfOk result (λ name. name ≡ plugin_name (table_view class.now) number) }
+{
     let mut left = number;
-    for (name, value) in class.iter() {
+    for (kind, value) in class.iter() {
         let of = count_in(value);
         if left < of {
             return Ok(Some(PluginName {
-                kind: Text::of(alloc, name.as_str())?,
+                kind: Text::of(alloc, kind.as_str())?,
                 at: left + 1,
                 of,
                 is_listed: value.is_array(),
@@ -195,13 +233,14 @@ fn other_name<'a>(
     alloc: Global,
     class: &Class,
     table: &'a Table,
-    number: usize,
+    number: u32,
     empty: &'a Table,
 ) -> Result<Option<PluginName>, OutOfMemory>
     requires { table_view empty.now ≡ no_members }
+    ensures { IfOk result (λ name. name ≡ other_name class.now (table_view table.now) number) }
 {
     let plugins = plugins_of(alloc, table)?;
-    match same_before(class, plugins.as_slice(), number, empty) {
+    match same_before(class, plugins.as_slice(), number as usize, empty) {
         Some(other) => plugin_name(alloc, table, other),
         None => Ok(None),
     }
@@ -215,11 +254,28 @@ fn same_before<'a>(
     empty: &'a Table,
 ) -> Option<usize>
     requires { table_view empty.now ≡ no_members }
+    ensures { result ≡ same_before class.now (plugins_view plugins.now) number }
 {
-    let place = place_of(class, plugins.get(number)?, empty);
-    for other in 0..number {
-        if place_of(class, plugins.get(other)?, empty) == place {
-            return Some(other);
+    if number >= plugins.len() {
+        return None;
+    }
+    let place = place_of(class, &plugins[number], empty);
+    first_at(class, &plugins[..number], place, empty)
+}
+
+/// The number of the first plugin that has a place.
+fn first_at<'a>(
+    class: &Class,
+    plugins: &[Plugin<'a>],
+    place: &str,
+    empty: &'a Table,
+) -> Option<usize>
+    requires { table_view empty.now ≡ no_members }
+    ensures { result ≡ first_at class.now place.now (plugins_view plugins.now) }
+{
+    for number in 0..plugins.len() {
+        if place_of(class, &plugins[number], empty) == place {
+            return Some(number);
         }
     }
     None

@@ -2,9 +2,10 @@
 ghost use Rattle.std.specs.Prelude.{◌≡◌, ◌≤◌, ◌∷◌, ◌++◌, [], IfOk, drop, false, length, map, not, take};
 ghost use Rattle.toml.specs.Data.{no_members};
 ghost use Rattle.toml.specs.View.{table_view};
-ghost use Rattle.agent_config.specs.Faults.{is_journal_faulty, journal_of, only_follows, place_of};
+ghost use Rattle.agent_config.specs.Faults.{is_journal_faulty, journal_of, only_follows, place_at, place_of};
 ghost use Rattle.agent_config.specs.Faults.{same_faults, stands_in};
 ghost use Rattle.agent_config.specs.Found.{AddsFound, at, whole};
+ghost use Rattle.agent_config.specs.Kinds.{place_key};
 ghost use Rattle.agent_config.specs.Plugins.{plugin_view, plugins_view};
 ghost use Rattle.agent_config.specs.Seen.{now_of};
 ghost use Rattle.agent_config.specs.Unless.{unless};
@@ -12,7 +13,7 @@ ghost use Rattle.agent_config.specs.Unless.{unless};
 use crate::adding::add_whole_at;
 use crate::fault::{Class, FaultKind, Found};
 use crate::plugins::Plugin;
-use crate::table::kind_of;
+use crate::table::{Kind, kind_of};
 use crate::tables::{is_journal_faulty, journal_of, members_in, only_text_at};
 use fixed_num::OutOfMemory;
 use std::alloc::Global;
@@ -69,7 +70,17 @@ pub(crate) fn place_of<'a>(class: &Class, plugin: &Plugin<'a>, empty: &'a Table)
     ensures { result.now ≡ place_of class.now (plugin_view plugin.now) }
 {
     match kind_of(class, plugin.name) {
-        Some(kind) => only_text_at(members_in(plugin.value, empty), kind.place_key()),
+        Some(kind) => place_at(kind, members_in(plugin.value, empty)),
+        None => "",
+    }
+}
+
+/// The place of a plugin of a kind; no text where it has none.
+fn place_at(kind: Kind, table: &Table) -> &str
+    ensures { result.now ≡ place_at (place_key kind) (table_view table.now) }
+{
+    match kind.place_key() {
+        Some(key) => only_text_at(table, key),
         None => "",
     }
 }

@@ -2,6 +2,7 @@
 ghost use Rattle.std.specs.Prelude.{◌≡◌, IfOk};
 ghost use Rattle.toml.specs.View.{table_view};
 ghost use Rattle.agent_config.specs.Kinds.{agent_number, is_faulty_at, number_at, row_of, text_at, time_at, truth_at};
+ghost use Rattle.agent_config.specs.Kinds.{whole_number_at};
 ghost use Rattle.agent_config.specs.Rows.{count_row, counted_or, is_counted, is_number, timed_or, usual_of};
 ghost use Rattle.agent_config.specs.Rows.{text_or, usual_text, usual_truth};
 
@@ -129,7 +130,7 @@ pub(crate) fn text_at<'a>(keys: &Keys, table: &'a Table, key: &str) -> &'a str
 }
 
 /// The text at a key, or another where there is none.
-fn text_or<'a>(table: &'a Table, key: &str, other: &'a str) -> &'a str
+pub(crate) fn text_or<'a>(table: &'a Table, key: &str, other: &'a str) -> &'a str
     ensures { result.now ≡ text_or key.now other.now (table_view table.now) }
 {
     match value_at(table, key) {
@@ -145,6 +146,17 @@ fn timed_or(row: &TimeRow, time: Option<i64>) -> i64
     match time {
         Some(time) => { if row.least <= time { time } else { row.usual } }
         None => row.usual,
+    }
+}
+
+/// The whole number at a key; 0 where none is said.
+#[tactic(auto, unfolding(crate::specs::Kinds::whole_number_at))]
+pub(crate) fn whole_number_at(table: &Table, key: &str) -> i64
+    ensures { result ≡ whole_number_at key.now (table_view table.now) }
+{
+    match value_at(table, key) {
+        Some(value) => value.as_integer().unwrap_or(0),
+        None => 0,
     }
 }
 

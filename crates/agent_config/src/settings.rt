@@ -12,6 +12,7 @@ use crate::formats::{in_format_at, out_format_at};
 use crate::places::place_of;
 use crate::plugins::{Plugin, classes_of};
 use crate::rows::{agent_number, time_at, truth_at};
+use crate::steps::steps_of;
 use crate::table::{Keys, keys_of};
 use crate::tables::{Limits, agent_limits, journal_of, members_in, own_limits, table_at};
 use crate::usual::USUAL_UNDELIVERED;
@@ -36,6 +37,7 @@ pub(crate) fn config_of<'a>(
         agent: agent_of(alloc, agent)?,
         globals: globals_of(alloc, table_at(root, "global_tags", empty))?,
         inputs: inputs_of(alloc, classes.inputs.as_slice(), empty)?,
+        steps: steps_of(alloc, classes.processors.as_slice(), empty)?,
         outputs: outputs_of(alloc, &limits, classes.outputs.as_slice(), empty)?,
     })
 }

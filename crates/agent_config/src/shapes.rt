@@ -2,6 +2,8 @@
 ghost use Rattle.std.specs.Prelude.{◌≡◌};
 ghost use Rattle.agent_config.specs.Keys.{count_to, is_one_of, names_of, text_of, usual_name};
 
+use crate::inner::Inner;
+
 /// What a whole number may be, and what it is where nothing is said.
 #[derive(Clone, Copy)]
 pub(crate) struct CountRow {
@@ -111,6 +113,12 @@ pub(crate) enum Shape {
     Globs,
     /// A table of lists of globs.
     TagGlobs,
+    /// Any whole number, which is 0 where nothing is said.
+    WholeNumber,
+    /// A table of keys of its own.
+    Table(Inner),
+    /// A list of tables of keys of their own.
+    Tables(Inner),
 }
 
 /// The row of a whole number from 1 on.

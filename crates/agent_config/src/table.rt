@@ -1,16 +1,17 @@
 //! The table of the kinds of plugins, and of the keys of each table.
-ghost use Rattle.std.specs.Prelude.{◌≡◌, ◌∷◌, [], IfOk};
+ghost use Rattle.std.specs.Prelude.{◌≡◌, ◌∷◌, [], IfOk, option_map};
 ghost use Rattle.toml.specs.View.{table_view};
 ghost use Rattle.agent_config.specs.Faults.{missing_faults};
 ghost use Rattle.agent_config.specs.Found.{Adds};
 ghost use Rattle.agent_config.specs.Kinds.{input_kind, keys_of, kind_key, kind_of, needs, output_kind};
-ghost use Rattle.agent_config.specs.Kinds.{own_faults, place_key, row_of};
+ghost use Rattle.agent_config.specs.Kinds.{own_faults, place_key, processor_kind, row_of};
 
 use crate::adding::add_unless;
 use crate::agent_keys::agent_key;
 use crate::fault::{Class, FaultKind, Wrong};
 use crate::file_input::file_input_key;
 use crate::file_output::{add_file_output_faults, file_output_key};
+use crate::processor_keys::{converter_key, dedup_key, regex_key, rename_key};
 use crate::shapes::Shape;
 use crate::tables::{Limits, value_at};
 use fixed_num::OutOfMemory;
@@ -23,6 +24,14 @@ pub(crate) enum Kind {
     FileInput,
     /// An output that writes a file.
     FileOutput,
+    /// A processor that converts tags and fields.
+    Converter,
+    /// A processor that removes what is repeated.
+    Dedup,
+    /// A processor that rewrites texts by patterns.
+    Regex,
+    /// A processor that renames.
+    Rename,
 }
 
 /// The kind of a class that has a name; None where there is none.
@@ -33,6 +42,7 @@ pub(crate) fn kind_of(class: &Class, name: &str) -> Option<Kind>
     match class {
         Class::Inputs => input_kind(name),
         Class::Outputs => output_kind(name),
+        Class::Processors => processor_kind(name),
         _ => None,
     }
 }
@@ -57,6 +67,19 @@ fn output_kind(name: &str) -> Option<Kind>
     }
 }
 
+/// The kind of processors that has a name.
+fn processor_kind(name: &str) -> Option<Kind>
+    ensures { result ≡ processor_kind name.now }
+{
+    match name {
+        "converter" => Some(Kind::Converter),
+        "dedup" => Some(Kind::Dedup),
+        "regex" => Some(Kind::Regex),
+        "rename" => Some(Kind::Rename),
+        _ => None,
+    }
+}
+
 impl Kind {
     /// What a key of a plugin of this kind takes; None where it isn't known.
     fn row_of(&self, key: &str) -> Option<Shape>
@@ -65,6 +88,10 @@ impl Kind {
         match self {
             Kind::FileInput => file_input_key(key),
             Kind::FileOutput => file_output_key(key),
+            Kind::Converter => converter_key(key),
+            Kind::Dedup => dedup_key(key),
+            Kind::Regex => regex_key(key),
+            Kind::Rename => rename_key(key),
         }
     }
 
@@ -80,6 +107,7 @@ impl Kind {
         match self {
             Kind::FileInput => add_missing(wrongs, table, "files"),
             Kind::FileOutput => add_missing(wrongs, table, "files"),
+            _ => Ok(()),
         }
     }
 
@@ -94,18 +122,19 @@ impl Kind {
             (own_faults self.now limits.now (table_view table.now))) }
     {
         match self {
-            Kind::FileInput => Ok(()),
             Kind::FileOutput => add_file_output_faults(wrongs, limits, table),
+            _ => Ok(()),
         }
     }
 
-    /// The key at which the place of a plugin of this kind stands.
-    pub(crate) fn place_key(&self) -> &'static str
-        ensures { result.now ≡ place_key self.now }
+    /// The key at which the place of a plugin of this kind stands; None where it has no place.
+    pub(crate) fn place_key(&self) -> Option<&'static str>
+        ensures { option_map (λ key. key.now) result ≡ place_key self.now }
     {
         match self {
-            Kind::FileInput => "files",
-            Kind::FileOutput => "files",
+            Kind::FileInput => Some("files"),
+            Kind::FileOutput => Some("files"),
+            _ => None,
         }
     }
 }

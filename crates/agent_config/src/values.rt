@@ -11,6 +11,7 @@ ghost use Rattle.agent_config.specs.Rows.{is_long_enough};
 
 use crate::adding::{add_unless, add_wrong};
 use crate::fault::{FaultKind, Wrong};
+use crate::inner_faults::{add_table_faults, add_tables_faults};
 use crate::rows::is_counted;
 use crate::shapes::{Names, Shape, TimeRow};
 use crate::templates::add_template_faults;
@@ -43,6 +44,9 @@ pub(crate) fn add_value_faults<'a>(
         Shape::Time(row) => add_time_faults(alloc, wrongs, key, row, value),
         Shape::Globs => add_list_faults(alloc, wrongs, key, value),
         Shape::TagGlobs => add_tagged_faults(alloc, wrongs, key, value),
+        Shape::WholeNumber => add_unless(wrongs, value.is_integer(), FaultKind::WrongType, key),
+        Shape::Table(inner) => add_table_faults(alloc, wrongs, key, inner, value),
+        Shape::Tables(inner) => add_tables_faults(alloc, wrongs, key, inner, value),
     }
 }
 

@@ -12,7 +12,7 @@ use Rattle.pipeline_core.specs.Legal.{has_ended}
 use Rattle.pipeline_core.specs.Stopped.{behind_stop}
 use Rattle.pipeline_core.proofs.StopLemmas.{behind_fewer}
 use Rattle.std.proofs.lemmas.List.{length-map}
-use Rattle.agent_workers.specs.Job.{job_of, job_input, job_output, setup_of, sizes_of}
+use Rattle.agent_workers.specs.Job.{job_of, job_input, job_output, setup_of, output_sizes}
 use Rattle.agent_workers.specs.Inputs.{IsOneOf}
 use Rattle.agent_workers.specs.Run.{Change, run_at, out_run_at, Ran, RunChange, RunsFull, SomeIsFull, EndsSo, IsPutSo}
 use Rattle.agent_workers.specs.Run.{IsLeft, account_of, text_of}
@@ -95,14 +95,14 @@ module _ (config : Config) (x : WorldChange) where
 
     -- how many outputs the set-up has
     within : (o : ℕ) → o < length config.outputs → o < length (setup_of (job_of config) start).outputs
-    within o b = omega (arith, b, length-map config.outputs job_output, length-map (job_of config).outputs sizes_of)
+    within o b = omega (arith, b, length-map config.outputs job_output, length-map (job_of config).outputs output_sizes)
 
     within_back : (o : ℕ) → o < length (setup_of (job_of config) start).outputs → o < length config.outputs
     within_back o b = omega (
       arith,
       b,
       length-map config.outputs job_output,
-      length-map (job_of config).outputs sizes_of,
+      length-map (job_of config).outputs output_sizes,
     )
 
     -- the status that a run ends with says what it left
@@ -231,7 +231,7 @@ module _ (config : Config) (x : WorldChange) (sound : 1 ≤ config.agent.final_t
         arith,
         e.known,
         length-map config.outputs job_output,
-        length-map (job_of config).outputs sizes_of,
+        length-map (job_of config).outputs output_sizes,
       )) in
       let behind : 1 ≤ failed_count o (behind_stop journal) =
       failed_some config.agent.final_tries (dones o (behind_stop journal)) sound (sent.left e.some_left) in

@@ -76,5 +76,6 @@ pipe_config input output batch limit = record {
     max_undelivered = usual_undelivered;
     filter = no_rules;
   } ∷ [];
+  steps = [];
   outputs = record { place = output; format = written.Influx; batch = batch; limit = limit; filter = no_rules } ∷ [];
 }

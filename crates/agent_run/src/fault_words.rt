@@ -83,9 +83,25 @@ fn taken_words(alloc: Global, taken: Takes) -> Result<String, AllocError> {
         Takes::Time => {
             "a time above 0, as \"10s\", \"1m30s\" or \"24h\" (not \"1d\"), or a whole number of seconds"
         }
+        Takes::TimeFromZero => {
+            "a time, as \"10s\", \"1m30s\" or \"24h\" (not \"1d\"), or a whole number of seconds"
+        }
         Takes::Globs => "a list of globs, as [\"cpu*\"]",
         Takes::TagGlobs =>
             "a table of lists of globs, as {host = [\"a*\"]}, under keys that aren't empty",
+        Takes::WholeNumber => "a whole number, without quotes",
+        Takes::Replacements => {
+            "a list of tables, each with `dest` and just one of `measurement`, `tag` and `field`"
+        }
+        Takes::FieldTargets => {
+            "a table of lists of globs under `string`, `integer`, `unsigned`, `boolean`, `float` and `tag`"
+        }
+        Takes::TagTargets => {
+            "a table of lists of globs under `string`, `integer`, `unsigned`, `boolean` and `float`"
+        }
+        Takes::Rewritings => {
+            "a list of tables, each with `key`, `pattern`, `replacement` and, if it is another one, `result_key`"
+        }
     };
     String::from_str(alloc, words)
 }
@@ -116,7 +132,9 @@ fn kinds_words(class: &Class) -> &'static str {
     match class {
         Class::Inputs => "there are no such inputs; there is `file`",
         Class::Outputs => "there are no such outputs; there is `file`",
-        Class::Processors => "there are no processors",
+        Class::Processors => {
+            "there are no such processors; there are `converter`, `dedup`, `regex` and `rename`"
+        }
         Class::Aggregators => "there are no aggregators",
         _ => "there are no such plugins",
     }
@@ -152,6 +170,9 @@ fn text_words(alloc: Global, listed: &ListedFault) -> Result<String, AllocError>
     };
     let words = match listed.fault.kind {
         ConfigKind::BadGlob => glob_words(text),
+        ConfigKind::BadPattern => {
+            "is no pattern: those of Rust's regex are taken, without look-around and back-references"
+        }
         _ => "is no template: a filter, parts between points, and tags behind a space",
     };
     let text = Shown(text);
@@ -196,6 +217,38 @@ fn same_words(
     }
 }
 
+/// What a key takes in a table that stands in the value of another, by the kind of the plugin.
+fn inner_taken_words(kind: &str, inner: &str) -> &'static str {
+    match (kind, inner) {
+        ("converter", _) => "a list of globs, as [\"cpu*\"]",
+        (_, "pattern") => "a pattern, as \"^/v([0-9]+)/\"",
+        (_, "replacement") | (_, "result_key") => "a text",
+        _ => "a text that isn't empty",
+    }
+}
+
+/// What is said of a key in a table that stands in the value of another.
+fn inner_words(
+    alloc: Global,
+    listed: &ListedFault,
+    kind: &str,
+    key: &str,
+    inner: &str,
+) -> Result<String, AllocError> {
+    let name = Shown(inner);
+    let words = match listed.fault.kind {
+        ConfigKind::UnknownKey => {
+            let right = right_words(alloc, listed, kind, key)?;
+            return format!(in alloc; "{right}, and has no key `{name}`");
+        }
+        _ => inner_taken_words(kind, inner),
+    };
+    match listed.fault.kind {
+        ConfigKind::Missing => format!(in alloc; "`{name}` is missing in it, and takes {words}"),
+        _ => format!(in alloc; "`{name}` in it takes {words}"),
+    }
+}
+
 /// What is said of a key: what is wrong with it, and what would be right.
 fn key_words(
     alloc: Global,
@@ -203,10 +256,17 @@ fn key_words(
     kind: &str,
     key: &str,
 ) -> Result<String, AllocError> {
+    match (listed.fault.kind, &listed.text) {
+        (ConfigKind::BadGlob, _) | (ConfigKind::BadPattern, _) | (ConfigKind::BadTemplate, _) => {
+            return text_words(alloc, listed);
+        }
+        (_, Some(inner)) => return inner_words(alloc, listed, kind, key, inner.as_str()),
+        _ => {}
+    }
     match listed.fault.kind {
         ConfigKind::UnknownKind => String::from_str(alloc, kinds_words(&listed.fault.class)),
         ConfigKind::UnknownKey => String::from_str(alloc, unknown_words(&listed.fault.class, key)),
-        ConfigKind::BadGlob | ConfigKind::BadTemplate => text_words(alloc, listed),
+        ConfigKind::Missing if key == "replace" => right_words(alloc, listed, kind, key),
         ConfigKind::Missing => {
             let right = right_words(alloc, listed, kind, key)?;
             format!(in alloc; "is missing, and {right}")

@@ -5,7 +5,7 @@ use crate::fault_words::fault_words;
 use crate::reporting::say_all;
 use crate::shown::Shown;
 use agent_base::World;
-use agent_config::{ConfigFault, ConfigKind, TextFaults, fault_names, text_faults};
+use agent_config::{ConfigFault, ConfigKind, TextFaults, text_faults};
 use std::alloc::{AllocError, Global};
 
 /// At most so many faults of a configuration are said.
@@ -49,20 +49,12 @@ fn toml_words(alloc: Global, place: &str, text: &[u8]) -> Result<String, AllocEr
 }
 
 /// The lines that say the faults of a text, and how many more there are.
-fn lines_of(
-    alloc: Global,
-    place: &str,
-    text: &[u8],
-    faults: &TextFaults,
-) -> Result<Vec<String>, AllocError> {
+fn lines_of(alloc: Global, place: &str, faults: &TextFaults) -> Result<Vec<String>, AllocError> {
     let mut lines = Vec::new(alloc);
     let listed = faults.first.as_slice();
-    let Ok(names) = fault_names(alloc, text, listed) else {
-        return Err(AllocError);
-    };
     let place = Shown(place);
     for (index, fault) in listed.iter().enumerate() {
-        let words = fault_words(alloc, fault, names.as_slice().get(index))?;
+        let words = fault_words(alloc, fault, faults.names.as_slice().get(index))?;
         lines.push(format!(in alloc; "{place}: {words}")?)?;
     }
     let more = faults.count.saturating_sub(listed.len());
@@ -86,7 +78,7 @@ fn refusal_lines(
         return Ok(lines);
     }
     match text_faults(alloc, text, MOST_SAID) {
-        Ok(faults) => lines_of(alloc, place, text, &faults),
+        Ok(faults) => lines_of(alloc, place, &faults),
         Err(_) => Err(AllocError),
     }
 }

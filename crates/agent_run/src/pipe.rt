@@ -35,6 +35,7 @@ pub(crate) fn pipe_config(alloc: Global, pipe: &Pipe<'_>) -> Result<Config, OutO
         agent,
         globals: Seq::of(Vec::new(alloc)),
         inputs: Seq::of_one(input),
+        steps: Seq::of(Vec::new(alloc)),
         outputs: Seq::of_one(output),
     })
 }

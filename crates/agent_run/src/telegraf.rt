@@ -43,6 +43,16 @@ fn about_input(key: &str) -> Option<&'static str> {
     }
 }
 
+/// What to do about a key of a processor.
+fn about_processor(key: &str) -> Option<&'static str> {
+    match key {
+        "tag_rename" | "field_rename" | "metric_rename" => {
+            Some("leave it out: [[processors.rename]] renames, by names and not by patterns")
+        }
+        _ => None,
+    }
+}
+
 /// What to do about a key of an output.
 fn about_output(key: &str) -> Option<&'static str> {
     match key {
@@ -74,7 +84,7 @@ fn about_output(key: &str) -> Option<&'static str> {
     }
 }
 
-/// What to do about a key of an input or an output.
+/// What to do about a key of a plugin.
 fn about_plugin(key: &str) -> Option<&'static str> {
     match key {
         "metricpass" => Some("leave it out: write namepass, namedrop, tagpass or tagdrop"),
@@ -91,6 +101,7 @@ pub(crate) fn about(class: &Class, key: &str) -> Option<&'static str> {
     let own = match class {
         Class::Agent => return about_agent(key),
         Class::Inputs => about_input(key),
+        Class::Processors => about_processor(key),
         Class::Outputs => about_output(key),
         _ => None,
     };

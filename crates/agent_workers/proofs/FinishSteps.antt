@@ -14,7 +14,8 @@ use Rattle.agent_base.specs.Moments.{Moments, Gives}
 use Rattle.agent_base.proofs.ClockLemmas.{counted_joined, counted_one_over, counted_wider}
 use Rattle.journal_text.specs.JournalText.{journal_text}
 use Rattle.agent_base.specs.Carried.{Timed}
-use Rattle.agent_workers.specs.Item.{ProcPart}
+use Rattle.agent_workers.specs.Item.{ProcPart, work_by}
+use Rattle.proc_chain.specs.Chain.{AllStand}
 use Rattle.pipeline_core.specs.CoreState.{CoreState}
 use Rattle.pipeline_core.specs.Legal.{IsLegal, has_ended, gathered_count}
 use Rattle.pipeline_core.specs.Stands.{Stands}
@@ -35,7 +36,8 @@ use Rattle.agent_workers.specs.Run.{RunsFull, IsCutShort, IsUnread, IsReadFrom, 
 use Rattle.agent_workers.specs.Run.{IsLeft, Ran, buffered_at_end, account_of}
 use Rattle.agent_workers.specs.Finished.{IsCounted, Finished, begun, IsSetUp}
 use Rattle.agent_workers.specs.Noted.{JournalPart, Notes, part_change}
-use Rattle.agent_workers.specs.Job.{Job, journal_setup_of, limit_of, setup_of, sizes_of, work_of}
+use Rattle.agent_workers.specs.Job.{Job, journal_setup_of, limit_of, setup_of, output_sizes}
+use Rattle.pipeline_core.specs.Worked.{taken_items}
 use Rattle.agent_workers.specs.RunState.{RunState, Beginning, setup_at}
 use Rattle.agent_workers.specs.Progress.{HasText, Heard, Said, Progress, GoesOn, RoutesOn, SendsOn, GathersOn, RunsOn}
 use Rattle.agent_workers.specs.Progress.{NotesRun}
@@ -78,14 +80,18 @@ said_first start output none = record {
   last = λ stopped. rw none.failed_since (last_none (dones output (behind_stop [])));
 }
 
+none_taken : taken_items [] ≡ []
+unfolding items taken
+none_taken = refl
+
 -- nothing happened
 went_first : (job : Job) (start : ℤ) (now : RunState) → Stands now.core [] → now.core.setup ≡ setup_of job start
     → now.core.stored ≡ [] → Notes (journal_setup_of (setup_of job start)) now.journal.held now.journal.faults []
     now.journal → now.counted_at ≡ [] →
     length now.ins ≡ length job.inputs → ((k : ℕ) → k < length now.ins → IsFresh (in_at now.ins k))
-    → AreUnfailed now.outs → length now.outs ≡ length job.outputs → job.work ≡ work_of now.proc.outs
-    → Progress (begun job start now) now
-went_first job start now stands setup stored notes none in_count fresh unfailed count work = record {
+    → AreUnfailed now.outs → length now.outs ≡ length job.outputs → job.work ≡ work_by now.proc
+    → AllStand now.proc.chain [] → Progress (begun job start now) now
+went_first job start now stands setup stored notes none in_count fresh unfailed count work pushed = record {
   journal = [];
   text = record {
     stands = stands;
@@ -102,6 +108,7 @@ went_first job start now stands setup stored notes none in_count fresh unfailed 
   said = λ o l. said_first (out_at now.outs o) o (unfailed o l);
   work_is = work;
   worked = worked_first job.work;
+  pushed = subst (AllStand now.proc.chain) (sym none_taken) pushed;
   order = record {
     in_order = λ f. in_order_first (setup_of job start);
     none_raw = λ f k l. raw_of-none k [] none_raw_first;
@@ -120,7 +127,8 @@ pub record AreNew (job : Job) (start : ℤ) (now : RunState) : Type 0 where
   pub outputs : AreOutputs (length job.outputs) now.outs
   pub unfailed : AreUnfailed now.outs
   pub filters : length now.proc.outs ≡ length job.outputs
-  pub work : job.work ≡ work_of now.proc.outs
+  pub work : job.work ≡ work_by now.proc
+  pub pushed : AllStand now.proc.chain []
   pub about : now.journal.setup ≡ journal_setup_of (setup_of job start)
   pub kept : now.journal.kept ≡ []
   pub entries : now.journal.entries ≡ 0
@@ -134,7 +142,7 @@ pub is_set_up : (job : Job) (start : ℤ) (now : RunState) → length job.output
     → IsSetUp job start now
 is_set_up job start now few ready going stands setup stored ended none new =
     let outputs_are : length now.core.setup.outputs ≡ length job.outputs =
-    ap (λ (s : Setup). length s.outputs) setup ∙ length-map job.outputs sizes_of in
+    ap (λ (s : Setup). length s.outputs) setup ∙ length-map job.outputs output_sizes in
     let inputs_are : length now.core.setup.inputs ≡ length job.inputs =
     ap (λ (s : Setup). length s.inputs) setup ∙ length-map job.inputs limit_of in
     record {
@@ -149,7 +157,7 @@ is_set_up job start now few ready going stands setup stored ended none new =
       settled = none_buffered now.core now.outs none;
       agrees = went_first job start now stands setup stored (notes_none
           (journal_setup_of (setup_of job start)) now.journal new.about new.kept new.entries new.put) new.counted
-          new.in_count new.fresh.fresh new.unfailed new.outputs.count_is new.work;
+          new.in_count new.fresh.fresh new.unfailed new.outputs.count_is new.work new.pushed;
     }
 
 -- ---- the end

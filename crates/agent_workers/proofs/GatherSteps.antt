@@ -39,7 +39,7 @@ use Rattle.agent_workers.proofs.GatherLemmas.{entry_of, said_of}
 use Rattle.agent_workers.proofs.HeardLemmas.{IsNotOf, read_to, heard_push, heard_accepted, heard_full, heard_ended}
 use Rattle.agent_workers.proofs.HeardLemmas.{heard_free, heard_read_none, heard_read_some}
 use Rattle.agent_workers.proofs.ProgressLemmas.{text-push, all_heard_set, all_said_push, order-push, went_behind}
-use Rattle.agent_workers.proofs.ProgressLemmas.{all_flushed}
+use Rattle.agent_workers.proofs.ProgressLemmas.{all_flushed, pushed_still}
 use Rattle.formats.proofs.GroupLemmas.{told_then}
 
 -- one of the inputs changes, and the journal stays
@@ -55,6 +55,7 @@ went_set start core now ins i part b w here = record {
   said = w.said;
   work_is = w.work_is;
   worked = w.worked;
+  pushed = w.pushed;
   order = w.order;
   counted_at = w.counted_at;
 }
@@ -170,6 +171,7 @@ went_accepted start core next now ins part g b at own no_aggs few is more settle
           w.said;
       work_is = w.work_is;
       worked = worked-push start.job.work w.journal e tt w.worked;
+      pushed = pushed_still core now.proc.chain w.journal e w.text.stands refl w.pushed;
       order = order-push start core i (i + 1) w.journal e w.text.stands (omega arith)
           (λ f. drained start core (record now { ins = ins; next = i }) w g.input (omega (arith, own)) f no_aggs
           (settled f))
@@ -222,6 +224,7 @@ went_ended start core next now ins part b at some is more none w =
           w.said;
       work_is = w.work_is;
       worked = worked-push start.job.work w.journal e tt w.worked;
+      pushed = pushed_still core now.proc.chain w.journal e w.text.stands refl w.pushed;
       order = order-push start core now.next now.next w.journal e w.text.stands (omega arith) (λ f. tt)
           (λ k l. refl) w.order;
       counted_at = counted_moments-same w.journal e refl ∙ w.counted_at;

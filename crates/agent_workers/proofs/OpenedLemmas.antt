@@ -17,6 +17,8 @@ use Rattle.metric.specs.Metric.{IsFilledTag}
 use Rattle.agent_workers.specs.Finished.{FinishesSo, begun}
 use Rattle.agent_workers.specs.Inputs.{InPart, in_of, ins_of, in_at, IsSameInput, AreSameInputs, AreFresh, IsFresh}
 use Rattle.agent_workers.specs.Inputs.{IsReadable}
+use Rattle.proc_chain.specs.Chain.{steps_of, IsBehind}
+use Rattle.proc_chain.specs.declared.step.Step.{Step}
 use Rattle.agent_workers.specs.Job.{Job, job_of, job_input, job_output, journal_setup_of, rule_by, setup_of, work_of}
 use Rattle.agent_workers.specs.Noted.{part_change}
 use Rattle.agent_workers.specs.Opened.{Carries, Times, fresh_in, fresh_ins, fresh_out, fresh_outs, empty_hands}
@@ -128,6 +130,7 @@ pub record AreMade (config : Config) (start : ℤ) (opened : Carries) (times : T
   pub ins_are : now.ins ≡ fresh_ins config 0 config.inputs opened.sources times.ins
   pub outs_are : now.outs ≡ fresh_outs 0 config.outputs opened.sinks
   pub filters : now.proc.outs ≡ config.outputs
+  pub chain : IsBehind config.steps [] now.proc.chain
   pub about : now.journal.setup ≡ journal_setup_of (setup_of (job_of config) start)
   pub kept : now.journal.kept ≡ []
   pub entries : now.journal.entries ≡ 0
@@ -157,7 +160,9 @@ is_made config start opened times now sound new made =
             outputs = subst (λ (k : ℕ). AreOutputs k now.outs) (sym out_jobs) outputs;
             unfailed = subst AreUnfailed (sym made.outs_are) (are_unfailed config.outputs opened.sinks);
             filters = ap length made.filters ∙ sym out_jobs;
-            work = ap work_of (sym made.filters);
+            work = ap (λ (steps : List Step). work_of steps config.outputs) (sym made.chain.same)
+                ∙ ap (work_of (steps_of now.proc.chain)) (sym made.filters);
+            pushed = made.chain.each;
             about = made.about;
             kept = made.kept;
             entries = made.entries;

@@ -1,7 +1,8 @@
 -- Outputs by their indices: one changes, and the others stay.
-use Rattle.std.proofs.Common.{◌≡◌, ◌≢◌, ◌≤◌, ◌<◌, ◌+◌, ℕ, Bool, true, false, List, [], ◌++◌, length, take, drop, get_or}
+use Rattle.std.proofs.Common.{◌≡◌, ◌≢◌, ◌≤◌, ◌<◌, ◌+◌, ℕ, Bool, true, false, List, [], ◌∷◌, ◌++◌, length, take, drop, get_or}
 use Rattle.std.proofs.Common.{set, refl, sym, ap, ◌∙◌, subst, inl, inr, arith}
-use Rattle.std.specs.Prelude.{map, All}
+use Rattle.std.specs.Prelude.{map, slice_get, All}
+use Rattle.std.specs.List.{AllByRecursion}
 use Rattle.std.proofs.lemmas.Bool.{cases_eq}
 use Rattle.std.proofs.lemmas.List.{length-map, length-set, get_or-map, get_or-set_same, get_or-set_other, set-set}
 use Rattle.std.proofs.lemmas.List.{map-set}
@@ -11,6 +12,7 @@ use Rattle.agent_base.specs.Carried.{Carried}
 use Rattle.metric.specs.declared.metric.Content.{Content}
 use Rattle.account.specs.Numbers.{output_numbers, unreached_output}
 use Rattle.account.specs.Setup.{Setup}
+use Rattle.account.specs.Views.{HasViews}
 use Rattle.out_lane.specs.Lane.{LaneState, empty_lane}
 use Rattle.out_lane.specs.Lane as lane
 use Rattle.pipeline_core.specs.CoreState.{CoreState, lane_at, lane_of, first_state, sizes}
@@ -25,7 +27,8 @@ use Rattle.pipeline_core.proofs.Offering.{lanes_with-at, length-lanes_with}
 use Rattle.agent_workers.specs.Output.{OutPart, out_of, outs_of, out_at, no_out, anew, AreAnew, AreOutputs}
 use Rattle.agent_workers.specs.Item.{TakesNext, routed_by}
 use Rattle.agent_workers.specs.declared.output.OutJob.{OutJob}
-use Rattle.pipeline_core.specs.Work.{Work}
+use Rattle.agent_config.specs.declared.config.OutputConf.{OutputConf}
+use Rattle.agent_workers.specs.Job.{filters_of}
 use Rattle.pipeline_core.specs.Worked.{views_of}
 use Rattle.pipeline_core.specs.declared.gathering.Item.{Item}
 use Rattle.std.proofs.lemmas.List.Edits.{map_over_more}
@@ -148,21 +151,6 @@ view_kept : (item : ℕ) (view : Option Content) (x : LaneState Offer) → IsLan
 view_kept item None x = record { batch = refl; flight = refl }
 view_kept item (Some view) x = record { batch = refl; flight = refl }
 
--- an item was routed, and views were offered
-pub routed_kept : (core next : CoreState) (item : ℕ) (metric : Content) (aggs outs : List (Option Content))
-    → next ≡ after_route core (record { item = item; whole = Some metric; aggs = aggs; outs = outs })
-    → IsRoutable core next
-routed_kept core next item metric aggs outs is = record {
-  setup = ap (λ (s : CoreState). s.setup) is;
-  ended = ap (λ (s : CoreState). s.ended) is;
-  gathered = ap (λ (s : CoreState). s.gathered) is;
-  stopped = ap (λ (s : CoreState). s.stopped) is;
-  lane_count = ap (λ (s : CoreState). length s.lanes) is ∙ length-lanes_with item outs core.lanes;
-  each = λ o b. subst (IsLaneKept (lane_at core.lanes o)) (sym (ap (λ (s : CoreState). lane_at s.lanes o) is
-      ∙ lanes_with-at item outs core.lanes o b))
-      (view_kept item (view_at o outs) (lane_at core.lanes o));
-}
-
 pub routable_same : (old new : CoreState) → new.setup ≡ old.setup → new.ended ≡ old.ended → new.gathered ≡ old.gathered
     → new.stopped ≡ old.stopped → new.lanes ≡ old.lanes → IsRoutable old new
 routable_same old new setup ended gathered stopped lanes = record {
@@ -177,6 +165,24 @@ routable_same old new setup ended gathered stopped lanes = record {
   };
 }
 
+-- an item was routed, and views were offered; to one that was removed nothing is
+pub routed_kept : (core next : CoreState) (item : ℕ) (whole : Option Content) (aggs outs : List (Option Content))
+    → next ≡ after_route core (record { item = item; whole = whole; aggs = aggs; outs = outs })
+    → IsRoutable core next
+routed_kept core next item None aggs outs is =
+    routable_same core next (ap (λ (s : CoreState). s.setup) is) (ap (λ (s : CoreState). s.ended) is)
+    (ap (λ (s : CoreState). s.gathered) is) (ap (λ (s : CoreState). s.stopped) is) (ap (λ (s : CoreState). s.lanes) is)
+routed_kept core next item (Some metric) aggs outs is = record {
+  setup = ap (λ (s : CoreState). s.setup) is;
+  ended = ap (λ (s : CoreState). s.ended) is;
+  gathered = ap (λ (s : CoreState). s.gathered) is;
+  stopped = ap (λ (s : CoreState). s.stopped) is;
+  lane_count = ap (λ (s : CoreState). length s.lanes) is ∙ length-lanes_with item outs core.lanes;
+  each = λ o b. subst (IsLaneKept (lane_at core.lanes o)) (sym (ap (λ (s : CoreState). lane_at s.lanes o) is
+      ∙ lanes_with-at item outs core.lanes o b))
+      (view_kept item (view_at o outs) (lane_at core.lanes o));
+}
+
 pub routable_more : (old mid new : CoreState) → IsRoutable old mid → IsRoutable mid new → IsRoutable old new
 routable_more old mid new h k = record {
   setup = k.setup ∙ h.setup;
@@ -188,15 +194,37 @@ routable_more old mid new h k = record {
       record { batch = c.batch ∙ a.batch; flight = c.flight ∙ a.flight };
 }
 
+first_gone : (xs : List Content) (x : Content) → slice_get xs 0 ≡ Some x → length (drop 1 xs) + 1 ≡ length xs
+first_gone [] x at = absurd (let none : None ≡ Some x = at in cc)
+first_gone (y ∷ ys) x at = omega arith
+
 -- an item was taken and routed
-pub item_routed : (core mid next : CoreState) (item : Item) (work : Work) → TakesNext core mid item
-    → next ≡ after_route mid (routed_by work item.number item.metric) → IsRoutable core next
-item_routed core mid next item work takes is =
+pub item_routed : (core mid next : CoreState) (item : Item) (outs : List OutputConf) (whole : Option Content)
+    → TakesNext core mid item → next ≡ after_route mid (routed_by outs item.number whole) → IsRoutable core next
+item_routed core mid next item outs whole takes is =
     routable_more core mid next
     (routable_same core mid (ap (λ (s : CoreState). s.setup) takes.after) (ap (λ (s : CoreState). s.ended) takes.after)
     (ap (λ (s : CoreState). s.gathered) takes.after) (ap (λ (s : CoreState). s.stopped) takes.after)
     (ap (λ (s : CoreState). s.lanes) takes.after))
-    (routed_kept mid next item.number item.metric [] (views_of work.outs (Some item.metric)) is)
+    (routed_kept mid next item.number whole [] (views_of (filters_of outs) whole) is)
+
+-- and one raw item fewer is left
+pub item_fewer : (core mid next : CoreState) (item : Item) (outs : List OutputConf) (whole : Option Content)
+    → TakesNext core mid item → next ≡ after_route mid (routed_by outs item.number whole)
+    → length next.raw + 1 ≡ length core.raw
+item_fewer core mid next item outs whole takes is =
+    let left : next.raw ≡ drop 1 core.raw = ap (λ (s : CoreState). s.raw) is ∙ ap (λ (s : CoreState). s.raw) takes.after in
+    ap (λ (xs : List Content). length xs + 1) left ∙ first_gone core.raw item.metric takes.metric
+
+-- of an item that was removed nothing is there at any output
+no_view : (fs : List (Content → Option Content)) → AllByRecursion (λ (view : Option Content). view ≡ None)
+    (map (λ (f : Content → Option Content). None) fs)
+no_view [] = tt
+no_view (f ∷ fs) = (refl, no_view fs)
+
+pub has_views : (fs : List (Content → Option Content)) (whole : Option Content) → HasViews whole (views_of fs whole)
+has_views fs None = no_view fs
+has_views fs (Some whole) = tt
 
 -- items were routed: the core is ready as before
 pub ready_routed : (old new : CoreState) → IsReady old → IsRoutable old new → new.held ≡ None → IsReady new

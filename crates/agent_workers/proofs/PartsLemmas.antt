@@ -1,8 +1,9 @@
 -- The parts of a run, with other jobs.
-use Rattle.std.proofs.Common.{◌≡◌, List, refl}
+use Rattle.std.proofs.Common.{◌≡◌, ◌∙◌, List, refl}
 use Rattle.agent_base.specs.Carried.{Carried, Timed}
 use Rattle.pipeline_core.specs.CoreState.{CoreState}
 use Rattle.agent_workers.specs.Inputs.{ins_of}
+use Rattle.agent_workers.specs.Item.{IsSameProc, ProcPart}
 use Rattle.agent_workers.specs.Output.{outs_of}
 use Rattle.agent_workers.specs.RunState.{state_of}
 use Rattle.agent_workers.specs.declared.input.InJob.{InJob}
@@ -16,3 +17,10 @@ pub state_by : {S K C : Type 0} (told : S → Carried) (put : K → Carried) (ti
     state_of told put timed core parts ≡ record (state_of told put timed core parts)
     { ins = ins_of told timed inputs; outs = outs_of put outputs }
 state_by told put timed core parts inputs outputs a b = rw (a, b) refl
+
+-- steps and outputs that are the same at each of two steps
+pub same_proc : (old mid new : ProcPart) → IsSameProc old mid → IsSameProc mid new → IsSameProc old new
+same_proc old mid new h k = record { steps = k.steps ∙ h.steps; outs = k.outs ∙ h.outs }
+
+pub proc_itself : (proc : ProcPart) → IsSameProc proc proc
+proc_itself proc = record { steps = refl; outs = refl }

@@ -2,13 +2,15 @@
 use Rattle.std.proofs.Common.{◌≡◌, ◌≢◌, ◌≤◌, ◌<◌, ℕ, ℤ, length, set, Bool, true, false, List, [], ◌∷◌, ◌++◌, refl, sym}
 use Rattle.std.proofs.Common.{ap, ◌∙◌, subst, arith, append_assoc, append-nil}
 use Rattle.std.proofs.Common.{inl, inr}
-use Rattle.std.specs.Prelude.{not, count_by, slice_get, map}
+use Rattle.std.specs.Prelude.{not, count_by, slice_get, map, take}
 use Rattle.std.specs.Int.{int_max}
 use Rattle.std.specs.List.{filter}
+use Rattle.std.specs.declared.option.Option.{Option}
 use Rattle.std.specs.declared.option.Option.TheVariants.{Some}
 use Rattle.account.specs.Setup.{Setup}
 use Rattle.account.specs.Numbers.{Numbers, output_numbers}
-use Rattle.account.specs.Items.{items}
+use Rattle.account.specs.Items.{items, taken, takes_by}
+use Rattle.account.proofs.ItemLemmas.{items-push}
 use Rattle.account.specs.Origins.{origins_by, is_of_input}
 use Rattle.account.specs.declared.entry.Entry.{Entry}
 use Rattle.account.specs.declared.entry.Entry.TheVariants.{Take, Route, Stop}
@@ -34,9 +36,12 @@ use Rattle.account.specs.Dones.{dones_by, dones}
 use Rattle.pipeline_core.specs.Stopped.{behind_stop}
 use Rattle.agent_workers.specs.Noted.{JournalPart, Notes, NotesOn}
 use Rattle.pipeline_core.specs.Order.{EndsFailed, IsFlushed, IsOrderly}
-use Rattle.pipeline_core.specs.Worked.{views_of, Worked}
+use Rattle.pipeline_core.specs.Worked.{taken_items, views_of, Worked}
+use Rattle.pipeline_core.specs.declared.routing.Routed.{Routed}
+use Rattle.proc_chain.specs.Chain.{steps_of, AllStand, StageState}
+use Rattle.proc_chain.specs.declared.step.Step.{Step}
 use Rattle.pipeline_core.specs.declared.gathering.Item.{Item}
-use Rattle.agent_workers.specs.Job.{journal_setup_of, sizes_of, work_of}
+use Rattle.agent_workers.specs.Job.{filters_of, journal_setup_of, output_sizes, work_of}
 use Rattle.account.specs.Routes.{RouteOnInOrder}
 use Rattle.agent_workers.specs.Inputs.{InPart, in_at, no_in}
 use Rattle.agent_workers.specs.RunState.{RunState, Beginning, setup_at}
@@ -46,7 +51,7 @@ use Rattle.agent_workers.specs.Output.{OutPart, out_at, anew, AreAnew}
 use Rattle.pipeline_core.specs.Totals.{totals}
 use Rattle.pipeline_core.specs.Windows.{HasNoAggs}
 use Rattle.agent_workers.specs.Run.{buffered_at_end}
-use Rattle.agent_workers.specs.Item.{ProcPart, TakesNext, routed_by}
+use Rattle.agent_workers.specs.Item.{IsSameProc, ProcPart, Pushes, TakesNext, routed_by, work_by}
 use Rattle.agent_workers.specs.Running.{buffered_at, AreSettled}
 use Rattle.agent_workers.proofs.OutLemmas.{each_set, at_anew}
 use Rattle.agent_workers.proofs.FailedLemmas.{failed_same}
@@ -60,7 +65,8 @@ use Rattle.agent_workers.proofs.MomentLemmas.{counted_from-last}
 use Rattle.pipeline_core.proofs.OrderLemmas.{in_order-push, flushed_plain}
 use Rattle.pipeline_core.proofs.SentLemmas.{EndsNone}
 use Rattle.agent_workers.proofs.SentLemmas.{sent_same}
-use Rattle.pipeline_core.proofs.WorkedLemmas.{worked-push, worked_plain, first_raw, item_stays}
+use Rattle.pipeline_core.proofs.WorkedLemmas.{worked-push, worked_next, first_raw, item_stays, taken_items-same}
+use Rattle.pipeline_core.proofs.WorkedLemmas.{taken_items-take}
 
 -- the core stands for one entry more, and stores it
 pub text-push : (start : Beginning) (core next : CoreState) (part : JournalPart) (journal : List Entry) (e : Entry)
@@ -148,6 +154,7 @@ went_next start core now next none w = record {
   said = w.said;
   work_is = w.work_is;
   worked = w.worked;
+  pushed = w.pushed;
   order = record {
     in_order = w.order.in_order;
     none_raw = λ f input b. raw_of-none input w.journal
@@ -168,6 +175,7 @@ went_timed start now timer w = record {
   said = w.said;
   work_is = w.work_is;
   worked = w.worked;
+  pushed = w.pushed;
   order = w.order;
   counted_at = w.counted_at;
 }
@@ -185,6 +193,7 @@ went_behind start core now next last l w = record {
   said = w.said;
   work_is = w.work_is;
   worked = w.worked;
+  pushed = w.pushed;
   order = record {
     in_order = w.order.in_order;
     none_raw = λ f input b. w.order.none_raw f input
@@ -284,57 +293,50 @@ went_anew start core now outs new_outs are w = record {
   said = all_said_fresh start.outs outs new_outs w.journal are w.said;
   work_is = w.work_is;
   worked = w.worked;
+  pushed = w.pushed;
   order = w.order;
   counted_at = w.counted_at;
 }
 
--- an item was taken
-pub went_take : (start : Beginning) (core next : CoreState) (now : RunState) → next ≡ after_take core
-    → Continues core next (Take core.taken) → Progress start (record now { core = core })
-    → Progress start (record now { core = next })
-went_take start core next now is more w =
-    let e : Entry = Take core.taken in
-    record {
-      journal = w.journal ++ e ∷ [];
-      text = text-push start core next now.journal w.journal e w.text more (ap (λ (s : CoreState). s.stored) is)
-          (ap (λ (s : CoreState). s.setup) is);
-      in_count = w.in_count;
-      heard = all_heard_push start.ins now.ins w.journal e (λ k. record { none = refl; other = refl }) w.heard;
-      out_count = w.out_count;
-      said = all_said_push start.outs now.outs w.journal e (λ o. record { ends = tt; none = refl; quiet = refl }) refl
-          w.said;
-      work_is = w.work_is;
-      worked = worked-push start.job.work w.journal e tt w.worked;
-      order = order-push start core now.next now.next w.journal e w.text.stands (omega arith) (λ f. tt)
-          (λ k b. refl) w.order;
-      counted_at = counted_moments-same w.journal e refl ∙ w.counted_at;
-    }
+-- the steps stand for the same items after an entry that takes none
+pub pushed_still : (core : CoreState) (chain : List StageState) (journal : List Entry) (e : Entry) → Stands core journal
+    → takes_by e ≡ 0 → AllStand chain (taken_items journal) → AllStand chain (taken_items (journal ++ e ∷ []))
+pushed_still core chain journal e stands none h =
+    subst (AllStand chain) (sym (taken_items-same core.setup journal e stands.legal none)) h
 
 -- the first raw item was taken and routed
-pub went_route : (start : Beginning) (core mid next : CoreState) (now : RunState) (proc : ProcPart) (metric : Content)
-    → AreAnew now.outs → slice_get core.raw 0 ≡ Some metric → mid ≡ after_take core
-    → Continues core mid (Take core.taken) → next ≡ after_route mid (routed_by (work_of proc.outs) core.taken metric) →
-    Continues mid next (route_entry mid (routed_by (work_of proc.outs) core.taken metric))
-    → Progress start (record now { core = core; proc = proc })
-    → Progress start (record now { core = next; proc = proc })
-went_route start core mid next now proc metric fresh first taken takes routed routes w =
-    let work : Work = work_of proc.outs in
-    let shape : IsRouteEntry (routed_by work core.taken metric) (route_entry mid (routed_by work core.taken metric)) =
-    entries-have-shape.routes mid (routed_by work core.taken metric) in
+pub went_route : (start : Beginning) (core mid next : CoreState) (now : RunState) (proc new_proc : ProcPart)
+    (metric : Content) (whole : Option Content) → AreAnew now.outs → slice_get core.raw 0 ≡ Some metric →
+    mid ≡ after_take core → Continues core mid (Take core.taken) →
+    next ≡ after_route mid (routed_by proc.outs core.taken whole)
+    → Continues mid next (route_entry mid (routed_by proc.outs core.taken whole)) → Pushes proc new_proc metric whole
+    → IsSameProc proc new_proc → Progress start (record now { core = core; proc = proc })
+    → Progress start (record now { core = next; proc = new_proc })
+went_route start core mid next now proc new_proc metric whole fresh first took takes routed routes pushes same w =
+    let routing : Routed = routed_by proc.outs core.taken whole in
+    let shape : IsRouteEntry routing (route_entry mid routing) = entries-have-shape.routes mid routing in
     let verdict : Verdict = shape.0 in
     let reports : List Report = shape.1 in
     let t : Entry = Take core.taken in
-    let e : Entry = Route core.taken (Some metric) verdict [] (views_of work.outs (Some metric)) reports in
+    let e : Entry = Route core.taken whole verdict [] (views_of (filters_of proc.outs) whole) reports in
     let at : slice_get (items w.journal) core.taken ≡ Some metric =
     first_raw core w.journal metric w.text.stands first in
     let there : slice_get (items (w.journal ++ t ∷ [])) core.taken ≡ Some metric =
     item_stays w.journal t core.taken metric at in
+    let work : Work = work_by proc in
     let before : Worked work w.journal = subst (λ (x : Work). Worked x w.journal) w.work_is w.worked in
+    let count : core.taken ≡ taken w.journal = w.text.stands.taken_is in
+    let pushed : taken_items (w.journal ++ t ∷ []) ≡ taken_items w.journal ++ metric ∷ [] =
+    taken_items-take w.journal core.taken metric
+    (subst (λ (n : ℕ). slice_get (items w.journal) n ≡ Some metric) count at) in
+    let front : taken_items w.journal ≡ take core.taken (items (w.journal ++ t ∷ [])) =
+    ap (λ (n : ℕ). take n (items w.journal)) (sym count)
+    ∙ ap (take core.taken) (sym (items-push w.journal t ∙ append-nil (items w.journal))) in
     record {
       journal = (w.journal ++ t ∷ []) ++ e ∷ [];
       text = text-push start mid next now.journal (w.journal ++ t ∷ []) e
-          (text-push start core mid now.journal w.journal t w.text takes (ap (λ (x : CoreState). x.stored) taken)
-          (ap (λ (x : CoreState). x.setup) taken)) (subst (Continues mid next) shape.2 routes)
+          (text-push start core mid now.journal w.journal t w.text takes (ap (λ (x : CoreState). x.stored) took)
+          (ap (λ (x : CoreState). x.setup) took)) (subst (Continues mid next) shape.2 routes)
           (ap (λ (x : CoreState). x.stored) routed ∙ ap (λ (x : Entry). mid.stored ++ x ∷ []) shape.2)
           (ap (λ (x : CoreState). x.setup) routed);
       in_count = w.in_count;
@@ -344,10 +346,15 @@ went_route start core mid next now proc metric fresh first taken takes routed ro
       said = all_said_anew start.outs now.outs (w.journal ++ t ∷ []) e fresh (λ o. tt) (λ o. refl)
           (all_said_push start.outs now.outs w.journal t (λ o. record { ends = tt; none = refl; quiet = refl }) refl
           w.said);
-      work_is = w.work_is;
+      work_is = w.work_is ∙ ap (λ (steps : List Step). work_of steps proc.outs) (sym same.steps)
+          ∙ ap (work_of (steps_of new_proc.chain)) (sym same.outs);
       worked = subst (λ (x : Work). Worked x ((w.journal ++ t ∷ []) ++ e ∷ [])) (sym w.work_is)
-          (worked_plain work (w.journal ++ t ∷ []) core.taken metric verdict reports refl refl refl there
+          (worked_next work (w.journal ++ t ∷ []) core.taken metric whole verdict reports refl refl there
+          (pushes.whole_is (taken_items w.journal) w.pushed
+          ∙ ap (λ (xs : List Content). work.whole (xs ++ metric ∷ [])) front)
           (worked-push work w.journal t tt before));
+      pushed = pushed_still mid new_proc.chain (w.journal ++ t ∷ []) e (takes w.journal w.text.stands) refl
+          (subst (AllStand new_proc.chain) (sym pushed) (pushes.stands (taken_items w.journal) w.pushed));
       order = order-push start mid now.next now.next (w.journal ++ t ∷ []) e (takes w.journal w.text.stands)
           (omega arith) (λ f. tt) (λ k b. refl) (order-push start core now.next now.next w.journal t w.text.stands
           (omega arith) (λ f. tt) (λ k b. refl) w.order);
@@ -370,6 +377,7 @@ went_cut start core next part more now stands is notes w = record {
   said = w.said;
   work_is = w.work_is;
   worked = w.worked;
+  pushed = w.pushed;
   order = w.order;
   counted_at = w.counted_at;
 }
@@ -391,7 +399,7 @@ pub all_flushed : (start : Beginning) (core : CoreState) (now : RunState)
 all_flushed start core now w no_aggs settled =
     flushed_plain (setup_at start) w.journal (aggs_start start core now w no_aggs)
     (λ o within.
-    let b : o < length now.outs = omega (arith, within, w.out_count, length-map start.job.outputs sizes_of) in
+    let b : o < length now.outs = omega (arith, within, w.out_count, length-map start.job.outputs output_sizes) in
     elim (settled o b) [
       | inl none ↦ inl (sym (buffered_is start core now.journal w.journal w.text o) ∙ none)
       | inr some ↦ inr ((w.said o b).stuck some)
@@ -427,6 +435,7 @@ went_stop start core next now outs new_outs moment no_aggs none_raw settled are 
           (all_said_fresh start.outs outs new_outs w.journal are w.said);
       work_is = w.work_is;
       worked = worked-push start.job.work w.journal e tt w.worked;
+      pushed = pushed_still core now.proc.chain w.journal e w.text.stands refl w.pushed;
       order = order-push start core now.next now.next w.journal e w.text.stands (omega arith)
           (λ f. record {
             none_raw = sym w.text.stands.raw ∙ none_raw;
@@ -438,14 +447,15 @@ went_stop start core next now outs new_outs moment no_aggs none_raw settled are 
     }
 
 -- the same of an item with the number of the first raw one
-pub went_item : (start : Beginning) (core mid next : CoreState) (now : RunState) (proc : ProcPart) (item : Item)
-    → AreAnew now.outs → TakesNext core mid item →
-    next ≡ after_route mid (routed_by (work_of proc.outs) item.number item.metric)
-    → Continues mid next (route_entry mid (routed_by (work_of proc.outs) item.number item.metric))
+pub went_item : (start : Beginning) (core mid next : CoreState) (now : RunState) (proc new_proc : ProcPart) (item : Item)
+    (whole : Option Content) → AreAnew now.outs → TakesNext core mid item →
+    next ≡ after_route mid (routed_by proc.outs item.number whole)
+    → Continues mid next (route_entry mid (routed_by proc.outs item.number whole))
+    → Pushes proc new_proc item.metric whole → IsSameProc proc new_proc
     → Progress start (record now { core = core; proc = proc })
-    → Progress start (record now { core = next; proc = proc })
-went_item start core mid next now proc item fresh takes routed routes w =
-    let work : Work = work_of proc.outs in
-    went_route start core mid next now proc item.metric fresh takes.metric takes.after takes.continues
-    (subst (λ (n : ℕ). next ≡ after_route mid (routed_by work n item.metric)) takes.number routed)
-    (subst (λ (n : ℕ). Continues mid next (route_entry mid (routed_by work n item.metric))) takes.number routes) w
+    → Progress start (record now { core = next; proc = new_proc })
+went_item start core mid next now proc new_proc item whole fresh takes routed routes pushes same w =
+    went_route start core mid next now proc new_proc item.metric whole fresh takes.metric takes.after takes.continues
+    (subst (λ (n : ℕ). next ≡ after_route mid (routed_by proc.outs n whole)) takes.number routed)
+    (subst (λ (n : ℕ). Continues mid next (route_entry mid (routed_by proc.outs n whole))) takes.number routes)
+    pushes same w

@@ -40,7 +40,7 @@ use Rattle.account.proofs.DoneLemmas.{dones-same, dones-more, failed-more, last_
 use Rattle.agent_workers.proofs.RoseLemmas.{rose_later, rose_more}
 use Rattle.pipeline_core.proofs.StopLemmas.{behind_stop-push, stop_before}
 use Rattle.account.proofs.MomentLemmas.{counted_moments-same}
-use Rattle.agent_workers.proofs.ProgressLemmas.{text-push, all_heard_push, order-push}
+use Rattle.agent_workers.proofs.ProgressLemmas.{text-push, all_heard_push, order-push, pushed_still}
 use Rattle.agent_workers.proofs.SentLemmas.{sent_accepted, sent_failed}
 use Rattle.pipeline_core.proofs.WorkedLemmas.{worked-push}
 
@@ -116,6 +116,8 @@ module _ (start : Beginning) (core mid next : CoreState) (now : RunState) (old n
         said = said_done reports ok w.journal w.said said;
         work_is = w.work_is;
         worked = worked-push start.job.work between end tt (worked-push start.job.work w.journal begin tt w.worked);
+        pushed = pushed_still mid now.proc.chain between end (begins w.journal w.text.stands) refl
+            (pushed_still core now.proc.chain w.journal begin w.text.stands refl w.pushed);
         order = order-push start mid now.next now.next between end (begins w.journal w.text.stands) (omega arith)
             (λ f. tt) (λ k b. refl)
             (order-push start core now.next now.next w.journal begin w.text.stands (omega arith)

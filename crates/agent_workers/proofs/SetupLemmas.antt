@@ -19,7 +19,7 @@ use Rattle.pipeline_core.specs.declared.setup.CoreSetup.{CoreSetup}
 use Rattle.pipeline_core.specs.declared.setup.InSetup.{InSetup}
 use Rattle.pipeline_core.specs.declared.setup.OutSetup.{OutSetup}
 use Rattle.agent_workers.specs.Job.{job_of, job_input, job_output, journal_setup_of, limit_by, limit_of, setup_of}
-use Rattle.agent_workers.specs.Job.{sizes_by, sizes_of}
+use Rattle.agent_workers.specs.Job.{sizes_by, output_sizes}
 use Rattle.agent_workers.specs.Opened.{in_setup, out_setup}
 use Rattle.agent_workers.specs.Running.{buffered_at}
 
@@ -29,7 +29,7 @@ limits_are : (config : Config) (confs : List InputConf) → map limit_of (map (j
 limits_are config [] = refl
 limits_are config (conf ∷ confs) = ap (λ (xs : List (Option ℕ)). limit_by conf ∷ xs) (limits_are config confs)
 
-sizes_are : (confs : List OutputConf) → map sizes_of (map job_output confs) ≡ map sizes_by confs
+sizes_are : (confs : List OutputConf) → map output_sizes (map job_output confs) ≡ map sizes_by confs
 sizes_are [] = refl
 sizes_are (conf ∷ confs) = ap (λ (xs : List (ℕ × ℕ)). sizes_by conf ∷ xs) (sizes_are confs)
 

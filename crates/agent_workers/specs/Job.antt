@@ -11,9 +11,11 @@ use Rattle.agent_config.specs.declared.config.OutputConf.{OutputConf}
 use Rattle.format_words.specs.declared.format.OutFormat.{OutFormat}
 use Rattle.formats.specs.Reader.{InRule, in_rule}
 use Rattle.journal_text.specs.declared.setup.JournalSetup.{JournalSetup}
+use Rattle.metric.specs.declared.metric.Content.{Content}
 use Rattle.metric_filter.specs.Filter.{applied}
 use Rattle.pipeline_core.specs.Work.{Work}
-use Rattle.pipeline_core.specs.Worked.{last_of}
+use Rattle.proc_chain.specs.Steps.{whole as whole_by}
+use Rattle.proc_chain.specs.declared.step.Step.{Step}
 
 -- an input of a job: by what rule it is read, and how many of its groups may be undelivered at most; none
 -- where it isn't tracked
@@ -40,14 +42,14 @@ pub record Job : Type 0 where
 abbrev pub rule_by : Config → InputConf → InRule
 rule_by config conf = in_rule conf.format config.globals conf.filter config.agent.gather_pieces
 
--- what a run makes of its items: without processors each is its own whole, of which each output's filter gives the view
-abbrev pub work_of : List OutputConf → Work
-work_of outputs = record {
-  skip = false;
-  whole = last_of;
-  aggs = [];
-  outs = map (λ (output : OutputConf). applied output.filter) outputs;
-}
+-- the filters of outputs, as functions of the whole
+abbrev pub filters_of : List OutputConf → List (Content → Option Content)
+filters_of outputs = map (λ (output : OutputConf). applied output.filter) outputs
+
+-- what a run makes of its items: the whole is what the steps make of an item behind those before it, and each output's
+-- filter gives the view of it
+abbrev pub work_of : List Step → List OutputConf → Work
+work_of steps outputs = record { skip = false; whole = whole_by steps; aggs = []; outs = filters_of outputs }
 
 -- how many groups of an input may be undelivered at most: none is tracked
 abbrev pub limit_by : InputConf → Option ℕ
@@ -69,7 +71,7 @@ job_of config = record {
   inputs = map (job_input config) config.inputs;
   aggs = [];
   outputs = map job_output config.outputs;
-  work = work_of config.outputs;
+  work = work_of config.steps config.outputs;
   tries = config.agent.final_tries;
 }
 
@@ -77,13 +79,13 @@ job_of config = record {
 abbrev pub limit_of : JobInput → Option ℕ
 limit_of input = input.most_undelivered
 
-abbrev pub sizes_of : JobOutput → ℕ × ℕ
-sizes_of output = (output.batch, output.limit)
+abbrev pub output_sizes : JobOutput → ℕ × ℕ
+output_sizes output = (output.batch, output.limit)
 
 -- what the journal of a job is about, where it begins at a moment
 abbrev pub setup_of : Job → ℤ → Setup
 setup_of job start = record
-    { start = start; inputs = map limit_of job.inputs; aggs = job.aggs; outputs = map sizes_of job.outputs }
+    { start = start; inputs = map limit_of job.inputs; aggs = job.aggs; outputs = map output_sizes job.outputs }
 
 -- the head of a journal: its set-up
 abbrev pub journal_setup_of : Setup → JournalSetup

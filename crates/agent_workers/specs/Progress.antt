@@ -25,14 +25,15 @@ use Rattle.pipeline_core.specs.Stopped.{behind_stop}
 use Rattle.account.specs.EntryMoments.{counted_moments}
 use Rattle.agent_workers.specs.Noted.{JournalPart, Notes}
 use Rattle.pipeline_core.specs.Order.{EndsFailed, InOrder}
-use Rattle.agent_workers.specs.Job.{journal_setup_of, work_of}
+use Rattle.agent_workers.specs.Job.{journal_setup_of}
 use Rattle.pipeline_core.specs.Sent.{Sent}
 use Rattle.formats.specs.Batches.{batch_text}
 use Rattle.agent_workers.specs.Output.{AppendsSo, OutPart, out_at, AreAnew, FailedLast}
-use Rattle.agent_workers.specs.Item.{ProcPart}
+use Rattle.agent_workers.specs.Item.{ProcPart, work_by}
 use Rattle.agent_workers.specs.RunState.{RunState, Beginning, setup_at}
 use Rattle.agent_workers.specs.Running.{AreSettled}
-use Rattle.pipeline_core.specs.Worked.{Worked}
+use Rattle.pipeline_core.specs.Worked.{Worked, taken_items}
+use Rattle.proc_chain.specs.Chain.{AllStand}
 
 -- the core stands for a journal, which goes on from the one that the run continues, and whose entries are
 -- noted but for those that the core stores
@@ -128,8 +129,10 @@ pub record Progress (start : Beginning) (now : RunState) : Type 0 where
   pub out_count : length now.outs ≡ length start.job.outputs
   pub said : AllSaid start.outs now.outs journal
   -- what routes the items makes of them what the job says
-  pub work_is : start.job.work ≡ work_of now.proc.outs
+  pub work_is : start.job.work ≡ work_by now.proc
   pub worked : Worked start.job.work journal
+  -- its steps stand for the items that were taken
+  pub pushed : AllStand now.proc.chain (taken_items journal)
   pub order : HasOrder start now.next journal
   pub counted_at : counted_moments journal ≡ now.counted_at
 

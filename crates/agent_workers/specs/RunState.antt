@@ -6,7 +6,7 @@ use Rattle.account.specs.declared.entry.Entry.{Entry}
 use Rattle.agent_base.specs.Carried.{Carried, Timed}
 use Rattle.pipeline_core.specs.CoreState.{CoreState}
 use Rattle.agent_workers.specs.Inputs.{InPart, ins_of, AreInputs, AreSameInputs}
-use Rattle.agent_workers.specs.Item.{ProcPart, proc_of}
+use Rattle.agent_workers.specs.Item.{IsSameProc, ProcPart, proc_of}
 use Rattle.agent_workers.specs.Job.{Job, setup_of}
 use Rattle.agent_workers.specs.Noted.{JournalPart, part_of}
 use Rattle.agent_workers.specs.Output.{OutPart, outs_of, AreOutputs}
@@ -46,12 +46,12 @@ pub record AreFit (now : RunState) : Type 0 where
   pub outputs : AreOutputs (length now.core.setup.outputs) now.outs
   pub filters : length now.proc.outs ≡ length now.core.setup.outputs
 
--- what a run is about is as before: its set-up, its inputs' numbers, rules and clocks, what routes its
--- items, and the timer
+-- what a run is about is as before: its set-up, its inputs' numbers, rules and clocks, the steps and outputs of what
+-- routes its items, and the timer
 pub record IsAboutSame (old new : RunState) : Type 0 where
   pub setup : new.core.setup ≡ old.core.setup
   pub inputs : AreSameInputs old.ins new.ins
-  pub proc : new.proc ≡ old.proc
+  pub proc : IsSameProc old.proc new.proc
   pub timer : new.timer ≡ old.timer
 
 -- what a run began with: its job, the moment of its start, its inputs, its outputs, and the bytes held by

@@ -1,5 +1,5 @@
 //! What is told of each input at the end of a run, beside its account.
-ghost use Rattle.std.specs.Prelude.{◌≡◌};
+ghost use Rattle.std.specs.Prelude.{◌≡◌, None};
 
 use crate::input::InJob;
 use agent_base::{Clock, Source};
@@ -19,7 +19,9 @@ pub struct PieceNotes {
 
 impl PieceNotes {
     /// Those of an input of which nothing was read.
-    pub fn none() -> PieceNotes {
+    pub fn none() -> PieceNotes
+        ensures { result ≡ record { pieces = 0; out_of_range = 0; first = None } }
+    {
         PieceNotes {
             pieces: 0,
             out_of_range: 0,

@@ -11,6 +11,7 @@ ghost use Rattle.agent_workers.specs.Opened.{AreFor, HasRoom, HasRoomFor, IsMade
 ghost use Rattle.agent_workers.specs.Output.{out_of, outs_of};
 ghost use Rattle.agent_workers.specs.RunState.{state_of};
 ghost use Rattle.formats.specs.Reader.{cut_of};
+ghost use Rattle.proc_chain.specs.Chain.{IsBehind};
 
 use crate::ends::PieceNotes;
 use crate::input::InJob;
@@ -24,6 +25,7 @@ use fixed_num::{Moment, OutOfMemory};
 use formats::{InState, cut_of};
 use journal_text::JournalSetup;
 use pipeline_core::Core;
+use proc_chain::Chain;
 use std::alloc::Global;
 
 /// The opened parts of a run.
@@ -59,7 +61,7 @@ pub struct Back<S: Drop, K: Drop> {
     pub sinks: Vec<K>,
 }
 
-/// The jobs of a run. They borrow the filters and the global tags of its configuration.
+/// The jobs of a run. They borrow the steps, the filters and the global tags of its configuration.
 #[derive(Drop)]
 pub struct Parts<'a, S: Drop, K: Drop, C: Drop> {
     /// Its inputs, by their numbers.
@@ -80,6 +82,7 @@ pub struct Parts<'a, S: Drop, K: Drop, C: Drop> {
 #[derive(Drop)]
 struct Room<'a, S: Drop, K: Drop, C: Drop> {
     core: Core,
+    chain: Chain<'a>,
     about: JournalSetup,
     pieces: Vec<Pieces>,
     inputs: Vec<InJob<'a, S, C>>,
@@ -106,6 +109,7 @@ fn make_room<'a, S: Source + Drop, K: Sink + Drop, C: Clock + Drop>(
 ) -> Result<Room<'a, S, K, C>, OutOfMemory>
     requires sound { IsSound config.now }
     ensures core { IfOk result (λ room. IsNewCore config.now start room.core) }
+    ensures chain { IfOk result (λ room. IsBehind config.now.steps [] room.chain) }
     ensures about { IfOk result (λ room. room.about ≡ journal_setup_of (setup_of (job_of config.now) start)) }
     ensures pieces { IfOk result (λ room. room.pieces.items ≡ empty_hands config.now.inputs) }
     ensures inputs { IfOk result (λ room. room.inputs.items ≡ []) }
@@ -115,6 +119,7 @@ fn make_room<'a, S: Source + Drop, K: Sink + Drop, C: Clock + Drop>(
     ensures back { IfOk result (λ room. HasRoomFor config.now room.back) }
 {
     let core = new_core(alloc, config, start)?;
+    let chain = Chain::new(alloc, config.steps.as_slice())?;
     let about = journal_setup(alloc, config, start)?;
     let pieces = empty_pieces(alloc, config.inputs.as_slice())?;
     let (in_count, out_count) = (
@@ -127,6 +132,7 @@ fn make_room<'a, S: Source + Drop, K: Sink + Drop, C: Clock + Drop>(
     };
     Ok(Room {
         core,
+        chain,
         about,
         pieces,
         inputs: Vec::with_capacity(alloc, in_count)?,
@@ -268,6 +274,7 @@ pub fn set_up<'a, S: Source + Drop, K: Sink + Drop, C: Clock + Drop>(
 {
     let Room {
         core,
+        chain,
         about,
         pieces,
         inputs: mut in_jobs,
@@ -295,6 +302,7 @@ pub fn set_up<'a, S: Source + Drop, K: Sink + Drop, C: Clock + Drop>(
         inputs: in_jobs,
         timer,
         proc: ProcJob {
+            chain,
             outs: config.outputs.as_slice(),
             clock: proc,
         },

@@ -5,7 +5,7 @@ ghost use Rattle.account.specs.AccountText.{account_text};
 ghost use Rattle.pipeline_core.specs.Steps.{after_cut};
 ghost use Rattle.agent_workers.specs.Finished.{FinishesSo};
 ghost use Rattle.agent_workers.specs.Inputs.{ins_of, AreOut, AreSameInputs};
-ghost use Rattle.agent_workers.specs.Item.{proc_of};
+ghost use Rattle.agent_workers.specs.Item.{proc_of, IsSameProc};
 ghost use Rattle.agent_workers.specs.Job.{Job};
 ghost use Rattle.agent_workers.specs.Noted.{part_of, EndsOn};
 ghost use Rattle.agent_workers.specs.Progress.{RoutesOn, RunsOn, StopsAt};
@@ -152,7 +152,7 @@ fn route_noted<K: Sink + Drop, C: Drop>(
     ensures rests { OnOk result (IsAtRest core.new) }
     ensures kept { OnOk result (IsRoutable core.old core.new) }
     ensures none { OnOk result (core.new.raw ≡ []) }
-    ensures same { proc.new.outs.now ≡ proc.old.outs.now }
+    ensures same { IsSameProc (proc_of proc.old) (proc_of proc.new) }
     ensures routes { OnOk result (RoutesOn core.old core.new (proc_of proc.old) (proc_of proc.new)
         (part_of K.told journal.old) (part_of K.told journal.new)) }
 {

@@ -23,7 +23,7 @@ fn limits_of(alloc: Global, inputs: &[InputConf]) -> Result<Vec<Option<u32>>, Ou
 }
 
 /// The sizes of each output: its batch size and its buffer limit.
-fn sizes_of(alloc: Global, outputs: &[OutputConf]) -> Result<Vec<(u32, u32)>, OutOfMemory>
+fn output_sizes(alloc: Global, outputs: &[OutputConf]) -> Result<Vec<(u32, u32)>, OutOfMemory>
     ensures { IfOk result (λ pairs. pairs.items ≡ map sizes_by outputs.now) }
 {
     let mut pairs = Vec::with_capacity(alloc, outputs.len())?;
@@ -73,7 +73,7 @@ pub fn journal_setup(
         start,
         inputs: Seq::of(limits_of(alloc, config.inputs.as_slice())?),
         aggs: Seq::of(Vec::new(alloc)),
-        outputs: Seq::of(sizes_of(alloc, config.outputs.as_slice())?),
+        outputs: Seq::of(output_sizes(alloc, config.outputs.as_slice())?),
     })
 }
 

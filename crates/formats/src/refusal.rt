@@ -1,5 +1,5 @@
 //! Why a piece is refused.
-ghost use Rattle.std.specs.Prelude.{◌≡◌, false, IfOk, OnOk, Some};
+ghost use Rattle.std.specs.Prelude.{◌≡◌, false, IfOk, IfSome, None, OnOk, Some};
 ghost use Rattle.formats.specs.Refusals.{kind_of, offset_of, refusal_in};
 ghost use Rattle.formats.specs.Refusals.{influx_word, statsd_word, graphite_word, openmetrics_word};
 
@@ -201,7 +201,10 @@ impl Refused {
         piece: &[u8],
         moment: Moment,
         number: u64,
-    ) -> Refused {
+    ) -> Refused
+        ensures number { result.piece ≡ number }
+        ensures why { IfSome result.why (λ why. refusal_in format.now moment piece.now ≡ Some why) }
+    {
         let why = why_refused(alloc, format, piece, moment).unwrap_or(None);
         let offset = match why {
             Some(refusal) => refusal.offset().unwrap_or(0),
@@ -219,7 +222,12 @@ impl Refused {
     }
 
     /// A copy of it; without its bytes where no memory was left for them.
-    pub fn copy(&self, alloc: Global) -> Refused {
+    pub fn copy(&self, alloc: Global) -> Refused
+        ensures number { result.piece ≡ self.now.piece }
+        ensures why { result.why ≡ self.now.why }
+        ensures line { result.line ≡ self.now.line }
+        ensures excerpt { IfSome result.excerpt (λ bytes. self.now.excerpt ≡ Some bytes) }
+    {
         Refused {
             piece: self.piece,
             why: self.why,
@@ -232,7 +240,9 @@ impl Refused {
     }
 
     /// A piece with this number that is too long.
-    pub fn too_long(number: u64) -> Refused {
+    pub fn too_long(number: u64) -> Refused
+        ensures { result ≡ record { piece = number; why = Some Refusal.TooLong; line = None; excerpt = None } }
+    {
         Refused {
             piece: number,
             why: Some(Refusal::TooLong),
@@ -263,7 +273,9 @@ fn excerpt(alloc: Global, text: &[u8], offset: usize) -> Option<Seq<u8>> {
 }
 
 /// A copy of some bytes; None where no memory was left.
-fn copied(alloc: Global, bytes: &[u8]) -> Option<Seq<u8>> {
+fn copied(alloc: Global, bytes: &[u8]) -> Option<Seq<u8>>
+    ensures { IfSome result (λ copy. copy ≡ bytes.now) }
+{
     let mut copy = Vec::new(alloc);
     match copy.extend_from_slice(bytes) {
         Ok(()) => Some(Seq::of(copy)),

@@ -1,14 +1,15 @@
 -- What the work of a run makes of each item, with one entry more.
 use Rattle.std.proofs.Common.{◌≡◌, ◌<◌, ℕ, zero, suc, Bool, true, false, List, [], ◌∷◌, ◌++◌, map, take, drop, length}
-use Rattle.std.proofs.Common.{refl, sym, ap, ◌∙◌, arith, ◌+◌, ◌&&◌, if◌then◌else◌}
+use Rattle.std.proofs.Common.{refl, sym, ap, ◌∙◌, arith, ◌+◌, ◌&&◌, if◌then◌else◌, append-nil}
 use Rattle.std.proofs.lemmas.List.{take-append-le, get_or_append_left}
 use Rattle.std.proofs.lemmas.Option.{slice_get_within}
 use Rattle.std.specs.Prelude.{slice_get, slice_index_or, is_none}
-use Rattle.std.specs.List.{filter, zip, last_or}
+use Rattle.std.specs.List.{filter, zip}
 use Rattle.std.specs.declared.option.Option.{Option}
 use Rattle.std.specs.declared.option.Option.TheVariants.{Some, None}
 use Rattle.metric.specs.declared.metric.Content.{Content}
-use Rattle.account.specs.Items.{items, taken, named_by}
+use Rattle.account.specs.Items.{items, taken, named_by, takes_by}
+use Rattle.account.specs.Setup.{Setup}
 use Rattle.account.specs.Origins.{Origin, made, origins, origins_by, is_made}
 use Rattle.account.specs.declared.entry.Entry.{Entry}
 use Rattle.account.specs.declared.entry.Entry.TheVariants.{Gather, Ended, Take, Route, Tick, Stop, Begin, Done}
@@ -19,8 +20,10 @@ use Rattle.pipeline_core.specs.Stands.{Stands}
 use Rattle.account.proofs.ItemLemmas.{items-push}
 use Rattle.account.proofs.OriginLemmas.{origins-match, origins-push}
 use Rattle.pipeline_core.specs.Work.{Work}
-use Rattle.pipeline_core.specs.Worked.{WorkedBy, AreWorked, Worked, views_of, last_of, is_pushed, pushed, whole_of}
-use Rattle.pipeline_core.specs.Worked.{seen_of}
+use Rattle.pipeline_core.specs.Worked.{WorkedBy, AreWorked, Worked, views_of, is_pushed, pushed, whole_of}
+use Rattle.pipeline_core.specs.Worked.{seen_of, taken_items}
+use Rattle.pipeline_core.specs.Legal.{IsLegal}
+use Rattle.pipeline_core.proofs.JournalPush.{taken-push, few_taken}
 
 -- an item keeps its number as more come
 pub slice_get-append : (xs ys : List Content) (k : ℕ) (m : Content) → slice_get xs k ≡ Some m
@@ -81,20 +84,32 @@ all_pushed (suc n) [] us l = refl
 all_pushed (suc n) (x ∷ xs) [] l = absurd (omega (arith, l))
 all_pushed (suc n) (x ∷ xs) (u ∷ us) l = ap (λ (all : List Content). x ∷ all) (all_pushed n xs us (omega (arith, l)))
 
--- and the last one of these is the item
-last_taken : (before : Option Content) (xs : List Content) (k : ℕ) (m : Content) → slice_get xs k ≡ Some m
-    → last_or before (take (suc k) xs) ≡ Some m
-last_taken before [] k m e = absurd (let x : None ≡ Some m = e in cc)
-last_taken before (x ∷ xs) zero m e = e
-last_taken before (x ∷ xs) (suc k) m e = last_taken (Some x) xs k m e
+-- one more of a list
+one_more : (xs : List Content) (k : ℕ) (m : Content) → slice_get xs k ≡ Some m → take (suc k) xs ≡ take k xs ++ m ∷ []
+one_more [] k m e = absurd (let x : None ≡ Some m = e in cc)
+one_more (x ∷ xs) zero m e = ap (λ (y : Content). y ∷ []) (let same : Some x ≡ Some m = e in cc)
+one_more (x ∷ xs) (suc k) m e = ap (λ (ys : List Content). x ∷ ys) (one_more xs k m e)
 
-last_pushed : (journal : List Entry) (item : ℕ) (metric : Content) → slice_get (items journal) item ≡ Some metric
-    → last_of (pushed false journal item) ≡ Some metric
-last_pushed journal item metric at =
-    let next : item + 1 ≡ suc item = omega arith in
-    ap last_of (all_pushed (item + 1) (items journal) (origins journal) (sym (origins-match journal))
-    ∙ ap (λ (n : ℕ). take n (items journal)) next)
-    ∙ last_taken None (items journal) item metric at
+take_next : (xs : List Content) (k : ℕ) (m : Content) → slice_get xs k ≡ Some m → take (k + 1) xs ≡ take k xs ++ m ∷ []
+take_next xs k m e =
+    let next : k + 1 ≡ suc k = omega arith in
+    ap (λ (n : ℕ). take n xs) next ∙ one_more xs k m e
+
+-- the items that were taken are the same after an entry that takes none
+pub taken_items-same : (setup : Setup) (journal : List Entry) (e : Entry) → IsLegal setup journal → takes_by e ≡ 0
+    → taken_items (journal ++ e ∷ []) ≡ taken_items journal
+taken_items-same setup journal e legal none =
+    ap (take (taken (journal ++ e ∷ []))) (items-push journal e)
+    ∙ ap (λ (n : ℕ). take n (items journal ++ named_by e)) (taken-push journal e ∙ omega (arith, none))
+    ∙ take-append-le (taken journal) (items journal) (named_by e) (few_taken setup journal legal)
+
+-- and one more once the next one was taken
+pub taken_items-take : (journal : List Entry) (item : ℕ) (m : Content) → slice_get (items journal) (taken journal) ≡ Some m
+    → taken_items (journal ++ Take item ∷ []) ≡ taken_items journal ++ m ∷ []
+taken_items-take journal item m at =
+    ap (take (taken (journal ++ Take item ∷ []))) (items-push journal (Take item) ∙ append-nil (items journal))
+    ∙ ap (λ (n : ℕ). take n (items journal)) (taken-push journal (Take item))
+    ∙ take_next (items journal) (taken journal) m at
 
 same_either : {A : Type 0} (b : Bool) (x : A) → (if b then x else x) ≡ x
 same_either b x = elim b as (λ (c : Bool). (if c then x else x) ≡ x) [ true ↦ refl | false ↦ refl ]
@@ -158,22 +173,25 @@ module _ (work : Work) where
       worked-push journal (Route item whole verdict aggs (views_of work.outs whole) reports)
       (record { metric = metric; is_item = at; is_whole = is; aggs_are = seen; outs_are = refl }) w
 
-  -- an item that was routed as it is, without processors and aggregators
-  pub worked_plain : (journal : List Entry) (item : ℕ) (metric : Content) (verdict : Verdict) (reports : List Report)
-      → work.skip ≡ false → work.whole ≡ last_of → work.aggs ≡ [] → slice_get (items journal) item ≡ Some metric →
-      Worked work journal → Worked work (journal ++ Route item (Some metric) verdict []
-      (views_of work.outs (Some metric)) reports ∷ [])
-  worked_plain journal item metric verdict reports skip whole aggs at w =
-      worked_route journal item metric (Some metric) verdict [] reports at
-      (sym (
+  -- the next item, with what the work makes of it behind those that were taken before, without aggregators
+  pub worked_next : (journal : List Entry) (item : ℕ) (metric : Content) (whole : Option Content) (verdict : Verdict)
+      (reports : List Report) → work.skip ≡ false → work.aggs ≡ [] → slice_get (items journal) item ≡ Some metric →
+      whole ≡ work.whole (take item (items journal) ++ metric ∷ []) → Worked work journal →
+      Worked work (journal ++ Route item whole verdict [] (views_of work.outs whole) reports ∷ [])
+  worked_next journal item metric whole verdict reports skip aggs at is w =
+      worked_route journal item metric whole verdict [] reports at
+      (is ∙ sym (
       ap (λ (b : Bool). if b && is_made journal item then Some metric else work.whole (pushed b journal item)) skip
-      ∙ ap (λ (f : List Content → Option Content). f (pushed false journal item)) whole
-      ∙ last_pushed journal item metric at
+      ∙ ap work.whole (all_pushed (item + 1) (items journal) (origins journal) (sym (origins-match journal))
+      ∙ take_next (items journal) item metric at)
       ))
       (sym (
-      ap (λ (fs : List (Content → Option Content)). if is_made journal item then views_of fs None else views_of fs
-      (Some metric)) aggs
-      ∙ same_either (is_made journal item) []
+      ap (λ (fs : List (Content → Option Content)). if is_made journal item then views_of fs None else views_of fs whole)
+      aggs
+      ∙ elim whole as (λ (x : Option Content). (if is_made journal item then views_of [] None else views_of [] x) ≡ []) [
+        | None ↦ same_either (is_made journal item) []
+        | Some x ↦ same_either (is_made journal item) []
+      ]
       )) w
 
 first_behind : (k : ℕ) (xs : List Content) → slice_get (drop k xs) 0 ≡ slice_get xs k

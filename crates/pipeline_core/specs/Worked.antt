@@ -1,11 +1,11 @@
 -- What the Routes of a journal say was made of its items.
 use Rattle.std.specs.Prelude.{◌≡◌, ℕ, ◌+◌, ◌&&◌, not, Bool, List, [], ◌∷◌, map, take, slice_get, is_none}
 use Rattle.std.specs.Prelude.{if◌then◌else◌}
-use Rattle.std.specs.List.{filter, zip, last_or}
+use Rattle.std.specs.List.{filter, zip}
 use Rattle.std.specs.declared.option.Option.{Option}
 use Rattle.std.specs.declared.option.Option.TheVariants.{Some, None}
 use Rattle.metric.specs.declared.metric.Content.{Content}
-use Rattle.account.specs.Items.{items}
+use Rattle.account.specs.Items.{items, taken}
 use Rattle.account.specs.Origins.{Origin, origins, is_made}
 use Rattle.account.specs.declared.entry.Entry.{Entry}
 use Rattle.account.specs.declared.entry.Entry.TheVariants.{Route}
@@ -16,9 +16,9 @@ abbrev pub views_of : List (Content → Option Content) → Option Content → L
 views_of fs None = map (λ (f : Content → Option Content). None) fs
 views_of fs (Some whole) = map (λ (f : Content → Option Content). f whole) fs
 
--- the last one of a list
-abbrev pub last_of : List Content → Option Content
-last_of metrics = last_or None metrics
+-- the metrics of the items that were taken, in order
+abbrev pub taken_items : List Entry → List Content
+taken_items journal = take (taken journal) (items journal)
 
 -- whether an item of an origin is pushed to the processors: where made ones pass them by it is one that was
 -- gathered

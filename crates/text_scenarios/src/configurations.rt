@@ -2,6 +2,7 @@
 use crate::pieces::{put, setting};
 use agent_config::{AgentConf, Config, ConfigFault, InputConf, OutputConf, read_config};
 use format_words::{InFormat, OutFormat};
+use proc_chain::StepWork;
 use scenario_tables::Row;
 use std::alloc::Global;
 use std::test::Fail;
@@ -37,7 +38,7 @@ pub fn append_interval(alloc: Global, text: &[u8], out: &mut Vec<u8>) -> Result<
     }
 }
 
-/// Appends the values of a configuration, with a line for the agent, each global tag, each input and each output.
+/// Appends the values of a configuration, with a line for the agent, each global tag, each input, each step and each output.
 fn append_values(config: &Config, out: &mut Vec<u8>) -> Result<(), Fail> {
     append_agent(&config.agent, out)?;
     for (key, value) in config.globals.as_slice() {
@@ -48,6 +49,9 @@ fn append_values(config: &Config, out: &mut Vec<u8>) -> Result<(), Fail> {
     }
     for input in config.inputs.as_slice() {
         append_input(input, out)?;
+    }
+    for step in config.steps.as_slice() {
+        append_step(&step.work, out)?;
     }
     for output in config.outputs.as_slice() {
         append_output(output, out)?;
@@ -99,6 +103,19 @@ fn append_input(input: &InputConf, out: &mut Vec<u8>) -> Result<(), Fail> {
                 "openmetrics, type_tag {type_tag}, pass_out_of_range {pass_out_of_range}\n"
             ),
         ),
+    }
+}
+
+/// Appends what a step does.
+fn append_step(work: &StepWork, out: &mut Vec<u8>) -> Result<(), Fail> {
+    match work {
+        StepWork::Rename(_) => put(out, "step rename\n"),
+        StepWork::Convert(_) => put(out, "step convert\n"),
+        StepWork::Dedup(interval) => put(out, format_args!("step dedup, interval {interval}\n")),
+        StepWork::Regex(rules) => {
+            let count = rules.as_slice().len();
+            put(out, format_args!("step regex, rules {count}\n"))
+        }
     }
 }
 

@@ -1,6 +1,6 @@
 use Rattle.std.proofs.Common.{◌≡◌, ◌++◌, drop}
 use Rattle.agent_config.specs.Seen.{now_of}
-use Rattle.agent_config.specs.Values.{globs_of}
+use Rattle.agent_config.specs.Filters.{globs_of}
 use Rattle.agent_config.proofs.filters.add_globs.Given as goal
 
 abbrev pub invariant-loop-text : goal.invariant-loop-text

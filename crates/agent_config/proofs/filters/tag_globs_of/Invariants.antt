@@ -1,6 +1,6 @@
 use Rattle.std.proofs.Common.{◌≡◌, ◌++◌}
 use Rattle.toml.specs.View.{members_view}
-use Rattle.agent_config.specs.Values.{tag_globs_of}
+use Rattle.agent_config.specs.Filters.{tag_globs_of}
 use Rattle.agent_config.proofs.filters.tag_globs_of.Given as goal
 
 abbrev pub invariant-loop-key : goal.invariant-loop-key

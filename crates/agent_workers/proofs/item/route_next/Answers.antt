@@ -1,13 +1,12 @@
-use Rattle.std.proofs.Common.{◌≡◌, ◌∙◌, List, ap, sym, subst, rules}
-use Rattle.agent_config.specs.declared.config.OutputConf.{OutputConf}
+use Rattle.std.proofs.Common.{◌≡◌, ◌∙◌, ◌++◌, ap, subst, sym, rules}
+use Rattle.account.specs.Views.{HasViews}
 use Rattle.pipeline_core.specs.Stands.{Continues}
 use Rattle.pipeline_core.specs.Steps.{after_route, route_entry}
 use Rattle.pipeline_core.specs.declared.routing.Routed.{Routed}
 use Rattle.agent_workers.specs.Item.{TakesNext, proc_of, routed_by}
-use Rattle.agent_workers.specs.Job.{work_of}
-use Rattle.agent_workers.specs.Progress.{Progress}
+use Rattle.agent_workers.specs.Job.{filters_of}
 use Rattle.agent_workers.specs.Running.{IsRoutable}
-use Rattle.agent_workers.proofs.OutLemmas.{item_routed, ready_routed}
+use Rattle.agent_workers.proofs.OutLemmas.{has_views, item_fewer, item_routed, ready_routed}
 use Rattle.agent_workers.proofs.ProgressLemmas.{went_item}
 use Rattle.agent_workers.proofs.StandingLemmas.{continues}
 use Rattle.agent_workers.proofs.item.route_next.Given.{Over}
@@ -17,19 +16,25 @@ use Rattle.agent_workers.proofs.item.route_next.Goals as goal
 takes : (g : Over) (c : In_ok-route g) → TakesNext c.args.core.now c.take_next.new.core c.in-Some.item
 takes g c = search rules
 
-routed : (g : Over) (c : In_ok-route g) → c.route.new.self ≡ after_route c.take_next.new.core
-    (routed_by (work_of c.args.proc.now.outs.now) c.in-Some.item.number c.in-Some.item.metric)
+-- how the item is routed
+abbrev routing : (g : Over) → In_ok-route g → Routed
+routing g c = routed_by c.args.proc.now.outs.now c.in-Some.item.number c.in_ok-routed.routed.whole
+
+routed : (g : Over) (c : In_ok-route g) → c.route.new.self ≡ after_route c.take_next.new.core (routing g c)
 routed g c = c.in_ok-route.ensures.ok ∙ ap (after_route c.take_next.new.core) c.in_ok-routed.ensures.routed
 
 routes : (g : Over) (c : In_ok-route g) → Continues c.take_next.new.core c.route.new.self
-    (route_entry c.take_next.new.core (routed_by (work_of c.args.proc.now.outs.now) c.in-Some.item.number
-    c.in-Some.item.metric))
+    (route_entry c.take_next.new.core (routing g c))
 routes g c = subst (λ (r : Routed). Continues c.take_next.new.core c.route.new.self
     (route_entry c.take_next.new.core r)) c.in_ok-routed.ensures.routed c.in_ok-route.ensures.stands
 
 kept : (g : Over) (c : In_ok-route g) → IsRoutable c.args.core.now c.route.new.self
 kept g c = item_routed c.args.core.now c.take_next.new.core c.route.new.self c.in-Some.item
-    (work_of c.args.proc.now.outs.now) (takes g c) (routed g c)
+    c.args.proc.now.outs.now c.in_ok-routed.routed.whole (takes g c) (routed g c)
+
+pub route-requires-clause-views : goal.route-requires-clause-views
+route-requires-clause-views g c = subst (λ (r : Routed). HasViews r.whole (r.aggs ++ r.outs))
+    (sym c.in_ok-routed.ensures.routed) (has_views (filters_of c.args.proc.now.outs.now) c.in_ok-routed.routed.whole)
 
 pub returns-clause-rests : goal.returns-clause-rests
 returns-clause-rests g c = record {
@@ -40,9 +45,13 @@ returns-clause-rests g c = record {
 pub returns-clause-kept : goal.returns-clause-kept
 returns-clause-kept g c = kept g c
 
+pub returns-clause-fewer : goal.returns-clause-fewer
+returns-clause-fewer g c = λ more.
+    item_fewer c.args.core.now c.take_next.new.core c.route.new.self c.in-Some.item c.args.proc.now.outs.now
+    c.in_ok-routed.routed.whole (takes g c) (routed g c)
+
 pub returns-clause-goes : goal.returns-clause-goes
 returns-clause-goes g c = λ start now fresh w.
-    subst (λ (outs : List OutputConf). Progress start (record now
-    { core = c.route.new.self; proc = record { outs = outs } })) (sym c.routing.ensures.same)
-    (went_item start c.args.core.now c.take_next.new.core c.route.new.self now (proc_of c.args.proc.now) c.in-Some.item
-    fresh (takes g c) (routed g c) (routes g c) w)
+    went_item start c.args.core.now c.take_next.new.core c.route.new.self now (proc_of c.args.proc.now)
+    (proc_of c.routing.new.proc) c.in-Some.item c.in_ok-routed.routed.whole fresh (takes g c) (routed g c) (routes g c)
+    c.in_ok-routed.ensures.pushes c.routing.ensures.same w

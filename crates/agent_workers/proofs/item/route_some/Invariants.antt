@@ -1,5 +1,4 @@
-use Rattle.std.proofs.Common.{◌≡◌}
-use Rattle.agent_workers.specs.Item.{proc_of}
+use Rattle.agent_workers.specs.Item.{proc_of, IsSameProc}
 use Rattle.agent_workers.specs.Progress.{GoesOn}
 use Rattle.agent_workers.specs.Running.{IsAtRest, IsRoutable}
 use Rattle.agent_workers.proofs.item.route_some.Given as goal
@@ -8,6 +7,6 @@ abbrev pub invariant-loop-taken : goal.invariant-loop-taken
 invariant-loop-taken g l = record {
   rests : IsAtRest l.core;
   kept : IsRoutable l.fn.core l.core;
-  same : l.proc.outs.now ≡ l.fn.proc.outs.now;
+  same : IsSameProc (proc_of l.fn.proc) (proc_of l.proc);
   goes : GoesOn l.fn.core l.core (proc_of l.fn.proc) (proc_of l.proc);
 }

@@ -87,6 +87,7 @@ returns-clause-made g c =
       ins_are = c.fill_inputs.ensures;
       outs_are = c.fill_outputs.ensures;
       filters = search rules;
+      chain = c.in-Ok.ensures.chain;
       about = c.new.ensures.setup ∙ c.in-Ok.ensures.about ∙ ap
           (λ (m : ℤ). journal_setup_of (setup_of (job_of config) m)) same_start;
       kept = c.new.ensures.kept;

@@ -5,6 +5,7 @@ use Rattle.agent_workers.specs.Noted.{JournalPart, part_of}
 use Rattle.agent_workers.specs.declared.journal.JournalJob.{JournalJob}
 use Rattle.agent_workers.proofs.FinishSteps.{routes_more, routes_last}
 use Rattle.agent_workers.proofs.OutLemmas.{routable_same, routable_more}
+use Rattle.agent_workers.proofs.PartsLemmas.{same_proc}
 use Rattle.agent_workers.proofs.rounds.route_noted.Given.{Over}
 use Rattle.agent_workers.proofs.rounds.route_noted.Goals as goal
 
@@ -15,7 +16,7 @@ pub loop-part-init : goal.loop-part-init
 loop-part-init g c = record {
   rests = c.requires.rests;
   kept = routable_same c.args.core.now c.args.core.now refl refl refl refl refl;
-  same = refl;
+  same = record { steps = refl; outs = refl };
   routes = λ start now anew w. w;
 }
 
@@ -31,7 +32,8 @@ loop-part-preserved g c =
           (ap (λ (s : CoreState). s.setup) cut) (ap (λ (s : CoreState). s.ended) cut)
           (ap (λ (s : CoreState). s.gathered) cut) (ap (λ (s : CoreState). s.stopped) cut)
           (ap (λ (s : CoreState). s.lanes) cut));
-      same = c.route_some.ensures.same ∙ c.loop-part.invariant.same;
+      same = same_proc (proc_of c.args.proc.now) (proc_of c.loop-part.proc) (proc_of c.route_some.new.proc)
+          c.loop-part.invariant.same c.route_some.ensures.same;
       routes = routes_more c.args.core.now c.loop-part.core c.route_some.new.core c.note.new.core
           (proc_of c.args.proc.now) (proc_of c.loop-part.proc) (proc_of c.route_some.new.proc)
           (noted g c.args.journal.now) (noted g c.loop-part.journal) (noted g c.note.new.journal)

@@ -1,5 +1,4 @@
-use Rattle.std.proofs.Common.{◌≡◌}
-use Rattle.agent_workers.specs.Item.{proc_of}
+use Rattle.agent_workers.specs.Item.{proc_of, IsSameProc}
 use Rattle.agent_workers.specs.Noted.{part_of}
 use Rattle.agent_workers.specs.Progress.{RoutesOn}
 use Rattle.agent_workers.specs.Running.{IsAtRest, IsRoutable}
@@ -9,7 +8,7 @@ abbrev pub invariant-loop-part : goal.invariant-loop-part
 invariant-loop-part g l = record {
   rests : IsAtRest l.core;
   kept : IsRoutable l.fn.core l.core;
-  same : l.proc.outs.now ≡ l.fn.proc.outs.now;
+  same : IsSameProc (proc_of l.fn.proc) (proc_of l.proc);
   routes : RoutesOn l.fn.core l.core (proc_of l.fn.proc) (proc_of l.proc) (part_of g.K.Sink.told l.fn.journal)
       (part_of g.K.Sink.told l.journal);
 }

@@ -13,7 +13,7 @@ use Rattle.pipeline_core.specs.CoreState.{CoreState}
 use Rattle.agent_workers.specs.Inputs.{ins_of, AreInputs, AreOut, IsOneIn, OneIsFull}
 use Rattle.agent_workers.specs.declared.input.InJob.{InJob}
 use Rattle.formats.specs.declared.pieces.InState.TheVariants as states
-use Rattle.agent_workers.specs.Job.{Job, journal_setup_of, limit_of, sizes_of}
+use Rattle.agent_workers.specs.Job.{Job, journal_setup_of, limit_of, output_sizes}
 use Rattle.agent_workers.specs.Noted.{part_of}
 use Rattle.agent_workers.specs.Output.{AreOutputs}
 use Rattle.agent_workers.specs.Progress.{Progress}
@@ -53,7 +53,7 @@ returns-clause-finished g c = λ job tries start counted is starts_count outs_co
     let in_count : length c.stop.new.core.setup.inputs ≡ length start.job.inputs =
     ap (λ (s : Setup). length s.inputs) stopped.text.setup_is ∙ length-map start.job.inputs limit_of in
     let out_count : length c.stop.new.core.setup.outputs ≡ length start.job.outputs =
-    ap (λ (s : Setup). length s.outputs) stopped.text.setup_is ∙ length-map start.job.outputs sizes_of in
+    ap (λ (s : Setup). length s.outputs) stopped.text.setup_is ∙ length-map start.job.outputs output_sizes in
     let tried : c.rounds.new.self.final_tries ≡ start.job.tries =
     c.rounds.ensures.parts.tries ∙ sym tries ∙ sym (ap (λ (j : Job). j.tries) is) in
     let over : OneIsFull c.stop.new.core.gathered last.ins ⊎ AreOut last.ins = elim c.in_ok-rounds.ensures.over [

@@ -3,10 +3,9 @@ use Rattle.std.proofs.lemmas.List.{with_items_is}
 use Rattle.std.specs.Vec.{with_items}
 use Rattle.std.specs.Prelude.{map}
 use Rattle.account.specs.Setup.{Setup}
-use Rattle.agent_config.specs.declared.config.OutputConf.{OutputConf}
 use Rattle.pipeline_core.specs.CoreState.{CoreState}
 use Rattle.agent_workers.specs.Inputs.{InPart, ins_of, AreInputs, AreOut, AreSameInputs, OneIsFull}
-use Rattle.agent_workers.specs.Item.{ProcPart}
+use Rattle.agent_workers.specs.Item.{proc_of}
 use Rattle.agent_workers.specs.Noted.{JournalPart, part_of}
 use Rattle.agent_workers.specs.Output.{OutPart, outs_of, anew, AreOutputs}
 use Rattle.agent_workers.specs.Progress.{GathersOn, RunsOn, SendsOn}
@@ -20,7 +19,7 @@ use Rattle.agent_workers.specs.declared.parts.Parts.{Parts}
 use Rattle.agent_workers.proofs.OutLemmas.{outputs_still}
 use Rattle.agent_workers.proofs.InLemmas.{inputs_still, same_inputs, inputs_themselves}
 use Rattle.agent_workers.proofs.FinishSteps.{runs_more, settled_still}
-use Rattle.agent_workers.proofs.PartsLemmas.{state_by}
+use Rattle.agent_workers.proofs.PartsLemmas.{state_by, proc_itself, same_proc}
 use Rattle.agent_workers.proofs.parts.Parts.rounds.Given.{Over}
 use Rattle.agent_workers.proofs.parts.Parts.rounds.Goals.{In_ok-note}
 use Rattle.agent_workers.proofs.parts.Parts.rounds.Goals as goal
@@ -112,7 +111,7 @@ fit g c =
           (sym in_count) gathered;
       outputs = subst (λ (n : ℕ). AreOutputs n (outs g c.send_each.new.outputs))
           (ap (λ (s : Setup). length s.outputs) (routed_setup g c) ∙ sym out_count) c.in_ok-send_each.ensures.outputs;
-      filters = ap length c.route_noted.ensures.same ∙ c.loop-round.invariant.fit.filters ∙ sym out_count;
+      filters = ap length c.route_noted.ensures.same.outs ∙ c.loop-round.invariant.fit.filters ∙ sym out_count;
     }
 
 about : (g : Over) (c : In_ok-note g) → IsAboutSame (state g c.args.core.now c.args.self.now) (last g c)
@@ -122,8 +121,8 @@ about g c = record {
       (ins g c.gather_each.new.inputs) c.loop-round.invariant.about.inputs
       (subst (λ (jobs : List (InJob g.row.S.Denot g.row.C.Denot)). AreSameInputs (ins g jobs)
       (ins g c.gather_each.new.inputs)) (firsts g c) c.in_ok-full.ensures.same);
-  proc = ap (λ (all : List OutputConf). let part : ProcPart = record { outs = all } in part) c.route_noted.ensures.same
-      ∙ c.loop-round.invariant.about.proc;
+  proc = same_proc (proc_of c.args.self.now.proc) (proc_of c.loop-round.self.proc) (proc_of c.route_noted.new.proc)
+      c.loop-round.invariant.about.proc c.route_noted.ensures.same;
   timer = c.loop-round.invariant.about.timer;
 }
 
@@ -170,7 +169,7 @@ loop-round-init g c = record {
   about = record {
     setup = refl;
     inputs = inputs_themselves (ins g c.args.self.now.inputs.items);
-    proc = refl;
+    proc = proc_itself (proc_of c.args.self.now.proc);
     timer = refl;
   };
   settled = λ s. s;

@@ -8,12 +8,11 @@ use Rattle.std.specs.Prelude.{map}
 use Rattle.std.specs.Vec.{with_items}
 use Rattle.account.specs.Setup.{Setup}
 use Rattle.agent_base.specs.Clocked.{last_of}
-use Rattle.agent_config.specs.declared.config.OutputConf.{OutputConf}
 use Rattle.pipeline_core.specs.CoreState.{CoreState}
 use Rattle.pipeline_core.specs.Stands.{Continues}
 use Rattle.pipeline_core.specs.Steps.{after_stop, stop_entry}
 use Rattle.agent_workers.specs.Inputs.{InPart, ins_of, AreInputs}
-use Rattle.agent_workers.specs.Item.{ProcPart, proc_of}
+use Rattle.agent_workers.specs.Item.{proc_of}
 use Rattle.agent_workers.specs.Output.{OutPart, outs_of, anew, AreAnew, AreOutputs}
 use Rattle.agent_workers.specs.Progress.{SendsOn, StopsAt}
 use Rattle.agent_workers.specs.Rounds.{HasStopped}
@@ -91,14 +90,14 @@ fit g c =
           (ins g c.args.self.now.inputs.items) (ended g c) c.requires.fit.inputs);
       outputs = subst (λ (n : ℕ). AreOutputs n (outs g c.send_rest.new.outputs))
           (ap (λ (s : Setup). length s.outputs) (routed_setup g c) ∙ sym out_count) c.in_ok-send_rest.ensures.outputs;
-      filters = ap length c.route_all.ensures.same ∙ c.requires.fit.filters ∙ sym out_count;
+      filters = ap length c.route_all.ensures.same.outs ∙ c.requires.fit.filters ∙ sym out_count;
     }
 
 about : (g : Over) (c : In_ok-send_rest g) → IsAboutSame (state g c.args.core.now c.args.self.now) (last g c)
 about g c = record {
   setup = setup g c;
   inputs = inputs_themselves (ins g c.args.self.now.inputs.items);
-  proc = ap (λ (all : List OutputConf). let part : ProcPart = record { outs = all } in part) c.route_all.ensures.same;
+  proc = c.route_all.ensures.same;
   timer = refl;
 }
 

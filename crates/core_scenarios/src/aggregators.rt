@@ -18,7 +18,7 @@ trait Aggregates {
 }
 
 /// The lines of metrics, with none behind the last.
-fn lines_of(alloc: Global, metrics: &[Metric]) -> Result<String, Fail> {
+pub(crate) fn lines_of(alloc: Global, metrics: &[Metric]) -> Result<String, Fail> {
     let mut lines = Vec::new(alloc);
     for metric in metrics {
         write_line(alloc, metric, &mut lines)?;

@@ -2,6 +2,7 @@
 #![tactic(auto)]
 
 mod aggregators;
+mod banks;
 mod cores;
 mod journals;
 mod lanes;
@@ -9,6 +10,7 @@ mod pieces;
 mod singles;
 
 use aggregators::{FinalCalls, MergeCalls, StatsCalls};
+use banks::BankCalls;
 use cores::CoreCalls;
 use journals::JournalCalls;
 use lanes::LaneCalls;
@@ -81,6 +83,7 @@ fn main(rt: HostRuntime) -> Result<(), Fail> {
     all &= table::<StatsCalls>(&rt, "statistics")?;
     all &= table::<MergeCalls>(&rt, "merges")?;
     all &= table::<FinalCalls>(&rt, "finals")?;
+    all &= table::<BankCalls>(&rt, "banks")?;
     if all {
         Ok(())
     } else {

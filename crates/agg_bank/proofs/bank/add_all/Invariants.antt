@@ -1,0 +1,6 @@
+use Rattle.agg_bank.specs.Ready.{Adds}
+use Rattle.agg_bank.proofs.SweepLemmas.{Swept}
+use Rattle.agg_bank.proofs.bank.add_all.Given as goal
+
+abbrev pub invariant-aggregators : goal.invariant-aggregators
+invariant-aggregators l = Swept (Adds l.stopped l.views) l.at l.fn.aggregators.items l.aggregators.items

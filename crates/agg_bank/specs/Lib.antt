@@ -1,0 +1,12 @@
+pub mod Bank
+pub mod Closing
+pub mod Events
+pub mod Fold
+pub mod Laws
+pub mod Line
+pub mod Made
+pub mod Members
+pub mod Open
+pub mod Ready
+pub mod Verdicts
+pub mod Windows

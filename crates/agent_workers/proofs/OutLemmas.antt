@@ -1,5 +1,6 @@
 -- Outputs by their indices: one changes, and the others stay.
-use Rattle.std.proofs.Common.{◌≡◌, ◌≢◌, ◌≤◌, ◌<◌, ◌+◌, ℕ, Bool, true, false, List, [], ◌∷◌, ◌++◌, length, take, drop, get_or}
+use Rattle.std.proofs.Common.{◌≡◌, ◌≢◌, ◌≤◌, ◌<◌, ◌+◌, ℕ, Bool, true, false, List, [], ◌∷◌, ◌++◌, length, take, drop}
+use Rattle.std.proofs.Common.{get_or}
 use Rattle.std.proofs.Common.{set, refl, sym, ap, ◌∙◌, subst, inl, inr, arith}
 use Rattle.std.specs.Prelude.{map, slice_get, All}
 use Rattle.std.specs.List.{AllByRecursion}
@@ -10,9 +11,13 @@ use Rattle.std.specs.declared.option.Option.{Option}
 use Rattle.std.specs.declared.option.Option.TheVariants.{Some, None}
 use Rattle.agent_base.specs.Carried.{Carried}
 use Rattle.metric.specs.declared.metric.Content.{Content}
-use Rattle.account.specs.Numbers.{output_numbers, unreached_output}
+use Rattle.account.specs.Numbers.{output_numbers, unreached_output, Numbers}
 use Rattle.account.specs.Setup.{Setup}
 use Rattle.account.specs.Views.{HasViews}
+use Rattle.account.specs.declared.entry.Verdict.{Verdict}
+use Rattle.account.specs.declared.entry.Verdict.TheVariants as verdicts
+use Rattle.agg_bank.specs.Bank.{BankMemory}
+use Rattle.pipeline_core.specs.declared.routing.Routed.{Routed}
 use Rattle.out_lane.specs.Lane.{LaneState, empty_lane}
 use Rattle.out_lane.specs.Lane as lane
 use Rattle.pipeline_core.specs.CoreState.{CoreState, lane_at, lane_of, first_state, sizes}
@@ -165,22 +170,27 @@ routable_same old new setup ended gathered stopped lanes = record {
   };
 }
 
--- an item was routed, and views were offered; to one that was removed nothing is
-pub routed_kept : (core next : CoreState) (item : ℕ) (whole : Option Content) (aggs outs : List (Option Content))
-    → next ≡ after_route core (record { item = item; whole = whole; aggs = aggs; outs = outs })
-    → IsRoutable core next
-routed_kept core next item None aggs outs is =
+-- an item was routed, and views were offered; to one that doesn't pass nothing is
+not_offered : (core next : CoreState) (r : Routed) (bank : BankMemory) (numbers : Numbers) (verdict : Verdict)
+    → next ≡ record (after_route core r verdict bank) { lanes = core.lanes; numbers = numbers } → IsRoutable core next
+not_offered core next r bank numbers verdict is =
     routable_same core next (ap (λ (s : CoreState). s.setup) is) (ap (λ (s : CoreState). s.ended) is)
     (ap (λ (s : CoreState). s.gathered) is) (ap (λ (s : CoreState). s.stopped) is) (ap (λ (s : CoreState). s.lanes) is)
-routed_kept core next item (Some metric) aggs outs is = record {
+
+pub routed_kept : (core next : CoreState) (r : Routed) (verdict : Verdict) (bank : BankMemory)
+    → next ≡ after_route core r verdict bank → IsRoutable core next
+routed_kept core next r verdicts.Removed bank is = not_offered core next r bank _ verdicts.Removed is
+routed_kept core next r verdicts.Consumed bank is = not_offered core next r bank _ verdicts.Consumed is
+routed_kept core next r verdicts.Late bank is = not_offered core next r bank _ verdicts.Late is
+routed_kept core next r verdicts.Passes bank is = record {
   setup = ap (λ (s : CoreState). s.setup) is;
   ended = ap (λ (s : CoreState). s.ended) is;
   gathered = ap (λ (s : CoreState). s.gathered) is;
   stopped = ap (λ (s : CoreState). s.stopped) is;
-  lane_count = ap (λ (s : CoreState). length s.lanes) is ∙ length-lanes_with item outs core.lanes;
+  lane_count = ap (λ (s : CoreState). length s.lanes) is ∙ length-lanes_with r.item r.outs core.lanes;
   each = λ o b. subst (IsLaneKept (lane_at core.lanes o)) (sym (ap (λ (s : CoreState). lane_at s.lanes o) is
-      ∙ lanes_with-at item outs core.lanes o b))
-      (view_kept item (view_at o outs) (lane_at core.lanes o));
+      ∙ lanes_with-at r.item r.outs core.lanes o b))
+      (view_kept r.item (view_at o r.outs) (lane_at core.lanes o));
 }
 
 pub routable_more : (old mid new : CoreState) → IsRoutable old mid → IsRoutable mid new → IsRoutable old new
@@ -200,20 +210,23 @@ first_gone (y ∷ ys) x at = omega arith
 
 -- an item was taken and routed
 pub item_routed : (core mid next : CoreState) (item : Item) (outs : List OutputConf) (whole : Option Content)
-    → TakesNext core mid item → next ≡ after_route mid (routed_by outs item.number whole) → IsRoutable core next
-item_routed core mid next item outs whole takes is =
+    (verdict : Verdict) (bank : BankMemory) → TakesNext core mid item
+    → next ≡ after_route mid (routed_by outs item.number whole) verdict bank → IsRoutable core next
+item_routed core mid next item outs whole verdict bank takes is =
     routable_more core mid next
     (routable_same core mid (ap (λ (s : CoreState). s.setup) takes.after) (ap (λ (s : CoreState). s.ended) takes.after)
     (ap (λ (s : CoreState). s.gathered) takes.after) (ap (λ (s : CoreState). s.stopped) takes.after)
     (ap (λ (s : CoreState). s.lanes) takes.after))
-    (routed_kept mid next item.number whole [] (views_of (filters_of outs) whole) is)
+    (routed_kept mid next (routed_by outs item.number whole) verdict bank is)
 
 -- and one raw item fewer is left
 pub item_fewer : (core mid next : CoreState) (item : Item) (outs : List OutputConf) (whole : Option Content)
-    → TakesNext core mid item → next ≡ after_route mid (routed_by outs item.number whole)
+    (verdict : Verdict) (bank : BankMemory) → TakesNext core mid item
+    → next ≡ after_route mid (routed_by outs item.number whole) verdict bank
     → length next.raw + 1 ≡ length core.raw
-item_fewer core mid next item outs whole takes is =
-    let left : next.raw ≡ drop 1 core.raw = ap (λ (s : CoreState). s.raw) is ∙ ap (λ (s : CoreState). s.raw) takes.after in
+item_fewer core mid next item outs whole verdict bank takes is =
+    let left : next.raw ≡ drop 1 core.raw = ap (λ (s : CoreState). s.raw) is ∙ ap (λ
+    (s : CoreState). s.raw) takes.after in
     ap (λ (xs : List Content). length xs + 1) left ∙ first_gone core.raw item.metric takes.metric
 
 -- of an item that was removed nothing is there at any output
@@ -284,7 +297,7 @@ pub outputs_still : (count last : ℕ) (outs fresh : List OutPart) → fresh ≡
 outputs_still count last outs fresh are same h = rw (are, same) (outputs_anew count outs h)
 
 -- nothing happened yet
-pub ready_first : (setup : CoreSetup) (outputs : List OutSetup) (core : CoreState) → core ≡ first_state setup
+pub ready_first : (setup : CoreSetup) (outputs : List OutSetup) (core : CoreState) → core ≡ first_state setup core.bank
     → HasNoAggs core.setup → setup.outputs ≡ outputs
     → All (λ (x : OutSetup). (1 ≤ x.batch) × (x.batch ≤ x.limit)) outputs → IsReady core
 ready_first setup outputs core is no_aggs same sizes_fit = record {

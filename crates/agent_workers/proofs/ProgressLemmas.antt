@@ -25,7 +25,8 @@ use Rattle.pipeline_core.specs.CoreState.{CoreState}
 use Rattle.out_lane.specs.LaneEvents.{LaneEvent}
 use Rattle.pipeline_core.specs.Legal.{IsLegal, has_stop, is_stop}
 use Rattle.pipeline_core.specs.Offers.{lane_events, lane_events_by}
-use Rattle.pipeline_core.specs.Steps.{after_take, after_route, after_stop, after_cut, route_entry, stop_entry}
+use Rattle.pipeline_core.specs.Moments.{IsStoppedAt}
+use Rattle.pipeline_core.specs.Steps.{after_take, after_route, after_cut, route_entry, stop_entry}
 use Rattle.pipeline_core.specs.Steps.{moment_at}
 use Rattle.pipeline_core.specs.Shapes.{IsRouteEntry, IsStopEntry}
 use Rattle.pipeline_core.proofs.ShapeLemmas.{entries-have-shape}
@@ -306,15 +307,16 @@ pushed_still core chain journal e stands none h =
 
 -- the first raw item was taken and routed
 pub went_route : (start : Beginning) (core mid next : CoreState) (now : RunState) (proc new_proc : ProcPart)
-    (metric : Content) (whole : Option Content) → AreAnew now.outs → slice_get core.raw 0 ≡ Some metric →
-    mid ≡ after_take core → Continues core mid (Take core.taken) →
-    next ≡ after_route mid (routed_by proc.outs core.taken whole)
-    → Continues mid next (route_entry mid (routed_by proc.outs core.taken whole)) → Pushes proc new_proc metric whole
-    → IsSameProc proc new_proc → Progress start (record now { core = core; proc = proc })
+    (metric : Content) (whole : Option Content) (answer : Verdict) → AreAnew now.outs
+    → slice_get core.raw 0 ≡ Some metric → mid ≡ after_take core → Continues core mid (Take core.taken)
+    → next ≡ after_route mid (routed_by proc.outs core.taken whole) answer next.bank
+    → Continues mid next (route_entry (routed_by proc.outs core.taken whole) answer)
+    → Pushes proc new_proc metric whole → IsSameProc proc new_proc → Progress start
+    (record now { core = core; proc = proc })
     → Progress start (record now { core = next; proc = new_proc })
-went_route start core mid next now proc new_proc metric whole fresh first took takes routed routes pushes same w =
+went_route start core mid next now proc new_proc metric whole answer fresh first took takes routed routes pushes same w =
     let routing : Routed = routed_by proc.outs core.taken whole in
-    let shape : IsRouteEntry routing (route_entry mid routing) = entries-have-shape.routes mid routing in
+    let shape : IsRouteEntry routing (route_entry routing answer) = entries-have-shape.routes routing answer in
     let verdict : Verdict = shape.0 in
     let reports : List Report = shape.1 in
     let t : Entry = Take core.taken in
@@ -409,15 +411,16 @@ all_flushed start core now w no_aggs settled =
 -- were settled
 pub went_stop : (start : Beginning) (core next : CoreState) (now : RunState) (outs new_outs : List OutPart) (moment : ℤ)
     → HasNoAggs core.setup → core.raw ≡ [] → AreSettled core outs → new_outs ≡ map anew outs → AreAnew new_outs
-    → next ≡ after_stop core moment → Continues core next (stop_entry core moment)
+    → IsStoppedAt moment core next
     → Progress start (record now { core = core; outs = outs })
     → Progress start (record now {
       core = next;
       outs = new_outs;
       counted_at = now.counted_at ++ int_max moment (last_of start.start now.counted_at) ∷ [];
     })
-went_stop start core next now outs new_outs moment no_aggs none_raw settled are fresh is more w =
-    let shape : IsStopEntry (moment_at core moment) (stop_entry core moment) = entries-have-shape.stops core moment in
+went_stop start core next now outs new_outs moment no_aggs none_raw settled are fresh stops w =
+    let shape : IsStopEntry (moment_at core moment) (stop_entry core moment stops.metrics) =
+    entries-have-shape.stops core moment stops.metrics in
     let e : Entry = Stop (int_max moment core.counted) shape.0 in
     let counted : core.counted ≡ last_of start.start now.counted_at =
     w.text.stands.counted ∙ counted_from-last core.setup.start w.journal
@@ -425,9 +428,10 @@ went_stop start core next now outs new_outs moment no_aggs none_raw settled are 
     ∙ ap (λ (s : Setup). last_of s.start now.counted_at) w.text.setup_is in
     record {
       journal = w.journal ++ e ∷ [];
-      text = text-push start core next now.journal w.journal e w.text (subst (Continues core next) shape.1 more)
-          (ap (λ (s : CoreState). s.stored) is ∙ ap (λ (x : Entry). core.stored ++ x ∷ []) shape.1)
-          (ap (λ (s : CoreState). s.setup) is);
+      text = text-push start core next now.journal w.journal e w.text (subst
+          (Continues core next) shape.1 stops.continues)
+          (ap (λ (s : CoreState). s.stored) stops.after ∙ ap (λ (x : Entry). core.stored ++ x ∷ []) shape.1)
+          (ap (λ (s : CoreState). s.setup) stops.after);
       in_count = w.in_count;
       heard = all_heard_push start.ins now.ins w.journal e (λ k. record { none = refl; other = refl }) w.heard;
       out_count = ap length are ∙ length-map outs anew ∙ w.out_count;
@@ -447,15 +451,17 @@ went_stop start core next now outs new_outs moment no_aggs none_raw settled are 
     }
 
 -- the same of an item with the number of the first raw one
-pub went_item : (start : Beginning) (core mid next : CoreState) (now : RunState) (proc new_proc : ProcPart) (item : Item)
-    (whole : Option Content) → AreAnew now.outs → TakesNext core mid item →
-    next ≡ after_route mid (routed_by proc.outs item.number whole)
-    → Continues mid next (route_entry mid (routed_by proc.outs item.number whole))
+pub went_item : (start : Beginning) (core mid next : CoreState) (now : RunState) (proc new_proc : ProcPart)
+    (item : Item)
+    (whole : Option Content) (answer : Verdict) → AreAnew now.outs → TakesNext core mid item
+    → next ≡ after_route mid (routed_by proc.outs item.number whole) answer next.bank
+    → Continues mid next (route_entry (routed_by proc.outs item.number whole) answer)
     → Pushes proc new_proc item.metric whole → IsSameProc proc new_proc
     → Progress start (record now { core = core; proc = proc })
     → Progress start (record now { core = next; proc = new_proc })
-went_item start core mid next now proc new_proc item whole fresh takes routed routes pushes same w =
-    went_route start core mid next now proc new_proc item.metric whole fresh takes.metric takes.after takes.continues
-    (subst (λ (n : ℕ). next ≡ after_route mid (routed_by proc.outs n whole)) takes.number routed)
-    (subst (λ (n : ℕ). Continues mid next (route_entry mid (routed_by proc.outs n whole))) takes.number routes)
+went_item start core mid next now proc new_proc item whole answer fresh takes routed routes pushes same w =
+    went_route start core mid next now proc new_proc item.metric whole answer fresh takes.metric takes.after
+    takes.continues
+    (subst (λ (n : ℕ). next ≡ after_route mid (routed_by proc.outs n whole) answer next.bank) takes.number routed)
+    (subst (λ (n : ℕ). Continues mid next (route_entry (routed_by proc.outs n whole) answer)) takes.number routes)
     pushes same w

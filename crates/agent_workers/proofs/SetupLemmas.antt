@@ -51,11 +51,14 @@ about_of config start first inputs aggs outputs g e n f = rw
     (g, e, n, f, limits_are config config.inputs, sizes_are config.outputs) refl
 
 -- what the core is about
-pub core_is : (config : Config) (inputs : List InSetup) (outputs : List OutSetup) (start first : ℤ)
-    → inputs ≡ map in_setup config.inputs → outputs ≡ map out_setup config.outputs → first ≡ start →
-    core_setup_of (record { inputs = inputs; outputs = outputs; start = first }) ≡ setup_of (job_of config) start
-core_is config inputs outputs start first e f g = rw (
+pub core_is : (config : Config) (inputs : List InSetup) (aggs : List AggLine) (outputs : List OutSetup)
+    (start first : ℤ) → inputs ≡ map in_setup config.inputs → aggs ≡ [] → outputs ≡ map out_setup config.outputs
+    → first ≡ start →
+    core_setup_of (record { inputs = inputs; aggs = aggs; outputs = outputs; start = first })
+    ≡ setup_of (job_of config) start
+core_is config inputs aggs outputs start first e n f g = rw (
   e,
+  n,
   f,
   g,
   core_limits config.inputs,
@@ -78,7 +81,8 @@ pub untracked : (confs : List InputConf) (inputs : List InSetup) → inputs ≡ 
 untracked confs inputs same = subst (All (λ (x : InSetup). x.tracked ≡ false)) (sym same) (untracked_all confs)
 
 -- none of them has ended in a core in which nothing happened
-pub none_ended_first : (confs : List InputConf) (setup : CoreSetup) (core : CoreState) → core ≡ first_state setup
+pub none_ended_first : (confs : List InputConf) (setup : CoreSetup) (core : CoreState) → core
+    ≡ first_state setup core.bank
     → setup.inputs ≡ map in_setup confs → core.ended ≡ replicate (length confs) false
 none_ended_first confs setup core is same = ap (λ (s : CoreState). s.ended) is
     ∙ ap (λ (xs : List InSetup). replicate (length xs) false) same
@@ -110,7 +114,7 @@ default_of zero o d = refl
 default_of (suc n) zero d = refl
 default_of (suc n) (suc o) d = default_of n o d
 
-pub none_buffered_first : (setup : CoreSetup) (core : CoreState) (o : ℕ) → core ≡ first_state setup
+pub none_buffered_first : (setup : CoreSetup) (core : CoreState) (o : ℕ) → core ≡ first_state setup core.bank
     → buffered_at core o ≡ 0
 none_buffered_first setup core o is = ap (λ (s : CoreState). buffered_at s o) is
     ∙ ap (λ (x : OutputNumbers). x.buffered) (default_of (length setup.outputs) o unreached_output)

@@ -1,5 +1,5 @@
 //! What a run and its journal are about.
-ghost use Rattle.std.specs.Prelude.{◌≡◌, map, IfOk};
+ghost use Rattle.std.specs.Prelude.{◌≡◌, [], map, IfOk};
 ghost use Rattle.agent_config.specs.Sound.{IsSound};
 ghost use Rattle.pipeline_core.specs.CoreState.{setup_of as core_setup_of};
 ghost use Rattle.agent_workers.specs.Job.{job_of, journal_setup_of, limit_by, setup_of, sizes_by};
@@ -81,10 +81,12 @@ pub fn journal_setup(
 fn core_setup(alloc: Global, config: &Config, start: Moment) -> Result<CoreSetup, OutOfMemory>
     ensures setup { IfOk result (λ setup. core_setup_of setup ≡ setup_of (job_of config.now) start) }
     ensures inputs { IfOk result (λ setup. setup.inputs ≡ map in_setup config.now.inputs) }
+    ensures aggs { IfOk result (λ setup. setup.aggs ≡ []) }
     ensures outputs { IfOk result (λ setup. setup.outputs ≡ map out_setup config.now.outputs) }
 {
     Ok(CoreSetup {
         inputs: Seq::of(in_setups(alloc, config.inputs.as_slice())?),
+        aggs: Seq::of(Vec::new(alloc)),
         outputs: Seq::of(out_setups(alloc, config.outputs.as_slice())?),
         start,
     })

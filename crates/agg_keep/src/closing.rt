@@ -3,7 +3,7 @@ use fixed_num::Moment;
 
 /// A closing: the moment at which a window closes, and whether all series are given, as at a stop.
 #[derive(Clone, Copy, Debug)]
-pub(crate) struct Closing {
+pub struct Closing {
     pub moment: Moment,
     pub all: bool,
 }

@@ -11,6 +11,7 @@ mod merge;
 mod merge_map;
 mod spot;
 
+pub use closing::Closing;
 pub use finals::Final;
 pub use laws::{calls_final, calls_merge};
 pub use merge::Merge;

@@ -21,7 +21,7 @@ use Rattle.agg_stats.specs.Asked.{given_of, named, where_asked, Asked}
 use Rattle.agg_stats.specs.Folds.{metric_at}
 use Rattle.agg_stats.specs.Kept.{Sums}
 use Rattle.agg_stats.specs.Summary.{value_in, Summary}
-use Rattle.agg_stats.proofs.GroupLemmas.{not_same, same_texts}
+use Rattle.metric.proofs.GroupLemmas.{not_same, same_texts}
 
 -- ---- a key and the name behind it
 

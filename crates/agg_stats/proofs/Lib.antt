@@ -1,6 +1,5 @@
 pub mod FoldExamples
 pub mod GivenLemmas
-pub mod GroupLemmas
 pub mod LawLemmas
 pub mod MemberLemmas
 pub mod RowLemmas

@@ -28,7 +28,7 @@ use Rattle.agg_stats.specs.Kept.{entry_of, fields_in, held, made_at, row_of, row
 use Rattle.agg_stats.specs.Kept.{with_fields, IsReady, Memory, SeriesSums, StandsFor, Sums}
 use Rattle.agg_stats.specs.Summary.{is_number}
 use Rattle.agg_stats.specs.declared.kind.StatsKind.{StatsKind}
-use Rattle.agg_stats.proofs.GroupLemmas.{not_same}
+use Rattle.metric.proofs.GroupLemmas.{not_same}
 use Rattle.agg_stats.proofs.SummedLemmas.{summed_are, AreFew}
 
 -- ---- series that are equal

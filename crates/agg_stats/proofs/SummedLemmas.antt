@@ -10,7 +10,8 @@ use Rattle.metric.specs.Pairs.{first_of_each, with_pair}
 use Rattle.agg_stats.specs.Folds.{summed, values_of}
 use Rattle.agg_stats.specs.Kept.{empty_summary, most, summary_at, with_fields, with_number, Sums}
 use Rattle.agg_stats.specs.Summary.{is_number, summary_of, Summary}
-use Rattle.agg_stats.proofs.GroupLemmas.{made, put_are, put_in, put_one, turned}
+use Rattle.metric.specs.Pairs.{put_in}
+use Rattle.metric.proofs.GroupLemmas.{made, put_are, put_one, turned}
 use Rattle.agg_stats.proofs.SummaryLemmas.{summary_is}
 
 -- a pair is put at its key

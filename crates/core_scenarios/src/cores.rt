@@ -112,7 +112,7 @@ impl CoreCalls {
         let Some(item) = self.core.held() else {
             return refused();
         };
-        if outs.len() != self.core.output_count() {
+        if outs.len() != self.core.output_count() || self.core.aggregator_count() != 0 {
             return refused();
         }
         self.core.route(Routed {
@@ -163,6 +163,7 @@ impl Calls for CoreCalls {
         };
         let setup = CoreSetup {
             inputs: Seq::of(Vec::from_slice(alloc, &[plain, plain])?),
+            aggs: Seq::of(Vec::new(alloc)),
             outputs: Seq::of(Vec::from_slice(alloc, &outputs)?),
             start: next(&mut row.value("start").split_whitespace()),
         };

@@ -10,3 +10,4 @@ pub mod KeptLemmas
 pub mod DraftLemmas
 pub mod KeptPairs
 pub mod NumberLemmas
+pub mod GroupLemmas

@@ -228,6 +228,7 @@ fn complete(alloc: Global, content: &mut Content, time: Moment) -> Result<(), Bu
 }
 
 /// One more tag among tags sorted by key.
+#[inline(always)]
 pub(crate) fn put_tag(
     alloc: Global,
     tags: &mut Seq<(Text, Text)>,
@@ -242,6 +243,7 @@ pub(crate) fn put_tag(
 }
 
 /// The same, of texts that are there.
+#[inline(always)]
 pub(crate) fn put_texts(
     alloc: Global,
     tags: &mut Seq<(Text, Text)>,
@@ -260,6 +262,7 @@ pub(crate) fn put_texts(
 }
 
 /// One more field.
+#[inline(always)]
 pub(crate) fn put_field(
     alloc: Global,
     fields: &mut Seq<(Text, Value)>,
@@ -295,6 +298,7 @@ fn index_of(tags: &[(Text, Text)], key: &str) -> Result<usize, usize>
 }
 
 /// Where the field of a key stands.
+#[inline(always)]
 pub(crate) fn field_at(fields: &[(Text, Value)], key: &str) -> Option<usize>
     ensures { result ≡ position (λ field. bytes_eq field.0 key.now) fields.now }
 {

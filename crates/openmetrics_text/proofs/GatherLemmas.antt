@@ -11,14 +11,14 @@ use Rattle.std.proofs.lemmas.Grind.{flat_map-append}
 use Rattle.std.proofs.lemmas.List.{map_more}
 use Rattle.std.proofs.lemmas.List.Folds.{flat_map-map}
 use Rattle.std.proofs.lemmas.List.Sums.{fold-append}
-use Rattle.metric.specs.Pairs.{first_of_each}
-use Rattle.openmetrics_text.specs.Groups.{Grouped, Lines, Written, written_of, grouped, put_in, with_last, put_line}
+use Rattle.metric.specs.Pairs.{first_of_each, put_in}
+use Rattle.openmetrics_text.specs.Groups.{Grouped, Lines, Written, written_of, grouped, with_last, put_line}
 use Rattle.openmetrics_text.specs.Groups.{by_time_on, lines_text, series_key, series_text, series_group, samples_text}
 use Rattle.openmetrics_text.specs.Groups.{family_group, families_text}
 use Rattle.openmetrics_text.specs.Writing.{Point, is_one_series, first_of_series, at_time, with_time, in_time_order_on}
 use Rattle.openmetrics_text.specs.Writing.{in_family, series_of, point_text, type_text, family_text, families_of}
 use Rattle.openmetrics_text.specs.Writing.{points_text}
-use Rattle.openmetrics_text.proofs.GroupLemmas.{made, put_one, put_are}
+use Rattle.metric.proofs.GroupLemmas.{made, put_one, put_are}
 use Rattle.openmetrics_text.proofs.KeyLemmas.{one_key}
 
 -- ---- by time

@@ -4,7 +4,8 @@ use Rattle.std.proofs.Common.{Option, Some, None, refl, sym, ap, subst, ◌∙�
 use Rattle.std.specs.Option.{option_map}
 use Rattle.std.specs.Str.{bytes_eq}
 use Rattle.std.proofs.lemmas.Slice.Eq.{bytes_eq-Decides}
-use Rattle.openmetrics_text.specs.Groups.{Grouped, Written, put_in, with_last}
+use Rattle.metric.specs.Pairs.{put_in}
+use Rattle.openmetrics_text.specs.Groups.{Grouped, Written, with_last}
 use Rattle.openmetrics_text.specs.WriteViews.{HasMore, index_in}
 
 -- ---- options

@@ -17,7 +17,7 @@ use Rattle.metric.specs.Pairs.{in_key_order}
 use Rattle.openmetrics_text.specs.Labels.{value_part}
 use Rattle.openmetrics_text.specs.Groups.{quoted_label, series_key}
 use Rattle.openmetrics_text.specs.Writing.{label_escapes, quoted, same_tags}
-use Rattle.openmetrics_text.proofs.TypeLemmas.{same_texts, not_same}
+use Rattle.metric.proofs.GroupLemmas.{same_texts, not_same}
 
 -- ---- escaped texts
 

@@ -9,7 +9,6 @@ pub mod Takes
 pub mod Spells
 pub mod Founds
 pub mod Wholes
-pub mod GroupLemmas
 pub mod KeyLemmas
 pub mod GatherLemmas
 pub mod SampleLemmas

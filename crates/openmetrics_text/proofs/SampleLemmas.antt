@@ -9,7 +9,7 @@ use Rattle.openmetrics_text.specs.WriteViews.{line_view, group_view, HasMore}
 use Rattle.openmetrics_text.specs.declared.groups.Group.{Group}
 use Rattle.openmetrics_text.specs.declared.groups.SampleLine.{SampleLine}
 use Rattle.openmetrics_text.proofs.GatherLemmas.{by_time-push}
-use Rattle.openmetrics_text.proofs.TypeLemmas.{same_texts}
+use Rattle.metric.proofs.GroupLemmas.{same_texts}
 
 -- ---- one sample more
 

@@ -27,7 +27,7 @@ use Rattle.openmetrics_text.specs.Grammar.{with_newline, end_text, exposition_te
 use Rattle.openmetrics_text.specs.Grammar.{IsName, HasNoSpace, IsSample, IsLine, AreLines, WrittenIsRead}
 use Rattle.openmetrics_text.proofs.Chains.{lines_are, none_read}
 use Rattle.openmetrics_text.proofs.Takes.{name_first, whole_name, head_takes, behind_takes}
-use Rattle.openmetrics_text.proofs.TypeLemmas.{same_texts, not_same}
+use Rattle.metric.proofs.GroupLemmas.{same_texts, not_same}
 
 -- ---- the number and the time
 

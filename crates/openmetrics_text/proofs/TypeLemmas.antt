@@ -13,6 +13,7 @@ use Rattle.std.proofs.lemmas.List.{append_cancel_right, take-append-drop, drop_a
 use Rattle.std.proofs.lemmas.List.{map-append}
 use Rattle.std.proofs.lemmas.List.Folds.{list_any_more}
 use Rattle.std.proofs.lemmas.Slice.Eq.{bytes_eq-Decides}
+use Rattle.metric.proofs.GroupLemmas.{not_same, same_texts}
 use Rattle.metric.specs.Draft.{Tag}
 use Rattle.openmetrics_text.specs.declared.types.Types.{Types}
 use Rattle.openmetrics_text.specs.TypeViews.{HaveTypes}
@@ -105,13 +106,6 @@ last_with_more sample suffixes i suffix pairs last one below is e f =
     (has_suffix_of sample (take (i + 1) suffixes)) pairs
     (λ name. sym (list_any_more (λ s. bytes_eq (name ++ s) sample) suffixes i [] below
     ∙ ap (λ (s : List ℕ). has_suffix_of sample (take i suffixes) name || bytes_eq (name ++ s) sample) is))
-
-pub same_texts : (a b : List ℕ) → a ≡ b → bytes_eq a b ≡ true
-same_texts a b e = (bytes_eq-Decides a b).1 e
-
-pub not_same : (t : Bool) → (t ≡ true → ⊥) → t ≡ false
-not_same true h = absurd (h refl)
-not_same false h = refl
 
 -- a sample's name is another name and a suffix exactly where it is so without the suffix
 stem_same : (front other suffix : List ℕ) → bytes_eq other front ≡ bytes_eq (other ++ suffix) (front ++ suffix)

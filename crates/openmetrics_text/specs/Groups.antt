@@ -46,12 +46,6 @@ by_family samples = grouped (λ sample. sample.family) samples
 abbrev pub by_series : List Written → List Grouped
 by_series samples = grouped (λ sample. sample.series) samples
 
--- a value changed at the first pair of a key; without one the start, changed, at the end
-unfoldable pub put_in : {X : Type 0} → (X → X) → X → List (List ℕ × X) → List ℕ → List (List ℕ × X)
-put_in change start [] key = (key, change start) ∷ []
-put_in change start (pair ∷ pairs) key =
-    if bytes_eq key pair.0 then (pair.0, change pair.1) ∷ pairs else pair ∷ put_in change start pairs key
-
 abbrev pub with_last : Written → List Written → List Written
 with_last sample samples = samples ++ sample ∷ []
 

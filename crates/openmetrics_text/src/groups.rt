@@ -1,6 +1,7 @@
 //! Samples by a text of theirs, each text where it came first.
 ghost use Rattle.std.specs.Prelude.{◌≡◌, ◌<◌, [], length, map, slice_set, OnOk};
-ghost use Rattle.openmetrics_text.specs.Groups.{put_in, with_last};
+ghost use Rattle.metric.specs.Pairs.{put_in};
+ghost use Rattle.openmetrics_text.specs.Groups.{with_last};
 ghost use Rattle.openmetrics_text.specs.WriteViews.{line_view, group_view, groups_view, HasMore, IsIndexed};
 
 use fixed_num::{Moment, OutOfMemory, Seq};

@@ -21,6 +21,7 @@ use Rattle.account.specs.Numbers.{Numbers, output_numbers, unread_input, no_numb
 use Rattle.account.specs.Numbers.{with_output, sum_of_fates}
 use Rattle.account.specs.declared.numbers.InputNumbers.{InputNumbers}
 use Rattle.account.specs.declared.numbers.OutputNumbers.{OutputNumbers}
+use Rattle.agg_bank.specs.Bank.{lines_of, BankMemory}
 use Rattle.out_lane.specs.Lane.{LaneState, empty_lane}
 use Rattle.out_lane.specs.Lane as lane
 use Rattle.pipeline_core.specs.Offers.{view_at, offered_views}
@@ -37,7 +38,7 @@ use Rattle.pipeline_core.specs.CoreState.{held_count, lane_at}
 use Rattle.pipeline_core.specs.declared.gathering.Gathered.{Gathered}
 use Rattle.pipeline_core.specs.Steps.{after_gather, after_ended, after_take, lanes_routed, numbers_routed}
 use Rattle.pipeline_core.specs.Steps.{HasFew, lane_with, numbers_with, buffered_more, lane_done, count_done}
-use Rattle.pipeline_core.specs.Steps.{counted_done, late_more, consumed_more, HasNumbers, HasItems}
+use Rattle.pipeline_core.specs.Steps.{counted_done, late_more, consumed_more, with_made, HasNumbers, HasItems}
 
 in_flight-le : (x : LaneState Offer) → in_flight x ≤ 1
 in_flight-le x = elim (is_some x.flight) as (λ b. (if b then 1 else 0) ≤ 1) [ true ↦ omega arith | false ↦ omega arith ]
@@ -46,11 +47,74 @@ in_flight-le x = elim (is_some x.flight) as (λ b. (if b then 1 else 0) ≤ 1) [
 pub flights-le : (lanes : List (LaneState Offer)) → flights lanes ≤ length lanes
 flights-le lanes = omega (arith, sum_by-le in_flight 1 lanes (λ k d h. in_flight-le (get_or lanes k d)))
 
+-- with so many marks more
+more_marks : (made : List Bool) (n : ℕ) (mark : Bool) {m : ℕ} → length made + n ≡ m
+    → length (made ++ replicate n mark) ≡ m
+more_marks made n mark all = omega (arith, length-append made (replicate n mark), length-replicate n mark, all)
+
 -- entries, the moment and the stop have no part in it
 pub kept_entries : (s : CoreState) (stored : List Entry) (counted : ℤ) (stopped : Bool) → IsCore s
     → IsCore (record s { stored = stored; counted = counted; stopped = stopped })
 kept_entries s stored counted stopped h =
-    record { outputs = h.outputs; inputs = h.inputs; items = h.items; plain = h.plain }
+    record {
+      outputs = h.outputs;
+      inputs = h.inputs;
+      items = h.items;
+      untracked = h.untracked;
+      lines = h.lines;
+      marks = h.marks;
+    }
+
+-- nor has what the aggregators keep, as long as they are the same
+pub kept_bank : (s : CoreState) (bank : BankMemory) → lines_of bank ≡ lines_of s.bank → IsCore s
+    → IsCore (record s { bank = bank })
+kept_bank s bank same h =
+    record {
+      outputs = h.outputs;
+      inputs = h.inputs;
+      items = h.items;
+      untracked = h.untracked;
+      lines = same ∙ h.lines;
+      marks = h.marks;
+    }
+
+-- what was made is raw
+pub kept_made : (s : CoreState) (metrics : List Content) → IsCore s → s.taken + (length s.raw + length metrics) < 2 ^ 63
+    → IsCore (with_made metrics s)
+kept_made s metrics h few =
+    record {
+      outputs = h.outputs;
+      inputs = h.inputs;
+      items = record {
+        come = omega (arith, length-append s.raw metrics, h.items.come);
+        few = omega (arith, length-append s.raw metrics, few);
+        few_gathered = h.items.few_gathered;
+        gone = h.items.gone;
+      };
+      untracked = h.untracked;
+      lines = h.lines;
+      marks = more_marks s.made (length metrics) true (omega (arith, length-append s.raw metrics, h.marks));
+    }
+
+-- windows closed, and what they made is raw
+pub kept_moment : (s : CoreState) (metrics raw : List Content) (marks : List Bool) (numbers : Numbers)
+    (bank : BankMemory)
+    (stored : List Entry) (counted : ℤ) (stopped : Bool) → IsCore s → s.taken + length raw < 2 ^ 63
+    → raw ≡ s.raw ++ metrics → marks ≡ s.made ++ replicate (length metrics) true
+    → numbers ≡ record s.numbers { made = s.numbers.made + length metrics } → lines_of bank ≡ lines_of s.bank
+    → IsCore (record s {
+      raw =
+          raw;
+      made = marks;
+      numbers = numbers;
+      bank = bank;
+      stored = stored;
+      counted = counted;
+      stopped = stopped;
+    })
+kept_moment s metrics raw marks numbers bank stored counted stopped h few r m n same =
+    rw (r, m, n) (kept_entries _ stored counted stopped (kept_bank _ bank same (kept_made s metrics h
+    (omega (arith, few, ap (λ (xs : List Content). length xs) r, length-append s.raw metrics)))))
 
 -- an input's numbers have no part in the others
 inputs_kept : (inputs : List (Option ℕ)) (numbers : List InputNumbers) (ended : List Bool) (i : ℕ) (x : InputNumbers)
@@ -73,7 +137,9 @@ kept_gather s g stored h few items =
         few_gathered = few;
         gone = h.items.gone;
       };
-      plain = h.plain;
+      untracked = h.untracked;
+      lines = h.lines;
+      marks = more_marks s.made (length g.metrics) false (omega (arith, length-append s.raw g.metrics, h.marks));
     }
 
 pub kept_ended : (s : CoreState) (input : ℕ) (stored : List Entry) → IsCore s
@@ -87,7 +153,9 @@ kept_ended s input stored h =
         ended_count = length-set s.ended _ _ ∙ h.inputs.ended_count;
       };
       items = h.items;
-      plain = h.plain;
+      untracked = h.untracked;
+      lines = h.lines;
+      marks = h.marks;
     }
 
 pub kept_take : (s : CoreState) (stored : List Entry) → IsCore s → s.held ≡ None → 0 < length s.raw
@@ -102,7 +170,9 @@ kept_take s stored h empty some =
         few_gathered = h.items.few_gathered;
         gone = omega (arith, h.items.gone, ap held_count empty);
       };
-      plain = h.plain;
+      untracked = h.untracked;
+      lines = h.lines;
+      marks = omega (arith, length-drop 1 s.raw, h.marks, ap held_count empty);
     }
 
 -- there are few enough items that one more may be routed
@@ -298,12 +368,18 @@ counted_at_each more s each h =
           (omega (arith, b, h.outputs.number_count))) (each o b);
     }
 
+-- the mark of the item in hand is gone
+one_mark_fewer : (s : CoreState) (item : ℕ) → s.held ≡ Some item → IsCore s
+    → length (drop 1 s.made) ≡ 0 + length s.raw
+one_mark_fewer s item held h = omega (arith, length-drop 1 s.made, h.marks, ap held_count held)
+
 -- an item is offered and counted by its verdict
 kept_as : (verdict : Verdict) (s : CoreState) (outs : List (Option Content)) (item : ℕ) (stored : List Entry)
     → s.held ≡ Some item → IsCore s →
     IsCore (record s {
       held =
           None;
+      made = drop 1 s.made;
       lanes = lanes_routed item verdict outs s.lanes;
       numbers = numbers_routed verdict outs s.lanes s.numbers;
       stored = stored;
@@ -324,7 +400,9 @@ kept_as verdicts.Passes s outs item stored held h =
       };
       inputs = h.inputs;
       items = routed_items s item held h;
-      plain = h.plain;
+      untracked = h.untracked;
+      lines = h.lines;
+      marks = one_mark_fewer s item held h;
     }
 kept_as verdicts.Consumed s outs item stored held h =
     record {
@@ -333,7 +411,9 @@ kept_as verdicts.Consumed s outs item stored held h =
           (omega arith) (h.outputs.each o b)) h;
       inputs = h.inputs;
       items = routed_items s item held h;
-      plain = h.plain;
+      untracked = h.untracked;
+      lines = h.lines;
+      marks = one_mark_fewer s item held h;
     }
 kept_as verdicts.Late s outs item stored held h =
     record {
@@ -342,7 +422,9 @@ kept_as verdicts.Late s outs item stored held h =
           (h.outputs.each o b)) h;
       inputs = h.inputs;
       items = routed_items s item held h;
-      plain = h.plain;
+      untracked = h.untracked;
+      lines = h.lines;
+      marks = one_mark_fewer s item held h;
     }
 kept_as verdicts.Removed s outs item stored held h =
     record {
@@ -354,7 +436,9 @@ kept_as verdicts.Removed s outs item stored held h =
         few_gathered = h.items.few_gathered;
         gone = omega (arith, h.items.gone, ap held_count held);
       };
-      plain = h.plain;
+      untracked = h.untracked;
+      lines = h.lines;
+      marks = one_mark_fewer s item held h;
     }
 
 pub length-lanes_routed : (item : ℕ) (verdict : Verdict) (outs : List (Option Content)) (lanes : List (LaneState Offer))
@@ -364,30 +448,21 @@ length-lanes_routed item verdicts.Consumed outs lanes = refl
 length-lanes_routed item verdicts.Late outs lanes = refl
 length-lanes_routed item verdicts.Removed outs lanes = refl
 
-pub kept_route : (s : CoreState) (verdict : Verdict) (outs : List (Option Content)) (item : ℕ)
+pub kept_route : (s : CoreState) (verdict : Verdict) (outs : List (Option Content)) (item : ℕ) (bank : BankMemory)
     (lanes : List (LaneState Offer)) (numbers : Numbers) (stored : List Entry) → s.held ≡ Some item →
-    lanes ≡ lanes_routed item verdict outs s.lanes → numbers ≡ numbers_routed verdict outs s.lanes s.numbers → IsCore s
+    lines_of bank ≡ lines_of s.bank → lanes ≡ lanes_routed item verdict outs s.lanes
+    → numbers ≡ numbers_routed verdict outs s.lanes s.numbers → IsCore s
     → IsCore (record s {
       held =
           None;
+      made = drop 1 s.made;
+      bank = bank;
       lanes = lanes;
       numbers = numbers;
       stored = stored;
     })
-kept_route s verdict outs item lanes numbers stored held l n h =
-    subst (λ (x : List (LaneState Offer)). IsCore (record s {
-      held = None;
-      lanes = x;
-      numbers = numbers;
-      stored = stored;
-    })) (sym l)
-    (subst (λ (x : Numbers). IsCore (record s {
-      held = None;
-      lanes = lanes_routed item verdict outs s.lanes;
-      numbers = x;
-      stored = stored;
-    })) (sym n)
-    (kept_as verdict s outs item stored held h))
+kept_route s verdict outs item bank lanes numbers stored held same l n h =
+    rw (l, n) (kept_bank _ bank same (kept_as verdict s outs item stored held h))
 
 -- few enough metrics came to each output that one more may
 pub has_few : (s : CoreState) → IsCore s → (o : ℕ) → o < length s.lanes →
@@ -397,6 +472,8 @@ has_few s h o b =
     let few = few_routed s h in
     record {
       filtered = omega (arith, few, e.all);
+      late = omega (arith, few, e.all);
+      consumed = omega (arith, few, e.all);
       buffered = omega (arith, few, e.all);
       dropped = omega (arith, few, e.all);
       pushed = omega (arith, few, e.pushed);
@@ -424,7 +501,9 @@ kept_begin s o at stored b none e h =
       };
       inputs = h.inputs;
       items = h.items;
-      plain = h.plain;
+      untracked = h.untracked;
+      lines = h.lines;
+      marks = h.marks;
     }
 
 -- a batch is done
@@ -454,7 +533,9 @@ kept_done s o ok at numbers stored b e n h =
       };
       inputs = h.inputs;
       items = h.items;
-      plain = h.plain;
+      untracked = h.untracked;
+      lines = h.lines;
+      marks = h.marks;
     })
 
 -- one batch fewer is in flight
@@ -524,17 +605,20 @@ untracked_at_first inputs h k d b =
     ∙ ap (λ (t : Bool). if t then Some (get_or inputs k no_input).max_undelivered else None) (h k no_input within)
 
 -- a core in which nothing happened
-pub kept_first : (setup : CoreSetup) (raw : List Content) (lanes : List (LaneState Offer)) (numbers : Numbers)
-    (stored : List Entry) (counted : ℤ) (ended : List Bool) →
+pub kept_first : (setup : CoreSetup) (raw : List Content) (made : List Bool) (bank : BankMemory)
+    (lanes : List (LaneState Offer)) (numbers : Numbers) (stored : List Entry) (counted : ℤ) (ended : List Bool) →
     length setup.outputs ≤ 16 → All (λ (x : InSetup). x.tracked ≡ false) setup.inputs
     → All (λ (x : OutSetup). (1 ≤ x.batch) × (x.batch ≤ x.limit)) setup.outputs →
-    raw ≡ [] → lanes ≡ map lane_of setup.outputs → numbers ≡ no_numbers (map is_tracked setup.inputs)
+    raw ≡ [] → made ≡ [] → lines_of bank ≡ setup.aggs → lanes ≡ map lane_of setup.outputs → numbers ≡ no_numbers
+    (map is_tracked setup.inputs)
     (length setup.outputs) → ended ≡ replicate (length setup.inputs) false →
     IsCore (record {
       setup = setup_of setup;
       raw = raw;
       taken = 0;
       held = None;
+      made = made;
+      bank = bank;
       lanes = lanes;
       numbers = numbers;
       stored = stored;
@@ -543,8 +627,8 @@ pub kept_first : (setup : CoreSetup) (raw : List Content) (lanes : List (LaneSta
       ended = ended;
       stopped = false;
     })
-kept_first setup raw lanes numbers stored counted ended few untracked sized r l n e =
-    rw (r, l, n, e)
+kept_first setup raw made bank lanes numbers stored counted ended few untracked sized r m same l n e =
+    rw (r, m, l, n, e)
     (record {
       outputs = record {
         lane_count = length-map setup.outputs lane_of ∙ sym (length-map setup.outputs sizes);
@@ -558,20 +642,25 @@ kept_first setup raw lanes numbers stored counted ended few untracked sized r l 
         ended_count = length-replicate (length setup.inputs) false ∙ sym (length-map setup.inputs most_undelivered);
       };
       items = record { come = refl; few = omega arith; few_gathered = omega arith; gone = refl };
-      plain = record { untracked = untracked_at_first setup.inputs untracked; no_aggs = refl };
+      untracked = untracked_at_first setup.inputs untracked;
+      lines = same;
+      marks = refl;
     })
 
-pub kept_gathered : (s : CoreState) (g : Gathered) (raw : List Content) (numbers : Numbers) (gathered : ℕ)
-    (stored : List Entry) → IsCore s → HasNumbers s g → HasItems s g →
-    raw ≡ s.raw ++ g.metrics → numbers ≡ (after_gather s g).numbers → gathered ≡ s.gathered + length g.metrics
+pub kept_gathered : (s : CoreState) (g : Gathered) (raw : List Content) (made : List Bool) (numbers : Numbers)
+    (gathered : ℕ) (stored : List Entry) → IsCore s → HasNumbers s g → HasItems s g →
+    raw ≡ s.raw ++ g.metrics → made ≡ s.made ++ replicate (length g.metrics) false → numbers ≡
+    (after_gather s g).numbers → gathered ≡ s.gathered + length g.metrics
     → IsCore (record s {
       raw =
           raw;
+      made = made;
       numbers = numbers;
       gathered = gathered;
       stored = stored;
     })
-kept_gathered s g raw numbers gathered stored h few items r n e = rw (r, n, e) (kept_gather s g stored h few items)
+kept_gathered s g raw made numbers gathered stored h few items r m n e =
+    rw (r, m, n, e) (kept_gather s g stored h few items)
 
 -- a batch that is begun is in flight
 pub flies : (s : CoreState) (o : ℕ) (at : LaneState Offer) → IsCore s → o < length s.setup.outputs →

@@ -19,3 +19,4 @@ pub mod OrderLemmas
 pub mod SentLemmas
 pub mod WorkedLemmas
 pub mod RawLemmas
+pub mod BankLemmas

@@ -1,5 +1,7 @@
 -- The views of an item go to the outputs, the last output first.
-use Rattle.std.proofs.Common.{◌≡◌, ◌<◌, ◌≤◌, ℕ, ◌+◌, ◌==◌, Bool, true, List, [], ◌∷◌, ◌++◌, length, refl, sym}
+use Rattle.std.proofs.Common.{◌≡◌, ◌<◌, ◌≤◌, ℕ, zero, suc, ◌+◌, ◌==◌, Bool, true, List, [], ◌∷◌, ◌++◌, length, map}
+use Rattle.std.proofs.Common.{take}
+use Rattle.std.proofs.Common.{drop, refl, sym}
 use Rattle.std.proofs.Common.{ap, ◌∙◌, subst, inl, inr, arith, slice_set, get_or, if◌then◌else◌}
 use Rattle.std.proofs.Common.{length-append}
 use Rattle.std.proofs.Math.Nat.{eq-or-lt_of_le}
@@ -173,3 +175,25 @@ buffered_dropped a mid new o view metric at b v full m n =
     ∙ ap (λ (xs : List OutputNumbers). record a { outputs = xs }) (set-set a.outputs o x (dropped_more x 1))
     ∙ ap (λ (t : Bool). with_output a o (if t then dropped_more x 1 else x)) (sym full)
     ∙ ap (λ (w : Option Content). with_output a o (numbers_with w at (output_numbers a o))) (sym v)
+
+-- ---- a metric is counted at each output
+
+counted_next : (f : OutputNumbers → OutputNumbers) (xs : List OutputNumbers) (k : ℕ) (d : OutputNumbers) → k < length xs
+    → slice_set (map f (take k xs) ++ drop k xs) k (f (get_or (map f (take k xs) ++ drop k xs) k d))
+    ≡ map f (take (suc k) xs) ++ drop (suc k) xs
+counted_next f [] k d l = absurd (omega (arith, l))
+counted_next f (x ∷ xs) zero d l = refl
+counted_next f (x ∷ xs) (suc k) d l = ap (λ (ys : List OutputNumbers). f x ∷ ys) (counted_next f xs k d (omega
+    (arith, l)))
+
+-- one output more
+pub counted_step : (f : OutputNumbers → OutputNumbers) (a mid new : Numbers) (k : ℕ) → k < length a.outputs
+    → mid ≡ record a { outputs = map f (take k a.outputs) ++ drop k a.outputs }
+    → new ≡ with_output mid k (f (output_numbers mid k))
+    → new ≡ record a { outputs = map f (take (k + 1) a.outputs) ++ drop (k + 1) a.outputs }
+counted_step f a mid new k l m n =
+    let next : suc k ≡ k + 1 = omega arith in
+    n ∙ ap (λ (x : Numbers). with_output x k (f (output_numbers x k))) m
+    ∙ ap (λ (xs : List OutputNumbers). record a { outputs = xs })
+    (counted_next f a.outputs k unreached_output l
+    ∙ ap (λ (n : ℕ). map f (take n a.outputs) ++ drop n a.outputs) next)

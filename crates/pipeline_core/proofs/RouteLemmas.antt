@@ -1,5 +1,6 @@
 -- The Routes of a legal journal come in order.
 use Rattle.std.proofs.Common.{◌≡◌, ◌≤◌, ◌+◌, ℕ, List, [], ◌∷◌, ◌++◌, length, refl, sym, arith, subst, zero-add}
+use Rattle.std.proofs.Common.{append-nil, append_assoc, ◌∙◌}
 use Rattle.std.specs.declared.option.Option.{Option}
 use Rattle.std.specs.declared.option.Option.TheVariants.{Some, None}
 use Rattle.account.specs.Setup.{Setup}
@@ -13,7 +14,7 @@ use Rattle.account.proofs.RouteLemmas.{routes-push, known-push, order_split}
 
 -- what is in hand, by how many items were routed and how many taken: nothing where all taken ones were routed, else the
 -- last one taken, which is the next to be routed
-abbrev HandFits : Option ℕ → ℕ → ℕ → Type 0
+abbrev pub HandFits : Option ℕ → ℕ → ℕ → Type 0
 HandFits None routed fetched = routed ≡ fetched
 HandFits (Some item) routed fetched = (item ≡ routed) × (fetched ≡ item + 1)
 
@@ -88,3 +89,25 @@ legal_rest_in_order setup front stored legal =
     subst (λ (n : ℕ). RoutesInOrder n (length (items front)) stored) (zero-add (routes front))
     (subst (λ (n : ℕ). RoutesInOrder (0 + routes front) n stored) (zero-add (length (items front)))
     (order_split 0 0 front stored (legal_in_order setup (front ++ stored) legal)))
+
+fits_after : (setup : Setup) (before es : List Entry) → AreLegal setup before es
+    → HandFits (in_hand before) (routes before) (taken before)
+    → HandFits (in_hand (before ++ es)) (routes (before ++ es)) (taken (before ++ es))
+unfolding AreLegal
+fits_after setup before [] h l = rw append-nil l
+fits_after setup before (e ∷ es) h l =
+    subst (λ (p : List Entry). HandFits (in_hand p) (routes p) (taken p)) (append_assoc before (e ∷ []) es)
+    (fits_after setup (before ++ e ∷ []) es h.1 (hand_more setup before e h.0 l))
+
+fits_few : (held : Option ℕ) (routed fetched : ℕ) → HandFits held routed fetched → routed ≤ fetched
+fits_few None routed fetched h = omega (arith, h)
+fits_few (Some item) routed fetched h = omega (arith, h.0, h.1)
+
+-- what is in hand, routed and taken fit in a legal journal
+pub hand_fits : (setup : Setup) (es : List Entry) → IsLegal setup es → HandFits (in_hand es) (routes es) (taken es)
+unfolding in_hand_from taken routes
+hand_fits setup es h = fits_after setup [] es h refl
+
+-- no more items are routed than were taken
+pub few_routed : (setup : Setup) (es : List Entry) → IsLegal setup es → routes es ≤ taken es
+few_routed setup es h = fits_few (in_hand es) (routes es) (taken es) (hand_fits setup es h)

@@ -1,19 +1,26 @@
 -- A core that stands for a journal, and one entry more.
-use Rattle.std.proofs.Common.{◌≡◌, ◌<◌, ℕ, ℤ, ◌+◌, Bool, false, ◌||◌, List, [], ◌∷◌, ◌++◌, length, drop, sym}
-use Rattle.std.proofs.Common.{ap, ◌∙◌, append_assoc, append-nil}
+use Rattle.std.proofs.Common.{◌≡◌, ◌<◌, ℕ, ℤ, ◌+◌, Bool, false, ◌||◌, List, [], ◌∷◌, ◌++◌, length, map, drop, sym}
+use Rattle.std.proofs.Common.{ap, ◌∙◌, ◌^◌, arith, append_assoc, append-nil}
 use Rattle.std.proofs.Math.Bool.{or-false}
-use Rattle.std.specs.Prelude.{slice_get}
+use Rattle.std.specs.Prelude.{slice_get, OnErr}
+use Rattle.std.specs.declared.result.Result.{Result}
+use Rattle.std.specs.declared.result.Result.TheVariants.{Ok, Err}
 use Rattle.std.specs.declared.option.Option.{Option}
 use Rattle.std.specs.declared.option.Option.TheVariants.{Some}
 use Rattle.metric.specs.declared.metric.Content.{Content}
-use Rattle.account.specs.Items.{named_by, takes_by, held_after}
+use Rattle.account.specs.Items.{named_by, takes_by, routes_by, held_after}
+use Rattle.account.specs.Origins.{origins_by}
+use Rattle.agg_bank.specs.Bank.{BankMemory, BankStands}
+use Rattle.agg_bank.specs.Events.{offered}
 use Rattle.account.specs.declared.entry.Entry.{Entry}
 use Rattle.out_lane.specs.LaneLaws.{IsLaneOf}
 use Rattle.pipeline_core.specs.Offers.{offers, offered_by, lane_events, lane_events_by}
 use Rattle.pipeline_core.specs.Legal.{is_stop, has_ended, is_ended_of, gathered_by, moment_after, Meets}
 use Rattle.pipeline_core.specs.Totals.{totals}
-use Rattle.pipeline_core.specs.CoreState.{CoreState, lane_at, sizes_at}
-use Rattle.pipeline_core.specs.Stands.{Stands}
+use Rattle.pipeline_core.specs.CoreState.{CoreState, IsCore, lane_at, sizes_at}
+use Rattle.pipeline_core.specs.Stands.{was_made, Stands}
+use Rattle.pipeline_core.specs.Windows.{bank_events, bank_events_by, BankIs}
+use Rattle.pipeline_core.proofs.BankLemmas.{bank_events-push, few_offered, marks-push}
 use Rattle.pipeline_core.proofs.JournalPush.{taken-push, in_hand-push, offers-push, lane_events-push}
 use Rattle.pipeline_core.proofs.JournalPush.{has_stop-push, has_ended-push, gathered_count-push}
 use Rattle.pipeline_core.proofs.JournalPush.{counted_from-push, IsLegal-push, raw_items-push}
@@ -24,6 +31,8 @@ pub record Grows (s t : CoreState) (journal : List Entry) (e : Entry) : Type 0 w
   pub raw : t.raw ≡ drop (takes_by e) (s.raw ++ named_by e)
   pub taken_is : t.taken ≡ s.taken + takes_by e
   pub held : t.held ≡ held_after s.held e
+  pub made : t.made ≡ drop (routes_by e) (s.made ++ map was_made (origins_by e))
+  pub bank : BankStands s.setup.aggs s.setup.start (bank_events journal ++ bank_events_by e) t.bank
   pub lanes : (o : ℕ) → o < length s.setup.outputs →
       IsLaneOf (sizes_at s.setup o).0 (sizes_at s.setup o).1 (lane_events o journal ++ lane_events_by o e)
       (offers o journal ++ offered_by o e) (lane_at t.lanes o)
@@ -46,6 +55,9 @@ stands_grows s t journal e h g =
           ∙ sym (raw_items-push s.setup journal e h.legal);
       taken_is = g.taken_is ∙ ap (λ (n : ℕ). n + takes_by e) h.taken_is ∙ sym (taken-push journal e);
       held = g.held ∙ ap (λ (x : Option ℕ). held_after x e) h.held ∙ sym (in_hand-push journal e);
+      made = g.made ∙ ap (λ (xs : List Bool). drop (routes_by e) (xs ++ map was_made (origins_by e))) h.made
+          ∙ sym (marks-push s.setup journal e h.legal);
+      bank = rw (bank_events-push journal e) g.bank;
       lanes = λ o b. rw (lane_events-push o journal e, offers-push o journal e) (g.lanes o b);
       lane_count = g.lane_count ∙ h.lane_count;
       numbers = g.numbers;
@@ -72,3 +84,46 @@ lanes_stay s journal h o b =
 pub ended_stays : (s : CoreState) (journal : List Entry) → Stands s journal → (i : ℕ) →
     i < length s.setup.inputs → slice_get s.ended i ≡ Some (has_ended i journal || false)
 ended_stays s journal h i b = h.ended i b ∙ ap Some (sym (or-false (has_ended i journal)))
+
+-- an entry that is nothing to the aggregators, and one by which no item comes
+pub bank_stays : (s : CoreState) (journal : List Entry) → Stands s journal
+    → BankStands s.setup.aggs s.setup.start (bank_events journal ++ []) s.bank
+bank_stays s journal h = rw (append-nil (bank_events journal)) h.bank
+
+-- what the aggregators keep has changed, and stands for the same events
+pub stands_with : (s : CoreState) (bank : BankMemory) (journal : List Entry) → Stands s journal
+    → BankIs s.setup journal bank → Stands (record s { bank = bank }) journal
+stands_with s bank journal h is =
+    record {
+      legal = h.legal;
+      raw = h.raw;
+      taken_is = h.taken_is;
+      held = h.held;
+      made = h.made;
+      bank = is;
+      lanes = h.lanes;
+      lane_count = h.lane_count;
+      numbers = h.numbers;
+      front = h.front;
+      stored = h.stored;
+      gathered = h.gathered;
+      counted = h.counted;
+      ended = h.ended;
+      ended_count = h.ended_count;
+      stopped = h.stopped;
+    }
+
+-- fewer than 2^32 items were offered to them with a view
+pub few_offers : (s : CoreState) (journal : List Entry) → IsCore s → Stands s journal
+    → offered (bank_events journal) < 2 ^ 32
+few_offers s journal core h = omega (
+  arith,
+  few_offered s.setup journal h.legal,
+  h.gathered,
+  core.items.few_gathered,
+)
+
+-- what holds after an error holds where it always does
+pub on_err : {A B : Type 0} (r : Result A B) (P : Type 0) → P → OnErr r P
+on_err (Ok a) P h = tt
+on_err (Err b) P h = h

@@ -5,7 +5,9 @@ use Rattle.std.proofs.lemmas.Option.{slice_get-get_or}
 use Rattle.std.proofs.lemmas.List.{ext_get_or, get_or-map, get_or-replicate, length-map, length-replicate}
 use Rattle.std.specs.List.{All}
 use Rattle.std.specs.declared.option.Option.TheVariants.{Some, None}
-use Rattle.account.specs.Items.{items, taken, in_hand_from}
+use Rattle.account.specs.Items.{items, taken, routes, in_hand_from}
+use Rattle.account.specs.Origins.{origins}
+use Rattle.agg_bank.specs.Bank.{BankMemory, BankStands}
 use Rattle.account.specs.Numbers.{unread_input, unreached_output}
 use Rattle.account.specs.declared.entry.Entry.{Entry}
 use Rattle.out_lane.specs.Lane.{empty_lane}
@@ -34,6 +36,8 @@ stands_cut s journal h =
       raw = h.raw;
       taken_is = h.taken_is;
       held = h.held;
+      made = h.made;
+      bank = h.bank;
       lanes = h.lanes;
       lane_count = h.lane_count;
       numbers = h.numbers;
@@ -93,18 +97,21 @@ outputs_at_first setup =
     (λ o b. get_or-replicate (length setup.outputs) o unreached_output unreached_output (omega arith)
     ∙ sym (outputs-at (setup_of setup) [] o (omega arith)))
 
-pub stands_first : (setup : CoreSetup) →
-    All (λ (x : OutSetup). (1 ≤ x.batch) × (x.batch ≤ x.limit)) setup.outputs → Stands (first_state setup) []
-unfolding AreLegal items taken in_hand_from has_stop has_ended gathered_count counted_from total_by
-stands_first setup sized =
+pub stands_first : (setup : CoreSetup) (bank : BankMemory) →
+    All (λ (x : OutSetup). (1 ≤ x.batch) × (x.batch ≤ x.limit)) setup.outputs
+    → BankStands setup.aggs setup.start [] bank → Stands (first_state setup bank) []
+unfolding AreLegal items taken routes origins in_hand_from has_stop has_ended gathered_count counted_from total_by
+stands_first setup bank sized new =
     record {
       legal = tt;
       raw = refl;
       taken_is = refl;
       held = refl;
+      made = refl;
+      bank = new;
       lanes = λ o b. lanes_at_first setup.outputs sized o (omega (arith, length-map setup.outputs sizes));
       lane_count = length-map setup.outputs lane_of ∙ sym (length-map setup.outputs sizes);
-      numbers = same_totals (first_state setup).numbers (totals (setup_of setup) [])
+      numbers = same_totals (first_state setup bank).numbers (totals (setup_of setup) [])
           (inputs_at_first setup) refl refl refl (outputs_at_first setup);
       front = [];
       stored = refl;
@@ -119,7 +126,8 @@ stands_first setup sized =
       stopped = refl;
     }
 
-pub first_stands : (setup : CoreSetup) (n : CoreState) → n ≡ first_state setup →
-    All (λ (x : OutSetup). (1 ≤ x.batch) × (x.batch ≤ x.limit)) setup.outputs → Stands n []
-first_stands setup n q sized =
-    subst (λ (m : CoreState). Stands m []) (sym q) (stands_first setup sized)
+pub first_stands : (setup : CoreSetup) (n : CoreState) → n ≡ first_state setup n.bank →
+    All (λ (x : OutSetup). (1 ≤ x.batch) × (x.batch ≤ x.limit)) setup.outputs
+    → BankStands setup.aggs setup.start [] n.bank → Stands n []
+first_stands setup n q sized new =
+    subst (λ (m : CoreState). Stands m []) (sym q) (stands_first setup n.bank sized new)

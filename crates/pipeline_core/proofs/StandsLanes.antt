@@ -1,5 +1,5 @@
 -- A core that stands for a journal stands for it once an item was routed, or a batch was begun or done.
-use Rattle.std.proofs.Common.{◌≡◌, ◌≢◌, ◌<◌, ◌≤◌, ℕ, ◌+◌, Bool, true, false, List, [], ◌∷◌, ◌++◌, length, min}
+use Rattle.std.proofs.Common.{◌≡◌, ◌≢◌, ◌<◌, ◌≤◌, ℕ, ◌+◌, Bool, true, false, List, [], ◌∷◌, ◌++◌, length, drop, min}
 use Rattle.std.proofs.Common.{inl, inr, refl, sym, ap, ◌∙◌, subst, arith, append-nil, set, get_or, map, IsSome}
 use Rattle.std.proofs.Common.{if◌then◌else◌}
 use Rattle.std.proofs.Math.Bool.{or-false}
@@ -7,7 +7,9 @@ use Rattle.std.proofs.Math.Nat.{eq-or-lt_of_le}
 use Rattle.std.proofs.lemmas.Bool.{cases_lt}
 use Rattle.std.proofs.lemmas.Option.{slice_get-get_or}
 use Rattle.std.proofs.lemmas.List.{get_or-set_same, get_or-set_other, length-set, length-map, get_or-map}
+use Rattle.std.specs.Prelude.{slice_get}
 use Rattle.std.specs.List.{AllByRecursion}
+use Rattle.account.specs.Origins.{is_made}
 use Rattle.std.specs.declared.option.Option.{Option}
 use Rattle.std.specs.declared.option.Option.TheVariants.{Some, None}
 use Rattle.metric.specs.declared.metric.Content.{Content}
@@ -26,13 +28,14 @@ use Rattle.pipeline_core.specs.Offers.{offers, offer_of, offered_by, lane_events
 use Rattle.pipeline_core.specs.Offers.{pushes}
 use Rattle.pipeline_core.specs.declared.output.Offer.{Offer}
 use Rattle.account.specs.Views.{HasViews}
-use Rattle.pipeline_core.specs.Windows.{judged}
+use Rattle.agg_bank.specs.Bank.{BankMemory, BankStands}
+use Rattle.pipeline_core.specs.Windows.{bank_events, judged, offered_to}
 use Rattle.pipeline_core.specs.Totals.{totals, output_total}
 use Rattle.pipeline_core.specs.CoreState.{CoreState, IsCore, lane_at, sizes_at}
 use Rattle.pipeline_core.specs.Stands.{Stands, Continues}
 use Rattle.pipeline_core.specs.Steps.{after_begin, after_done, after_route, route_entry, lane_with}
 use Rattle.pipeline_core.specs.Steps.{numbers_with, outputs_with, lanes_routed, numbers_routed}
-use Rattle.pipeline_core.specs.Steps.{lane_done, count_done, counted_done, done_entry, route_verdict}
+use Rattle.pipeline_core.specs.Steps.{lane_done, count_done, counted_done, done_entry}
 use Rattle.pipeline_core.specs.Steps.{late_more, consumed_more}
 use Rattle.pipeline_core.specs.declared.routing.Routed.{Routed}
 use Rattle.account.specs.declared.entry.Verdict.{Verdict}
@@ -42,11 +45,11 @@ use Rattle.pipeline_core.proofs.Offering.{lanes_with-at, outputs_with-at}
 use Rattle.pipeline_core.proofs.Offering.{length-outputs_with}
 use Rattle.pipeline_core.proofs.TotalPush.{outputs-same, outputs-set, outputs-as, outputs-at}
 use Rattle.pipeline_core.proofs.Keeping.{length-lanes_routed}
-use Rattle.pipeline_core.proofs.ShapeLemmas.{nothing-aggregates}
+use Rattle.pipeline_core.proofs.BankLemmas.{mark_in_hand}
 use Rattle.pipeline_core.proofs.OutputPush.{output_stays, output_filters, output_lates, output_consumes, output_begins}
 use Rattle.pipeline_core.proofs.OutputPush.{output_pushes, fate_done, views_done, output_ends, totals-push}
-use Rattle.pipeline_core.proofs.Standing.{stands_grows, lanes_stay, ended_stays}
-use Rattle.pipeline_core.proofs.StandsSteps.{differs, same_number, outputs_stay, nil_of_length}
+use Rattle.pipeline_core.proofs.Standing.{stands_grows, lanes_stay, ended_stays, bank_stays}
+use Rattle.pipeline_core.proofs.StandsSteps.{differs, same_number, outputs_stay}
 use Rattle.pipeline_core.proofs.StandsSteps.{nothing_reported, inputs_stay, settles_none}
 
 -- a batch that is done, at its output's lane
@@ -138,6 +141,8 @@ stands_begin s o from to core b none some f t journal h =
       raw = sym (append-nil s.raw);
       taken_is = omega arith;
       held = refl;
+      made = sym (append-nil s.made);
+      bank = bank_stays s journal h;
       lanes = lanes_one s journal e o (lane.after_begin x) (events.Begin from to) h b here others (λ k. refl) got.state;
       lane_count = length-set s.lanes o (lane.after_begin x);
       numbers =
@@ -184,6 +189,8 @@ stands_done s o ok core b some journal h =
       raw = sym (append-nil s.raw);
       taken_is = omega arith;
       held = refl;
+      made = sym (append-nil s.made);
+      bank = bank_stays s journal h;
       lanes = lanes_one s journal e o (lane_done ok x) (events.Done ok) h b here others (λ k. refl)
           (lane_is_done ok batch limit (lane_events o journal) (offers o journal) x some (h.lanes o b));
       lane_count = length-set s.lanes o (lane_done ok x);
@@ -205,12 +212,14 @@ stands_done s o ok core b some journal h =
       stopped = sym (or-false s.stopped);
     })
 
--- there are no views of aggregators
-no_views : (s : CoreState) (aggs : List (Option Content)) → IsCore s → length aggs ≡ length s.setup.aggs →
-    AllByRecursion (λ (view : Option Content). view ≡ None) aggs
-no_views s aggs core number =
-    subst (AllByRecursion (λ (view : Option Content). view ≡ None))
-    (sym (nil_of_length aggs (number ∙ ap length core.plain.no_aggs))) tt
+-- a made item has no views at aggregators: the mark of the item in hand stands first
+no_views : (s : CoreState) (journal : List Entry) (item : ℕ) (aggs : List (Option Content)) → Stands s journal
+    → s.held ≡ Some item
+    → (slice_get s.made 0 ≡ Some true → AllByRecursion (λ (view : Option Content). view ≡ None) aggs)
+    → is_made journal item ≡ true → AllByRecursion (λ (view : Option Content). view ≡ None) aggs
+no_views s journal item aggs h held none made =
+    none (ap (λ (marks : List Bool). slice_get marks 0) h.made ∙ mark_in_hand s.setup journal item h.legal
+    (sym h.held ∙ held) ∙ ap Some made)
 
 -- a view that is offered, at its output's lane
 lane_is_offered : (item : ℕ) (view : Option Content) (b l : ℕ) (es : List LaneEvent) (offs : List Offer)
@@ -308,27 +317,18 @@ numbers_grow verdicts.Removed s journal item whole aggs outs core h =
     (λ o t. refl)))
 
 -- an item is routed with the verdict of the windows
-stands_routed : (verdict : Verdict) (whole : Option Content) (s : CoreState) (item : ℕ)
-    (aggs outs : List (Option Content)) →
-    IsCore s → s.held ≡ Some item → length aggs ≡ length s.setup.aggs → length outs ≡ length s.setup.outputs
-    → HasViews whole (aggs ++ outs) →
-    ((journal : List Entry) → Stands s journal → verdict ≡ judged s.setup journal whole aggs) →
-    Continues s (record s {
-      held =
-          None;
-      lanes = lanes_routed item verdict outs s.lanes;
-      numbers = numbers_routed verdict outs s.lanes s.numbers;
-      stored = s.stored ++ Route item whole verdict aggs outs [] ∷ [];
-    }) (Route item whole verdict aggs outs [])
-stands_routed verdict whole s item aggs outs core held number count views is journal h =
-    let e : Entry = Route item whole verdict aggs outs [] in
-    stands_grows s (record s {
-      held =
-          None;
-      lanes = lanes_routed item verdict outs s.lanes;
-      numbers = numbers_routed verdict outs s.lanes s.numbers;
-      stored = s.stored ++ e ∷ [];
-    }) journal e h
+pub stands_route : (s : CoreState) (r : Routed) (verdict : Verdict) (bank : BankMemory) → IsCore s
+    → s.held ≡ Some r.item → length r.aggs ≡ length s.setup.aggs → length r.outs ≡ length s.setup.outputs
+    → HasViews r.whole (r.aggs ++ r.outs)
+    → (slice_get s.made 0 ≡ Some true → AllByRecursion (λ (view : Option Content). view ≡ None) r.aggs)
+    → ((journal : List Entry) → Stands s journal → verdict ≡ judged s.setup journal r.whole r.aggs)
+    → ((journal : List Entry) → Stands s journal → BankStands s.setup.aggs s.setup.start
+    (bank_events journal ++ offered_to r.whole r.aggs) bank)
+    → Continues s (after_route s r verdict bank) (route_entry r verdict)
+unfolding route_entry
+stands_route s r verdict bank core held number count views none is keeps journal h =
+    let e : Entry = Route r.item r.whole verdict r.aggs r.outs [] in
+    stands_grows s (after_route s r verdict bank) journal e h
     (record {
       meets = record {
         line = record {
@@ -336,7 +336,7 @@ stands_routed verdict whole s item aggs outs core held number count views is jou
           aggregators = number;
           outputs = count;
           views = views;
-          made = λ m. no_views s aggs core number;
+          made = no_views s journal r.item r.aggs h held none;
           verdict_is = is journal h;
         };
         reports = settles_none s journal e core h refl refl;
@@ -344,9 +344,11 @@ stands_routed verdict whole s item aggs outs core held number count views is jou
       raw = sym (append-nil s.raw);
       taken_is = omega arith;
       held = refl;
-      lanes = lanes_grow verdict s journal item whole aggs outs h;
-      lane_count = length-lanes_routed item verdict outs s.lanes;
-      numbers = numbers_grow verdict s journal item whole aggs outs core h;
+      made = ap (drop 1) (sym (append-nil s.made));
+      bank = keeps journal h;
+      lanes = lanes_grow verdict s journal r.item r.whole r.aggs r.outs h;
+      lane_count = length-lanes_routed r.item verdict r.outs s.lanes;
+      numbers = numbers_grow verdict s journal r.item r.whole r.aggs r.outs core h;
       stored = refl;
       gathered = omega arith;
       counted = refl;
@@ -355,14 +357,18 @@ stands_routed verdict whole s item aggs outs core held number count views is jou
       stopped = sym (or-false s.stopped);
     })
 
-pub route_stands : (s n : CoreState) (r : Routed) → n ≡ after_route s r → IsCore s → s.held ≡ Some r.item →
-    length r.aggs ≡ length s.setup.aggs → length r.outs ≡ length s.setup.outputs →
-    HasViews r.whole (r.aggs ++ r.outs) → Continues s n (route_entry s r)
-unfolding route_entry
-route_stands s n r q core held number count views =
-    subst (λ (m : CoreState). Continues s m (route_entry s r)) (sym q)
-    (stands_routed (route_verdict s r) r.whole s r.item r.aggs r.outs core held number count views
-    (λ journal h. sym (nothing-aggregates.verdicts s.setup journal r.whole r.aggs core.plain.no_aggs)))
+-- the same of a core that is what the call makes of the old one
+pub route_stands : (s n : CoreState) (r : Routed) (verdict : Verdict) → n ≡ after_route s r verdict n.bank → IsCore s
+    → s.held ≡ Some r.item → length r.aggs ≡ length s.setup.aggs → length r.outs ≡ length s.setup.outputs
+    → HasViews r.whole (r.aggs ++ r.outs)
+    → (slice_get s.made 0 ≡ Some true → AllByRecursion (λ (view : Option Content). view ≡ None) r.aggs)
+    → ((journal : List Entry) → Stands s journal → verdict ≡ judged s.setup journal r.whole r.aggs)
+    → ((journal : List Entry) → Stands s journal → BankStands s.setup.aggs s.setup.start
+    (bank_events journal ++ offered_to r.whole r.aggs) n.bank)
+    → Continues s n (route_entry r verdict)
+route_stands s n r verdict q core held number count views none is keeps =
+    subst (λ (m : CoreState). Continues s m (route_entry r verdict)) (sym q)
+    (stands_route s r verdict n.bank core held number count views none is keeps)
 
 pub begin_stands : (s n : CoreState) (o from to : ℕ) → n ≡ after_begin s o from to → IsCore s →
     o < length s.setup.outputs → (lane_at s.lanes o).flight ≡ None → 0 < length (lane_at s.lanes o).waiting →

@@ -1,7 +1,7 @@
 -- A core that stands for a journal stands for it with the call's entry more.
-use Rattle.std.proofs.Common.{◌≡◌, ◌≢◌, ◌<◌, ◌≤◌, ◌≤ℤ◌, ◌⊎◌, ℕ, ℤ, ◌+◌, ◌==◌, Bool, true, false, ◌||◌, List}
+use Rattle.std.proofs.Common.{◌≡◌, ◌≢◌, ◌<◌, ◌≤◌, ◌≤ℤ◌, ◌⊎◌, ℕ, zero, suc, ℤ, ◌+◌, ◌==◌, Bool, true, false, ◌||◌, List}
 use Rattle.std.proofs.Common.{[], ◌∷◌, ◌++◌, length, drop, inl, inr, refl, sym, ap, ◌∙◌, subst, arith}
-use Rattle.std.proofs.Common.{append-nil, length-drop, set, get_or, if◌then◌else◌}
+use Rattle.std.proofs.Common.{append-nil, length-drop, map, replicate, set, get_or, if◌then◌else◌}
 use Rattle.std.proofs.Math.Bool.{or-false}
 use Rattle.std.proofs.Math.Nat.{eq-or-lt_of_le}
 use Rattle.std.proofs.lemmas.Bool.{cases_lt}
@@ -15,33 +15,34 @@ use Rattle.metric.specs.declared.metric.Content.{Content}
 use Rattle.account.specs.Setup.{Setup}
 use Rattle.account.specs.Items.{items, taken}
 use Rattle.account.specs.Says.{GatherSays, gather_of, reports_of}
-use Rattle.account.specs.Origins.{group_inputs_said}
+use Rattle.account.specs.Origins.{group_inputs_said, made, Origin}
+use Rattle.agg_bank.specs.Bank.{BankMemory, BankStands}
+use Rattle.agg_bank.specs.Events as events
 use Rattle.account.specs.Numbers.{Numbers, unread_input, gathered_more}
 use Rattle.account.specs.declared.numbers.InputNumbers.{InputNumbers}
 use Rattle.account.specs.declared.entry.Entry.{Entry}
-use Rattle.account.specs.declared.entry.Entry.TheVariants.{Ended, Take, Stop}
+use Rattle.account.specs.declared.entry.Entry.TheVariants.{Ended, Take, Tick, Stop}
 use Rattle.pipeline_core.specs.Fates.{Fate}
 use Rattle.pipeline_core.specs.Offers.{offered_by, lane_events_by}
-use Rattle.pipeline_core.specs.Legal.{has_ended}
+use Rattle.pipeline_core.specs.Legal.{counted_from, has_ended}
 use Rattle.pipeline_core.specs.Totals.{totals, reported_with, gathered_with, gathers_too, group_count, input_with}
 use Rattle.pipeline_core.specs.Totals.{made_by, removed_by, routed_by}
 use Rattle.pipeline_core.specs.Groups.{reports_at}
-use Rattle.pipeline_core.specs.Windows.{made_by_stop}
+use Rattle.pipeline_core.specs.Windows.{bank_events, made_by_stop, made_by_tick}
 use Rattle.pipeline_core.specs.CoreState.{CoreState, IsCore, sizes_at}
-use Rattle.pipeline_core.specs.Stands.{Stands, Continues}
-use Rattle.pipeline_core.specs.Steps.{after_gather, after_ended, after_take, after_stop, gather_entry}
-use Rattle.pipeline_core.specs.Steps.{stop_entry, stop_made, with_made, moment_at}
+use Rattle.pipeline_core.specs.Stands.{was_made, Stands, Continues}
+use Rattle.pipeline_core.specs.Steps.{after_gather, after_ended, after_take, after_tick, after_stop, gather_entry}
+use Rattle.pipeline_core.specs.Steps.{tick_entry, stop_entry, moment_at}
 use Rattle.pipeline_core.specs.Steps.{HasNumbers, HasRawRoom}
 use Rattle.pipeline_core.specs.declared.gathering.Gathered.{Gathered}
 use Rattle.std.proofs.lemmas.Bool.Decides.{nat_tests}
 use Rattle.std.proofs.lemmas.Int.{ints}
 use Rattle.pipeline_core.proofs.GroupLemmas.{nothing_settles}
-use Rattle.pipeline_core.proofs.ShapeLemmas.{nothing-aggregates}
 use Rattle.pipeline_core.proofs.Keeping.{full}
 use Rattle.pipeline_core.proofs.FateCounts.{kept_out}
 use Rattle.pipeline_core.proofs.TotalPush.{inputs-same, inputs-set, outputs-same}
 use Rattle.pipeline_core.proofs.OutputPush.{output_stays, totals-push}
-use Rattle.pipeline_core.proofs.Standing.{stands_grows, lanes_stay, ended_stays}
+use Rattle.pipeline_core.proofs.Standing.{stands_grows, lanes_stay, ended_stays, bank_stays}
 
 pub nil_of_length : {X : Type 0} (xs : List X) → length xs ≡ 0 → xs ≡ []
 nil_of_length [] h = refl
@@ -77,7 +78,7 @@ nothing_reported input x = refl
 pub settles_none : (s : CoreState) (journal : List Entry) (e : Entry) → IsCore s → Stands s journal →
     group_inputs_said (gather_of e) ≡ [] → reports_of e ≡ [] → reports_of e ≡ reports_at s.setup journal e
 settles_none s journal e core h none quiet =
-    quiet ∙ sym (nothing_settles s.setup journal e core.plain.untracked h.legal none)
+    quiet ∙ sym (nothing_settles s.setup journal e core.untracked h.legal none)
 
 -- an input's numbers with those of a Gather that has no group
 ungrouped_more : (x : InputNumbers) (says : GatherSays) → says.group ≡ None
@@ -130,6 +131,8 @@ stands_take s core none some journal h =
       raw = ap (drop 1) (sym (append-nil s.raw));
       taken_is = refl;
       held = refl;
+      made = sym (append-nil s.made);
+      bank = bank_stays s journal h;
       lanes = lanes_stay s journal h;
       lane_count = refl;
       numbers = totals_stay s journal e s.numbers.made h (λ i x. nothing_reported i x) (λ o. refl) (λ o. refl)
@@ -142,66 +145,78 @@ stands_take s core none some journal h =
       stopped = sym (or-false s.stopped);
     })
 
--- what is made, as it stands in the state
-made_as : (made : List Content) (s : CoreState) → with_made made s ≡ record s {
-  raw = s.raw
-      ++ made;
-  numbers = record s.numbers { made = s.numbers.made + length made };
-}
-made_as [] s =
-    ap (λ (raw : List Content). record s { raw = raw }) (sym (append-nil s.raw))
-    ∙ ap (λ (n : ℕ). record s { raw = s.raw ++ []; numbers = record s.numbers { made = n } })
-    (let e : s.numbers.made ≡ s.numbers.made + 0 = omega arith in e)
-made_as (metric ∷ others) s = refl
+-- the marks of items of one origin
+marks_of : (n : ℕ) (origin : Origin) → replicate n (was_made origin) ≡ map was_made (replicate n origin)
+marks_of zero origin = refl
+marks_of (suc n) origin = ap (λ (marks : List Bool). was_made origin ∷ marks) (marks_of n origin)
 
--- the run is stopped, and what the windows make as it stops become items
-stands_stopped : (made : List Content) (s : CoreState) (moment : ℤ) → IsCore s → s.stopped ≡ false →
-    ((journal : List Entry) → Stands s journal → made ≡ made_by_stop s.setup journal (moment_at s moment)) →
-    Continues s (with_made made (record s {
-      stored = s.stored
-          ++ Stop (moment_at s moment) made ∷ [];
-      counted = moment_at s moment;
-      stopped = true;
-    })) (Stop (moment_at s moment) made)
-stands_stopped made s moment core going is journal h =
-    let e : Entry = Stop (moment_at s moment) made in
-    let t : CoreState = record s { stored = s.stored ++ e ∷ []; counted = moment_at s moment; stopped = true } in
-    subst (λ (n : CoreState). Stands n (journal ++ e ∷ [])) (sym (made_as made t))
-    (stands_grows s (record t {
-      raw = s.raw ++ made;
-      numbers = record s.numbers { made = s.numbers.made + length made };
-    }) journal e h
-    (record {
-      meets = record {
-        line = record {
-          going = sym h.stopped ∙ going;
-          later = subst (λ (m : ℤ). m ≤ℤ moment_at s moment) h.counted
-              (below_max moment s.counted);
-          all_made = is journal h;
+module _ (s : CoreState) (moment : ℤ) (metrics : List Content) (bank : BankMemory) (core : IsCore s)
+    (going : s.stopped ≡ false) where
+  -- the moment isn't below the last one counted
+  later : (journal : List Entry) → Stands s journal → counted_from s.setup.start journal ≤ℤ moment_at s moment
+  later journal h = subst (λ (m : ℤ). m ≤ℤ moment_at s moment) h.counted (below_max moment s.counted)
+
+  pub stands_tick : ((journal : List Entry) → Stands s journal
+      → metrics ≡ made_by_tick s.setup journal (moment_at s moment))
+      → ((journal : List Entry) → Stands s journal → BankStands s.setup.aggs s.setup.start
+      (bank_events journal ++ events.Tick (moment_at s moment) ∷ []) bank)
+      → Continues s (after_tick s moment metrics bank) (tick_entry s moment metrics)
+  unfolding tick_entry
+  stands_tick is keeps journal h =
+      let e : Entry = Tick (moment_at s moment) metrics in
+      stands_grows s (after_tick s moment metrics bank) journal e h
+      (record {
+        meets = record {
+          line = record { going = sym h.stopped ∙ going; later = later journal h; all_made = is journal h };
+          reports = settles_none s journal e core h refl refl;
         };
-        reports = settles_none s journal e core h refl refl;
-      };
-      raw = refl;
-      taken_is = omega arith;
-      held = refl;
-      lanes = lanes_stay s journal h;
-      lane_count = refl;
-      numbers = totals_stay s journal e (s.numbers.made + length made) h (λ i x. nothing_reported i x) (λ o. refl)
-          (λ o. refl) (λ o t. refl) refl refl refl;
-      stored = refl;
-      gathered = omega arith;
-      counted = refl;
-      ended = ended_stays s journal h;
-      ended_count = refl;
-      stopped = ap (λ (b : Bool). b || true) (sym going);
-    }))
+        raw = refl;
+        taken_is = omega arith;
+        held = refl;
+        made = ap (λ (marks : List Bool). s.made ++ marks) (marks_of (length metrics) made);
+        bank = keeps journal h;
+        lanes = lanes_stay s journal h;
+        lane_count = refl;
+        numbers = totals_stay s journal e (s.numbers.made + length metrics) h (λ i x. nothing_reported i x)
+            (λ o. refl) (λ o. refl) (λ o t. refl) refl refl refl;
+        stored = refl;
+        gathered = omega arith;
+        counted = refl;
+        ended = ended_stays s journal h;
+        ended_count = refl;
+        stopped = sym (or-false s.stopped);
+      })
 
-pub stands_stop : (s : CoreState) (moment : ℤ) → IsCore s → s.stopped ≡ false →
-    Continues s (after_stop s moment) (stop_entry s moment)
-unfolding stop_entry
-stands_stop s moment core going =
-    stands_stopped (stop_made s moment) s moment core going (λ journal h. sym
-    (nothing-aggregates.stops s.setup journal (moment_at s moment) core.plain.no_aggs))
+  pub stands_stop : ((journal : List Entry) → Stands s journal
+      → metrics ≡ made_by_stop s.setup journal (moment_at s moment))
+      → ((journal : List Entry) → Stands s journal → BankStands s.setup.aggs s.setup.start
+      (bank_events journal ++ events.Stop (moment_at s moment) ∷ []) bank)
+      → Continues s (after_stop s moment metrics bank) (stop_entry s moment metrics)
+  unfolding stop_entry
+  stands_stop is keeps journal h =
+      let e : Entry = Stop (moment_at s moment) metrics in
+      stands_grows s (after_stop s moment metrics bank) journal e h
+      (record {
+        meets = record {
+          line = record { going = sym h.stopped ∙ going; later = later journal h; all_made = is journal h };
+          reports = settles_none s journal e core h refl refl;
+        };
+        raw = refl;
+        taken_is = omega arith;
+        held = refl;
+        made = ap (λ (marks : List Bool). s.made ++ marks) (marks_of (length metrics) made);
+        bank = keeps journal h;
+        lanes = lanes_stay s journal h;
+        lane_count = refl;
+        numbers = totals_stay s journal e (s.numbers.made + length metrics) h (λ i x. nothing_reported i x)
+            (λ o. refl) (λ o. refl) (λ o t. refl) refl refl refl;
+        stored = refl;
+        gathered = omega arith;
+        counted = refl;
+        ended = ended_stays s journal h;
+        ended_count = refl;
+        stopped = ap (λ (b : Bool). b || true) (sym going);
+      })
 
 -- which inputs have ended with one more
 ended_more : (s : CoreState) (journal : List Entry) (input : ℕ) → slice_get s.ended input ≡ Some false →
@@ -252,6 +267,8 @@ stands_ended s input core reading going journal h =
       raw = sym (append-nil s.raw);
       taken_is = omega arith;
       held = refl;
+      made = sym (append-nil s.made);
+      bank = bank_stays s journal h;
       lanes = lanes_stay s journal h;
       lane_count = refl;
       numbers = totals-push s.setup journal e s.numbers (after_ended s input).numbers h.numbers
@@ -308,7 +325,7 @@ stands_gather s g core reading going few place journal h =
       meets = record {
         line = record {
           most = None;
-          known = slice_get-get_or s.setup.inputs g.input None n ∙ ap Some (core.plain.untracked g.input None n);
+          known = slice_get-get_or s.setup.inputs g.input None n ∙ ap Some (core.untracked g.input None n);
           going = sym h.stopped ∙ going;
           reading = some_same (has_ended g.input journal) false (sym (h.ended g.input n) ∙ reading);
           fits = omega (arith, h.gathered, few);
@@ -322,6 +339,9 @@ stands_gather s g core reading going few place journal h =
       raw = refl;
       taken_is = omega arith;
       held = refl;
+      made = ap (λ (marks : List Bool). s.made ++ marks) (marks_of (length g.metrics)
+          (record { input = Some g.input; group = None }));
+      bank = bank_stays s journal h;
       lanes = lanes_stay s journal h;
       lane_count = refl;
       numbers = totals-push s.setup journal e s.numbers (after_gather s g).numbers h.numbers
@@ -362,7 +382,22 @@ pub gather_stands : (s n : CoreState) (g : Gathered) → n ≡ after_gather s g 
 gather_stands s n g q core reading going few place =
     by_step s n (after_gather s g) (gather_entry s g) q (stands_gather s g core reading going few place)
 
-pub stop_stands : (s n : CoreState) (moment : ℤ) → n ≡ after_stop s moment → IsCore s → s.stopped ≡ false →
-    Continues s n (stop_entry s moment)
-stop_stands s n moment q core going =
-    by_step s n (after_stop s moment) (stop_entry s moment) q (stands_stop s moment core going)
+pub tick_stands : (s n : CoreState) (moment : ℤ) (metrics : List Content) → n ≡ after_tick s moment metrics n.bank
+    → IsCore s → s.stopped ≡ false
+    → ((journal : List Entry) → Stands s journal → metrics ≡ made_by_tick s.setup journal (moment_at s moment))
+    → ((journal : List Entry) → Stands s journal → BankStands s.setup.aggs s.setup.start
+    (bank_events journal ++ events.Tick (moment_at s moment) ∷ []) n.bank)
+    → Continues s n (tick_entry s moment metrics)
+tick_stands s n moment metrics q core going is keeps =
+    by_step s n (after_tick s moment metrics n.bank) (tick_entry s moment metrics) q
+    (stands_tick s moment metrics n.bank core going is keeps)
+
+pub stop_stands : (s n : CoreState) (moment : ℤ) (metrics : List Content) → n ≡ after_stop s moment metrics n.bank
+    → IsCore s → s.stopped ≡ false
+    → ((journal : List Entry) → Stands s journal → metrics ≡ made_by_stop s.setup journal (moment_at s moment))
+    → ((journal : List Entry) → Stands s journal → BankStands s.setup.aggs s.setup.start
+    (bank_events journal ++ events.Stop (moment_at s moment) ∷ []) n.bank)
+    → Continues s n (stop_entry s moment metrics)
+stop_stands s n moment metrics q core going is keeps =
+    by_step s n (after_stop s moment metrics n.bank) (stop_entry s moment metrics) q
+    (stands_stop s moment metrics n.bank core going is keeps)

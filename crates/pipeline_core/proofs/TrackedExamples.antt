@@ -24,6 +24,7 @@ use Rattle.pipeline_core.specs.Fates.{fates_from}
 use Rattle.pipeline_core.specs.Groups.{live_count, reports_at}
 use Rattle.pipeline_core.specs.Legal.{Meets, AreLegal, IsLegal, has_stop, has_ended, gathered_count, counted_from}
 use Rattle.pipeline_core.specs.Totals.{totals, total_by, input_total_from, reported_with}
+use Rattle.agg_bank.specs.Made.{made_from}
 use Rattle.pipeline_core.specs.Windows.{judged, made_by_stop}
 use Rattle.pipeline_core.proofs.JournalPush.{IsLegal-push}
 use Rattle.pipeline_core.proofs.GroupExamples.{both, first, each}
@@ -97,7 +98,7 @@ none_legal = tt
 -- the journal is legal, entry by entry
 pub legal : (m : Content) → IsLegal setup (journal m)
 unfolding reports_at origins items taken routes in_hand_from group_inputs offers lane_events fates_from ranges_from
-    accepted_from has_stop has_ended gathered_count counted_from judged made_by_stop
+    accepted_from has_stop has_ended gathered_count counted_from judged made_by_stop made_from
 legal m =
     let l1 = IsLegal-push setup [] (Gather 0 (pos 0) 5 1 2 3 (m ∷ []) None []) none_legal
     (record {

@@ -104,7 +104,8 @@ taken_items-same setup journal e legal none =
     ∙ take-append-le (taken journal) (items journal) (named_by e) (few_taken setup journal legal)
 
 -- and one more once the next one was taken
-pub taken_items-take : (journal : List Entry) (item : ℕ) (m : Content) → slice_get (items journal) (taken journal) ≡ Some m
+pub taken_items-take : (journal : List Entry) (item : ℕ) (m : Content) → slice_get (items journal) (taken journal)
+    ≡ Some m
     → taken_items (journal ++ Take item ∷ []) ≡ taken_items journal ++ m ∷ []
 taken_items-take journal item m at =
     ap (take (taken (journal ++ Take item ∷ []))) (items-push journal (Take item) ∙ append-nil (items journal))
@@ -186,9 +187,11 @@ module _ (work : Work) where
       ∙ take_next (items journal) item metric at)
       ))
       (sym (
-      ap (λ (fs : List (Content → Option Content)). if is_made journal item then views_of fs None else views_of fs whole)
+      ap (λ (fs : List (Content
+      → Option Content)). if is_made journal item then views_of fs None else views_of fs whole)
       aggs
-      ∙ elim whole as (λ (x : Option Content). (if is_made journal item then views_of [] None else views_of [] x) ≡ []) [
+      ∙ elim whole as (λ (x : Option Content). (if is_made journal item then views_of [] None else views_of [] x)
+      ≡ []) [
         | None ↦ same_either (is_made journal item) []
         | Some x ↦ same_either (is_made journal item) []
       ]

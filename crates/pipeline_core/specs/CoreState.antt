@@ -10,8 +10,8 @@ use Rattle.account.specs.Numbers.{Numbers, no_numbers, sum_of_fates, unreached_o
 use Rattle.account.specs.declared.numbers.InputNumbers.{InputNumbers}
 use Rattle.account.specs.declared.numbers.OutputNumbers.{OutputNumbers}
 use Rattle.account.specs.declared.entry.Entry.{Entry}
+use Rattle.agg_bank.specs.Bank.{lines_of, BankMemory}
 use Rattle.out_lane.specs.Lane.{LaneState, empty_lane, flying}
-use Rattle.pipeline_core.specs.Windows.{HasNoAggs}
 use Rattle.pipeline_core.specs.declared.output.Offer.{Offer}
 use Rattle.pipeline_core.specs.declared.setup.CoreSetup.{CoreSetup}
 use Rattle.pipeline_core.specs.declared.setup.InSetup.{InSetup}
@@ -25,6 +25,10 @@ pub record CoreState : Type 0 where
   pub taken : ℕ
   -- the item in hand
   pub held : Option ℕ
+  -- of each item without a Route, the one in hand and the raw ones, whether it was made
+  pub made : List Bool
+  -- what the aggregators keep
+  pub bank : BankMemory
   -- what waits at each output, and its batch in flight
   pub lanes : List (LaneState Offer)
   pub numbers : Numbers
@@ -50,12 +54,12 @@ is_tracked input = input.tracked
 abbrev pub sizes : OutSetup → ℕ × ℕ
 sizes output = (output.batch, output.limit)
 
--- the set-up of a journal, of what a core is set up with: without aggregators
+-- the set-up of a journal, of what a core is set up with
 abbrev pub setup_of : CoreSetup → Setup
 setup_of setup = record {
   start = setup.start;
   inputs = map most_undelivered setup.inputs;
-  aggs = [];
+  aggs = setup.aggs;
   outputs = map sizes setup.outputs;
 }
 
@@ -64,12 +68,14 @@ abbrev pub lane_of : OutSetup → LaneState Offer
 lane_of output = empty_lane output.batch output.limit
 
 -- nothing happened yet
-abbrev pub first_state : CoreSetup → CoreState
-first_state setup = record {
+abbrev pub first_state : CoreSetup → BankMemory → CoreState
+first_state setup bank = record {
   setup = setup_of setup;
   raw = [];
   taken = 0;
   held = None;
+  made = [];
+  bank = bank;
   lanes = map lane_of setup.outputs;
   numbers = no_numbers (map is_tracked setup.inputs) (length setup.outputs);
   stored = [];
@@ -136,10 +142,9 @@ pub record ItemsAgree (raw taken held gathered made removed routed : ℕ) : Type
   pub few_gathered : gathered < 2 ^ 32
   pub gone : removed + routed + held ≡ taken
 
--- no input is tracked, and there are no aggregators
-pub record IsPlain (setup : Setup) : Type 0 where
-  pub untracked : All (λ x. x ≡ None) setup.inputs
-  pub no_aggs : HasNoAggs setup
+-- no input is tracked
+abbrev pub IsUntracked : Setup → Type 0
+IsUntracked setup = All (λ x. x ≡ None) setup.inputs
 
 -- what a core keeps agrees
 pub record IsCore (state : CoreState) : Type 0 where
@@ -149,4 +154,7 @@ pub record IsCore (state : CoreState) : Type 0 where
   pub items :
       ItemsAgree (length state.raw) state.taken (held_count state.held) state.gathered state.numbers.made
       state.numbers.removed state.numbers.routed
-  pub plain : IsPlain state.setup
+  pub untracked : IsUntracked state.setup
+  -- the aggregators are those of the set-up, and each item without a Route is known as gathered or made
+  pub lines : lines_of state.bank ≡ state.setup.aggs
+  pub marks : length state.made ≡ held_count state.held + length state.raw

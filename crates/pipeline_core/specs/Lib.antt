@@ -10,6 +10,7 @@ pub mod OutputView
 pub mod Steps
 pub mod Shapes
 pub mod Stands
+pub mod Moments
 pub mod Sums
 pub mod Laws
 pub mod Stopped

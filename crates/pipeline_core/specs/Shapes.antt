@@ -32,9 +32,9 @@ IsDoneEntry output ok e = (reports : List Report) × (e ≡ entries.Done output 
 -- each call's entry has its shape
 pub record EntriesHaveShape : Type 0 where
   pub gathers : (state : CoreState) (g : Gathered) → IsGatherEntry g (gather_entry state g)
-  pub routes : (state : CoreState) (r : Routed) → IsRouteEntry r (route_entry state r)
-  pub ticks : (state : CoreState) (moment : ℤ) →
-      IsTickEntry (moment_at state moment) (tick_entry state moment)
-  pub stops : (state : CoreState) (moment : ℤ) →
-      IsStopEntry (moment_at state moment) (stop_entry state moment)
+  pub routes : (r : Routed) (verdict : Verdict) → IsRouteEntry r (route_entry r verdict)
+  pub ticks : (state : CoreState) (moment : ℤ) (metrics : List Content) →
+      IsTickEntry (moment_at state moment) (tick_entry state moment metrics)
+  pub stops : (state : CoreState) (moment : ℤ) (metrics : List Content) →
+      IsStopEntry (moment_at state moment) (stop_entry state moment metrics)
   pub dones : (state : CoreState) (output : ℕ) (ok : Bool) → IsDoneEntry output ok (done_entry state output ok)

@@ -1,6 +1,6 @@
 -- What each call makes of what a core keeps.
 use Rattle.std.specs.Prelude.{◌≡◌, ◌<◌, ◌≤◌, ◌⊎◌, ℕ, ℤ, ◌+◌, ◌^◌, ◌==◌, Bool, true, false, List, [], ◌∷◌}
-use Rattle.std.specs.Prelude.{◌++◌, map, length, take, drop, min, slice_set, if◌then◌else◌, Result, Ok, Err}
+use Rattle.std.specs.Prelude.{◌++◌, map, length, take, drop, min, replicate, slice_set, if◌then◌else◌, Result, Ok, Err}
 use Rattle.std.specs.Int.{int_max}
 use Rattle.std.specs.List.{enumerate_from}
 use Rattle.std.specs.declared.option.Option.{Option}
@@ -14,10 +14,10 @@ use Rattle.account.specs.declared.entry.Entry.{Entry}
 use Rattle.account.specs.declared.entry.Entry.TheVariants as entries
 use Rattle.account.specs.declared.entry.Verdict.{Verdict}
 use Rattle.account.specs.declared.entry.Verdict.TheVariants as verdicts
+use Rattle.agg_bank.specs.Bank.{BankMemory}
 use Rattle.out_lane.specs.Lane.{LaneState}
 use Rattle.out_lane.specs.Lane as lane
 use Rattle.pipeline_core.specs.Offers.{view_at, offered_views}
-use Rattle.pipeline_core.specs.Windows.{verdict_of}
 use Rattle.pipeline_core.specs.CoreState.{CoreState, lane_at}
 use Rattle.pipeline_core.specs.declared.gathering.Gathered.{Gathered}
 use Rattle.pipeline_core.specs.declared.gathering.GatherRefused.{GatherRefused}
@@ -36,6 +36,7 @@ gather_entry state g =
 abbrev pub after_gather : CoreState → Gathered → CoreState
 after_gather state g = record state {
   raw = state.raw ++ g.metrics;
+  made = state.made ++ replicate (length g.metrics) false;
   numbers =
       with_input state.numbers g.input
       (gathered_more (input_numbers state.numbers g.input) g.pieces g.refused g.passed g.filtered
@@ -81,13 +82,9 @@ after_take state = record state {
   stored = state.stored ++ entries.Take state.taken ∷ [];
 }
 
--- the verdict on what was routed: without aggregators it passes unless it was removed
-abbrev pub route_verdict : CoreState → Routed → Verdict
-route_verdict state r = verdict_of r.whole
-
--- the entry of what was routed: no group settles, since no input is tracked
-unfoldable pub route_entry : CoreState → Routed → Entry
-route_entry state r = entries.Route r.item r.whole (route_verdict state r) r.aggs r.outs []
+-- the entry of what was routed with a verdict: no group settles, since no input is tracked
+unfoldable pub route_entry : Routed → Verdict → Entry
+route_entry r verdict = entries.Route r.item r.whole verdict r.aggs r.outs []
 
 -- an output's lane, once an item's view was offered
 abbrev pub lane_with : ℕ → Option Content → LaneState Offer → LaneState Offer
@@ -109,6 +106,8 @@ numbers_with (Some view) at x = buffered_more at x
 -- few enough metrics came to an output that one more may
 pub record HasFew (x : OutputNumbers) (at : LaneState Offer) : Type 0 where
   pub filtered : x.filtered < 2 ^ 63
+  pub late : x.late < 2 ^ 63
+  pub consumed : x.consumed < 2 ^ 63
   pub buffered : x.buffered < 2 ^ 63
   pub dropped : x.dropped < 2 ^ 63
   pub pushed : at.pushed < 2 ^ 63
@@ -149,43 +148,50 @@ numbers_routed verdicts.Late outs lanes numbers =
     record numbers { routed = numbers.routed + 1; outputs = map late_more numbers.outputs }
 numbers_routed verdicts.Removed outs lanes numbers = record numbers { removed = numbers.removed + 1 }
 
--- nothing is in hand, and the item is offered and counted by its verdict
-abbrev pub after_route : CoreState → Routed → CoreState
-after_route state r = record state {
+-- nothing is in hand, and the item is offered and counted by its verdict; the aggregators keep this
+abbrev pub after_route : CoreState → Routed → Verdict → BankMemory → CoreState
+after_route state r verdict bank = record state {
   held = None;
-  lanes = lanes_routed r.item (route_verdict state r) r.outs state.lanes;
-  numbers = numbers_routed (route_verdict state r) r.outs state.lanes state.numbers;
-  stored = state.stored ++ route_entry state r ∷ [];
+  made = drop 1 state.made;
+  bank = bank;
+  lanes = lanes_routed r.item verdict r.outs state.lanes;
+  numbers = numbers_routed verdict r.outs state.lanes state.numbers;
+  stored = state.stored ++ route_entry r verdict ∷ [];
 }
 
 -- the moment that counts is the greater one
 abbrev pub moment_at : CoreState → ℤ → ℤ
 moment_at state moment = int_max moment state.counted
 
--- the entry of a tick at a moment: without aggregators nothing is made
-unfoldable pub tick_entry : CoreState → ℤ → Entry
-tick_entry state moment = entries.Tick (moment_at state moment) []
-
--- what is made as the run stops at a moment: without aggregators nothing
-abbrev pub stop_made : CoreState → ℤ → List Content
-stop_made state moment = []
-
--- the entry of the stop at a moment
-unfoldable pub stop_entry : CoreState → ℤ → Entry
-stop_entry state moment = entries.Stop (moment_at state moment) (stop_made state moment)
-
--- what is made becomes raw items, where something is
+-- what was made becomes raw items
 abbrev pub with_made : List Content → CoreState → CoreState
-with_made [] state = state
-with_made (metric ∷ others) state = record state {
-  raw = state.raw ++ metric ∷ others;
-  numbers = record state.numbers { made = state.numbers.made + length (metric ∷ others) };
+with_made metrics state = record state {
+  raw = state.raw ++ metrics;
+  made = state.made ++ replicate (length metrics) true;
+  numbers = record state.numbers { made = state.numbers.made + length metrics };
 }
 
--- nothing is gathered any more
-abbrev pub after_stop : CoreState → ℤ → CoreState
-after_stop state moment = with_made (stop_made state moment) (record state {
-  stored = state.stored ++ stop_entry state moment ∷ [];
+-- the entry of a tick at a moment, by which these metrics were made
+unfoldable pub tick_entry : CoreState → ℤ → List Content → Entry
+tick_entry state moment metrics = entries.Tick (moment_at state moment) metrics
+
+-- what the windows made is raw; the aggregators keep this
+abbrev pub after_tick : CoreState → ℤ → List Content → BankMemory → CoreState
+after_tick state moment metrics bank = with_made metrics (record state {
+  bank = bank;
+  stored = state.stored ++ tick_entry state moment metrics ∷ [];
+  counted = moment_at state moment;
+})
+
+-- the entry of the stop at a moment, by which these metrics were made
+unfoldable pub stop_entry : CoreState → ℤ → List Content → Entry
+stop_entry state moment metrics = entries.Stop (moment_at state moment) metrics
+
+-- the same, and nothing is gathered any more
+abbrev pub after_stop : CoreState → ℤ → List Content → BankMemory → CoreState
+after_stop state moment metrics bank = with_made metrics (record state {
+  bank = bank;
+  stored = state.stored ++ stop_entry state moment metrics ∷ [];
   counted = moment_at state moment;
   stopped = true;
 })

@@ -7,7 +7,7 @@ ghost use Rattle.pipeline_core.specs.Steps.{gather_entry, after_gather, after_en
 ghost use Rattle.pipeline_core.specs.Steps.{IsGatherAnswer};
 ghost use Rattle.pipeline_core.specs.declared.gathering.GatherRefused.TheVariants as refused;
 
-use crate::room::{make_room, make_room_for, queue_of};
+use crate::room::{line_up, make_room, make_room_for, queue_of};
 use crate::state::Core;
 use account::Entry;
 use fixed_num::{Moment, OutOfMemory, Seq};
@@ -117,9 +117,9 @@ impl Core {
         if !self.account.has_room() {
             return Err(GatherRefused::OutOfMemory);
         }
-        let mut copies = queue_of(self.alloc, g.metrics.as_slice())?;
+        let copies = queue_of(self.alloc, g.metrics.as_slice())?;
         make_room_for(&mut self.stored, self.outputs.len(), count)?;
-        self.raw.append(&mut copies)?;
+        line_up(&mut self.raw, &mut self.made, copies, false)?;
         self.gathered += count as u32;
         self.account.gathered(
             g.input,
@@ -162,7 +162,7 @@ impl Core {
     pub fn take(&mut self) -> Result<Item, TakeAnswer>
         ensures in_hand { (result ≡ Err TakeAnswer.InHand) ↔ IsSome self.old.held }
         ensures empty { (result ≡ Err TakeAnswer.Empty) ↔ (IsNone self.old.held × (self.old.raw ≡ [])) }
-        ensures item { IfOk result (λ item. (item.number ≡ self.old.taken) × (item.made ≡ false)
+        ensures item { IfOk result (λ item. (item.number ≡ self.old.taken) × (slice_get self.old.made 0 ≡ Some item.made)
             × (slice_get self.old.raw 0 ≡ Some item.metric)) }
         ensures ok { OnOk result (self.new ≡ after_take self.old) }
         ensures stands { OnOk result (Continues self.old self.new (entries.Take self.old.taken)) }
@@ -178,20 +178,21 @@ impl Core {
             return Err(TakeAnswer::OutOfMemory);
         };
         let metric = self.raw.pop_front().unwrap();
+        let made = self.made[0];
         let number = self.taken;
         self.held = Some(number);
         self.taken += 1;
         self.stored.push_reserved(Entry::Take { item: number });
         Ok(Item {
             number,
-            made: false,
+            made,
             metric,
         })
     }
 }
 
-// Whether there are fewer than 2^63 items with so many more, where so many were taken and are raw.
-fn has_numbers(taken: u64, raw: usize, count: usize) -> bool
+/// Whether there are fewer than 2^63 items with so many more, where so many were taken and are raw.
+pub(crate) fn has_numbers(taken: u64, raw: usize, count: usize) -> bool
     ensures { IsTrue result ↔ (taken + raw + count < 2 ^ 63) }
 {
     taken < ITEM_LIMIT

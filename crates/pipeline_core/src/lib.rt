@@ -9,6 +9,7 @@ mod room;
 mod routing;
 mod setup;
 mod state;
+mod windows;
 
 pub use batches::{Batch, BeginAnswer};
 pub use gathering::{GatherRefused, Gathered, Item, TakeAnswer};

@@ -1,5 +1,6 @@
 //! Room for entries and copies of metrics.
-ghost use Rattle.std.specs.Prelude.{◌≡◌, ◌+◌, ◌<◌, ◌≤◌, ◌^◌, length, vec_len, vec_capacity, IfOk, OnOk};
+ghost use Rattle.std.specs.Prelude.{◌≡◌, ◌+◌, ◌++◌, ◌<◌, ◌≤◌, ◌^◌, length, replicate, vec_len, vec_capacity};
+ghost use Rattle.std.specs.Prelude.{IfOk, OnOk, OnErr};
 ghost use Rattle.pipeline_core.specs.Offers.{offered_views};
 
 use crate::output::Offer;
@@ -60,6 +61,26 @@ pub(crate) fn queue_of(alloc: Global, metrics: &[Metric]) -> Result<VecDeque<Met
 {
     let copies = copies_of(alloc, metrics)?;
     Ok(VecDeque::from_vec(copies))
+}
+
+/// Lets items wait behind those that are raw, all of them gathered or all of them made. Without memory all stays as it was.
+pub(crate) fn line_up(
+    raw: &mut VecDeque<Metric>,
+    made: &mut VecDeque<bool>,
+    mut more: VecDeque<Metric>,
+    are_made: bool,
+) -> Result<(), OutOfMemory>
+    ensures raw { OnOk result (raw.new.items ≡ raw.old.items ++ more.items) }
+    ensures made { OnOk result (made.new.items ≡ made.old.items ++ replicate (length more.items) are_made) }
+    ensures err { OnErr result ((raw.new.items ≡ raw.old.items) × (made.new.items ≡ made.old.items)) }
+{
+    let count = more.len();
+    made.reserve(count)?;
+    raw.append(&mut more)?;
+    for _item in 0..count {
+        made.push_back_reserved(are_made);
+    }
+    Ok(())
 }
 
 /// Copies of the views of offers, in order.

@@ -1,18 +1,26 @@
 //! The item in hand goes to the outputs.
-ghost use Rattle.std.specs.Prelude.{◌≡◌, ℕ, ◌<◌, ◌≤◌, ◌+◌, ◌++◌, ◌^◌, [], true, false, length, slice_set, IfOk};
-ghost use Rattle.std.specs.Prelude.{OnOk, OnErr};
+ghost use Rattle.std.specs.Prelude.{◌≡◌, ℕ, ◌<◌, ◌≤◌, ◌+◌, ◌++◌, ◌^◌, [], List, true, false, length, map, slice_get};
+ghost use Rattle.std.specs.Prelude.{slice_set, None, Some};
+ghost use Rattle.std.specs.Prelude.{IfOk, OnOk, OnErr};
+ghost use Rattle.std.specs.List.{AllByRecursion};
 ghost use Rattle.account.specs.Numbers.{with_output, output_numbers};
 ghost use Rattle.pipeline_core.specs.CoreState.{lane_at};
 ghost use Rattle.account.specs.Views.{HasViews};
-ghost use Rattle.pipeline_core.specs.Windows.{verdict_of};
-ghost use Rattle.pipeline_core.specs.Stands.{Continues};
+ghost use Rattle.account.specs.Setup.{Setup};
+ghost use Rattle.account.specs.declared.entry.Entry.{Entry};
+ghost use Rattle.agg_bank.specs.Bank.{lines_of, BankStands};
+ghost use Rattle.agg_bank.specs.Events.{offered};
+ghost use Rattle.pipeline_core.specs.Windows.{bank_events, judged, offered_to, BankIs};
+ghost use Rattle.pipeline_core.specs.Stands.{Continues, IsAsBefore, Stands};
 ghost use Rattle.pipeline_core.specs.Steps.{route_entry, after_route, lane_with, numbers_with, lanes_with};
 ghost use Rattle.pipeline_core.specs.Steps.{outputs_with, lanes_routed, numbers_routed, HasFew};
+ghost use Rattle.pipeline_core.specs.Steps.{consumed_more, late_more};
 
 use crate::output::{Offer, Output};
 use crate::room::{Views, make_room, view_copies};
 use crate::state::Core;
 use account::{Account, Entry, Verdict};
+use agg_bank::Bank;
 use fixed_num::{OutOfMemory, Seq};
 use metric::Metric;
 
@@ -30,30 +38,27 @@ pub struct Routed {
 }
 
 impl Core {
-    /// Routes the item in hand: each output takes its view, where it has one. The answer is what became
-    /// of the item. Without memory all stays as it was.
+    /// Routes the item in hand: it is offered to the aggregators, and where it passes each output takes its view, where it
+    /// has one. The answer is what became of the item. Without memory all is as it was.
     #[tactic(auto, unfolding(crate::specs::Steps::route_entry))]
     pub fn route(&mut self, r: Routed) -> Result<Verdict, OutOfMemory>
         requires held { self.old.held ≡ Some r.item }
         requires aggregators { length r.aggs ≡ length self.old.setup.aggs }
         requires outputs { length r.outs ≡ length self.old.setup.outputs }
         requires views { HasViews r.whole (r.aggs ++ r.outs) }
-        ensures verdict { IfOk result (λ verdict. verdict ≡ verdict_of r.whole) }
-        ensures ok { OnOk result (self.new ≡ after_route self.old r) }
-        ensures stands { OnOk result (Continues self.old self.new (route_entry self.old r)) }
-        ensures err { OnErr result (self.new ≡ self.old) }
+        requires made { slice_get self.old.made 0 ≡ Some true → AllByRecursion (λ view. view ≡ None) r.aggs }
+        ensures verdict { (journal : List Entry) → Stands self.old journal
+            → IfOk result (λ verdict. verdict ≡ judged self.old.setup journal r.whole r.aggs) }
+        ensures ok { IfOk result (λ verdict. self.new ≡ after_route self.old r verdict self.new.bank) }
+        ensures stands { IfOk result (λ verdict. Continues self.old self.new (route_entry r verdict)) }
+        ensures err { OnErr result (IsAsBefore self.old self.new) }
     {
-        let verdict = judged(&r.whole);
         let views = view_copies(self.alloc, r.outs.as_slice())?;
         make_room(&mut self.stored, self.outputs.len())?;
+        let verdict = judge(&mut self.bank, &r.whole, r.aggs.as_slice())?;
         self.held = None;
-        hand_out(
-            &mut self.outputs,
-            &mut self.account,
-            r.item,
-            &r.whole,
-            views,
-        );
+        self.made.pop_front();
+        hand_out(&mut self.outputs, &mut self.account, r.item, verdict, views);
         self.stored.push_reserved(Entry::Route {
             item: r.item,
             whole: r.whole,
@@ -66,22 +71,34 @@ impl Core {
     }
 }
 
-// The verdict on an item.
-fn judged(whole: &Option<Metric>) -> Verdict
-    ensures { result ≡ verdict_of whole.now }
+// Offers an item to the aggregators, unless it was removed.
+fn judge(
+    bank: &mut Bank,
+    whole: &Option<Metric>,
+    aggs: &[Option<Metric>],
+) -> Result<Verdict, OutOfMemory>
+    requires { length aggs.now ≡ length (lines_of bank.old) }
+    ensures lines { lines_of bank.new ≡ lines_of bank.old }
+    ensures verdict { (setup : Setup) (before : List Entry) → BankIs setup before bank.old
+        → IfOk result (λ verdict. verdict ≡ judged setup before whole.now aggs.now) }
+    ensures ok { (setup : Setup) (before : List Entry) → BankIs setup before bank.old
+        → offered (bank_events before) < 2 ^ 32
+        → OnOk result (BankStands setup.aggs setup.start (bank_events before ++ offered_to whole.now aggs.now) bank.new) }
+    ensures err { (setup : Setup) (before : List Entry) → BankIs setup before bank.old
+        → OnErr result (BankIs setup before bank.new) }
 {
     match whole {
-        Some(_) => Verdict::Passes,
-        None => Verdict::Removed,
+        Some(_) => bank.offer(aggs),
+        None => Ok(Verdict::Removed),
     }
 }
 
-// Counts an item, and offers each output its view unless the item was removed.
+// Counts an item by its verdict, and offers each output its view where the item passes.
 fn hand_out(
     outputs: &mut Vec<Output>,
     account: &mut Account,
     item: u64,
-    whole: &Option<Metric>,
+    verdict: Verdict,
     views: Views,
 )
     requires views { length views.items ≡ length outputs.old.items }
@@ -92,16 +109,49 @@ fn hand_out(
     requires few { (output : ℕ) → output < length outputs.old.items →
         HasFew (output_numbers account.old output) (lane_at outputs.old.items output) }
     ensures lanes { outputs.new.items
-        ≡ lanes_routed item (verdict_of whole.now) views.items outputs.old.items }
+        ≡ lanes_routed item verdict views.items outputs.old.items }
     ensures account { account.new
-        ≡ numbers_routed (verdict_of whole.now) views.items outputs.old.items account.old }
+        ≡ numbers_routed verdict views.items outputs.old.items account.old }
 {
-    if whole.is_none() {
-        account.removed();
-        return;
+    match verdict {
+        Verdict::Removed => account.removed(),
+        Verdict::Passes => {
+            account.routed();
+            offer_views(outputs, account, item, views);
+        }
+        Verdict::Consumed => {
+            account.routed();
+            count_consumed(account, outputs.len());
+        }
+        Verdict::Late => {
+            account.routed();
+            count_late(account, outputs.len());
+        }
     }
-    account.routed();
-    offer_views(outputs, account, item, views);
+}
+
+// Counts at each output a metric that an aggregator kept from it.
+fn count_consumed(account: &mut Account, outputs: usize)
+    requires numbers { length account.old.outputs ≡ outputs }
+    requires count { outputs ≤ 16 }
+    requires few { (output : ℕ) → output < outputs → (output_numbers account.old output).consumed < 2 ^ 63 }
+    ensures { account.new ≡ record account.old { outputs = map consumed_more account.old.outputs } }
+{
+    for output in 0..outputs {
+        account.consumed(output as u32);
+    }
+}
+
+// Counts at each output a metric that came too late for an aggregator.
+fn count_late(account: &mut Account, outputs: usize)
+    requires numbers { length account.old.outputs ≡ outputs }
+    requires count { outputs ≤ 16 }
+    requires few { (output : ℕ) → output < outputs → (output_numbers account.old output).late < 2 ^ 63 }
+    ensures { account.new ≡ record account.old { outputs = map late_more account.old.outputs } }
+{
+    for output in 0..outputs {
+        account.late(output as u32);
+    }
 }
 
 // Offers each output the item's view there, and counts what became of it.

@@ -1,7 +1,5 @@
 //! What a core is set up with.
-ghost use Rattle.std.specs.Prelude.{◌≡◌, length};
-ghost use Rattle.pipeline_core.specs.CoreState.{setup_of};
-
+use account::AggLine;
 use fixed_num::{Moment, Seq};
 
 /// What a core is set up with.
@@ -9,20 +7,12 @@ use fixed_num::{Moment, Seq};
 pub struct CoreSetup {
     /// The inputs.
     pub inputs: Seq<InSetup>,
+    /// The aggregators.
+    pub aggs: Seq<AggLine>,
     /// The outputs.
     pub outputs: Seq<OutSetup>,
     /// The moment at which the run begins: nanoseconds since 1970.
     pub start: Moment,
-}
-
-impl CoreSetup {
-    /// How many aggregators there are: none yet.
-    pub(crate) fn agg_count(&self) -> usize
-        ensures none { result ≡ 0 }
-        ensures count { result ≡ length (setup_of self.now).aggs }
-    {
-        0
-    }
 }
 
 /// An input.

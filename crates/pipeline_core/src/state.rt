@@ -6,15 +6,16 @@ ghost use Rattle.pipeline_core.specs.CoreState.{first_state, lane_of, lane_at, i
 ghost use Rattle.account.specs.declared.entry.Entry.{Entry};
 ghost use Rattle.pipeline_core.specs.Stands.{Stands, Continues};
 ghost use Rattle.pipeline_core.specs.Totals.{totals};
-ghost use Rattle.pipeline_core.specs.Steps.{after_stop, after_cut, stop_entry};
+ghost use Rattle.agg_bank.specs.Line.{IsLine};
+ghost use Rattle.pipeline_core.specs.Steps.{after_cut};
 ghost use Rattle.account.specs.Numbers.{output_numbers};
-ghost use Rattle.pipeline_core.specs.Windows.{HasNoAggs};
 
 use crate::output::Output;
 use crate::room::make_room;
 use crate::setup::{CoreSetup, InSetup, OutSetup};
 use account::{Account, Entry};
-use fixed_num::{Moment, OutOfMemory, Seq};
+use agg_bank::Bank;
+use fixed_num::{Moment, OutOfMemory};
 use metric::Metric;
 use std::alloc::Global;
 use std::collections::VecDeque;
@@ -39,6 +40,8 @@ pub struct Core {
     pub(crate) raw: VecDeque<Metric>,
     pub(crate) taken: u64,
     pub(crate) held: Option<u64>,
+    pub(crate) made: VecDeque<bool>,
+    pub(crate) bank: Bank,
     pub(crate) outputs: Vec<Output>,
     pub(crate) account: Account,
     pub(crate) stored: Vec<Entry>,
@@ -61,20 +64,22 @@ impl Model for Core {
 }
 
 impl Core {
-    /// Makes a core in which nothing happened. Its inputs aren't tracked, and there are no aggregators.
+    /// Makes a core in which nothing happened. Its inputs aren't tracked.
     pub fn new(alloc: Global, setup: CoreSetup) -> Result<Core, OutOfMemory>
         requires inputs { length setup.inputs ≤ 16 }
+        requires aggregators { length setup.aggs ≤ 16 }
         requires outputs { length setup.outputs ≤ 16 }
+        requires lines { All IsLine setup.aggs }
         requires untracked { All (λ x. x.tracked ≡ false) setup.inputs }
         requires sizes { All (λ x. (1 ≤ x.batch) × (x.batch ≤ x.limit)) setup.outputs }
-        ensures ok { IfOk result (λ core. core ≡ first_state setup) }
-        ensures no_aggregators { IfOk result (λ core. HasNoAggs core.setup) }
+        ensures ok { IfOk result (λ core. core ≡ first_state setup core.bank) }
         ensures stands { IfOk result (λ core. Stands core []) }
     {
         let inputs = setup.inputs.as_slice().len();
         let ended = vec![in alloc; false; inputs]?;
         let tracked = tracked_flags(alloc, setup.inputs.as_slice())?;
         let outputs = empty_outputs(alloc, setup.outputs.as_slice())?;
+        let bank = Bank::new(alloc, setup.aggs.as_slice(), setup.start)?;
         let account = Account::new(alloc, tracked.as_slice(), outputs.len() as u32)?;
         let counted = setup.start;
         Ok(Core {
@@ -83,6 +88,8 @@ impl Core {
             raw: VecDeque::new(alloc),
             taken: 0,
             held: None,
+            made: VecDeque::new(alloc),
+            bank,
             outputs,
             account,
             stored: Vec::new(alloc),
@@ -91,25 +98,6 @@ impl Core {
             ended,
             stopped: false,
         })
-    }
-
-    /// Stops the gathering. The moment that counts (nanoseconds since 1970) is the greater of this one
-    /// and the last one counted. Without memory all stays as it was.
-    #[tactic(auto, unfolding(crate::specs::Steps::stop_entry))]
-    pub fn stop(&mut self, moment: Moment) -> Result<(), OutOfMemory>
-        requires { self.old.stopped ≡ false }
-        ensures ok { OnOk result (self.new ≡ after_stop self.old moment) }
-        ensures stands { OnOk result (Continues self.old self.new (stop_entry self.old moment)) }
-        ensures err { OnErr result (self.new ≡ self.old) }
-    {
-        make_room(&mut self.stored, self.outputs.len())?;
-        self.counted = moment.max(self.counted);
-        self.stopped = true;
-        self.stored.push_reserved(Entry::Stop {
-            moment: self.counted,
-            made: Seq::of(Vec::new(self.alloc)),
-        });
-        Ok(())
     }
 
     /// Takes the entries since the last cut, in order.
@@ -153,13 +141,18 @@ impl Core {
         self.held
     }
 
-    /// How many outputs there are. There are no aggregators yet.
+    /// How many outputs there are.
     pub fn output_count(&self) -> usize
-        ensures outputs { result ≡ length self.now.setup.outputs }
-        ensures no_aggregators { HasNoAggs self.now.setup }
+        ensures { result ≡ length self.now.setup.outputs }
     {
-        prove_eq!(self.setup.agg_count(), 0);
         self.outputs.len()
+    }
+
+    /// How many aggregators there are.
+    pub fn aggregator_count(&self) -> usize
+        ensures { result ≡ length self.now.setup.aggs }
+    {
+        self.setup.aggs.as_slice().len()
     }
 
     /// Whether the output is one of the core's and its batch is in flight.

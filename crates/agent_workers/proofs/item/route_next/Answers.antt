@@ -1,5 +1,10 @@
 use Rattle.std.proofs.Common.{◌≡◌, ◌∙◌, ◌++◌, ap, subst, sym, rules}
+use Rattle.std.specs.List.{AllByRecursion}
+use Rattle.std.specs.declared.option.Option.{Option}
+use Rattle.std.specs.declared.option.Option.TheVariants.{None}
+use Rattle.metric.specs.declared.metric.Content.{Content}
 use Rattle.account.specs.Views.{HasViews}
+use Rattle.account.specs.declared.entry.Verdict.{Verdict}
 use Rattle.pipeline_core.specs.Stands.{Continues}
 use Rattle.pipeline_core.specs.Steps.{after_route, route_entry}
 use Rattle.pipeline_core.specs.declared.routing.Routed.{Routed}
@@ -20,21 +25,31 @@ takes g c = search rules
 abbrev routing : (g : Over) → In_ok-route g → Routed
 routing g c = routed_by c.args.proc.now.outs.now c.in-Some.item.number c.in_ok-routed.routed.whole
 
-routed : (g : Over) (c : In_ok-route g) → c.route.new.self ≡ after_route c.take_next.new.core (routing g c)
-routed g c = c.in_ok-route.ensures.ok ∙ ap (after_route c.take_next.new.core) c.in_ok-routed.ensures.routed
+-- what became of it
+abbrev verdict : (g : Over) → In_ok-route g → Verdict
+verdict g c = c.in_ok-route.field-0
+
+routed : (g : Over) (c : In_ok-route g)
+    → c.route.new.self ≡ after_route c.take_next.new.core (routing g c) (verdict g c) c.route.new.self.bank
+routed g c = c.in_ok-route.ensures.ok ∙ ap (λ (r : Routed). after_route c.take_next.new.core r (verdict g c)
+    c.route.new.self.bank) c.in_ok-routed.ensures.routed
 
 routes : (g : Over) (c : In_ok-route g) → Continues c.take_next.new.core c.route.new.self
-    (route_entry c.take_next.new.core (routing g c))
+    (route_entry (routing g c) (verdict g c))
 routes g c = subst (λ (r : Routed). Continues c.take_next.new.core c.route.new.self
-    (route_entry c.take_next.new.core r)) c.in_ok-routed.ensures.routed c.in_ok-route.ensures.stands
+    (route_entry r (verdict g c))) c.in_ok-routed.ensures.routed c.in_ok-route.ensures.stands
 
 kept : (g : Over) (c : In_ok-route g) → IsRoutable c.args.core.now c.route.new.self
 kept g c = item_routed c.args.core.now c.take_next.new.core c.route.new.self c.in-Some.item
-    c.args.proc.now.outs.now c.in_ok-routed.routed.whole (takes g c) (routed g c)
+    c.args.proc.now.outs.now c.in_ok-routed.routed.whole (verdict g c) c.route.new.self.bank (takes g c) (routed g c)
 
 pub route-requires-clause-views : goal.route-requires-clause-views
 route-requires-clause-views g c = subst (λ (r : Routed). HasViews r.whole (r.aggs ++ r.outs))
     (sym c.in_ok-routed.ensures.routed) (has_views (filters_of c.args.proc.now.outs.now) c.in_ok-routed.routed.whole)
+
+pub route-requires-clause-made : goal.route-requires-clause-made
+route-requires-clause-made g c = λ made. subst (λ (r : Routed). AllByRecursion (λ (view : Option Content). view ≡ None)
+    r.aggs) (sym c.in_ok-routed.ensures.routed) tt
 
 pub returns-clause-rests : goal.returns-clause-rests
 returns-clause-rests g c = record {
@@ -48,10 +63,10 @@ returns-clause-kept g c = kept g c
 pub returns-clause-fewer : goal.returns-clause-fewer
 returns-clause-fewer g c = λ more.
     item_fewer c.args.core.now c.take_next.new.core c.route.new.self c.in-Some.item c.args.proc.now.outs.now
-    c.in_ok-routed.routed.whole (takes g c) (routed g c)
+    c.in_ok-routed.routed.whole (verdict g c) c.route.new.self.bank (takes g c) (routed g c)
 
 pub returns-clause-goes : goal.returns-clause-goes
 returns-clause-goes g c = λ start now fresh w.
     went_item start c.args.core.now c.take_next.new.core c.route.new.self now (proc_of c.args.proc.now)
-    (proc_of c.routing.new.proc) c.in-Some.item c.in_ok-routed.routed.whole fresh (takes g c) (routed g c) (routes g c)
-    c.in_ok-routed.ensures.pushes c.routing.ensures.same w
+    (proc_of c.routing.new.proc) c.in-Some.item c.in_ok-routed.routed.whole (verdict g c) fresh (takes g c) (routed g c)
+    (routes g c) c.in_ok-routed.ensures.pushes c.routing.ensures.same w

@@ -9,8 +9,7 @@ use Rattle.std.specs.Vec.{with_items}
 use Rattle.account.specs.Setup.{Setup}
 use Rattle.agent_base.specs.Clocked.{last_of}
 use Rattle.pipeline_core.specs.CoreState.{CoreState}
-use Rattle.pipeline_core.specs.Stands.{Continues}
-use Rattle.pipeline_core.specs.Steps.{after_stop, stop_entry}
+use Rattle.pipeline_core.specs.Moments.{IsStoppedAt}
 use Rattle.agent_workers.specs.Inputs.{InPart, ins_of, AreInputs}
 use Rattle.agent_workers.specs.Item.{proc_of}
 use Rattle.agent_workers.specs.Output.{OutPart, outs_of, anew, AreAnew, AreOutputs}
@@ -70,14 +69,14 @@ is_last g c = state_by g.S.Source.told g.K.Sink.told g.C.Clock.told c.send_rest.
 
 -- what the stop leaves
 routed_setup : (g : Over) (c : In_ok-send_rest g) → c.route_all.new.core.setup ≡ c.args.core.now.setup
-routed_setup g c = c.in_ok-route_all.ensures.kept.setup ∙ ap (λ (s : CoreState). s.setup) c.in_ok-stop.ensures.ok
+routed_setup g c = c.in_ok-route_all.ensures.kept.setup ∙ ap (λ (s : CoreState). s.setup) c.in_ok-stop.ensures.ok.after
 
 setup : (g : Over) (c : In_ok-send_rest g) → c.send_rest.new.core.setup ≡ c.args.core.now.setup
 setup g c = c.in_ok-send_rest.ensures.kept.setup ∙ routed_setup g c
 
 ended : (g : Over) (c : In_ok-send_rest g) → c.send_rest.new.core.ended ≡ c.args.core.now.ended
 ended g c = c.in_ok-send_rest.ensures.kept.ended ∙ c.in_ok-route_all.ensures.kept.ended
-    ∙ ap (λ (s : CoreState). s.ended) c.in_ok-stop.ensures.ok
+    ∙ ap (λ (s : CoreState). s.ended) c.in_ok-stop.ensures.ok.after
 
 fit : (g : Over) (c : In_ok-send_rest g) → AreFit (last g c)
 fit g c =
@@ -105,9 +104,9 @@ stopped : (g : Over) (c : In_ok-send_rest g) → HasStopped c.args.self.now.fina
     (state g c.args.core.now c.args.self.now) (last g c)
 stopped g c = record {
   stopped = c.in_ok-send_rest.ensures.kept.stopped ∙ c.in_ok-route_all.ensures.kept.stopped
-      ∙ ap (λ (s : CoreState). s.stopped) c.in_ok-stop.ensures.ok;
+      ∙ ap (λ (s : CoreState). s.stopped) c.in_ok-stop.ensures.ok.after;
   gathered = c.in_ok-send_rest.ensures.kept.gathered ∙ c.in_ok-route_all.ensures.kept.gathered
-      ∙ ap (λ (s : CoreState). s.gathered) c.in_ok-stop.ensures.ok;
+      ∙ ap (λ (s : CoreState). s.gathered) c.in_ok-stop.ensures.ok.after;
   ended = ended g c;
   none_raw = c.in_ok-send_rest.ensures.kept.raw ∙ c.in_ok-route_all.ensures.none;
   ins = refl;
@@ -121,12 +120,10 @@ stops g c = λ start counted w.
     let zero : AreAnew news = subst AreAnew (sym (fresh g c)) (are_anew olds) in
     let first : RunState = record (state g c.args.core.now c.args.self.now) { counted_at = counted } in
     let same : to_z w64 (of_z w64 c.args.moment) ≡ c.args.moment = to_z-of_z w64 c.args.moment c.ranges.moment in
-    let after = subst (λ (m : ℤ). c.stop.new.self ≡ after_stop c.args.core.now m) same c.in_ok-stop.ensures.ok in
-    let stands = subst (λ (m : ℤ). Continues c.args.core.now c.stop.new.self (stop_entry c.args.core.now m)) same
-    c.in_ok-stop.ensures.stands in
+    let stops = subst (λ (m : ℤ). IsStoppedAt m c.args.core.now c.stop.new.self) same c.in_ok-stop.ensures.ok in
     let b =
     went_stop start c.args.core.now c.stop.new.self first olds news c.args.moment c.requires.running.ready.no_aggs
-    c.requires.sent.none_raw c.requires.sent.settled (fresh g c) zero after stands w in
+    c.requires.sent.none_raw c.requires.sent.settled (fresh g c) zero stops w in
     let sends = subst (λ (jobs : List (OutJob g.row.K.Denot g.row.C.Denot)). SendsOn c.route_all.new.core
     c.send_rest.new.core (outs g jobs) (outs g c.send_rest.new.outputs)) (mids g c) c.in_ok-send_rest.ensures.sends in
     let counts : List ℤ = counted ++ int_max c.args.moment (last_of start.start counted) ∷ [] in
@@ -137,10 +134,11 @@ stops g c = λ start counted w.
 pub route_all-requires-clause-rests : goal.route_all-requires-clause-rests
 route_all-requires-clause-rests g c = record {
   ready = ready_same c.args.core.now c.stop.new.self
-      (ap (λ (s : CoreState). s.setup) c.in_ok-stop.ensures.ok)
-      (ap (λ (s : CoreState). s.lanes) c.in_ok-stop.ensures.ok) (ap (λ (s : CoreState). s.held) c.in_ok-stop.ensures.ok)
+      (ap (λ (s : CoreState). s.setup) c.in_ok-stop.ensures.ok.after)
+      (ap (λ (s : CoreState). s.lanes) c.in_ok-stop.ensures.ok.after) (ap (λ
+      (s : CoreState). s.held) c.in_ok-stop.ensures.ok.after)
       c.requires.running.ready;
-  stands = continues c.in_ok-stop.ensures.stands c.requires.running.stands;
+  stands = continues c.in_ok-stop.ensures.ok.continues c.requires.running.stands;
 }
 
 pub send_rest-requires-clause-outputs : goal.send_rest-requires-clause-outputs
@@ -153,7 +151,7 @@ send_rest-requires-clause-outputs g c =
     outputs_still (length c.args.core.now.setup.outputs) (length c.route_all.new.core.setup.outputs)
     (outs g c.args.self.now.outputs.items) (outs g c.deref_mut-2.result.now) (ap (outs g) mids ∙ fresh)
     (ap (λ (s : Setup). length s.outputs) (c.in_ok-route_all.ensures.kept.setup
-    ∙ ap (λ (s : CoreState). s.setup) c.in_ok-stop.ensures.ok)) c.requires.fit.outputs
+    ∙ ap (λ (s : CoreState). s.setup) c.in_ok-stop.ensures.ok.after)) c.requires.fit.outputs
 
 pub returns-clause-fit : goal.returns-clause-fit
 returns-clause-fit g c = subst AreFit (sym (is_last g c)) (fit g c)

@@ -1,4 +1,4 @@
-use Rattle.std.proofs.Common.{◌+◌, ◌++◌, List, ◌∙◌, ap, length, rules, subst, arith}
+use Rattle.std.proofs.Common.{◌+◌, ◌++◌, false, replicate, List, ◌∙◌, ap, length, rules, subst, arith}
 use Rattle.std.proofs.lemmas.Grind.{common_steps}
 use Rattle.metric.specs.declared.metric.Content.{Content}
 use Rattle.account.specs.Numbers.{with_input, input_numbers, gathered_more}
@@ -13,12 +13,14 @@ pub invariant_of-self-2 : goal.invariant_of-self-2
 invariant_of-self-2 c =
     record {
       core =
-          kept_gathered (core_state c.self.inside) c.args.g c.append.new.self.items c.gathered.new.self _ _
-          c.self.invariant.core
+          kept_gathered (core_state c.self.inside) c.args.g c.line_up.new.raw.items c.line_up.new.made.items
+          c.gathered.new.self _ _ c.self.invariant.core
           (omega (arith, ap length c.as_slice-count.ensures))
           (grind (arith, common_steps))
-          (c.in_ok-append.ensures.items ∙ ap (λ (xs : List Content). c.self.inside.raw.items ++ xs)
+          (c.in_ok-line_up.ensures.raw ∙ ap (λ (xs : List Content). c.self.inside.raw.items ++ xs)
           (c.in_ok-copies.ensures ∙ c.as_slice.ensures))
+          (c.in_ok-line_up.ensures.made ∙ ap (λ (xs : List Content). c.self.inside.made.items
+          ++ replicate (length xs) false) (c.in_ok-copies.ensures ∙ c.as_slice.ensures))
           (c.gathered.ensures ∙ ap (λ (xs : List Content). with_input c.self.inside.account c.args.g.input
           (gathered_more (input_numbers c.self.inside.account c.args.g.input) c.args.g.pieces c.args.g.refused
           c.args.g.passed c.args.g.filtered (length xs))) c.as_slice-count.ensures)

@@ -6,11 +6,16 @@ use Rattle.std.specs.Str.{bytes_eq}
 use Rattle.std.proofs.lemmas.List.Elements.{filter-append}
 use Rattle.std.proofs.lemmas.List.Sums.{fold-append}
 use Rattle.std.proofs.lemmas.Slice.Eq.{bytes_eq-Decides}
-use Rattle.metric.specs.Pairs.{first_of_each}
-use Rattle.openmetrics_text.specs.Groups.{put_in}
-use Rattle.openmetrics_text.proofs.TypeLemmas.{same_texts, not_same}
+use Rattle.metric.specs.Pairs.{first_of_each, put_in}
 
 -- ---- equal texts
+
+pub same_texts : (a b : List ℕ) → a ≡ b → bytes_eq a b ≡ true
+same_texts a b e = (bytes_eq-Decides a b).1 e
+
+pub not_same : (t : Bool) → (t ≡ true → ⊥) → t ≡ false
+not_same true h = absurd (h refl)
+not_same false h = refl
 
 true_false : true ≡ false → ⊥
 true_false e = absurd cc

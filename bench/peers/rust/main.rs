@@ -1,11 +1,12 @@
 //! A plain program with owned strings: reads metrics a thousand a batch, writes them back, and writes a journal
 //! beside them: main pipe IN OUT JOURNAL [FORMAT [TEMPLATE..]]. FORMAT is influx, statsd, graphite or openmetrics;
 //! lines of StatsD are written as line protocol, all others in their own format. And the bound, which copies line by
-//! line: main copy IN OUT.
+//! line: main copy IN OUT. And main journal, which reads a journal from standard input and counts what it has.
 
 mod graphite;
 mod influx;
 mod journal;
+mod journal_reading;
 mod metric;
 mod openmetrics;
 mod statsd;
@@ -111,7 +112,8 @@ fn main() {
             Format::of(format).and_then(|format| pipe(input, output, journal, &format))
         }
         ["copy", input, output] => copy(input, output),
-        _ => Err(bad("main pipe IN OUT JOURNAL [FORMAT [TEMPLATE..]], or main copy IN OUT")),
+        ["journal"] => journal_reading::count(io::stdin().lock()),
+        _ => Err(bad("main pipe IN OUT JOURNAL [FORMAT [TEMPLATE..]], main copy IN OUT, or main journal")),
     };
     if let Err(fault) = done {
         eprintln!("{fault}");

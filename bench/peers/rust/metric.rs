@@ -2,6 +2,7 @@
 
 use std::io;
 
+#[derive(Clone)]
 pub enum Value {
     Int(i64),
     Uint(u64),
@@ -10,6 +11,7 @@ pub enum Value {
     Text(String),
 }
 
+#[derive(Clone)]
 pub struct Metric {
     pub name: String,
     pub tags: Vec<(String, String)>,

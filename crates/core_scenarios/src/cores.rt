@@ -142,6 +142,7 @@ impl CoreCalls {
             "ended" if self.core.is_reading(number) && !self.core.is_stopped() => {
                 self.core.ended(number)?;
             }
+            "tick" if !self.core.is_stopped() => self.core.tick(i64::from(number))?,
             "stop" if !self.core.is_stopped() => self.core.stop(i64::from(number))?,
             "begin" if (number as usize) < self.core.output_count() => {
                 let _ = self.core.begin(number);

@@ -7,6 +7,7 @@ mod cores;
 mod journals;
 mod lanes;
 mod pieces;
+mod readings;
 mod singles;
 
 use aggregators::{FinalCalls, MergeCalls, StatsCalls};
@@ -17,6 +18,7 @@ use lanes::LaneCalls;
 use line_proto::read_line;
 use metric::Metric;
 use pieces::PieceCalls;
+use readings::ReadCalls;
 use scenario_tables::{Row, Table, Tally};
 use singles::SingleCalls;
 use std::alloc::Global;
@@ -79,6 +81,7 @@ fn main(rt: HostRuntime) -> Result<(), Fail> {
     all &= table::<SingleCalls>(&rt, "accounts")?;
     all &= table::<LaneCalls>(&rt, "lanes")?;
     all &= table::<JournalCalls>(&rt, "journals")?;
+    all &= table::<ReadCalls>(&rt, "readings")?;
     all &= table::<CoreCalls>(&rt, "cores")?;
     all &= table::<StatsCalls>(&rt, "statistics")?;
     all &= table::<MergeCalls>(&rt, "merges")?;

@@ -8,17 +8,25 @@
 //! whose pieces are expositions, `type_tag` and `pass_out_of_range` may follow OUT, in any order. The status is 2
 //! where the words are others or a template is none, and 1 where standard input or output failed or memory was
 //! wanting.
+//!
+//! `format_probe journal OUT` reads all of standard input as a journal: `journal` writes it again, `count` a line that says
+//! how many inputs, aggregators, outputs, entries, items, views and reports it has, and `reports` a line
+//! `ENTRY GROUP INPUT delivered` (or `rejected`) each, entries from 0. A text that is none gives `KIND PLACE`.
 #![tactic(auto)]
+
+mod journals;
 
 use agent_base::{CutKind, Piece, PieceFault, Pieces, Sink, Source, StdSink, StdSource};
 use fixed_num::{Moment, OutOfMemory};
 use format_words::{Template, TemplateFault};
 use graphite_text::{GraphiteKind, write_metric};
+use journals::{Told, answer, told_of};
 use line_proto::{LineKind, read_line, write_line};
 use metric::Metric;
 use openmetrics_text::{ExpositionKind, read_exposition, write_batch};
 use statsd_text::StatsdKind;
 use std::alloc::{AllocError, AllocFailed, Global};
+use std::io::{Read, Stdin, Stdout};
 use std::process::ExitCode;
 use std::{env, fmt};
 
@@ -387,12 +395,46 @@ fn asked(alloc: Global, words: &[String]) -> Result<Probe, Unmade> {
     }
 }
 
+/// Tells what standard input is as a journal.
+fn tell_journal(
+    alloc: Global,
+    mut input: Stdin,
+    output: Stdout,
+    asked: Told,
+) -> Result<(), Stopped> {
+    let mut text = Vec::new(alloc);
+    if input.read_to_end(&mut text).is_err() {
+        return Err(Stopped);
+    }
+    let out = answer(alloc, asked, text.as_slice())?;
+    match StdSink::new(output).put(out.as_slice()) {
+        Ok(()) => Ok(()),
+        Err(_) => Err(Stopped),
+    }
+}
+
+/// What is asked for of a journal, where the words ask for that.
+fn asked_of_journal(words: &[String]) -> Option<Told> {
+    match words {
+        [format, told] if format.as_str() == "journal" => told_of(told.as_str()),
+        _ => None,
+    }
+}
+
 fn main(rt: HostRuntime) -> ExitCode {
     let alloc = rt.alloc();
     let words = match env::args(&rt) {
         Ok(words) => words.skip(1).collect::<Vec<String>>(alloc),
         Err(_) => return ExitCode::from(2),
     };
+    if let Ok(words) = &words {
+        if let Some(told) = asked_of_journal(words.as_slice()) {
+            return match tell_journal(alloc, rt.stdin(), rt.stdout(), told) {
+                Ok(()) => ExitCode::from(0),
+                Err(_) => ExitCode::from(1),
+            };
+        }
+    }
     let asked = match &words {
         Ok(words) => asked(alloc, words.as_slice()),
         Err(_) => return ExitCode::from(1),

@@ -1,0 +1,296 @@
+-- What was read as a metric is one.
+use Rattle.std.proofs.Common.{◌≡◌, ℕ, ℤ, ◌<◌, ◌^◌, Bool, true, false, cond, not, List, [], ◌∷◌, length, Option, Some}
+use Rattle.std.proofs.Common.{None}
+use Rattle.std.proofs.Common.{Result, Ok, Err, refl, subst, arith}
+use Rattle.std.specs.Prelude.{◌==◌, ◌&&◌, map, option_map, codes, nat_eq, FitsSigned}
+use Rattle.std.specs.Int.{w64}
+use Rattle.std.specs.List.{AllByRecursion, IsDistinct, list_any, slice_split}
+use Rattle.std.specs.List.Sorted.{IsStrictlySortedBy}
+use Rattle.std.specs.Ordering.{is_lt, nat_cmp}
+use Rattle.std.specs.declared.cmp.Ordering.{Ordering}
+use Rattle.std.specs.declared.cmp.Ordering.TheVariants.{Less, Equal, Greater}
+use Rattle.std.specs.Cmp.Lexicographic.{slice_cmp, pointwise}
+use Rattle.std.specs.Str.{IsUtf8, is_utf8, bytes_eq}
+use Rattle.std.proofs.lemmas.Bool.{and_parts, or_parts}
+use Rattle.std.proofs.lemmas.Cmp.{nat_list_cmp_total}
+use Rattle.std.proofs.lemmas.Str.{IsUtf8-from_is_utf8}
+use Rattle.fixed_num.specs.declared.fixed.NumFault.{NumFault}
+use Rattle.fixed_num.specs.Fixed.{read_as}
+use Rattle.fixed_num.specs.Range.{InRange}
+use Rattle.fixed_num.specs.Whole.{int_read_as, uint_read_as}
+use Rattle.text_parts.specs.Bytes.{equals_sign, bar}
+use Rattle.text_parts.specs.Split.{is_byte}
+use Rattle.metric.specs.declared.metric.Content.{Content}
+use Rattle.metric.specs.declared.value.Value.{Value}
+use Rattle.metric.specs.declared.value.Value.TheVariants as value
+use Rattle.metric.specs.Metric.{IsMetric, IsFilled, IsValue, IsTag, IsField}
+use Rattle.journal_reader.specs.Words.{◌>>=◌, Parts, each, cut}
+use Rattle.journal_reader.specs.MetricReading.{unescaped, text_of, said, plain_value_of, value_of, tag_of, field_of}
+use Rattle.journal_reader.specs.MetricReading.{series_of, content_of, is_filled, are_tags, are_fields, is_metric}
+use Rattle.journal_reader.specs.MetricReading.{semicolon}
+use Rattle.journal_reader.proofs.WordLemmas.{bind_some, held, same_some, int_fits, uint_fits, fixed_fits}
+
+abbrev Tag : Type 0
+Tag = List ℕ × List ℕ
+
+abbrev Field : Type 0
+Field = List ℕ × Value
+
+-- ---- texts are UTF-8, and numbers in their ranges
+
+text_utf8 : (written text : List ℕ) → text_of written ≡ Some text → IsUtf8 text
+unfolding text_of
+text_utf8 written text e =
+    let parts = held (is_utf8 (unescaped written)) (Some (unescaped written)) text e in
+    subst IsUtf8 (same_some (unescaped written) text parts.1) (IsUtf8-from_is_utf8 (unescaped written) parts.0)
+
+pub each_all : {A : Type 0} (P : A → Type 0) (says : List ℕ → Option A)
+    → ((part : List ℕ) (x : A) → says part ≡ Some x → P x) → (parts : Parts) (xs : List A)
+    → each says parts ≡ Some xs → AllByRecursion P xs
+unfolding each
+each_all P says one [] xs e = subst (AllByRecursion P) (same_some [] xs e) tt
+each_all {A} P says one (part ∷ parts) xs e =
+    let first = bind_some (says part) (λ x. each says parts >>= λ others. Some (x ∷ others)) xs e in
+    let rest = bind_some (each says parts) (λ (others : List A). Some (first.0 ∷ others)) xs first.2 in
+    subst (AllByRecursion P) (same_some (first.0 ∷ rest.0) xs rest.2)
+    (one part first.0 first.1, each_all P says one parts rest.0 rest.1)
+
+-- a value that a number is
+said_value : {N : Type 0} (P : N → Type 0) (make : N → Value) (r : Result N NumFault) (v : Value)
+    → ((n : N) → r ≡ Ok n → P n) → ((n : N) → P n → IsValue (make n)) → option_map make (said r) ≡ Some v → IsValue v
+said_value P make (Ok n) v fits is e = subst IsValue (same_some (make n) v e) (is n (fits n refl))
+said_value P make (Err fault) v fits is e = absurd cc
+
+plain_value_fits : (written : List ℕ) (v : Value) → plain_value_of written ≡ Some v → IsValue v
+unfolding plain_value_of
+plain_value_fits [] v e = absurd cc
+plain_value_fits (b ∷ rest) v e =
+    at (b == 105) (b == 117) (b == 102) (bytes_eq (b ∷ rest) (codes "bt")) (bytes_eq (b ∷ rest) (codes "bf")) e
+  where
+    at : (i u f t n : Bool)
+        → cond i (option_map value.Int (said (int_read_as rest)))
+        (cond u (option_map value.Uint (said (uint_read_as rest)))
+        (cond f (option_map value.Fixed (said (read_as rest)))
+        (cond t (Some (value.«Bool» true)) (cond n (Some (value.«Bool» false)) None)))) ≡ Some v → IsValue v
+    at true u f t n e = said_value (FitsSigned w64) value.Int (int_read_as rest) v (int_fits rest) (λ z h. h) e
+    at false true f t n e =
+        said_value (λ (k : ℕ). k < 2 ^ 64) value.Uint (uint_read_as rest) v (uint_fits rest) (λ k h. h) e
+    at false false true t n e = said_value InRange value.Fixed (read_as rest) v (fixed_fits rest) (λ z h. h) e
+    at false false false true n e = subst IsValue (same_some (value.«Bool» true) v e) tt
+    at false false false false true e = subst IsValue (same_some (value.«Bool» false) v e) tt
+    at false false false false false e = absurd cc
+
+value_fits : (written : List ℕ) (v : Value) → value_of written ≡ Some v → IsValue v
+unfolding value_of
+value_fits [] v e = absurd cc
+value_fits (b ∷ rest) v e = at (b == 115) (text_of rest) refl e
+  where
+    at : (s : Bool) (text : Option (List ℕ)) → text_of rest ≡ text
+        → cond s (option_map value.Text text) (plain_value_of (b ∷ rest)) ≡ Some v → IsValue v
+    at true (Some text) is e = subst IsValue (same_some (value.Text text) v e) (text_utf8 rest text is)
+    at true None is e = absurd cc
+    at false text is e = plain_value_fits (b ∷ rest) v e
+
+abbrev AreUtf8 : Tag → Type 0
+AreUtf8 tag = IsUtf8 tag.0 × IsUtf8 tag.1
+
+tag_fits : (written : List ℕ) (tag : Tag) → tag_of written ≡ Some tag → AreUtf8 tag
+unfolding tag_of
+tag_fits written tag e =
+    let parts = bind_some (cut equals_sign written)
+    (λ parts. text_of parts.0 >>= λ key. text_of parts.1 >>= λ text. Some (key, text)) tag e in
+    let key = bind_some (text_of parts.0.0) (λ key. text_of parts.0.1 >>= λ text. Some (key, text)) tag parts.2 in
+    let text = bind_some (text_of parts.0.1) (λ (text : List ℕ). Some (key.0, text)) tag key.2 in
+    subst AreUtf8 (same_some (key.0, text.0) tag text.2)
+    (text_utf8 parts.0.0 key.0 key.1, text_utf8 parts.0.1 text.0 text.1)
+
+abbrev FitsField : Field → Type 0
+FitsField field = IsUtf8 field.0 × IsValue field.1
+
+field_fits : (written : List ℕ) (field : Field) → field_of written ≡ Some field → FitsField field
+unfolding field_of
+field_fits written field e =
+    let parts = bind_some (cut equals_sign written)
+    (λ parts. text_of parts.0 >>= λ key. value_of parts.1 >>= λ v. Some (key, v)) field e in
+    let key = bind_some (text_of parts.0.0) (λ key. value_of parts.0.1 >>= λ v. Some (key, v)) field parts.2 in
+    let v = bind_some (value_of parts.0.1) (λ (v : Value). Some (key.0, v)) field key.2 in
+    subst FitsField (same_some (key.0, v.0) field v.2)
+    (text_utf8 parts.0.0 key.0 key.1, value_fits parts.0.1 v.0 v.1)
+
+-- what is so of each content that was read
+pub record FitsContent (m : Content) : Type 0 where
+  pub name : IsUtf8 m.name
+  pub tags : AllByRecursion AreUtf8 m.tags
+  pub fields : AllByRecursion FitsField m.fields
+  pub time : FitsSigned w64 m.time
+
+abbrev FitsSeries : List ℕ × List Tag → Type 0
+FitsSeries series = IsUtf8 series.0 × AllByRecursion AreUtf8 series.1
+
+series_fits : (parts : Parts) (series : List ℕ × List Tag) → series_of parts ≡ Some series → FitsSeries series
+unfolding series_of
+series_fits [] series e = absurd cc
+series_fits (name ∷ tags) series e =
+    let named = bind_some (text_of name) (λ n. each tag_of tags >>= λ ts. Some (n, ts)) series e in
+    let tagged = bind_some (each tag_of tags) (λ (ts : List Tag). Some (named.0, ts)) series named.2 in
+    subst FitsSeries (same_some (named.0, tagged.0) series tagged.2)
+    (text_utf8 name named.0 named.1, each_all AreUtf8 tag_of tag_fits tags tagged.0 tagged.1)
+
+said_fits : (text : List ℕ) (z : ℤ) → said (int_read_as text) ≡ Some z → FitsSigned w64 z
+said_fits text z = at (int_read_as text) refl
+  where
+    at : (r : Result ℤ NumFault) → int_read_as text ≡ r → said r ≡ Some z → FitsSigned w64 z
+    at (Ok n) is e = subst (FitsSigned w64) (same_some n z e) (int_fits text n is)
+    at (Err fault) is e = absurd cc
+
+abbrev content : List ℕ × List Tag → List Field → ℤ → Content
+content series fields time = record { name = series.0; tags = series.1; fields = fields; time = time }
+
+pub content_fits : (word : List ℕ) (m : Content) → content_of word ≡ Some m → FitsContent m
+unfolding content_of
+content_fits word m e =
+    let series = bind_some (cut bar word)
+    (λ series. cut bar series.1 >>= λ parts. series_of (slice_split (is_byte semicolon) series.0) >>= λ named.
+    each field_of (slice_split (is_byte semicolon) parts.0) >>= λ fields. said (int_read_as parts.1) >>= λ time.
+    Some (content named fields time)) m e in
+    let parts = bind_some (cut bar series.0.1)
+    (λ parts. series_of (slice_split (is_byte semicolon) series.0.0) >>= λ named.
+    each field_of (slice_split (is_byte semicolon) parts.0) >>= λ fields. said (int_read_as parts.1) >>= λ time.
+    Some (content named fields time)) m series.2 in
+    let named = bind_some (series_of (slice_split (is_byte semicolon) series.0.0))
+    (λ named. each field_of (slice_split (is_byte semicolon) parts.0.0) >>= λ fields.
+    said (int_read_as parts.0.1) >>= λ time. Some (content named fields time)) m parts.2 in
+    let fields = bind_some (each field_of (slice_split (is_byte semicolon) parts.0.0))
+    (λ fields. said (int_read_as parts.0.1) >>= λ time. Some (content named.0 fields time)) m named.2 in
+    let time =
+    bind_some (said (int_read_as parts.0.1)) (λ (time : ℤ). Some (content named.0 fields.0 time)) m fields.2 in
+    let fit = series_fits (slice_split (is_byte semicolon) series.0.0) named.0 named.1 in
+    subst FitsContent (same_some (content named.0 fields.0 time.0) m time.2) (record {
+      name = fit.0;
+      tags = fit.1;
+      fields = each_all FitsField field_of field_fits (slice_split (is_byte semicolon) parts.0.0) fields.0 fields.1;
+      time = said_fits parts.0.1 time.0 time.1;
+    })
+
+-- ---- keys rise, and are distinct
+
+not_empty : (text : List ℕ) → is_filled text ≡ true → IsFilled text
+not_empty [] e = absurd cc
+not_empty (b ∷ bs) e = omega arith
+
+less : (o : Ordering) → is_lt o ≡ true → o ≡ Less
+less Less e = refl
+less Equal e = absurd cc
+less Greater e = absurd cc
+
+abbrev key_cmp : List ℕ → List ℕ → Ordering
+key_cmp = slice_cmp nat_cmp
+
+abbrev keys : List Tag → List (List ℕ)
+keys tags = map (λ (tag : Tag). tag.0) tags
+
+all_less : (a b : List ℕ) (tags : List Tag) → key_cmp a b ≡ Less
+    → AllByRecursion (λ k. key_cmp b k ≡ Less) (keys tags) → AllByRecursion (λ k. key_cmp a k ≡ Less) (keys tags)
+all_less a b [] first h = tt
+all_less a b (tag ∷ tags) first h = (nat_list_cmp_total.trans a b tag.0 first h.0, all_less a b tags first h.1)
+
+-- a key above another isn't empty
+above : (a b : List ℕ) → key_cmp a b ≡ Less → IsFilled b
+above [] [] e = absurd cc
+above (x ∷ a) [] e = absurd cc
+above a (y ∷ b) e = omega arith
+
+record Rise (before : List ℕ) (tags : List Tag) : Type 0 where
+  above : AllByRecursion (λ k. key_cmp before k ≡ Less) (keys tags)
+  sorted : IsStrictlySortedBy key_cmp (keys tags)
+  tags_are : AllByRecursion IsTag tags
+
+tags_rise : (before : List ℕ) (tags : List Tag) → are_tags before tags ≡ true → AllByRecursion AreUtf8 tags
+    → Rise before tags
+unfolding are_tags IsStrictlySortedBy
+tags_rise before [] e utf8 = record { above = tt; sorted = tt; tags_are = tt }
+tags_rise before (tag ∷ tags) e utf8 =
+    let all = and_parts (is_filled tag.1 && is_lt (key_cmp before tag.0)) (are_tags tag.0 tags) e in
+    let first = and_parts (is_filled tag.1) (is_lt (key_cmp before tag.0)) all.0 in
+    let lower : key_cmp before tag.0 ≡ Less = less (key_cmp before tag.0) first.1 in
+    let rest = tags_rise tag.0 tags all.1 utf8.1 in
+    record {
+      above = (lower, all_less before tag.0 tags lower rest.above);
+      sorted = (rest.above, rest.sorted);
+      tags_are = (
+        (
+          record { filled = above before tag.0 lower; utf8 = utf8.0.0 },
+          record { filled = not_empty tag.1 first.0; utf8 = utf8.0.1 },
+        ),
+        rest.tags_are,
+      );
+    }
+
+abbrev field_keys : List Field → List (List ℕ)
+field_keys fields = map (λ (field : Field). field.0) fields
+
+not_true : (b : Bool) → not b ≡ true → b ≡ false
+not_true true e = absurd cc
+not_true false e = refl
+
+-- the keys before are none of the fields' keys
+abbrev Apart : Parts → List Field → Type 0
+Apart before fields = AllByRecursion (λ (k : List ℕ). AllByRecursion (λ (y : List ℕ). bytes_eq k y ≡ false)
+    (field_keys fields)) before
+
+apart_none : (before : Parts) → Apart before []
+apart_none [] = tt
+apart_none (k ∷ before) = (tt, apart_none before)
+
+apart_more : (before : Parts) (field : Field) (fields : List Field)
+    → list_any (λ k. bytes_eq k field.0) before ≡ false → Apart before fields → Apart before (field ∷ fields)
+apart_more [] field fields e h = tt
+apart_more (k ∷ before) field fields e h =
+    let parts = or_parts (bytes_eq k field.0) (list_any (λ k. bytes_eq k field.0) before) e in
+    ((parts.0, h.0), apart_more before field fields parts.1 h.1)
+
+record Differ (before : Parts) (fields : List Field) : Type 0 where
+  apart : Apart before fields
+  distinct : IsDistinct (pointwise nat_eq) (field_keys fields)
+  fields_are : AllByRecursion IsField fields
+
+fields_differ : (before : Parts) (fields : List Field) → are_fields before fields ≡ true
+    → AllByRecursion FitsField fields → Differ before fields
+unfolding are_fields IsDistinct
+fields_differ before [] e fit = record { apart = apart_none before; distinct = tt; fields_are = tt }
+fields_differ before (field ∷ fields) e fit =
+    let all = and_parts (is_filled field.0 && not (list_any (λ k. bytes_eq k field.0) before))
+    (are_fields (field.0 ∷ before) fields) e in
+    let first = and_parts (is_filled field.0) (not (list_any (λ k. bytes_eq k field.0) before)) all.0 in
+    let rest = fields_differ (field.0 ∷ before) fields all.1 fit.1 in
+    record {
+      apart = apart_more before field fields (not_true (list_any (λ k. bytes_eq k field.0) before) first.1)
+          rest.apart.1;
+      distinct = (rest.apart.0, rest.distinct);
+      fields_are = ((record { filled = not_empty field.0 first.0; utf8 = fit.0.0 }, fit.0.1), rest.fields_are);
+    }
+
+some_fields : (fields : List Field) → not (length fields == 0) ≡ true → 0 < length fields
+some_fields [] e = absurd cc
+some_fields (field ∷ fields) e = omega arith
+
+-- what was read, and passes the tests, is a metric
+pub metric_fits : (word : List ℕ) (m : Content) → content_of word ≡ Some m → is_metric m ≡ true → IsMetric m
+unfolding is_metric
+metric_fits word m read e =
+    let fit = content_fits word m read in
+    let last =
+    and_parts (is_filled m.name && are_tags [] m.tags && not (length m.fields == 0)) (are_fields [] m.fields) e in
+    let third = and_parts (is_filled m.name && are_tags [] m.tags) (not (length m.fields == 0)) last.0 in
+    let second = and_parts (is_filled m.name) (are_tags [] m.tags) third.0 in
+    let rise = tags_rise [] m.tags second.1 fit.tags in
+    let differ = fields_differ [] m.fields last.1 fit.fields in
+    record {
+      name = record { filled = not_empty m.name second.0; utf8 = fit.name };
+      tags = rise.tags_are;
+      sorted = rise.sorted;
+      some = some_fields m.fields third.1;
+      fields = differ.fields_are;
+      distinct = differ.distinct;
+      time = fit.time;
+    }

@@ -1,0 +1,11 @@
+pub mod Words
+pub mod MetricReading
+pub mod KeySets
+pub mod SetupReading
+pub mod EntryReading
+pub mod AccountReading
+pub mod States
+pub mod Steps
+pub mod Reading
+pub mod Spellable
+pub mod Meaning

@@ -1,0 +1,126 @@
+//! The words of a line, and what one word says.
+ghost use Rattle.std.specs.Prelude.{◌≡◌, decimal, option_map, Some, None, if◌then◌else◌};
+ghost use Rattle.std.specs.Str.{bytes_eq};
+ghost use Rattle.journal_reader.specs.Words.{taken, behind, is_none_left, number, small_number};
+ghost use Rattle.journal_reader.specs.Words.{signed_number};
+
+use crate::parts::Parts;
+use fixed_num::{read_int, read_uint};
+use itoa::Buffer;
+
+/// The words of a line that are left.
+pub(crate) type Words<'a> = Parts<'a>;
+
+/// Whether a word is this text.
+#[inline(always)]
+pub(crate) fn is(word: &[u8], text: &str) -> bool
+    ensures { result ≡ bytes_eq word.now text.now }
+{
+    word == text.as_bytes()
+}
+
+/// The number whose decimal a word is.
+#[inline(always)]
+#[tactic(auto, unfolding(crate::specs::Words::number))]
+pub(crate) fn number(word: &[u8]) -> Option<u64>
+    ensures { result ≡ number word.now }
+{
+    let Ok(n) = read_uint(word) else {
+        return None;
+    };
+    let mut buffer = Buffer::new();
+    if buffer.format(n).as_bytes() == word {
+        Some(n)
+    } else {
+        None
+    }
+}
+
+/// The number below 2^32 whose decimal a word is.
+#[inline(always)]
+#[tactic(auto, unfolding(crate::specs::Words::small_number))]
+pub(crate) fn small_number(word: &[u8]) -> Option<u32>
+    ensures { result ≡ small_number word.now }
+{
+    let n = number(word)?;
+    if n < 1 << 32 { Some(n as u32) } else { None }
+}
+
+/// The number that may be negative whose decimal a word is.
+#[inline(always)]
+#[tactic(auto, unfolding(crate::specs::Words::signed_number))]
+pub(crate) fn signed_number(word: &[u8]) -> Option<i64>
+    ensures { result ≡ signed_number word.now }
+{
+    let Ok(n) = read_int(word) else {
+        return None;
+    };
+    let mut buffer = Buffer::new();
+    if buffer.format(n).as_bytes() == word {
+        Some(n)
+    } else {
+        None
+    }
+}
+
+/// Takes the first word where it is this text, and says whether it was.
+#[inline(always)]
+#[tactic(auto, unfolding(crate::specs::Words::behind))]
+pub(crate) fn take_word(words: &mut Words<'_>, text: &str) -> bool
+    ensures { behind text.now words.old ≡ (if result then Some words.new else None) }
+{
+    match words.next() {
+        Some(word) => is(word, text),
+        None => false,
+    }
+}
+
+/// Takes the first word where it is the decimal of a number, and says whether it was.
+#[tactic(auto, unfolding(crate::specs::Words::behind))]
+pub(crate) fn take_decimal(words: &mut Words<'_>, n: u64) -> bool
+    ensures { behind (decimal n) words.old ≡ (if result then Some words.new else None) }
+{
+    let mut buffer = Buffer::new();
+    take_word(words, buffer.format(n))
+}
+
+/// Takes the first word, and gives the number that it is.
+#[inline(always)]
+pub(crate) fn take_number(words: &mut Words<'_>) -> Option<u64>
+    ensures { taken number words.old ≡ option_map (λ n. (n, words.new)) result }
+{
+    match words.next() {
+        Some(word) => number(word),
+        None => None,
+    }
+}
+
+/// Takes the first word, and gives the number below 2^32 that it is.
+#[inline(always)]
+pub(crate) fn take_small(words: &mut Words<'_>) -> Option<u32>
+    ensures { taken small_number words.old ≡ option_map (λ n. (n, words.new)) result }
+{
+    match words.next() {
+        Some(word) => small_number(word),
+        None => None,
+    }
+}
+
+/// Takes the first word, and gives the number that it is, which may be negative.
+#[inline(always)]
+pub(crate) fn take_signed(words: &mut Words<'_>) -> Option<i64>
+    ensures { taken signed_number words.old ≡ option_map (λ n. (n, words.new)) result }
+{
+    match words.next() {
+        Some(word) => signed_number(word),
+        None => None,
+    }
+}
+
+/// Whether no word is left.
+#[inline(always)]
+pub(crate) fn is_end(words: &mut Words<'_>) -> bool
+    ensures { result ≡ is_none_left words.old }
+{
+    words.next().is_none()
+}

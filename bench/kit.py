@@ -50,6 +50,18 @@ def input_of(work, kind, lines):
     return path
 
 
+def lines_of_series(work, series, lines):
+    """A file of lines of so many series in turn, each with another value."""
+    path = os.path.join(work, "series-%d-%d" % (series, lines))
+    if not os.path.exists(path):
+        say("making %s lines of %s series" % (whole(lines), whole(series)))
+        with open(path + ".new", "w", encoding="utf-8") as file:
+            for line in range(lines):
+                file.write("cpu,host=node-%06d v=%di %d\n" % (line % series, line, 1_790_000_000_000_000_000 + line))
+        os.rename(path + ".new", path)
+    return path
+
+
 def runs_folder(work):
     """The folder in which programs are run."""
     folder = os.path.join(work, "runs")
@@ -68,6 +80,13 @@ def write_configuration(folder, name, *tables):
     with open(path, "w", encoding="utf-8") as file:
         file.write("".join(tables))
     return path
+
+
+def run_of(program, folder, name, source, tables):
+    """A run of an input to an output with these tables between them."""
+    output = os.path.join(folder, "output")
+    place = write_configuration(folder, name.replace(" ", "-"), plugins("inputs", [source]), tables, plugins("outputs", [output]))
+    return Peer(name, [program, "run", place], {})
 
 
 def pipe_of(program, source="IN", target="OUT"):

@@ -6,11 +6,10 @@ Each kind runs alone over lines as Telegraf writes them, beside a run without pr
 isn't met.
 """
 
-import os
 import sys
 
 import kit
-from kit import Peer, input_of, whole
+from kit import input_of, whole
 
 SIZES = [10_000, 1_000_000]
 SERIES = [10, 100_000]
@@ -27,31 +26,12 @@ KINDS = {
 }
 
 
-def peer_of(program, folder, name, source, steps):
-    """A run of an input to an output through these processors."""
-    output = os.path.join(folder, "output")
-    tables = [kit.plugins("inputs", [source]), steps, kit.plugins("outputs", [output])]
-    return Peer(name, [program, "run", kit.write_configuration(folder, name.replace(" ", "-"), *tables)], {})
-
-
-def lines_of_series(work, series):
-    """Lines of so many series in turn, each with another value."""
-    path = os.path.join(work, f"series-{series}-{SERIES_LINES}")
-    if not os.path.exists(path):
-        kit.say(f"making lines of {whole(series)} series")
-        with open(path + ".new", "w", encoding="utf-8") as file:
-            for line in range(SERIES_LINES):
-                file.write(f"cpu,host=node-{line % series:06d} v={line}i {1_790_000_000_000_000_000 + line}\n")
-        os.rename(path + ".new", path)
-    return path
-
-
 def check_kinds(bounds, work, program, folder):
     """Each kind alone, at each size."""
     used = {}
     for lines in SIZES:
         source = input_of(work, "telegraf", lines)
-        peers = [peer_of(program, folder, name, source, steps) for name, steps in [(NONE, ""), *KINDS.items()]]
+        peers = [kit.run_of(program, folder, name, source, steps) for name, steps in [(NONE, ""), *KINDS.items()]]
         kit.say(f"measuring {whole(lines)} lines, {RUNS} runs each")
         used[lines] = kit.in_turn(peers, "", folder, RUNS)
     rows = [
@@ -68,7 +48,10 @@ def check_kinds(bounds, work, program, folder):
 
 def check_series(bounds, work, program, folder):
     """A dedup over few series, and over many."""
-    peers = [peer_of(program, folder, f"dedup of {series}", lines_of_series(work, series), KINDS["dedup"]) for series in SERIES]
+    peers = [
+        kit.run_of(program, folder, f"dedup of {series}", kit.lines_of_series(work, series, SERIES_LINES), KINDS["dedup"])
+        for series in SERIES
+    ]
     kit.say(f"measuring a dedup over {whole(SERIES_LINES)} lines, {RUNS} runs each")
     used = kit.in_turn(peers, "", folder, RUNS)
     few, many = (used[peer.name].processor for peer in peers)

@@ -145,7 +145,35 @@ output 1 filtered 0 late 0 consumed 0 written 4 buffered 0 dropped 2
 """
 EXPOSITIONS = configured(("stdin",)).replace(b'["stdin"]', b'["stdin"]\ndata_format = "openmetrics"')
 
+# Two aggregators that keep what they take, by the clock that there is: one reaches back to 1970, one doesn't.
+AGGREGATED = b"""[[inputs.file]]
+files = ["in"]
+[[aggregators.final]]
+period = "1h"
+drop_original = true
+namepass = ["e"]
+[[aggregators.merge]]
+period = "1h"
+grace = "510000h"
+drop_original = true
+namepass = ["c"]
+[[outputs.file]]
+files = ["out"]
+"""
+AGGREGATED_ACCOUNT = b"""input 0 pieces 4 refused 0 passed 0 filtered 0 gathered 4 ended
+items made 1 removed 0 routed 5
+output 0 filtered 0 late 1 consumed 2 written 2 buffered 0 dropped 0
+"""
+
 RUNS_WELL = [
+    Case(
+        "metrics are aggregated",
+        "hogzent run c && rm agent.journal",
+        {"c": AGGREGATED, "in": b"c a=1i 5\nd v=3i 6\ne v=1i 5\nc b=2i 5\n"},
+        {"out": b"d v=3i 6\nc a=1i,b=2i 5\n"},
+        report=AGGREGATED_ACCOUNT,
+        told=b"hogzent: 1 metric late, and sent to no output: outside the open window of an aggregator with drop_original\n",
+    ),
     Case(
         "what was refused and dropped is told with its place",
         "hogzent run c && rm agent.journal",

@@ -47,8 +47,9 @@ FRAGMENTS = [
     said("processors.starlark", BOTH + "[[processors.starlark]]\n  source = '''\ndef apply(metric):\n\treturn metric\n'''\n",
          "UnknownKind processors 0", "[[processors.starlark]]: there are no such processors; there are `converter`, `dedup`, "
          "`regex` and `rename`"),
-    said("aggregators.basicstats", BOTH + '[[aggregators.basicstats]]\n  period = "30s"\n  drop_original = false\n',
-         "UnknownKind aggregators 0", "[[aggregators.basicstats]]: there are no aggregators"),
+    said("aggregators.histogram", BOTH + '[[aggregators.histogram]]\n  period = "30s"\n  drop_original = false\n',
+         "UnknownKind aggregators 0", "[[aggregators.histogram]]: there are no such aggregators; there are `basicstats`, "
+         "`final`, `merge` and `minmax`"),
     said("outputs.influxdb_v2", BOTH + '[[outputs.influxdb_v2]]\n  urls = ["http://127.0.0.1:8086"]\n  token = ""\n'
          '  organization = ""\n  bucket = ""\n', "UnknownKind outputs 1", f"[[outputs.influxdb_v2]]: {NO_OUTPUT}"),
     said("outputs.prometheus_client", BOTH + '[[outputs.prometheus_client]]\n  listen = ":9273"\n',
@@ -154,6 +155,7 @@ def listed_case(table, key, words):
         "agent": ("[agent]\n" + line + BOTH, "agent", "[agent]"),
         "inputs": (INPUT + line + OUTPUT, "inputs", "[[inputs.file]]"),
         "processors": (BOTH + "[[processors.regex]]\n" + line, "processors", "[[processors.regex]]"),
+        "aggregators": (BOTH + "[[aggregators.minmax]]\n" + line, "aggregators", "[[aggregators.minmax]]"),
         "outputs": (BOTH + line, "outputs", "[[outputs.file]]"),
     }
     text, name, shown = texts[table]

@@ -123,6 +123,26 @@ def processor(chance):
     return ["[[processors.%s]]" % kind] + ["%s = %s" % it for it in keys.items()]
 
 
+def aggregator(chance):
+    """The lines of an aggregator."""
+    kind = chance.choices([*plain.AGGREGATORS, "histogram"], [8, 8, 8, 8, 1])[0]
+    keys = {}
+    for key in chance.sample(["period", "delay", "grace"], chance.randrange(4)):
+        keys[key] = chance.choice(TIMES)
+    if chance.random() < 0.3:
+        keys["drop_original"] = chance.choice(["true", "false", "true", "false", "1"])
+    if chance.random() < 0.3:
+        keys["namepass"] = a_list(chance, GLOBS[:3] if chance.random() < 0.7 else GLOBS)
+    if kind == "basicstats" and chance.random() < 0.7:
+        names = ['"%s"' % it for it in plain.STATISTICS] + (['"mean"', "1"] if chance.random() < 0.2 else [])
+        keys["stats"] = "[" + ", ".join(chance.choices(names, k=chance.randrange(4))) + "]"
+    if kind == "final" and chance.random() < 0.7:
+        keys["series_timeout"] = chance.choice(TIMES)
+    if chance.random() < 0.03:
+        keys["order"] = "1"
+    return ["[[aggregators.%s]]" % kind] + ["%s = %s" % it for it in keys.items()]
+
+
 def agent(chance):
     """The lines of the table `agent`."""
     keys = {}
@@ -137,6 +157,8 @@ def agent(chance):
         keys[chance.choice(sorted(plain.ANY))] = chance.choice(["1", '"x"', "[]"])
     if chance.random() < 0.1:
         keys["workers"] = chance.choice(["true", "false", "1"])
+    if chance.random() < 0.1:
+        keys["skip_processors_after_aggregators"] = chance.choice(["true", "false", "1"])
     return ["[agent]"] + ["%s = %s" % it for it in keys.items()]
 
 
@@ -150,8 +172,7 @@ def made(chance):
         tags = ["%s = %s" % (key, chance.choice(['"x"', '""', "1"])) for key in chance.sample(["dc", '""', "é"], 1)]
         parts.append(["[global_tags]"] + tags)
     parts += [processor(chance) for _ in range(chance.choice([0, 0, 1, 2]))]
-    if chance.random() < 0.05:
-        parts.append(plugin(chance, "aggregators"))
+    parts += [aggregator(chance) for _ in range(chance.choice([0, 0, 1, 2]))]
     if chance.random() < 0.03:
         parts.insert(0, ["zz = 1"])
     chance.shuffle(parts)

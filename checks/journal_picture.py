@@ -32,6 +32,7 @@ RANDOM_RUNS, RANDOM_TEXTS, CHANGED_TEXTS = 25, 60, 150
 NAMES, TAGS = ["zebra", "quagga", "okapi", "tapir"], ["north", "south", "east"]
 OUTPUT = re.compile(r"output (\d+) filtered (\d+) late (\d+) consumed (\d+) written (\d+) buffered (\d+) dropped (\d+)\n")
 INPUT = re.compile(r"(input \d+) pieces (\d+) refused (\d+) passed (\d+) filtered (\d+) gathered (\d+) ended\n")
+MADE = re.compile(r"items made (\d+) ")
 
 # What a command did: its status, and what it wrote.
 Did = namedtuple("Did", "status out told")
@@ -176,6 +177,11 @@ def random_run(rng, folder):
         exposition = "# TYPE herd gauge\n" + "".join(f'herd{{n="{it}"}} {rng.choice(["1", "NaN"])}\n' for it in range(5))
         lay(folder, {"more": (exposition + "# EOF\n").encode()})
         parts.append('[[inputs.file]]\nfiles = ["more"]\ndata_format = "openmetrics"\n')
+    for kind in rng.sample(["merge", "minmax", "final"], rng.choice([0, 0, 1, 2])):
+        # The metrics are of 1970: an aggregator with this grace takes them, another one finds them late.
+        times = rng.choice(['grace = "510000h"\n', 'grace = "510000h"\n', ""])
+        keeps = f'drop_original = {rng.choice(["true", "false"])}\n'
+        parts.append(f"[[aggregators.{kind}]]\n" + times + keeps + toml_of(rng, filters))
     outputs = rng.sample(["out0", "out1", "out2", "/dev/full"], rng.randint(1, 3))
     for place in outputs:
         limit = rng.choice([1, 2, 5, 20, 1000])
@@ -188,19 +194,21 @@ def compare_run(report, picture, out):
     """Raises where a picture, or what was printed, isn't as the account that the program reported."""
     outputs = [[int(it) for it in found] for found in OUTPUT.findall(report)]
     inputs = INPUT.findall(report)
+    made = MADE.search(report)[1]
     require(len(inputs) + len(outputs) + 1 == len(report.splitlines()), f"the report {report}")
-    # No run removes a metric yet, so each that an input gathered is routed, and has a fate at each output.
+    # None of these runs has processors, so each that an input gathered is routed, and has a fate at each output.
     for row in inputs:
         require(re.search("^" + " +".join([*row, "0", "0", row[-1]]) + "$", out, re.M), f"no row of {row} in\n{out}")
+    require(made == "0" or re.search(rf"^made .* {made}$", out, re.M), f"no row of {made} that were made in\n{out}")
     for index, *numbers in outputs:
         sums = Counter()
         for (output, _, fate), count in picture.counts.items():
             sums[fate] += count if output == index else 0
         require([sums[fate] for fate in FATES] == numbers, f"output {index}: {sums}, and the account has {numbers}")
-        for source, *_, gathered in inputs:
+        for source, *_, gathered in [*inputs, ("made", made)]:
             routed = sum(count for key, count in picture.counts.items() if key[:2] == (index, source))
             require(routed == int(gathered), f"output {index}: {routed} metrics of {source}, and {gathered} were gathered")
-        total = re.search(rf"^output {index} .*\n(?:input .*\n)*total +(.*)$", out, re.M)
+        total = re.search(rf"^output {index} .*\n(?:(?:input|made) .*\n)*total +(.*)$", out, re.M)
         require([int(it) for it in total[1].split()] == numbers, f"output {index}: the table has the totals {total[1]}")
     require(len(outputs) == len(re.findall(r"^output ", out, re.M)), "there is another number of tables than of outputs")
 
@@ -242,7 +250,7 @@ def random_runs(program, folder):
         require(not named, f"seed {seed}: the picture has {named}")
         for key, count in picture.counts.items():
             totals[key[2]] += count
-    missing = [fate for fate in ("filtered", "written", "buffered", "dropped") if not totals[fate]]
+    missing = [fate for fate in FATES if not totals[fate]]
     require(not missing, f"no metric is {missing}")
     return f"{RANDOM_RUNS} runs, " + ", ".join(f"{totals[fate]} {fate}" for fate in FATES if totals[fate])
 

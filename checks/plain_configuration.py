@@ -224,6 +224,7 @@ AGENT = {
     "gather_pieces": count(10_000),
     "final_tries": count(100),
     "workers": truth,
+    "skip_processors_after_aggregators": truth,
     "journal": place,
 } | {key: lambda value: None for key in ANY}
 PLUGIN = {
@@ -260,10 +261,31 @@ PROCESSORS = {
     "regex": PROCESSOR | {"fields": REWRITING, "tags": REWRITING},
     "rename": PROCESSOR | {"replace": REPLACEMENTS},
 }
+STATISTICS = ("sum", "count", "min", "max")
+
+
+def statistics(value):
+    if not are_texts(value):
+        return "WrongType"
+    return None if all(it in STATISTICS for it in value) else "OutOfRange"
+
+
+AGGREGATOR = {key: fault for key, fault in PLUGIN.items() if key != "files"} | {
+    "period": time,
+    "delay": time_from(0),
+    "grace": time_from(0),
+    "drop_original": truth,
+}
+AGGREGATORS = {
+    "basicstats": AGGREGATOR | {"stats": statistics},
+    "final": AGGREGATOR | {"series_timeout": time_from(0)},
+    "merge": AGGREGATOR,
+    "minmax": AGGREGATOR,
+}
 KINDS = {
     "inputs": {"file": INPUT},
     "processors": PROCESSORS,
-    "aggregators": {},
+    "aggregators": AGGREGATORS,
     "outputs": {"file": OUTPUT},
 }
 
@@ -306,7 +328,7 @@ def plugin_fault(word, kind, value, limits):
     fault = key_fault(KINDS[word][kind], value)
     if fault:
         return fault
-    if word != "processors" and "files" not in value:
+    if word in ("inputs", "outputs") and "files" not in value:
         return "Missing"
     if word == "outputs":
         batch, limit = limits_of(value, *limits)

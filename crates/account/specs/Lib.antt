@@ -9,3 +9,4 @@ pub mod Gathers
 pub mod Dones
 pub mod EntryMoments
 pub mod Routes
+pub mod AggLines

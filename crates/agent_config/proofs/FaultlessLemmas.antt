@@ -82,6 +82,9 @@ Ins root = plugins_at (codes "inputs") root
 abbrev Outs : Members → List Plugin
 Outs root = plugins_at (codes "outputs") root
 
+abbrev Aggs : Members → List Plugin
+Aggs root = plugins_at (codes "aggregators") root
+
 abbrev AgentIn : Members → Members
 AgentIn root = table_at (codes "agent") root
 
@@ -91,6 +94,7 @@ pub record IsFaultless (root : Members) : Type 0 where
   pub tags : global_faults (table_at (codes "global_tags") root) ≡ []
   pub ins : HasNone class.Inputs (agent_limits (AgentIn root)) (Ins root)
   pub outs : HasNone class.Outputs (agent_limits (AgentIn root)) (Outs root)
+  pub aggs : HasNone class.Aggregators (agent_limits (AgentIn root)) (Aggs root)
   pub some_in : none_faults (Ins root) kinds.NoInput ≡ []
   pub some_out : none_faults (Outs root) kinds.NoOutput ≡ []
   pub ins_apart : same_faults class.Inputs 0 false [] (map (place_of class.Inputs) (few (Ins root))) ≡ []
@@ -106,7 +110,8 @@ faultless root e =
     let ins = Ins root in
     let outs = Outs root in
     let processors = class_faults class.Processors limits (plugins_at (codes "processors") root) in
-    let aggregators = class_faults class.Aggregators limits (plugins_at (codes "aggregators") root) in
+    let aggs = Aggs root in
+    let aggregators = class_faults class.Aggregators limits aggs in
     let in_faults = class_faults class.Inputs limits ins in
     let out_faults = class_faults class.Outputs limits outs in
     let classes = classes_faults limits (classes_of root) in
@@ -126,6 +131,8 @@ faultless root e =
     let root_values = at class.Root 0 (root_value_faults root) in
     let in_agent = at class.Agent 0 (agent_faults agent) in
     let in_tags = at class.GlobalTags 0 (global_faults tags) in
+    let behind_processors = rest_none processors (aggregators ++ out_faults) (rest_none in_faults
+    (processors ++ (aggregators ++ out_faults)) in_classes) in
     let both = rest_none root_values (in_agent ++ in_tags) (rest_none root_keys
     (root_values ++ (in_agent ++ in_tags)) tables) in
     record {
@@ -133,9 +140,8 @@ faultless root e =
       tags = none_at class.GlobalTags 0 (global_faults tags) (rest_none in_agent in_tags both);
       ins = class_none class.Inputs limits ins (front_none in_faults (processors ++ (aggregators ++ out_faults))
           in_classes);
-      outs = class_none class.Outputs limits outs (rest_none aggregators out_faults
-          (rest_none processors (aggregators ++ out_faults) (rest_none in_faults
-          (processors ++ (aggregators ++ out_faults)) in_classes)));
+      outs = class_none class.Outputs limits outs (rest_none aggregators out_faults behind_processors);
+      aggs = class_none class.Aggregators limits aggs (front_none aggregators out_faults behind_processors);
       some_in = front_none no_input (no_output ++ (same_ins ++ same_outs)) others;
       some_out = front_none no_output (same_ins ++ same_outs) behind;
       ins_apart = front_none same_ins same_outs same;

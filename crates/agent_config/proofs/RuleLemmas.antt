@@ -16,7 +16,8 @@ one_has_dest : (members : Members) →
     All HasDest (unless (length (inner_text (codes "dest") members) == 0) (replacement_of members))
 one_has_dest members =
     let dest = inner_text (codes "dest") members in
-    elim (length dest == 0) as (λ none. (length dest == 0) ≡ none → All HasDest (unless none (replacement_of members))) [
+    elim (length dest == 0) as (λ none. (length dest == 0) ≡ none → All HasDest (unless none
+    (replacement_of members))) [
       | true ↦ λ e. All-nil HasDest
       | false ↦ λ e. All-cons HasDest (replacement_of members) [] (filled dest e) (All-nil HasDest)
     ] refl

@@ -3,13 +3,17 @@ use Rattle.std.proofs.Common.{◌≡◌, ◌≤◌, ◌+◌, ◌==◌, ℕ, ℤ,
 use Rattle.std.proofs.Common.{List, [], ◌∷◌, ◌++◌, length, map, Option, Some, None, refl, sym, ap, ◌∙◌, subst}
 use Rattle.std.proofs.Common.{arith, option_map}
 use Rattle.std.proofs.lemmas.Bool.{leb-true, eqb-false}
+use Rattle.std.proofs.lemmas.Int.{ints}
 use Rattle.std.proofs.lemmas.List.{length-map}
 use Rattle.std.proofs.lemmas.List.Elements.{All-from_recursion, All-map}
 use Rattle.std.proofs.lemmas.List.Folds.{list_any-append}
 use Rattle.std.specs.List.{AllByRecursion, IsDistinct, list_any}
-use Rattle.std.specs.Prelude.{◌&&◌, ◌||◌, codes, if◌then◌else◌, is_some, nat_le, option_and_then}
+use Rattle.std.specs.Int.Signed.{le_z_yes}
+use Rattle.std.specs.Prelude.{◌&&◌, ◌||◌, ◌≤ℤ◌, codes, if◌then◌else◌, int_le, is_some, nat_le, option_and_then}
 use Rattle.std.specs.Str.{bytes_eq}
 use Rattle.toml.specs.Data.{Members, no_members, member, as_integer, as_str, as_table, get_member}
+use Rattle.agent_config.specs.Aggs.{agg_of}
+use Rattle.agent_config.specs.Filters.{plugin_members}
 use Rattle.agent_config.specs.Faults.{Plugin, faults_by, faults_in, faults_of, global_faults}
 use Rattle.agent_config.specs.Faults.{global_tag_faults, is_journal_faulty, journal_of, keys_faults, missing_faults}
 use Rattle.agent_config.specs.Faults.{none_faults}
@@ -17,10 +21,10 @@ use Rattle.agent_config.specs.Faults.{numbered, only_follows, place_of, plugin_f
 use Rattle.agent_config.specs.Faults.{text_faults}
 use Rattle.agent_config.specs.Faults.{tree_of, unknown_faults}
 use Rattle.agent_config.specs.Found.{at, whole, wrong}
-use Rattle.agent_config.specs.Kinds.{agent_limits, agent_number, kind_keys, kind_of, limits_faults, needs}
-use Rattle.agent_config.specs.Kinds.{number_at, output_kind, own_limits}
-use Rattle.agent_config.specs.Rows.{counted_or, members_in, table_at}
-use Rattle.agent_config.specs.Sound.{HasSizes, IsCounted, IsFilled, IsSound}
+use Rattle.agent_config.specs.Kinds.{agent_limits, agent_number, aggregator_kind, kind_keys, kind_of}
+use Rattle.agent_config.specs.Kinds.{limits_faults, needs, number_at, output_kind, own_limits, time_at}
+use Rattle.agent_config.specs.Rows.{counted_or, members_in, table_at, time_in, timed_or}
+use Rattle.agent_config.specs.Sound.{HasSizes, HasTimes, IsCounted, IsFilled, IsSound}
 use Rattle.agent_config.specs.Unless.{unless}
 use Rattle.agent_config.specs.Values.{config_of, global_tag, globals_of, input_of, output_of}
 use Rattle.agent_config.specs.declared.config.Config.{Config}
@@ -30,6 +34,8 @@ use Rattle.agent_config.specs.declared.fault.Class.{Class}
 use Rattle.agent_config.specs.declared.fault.Class.TheVariants as class
 use Rattle.agent_config.specs.declared.fault.FaultKind.{FaultKind}
 use Rattle.agent_config.specs.declared.fault.FaultKind.TheVariants as kinds
+use Rattle.agent_config.specs.declared.shapes.TimeRow.{TimeRow}
+use Rattle.agent_config.specs.declared.table.Keys.{Keys}
 use Rattle.agent_config.specs.declared.table.Keys.TheVariants as keys
 use Rattle.agent_config.specs.declared.table.Kind.{Kind}
 use Rattle.agent_config.specs.declared.table.Kind.TheVariants as kind
@@ -184,6 +190,79 @@ all_sized limits number (plugin ∷ plugins) h known e =
           (rest_none (at class.Outputs number (bad plugin)) (numbered class.Outputs bad (number + 1) plugins) e),
     )
 
+-- ---- aggregators
+
+-- a time that is counted, where a test of it answers so
+time_if : (row : TimeRow) (time : ℤ) (long : Bool) → int_le row.least time ≡ long → row.least ≤ℤ row.usual
+    → row.least ≤ℤ (if long then time else row.usual)
+time_if row time true e h = grind (arith, ints)
+time_if row time false e h = h
+
+timed : (row : TimeRow) (time : Option ℤ) → row.least ≤ℤ row.usual → row.least ≤ℤ timed_or row time
+timed row None h = h
+timed row (Some time) h = time_if row time (int_le row.least time) refl h
+
+-- three times that are long enough
+record AreTimed (p d g : ℤ) : Type 0 where
+  period : pos 1 ≤ℤ p
+  delay : pos 0 ≤ℤ d
+  grace : pos 0 ≤ℤ g
+
+-- those at the keys of a table
+abbrev TimedAt : Keys → Members → Type 0
+TimedAt keys members =
+    AreTimed (time_at keys (codes "period") members) (time_at keys (codes "delay") members)
+    (time_at keys (codes "grace") members)
+
+-- what is said at a key
+abbrev said_at : List ℕ → Members → Option ℤ
+said_at key members = option_and_then time_in (get_member key members)
+
+-- the times that each kind of aggregators has
+all_timed : (members : Members)
+    → AreTimed (timed_or (record { least = pos 1; usual = pos 30000000000 }) (said_at (codes "period") members))
+    (timed_or (record { least = pos 0; usual = pos 100000000 }) (said_at (codes "delay") members))
+    (timed_or (record { least = pos 0; usual = pos 0 }) (said_at (codes "grace") members))
+all_timed members = record {
+  period = timed (record { least = pos 1; usual = pos 30000000000 }) (said_at (codes "period") members) (le_z_yes tt);
+  delay = timed (record { least = pos 0; usual = pos 100000000 }) (said_at (codes "delay") members) (le_z_yes tt);
+  grace = timed (record { least = pos 0; usual = pos 0 }) (said_at (codes "grace") members) (le_z_yes tt);
+}
+
+-- of the kinds of aggregators
+kind_timed : (basicstats final merge minmax : Bool) (members : Members) → is_some (if basicstats then
+    Some kind.BasicStats else if final then Some kind.Final else if merge then Some kind.Merge else if minmax then
+    Some kind.MinMax else None) ≡ true
+    → TimedAt (kind_keys (if basicstats then Some kind.BasicStats else if final then Some kind.Final else if merge then
+    Some kind.Merge else if minmax then Some kind.MinMax else None)) members
+unfolding time_at
+kind_timed true final merge minmax members known = all_timed members
+kind_timed false true merge minmax members known = all_timed members
+kind_timed false false true minmax members known = all_timed members
+kind_timed false false false true members known = all_timed members
+kind_timed false false false false _ known = cc
+
+-- an aggregator whose kind is known
+lined : (plugin : Plugin) → unknown_faults class.Aggregators plugin ≡ [] → HasTimes (agg_of plugin)
+unfolding kind_of
+lined plugin known =
+    let times = kind_timed (bytes_eq plugin.name (codes "basicstats")) (bytes_eq plugin.name (codes "final"))
+    (bytes_eq plugin.name (codes "merge")) (bytes_eq plugin.name (codes "minmax")) (plugin_members plugin)
+    (holds (is_some (aggregator_kind plugin.name)) (wrong kinds.UnknownKind plugin.name) known) in
+    record { period = times.period; delay = times.delay; grace = times.grace }
+
+all_lined : (number : ℕ) (plugins : List Plugin)
+    → numbered class.Aggregators (unknown_faults class.Aggregators) number plugins ≡ []
+    → AllByRecursion (λ plugin. HasTimes (agg_of plugin)) plugins
+all_lined number [] known = tt
+all_lined number (plugin ∷ plugins) known =
+    let unknown = unknown_faults class.Aggregators in
+    let first = at class.Aggregators number (unknown plugin) in
+    let others = numbered class.Aggregators unknown (number + 1) plugins in (
+      lined plugin (none_at class.Aggregators number (unknown plugin) (front_none first others known)),
+      all_lined (number + 1) plugins (rest_none first others known),
+    )
+
 -- ---- global tags
 
 some_length : (text : List ℕ) → (length text == 0) ≡ false → 1 ≤ length text
@@ -243,6 +322,7 @@ sound_tree root none =
     let journal = journal_of agent in
     let ins = plugins_at (codes "inputs") root in
     let outs = plugins_at (codes "outputs") root in
+    let aggs = plugins_at (codes "aggregators") root in
     let ins_apart = apart class.Inputs 0 false [] (map (place_of class.Inputs) ins)
     (subst (λ (them : List Plugin). same_faults class.Inputs 0 false [] (map (place_of class.Inputs) them) ≡ [])
     none.ins.all none.ins_apart) in
@@ -254,6 +334,9 @@ sound_tree root none =
       inputs = counted_plugins input_of ins (some_plugins ins kinds.NoInput none.some_in) none.ins.are_few;
       outputs = counted_plugins (output_of limits) outs (some_plugins outs kinds.NoOutput none.some_out)
           none.outs.are_few;
+      aggs = omega (arith, none.aggs.are_few, length-map aggs agg_of);
+      times = All-map HasTimes agg_of aggs (All-from_recursion (λ (plugin : Plugin). HasTimes (agg_of plugin)) aggs
+          (all_lined 0 aggs none.aggs.known));
       inputs_apart = subst (IsDistinct bytes_eq) (input_places ins) ins_apart.1;
       outputs_apart = subst (λ (places : List (List ℕ)). IsDistinct bytes_eq (journal ∷ places))
           (output_places limits outs)

@@ -55,7 +55,8 @@ module _ {B X : Type 0} (now : B → X) (read : Data → Option X) where
       → i < length values → None ≡ read (view (get_or values i d)) → AllSoFar now read taken (drop i values) values
       → None ≡ all_of read (items_view values)
   all_none taken values i d lt none so_far =
-      sym (ap (option_map (λ rest. map now taken ++ rest)) (ap (λ vs. all_of read (items_view vs)) (drop_more values i d lt)
+      sym (ap (option_map (λ rest. map now taken ++ rest)) (ap (λ vs. all_of read (items_view vs))
+      (drop_more values i d lt)
       ∙ none_there (view (get_or values i d)) (items_view (drop (i + 1) values)) none))
       ∙ so_far
 
@@ -63,5 +64,6 @@ module _ {B X : Type 0} (now : B → X) (read : Data → Option X) where
       → AllSoFar now read taken (drop i values) values → Some (map now taken) ≡ all_of read (items_view values)
   all_all taken values i past so_far =
       ap Some (sym (append-nil (map now taken)))
-      ∙ sym (ap (λ vs. option_map (λ rest. map now taken ++ rest) (all_of read (items_view vs))) (drop_all i values past))
+      ∙ sym (ap (λ vs. option_map (λ rest. map now taken ++ rest) (all_of read (items_view vs)))
+      (drop_all i values past))
       ∙ so_far

@@ -14,7 +14,7 @@ use Rattle.metric.specs.Glob.{glob_of}
 use Rattle.format_words.specs.Template.{template_of}
 use Rattle.format_words.specs.Template.{Shape as Template}
 use Rattle.agent_config.specs.Found.{Found, Wrong, at, fault_of, whole, wrong, wrong_text}
-use Rattle.agent_config.specs.Keys.{is_one_of, is_root_key, names_of}
+use Rattle.agent_config.specs.Keys.{is_one_of, is_root_key, names_of, statistics}
 use Rattle.agent_config.specs.Kinds.{agent_limits, kind_of, limits_faults, needs, own_faults, place_key, row_of}
 use Rattle.agent_config.specs.Kinds.{text_at}
 use Rattle.agent_config.specs.Rows.{is_counted, is_long_enough, is_no_text, members_in, table_at, time_in}
@@ -22,7 +22,7 @@ use Rattle.agent_config.specs.Unless.{unless}
 use Rattle.agent_config.specs.declared.shapes.Shape.{Shape}
 use Rattle.agent_config.specs.declared.shapes.Shape.TheVariants.{Anything, Count, Truth, Place, AnyText, Files}
 use Rattle.agent_config.specs.declared.shapes.Shape.TheVariants.{OneOf, Templates, Time, Globs, TagGlobs}
-use Rattle.agent_config.specs.declared.shapes.Shape.TheVariants.{WholeNumber, Table, Tables}
+use Rattle.agent_config.specs.declared.shapes.Shape.TheVariants.{WholeNumber, Table, Tables, Statistics}
 use Rattle.agent_config.specs.Inner.{count_of, inner_key, inner_needs, sources}
 use Rattle.agent_config.specs.declared.inner.Inner.{Inner}
 use Rattle.agent_config.specs.declared.inner.Inner.TheVariants.{Replacement}
@@ -110,6 +110,17 @@ glob_faults key (text ∷ texts) = unless (is_glob text) (wrong_text BadGlob key
 abbrev pub list_faults : List ℕ → Option (List (List ℕ)) → List Wrong
 list_faults key None = wrong WrongType key ∷ []
 list_faults key (Some texts) = glob_faults key texts
+
+-- the texts at a key that are no names of statistics, each OutOfRange
+abbrev pub statistic_faults : List ℕ → List (List ℕ) → List Wrong
+statistic_faults key [] = []
+statistic_faults key (text ∷ texts) =
+    unless (is_one_of statistics text) (wrong_text OutOfRange key text) ++ statistic_faults key texts
+
+-- the faults of a list of names of statistics: WrongType where it is no list of texts
+abbrev pub statistics_faults : List ℕ → Option (List (List ℕ)) → List Wrong
+statistics_faults key None = wrong WrongType key ∷ []
+statistics_faults key (Some texts) = statistic_faults key texts
 
 -- the template that a text spells; None where it spells none
 unfoldable pub template_in : List ℕ → Option Template
@@ -233,6 +244,7 @@ value_faults key TagGlobs value = tagged_faults key (as_table value)
 value_faults key WholeNumber value = unless (is_some (as_integer value)) (wrong WrongType key)
 value_faults key (Table kind) value = table_value_faults key kind (as_table value)
 value_faults key (Tables kind) value = tables_faults key kind (tables_in value)
+value_faults key Statistics value = statistics_faults key (texts_in value)
 
 -- ---- tables
 

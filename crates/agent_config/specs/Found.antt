@@ -8,7 +8,8 @@ use Rattle.agent_config.specs.declared.fault.Found.{Found as FoundThere}
 use Rattle.agent_config.specs.declared.fault.Wrong.{Wrong as WrongThere}
 
 -- What is wrong with a table: the kind; the key that it is about, or the name of a plugin's kind; the text in the
--- key's value that is none of what the key takes, or the key of a table in that value; and whether it only follows from another fault, by the default that
+-- key's value that is none of what the key takes, or the key of a table in that value; and whether it only follows from
+-- another fault, by the default that
 -- stands in a faulty value's place, or by a place that no value says.
 pub record Wrong : Type 0 where
   pub kind : FaultKind

@@ -10,7 +10,7 @@ use Rattle.agent_config.specs.declared.shapes.UsualText.TheVariants.{Journal, Po
 use Rattle.agent_config.specs.declared.shapes.Shape.TheVariants.{Anything, Count, Truth, Place, AnyText, Files}
 use Rattle.agent_config.specs.declared.inner.Inner.TheVariants.{Replacement, FieldTargets, TagTargets, Rewriting}
 use Rattle.agent_config.specs.declared.shapes.Shape.TheVariants.{OneOf, Templates, Time, Globs, TagGlobs}
-use Rattle.agent_config.specs.declared.shapes.Shape.TheVariants.{WholeNumber, Table, Tables}
+use Rattle.agent_config.specs.declared.shapes.Shape.TheVariants.{WholeNumber, Table, Tables, Statistics}
 
 -- is the key one of these
 abbrev pub is_one_of : List (List ℕ) → List ℕ → Bool
@@ -20,6 +20,10 @@ is_one_of names key = list_any (λ name. bytes_eq key name) names
 abbrev pub names_of : Names → List (List ℕ)
 names_of ReadFormats = codes "influx" ∷ codes "statsd" ∷ codes "graphite" ∷ codes "openmetrics" ∷ []
 names_of WrittenFormats = codes "influx" ∷ codes "graphite" ∷ codes "openmetrics" ∷ []
+
+-- the names of the statistics
+abbrev pub statistics : List (List ℕ)
+statistics = codes "sum" ∷ codes "count" ∷ codes "min" ∷ codes "max" ∷ []
 
 -- the one of them where nothing is said
 abbrev pub usual_name : Names → List ℕ
@@ -68,6 +72,7 @@ abbrev pub agent_key : List ℕ → Option Shape
 agent_key key =
     if bytes_eq key (codes "flush_interval") then time_from 1 10000000000
     else if bytes_eq key (codes "workers") then Some (Truth true)
+    else if bytes_eq key (codes "skip_processors_after_aggregators") then Some (Truth false)
     else if bytes_eq key (codes "journal") then Some (Place Journal)
     else if is_unused key then Some Anything
     else agent_number_key key
@@ -132,3 +137,23 @@ regex_key key =
 -- of one that renames
 abbrev pub rename_key : List ℕ → Option Shape
 rename_key key = if bytes_eq key (codes "replace") then Some (Tables Replacement) else processor_key key
+
+-- ---- aggregators
+
+-- what a key takes that each aggregator has: a period of 30 s, a delay of 100 ms and no grace where nothing is said
+abbrev pub aggregator_key : List ℕ → Option Shape
+aggregator_key key =
+    if bytes_eq key (codes "period") then time_from 1 30000000000
+    else if bytes_eq key (codes "delay") then time_from 0 100000000
+    else if bytes_eq key (codes "grace") then time_from 0 0
+    else if bytes_eq key (codes "drop_original") then Some (Truth false)
+    else plugin_key key
+
+-- what a key of one of statistics takes
+abbrev pub basicstats_key : List ℕ → Option Shape
+basicstats_key key = if bytes_eq key (codes "stats") then Some Statistics else aggregator_key key
+
+-- of one that gives last metrics: a timeout of five minutes where nothing is said
+abbrev pub final_key : List ℕ → Option Shape
+final_key key =
+    if bytes_eq key (codes "series_timeout") then time_from 0 300000000000 else aggregator_key key

@@ -6,20 +6,21 @@ use Rattle.std.specs.Str.{bytes_eq}
 use Rattle.toml.specs.Data.{Members, as_integer, get_member}
 use Rattle.agent_config.specs.Found.{Wrong, whole}
 use Rattle.agent_config.specs.Keys.{agent_key, converter_key, dedup_key, file_input_key, file_output_key, regex_key}
-use Rattle.agent_config.specs.Keys.{rename_key}
+use Rattle.agent_config.specs.Keys.{aggregator_key, basicstats_key, final_key, rename_key}
 use Rattle.agent_config.specs.Rows.{count_row, faulty_by, row_number, row_text, row_time, row_truth, usual_of}
 use Rattle.agent_config.specs.Unless.{unless}
 use Rattle.agent_config.specs.declared.fault.Class.{Class}
-use Rattle.agent_config.specs.declared.fault.Class.TheVariants.{Inputs, Outputs, Processors}
+use Rattle.agent_config.specs.declared.fault.Class.TheVariants.{Aggregators, Inputs, Outputs, Processors}
 use Rattle.agent_config.specs.declared.fault.FaultKind.TheVariants.{BatchAboveLimit}
 use Rattle.agent_config.specs.declared.shapes.Shape.{Shape}
 use Rattle.agent_config.specs.declared.table.Keys.{Keys}
 use Rattle.agent_config.specs.declared.table.Keys.TheVariants.{Agent, Plugin, Unknown}
 use Rattle.agent_config.specs.declared.table.Kind.{Kind}
 use Rattle.agent_config.specs.declared.table.Kind.TheVariants.{FileInput, FileOutput, Converter, Dedup, Regex, Rename}
+use Rattle.agent_config.specs.declared.table.Kind.TheVariants.{BasicStats, Final, Merge, MinMax}
 use Rattle.agent_config.specs.declared.tables.Limits.{Limits}
 
--- the kind of inputs, that of outputs, and that of processors, of a name
+-- the kind of inputs, that of outputs, that of processors, and that of aggregators, of a name
 abbrev pub input_kind : List ℕ → Option Kind
 input_kind name = if bytes_eq name (codes "file") then Some FileInput else None
 
@@ -34,11 +35,20 @@ processor_kind name =
     else if bytes_eq name (codes "rename") then Some Rename
     else None
 
+abbrev pub aggregator_kind : List ℕ → Option Kind
+aggregator_kind name =
+    if bytes_eq name (codes "basicstats") then Some BasicStats
+    else if bytes_eq name (codes "final") then Some Final
+    else if bytes_eq name (codes "merge") then Some Merge
+    else if bytes_eq name (codes "minmax") then Some MinMax
+    else None
+
 -- the kind of a class that has a name
 unfoldable pub kind_of : Class → List ℕ → Option Kind
 kind_of Inputs name = input_kind name
 kind_of Outputs name = output_kind name
 kind_of Processors name = processor_kind name
+kind_of Aggregators name = aggregator_kind name
 kind_of class name = None
 
 -- what a key of a plugin of a kind takes
@@ -49,6 +59,10 @@ kind_key Converter key = converter_key key
 kind_key Dedup key = dedup_key key
 kind_key Regex key = regex_key key
 kind_key Rename key = rename_key key
+kind_key BasicStats key = basicstats_key key
+kind_key Final key = final_key key
+kind_key Merge key = aggregator_key key
+kind_key MinMax key = aggregator_key key
 
 -- the keys that a plugin of a kind needs
 abbrev pub needs : Kind → List (List ℕ)

@@ -1,3 +1,4 @@
+pub mod Aggs
 pub mod Durations
 pub mod Faults
 pub mod FaultyKey

@@ -55,6 +55,7 @@ takes_of shapes.TagGlobs = takes.TagGlobs
 takes_of shapes.WholeNumber = takes.WholeNumber
 takes_of (shapes.Table inner) = inner_takes inner
 takes_of (shapes.Tables inner) = inner_takes inner
+takes_of shapes.Statistics = takes.Statistics
 
 -- ---- plugins as their file has them
 

@@ -2,6 +2,8 @@
 use Rattle.std.specs.Prelude.{◌≤◌, ℕ, List, ◌∷◌, length, map}
 use Rattle.std.specs.List.{All, IsDistinct}
 use Rattle.std.specs.Str.{bytes_eq}
+use Rattle.account.specs.AggLines.{IsLine}
+use Rattle.agent_config.specs.declared.config.AggConf.{AggConf}
 use Rattle.agent_config.specs.declared.config.Config.{Config}
 use Rattle.agent_config.specs.declared.config.InputConf.{InputConf}
 use Rattle.agent_config.specs.declared.config.OutputConf.{OutputConf}
@@ -20,11 +22,17 @@ pub record HasSizes (output : OutputConf) : Type 0 where
 abbrev pub IsFilled : List ℕ × List ℕ → Type 0
 IsFilled tag = (1 ≤ length tag.0) × (1 ≤ length tag.1)
 
--- There are inputs and outputs, and at most 16 of each; no two inputs have one place, and no two of the journal
--- and the outputs; all numbers are in their ranges.
+-- the period of an aggregator is at least 1 ns, its delay and its grace are at least 0 ns
+abbrev pub HasTimes : AggConf → Type 0
+HasTimes agg = IsLine agg.line
+
+-- There are inputs and outputs, and at most 16 of each, and of aggregators; no two inputs have one place, and no two of
+-- the journal and the outputs; all numbers are in their ranges.
 pub record IsSound (config : Config) : Type 0 where
   pub inputs : IsCounted 16 (length config.inputs)
   pub outputs : IsCounted 16 (length config.outputs)
+  pub aggs : length config.aggs ≤ 16
+  pub times : All HasTimes config.aggs
   pub inputs_apart : IsDistinct bytes_eq (map (λ (input : InputConf). input.place) config.inputs)
   pub outputs_apart : IsDistinct bytes_eq
       (config.agent.journal ∷ map (λ (output : OutputConf). output.place) config.outputs)

@@ -4,6 +4,7 @@ use Rattle.std.specs.Prelude.{codes, Option, Some, None, option_and_then, option
 use Rattle.std.specs.Str.{bytes_eq}
 use Rattle.toml.specs.Data.{Members, no_members, member, get_member, as_str}
 use Rattle.format_words.specs.Template.{Shape as Template}
+use Rattle.agent_config.specs.Aggs.{agg_of}
 use Rattle.agent_config.specs.Faults.{Plugin, journal_of, place_of, plugins_at, template_in, texts_in}
 use Rattle.agent_config.specs.Filters.{filter_of, plugin_members}
 use Rattle.agent_config.specs.Kinds.{agent_limits, agent_number, keys_of, own_limits, text_at, time_at}
@@ -31,7 +32,7 @@ agent_of agent = record {
   gather_pieces = agent_number (codes "gather_pieces") agent;
   final_tries = agent_number (codes "final_tries") agent;
   flush_interval = time_at Agent (codes "flush_interval") agent;
-  skip_second = false;
+  skip_second = truth_at Agent (codes "skip_processors_after_aggregators") agent;
   workers = truth_at Agent (codes "workers") agent;
   journal = journal_of agent;
 }
@@ -120,6 +121,7 @@ config_of root = record {
   globals = globals_of (table_at (codes "global_tags") root);
   inputs = map input_of (plugins_at (codes "inputs") root);
   steps = map step_of (in_order (plugins_at (codes "processors") root));
+  aggs = map agg_of (plugins_at (codes "aggregators") root);
   outputs = map (output_of (agent_limits (table_at (codes "agent") root))) (plugins_at
       (codes "outputs") root);
 }

@@ -27,6 +27,7 @@ pub(crate) fn agent_key(key: &str) -> Option<Shape>
             usual: USUAL_INTERVAL,
         })),
         "workers" => Some(Shape::Truth(true)),
+        "skip_processors_after_aggregators" => Some(Shape::Truth(false)),
         "journal" => Some(Shape::Place(UsualText::Journal)),
         _ => {
             if is_unused(key) {

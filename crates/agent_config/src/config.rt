@@ -1,4 +1,5 @@
 //! What a configuration says.
+use account::AggLine;
 use fixed_num::Seq;
 use format_words::{InFormat, OutFormat};
 use metric::Text;
@@ -52,6 +53,15 @@ pub struct OutputConf {
     pub filter: Filter,
 }
 
+/// An aggregator.
+#[derive(Debug, Drop)]
+pub struct AggConf {
+    /// What it sees of a metric.
+    pub filter: Filter,
+    /// Its kind and its windows, as the head of a journal has them.
+    pub line: AggLine,
+}
+
 /// A configuration.
 #[derive(Debug, Drop)]
 pub struct Config {
@@ -63,6 +73,8 @@ pub struct Config {
     pub inputs: Seq<InputConf>,
     /// The steps that each metric goes through, in order.
     pub steps: Seq<Step>,
+    /// The aggregators, in the order of their numbers.
+    pub aggs: Seq<AggConf>,
     /// The outputs, in the order of their numbers.
     pub outputs: Seq<OutputConf>,
 }

@@ -3,6 +3,8 @@
 
 mod adding;
 mod agent_keys;
+mod aggregator_keys;
+mod aggs;
 mod class_faults;
 mod config;
 mod decimals;
@@ -39,7 +41,7 @@ mod times;
 mod usual;
 mod values;
 
-pub use config::{AgentConf, Config, InputConf, OutputConf};
+pub use config::{AgentConf, AggConf, Config, InputConf, OutputConf};
 pub use fault::{Class, ConfigFault, ConfigKind, ListedFault};
 pub use faulty::faulty_key;
 pub use laws::written_counts;

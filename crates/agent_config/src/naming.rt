@@ -58,6 +58,8 @@ pub enum Takes {
     TagTargets,
     /// A list of tables of how texts are rewritten.
     Rewritings,
+    /// A list of names of statistics.
+    Statistics,
 }
 
 /// What a key takes of the table `agent`, or of a plugin of a class whose kind has this name; None where it isn't known.
@@ -105,6 +107,7 @@ fn takes_of(shape: Shape) -> Takes
         Shape::TagGlobs => Takes::TagGlobs,
         Shape::WholeNumber => Takes::WholeNumber,
         Shape::Table(inner) | Shape::Tables(inner) => inner_takes(inner),
+        Shape::Statistics => Takes::Statistics,
     }
 }
 

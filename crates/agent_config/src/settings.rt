@@ -5,6 +5,7 @@ ghost use Rattle.toml.specs.View.{table_view, view};
 ghost use Rattle.agent_config.specs.Plugins.{plugin_view, plugins_view};
 ghost use Rattle.agent_config.specs.Values.{agent_of, config_of, global_tag, globals_of, input_of, output_of};
 
+use crate::aggs::aggs_of;
 use crate::config::{AgentConf, Config, InputConf, OutputConf};
 use crate::fault::Class;
 use crate::filters::filter_of;
@@ -38,6 +39,7 @@ pub(crate) fn config_of<'a>(
         globals: globals_of(alloc, table_at(root, "global_tags", empty))?,
         inputs: inputs_of(alloc, classes.inputs.as_slice(), empty)?,
         steps: steps_of(alloc, classes.processors.as_slice(), empty)?,
+        aggs: aggs_of(alloc, classes.aggregators.as_slice(), empty)?,
         outputs: outputs_of(alloc, &limits, classes.outputs.as_slice(), empty)?,
     })
 }
@@ -50,7 +52,7 @@ pub(crate) fn agent_of(alloc: Global, agent: &Table) -> Result<AgentConf, OutOfM
         gather_pieces: agent_number(agent, "gather_pieces"),
         final_tries: agent_number(agent, "final_tries"),
         flush_interval: time_at(alloc, &Keys::Agent, agent, "flush_interval")?,
-        skip_second: false,
+        skip_second: truth_at(&Keys::Agent, agent, "skip_processors_after_aggregators"),
         workers: truth_at(&Keys::Agent, agent, "workers"),
         journal: Text::of(alloc, journal_of(agent))?,
     })

@@ -1,6 +1,6 @@
 //! What keys take.
 ghost use Rattle.std.specs.Prelude.{◌≡◌};
-ghost use Rattle.agent_config.specs.Keys.{count_to, is_one_of, names_of, text_of, usual_name};
+ghost use Rattle.agent_config.specs.Keys.{count_to, is_one_of, names_of, statistics, text_of, usual_name};
 
 use crate::inner::Inner;
 
@@ -67,6 +67,13 @@ fn is_written_format(name: &str) -> bool
     matches!(name, "influx" | "graphite" | "openmetrics")
 }
 
+/// Is it the name of a statistic?
+pub(crate) fn is_statistic(name: &str) -> bool
+    ensures { result ≡ is_one_of statistics name.now }
+{
+    matches!(name, "sum" | "count" | "min" | "max")
+}
+
 /// What a text is where nothing is said.
 #[derive(Clone, Copy)]
 pub(crate) enum UsualText {
@@ -119,6 +126,8 @@ pub(crate) enum Shape {
     Table(Inner),
     /// A list of tables of keys of their own.
     Tables(Inner),
+    /// A list of names of statistics.
+    Statistics,
 }
 
 /// The row of a whole number from 1 on.

@@ -4,10 +4,11 @@ ghost use Rattle.toml.specs.View.{table_view};
 ghost use Rattle.agent_config.specs.Faults.{missing_faults};
 ghost use Rattle.agent_config.specs.Found.{Adds};
 ghost use Rattle.agent_config.specs.Kinds.{input_kind, keys_of, kind_key, kind_of, needs, output_kind};
-ghost use Rattle.agent_config.specs.Kinds.{own_faults, place_key, processor_kind, row_of};
+ghost use Rattle.agent_config.specs.Kinds.{aggregator_kind, own_faults, place_key, processor_kind, row_of};
 
 use crate::adding::add_unless;
 use crate::agent_keys::agent_key;
+use crate::aggregator_keys::{aggregator_key, basicstats_key, final_key};
 use crate::fault::{Class, FaultKind, Wrong};
 use crate::file_input::file_input_key;
 use crate::file_output::{add_file_output_faults, file_output_key};
@@ -32,6 +33,14 @@ pub(crate) enum Kind {
     Regex,
     /// A processor that renames.
     Rename,
+    /// An aggregator of statistics.
+    BasicStats,
+    /// An aggregator that gives last metrics.
+    Final,
+    /// An aggregator that merges.
+    Merge,
+    /// An aggregator of least and greatest values.
+    MinMax,
 }
 
 /// The kind of a class that has a name; None where there is none.
@@ -43,6 +52,7 @@ pub(crate) fn kind_of(class: &Class, name: &str) -> Option<Kind>
         Class::Inputs => input_kind(name),
         Class::Outputs => output_kind(name),
         Class::Processors => processor_kind(name),
+        Class::Aggregators => aggregator_kind(name),
         _ => None,
     }
 }
@@ -80,6 +90,19 @@ fn processor_kind(name: &str) -> Option<Kind>
     }
 }
 
+/// The kind of aggregators that has a name.
+fn aggregator_kind(name: &str) -> Option<Kind>
+    ensures { result ≡ aggregator_kind name.now }
+{
+    match name {
+        "basicstats" => Some(Kind::BasicStats),
+        "final" => Some(Kind::Final),
+        "merge" => Some(Kind::Merge),
+        "minmax" => Some(Kind::MinMax),
+        _ => None,
+    }
+}
+
 impl Kind {
     /// What a key of a plugin of this kind takes; None where it isn't known.
     fn row_of(&self, key: &str) -> Option<Shape>
@@ -92,6 +115,9 @@ impl Kind {
             Kind::Dedup => dedup_key(key),
             Kind::Regex => regex_key(key),
             Kind::Rename => rename_key(key),
+            Kind::BasicStats => basicstats_key(key),
+            Kind::Final => final_key(key),
+            Kind::Merge | Kind::MinMax => aggregator_key(key),
         }
     }
 

@@ -4,7 +4,7 @@ ghost use Rattle.toml.specs.Data.{as_str, as_table};
 ghost use Rattle.toml.specs.View.{table_view, view};
 ghost use Rattle.agent_config.specs.Faults.{file_faults, list_faults, listed_faults, name_faults};
 ghost use Rattle.agent_config.specs.Faults.{number_faults, place_faults, tag_faults, tagged_faults};
-ghost use Rattle.agent_config.specs.Faults.{templates_faults, texts_in, time_faults, value_faults};
+ghost use Rattle.agent_config.specs.Faults.{statistics_faults, templates_faults, texts_in, time_faults, value_faults};
 ghost use Rattle.agent_config.specs.Found.{Adds};
 ghost use Rattle.agent_config.specs.Keys.{names_of};
 ghost use Rattle.agent_config.specs.Rows.{is_long_enough};
@@ -15,7 +15,7 @@ use crate::inner_faults::{add_table_faults, add_tables_faults};
 use crate::rows::is_counted;
 use crate::shapes::{Names, Shape, TimeRow};
 use crate::templates::add_template_faults;
-use crate::texts::{add_glob_faults, texts_in};
+use crate::texts::{add_glob_faults, add_statistic_faults, texts_in};
 use crate::times::time_in;
 use fixed_num::OutOfMemory;
 use std::alloc::Global;
@@ -47,6 +47,7 @@ pub(crate) fn add_value_faults<'a>(
         Shape::WholeNumber => add_unless(wrongs, value.is_integer(), FaultKind::WrongType, key),
         Shape::Table(inner) => add_table_faults(alloc, wrongs, key, inner, value),
         Shape::Tables(inner) => add_tables_faults(alloc, wrongs, key, inner, value),
+        Shape::Statistics => add_statistics_faults(alloc, wrongs, key, value),
     }
 }
 
@@ -163,6 +164,22 @@ fn add_list_faults<'a>(
 {
     match texts_in(alloc, value)? {
         Some(texts) => add_glob_faults(alloc, wrongs, key, texts.as_slice()),
+        None => add_wrong(wrongs, FaultKind::WrongType, key),
+    }
+}
+
+/// Adds the faults of a list of names of statistics.
+fn add_statistics_faults<'a>(
+    alloc: Global,
+    wrongs: &mut Vec<Wrong<'a>>,
+    key: &'a str,
+    value: &'a Value,
+) -> Result<(), OutOfMemory>
+    ensures { IfOk result (λ _. Adds wrongs.old.items wrongs.new.items
+        (statistics_faults key.now (texts_in (view value.now)))) }
+{
+    match texts_in(alloc, value)? {
+        Some(texts) => add_statistic_faults(wrongs, key, texts.as_slice()),
         None => add_wrong(wrongs, FaultKind::WrongType, key),
     }
 }

@@ -31,6 +31,8 @@ pub pipe_sound : (input output : List ℕ) (batch limit : ℕ) → (output ≢ j
 pipe_sound input output batch limit apart some ordered most = record {
   inputs = (omega arith, omega arith);
   outputs = (omega arith, omega arith);
+  aggs = omega arith;
+  times = λ k d l. absurd (omega (arith, l));
   inputs_apart = apart_one input;
   outputs_apart = apart_two journal_place output apart;
   sizes = sizes_one _ (record { some = some; ordered = ordered; most = most });

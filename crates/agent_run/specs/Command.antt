@@ -63,8 +63,8 @@ IsCommand words (Pipe pipe) = IsPipe words pipe.input.now pipe.output.now pipe.b
 IsCommand words (Check place) = IsCheck words place.now
 IsCommand words (Run place) = IsRunAt words place.now
 
--- the configuration that a pipe is: one line protocol input and one line protocol output with these sizes, no
--- filter, no global tag, and what an agent has where nothing is said
+-- the configuration that a pipe is: one line protocol input and one line protocol output with these sizes, no processor,
+-- no aggregator, no filter, no global tag, and what an agent has where nothing is said
 abbrev pub pipe_config : List ℕ → List ℕ → ℕ → ℕ → Config
 pipe_config input output batch limit = record {
   agent = usual_agent;
@@ -77,5 +77,6 @@ pipe_config input output batch limit = record {
     filter = no_rules;
   } ∷ [];
   steps = [];
+  aggs = [];
   outputs = record { place = output; format = written.Influx; batch = batch; limit = limit; filter = no_rules } ∷ [];
 }

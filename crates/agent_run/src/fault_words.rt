@@ -90,6 +90,7 @@ fn taken_words(alloc: Global, taken: Takes) -> Result<String, AllocError> {
         Takes::TagGlobs =>
             "a table of lists of globs, as {host = [\"a*\"]}, under keys that aren't empty",
         Takes::WholeNumber => "a whole number, without quotes",
+        Takes::Statistics => "a list of `sum`, `count`, `min` and `max`, as [\"sum\", \"count\"]",
         Takes::Replacements => {
             "a list of tables, each with `dest` and just one of `measurement`, `tag` and `field`"
         }
@@ -135,7 +136,9 @@ fn kinds_words(class: &Class) -> &'static str {
         Class::Processors => {
             "there are no such processors; there are `converter`, `dedup`, `regex` and `rename`"
         }
-        Class::Aggregators => "there are no aggregators",
+        Class::Aggregators => {
+            "there are no such aggregators; there are `basicstats`, `final`, `merge` and `minmax`"
+        }
         _ => "there are no such plugins",
     }
 }

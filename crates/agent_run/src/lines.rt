@@ -1,4 +1,5 @@
-//! What people are told at the end of a run: what it refused, passed over, dropped and left, and why it ended so.
+//! What people are told at the end of a run: what it refused, passed over, found late, dropped and left, and why it ended
+//! so.
 use crate::shown::{Excerpt, Shown};
 use crate::status::Status;
 use agent_config::{Config, OutputConf};
@@ -173,6 +174,19 @@ fn counted(alloc: Global, number: u64, one: &str, more: &str) -> Result<String, 
     format!(in alloc; "{count} {word}")
 }
 
+/// Adds how many metrics went to no output, since an aggregator that keeps what it takes saw them outside its window.
+fn add_late(alloc: Global, line: &str, lines: &mut Vec<String>) -> Result<(), AllocError> {
+    let late = number_behind(line, "late");
+    if late == 0 {
+        return Ok(());
+    }
+    let metrics = counted(alloc, late, "metric", "metrics")?;
+    lines.push(format!(in alloc;
+        "{metrics} late, and sent to no output: outside the open window of an aggregator with drop_original"
+    )?)?;
+    Ok(())
+}
+
 /// Adds what is told of an output: what was dropped there, and what is left.
 fn add_output(
     about: About<'_>,
@@ -218,6 +232,10 @@ fn add_part(
         }
     }
     if side == "output" {
+        // What is late is so at every output.
+        if index == 0 {
+            add_late(alloc, line, lines)?;
+        }
         if let Some(conf) = config.outputs.as_slice().get(index) {
             let name = format!(in alloc; "output {index} ({})", Shown(conf.place.as_str()))?;
             let name = name.as_str();

@@ -10,8 +10,8 @@ use metric::Text;
 use metric_filter::Filter;
 use std::alloc::Global;
 
-/// The configuration that a pipe is: one line protocol input and one line protocol output with its sizes, no
-/// filter, no global tag, and what an agent has where nothing is said.
+/// The configuration that a pipe is: one line protocol input and one line protocol output with its sizes, no processor,
+/// no aggregator, no filter, no global tag, and what an agent has where nothing is said.
 pub(crate) fn pipe_config(alloc: Global, pipe: &Pipe<'_>) -> Result<Config, OutOfMemory>
     ensures { IfOk result
         (λ config. config ≡ pipe_config pipe.now.input.now pipe.now.output.now pipe.now.batch pipe.now.limit) }
@@ -36,6 +36,7 @@ pub(crate) fn pipe_config(alloc: Global, pipe: &Pipe<'_>) -> Result<Config, OutO
         globals: Seq::of(Vec::new(alloc)),
         inputs: Seq::of_one(input),
         steps: Seq::of(Vec::new(alloc)),
+        aggs: Seq::of(Vec::new(alloc)),
         outputs: Seq::of_one(output),
     })
 }

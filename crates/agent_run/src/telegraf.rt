@@ -17,7 +17,7 @@ fn about_agent(key: &str) -> Option<&'static str> {
             Some("leave it out: metrics wait in memory")
         }
         "statefile" => Some("leave it out: nothing is kept from one run to the next"),
-        "skip_processors_after_aggregators" | "snmp_translator" | "collection_offset" => {
+        "snmp_translator" | "collection_offset" => {
             Some("leave it out: there is nothing that it is about")
         }
         "always_include_local_tags" | "always_include_global_tags" => {
@@ -49,6 +49,24 @@ fn about_processor(key: &str) -> Option<&'static str> {
         "tag_rename" | "field_rename" | "metric_rename" => {
             Some("leave it out: [[processors.rename]] renames, by names and not by patterns")
         }
+        _ => None,
+    }
+}
+
+/// What to do about a key of an aggregator.
+fn about_aggregator(key: &str) -> Option<&'static str> {
+    match key {
+        "name_override" | "name_prefix" | "name_suffix" => {
+            Some("leave it out: an aggregator renames no metric; fields get an end, as `_min`")
+        }
+        "tags" => Some("leave it out: what is made has the tags of its series, and no others"),
+        "round_timestamp_to" => Some("leave it out: metrics of one time are merged"),
+        "output_strategy" => {
+            Some("leave it out: a last metric is given once its series has timed out")
+        }
+        "keep_original_field_names" => Some(
+            "leave it out: fields of a last metric end in `_final`",
+        ),
         _ => None,
     }
 }
@@ -102,6 +120,7 @@ pub(crate) fn about(class: &Class, key: &str) -> Option<&'static str> {
         Class::Agent => return about_agent(key),
         Class::Inputs => about_input(key),
         Class::Processors => about_processor(key),
+        Class::Aggregators => about_aggregator(key),
         Class::Outputs => about_output(key),
         _ => None,
     };

@@ -1,4 +1,11 @@
 -- What a run leaves at its end, and what it begins with.
+use Rattle.account.specs.Origins.{origins}
+use Rattle.pipeline_core.specs.Moments.{IsTickedAt}
+use Rattle.pipeline_core.specs.Windows.{HasNoAggs}
+use Rattle.agent_workers.specs.Running.{AllMade}
+use Rattle.agent_workers.specs.Progress.{CountsTo, StaysTicked, TicksOn, pushed_items}
+use Rattle.agent_workers.proofs.ProgressLemmas.{went_tick, went_tickless}
+use Rattle.agent_workers.proofs.TickLemmas.{ticked_first}
 use Rattle.std.proofs.Common.{◌≡◌, ◌≢◌, ◌≤◌, ◌<◌, ℕ, zero, suc, ℤ, ◌^◌, min, Bool, true, false, List, [], ◌∷◌, ◌++◌}
 use Rattle.std.proofs.Common.{length, take, replicate, refl, sym, ap, ◌∙◌, subst, inl, inr, arith}
 use Rattle.std.specs.Prelude.{IfSome, not, ◌⊎◌, count_by, map}
@@ -37,7 +44,6 @@ use Rattle.agent_workers.specs.Run.{IsLeft, Ran, buffered_at_end, account_of}
 use Rattle.agent_workers.specs.Finished.{IsCounted, Finished, begun, IsSetUp}
 use Rattle.agent_workers.specs.Noted.{JournalPart, Notes, part_change}
 use Rattle.agent_workers.specs.Job.{Job, journal_setup_of, limit_of, setup_of, output_sizes}
-use Rattle.pipeline_core.specs.Worked.{taken_items}
 use Rattle.agent_workers.specs.RunState.{RunState, Beginning, setup_at}
 use Rattle.agent_workers.specs.Progress.{HasText, Heard, Said, Progress, GoesOn, RoutesOn, SendsOn, GathersOn, RunsOn}
 use Rattle.agent_workers.specs.Progress.{NotesRun}
@@ -80,9 +86,9 @@ said_first start output none = record {
   last = λ stopped. rw none.failed_since (last_none (dones output (behind_stop [])));
 }
 
-none_taken : taken_items [] ≡ []
-unfolding items taken
-none_taken = refl
+none_pushed : (skip : Bool) → pushed_items skip [] ≡ []
+unfolding items taken origins
+none_pushed skip = refl
 
 -- nothing happened
 went_first : (job : Job) (start : ℤ) (now : RunState) → Stands now.core [] → now.core.setup ≡ setup_of job start
@@ -108,10 +114,11 @@ went_first job start now stands setup stored notes none in_count fresh unfailed 
   said = λ o l. said_first (out_at now.outs o) o (unfailed o l);
   work_is = work;
   worked = worked_first job.work;
-  pushed = subst (AllStand now.proc.chain) (sym none_taken) pushed;
+  pushed = subst (AllStand now.proc.chain) (sym (none_pushed now.proc.skip)) pushed;
   order = record {
     in_order = λ f. in_order_first (setup_of job start);
     none_raw = λ f k l. raw_of-none k [] none_raw_first;
+    has_ticked = λ t f. ticked_first (setup_of job start);
   };
   counted_at = counted_none ∙ sym none;
 }
@@ -126,6 +133,7 @@ pub record AreNew (job : Job) (start : ℤ) (now : RunState) : Type 0 where
   pub fresh : AreFresh now.ins
   pub outputs : AreOutputs (length job.outputs) now.outs
   pub unfailed : AreUnfailed now.outs
+  pub aggs : length now.proc.aggs ≡ length job.aggs
   pub filters : length now.proc.outs ≡ length job.outputs
   pub work : job.work ≡ work_by now.proc
   pub pushed : AllStand now.proc.chain []
@@ -152,7 +160,10 @@ is_set_up job start now few ready going stands setup stored ended none new =
         inputs = fit_first (length job.inputs) (length now.core.setup.inputs) now.core.ended now.ins inputs_are
             new.in_count ended new.fresh;
         outputs = subst (λ (k : ℕ). AreOutputs k now.outs) (sym outputs_are) new.outputs;
-        filters = new.filters ∙ sym outputs_are;
+        filters = record {
+          aggs = new.aggs ∙ sym (ap (λ (s : Setup). length s.aggs) setup);
+          outs = new.filters ∙ sym outputs_are;
+        };
       };
       settled = none_buffered now.core now.outs none;
       agrees = went_first job start now stands setup stored (notes_none
@@ -207,6 +218,28 @@ counted_on (Some moments) first next last floor moment olds news g e h = (
       (counted_joined moments first next last floor olds (int_max moment (last_of floor olds) ∷ []) h
       (counted_one_over moments next last moment (last_of floor olds) g)),
 )
+
+-- the moments of a clock that count, without how far it came
+counted_of : (all : Option Moments) (first next : ℕ) (floor : ℤ) (ms : List ℤ)
+    → IfSome all (λ moments. IsCounted moments first next floor ms)
+    → IfSome all (λ moments. Counted moments first next floor ms)
+counted_of None first next floor ms h = tt
+counted_of (Some moments) first next floor ms h = h.1
+
+-- one moment more of a clock counts
+pub counts_one : (timer : Timed) (last : ℕ) (floor moment : ℤ) (olds : List ℤ) → Gives timer.moments timer.next last moment
+    → CountsTo timer last floor olds (olds ++ int_max moment (last_of floor olds) ∷ [])
+counts_one timer last floor moment olds gives = λ first h.
+    counted_of timer.moments first last floor (olds ++ int_max moment (last_of floor olds) ∷ [])
+    (counted_on timer.moments first timer.next last floor moment olds (olds ++ int_max moment (last_of floor olds) ∷ [])
+    gives refl h)
+
+counts_then : (old mid : Timed) (last : ℕ) (floor : ℤ) (olds mids news : List ℤ) → mid.moments ≡ old.moments
+    → CountsTo old mid.next floor olds mids → CountsTo mid last floor mids news → CountsTo old last floor olds news
+counts_then old mid last floor olds mids news same h k = λ first c.
+    subst (λ (all : Option Moments). IfSome all (λ moments. Counted moments first last floor news)) same
+    (k first (subst (λ (all : Option Moments). IfSome all (λ moments. Counted moments first mid.next floor mids))
+    (sym same) (h first c)))
 
 -- all moments of a run that began with nothing
 counted_all : (all : Option Moments) (next last : ℕ) (start : ℤ) (ms : List ℤ) → Gives all 0 next start
@@ -399,16 +432,17 @@ module _ (start : Beginning) (now : RunState) where
     }
 
     pub finished : (ending : Ending) (old : RunState) (last : CoreState) (part : JournalPart) (timer : Timed)
-        (moment : ℤ) → last ≡ after_cut now.core → Gives old.timer.moments old.timer.next timer.next moment
-        → now.counted_at ≡ old.counted_at ++ int_max moment (last_of start.start old.counted_at) ∷ [] →
+        (mid : ℕ) (so_far : List ℤ) (moment : ℤ) → last ≡ after_cut now.core
+        → CountsTo old.timer mid start.start old.counted_at so_far → Gives old.timer.moments mid timer.next moment
+        → now.counted_at ≡ so_far ++ int_max moment (last_of start.start so_far) ∷ [] →
         IsOneIn states.LimitReached now.ins ending.limit → IsOneIn states.Faulted now.ins ending.read_fault
         → SomeIsBuffered ending.left now.core → ending.account.items ≡ account_text now.core.numbers →
         IsPutSo ending.journal_fault (change start.noted part.held start.note_faults part.faults)
         (journal_text (journal_setup_of (setup_at start)) (w.text.written ++ now.core.stored)
         (account_text now.core.numbers)) → Finished start ending old
-        (record now { core = last; journal = part; timer = timer; counted_at = [] })
+        (record now { core = last; journal = part; timer = timer; counted_at = []; ticked = true })
     unfolding has_run
-    finished ending old last part timer moment cut gives counts limit fault left account_is noted =
+    finished ending old last part timer mid so_far moment cut counts_before gives counts limit fault left account_is noted =
         let totals_are : now.core.numbers ≡ totals (setup_at start) w.journal =
         w.text.stands.numbers ∙ ap (λ (s : Setup). totals s w.journal) w.text.setup_is in
         let same : account_text now.core.numbers ≡ account_of (setup_at start) w.journal = ap account_text totals_are in
@@ -422,8 +456,8 @@ module _ (start : Beginning) (now : RunState) where
           outputs_fit = outputs_fit;
           heard = w.heard;
           said = w.said;
-          counted = λ first. counted_on old.timer.moments first old.timer.next timer.next start.start moment
-              old.counted_at (counted_moments w.journal) gives (w.counted_at ∙ counts);
+          counted = λ first h. counted_on old.timer.moments first mid timer.next start.start moment
+              so_far (counted_moments w.journal) gives (w.counted_at ∙ counts) (counts_before first h);
           in_order = w.order.in_order;
           ends = λ k l. ends_at ending.limit limit k l;
           limit = limit;
@@ -484,44 +518,100 @@ ran job start ending old new gives none number f =
 
 -- ---- rounds
 
+-- where it is said that a tick has come it had come
+stays_then : (before after : Bool) (core next : CoreState) → (AllMade core.made → AllMade next.made)
+    → StaysTicked before after core → StaysTicked after after next
+stays_then before after core next made h = λ t. (t, made (h t).1)
+
 -- more items were routed, and the entries spelled
 pub routes_more : (first old routed new : CoreState) (proc0 proc new_proc : ProcPart)
-    (part0 part new_part : JournalPart) → RoutesOn first old proc0 proc part0 part → GoesOn old routed proc new_proc
+    (part0 part new_part : JournalPart) → (AllMade first.made → AllMade old.made)
+    → RoutesOn first old proc0 proc part0 part → GoesOn old routed proc new_proc
     → NotesRun routed new part new_part → RoutesOn first new proc0 new_proc part0 new_part
-routes_more first old routed new proc0 proc new_proc part0 part new_part routes goes notes = λ start now anew w.
-    notes start (record now { proc = new_proc }) (goes start (record now { journal = part }) anew
-    (routes start now anew w))
+routes_more first old routed new proc0 proc new_proc part0 part new_part made routes goes notes =
+    λ start now ticked anew stays w.
+    notes start (record now { proc = new_proc; ticked = ticked })
+    (goes start (record now { journal = part; ticked = ticked }) ticked anew
+    (stays_then now.ticked ticked first old made stays) (routes start now ticked anew stays w))
 
 -- the last items were routed
 pub routes_last : (first old new : CoreState) (proc0 proc new_proc : ProcPart) (part0 part : JournalPart)
-    → RoutesOn first old proc0 proc part0 part → GoesOn old new proc new_proc
+    → (AllMade first.made → AllMade old.made) → RoutesOn first old proc0 proc part0 part → GoesOn old new proc new_proc
     → RoutesOn first new proc0 new_proc part0 part
-routes_last first old new proc0 proc new_proc part0 part routes goes =
-    λ start now anew w. goes start (record now { journal = part }) anew (routes start now anew w)
+routes_last first old new proc0 proc new_proc part0 part made routes goes = λ start now ticked anew stays w.
+    goes start (record now { journal = part; ticked = ticked }) ticked anew
+    (stays_then now.ticked ticked first old made stays) (routes start now ticked anew stays w)
 
--- one round more: inputs were gathered, the items were routed, batches were sent, and the entries spelled
-pub runs_more : (first old last : RunState) (gathered routed sent : CoreState) (fresh : List OutPart)
-    (mid_part : JournalPart) → RunsOn first old → (AreSettled first.core first.outs → AreSettled old.core old.outs) →
-    old.next ≡ 0 → last.next ≡ 0 → GathersOn old.core gathered old.ins last.ins → fresh ≡ map anew old.outs
-    → RoutesOn gathered routed old.proc last.proc old.journal mid_part → routed.raw ≡ []
-    → SendsOn routed sent fresh last.outs → NotesRun sent last.core mid_part last.journal → RunsOn first last
-runs_more first old last gathered routed sent fresh mid_part runs settles at_first at_last gathers anews routes none
-    sends notes = λ start counted settled w.
-    let here : RunState = record old { counted_at = counted } in
+-- items were routed, and then more
+pub goes_more : (first old new : CoreState) (proc0 proc new_proc : ProcPart) → (AllMade first.made → AllMade old.made)
+    → GoesOn first old proc0 proc → GoesOn old new proc new_proc → GoesOn first new proc0 new_proc
+goes_more first old new proc0 proc new_proc made routes goes = λ start now ticked anew stays w.
+    goes start (record now { ticked = ticked }) ticked anew (stays_then now.ticked ticked first old made stays)
+    (routes start now ticked anew stays w)
+
+-- windows were closed at a moment of the timer, and what they made was routed
+pub ticks_routed : (core mid new : CoreState) (proc new_proc : ProcPart) (part new_part : JournalPart)
+    (timer new_timer : Timed) (moment : ℤ) → IsTickedAt moment core mid → AllMade mid.made
+    → Gives timer.moments timer.next new_timer.next moment → RoutesOn mid new proc new_proc part new_part
+    → TicksOn core new proc new_proc part new_part timer new_timer
+ticks_routed core mid new proc new_proc part new_part timer new_timer moment ticks made gives routes =
+    λ start now anew w.
+    let counts : List ℤ = now.counted_at ++ int_max moment (last_of start.start now.counted_at) ∷ [] in
+    record {
+      counted_now = counts;
+      counts = counts_one timer new_timer.next start.start moment now.counted_at gives;
+      progress = routes start (record now { counted_at = counts; ticked = true }) true anew (λ t. (refl, made))
+          (went_tick start core mid (record now { proc = proc; journal = part }) moment ticks w);
+    }
+
+-- there are no aggregators, so no tick has to come
+pub ticks_none : (core : CoreState) (proc : ProcPart) (part : JournalPart) (timer : Timed) → HasNoAggs core.setup
+    → TicksOn core core proc proc part part timer timer
+ticks_none core proc part timer none = λ start now anew w. record {
+  counted_now = now.counted_at;
+  counts = λ first h. h;
+  progress = went_tickless start core (record now { proc = proc; journal = part }) none w;
+}
+
+-- one round more: inputs were gathered, the items were routed, windows were closed, batches were sent, and the entries
+-- spelled
+pub runs_more : (first old last : RunState) (gathered routed ticked sent : CoreState) (mid_proc : ProcPart)
+    (fresh : List OutPart) (mid_part tick_part : JournalPart) → old.timer.moments ≡ first.timer.moments
+    → RunsOn first old → (AreSettled first.core first.outs → AreSettled old.core old.outs) →
+    old.next ≡ 0 → old.ticked ≡ true → last.next ≡ 0 → last.ticked ≡ true
+    → GathersOn old.core gathered old.ins last.ins → fresh ≡ map anew old.outs
+    → RoutesOn gathered routed old.proc mid_proc old.journal mid_part
+    → TicksOn routed ticked mid_proc last.proc mid_part tick_part old.timer last.timer → ticked.raw ≡ []
+    → SendsOn ticked sent fresh last.outs → NotesRun sent last.core tick_part last.journal → RunsOn first last
+runs_more first old last gathered routed ticked sent mid_proc fresh mid_part tick_part same runs settles at_first
+    ticked_first at_last ticked_last gathers anews routes ticks none sends notes = λ start counted settled w.
     let a = runs start counted settled w in
-    let a0 = subst (λ (k : ℕ). Progress start (record here { next = k })) at_first a in
-    let b = gathers start here (λ f. settles (settled f)) a0 in
-    let after : RunState = record here { ins = last.ins; next = length old.ins } in
+    let here : RunState = record old { counted_at = a.counted_now } in
+    let a0 = subst (λ (k : ℕ). Progress start (record here { next = k })) at_first a.progress in
+    let a1 = subst (λ (b : Bool). Progress start (record here { next = 0; ticked = b })) ticked_first a0 in
+    let b = gathers start here (λ f. settles (settled f)) a1 in
+    let after : RunState = record here { ins = last.ins; next = length old.ins; ticked = true } in
     let c = went_anew start gathered after old.outs fresh anews b in
-    let d = routes start (record after { outs = fresh }) (subst AreAnew (sym anews) (are_anew old.outs)) c in
-    let went : RunState = record after { outs = fresh; proc = last.proc; journal = mid_part } in
-    let n = went_next start routed went 0 none d in
-    let zero : RunState = record went { next = 0 } in
+    let zeros : AreAnew fresh = subst AreAnew (sym anews) (are_anew old.outs) in
+    let d = routes start (record after { outs = fresh }) false zeros (λ t. absurd (let no : false ≡ true = t in cc)) c in
+    let went : RunState = record after { outs = fresh; proc = mid_proc; journal = mid_part; ticked = false } in
+    let t = ticks start went zeros d in
+    let closed : RunState = record went
+    { proc = last.proc; journal = tick_part; counted_at = t.counted_now; ticked = true } in
+    let n = went_next start ticked closed 0 none t.progress in
+    let zero : RunState = record closed { next = 0 } in
     let e = sends start zero n in
     let f = notes start (record zero { outs = last.outs }) e in
     let last_zero : RunState = record zero { core = last.core; outs = last.outs; journal = last.journal } in
-    subst (λ (k : ℕ). Progress start (record last { next = k; counted_at = counted })) (sym at_last)
-    (went_timed start last_zero last.timer f)
+    record {
+      counted_now = t.counted_now;
+      counts = counts_then first.timer old.timer last.timer.next start.start counted a.counted_now t.counted_now same
+          a.counts t.counts;
+      progress =
+          subst (λ (b : Bool). Progress start (record last { counted_at = t.counted_now; ticked = b })) (sym ticked_last)
+          (subst (λ (k : ℕ). Progress start (record last { next = k; counted_at = t.counted_now; ticked = true }))
+          (sym at_last) (went_timed start last_zero last.timer f));
+    }
 
 -- the outputs are settled still, once the entries were spelled
 pub settled_still : (sent new : CoreState) (outs : List OutPart) → new ≡ after_cut sent → AreSettled sent outs

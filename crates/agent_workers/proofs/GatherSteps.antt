@@ -128,25 +128,27 @@ ended_other : (i k : ℕ) → k ≢ i → IsNotOf k (Ended i)
 ended_other i k ne = record { none = refl; other = differs i k (λ e. ne (sym e)) }
 
 -- no item of the input is raw, and at each output nothing is buffered or the last batch failed
-drained : (start : Beginning) (core : CoreState) (now : RunState) (w : Progress start (record now { core = core }))
-    (i : ℕ)
-    → now.next ≤ i → start.front ≡ [] → HasNoAggs core.setup → AreSettled core now.outs
-    → IsDrained (setup_at start) w.journal i
-drained start core now w i l f no_aggs settled =
-    record { none_raw = w.order.none_raw f i l; flushed = all_flushed start core now w no_aggs settled }
+drained : (start : Beginning) (core : CoreState) (now : RunState)
+    (w : Progress start (record now { core = core; ticked = true })) (i : ℕ)
+    → now.next ≤ i → start.front ≡ [] → AreSettled core now.outs → IsDrained (setup_at start) w.journal i
+drained start core now w i l f settled = record {
+  none_raw = w.order.none_raw f i l;
+  flushed = all_flushed start core (record now { ticked = true }) w (w.order.has_ticked refl f) settled;
+}
 
 -- what an input holds is gathered
 pub went_accepted : (start : Beginning) (core next : CoreState) (now : RunState) (ins : List InPart) (part : InPart)
     (g : Gathered) → part.input < length ins → in_at ins part.input ≡ record part { held = Some g }
-    → g.input ≡ part.input → HasNoAggs core.setup → core.gathered + length g.metrics < 2 ^ 32 →
+    → g.input ≡ part.input → core.gathered + length g.metrics < 2 ^ 32 →
     next ≡ after_gather core g → Continues core next (gather_entry core g) → SettlesFirst start core now.outs
-    → Progress start (record now { core = core; ins = ins; next = part.input })
+    → Progress start (record now { core = core; ins = ins; next = part.input; ticked = true })
     → Progress start (record now {
       core = next;
       ins = set ins part.input (record part { held = None });
       next = part.input + 1;
+      ticked = true;
     })
-went_accepted start core next now ins part g b at own no_aggs few is more settled w =
+went_accepted start core next now ins part g b at own few is more settled w =
     let i : ℕ = part.input in
     let shape : IsGatherEntry g (gather_entry core g) = entries-have-shape.gathers core g in
     let number : Option ℕ = shape.0 in
@@ -171,9 +173,9 @@ went_accepted start core next now ins part g b at own no_aggs few is more settle
           w.said;
       work_is = w.work_is;
       worked = worked-push start.job.work w.journal e tt w.worked;
-      pushed = pushed_still core now.proc.chain w.journal e w.text.stands refl w.pushed;
-      order = order-push start core i (i + 1) w.journal e w.text.stands (omega arith)
-          (λ f. drained start core (record now { ins = ins; next = i }) w g.input (omega (arith, own)) f no_aggs
+      pushed = pushed_still core now.proc w.journal e w.text.stands refl w.pushed;
+      order = order-push start core i (i + 1) true w.journal e refl refl w.worked w.text.stands (omega arith)
+          (λ f. drained start core (record now { ins = ins; next = i }) w g.input (omega (arith, own)) f
           (settled f))
           (λ k l. none_of_other k g.input (length g.metrics) number
           (λ (q : g.input ≡ k). absurd (omega (arith, l, q, own)))) w.order;
@@ -224,8 +226,9 @@ went_ended start core next now ins part b at some is more none w =
           w.said;
       work_is = w.work_is;
       worked = worked-push start.job.work w.journal e tt w.worked;
-      pushed = pushed_still core now.proc.chain w.journal e w.text.stands refl w.pushed;
-      order = order-push start core now.next now.next w.journal e w.text.stands (omega arith) (λ f. tt)
+      pushed = pushed_still core now.proc w.journal e w.text.stands refl w.pushed;
+      order = order-push start core now.next now.next now.ticked w.journal e refl refl w.worked w.text.stands (omega arith)
+          (λ f. tt)
           (λ k l. refl) w.order;
       counted_at = counted_moments-same w.journal e refl ∙ w.counted_at;
     }
@@ -236,9 +239,12 @@ pub gathers_none : (old new : CoreState) (part new_part : InPart) → new ≡ ol
 gathers_none old new part new_part core same = λ ins b at start now settled w.
     let kept : set ins part.input new_part ≡ ins = ap (set ins part.input) same
     ∙ subst (λ (x : InPart). set ins part.input x ≡ ins) at (set-get_or ins part.input no_in) in
-    went_behind start new (record now { ins = set ins part.input new_part }) part.input (part.input + 1) (omega arith)
-    (subst (λ (all : List InPart). Progress start (record now { core = new; ins = all; next = part.input })) (sym kept)
-    (subst (λ (k : CoreState). Progress start (record now { core = k; ins = ins; next = part.input })) (sym core) w))
+    went_behind start new (record now { ins = set ins part.input new_part; ticked = true }) part.input (part.input + 1)
+    (omega arith)
+    (subst (λ (all : List InPart). Progress start (record now
+    { core = new; ins = all; next = part.input; ticked = true })) (sym kept)
+    (subst (λ (k : CoreState). Progress start (record now { core = k; ins = ins; next = part.input; ticked = true }))
+    (sym core) w))
 
 -- no end is noted
 pub ends_none : (met : Bool) (old new : CoreState) (part new_part : InPart) → new ≡ old → new_part ≡ part
@@ -259,13 +265,15 @@ module _ (met : Bool) (old offered new : CoreState) (part read held last : InPar
     (gathers : GathersAt old offered read held) where
   module _ (ins : List InPart) (b : part.input < length ins) (at : in_at ins part.input ≡ part) (start : Beginning)
       (now : RunState) (settled : SettlesFirst start old now.outs)
-      (w : Progress start (record now { core = old; ins = ins; next = part.input })) where
+      (w : Progress start (record now { core = old; ins = ins; next = part.input; ticked = true })) where
     -- once it was read
-    after_read : Progress start (record now { core = old; ins = set ins part.input read; next = part.input })
-    after_read = reads ins b at start (record now { next = part.input }) w
+    after_read : Progress start (record now
+        { core = old; ins = set ins part.input read; next = part.input; ticked = true })
+    after_read = reads ins b at start (record now { next = part.input; ticked = true }) w
 
     -- once what it holds was offered
-    after_offer : Progress start (record now { core = offered; ins = set ins part.input held; next = part.input + 1 })
+    after_offer : Progress start (record now
+        { core = offered; ins = set ins part.input held; next = part.input + 1; ticked = true })
     after_offer =
         let i : ℕ = part.input in
         let l : read.input < length (set ins i read) = omega (arith, b, same, length-set ins i read) in
@@ -273,12 +281,14 @@ module _ (met : Bool) (old offered new : CoreState) (part read held last : InPar
         ap (in_at (set ins i read)) same ∙ set_here ins i read b in
         let twice : set (set ins i read) read.input held ≡ set ins i held =
         ap (λ (k : ℕ). set (set ins i read) k held) same ∙ set-set ins i read held in
-        let from : Progress start (record now { core = old; ins = set ins i read; next = read.input }) =
-        subst (λ (k : ℕ). Progress start (record now { core = old; ins = set ins i read; next = k }))
+        let from : Progress start (record now { core = old; ins = set ins i read; next = read.input; ticked = true }) =
+        subst (λ (k : ℕ). Progress start (record now { core = old; ins = set ins i read; next = k; ticked = true }))
         (sym same) after_read in
         let to = gathers (set ins i read) l here start now settled from in
-        subst (λ (k : ℕ). Progress start (record now { core = offered; ins = set ins i held; next = k + 1 })) same
-        (subst (λ (all : List InPart). Progress start (record now { core = offered; ins = all; next = read.input + 1 }))
+        subst (λ (k : ℕ). Progress start (record now
+        { core = offered; ins = set ins i held; next = k + 1; ticked = true })) same
+        (subst (λ (all : List InPart). Progress start (record now
+        { core = offered; ins = all; next = read.input + 1; ticked = true }))
         twice to)
 
     -- what the end is told by
@@ -307,8 +317,9 @@ module _ (met : Bool) (old offered new : CoreState) (part read held last : InPar
       ap (λ (k : ℕ). set (set ins i held) k last) is ∙ set-set ins i held last in
       let told = subst (λ (k : ℕ). met ≡ true → Told (in_at start.ins k).left held.left
       (λ xs ys. to_come held.hand ys ≡ [])) (sym is) (told_end ins b at start now settled w) in
-      subst (λ (all : List InPart). Progress start (record now { core = new; ins = all; next = i + 1 })) twice
-      (ends (set ins i held) l here start (record now { next = i + 1 }) told (after_offer ins b at start now settled w))
+      subst (λ (all : List InPart). Progress start (record now { core = new; ins = all; next = i + 1; ticked = true }))
+      twice (ends (set ins i held) l here start (record now { next = i + 1; ticked = true }) told
+      (after_offer ins b at start now settled w))
 
 -- ---- what came of an offer
 
@@ -322,10 +333,10 @@ own_of part g e own = (subst (λ (x : Option Gathered). IfSome x
 
 -- it was accepted
 pub offer_accepted : (core next : CoreState) (part : InPart) (g : Gathered) → part.held ≡ Some g → HoldsOwn part
-    → HasNoAggs core.setup → core.gathered + length g.metrics < 2 ^ 32 → next ≡ after_gather core g
+    → core.gathered + length g.metrics < 2 ^ 32 → next ≡ after_gather core g
     → Continues core next (gather_entry core g) → GathersAt core next part (record part { held = None })
-offer_accepted core next part g e own no_aggs few is more = λ ins b at start now settled w. went_accepted start core
-    next now ins part g b (at ∙ held_as part g e) (own_of part g e own) no_aggs few is more settled w
+offer_accepted core next part g e own few is more = λ ins b at start now settled w. went_accepted start core
+    next now ins part g b (at ∙ held_as part g e) (own_of part g e own) few is more settled w
 
 -- the run is full
 pub offer_full : (core next : CoreState) (part : InPart) (g back : Gathered) → part.held ≡ Some g → back ≡ g
@@ -337,22 +348,26 @@ offer_full core next part g back e same core_same some no_end many = λ ins b at
       ins =
           set ins part.input (record part { held = Some g; state = states.LimitReached });
       next = part.input;
+      ticked = true;
     }) =
-    went_full start core (record now { next = part.input }) ins part g b (at ∙ held_as part g e) some
+    went_full start core (record now { next = part.input; ticked = true }) ins part g b (at ∙ held_as part g e) some
     (subst (HoldsNoEnd part.state) e no_end) many w in
     went_behind start next (record now {
       ins = set ins part.input
           (record part { held = Some back; state = states.LimitReached });
+      ticked = true;
     }) part.input (part.input + 1) (omega arith)
     (subst (λ (x : Gathered). Progress start (record now {
       core = next;
       ins = set ins part.input (record part { held = Some x; state = states.LimitReached });
       next = part.input;
+      ticked = true;
     })) (sym same)
     (subst (λ (k : CoreState). Progress start (record now {
       core = k;
       ins = set ins part.input (record part { held = Some g; state = states.LimitReached });
       next = part.input;
+      ticked = true;
     })) (sym core_same) full))
 
 -- items were raw

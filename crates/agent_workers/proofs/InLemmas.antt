@@ -144,18 +144,19 @@ pub gathers_then : (n : ℕ) (old mid new : CoreState) (ins mid_ins : List InPar
     → GathersAt mid new part new_part → GathersTo n old mid ins mid_ins
     → GathersTo (n + 1) old new ins (set mid_ins n new_part)
 gathers_then n old mid new ins mid_ins part new_part kept number b at turn h = λ start now settled w.
-    let from : Progress start (record now { core = mid; ins = mid_ins; next = part.input }) =
-    subst (λ (k : ℕ). Progress start (record now { core = mid; ins = mid_ins; next = k })) (sym number)
+    let from : Progress start (record now { core = mid; ins = mid_ins; next = part.input; ticked = true }) =
+    subst (λ (k : ℕ). Progress start (record now { core = mid; ins = mid_ins; next = k; ticked = true })) (sym number)
     (h start now settled w) in
-    subst (λ (k : ℕ). Progress start (record now { core = new; ins = set mid_ins k new_part; next = k + 1 })) number
+    subst (λ (k : ℕ). Progress start (record now { core = new; ins = set mid_ins k new_part; next = k + 1; ticked = true }))
+    number
     (turn mid_ins (omega (arith, b, number)) (ap (in_at mid_ins) number ∙ at) start now
     (λ f. settled_gathered old mid now.outs kept (settled f)) from)
 
 -- the others had none
 pub gathers_on : (n : ℕ) (old new : CoreState) (ins new_ins : List InPart) → n ≤ length ins
     → GathersTo n old new ins new_ins → GathersTo (length ins) old new ins new_ins
-gathers_on n old new ins new_ins l h = λ start now settled w. went_behind start new (record now { ins = new_ins }) n
-    (length ins) l (h start now settled w)
+gathers_on n old new ins new_ins l h = λ start now settled w. went_behind start new
+    (record now { ins = new_ins; ticked = true }) n (length ins) l (h start now settled w)
 
 pub gathers_nothing : (core : CoreState) (ins : List InPart) → GathersTo 0 core core ins ins
 gathers_nothing core ins = λ start now settled w. w

@@ -10,10 +10,12 @@ pub mod OpenedLemmas
 pub mod OutLemmas
 pub mod PartsLemmas
 pub mod ProgressLemmas
+pub mod PushedLemmas
 pub mod RoseLemmas
 pub mod SendSteps
 pub mod SentLemmas
 pub mod StandingLemmas
 pub mod SweepLemmas
 pub mod TakenSteps
+pub mod TickLemmas
 pub mod SetupLemmas

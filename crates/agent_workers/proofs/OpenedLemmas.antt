@@ -1,4 +1,7 @@
 -- What a run of a configuration begins with, and what it leaves.
+use Rattle.std.specs.Prelude.{Bool}
+use Rattle.agent_workers.specs.Job.{line_of}
+use Rattle.agent_config.specs.declared.config.AggConf.{AggConf}
 use Rattle.std.proofs.Common.{◌≡◌, ◌<◌, ◌≤◌, ◌+◌, ℕ, zero, suc, ℤ, false, List, [], ◌∷◌, ◌++◌, length, get_or, drop}
 use Rattle.std.proofs.Common.{replicate, refl, sym, ap, ◌∙◌, subst, arith, append_assoc, append-nil}
 use Rattle.std.specs.Prelude.{map, All, IfOk, OnOk, Result, Ok, Err}
@@ -129,6 +132,8 @@ pub record AreMade (config : Config) (start : ℤ) (opened : Carries) (times : T
   pub first : All (λ (clock : Timed). clock.next ≡ 0) times.ins
   pub ins_are : now.ins ≡ fresh_ins config 0 config.inputs opened.sources times.ins
   pub outs_are : now.outs ≡ fresh_outs 0 config.outputs opened.sinks
+  pub aggs : now.proc.aggs ≡ config.aggs
+  pub skip : now.proc.skip ≡ config.agent.skip_second
   pub filters : now.proc.outs ≡ config.outputs
   pub chain : IsBehind config.steps [] now.proc.chain
   pub about : now.journal.setup ≡ journal_setup_of (setup_of (job_of config) start)
@@ -159,9 +164,14 @@ is_made config start opened times now sound new made =
             fresh = subst AreFresh (sym made.ins_are) (are_fresh config opened.sources times.ins sound made.first);
             outputs = subst (λ (k : ℕ). AreOutputs k now.outs) (sym out_jobs) outputs;
             unfailed = subst AreUnfailed (sym made.outs_are) (are_unfailed config.outputs opened.sinks);
+            aggs = ap length made.aggs ∙ sym (length-map config.aggs line_of);
             filters = ap length made.filters ∙ sym out_jobs;
-            work = ap (λ (steps : List Step). work_of steps config.outputs) (sym made.chain.same)
-                ∙ ap (work_of (steps_of now.proc.chain)) (sym made.filters);
+            work = ap (λ (steps : List Step). work_of config.agent.skip_second steps config.aggs config.outputs)
+                (sym made.chain.same)
+                ∙ ap (λ (skip : Bool). work_of skip (steps_of now.proc.chain) config.aggs config.outputs) (sym made.skip)
+                ∙ ap (λ (aggs : List AggConf). work_of now.proc.skip (steps_of now.proc.chain) aggs config.outputs)
+                (sym made.aggs)
+                ∙ ap (work_of now.proc.skip (steps_of now.proc.chain) now.proc.aggs) (sym made.filters);
             pushed = made.chain.each;
             about = made.about;
             kept = made.kept;

@@ -1,6 +1,6 @@
 -- Outputs by their indices: one changes, and the others stay.
 use Rattle.std.proofs.Common.{◌≡◌, ◌≢◌, ◌≤◌, ◌<◌, ◌+◌, ℕ, Bool, true, false, List, [], ◌∷◌, ◌++◌, length, take, drop}
-use Rattle.std.proofs.Common.{get_or}
+use Rattle.std.proofs.Common.{get_or, if◌then◌else◌}
 use Rattle.std.proofs.Common.{set, refl, sym, ap, ◌∙◌, subst, inl, inr, arith}
 use Rattle.std.specs.Prelude.{map, slice_get, All}
 use Rattle.std.specs.List.{AllByRecursion}
@@ -24,20 +24,19 @@ use Rattle.pipeline_core.specs.CoreState.{CoreState, lane_at, lane_of, first_sta
 use Rattle.pipeline_core.specs.declared.setup.CoreSetup.{CoreSetup}
 use Rattle.pipeline_core.specs.declared.setup.OutSetup.{OutSetup}
 use Rattle.pipeline_core.specs.Offers.{view_at}
-use Rattle.pipeline_core.specs.Windows.{HasNoAggs}
 use Rattle.pipeline_core.specs.Steps.{after_begin, after_done, after_route, lane_done, lane_with, count_done}
 use Rattle.pipeline_core.specs.Steps.{counted_done}
 use Rattle.pipeline_core.specs.declared.output.Offer.{Offer}
 use Rattle.pipeline_core.proofs.Offering.{lanes_with-at, length-lanes_with}
 use Rattle.agent_workers.specs.Output.{OutPart, out_of, outs_of, out_at, no_out, anew, AreAnew, AreOutputs}
-use Rattle.agent_workers.specs.Item.{TakesNext, routed_by}
+use Rattle.agent_workers.specs.Item.{ProcPart, TakesNext, routed_by, seen_by}
 use Rattle.agent_workers.specs.declared.output.OutJob.{OutJob}
-use Rattle.agent_config.specs.declared.config.OutputConf.{OutputConf}
-use Rattle.agent_workers.specs.Job.{filters_of}
+use Rattle.agent_config.specs.declared.config.AggConf.{AggConf}
+use Rattle.agent_workers.specs.Job.{agg_filters, filters_of}
 use Rattle.pipeline_core.specs.Worked.{views_of}
 use Rattle.pipeline_core.specs.declared.gathering.Item.{Item}
 use Rattle.std.proofs.lemmas.List.Edits.{map_over_more}
-use Rattle.agent_workers.specs.Running.{IsLaneReady, IsReady, IsLaneKept, IsRoutable, IsSentOn, IsSentAt}
+use Rattle.agent_workers.specs.Running.{AllMade, IsLaneReady, IsReady, IsLaneKept, IsRoutable, IsSentOn, IsSentAt}
 
 -- what holds of what was set at an index, and of the others, holds at each index
 pub each_set : {X : Type 0} (P : ℕ → X → Type 0) (xs : List X) (i : ℕ) (y d : X) → i < length xs → P i y
@@ -77,8 +76,6 @@ module _ (core mid next : CoreState) (o from to : ℕ) (ok : Bool) (b : o < leng
   -- the core is ready again
   pub ready_done : IsReady core → IsReady next
   ready_done h = record {
-    no_aggs = subst HasNoAggs
-        (sym (ap (λ (s : CoreState). s.setup) done ∙ ap (λ (s : CoreState). s.setup) began)) h.no_aggs;
     lane_count = ap length lanes_are ∙ length-set core.lanes o (lane_done ok (lane.after_begin (lane_at core.lanes o)))
         ∙ h.lane_count ∙ sym (ap (λ (s : CoreState). length s.setup.outputs) done
         ∙ ap (λ (s : CoreState). length s.setup.outputs) began);
@@ -157,8 +154,8 @@ view_kept item None x = record { batch = refl; flight = refl }
 view_kept item (Some view) x = record { batch = refl; flight = refl }
 
 pub routable_same : (old new : CoreState) → new.setup ≡ old.setup → new.ended ≡ old.ended → new.gathered ≡ old.gathered
-    → new.stopped ≡ old.stopped → new.lanes ≡ old.lanes → IsRoutable old new
-routable_same old new setup ended gathered stopped lanes = record {
+    → new.stopped ≡ old.stopped → new.lanes ≡ old.lanes → (AllMade old.made → AllMade new.made) → IsRoutable old new
+routable_same old new setup ended gathered stopped lanes made = record {
   setup = setup;
   ended = ended;
   gathered = gathered;
@@ -168,7 +165,16 @@ routable_same old new setup ended gathered stopped lanes = record {
     batch = ap (λ (xs : List (LaneState Offer)). (lane_at xs o).batch) lanes;
     flight = ap (λ (xs : List (LaneState Offer)). (lane_at xs o).flight) lanes;
   };
+  made = made;
 }
+
+-- the first of the items is gone: where all had been made all are
+all_but_first : (marks : List Bool) → AllMade marks → AllMade (drop 1 marks)
+all_but_first [] h = tt
+all_but_first (m ∷ marks) h = h.1
+
+made_routed : (core next : CoreState) → next.made ≡ drop 1 core.made → AllMade core.made → AllMade next.made
+made_routed core next is h = subst AllMade (sym is) (all_but_first core.made h)
 
 -- an item was routed, and views were offered; to one that doesn't pass nothing is
 not_offered : (core next : CoreState) (r : Routed) (bank : BankMemory) (numbers : Numbers) (verdict : Verdict)
@@ -176,6 +182,7 @@ not_offered : (core next : CoreState) (r : Routed) (bank : BankMemory) (numbers 
 not_offered core next r bank numbers verdict is =
     routable_same core next (ap (λ (s : CoreState). s.setup) is) (ap (λ (s : CoreState). s.ended) is)
     (ap (λ (s : CoreState). s.gathered) is) (ap (λ (s : CoreState). s.stopped) is) (ap (λ (s : CoreState). s.lanes) is)
+    (made_routed core next (ap (λ (s : CoreState). s.made) is))
 
 pub routed_kept : (core next : CoreState) (r : Routed) (verdict : Verdict) (bank : BankMemory)
     → next ≡ after_route core r verdict bank → IsRoutable core next
@@ -191,6 +198,7 @@ routed_kept core next r verdicts.Passes bank is = record {
   each = λ o b. subst (IsLaneKept (lane_at core.lanes o)) (sym (ap (λ (s : CoreState). lane_at s.lanes o) is
       ∙ lanes_with-at r.item r.outs core.lanes o b))
       (view_kept r.item (view_at o r.outs) (lane_at core.lanes o));
+  made = made_routed core next (ap (λ (s : CoreState). s.made) is);
 }
 
 pub routable_more : (old mid new : CoreState) → IsRoutable old mid → IsRoutable mid new → IsRoutable old new
@@ -202,6 +210,7 @@ routable_more old mid new h k = record {
   lane_count = k.lane_count ∙ h.lane_count;
   each = λ o b. let a = h.each o b in let c = k.each o (omega (arith, b, h.lane_count)) in
       record { batch = c.batch ∙ a.batch; flight = c.flight ∙ a.flight };
+  made = λ all. k.made (h.made all);
 }
 
 first_gone : (xs : List Content) (x : Content) → slice_get xs 0 ≡ Some x → length (drop 1 xs) + 1 ≡ length xs
@@ -209,22 +218,23 @@ first_gone [] x at = absurd (let none : None ≡ Some x = at in cc)
 first_gone (y ∷ ys) x at = omega arith
 
 -- an item was taken and routed
-pub item_routed : (core mid next : CoreState) (item : Item) (outs : List OutputConf) (whole : Option Content)
+pub item_routed : (core mid next : CoreState) (item : Item) (proc : ProcPart) (whole : Option Content)
     (verdict : Verdict) (bank : BankMemory) → TakesNext core mid item
-    → next ≡ after_route mid (routed_by outs item.number whole) verdict bank → IsRoutable core next
-item_routed core mid next item outs whole verdict bank takes is =
+    → next ≡ after_route mid (routed_by proc item whole) verdict bank → IsRoutable core next
+item_routed core mid next item proc whole verdict bank takes is =
     routable_more core mid next
     (routable_same core mid (ap (λ (s : CoreState). s.setup) takes.after) (ap (λ (s : CoreState). s.ended) takes.after)
     (ap (λ (s : CoreState). s.gathered) takes.after) (ap (λ (s : CoreState). s.stopped) takes.after)
-    (ap (λ (s : CoreState). s.lanes) takes.after))
-    (routed_kept mid next (routed_by outs item.number whole) verdict bank is)
+    (ap (λ (s : CoreState). s.lanes) takes.after)
+    (λ h. subst AllMade (sym (ap (λ (s : CoreState). s.made) takes.after)) h))
+    (routed_kept mid next (routed_by proc item whole) verdict bank is)
 
 -- and one raw item fewer is left
-pub item_fewer : (core mid next : CoreState) (item : Item) (outs : List OutputConf) (whole : Option Content)
+pub item_fewer : (core mid next : CoreState) (item : Item) (proc : ProcPart) (whole : Option Content)
     (verdict : Verdict) (bank : BankMemory) → TakesNext core mid item
-    → next ≡ after_route mid (routed_by outs item.number whole) verdict bank
+    → next ≡ after_route mid (routed_by proc item whole) verdict bank
     → length next.raw + 1 ≡ length core.raw
-item_fewer core mid next item outs whole verdict bank takes is =
+item_fewer core mid next item proc whole verdict bank takes is =
     let left : next.raw ≡ drop 1 core.raw = ap (λ (s : CoreState). s.raw) is ∙ ap (λ
     (s : CoreState). s.raw) takes.after in
     ap (λ (xs : List Content). length xs + 1) left ∙ first_gone core.raw item.metric takes.metric
@@ -235,14 +245,43 @@ no_view : (fs : List (Content → Option Content)) → AllByRecursion (λ (view 
 no_view [] = tt
 no_view (f ∷ fs) = (refl, no_view fs)
 
-pub has_views : (fs : List (Content → Option Content)) (whole : Option Content) → HasViews whole (views_of fs whole)
-has_views fs None = no_view fs
-has_views fs (Some whole) = tt
+either_none : (b : Bool) (views : List (Option Content)) → (if b then views else views) ≡ views
+either_none true views = refl
+either_none false views = refl
+
+-- the same of two lists, one behind the other
+no_view_at_all : (fs gs : List (Content → Option Content)) → AllByRecursion (λ (view : Option Content). view ≡ None)
+    (map (λ (f : Content → Option Content). None) fs ++ map (λ (f : Content → Option Content). None) gs)
+no_view_at_all [] gs = no_view gs
+no_view_at_all (f ∷ fs) gs = (refl, no_view_at_all fs gs)
+
+-- of an item with a whole anything may be seen, of another nothing; of one that was made no aggregator sees anything
+pub has_views : (proc : ProcPart) (item : Item) (whole : Option Content)
+    → HasViews whole (seen_by proc.aggs item.made whole ++ views_of (filters_of proc.outs) whole)
+has_views proc item (Some whole) = tt
+has_views proc item None =
+    subst (λ (views : List (Option Content)). AllByRecursion (λ (view : Option Content). view ≡ None)
+    (views ++ views_of (filters_of proc.outs) None)) (sym (either_none item.made (views_of (agg_filters proc.aggs) None)))
+    (no_view_at_all (agg_filters proc.aggs) (filters_of proc.outs))
+
+pub sees_nothing : (aggs : List AggConf) (item : Item) (whole : Option Content) → item.made ≡ true
+    → AllByRecursion (λ (view : Option Content). view ≡ None) (seen_by aggs item.made whole)
+sees_nothing aggs item whole is =
+    subst (λ (b : Bool). AllByRecursion (λ (view : Option Content). view ≡ None) (seen_by aggs b whole)) (sym is)
+    (no_view (agg_filters aggs))
+
+-- whether the item in hand was made
+same_mark : (x y : Bool) → Some x ≡ Some y → x ≡ y
+same_mark x y e = cc
+
+pub marked_first : (core mid : CoreState) (item : Item) → TakesNext core mid item → slice_get mid.made 0 ≡ Some true
+    → item.made ≡ true
+marked_first core mid item takes at = same_mark item.made true
+    (sym takes.mark ∙ ap (λ (s : CoreState). slice_get s.made 0) (sym takes.after) ∙ at)
 
 -- items were routed: the core is ready as before
 pub ready_routed : (old new : CoreState) → IsReady old → IsRoutable old new → new.held ≡ None → IsReady new
 ready_routed old new h k held = record {
-  no_aggs = subst HasNoAggs (sym k.setup) h.no_aggs;
   lane_count = k.lane_count ∙ h.lane_count ∙ ap (λ (s : Setup). length s.outputs) (sym k.setup);
   each = λ o b. let l : o < length old.lanes = omega (arith, b, k.lane_count) in
       record {
@@ -257,7 +296,6 @@ ready_routed old new h k held = record {
 pub ready_same : (old new : CoreState) → new.setup ≡ old.setup → new.lanes ≡ old.lanes → new.held ≡ old.held
     → IsReady old → IsReady new
 ready_same old new setup lanes held h = record {
-  no_aggs = subst HasNoAggs (sym setup) h.no_aggs;
   lane_count = ap length lanes ∙ h.lane_count ∙ ap (λ (s : Setup). length s.outputs) (sym setup);
   each = subst (λ (xs : List (LaneState Offer)). (k : ℕ) → k < length xs → IsLaneReady (lane_at xs k))
       (sym lanes) h.each;
@@ -298,10 +336,9 @@ outputs_still count last outs fresh are same h = rw (are, same) (outputs_anew co
 
 -- nothing happened yet
 pub ready_first : (setup : CoreSetup) (outputs : List OutSetup) (core : CoreState) → core ≡ first_state setup core.bank
-    → HasNoAggs core.setup → setup.outputs ≡ outputs
+    → setup.outputs ≡ outputs
     → All (λ (x : OutSetup). (1 ≤ x.batch) × (x.batch ≤ x.limit)) outputs → IsReady core
-ready_first setup outputs core is no_aggs same sizes_fit = record {
-  no_aggs = no_aggs;
+ready_first setup outputs core is same sizes_fit = record {
   lane_count = ap (λ (s : CoreState). length s.lanes) is ∙ length-map setup.outputs lane_of
       ∙ sym (ap (λ (s : CoreState). length s.setup.outputs) is ∙ length-map setup.outputs sizes);
   each = λ o b.

@@ -6,14 +6,14 @@ use Rattle.std.specs.Prelude.{not, count_by, slice_get, map, take}
 use Rattle.std.specs.Int.{int_max}
 use Rattle.std.specs.List.{filter}
 use Rattle.std.specs.declared.option.Option.{Option}
-use Rattle.std.specs.declared.option.Option.TheVariants.{Some}
+use Rattle.std.specs.declared.option.Option.TheVariants.{Some, None}
 use Rattle.account.specs.Setup.{Setup}
 use Rattle.account.specs.Numbers.{Numbers, output_numbers}
 use Rattle.account.specs.Items.{items, taken, takes_by}
 use Rattle.account.proofs.ItemLemmas.{items-push}
-use Rattle.account.specs.Origins.{origins_by, is_of_input}
+use Rattle.account.specs.Origins.{is_made, origins_by, is_of_input}
 use Rattle.account.specs.declared.entry.Entry.{Entry}
-use Rattle.account.specs.declared.entry.Entry.TheVariants.{Take, Route, Stop}
+use Rattle.account.specs.declared.entry.Entry.TheVariants.{Take, Route, Stop, Tick}
 use Rattle.account.specs.declared.entry.Report.{Report}
 use Rattle.account.specs.declared.entry.Verdict.{Verdict}
 use Rattle.metric.specs.declared.metric.Content.{Content}
@@ -25,10 +25,10 @@ use Rattle.pipeline_core.specs.CoreState.{CoreState}
 use Rattle.out_lane.specs.LaneEvents.{LaneEvent}
 use Rattle.pipeline_core.specs.Legal.{IsLegal, has_stop, is_stop}
 use Rattle.pipeline_core.specs.Offers.{lane_events, lane_events_by}
-use Rattle.pipeline_core.specs.Moments.{IsStoppedAt}
-use Rattle.pipeline_core.specs.Steps.{after_take, after_route, after_cut, route_entry, stop_entry}
+use Rattle.pipeline_core.specs.Moments.{IsStoppedAt, IsTickedAt}
+use Rattle.pipeline_core.specs.Steps.{after_take, after_route, after_cut, route_entry, stop_entry, tick_entry}
 use Rattle.pipeline_core.specs.Steps.{moment_at}
-use Rattle.pipeline_core.specs.Shapes.{IsRouteEntry, IsStopEntry}
+use Rattle.pipeline_core.specs.Shapes.{IsRouteEntry, IsStopEntry, IsTickEntry}
 use Rattle.pipeline_core.proofs.ShapeLemmas.{entries-have-shape}
 use Rattle.pipeline_core.proofs.JournalPush.{lane_events-push}
 use Rattle.pipeline_core.proofs.RawLemmas.{raw_of-push, raw_of-none, none_of_made}
@@ -36,8 +36,8 @@ use Rattle.pipeline_core.specs.Stands.{Stands, Continues}
 use Rattle.account.specs.Dones.{dones_by, dones}
 use Rattle.pipeline_core.specs.Stopped.{behind_stop}
 use Rattle.agent_workers.specs.Noted.{JournalPart, Notes, NotesOn}
-use Rattle.pipeline_core.specs.Order.{EndsFailed, IsFlushed, IsOrderly}
-use Rattle.pipeline_core.specs.Worked.{taken_items, views_of, Worked}
+use Rattle.pipeline_core.specs.Order.{EndsFailed, IsFlushed, IsOrderly, IsTicked, is_tick, routes_gathered}
+use Rattle.pipeline_core.specs.Worked.{views_of, Worked}
 use Rattle.pipeline_core.specs.declared.routing.Routed.{Routed}
 use Rattle.proc_chain.specs.Chain.{steps_of, AllStand, StageState}
 use Rattle.proc_chain.specs.declared.step.Step.{Step}
@@ -46,14 +46,16 @@ use Rattle.agent_workers.specs.Job.{filters_of, journal_setup_of, output_sizes, 
 use Rattle.account.specs.Routes.{RouteOnInOrder}
 use Rattle.agent_workers.specs.Inputs.{InPart, in_at, no_in}
 use Rattle.agent_workers.specs.RunState.{RunState, Beginning, setup_at}
-use Rattle.agent_workers.specs.Progress.{HasText, Heard, AllHeard, Said, AllSaid, HasOrder, Progress}
+use Rattle.agent_workers.specs.Progress.{HasText, Heard, AllHeard, Said, AllSaid, HasOrder, Progress, StaysTicked}
+use Rattle.agent_workers.specs.Progress.{pushed_items}
 use Rattle.formats.specs.Batches.{batch_text}
 use Rattle.agent_workers.specs.Output.{OutPart, out_at, anew, AreAnew}
 use Rattle.pipeline_core.specs.Totals.{totals}
 use Rattle.pipeline_core.specs.Windows.{HasNoAggs}
 use Rattle.agent_workers.specs.Run.{buffered_at_end}
-use Rattle.agent_workers.specs.Item.{IsSameProc, ProcPart, Pushes, TakesNext, routed_by, work_by}
-use Rattle.agent_workers.specs.Running.{buffered_at, AreSettled}
+use Rattle.agent_workers.specs.Item.{IsSameProc, Makes, ProcPart, TakesNext, routed_by, seen_by, work_by}
+use Rattle.agent_workers.specs.Running.{buffered_at, AllMade, AreSettled}
+use Rattle.agent_config.specs.declared.config.AggConf.{AggConf}
 use Rattle.agent_workers.proofs.OutLemmas.{each_set, at_anew}
 use Rattle.agent_workers.proofs.FailedLemmas.{failed_same}
 use Rattle.agent_workers.proofs.HeardLemmas.{IsNotOf, heard_push}
@@ -63,11 +65,13 @@ use Rattle.pipeline_core.proofs.StopLemmas.{behind_stop-push, stop_before}
 use Rattle.pipeline_core.proofs.RouteLemmas.{legal_rest_in_order}
 use Rattle.account.proofs.MomentLemmas.{counted_moments-push, counted_moments-same}
 use Rattle.agent_workers.proofs.MomentLemmas.{counted_from-last}
-use Rattle.pipeline_core.proofs.OrderLemmas.{in_order-push, flushed_plain}
+use Rattle.pipeline_core.proofs.OrderLemmas.{in_order-push, ticked_plain}
 use Rattle.pipeline_core.proofs.SentLemmas.{EndsNone}
 use Rattle.agent_workers.proofs.SentLemmas.{sent_same}
-use Rattle.pipeline_core.proofs.WorkedLemmas.{worked-push, worked_next, first_raw, item_stays, taken_items-same}
-use Rattle.pipeline_core.proofs.WorkedLemmas.{taken_items-take}
+use Rattle.pipeline_core.proofs.WorkedLemmas.{worked-push, worked_route, first_raw, item_stays, made_stays}
+use Rattle.agent_workers.proofs.PushedLemmas.{made_is, pushed_on, pushed_same, whole_made}
+use Rattle.agent_workers.proofs.TickLemmas.{ticked-push, ticked-tick}
+use Rattle.std.proofs.lemmas.Option.{slice_get_within}
 
 -- the core stands for one entry more, and stores it
 pub text-push : (start : Beginning) (core next : CoreState) (part : JournalPart) (journal : List Entry) (e : Entry)
@@ -133,15 +137,27 @@ all_heard_set starts ins old new i part b here others h = each_set
 
 -- ---- the order
 
-pub order-push : (start : Beginning) (core : CoreState) (next last : ℕ) (journal : List Entry) (e : Entry)
-    → Stands core journal → next ≤ last → (start.front ≡ [] → IsOrderly (setup_at start) journal e)
-    → ((input : ℕ) → last ≤ input → filter (is_of_input input) (origins_by e) ≡ []) → HasOrder start next journal
-    → HasOrder start last (journal ++ e ∷ [])
-order-push start core next last journal e stands l orderly none h = record {
+order_with : (start : Beginning) (core : CoreState) (next last : ℕ) (ticked new_ticked : Bool) (journal : List Entry)
+    (e : Entry) → Stands core journal → next ≤ last → (start.front ≡ [] → IsOrderly (setup_at start) journal e)
+    → ((input : ℕ) → last ≤ input → filter (is_of_input input) (origins_by e) ≡ [])
+    → (new_ticked ≡ true → start.front ≡ [] → IsTicked (setup_at start) (journal ++ e ∷ []))
+    → HasOrder start next ticked journal → HasOrder start last new_ticked (journal ++ e ∷ [])
+order_with start core next last ticked new_ticked journal e stands l orderly none ticks h = record {
   in_order = λ f. in_order-push (setup_at start) journal e (h.in_order f) (orderly f);
   none_raw = λ f input b. raw_of-push core.setup input journal e stands.legal (h.none_raw f input (omega (arith, l, b)))
       (none input b);
+  has_ticked = ticks;
 }
+
+-- an entry that is no tick, and routes nothing that was gathered
+pub order-push : (start : Beginning) (core : CoreState) (next last : ℕ) (ticked : Bool) (journal : List Entry) (e : Entry)
+    → is_tick e ≡ false → routes_gathered (journal ++ e ∷ []) e ≡ false → Worked start.job.work journal
+    → Stands core journal → next ≤ last → (start.front ≡ [] → IsOrderly (setup_at start) journal e)
+    → ((input : ℕ) → last ≤ input → filter (is_of_input input) (origins_by e) ≡ []) → HasOrder start next ticked journal
+    → HasOrder start last ticked (journal ++ e ∷ [])
+order-push start core next last ticked journal e no_tick still worked stands l orderly none h =
+    order_with start core next last ticked ticked journal e stands l orderly none
+    (λ t f. ticked-push start.job.work journal (setup_at start) e no_tick still worked (h.has_ticked t f)) h
 
 -- where no item is raw none is of an input
 pub went_next : (start : Beginning) (core : CoreState) (now : RunState) (next : ℕ) → core.raw ≡ []
@@ -160,6 +176,7 @@ went_next start core now next none w = record {
     in_order = w.order.in_order;
     none_raw = λ f input b. raw_of-none input w.journal
         (sym w.text.stands.raw ∙ none);
+    has_ticked = w.order.has_ticked;
   };
   counted_at = w.counted_at;
 }
@@ -199,6 +216,7 @@ went_behind start core now next last l w = record {
     in_order = w.order.in_order;
     none_raw = λ f input b. w.order.none_raw f input
         (omega (arith, l, b));
+    has_ticked = w.order.has_ticked;
   };
   counted_at = w.counted_at;
 }
@@ -300,69 +318,118 @@ went_anew start core now outs new_outs are w = record {
 }
 
 -- the steps stand for the same items after an entry that takes none
-pub pushed_still : (core : CoreState) (chain : List StageState) (journal : List Entry) (e : Entry) → Stands core journal
-    → takes_by e ≡ 0 → AllStand chain (taken_items journal) → AllStand chain (taken_items (journal ++ e ∷ []))
-pushed_still core chain journal e stands none h =
-    subst (AllStand chain) (sym (taken_items-same core.setup journal e stands.legal none)) h
+pub pushed_still : (core : CoreState) (proc : ProcPart) (journal : List Entry) (e : Entry) → Stands core journal
+    → takes_by e ≡ 0 → AllStand proc.chain (pushed_items proc.skip journal)
+    → AllStand proc.chain (pushed_items proc.skip (journal ++ e ∷ []))
+pushed_still core proc journal e stands none h =
+    subst (AllStand proc.chain) (sym (pushed_same core.setup proc.skip journal e stands.legal none)) h
+
+-- the work stays, where the steps, the aggregators and the outputs do
+work_same : (work : Work) (proc new_proc : ProcPart) → IsSameProc proc new_proc → work ≡ work_by proc → work ≡ work_by new_proc
+work_same work proc new_proc same is =
+    is ∙ ap (λ (steps : List Step). work_of proc.skip steps proc.aggs proc.outs) (sym same.steps)
+    ∙ ap (λ (skip : Bool). work_of skip (steps_of new_proc.chain) proc.aggs proc.outs) (sym same.skip)
+    ∙ ap (λ (aggs : List AggConf). work_of new_proc.skip (steps_of new_proc.chain) aggs proc.outs) (sym same.aggs)
+    ∙ ap (work_of new_proc.skip (steps_of new_proc.chain) new_proc.aggs) (sym same.outs)
+
+first_mark : (marks : List Bool) (mark : Bool) → AllMade marks → slice_get marks 0 ≡ Some mark → mark ≡ true
+first_mark [] mark h at = absurd (let x : None ≡ Some mark = at in cc)
+first_mark (m ∷ marks) mark h at =
+    let same : Some m ≡ Some mark = at in
+    let one : m ≡ true = h.0 in
+    cc
 
 -- the first raw item was taken and routed
-pub went_route : (start : Beginning) (core mid next : CoreState) (now : RunState) (proc new_proc : ProcPart)
-    (metric : Content) (whole : Option Content) (answer : Verdict) → AreAnew now.outs
-    → slice_get core.raw 0 ≡ Some metric → mid ≡ after_take core → Continues core mid (Take core.taken)
-    → next ≡ after_route mid (routed_by proc.outs core.taken whole) answer next.bank
-    → Continues mid next (route_entry (routed_by proc.outs core.taken whole) answer)
-    → Pushes proc new_proc metric whole → IsSameProc proc new_proc → Progress start
-    (record now { core = core; proc = proc })
-    → Progress start (record now { core = next; proc = new_proc })
-went_route start core mid next now proc new_proc metric whole answer fresh first took takes routed routes pushes same w =
-    let routing : Routed = routed_by proc.outs core.taken whole in
-    let shape : IsRouteEntry routing (route_entry routing answer) = entries-have-shape.routes routing answer in
-    let verdict : Verdict = shape.0 in
-    let reports : List Report = shape.1 in
-    let t : Entry = Take core.taken in
-    let e : Entry = Route core.taken whole verdict [] (views_of (filters_of proc.outs) whole) reports in
-    let at : slice_get (items w.journal) core.taken ≡ Some metric =
-    first_raw core w.journal metric w.text.stands first in
-    let there : slice_get (items (w.journal ++ t ∷ [])) core.taken ≡ Some metric =
-    item_stays w.journal t core.taken metric at in
-    let work : Work = work_by proc in
-    let before : Worked work w.journal = subst (λ (x : Work). Worked x w.journal) w.work_is w.worked in
-    let count : core.taken ≡ taken w.journal = w.text.stands.taken_is in
-    let pushed : taken_items (w.journal ++ t ∷ []) ≡ taken_items w.journal ++ metric ∷ [] =
-    taken_items-take w.journal core.taken metric
-    (subst (λ (n : ℕ). slice_get (items w.journal) n ≡ Some metric) count at) in
-    let front : taken_items w.journal ≡ take core.taken (items (w.journal ++ t ∷ [])) =
-    ap (λ (n : ℕ). take n (items w.journal)) (sym count)
-    ∙ ap (take core.taken) (sym (items-push w.journal t ∙ append-nil (items w.journal))) in
-    record {
-      journal = (w.journal ++ t ∷ []) ++ e ∷ [];
-      text = text-push start mid next now.journal (w.journal ++ t ∷ []) e
-          (text-push start core mid now.journal w.journal t w.text takes (ap (λ (x : CoreState). x.stored) took)
-          (ap (λ (x : CoreState). x.setup) took)) (subst (Continues mid next) shape.2 routes)
-          (ap (λ (x : CoreState). x.stored) routed ∙ ap (λ (x : Entry). mid.stored ++ x ∷ []) shape.2)
-          (ap (λ (x : CoreState). x.setup) routed);
-      in_count = w.in_count;
-      heard = all_heard_push start.ins now.ins (w.journal ++ t ∷ []) e (λ k. record { none = refl; other = refl })
-          (all_heard_push start.ins now.ins w.journal t (λ k. record { none = refl; other = refl }) w.heard);
-      out_count = w.out_count;
-      said = all_said_anew start.outs now.outs (w.journal ++ t ∷ []) e fresh (λ o. tt) (λ o. refl)
-          (all_said_push start.outs now.outs w.journal t (λ o. record { ends = tt; none = refl; quiet = refl }) refl
-          w.said);
-      work_is = w.work_is ∙ ap (λ (steps : List Step). work_of steps proc.outs) (sym same.steps)
-          ∙ ap (work_of (steps_of new_proc.chain)) (sym same.outs);
-      worked = subst (λ (x : Work). Worked x ((w.journal ++ t ∷ []) ++ e ∷ [])) (sym w.work_is)
-          (worked_next work (w.journal ++ t ∷ []) core.taken metric whole verdict reports refl refl there
-          (pushes.whole_is (taken_items w.journal) w.pushed
-          ∙ ap (λ (xs : List Content). work.whole (xs ++ metric ∷ [])) front)
-          (worked-push work w.journal t tt before));
-      pushed = pushed_still mid new_proc.chain (w.journal ++ t ∷ []) e (takes w.journal w.text.stands) refl
-          (subst (AllStand new_proc.chain) (sym pushed) (pushes.stands (taken_items w.journal) w.pushed));
-      order = order-push start mid now.next now.next (w.journal ++ t ∷ []) e (takes w.journal w.text.stands)
-          (omega arith) (λ f. tt) (λ k b. refl) (order-push start core now.next now.next w.journal t w.text.stands
-          (omega arith) (λ f. tt) (λ k b. refl) w.order);
-      counted_at = counted_moments-same (w.journal ++ t ∷ []) e refl ∙ counted_moments-same w.journal t refl
-          ∙ w.counted_at;
-    }
+module _ (start : Beginning) (core mid next : CoreState) (now : RunState) (proc new_proc : ProcPart) (item : Item)
+    (whole : Option Content) (answer : Verdict) (ticked : Bool) (fresh : AreAnew now.outs)
+    (stays : StaysTicked now.ticked ticked core) (takes : TakesNext core mid item)
+    (routed : next ≡ after_route mid (routed_by proc item whole) answer next.bank)
+    (routes : Continues mid next (route_entry (routed_by proc item whole) answer))
+    (makes : Makes proc new_proc item whole) (same : IsSameProc proc new_proc)
+    (w : Progress start (record now { core = core; proc = proc })) where
+  abbrev taking : Entry
+  taking = Take core.taken
+
+  abbrev between : List Entry
+  between = w.journal ++ Take core.taken ∷ []
+
+  shape : IsRouteEntry (routed_by proc item whole) (route_entry (routed_by proc item whole) answer)
+  shape = entries-have-shape.routes (routed_by proc item whole) answer
+
+  abbrev routing : Entry
+  routing = Route core.taken whole shape.0 (seen_by proc.aggs item.made whole) (views_of (filters_of proc.outs) whole)
+      shape.1
+
+  at : slice_get (items w.journal) core.taken ≡ Some item.metric
+  at = first_raw core w.journal item.metric w.text.stands takes.metric
+
+  stood : Stands mid between
+  stood = takes.continues w.journal w.text.stands
+
+  made_is_so : is_made between core.taken ≡ item.made
+  made_is_so = made_is core mid proc new_proc item.made item.metric whole w.journal takes.after w.text.stands stood
+      takes.mark at makes w.pushed
+
+  -- its entry
+  entry_is : route_entry (routed_by proc item whole) answer ≡ routing
+  entry_is = shape.2 ∙ ap (λ (n : ℕ). Route n whole shape.0 (seen_by proc.aggs item.made whole)
+      (views_of (filters_of proc.outs) whole) shape.1) takes.number
+
+  worked_between : Worked start.job.work between
+  worked_between = worked-push start.job.work w.journal taking tt w.worked
+
+  worked_now : Worked start.job.work (between ++ routing ∷ [])
+  worked_now = subst (λ (x : Work). Worked x (between ++ routing ∷ [])) (sym w.work_is)
+      (worked_route (work_by proc) between core.taken item.metric whole shape.0 (seen_by proc.aggs item.made whole) shape.1
+      (item_stays w.journal taking core.taken item.metric at)
+      (whole_made core mid proc new_proc item.made item.metric whole w.journal takes.after w.text.stands stood
+      takes.mark at makes w.pushed)
+      (ap (λ (b : Bool). seen_by proc.aggs b whole) (sym made_is_so))
+      (subst (λ (x : Work). Worked x between) w.work_is worked_between))
+
+  pushed_now : AllStand new_proc.chain (pushed_items new_proc.skip (between ++ routing ∷ []))
+  pushed_now = pushed_still mid new_proc between routing stood refl
+      (subst (λ (skip : Bool). AllStand new_proc.chain (pushed_items skip between)) (sym same.skip)
+      (pushed_on core mid proc new_proc item.made item.metric whole w.journal takes.after w.text.stands stood
+      takes.mark at makes w.pushed))
+
+  -- where it had been made, and all before it, a tick has come still
+  ticked_now : ticked ≡ true → start.front ≡ [] → IsTicked (setup_at start) (between ++ routing ∷ [])
+  ticked_now t f =
+      let so : (now.ticked ≡ true) × AllMade core.made = stays t in
+      let here : is_made between core.taken ≡ true =
+      made_is_so ∙ first_mark core.made item.made so.1 takes.mark in
+      let there : is_made (between ++ routing ∷ []) core.taken ≡ true =
+      made_stays between routing core.taken (slice_get_within (items between) core.taken item.metric
+      (item_stays w.journal taking core.taken item.metric at)) ∙ here in
+      ticked-push start.job.work between (setup_at start) routing refl (ap not there) worked_between
+      (ticked-push start.job.work w.journal (setup_at start) taking refl refl w.worked (w.order.has_ticked so.0 f))
+
+  pub went_item : Progress start (record now { core = next; proc = new_proc; ticked = ticked })
+  went_item = record {
+    journal = between ++ routing ∷ [];
+    text = text-push start mid next now.journal between routing
+        (text-push start core mid now.journal w.journal taking w.text takes.continues
+        (ap (λ (x : CoreState). x.stored) takes.after)
+        (ap (λ (x : CoreState). x.setup) takes.after)) (subst (Continues mid next) entry_is routes)
+        (ap (λ (x : CoreState). x.stored) routed ∙ ap (λ (x : Entry). mid.stored ++ x ∷ []) entry_is)
+        (ap (λ (x : CoreState). x.setup) routed);
+    in_count = w.in_count;
+    heard = all_heard_push start.ins now.ins between routing (λ k. record { none = refl; other = refl })
+        (all_heard_push start.ins now.ins w.journal taking (λ k. record { none = refl; other = refl }) w.heard);
+    out_count = w.out_count;
+    said = all_said_anew start.outs now.outs between routing fresh (λ o. tt) (λ o. refl)
+        (all_said_push start.outs now.outs w.journal taking (λ o. record { ends = tt; none = refl; quiet = refl }) refl
+        w.said);
+    work_is = work_same start.job.work proc new_proc same w.work_is;
+    worked = worked_now;
+    pushed = pushed_now;
+    order = order_with start mid now.next now.next now.ticked ticked between routing stood
+        (omega arith) (λ f. tt) (λ k b. refl) ticked_now
+        (order-push start core now.next now.next now.ticked w.journal taking refl refl w.worked w.text.stands
+        (omega arith) (λ f. tt) (λ k b. refl) w.order);
+    counted_at = counted_moments-same between routing refl ∙ counted_moments-same w.journal taking refl ∙ w.counted_at;
+  }
 
 -- the stored entries were noted
 pub went_cut : (start : Beginning) (core next : CoreState) (part more : JournalPart) (now : RunState)
@@ -389,43 +456,44 @@ pub went_uncut : (start : Beginning) (core next : CoreState) (now : RunState) �
     → Progress start (record now { core = core }) → Progress start (record now { core = next })
 went_uncut start core next now is w = subst (λ (s : CoreState). Progress start (record now { core = s })) (sym is) w
 
--- a run whose core has no aggregators began without them
-pub aggs_start : (start : Beginning) (core : CoreState) (now : RunState) → Progress start (record now { core = core })
-    → HasNoAggs core.setup → HasNoAggs (setup_at start)
-aggs_start start core now w none = subst HasNoAggs w.text.setup_is none
-
--- where the outputs are settled nothing is buffered at each of them, or the last batch failed there
+-- where the outputs are settled, and a tick has come, all was sent, as far as that could be
 pub all_flushed : (start : Beginning) (core : CoreState) (now : RunState)
-    (w : Progress start (record now { core = core })) → HasNoAggs core.setup → AreSettled core now.outs
+    (w : Progress start (record now { core = core })) → IsTicked (setup_at start) w.journal → AreSettled core now.outs
     → IsFlushed (setup_at start) w.journal
-all_flushed start core now w no_aggs settled =
-    flushed_plain (setup_at start) w.journal (aggs_start start core now w no_aggs)
-    (λ o within.
-    let b : o < length now.outs = omega (arith, within, w.out_count, length-map start.job.outputs output_sizes) in
-    elim (settled o b) [
-      | inl none ↦ inl (sym (buffered_is start core now.journal w.journal w.text o) ∙ none)
-      | inr some ↦ inr ((w.said o b).stuck some)
-    ])
+all_flushed start core now w ticked settled = record {
+  each = λ o within.
+      let b : o < length now.outs = omega (arith, within, w.out_count, length-map start.job.outputs output_sizes) in
+      elim (settled o b) [
+        | inl none ↦ inl (sym (buffered_is start core now.journal w.journal w.text o) ∙ none)
+        | inr some ↦ inr ((w.said o b).stuck some)
+      ];
+  ticked = ticked;
+}
 
--- the counts of failed batches begin anew, and the run is stopped at a moment: no item was raw, and the outputs
--- were settled
+-- the moment of a step counts behind those that were counted
+counted_so : (start : Beginning) (core : CoreState) (now : RunState) (w : Progress start (record now { core = core }))
+    → core.counted ≡ last_of start.start now.counted_at
+counted_so start core now w =
+    w.text.stands.counted ∙ counted_from-last core.setup.start w.journal
+    ∙ ap (λ (ms : List ℤ). last_of core.setup.start ms) w.counted_at
+    ∙ ap (λ (s : Setup). last_of s.start now.counted_at) w.text.setup_is
+
+-- the counts of failed batches begin anew, and the run is stopped at a moment: no item was raw, the outputs were
+-- settled, and a tick had come
 pub went_stop : (start : Beginning) (core next : CoreState) (now : RunState) (outs new_outs : List OutPart) (moment : ℤ)
-    → HasNoAggs core.setup → core.raw ≡ [] → AreSettled core outs → new_outs ≡ map anew outs → AreAnew new_outs
+    → core.raw ≡ [] → AreSettled core outs → new_outs ≡ map anew outs → AreAnew new_outs
     → IsStoppedAt moment core next
-    → Progress start (record now { core = core; outs = outs })
+    → Progress start (record now { core = core; outs = outs; ticked = true })
     → Progress start (record now {
       core = next;
       outs = new_outs;
       counted_at = now.counted_at ++ int_max moment (last_of start.start now.counted_at) ∷ [];
+      ticked = true;
     })
-went_stop start core next now outs new_outs moment no_aggs none_raw settled are fresh stops w =
+went_stop start core next now outs new_outs moment none_raw settled are fresh stops w =
     let shape : IsStopEntry (moment_at core moment) (stop_entry core moment stops.metrics) =
     entries-have-shape.stops core moment stops.metrics in
     let e : Entry = Stop (int_max moment core.counted) shape.0 in
-    let counted : core.counted ≡ last_of start.start now.counted_at =
-    w.text.stands.counted ∙ counted_from-last core.setup.start w.journal
-    ∙ ap (λ (ms : List ℤ). last_of core.setup.start ms) w.counted_at
-    ∙ ap (λ (s : Setup). last_of s.start now.counted_at) w.text.setup_is in
     record {
       journal = w.journal ++ e ∷ [];
       text = text-push start core next now.journal w.journal e w.text (subst
@@ -439,29 +507,77 @@ went_stop start core next now outs new_outs moment no_aggs none_raw settled are 
           (all_said_fresh start.outs outs new_outs w.journal are w.said);
       work_is = w.work_is;
       worked = worked-push start.job.work w.journal e tt w.worked;
-      pushed = pushed_still core now.proc.chain w.journal e w.text.stands refl w.pushed;
-      order = order-push start core now.next now.next w.journal e w.text.stands (omega arith)
+      pushed = pushed_still core now.proc w.journal e w.text.stands refl w.pushed;
+      order = order-push start core now.next now.next true w.journal e refl refl w.worked w.text.stands (omega arith)
           (λ f. record {
             none_raw = sym w.text.stands.raw ∙ none_raw;
-            flushed = all_flushed start core (record now { outs = outs }) w no_aggs settled;
+            flushed = all_flushed start core (record now { outs = outs; ticked = true }) w (w.order.has_ticked refl f)
+                settled;
           })
           (λ k b. none_of_made k (length shape.0)) w.order;
       counted_at = counted_moments-push w.journal e ∙ ap (λ (ms : List ℤ). ms ++ int_max moment core.counted ∷ [])
-          w.counted_at ∙ ap (λ (m : ℤ). now.counted_at ++ int_max moment m ∷ []) counted;
+          w.counted_at ∙ ap (λ (m : ℤ). now.counted_at ++ int_max moment m ∷ [])
+          (counted_so start core (record now { outs = outs; ticked = true }) w);
     }
 
--- the same of an item with the number of the first raw one
-pub went_item : (start : Beginning) (core mid next : CoreState) (now : RunState) (proc new_proc : ProcPart)
-    (item : Item)
-    (whole : Option Content) (answer : Verdict) → AreAnew now.outs → TakesNext core mid item
-    → next ≡ after_route mid (routed_by proc.outs item.number whole) answer next.bank
-    → Continues mid next (route_entry (routed_by proc.outs item.number whole) answer)
-    → Pushes proc new_proc item.metric whole → IsSameProc proc new_proc
-    → Progress start (record now { core = core; proc = proc })
-    → Progress start (record now { core = next; proc = new_proc })
-went_item start core mid next now proc new_proc item whole answer fresh takes routed routes pushes same w =
-    went_route start core mid next now proc new_proc item.metric whole answer fresh takes.metric takes.after
-    takes.continues
-    (subst (λ (n : ℕ). next ≡ after_route mid (routed_by proc.outs n whole) answer next.bank) takes.number routed)
-    (subst (λ (n : ℕ). Continues mid next (route_entry (routed_by proc.outs n whole) answer)) takes.number routes)
-    pushes same w
+-- windows are closed at a moment, which counts: a tick has come
+pub went_tick : (start : Beginning) (core next : CoreState) (now : RunState) (moment : ℤ) → IsTickedAt moment core next
+    → Progress start (record now { core = core })
+    → Progress start (record now {
+      core = next;
+      counted_at = now.counted_at ++ int_max moment (last_of start.start now.counted_at) ∷ [];
+      ticked = true;
+    })
+went_tick start core next now moment ticks w =
+    let shape : IsTickEntry (moment_at core moment) (tick_entry core moment ticks.metrics) =
+    entries-have-shape.ticks core moment ticks.metrics in
+    let e : Entry = Tick (int_max moment core.counted) shape.0 in
+    record {
+      journal = w.journal ++ e ∷ [];
+      text = text-push start core next now.journal w.journal e w.text (subst
+          (Continues core next) shape.1 ticks.continues)
+          (ap (λ (s : CoreState). s.stored) ticks.after ∙ ap (λ (x : Entry). core.stored ++ x ∷ []) shape.1)
+          (ap (λ (s : CoreState). s.setup) ticks.after);
+      in_count = w.in_count;
+      heard = all_heard_push start.ins now.ins w.journal e (λ k. record { none = refl; other = refl }) w.heard;
+      out_count = w.out_count;
+      said = all_said_push start.outs now.outs w.journal e (λ o. record { ends = tt; none = refl; quiet = refl }) refl
+          w.said;
+      work_is = w.work_is;
+      worked = worked-push start.job.work w.journal e tt w.worked;
+      pushed = pushed_still core now.proc w.journal e w.text.stands refl w.pushed;
+      order = order_with start core now.next now.next now.ticked true w.journal e w.text.stands (omega arith)
+          (λ f. tt) (λ k b. none_of_made k (length shape.0))
+          (λ t f. ticked-tick (setup_at start) w.journal (int_max moment core.counted) shape.0) w.order;
+      counted_at = counted_moments-push w.journal e ∙ ap (λ (ms : List ℤ). ms ++ int_max moment core.counted ∷ [])
+          w.counted_at ∙ ap (λ (m : ℤ). now.counted_at ++ int_max moment m ∷ []) (counted_so start core now w);
+    }
+
+-- another mark, where it is true that a tick has come if the mark says so
+went_marked : (start : Beginning) (now : RunState) (ticked : Bool) (w : Progress start now)
+    → (ticked ≡ true → start.front ≡ [] → IsTicked (setup_at start) w.journal)
+    → Progress start (record now { ticked = ticked })
+went_marked start now ticked w has_ticked = record {
+  journal = w.journal;
+  text = w.text;
+  in_count = w.in_count;
+  heard = w.heard;
+  out_count = w.out_count;
+  said = w.said;
+  work_is = w.work_is;
+  worked = w.worked;
+  pushed = w.pushed;
+  order = record { in_order = w.order.in_order; none_raw = w.order.none_raw; has_ticked = has_ticked };
+  counted_at = w.counted_at;
+}
+
+-- whether a tick has come may be left open
+pub went_unticked : (start : Beginning) (now : RunState) (ticked : Bool) → (ticked ≡ true → now.ticked ≡ true)
+    → Progress start now → Progress start (record now { ticked = ticked })
+went_unticked start now ticked only w = went_marked start now ticked w (λ t f. w.order.has_ticked (only t) f)
+
+-- where there are no aggregators no tick has to come
+pub went_tickless : (start : Beginning) (core : CoreState) (now : RunState) → HasNoAggs core.setup
+    → Progress start (record now { core = core }) → Progress start (record now { core = core; ticked = true })
+went_tickless start core now none w = went_marked start (record now { core = core }) true w
+    (λ t f. ticked_plain (setup_at start) w.journal (subst HasNoAggs w.text.setup_is none))

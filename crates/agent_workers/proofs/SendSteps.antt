@@ -116,11 +116,12 @@ module _ (start : Beginning) (core mid next : CoreState) (now : RunState) (old n
         said = said_done reports ok w.journal w.said said;
         work_is = w.work_is;
         worked = worked-push start.job.work between end tt (worked-push start.job.work w.journal begin tt w.worked);
-        pushed = pushed_still mid now.proc.chain between end (begins w.journal w.text.stands) refl
-            (pushed_still core now.proc.chain w.journal begin w.text.stands refl w.pushed);
-        order = order-push start mid now.next now.next between end (begins w.journal w.text.stands) (omega arith)
+        pushed = pushed_still mid now.proc between end (begins w.journal w.text.stands) refl
+            (pushed_still core now.proc w.journal begin w.text.stands refl w.pushed);
+        order = order-push start mid now.next now.next now.ticked between end refl refl
+            (worked-push start.job.work w.journal begin tt w.worked) (begins w.journal w.text.stands) (omega arith)
             (λ f. tt) (λ k b. refl)
-            (order-push start core now.next now.next w.journal begin w.text.stands (omega arith)
+            (order-push start core now.next now.next now.ticked w.journal begin refl refl w.worked w.text.stands (omega arith)
             (λ f. sym w.text.stands.raw ∙ routed) (λ k b. refl) w.order);
         counted_at = counted_moments-same between end refl ∙ counted_moments-same w.journal begin refl ∙ w.counted_at;
       }

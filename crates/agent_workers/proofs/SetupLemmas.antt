@@ -1,13 +1,16 @@
 -- What a run of a configuration is about.
 use Rattle.std.proofs.Common.{◌≡◌, ◌≤◌, ◌<◌, ℕ, zero, suc, ℤ, false, List, [], ◌∷◌, replicate, length, get_or, refl}
 use Rattle.std.proofs.Common.{sym, ap, ◌∙◌, subst, arith}
-use Rattle.std.specs.Prelude.{map, All}
+use Rattle.std.specs.Prelude.{map, pos, All}
 use Rattle.std.specs.declared.option.Option.{Option}
 use Rattle.std.proofs.lemmas.List.{length-map, get_or-map}
 use Rattle.account.specs.Numbers.{unreached_output}
 use Rattle.account.specs.declared.numbers.OutputNumbers.{OutputNumbers}
 use Rattle.account.specs.declared.setup.AggLine.{AggLine}
-use Rattle.agent_config.specs.Sound.{HasSizes}
+use Rattle.account.specs.declared.setup.AggWord.TheVariants as words
+use Rattle.account.specs.AggLines.{IsLine}
+use Rattle.agent_config.specs.Sound.{HasSizes, HasTimes}
+use Rattle.agent_config.specs.declared.config.AggConf.{AggConf}
 use Rattle.agent_config.specs.declared.config.Config.{Config}
 use Rattle.agent_config.specs.declared.config.InputConf.{InputConf}
 use Rattle.agent_config.specs.declared.config.OutputConf.{OutputConf}
@@ -18,7 +21,7 @@ use Rattle.pipeline_core.specs.CoreState.{CoreState, first_state, most_undeliver
 use Rattle.pipeline_core.specs.declared.setup.CoreSetup.{CoreSetup}
 use Rattle.pipeline_core.specs.declared.setup.InSetup.{InSetup}
 use Rattle.pipeline_core.specs.declared.setup.OutSetup.{OutSetup}
-use Rattle.agent_workers.specs.Job.{job_of, job_input, job_output, journal_setup_of, limit_by, limit_of, setup_of}
+use Rattle.agent_workers.specs.Job.{job_of, job_input, job_output, journal_setup_of, limit_by, limit_of, line_of, setup_of}
 use Rattle.agent_workers.specs.Job.{sizes_by, output_sizes}
 use Rattle.agent_workers.specs.Opened.{in_setup, out_setup}
 use Rattle.agent_workers.specs.Running.{buffered_at}
@@ -43,7 +46,7 @@ core_sizes (conf ∷ confs) = ap (λ (xs : List (ℕ × ℕ)). sizes_by conf ∷
 
 -- what the journal is about
 pub about_of : (config : Config) (start first : ℤ) (inputs : List (Option ℕ)) (aggs : List AggLine)
-    (outputs : List (ℕ × ℕ)) → first ≡ start → inputs ≡ map limit_by config.inputs → aggs ≡ []
+    (outputs : List (ℕ × ℕ)) → first ≡ start → inputs ≡ map limit_by config.inputs → aggs ≡ map line_of config.aggs
     → outputs ≡ map sizes_by config.outputs →
     record { start = first; inputs = inputs; aggs = aggs; outputs = outputs } ≡ journal_setup_of
     (setup_of (job_of config) start)
@@ -52,8 +55,8 @@ about_of config start first inputs aggs outputs g e n f = rw
 
 -- what the core is about
 pub core_is : (config : Config) (inputs : List InSetup) (aggs : List AggLine) (outputs : List OutSetup)
-    (start first : ℤ) → inputs ≡ map in_setup config.inputs → aggs ≡ [] → outputs ≡ map out_setup config.outputs
-    → first ≡ start →
+    (start first : ℤ) → inputs ≡ map in_setup config.inputs → aggs ≡ map line_of config.aggs
+    → outputs ≡ map out_setup config.outputs → first ≡ start →
     core_setup_of (record { inputs = inputs; aggs = aggs; outputs = outputs; start = first })
     ≡ setup_of (job_of config) start
 core_is config inputs aggs outputs start first e n f g = rw (
@@ -118,3 +121,19 @@ pub none_buffered_first : (setup : CoreSetup) (core : CoreState) (o : ℕ) → c
     → buffered_at core o ≡ 0
 none_buffered_first setup core o is = ap (λ (s : CoreState). buffered_at s o) is
     ∙ ap (λ (x : OutputNumbers). x.buffered) (default_of (length setup.outputs) o unreached_output)
+
+-- the lines of a configuration's aggregators are those of a bank
+no_agg : AggConf
+no_agg = record {
+  filter = no_rules;
+  line = record { kind = words.Merge; period = pos 0; delay = pos 0; grace = pos 0; dropping = false };
+}
+
+is_line : (conf : AggConf) → HasTimes conf → IsLine (line_of conf)
+is_line conf h = h
+
+pub are_lines : (confs : List AggConf) → All HasTimes confs → All IsLine (map line_of confs)
+are_lines confs h = λ k d l.
+    let within : k < length confs = omega (arith, l, length-map confs line_of) in
+    subst IsLine (sym (get_or-map line_of confs k no_agg d within))
+    (is_line (get_or confs k no_agg) (h k no_agg within))

@@ -41,7 +41,7 @@ pub record Finished (start : Beginning) (ending : Ending) (old new : RunState) :
   pub outputs_fit : AreOutputs (length start.job.outputs) new.outs
   pub heard : AllHeard start.ins new.ins journal
   pub said : AllSaid start.outs new.outs journal
-  -- the moments that count go on by one of the timer's
+  -- the moments that count go on by those that the timer gave
   pub counted : CountsOn old.timer new.timer.next start.start old.counted_at (counted_moments journal)
   pub in_order : start.front ≡ [] → InOrder (setup_at start) journal
   -- whether each input was read to its end, or why not; a limit was reached, or a read failed, exactly where a

@@ -1,10 +1,11 @@
 -- What a run is to do: a configuration, the job that it is, the set-up of the job's journal, and the
 -- journal's head are made one of the other.
-use Rattle.std.specs.Prelude.{ℕ, ℤ, false, List, [], map}
+use Rattle.std.specs.Prelude.{ℕ, ℤ, Bool, List, map}
 use Rattle.std.specs.declared.option.Option.{Option}
 use Rattle.std.specs.declared.option.Option.TheVariants.{None}
 use Rattle.account.specs.Setup.{Setup}
 use Rattle.account.specs.declared.setup.AggLine.{AggLine}
+use Rattle.agent_config.specs.declared.config.AggConf.{AggConf}
 use Rattle.agent_config.specs.declared.config.Config.{Config}
 use Rattle.agent_config.specs.declared.config.InputConf.{InputConf}
 use Rattle.agent_config.specs.declared.config.OutputConf.{OutputConf}
@@ -46,10 +47,15 @@ rule_by config conf = in_rule conf.format config.globals conf.filter config.agen
 abbrev pub filters_of : List OutputConf → List (Content → Option Content)
 filters_of outputs = map (λ (output : OutputConf). applied output.filter) outputs
 
--- what a run makes of its items: the whole is what the steps make of an item behind those before it, and each output's
--- filter gives the view of it
-abbrev pub work_of : List Step → List OutputConf → Work
-work_of steps outputs = record { skip = false; whole = whole_by steps; aggs = []; outs = filters_of outputs }
+-- those of aggregators
+abbrev pub agg_filters : List AggConf → List (Content → Option Content)
+agg_filters aggs = map (λ (agg : AggConf). applied agg.filter) aggs
+
+-- what a run makes of its items: the whole is what the steps make of an item behind those before it, but for what was made
+-- where it passes them by; and the filter of each aggregator and of each output gives the view of it
+abbrev pub work_of : Bool → List Step → List AggConf → List OutputConf → Work
+work_of skip steps aggs outputs = record
+    { skip = skip; whole = whole_by steps; aggs = agg_filters aggs; outs = filters_of outputs }
 
 -- how many groups of an input may be undelivered at most: none is tracked
 abbrev pub limit_by : InputConf → Option ℕ
@@ -61,17 +67,21 @@ job_input config conf = record { rule = rule_by config conf; most_undelivered = 
 abbrev pub job_output : OutputConf → JobOutput
 job_output conf = record { format = conf.format; batch = conf.batch; limit = conf.limit }
 
+-- an aggregator's line
+abbrev pub line_of : AggConf → AggLine
+line_of conf = conf.line
+
 -- an output's batch size and its buffer limit
 abbrev pub sizes_by : OutputConf → ℕ × ℕ
 sizes_by conf = (conf.batch, conf.limit)
 
--- the job that a configuration is: without aggregators
+-- the job that a configuration is
 abbrev pub job_of : Config → Job
 job_of config = record {
   inputs = map (job_input config) config.inputs;
-  aggs = [];
+  aggs = map line_of config.aggs;
   outputs = map job_output config.outputs;
-  work = work_of config.steps config.outputs;
+  work = work_of config.agent.skip_second config.steps config.aggs config.outputs;
   tries = config.agent.final_tries;
 }
 

@@ -1,13 +1,16 @@
 -- How far a run has come.
 use Rattle.std.specs.Prelude.{◌≡◌, ◌<◌, ◌≤◌, ◌⊎◌, ◌+◌, ◌^◌, ℕ, ℤ, Bool, true, List, [], ◌++◌, map, length}
-use Rattle.std.specs.Prelude.{IfSome, slice_set, ◌∷◌}
+use Rattle.std.specs.Prelude.{IfSome, slice_set, take, ◌∷◌}
+use Rattle.std.specs.List.{filter, zip}
 use Rattle.std.specs.Int.{int_max}
 use Rattle.account.specs.Says.{GatherSays}
-use Rattle.account.specs.Origins.{raw_of}
+use Rattle.account.specs.Items.{items, taken}
+use Rattle.account.specs.Origins.{Origin, origins, raw_of}
 use Rattle.account.specs.declared.entry.Entry.{Entry}
 use Rattle.agent_base.specs.Counts.{Rose, RoseBy}
 use Rattle.agent_base.specs.Cut.{Cut}
-use Rattle.agent_base.specs.Clocked.{Clocked, last_of}
+use Rattle.agent_base.specs.Carried.{Timed}
+use Rattle.agent_base.specs.Clocked.{Clocked, Counted, last_of}
 use Rattle.agent_base.specs.Hand.{Hand, to_come}
 use Rattle.agent_base.specs.Moments.{Moments}
 use Rattle.agent_base.specs.Told.{Told}
@@ -24,15 +27,16 @@ use Rattle.account.specs.Dones.{dones, failed_count, LastFailed}
 use Rattle.pipeline_core.specs.Stopped.{behind_stop}
 use Rattle.account.specs.EntryMoments.{counted_moments}
 use Rattle.agent_workers.specs.Noted.{JournalPart, Notes}
-use Rattle.pipeline_core.specs.Order.{EndsFailed, InOrder}
+use Rattle.pipeline_core.specs.Order.{EndsFailed, InOrder, IsTicked}
 use Rattle.agent_workers.specs.Job.{journal_setup_of}
 use Rattle.pipeline_core.specs.Sent.{Sent}
 use Rattle.formats.specs.Batches.{batch_text}
 use Rattle.agent_workers.specs.Output.{AppendsSo, OutPart, out_at, AreAnew, FailedLast}
 use Rattle.agent_workers.specs.Item.{ProcPart, work_by}
 use Rattle.agent_workers.specs.RunState.{RunState, Beginning, setup_at}
-use Rattle.agent_workers.specs.Running.{AreSettled}
-use Rattle.pipeline_core.specs.Worked.{Worked, taken_items}
+use Rattle.agent_workers.specs.Running.{AllMade, AreSettled}
+use Rattle.metric.specs.declared.metric.Content.{Content}
+use Rattle.pipeline_core.specs.Worked.{Worked, is_pushed}
 use Rattle.proc_chain.specs.Chain.{AllStand}
 
 -- the core stands for a journal, which goes on from the one that the run continues, and whose entries are
@@ -114,10 +118,18 @@ AllSaid starts outs journal =
     (output : ℕ) → output < length outs → Said (out_at starts output) (out_at outs output) output journal
 
 -- where the run began with nothing: each item was routed before more is sent, and sent before more is gathered,
--- and no item is raw of an input from the next one on
-pub record HasOrder (start : Beginning) (next : ℕ) (journal : List Entry) : Type 0 where
+-- no item is raw of an input from the next one on, and where that is said a tick has come since items that were
+-- gathered were routed
+pub record HasOrder (start : Beginning) (next : ℕ) (ticked : Bool) (journal : List Entry) : Type 0 where
   pub in_order : start.front ≡ [] → InOrder (setup_at start) journal
   pub none_raw : start.front ≡ [] → (input : ℕ) → next ≤ input → raw_of input journal ≡ []
+  pub has_ticked : ticked ≡ true → start.front ≡ [] → IsTicked (setup_at start) journal
+
+-- the metrics of the items that were taken and went through the steps, in order
+abbrev pub pushed_items : Bool → List Entry → List Content
+pushed_items skip journal =
+    map (λ (x : Content × Origin). x.0)
+    (filter (λ (x : Content × Origin). is_pushed skip x.1) (take (taken journal) (zip (items journal) (origins journal))))
 
 -- there is a journal for which the core stands, which is noted, and which says what was read and what was
 -- sent
@@ -131,22 +143,48 @@ pub record Progress (start : Beginning) (now : RunState) : Type 0 where
   -- what routes the items makes of them what the job says
   pub work_is : start.job.work ≡ work_by now.proc
   pub worked : Worked start.job.work journal
-  -- its steps stand for the items that were taken
-  pub pushed : AllStand now.proc.chain (taken_items journal)
-  pub order : HasOrder start now.next journal
+  -- its steps stand for the items that went through them
+  pub pushed : AllStand now.proc.chain (pushed_items now.proc.skip journal)
+  pub order : HasOrder start now.next now.ticked journal
   pub counted_at : counted_moments journal ≡ now.counted_at
+
+-- as items are routed it is said that a tick has come only where it had come, and all of them were made
+abbrev pub StaysTicked : Bool → Bool → CoreState → Type 0
+StaysTicked before after core = after ≡ true → (before ≡ true) × AllMade core.made
 
 -- a step that routes items, while no batch failed
 abbrev pub GoesOn : CoreState → CoreState → ProcPart → ProcPart → Type 0
-GoesOn old new proc new_proc = (start : Beginning) (now : RunState) → AreAnew now.outs
+GoesOn old new proc new_proc = (start : Beginning) (now : RunState) (ticked : Bool) → AreAnew now.outs
+    → StaysTicked now.ticked ticked old
     → Progress start (record now { core = old; proc = proc })
-    → Progress start (record now { core = new; proc = new_proc })
+    → Progress start (record now { core = new; proc = new_proc; ticked = ticked })
 
 -- a step that routes items and puts to the journal's place, while no batch failed
 abbrev pub RoutesOn : CoreState → CoreState → ProcPart → ProcPart → JournalPart → JournalPart → Type 0
-RoutesOn old new proc new_proc part new_part = (start : Beginning) (now : RunState) → AreAnew now.outs
+RoutesOn old new proc new_proc part new_part = (start : Beginning) (now : RunState) (ticked : Bool) → AreAnew now.outs
+    → StaysTicked now.ticked ticked old
     → Progress start (record now { core = old; proc = proc; journal = part })
-    → Progress start (record now { core = new; proc = new_proc; journal = new_part })
+    → Progress start (record now { core = new; proc = new_proc; journal = new_part; ticked = ticked })
+
+-- moments that count came from an index of a clock's list to where the clock was; now they come to where it is
+abbrev pub CountsTo : Timed → ℕ → ℤ → List ℤ → List ℤ → Type 0
+CountsTo timer next floor olds news = (first : ℕ)
+    → IfSome timer.moments (λ moments. Counted moments first timer.next floor olds)
+    → IfSome timer.moments (λ moments. Counted moments first next floor news)
+
+-- how far a run has come where more moments of its timer count than these
+pub record Timely (start : Beginning) (timer new_timer : Timed) (counted : List ℤ) (now : RunState) : Type 0 where
+  pub counted_now : List ℤ
+  pub counts : CountsTo timer new_timer.next start.start counted counted_now
+  pub progress : Progress start (record now { counted_at = counted_now })
+
+-- a step that closes windows where there are aggregators, at a moment of the timer, routes what they make, and puts to the
+-- journal's place, while no batch failed: then a tick has come
+abbrev pub TicksOn : CoreState → CoreState → ProcPart → ProcPart → JournalPart → JournalPart → Timed → Timed → Type 0
+TicksOn old new proc new_proc part new_part timer new_timer = (start : Beginning) (now : RunState) → AreAnew now.outs
+    → Progress start (record now { core = old; proc = proc; journal = part })
+    → Timely start timer new_timer now.counted_at
+    (record now { core = new; proc = new_proc; journal = new_part; ticked = true })
 
 -- a step that puts to the outputs
 abbrev pub SendsOn : CoreState → CoreState → List OutPart → List OutPart → Type 0
@@ -187,16 +225,16 @@ abbrev pub GathersAt : CoreState → CoreState → InPart → InPart → Type 0
 GathersAt old new part new_part =
     (ins : List InPart) → part.input < length ins → in_at ins part.input ≡ part
     → (start : Beginning) (now : RunState) → SettlesFirst start old now.outs
-    → Progress start (record now { core = old; ins = ins; next = part.input })
+    → Progress start (record now { core = old; ins = ins; next = part.input; ticked = true })
     → Progress start (record now
-    { core = new; ins = slice_set ins part.input new_part; next = part.input + 1 })
+    { core = new; ins = slice_set ins part.input new_part; next = part.input + 1; ticked = true })
 
 -- steps that read and gather of the inputs before one
 abbrev pub GathersTo : ℕ → CoreState → CoreState → List InPart → List InPart → Type 0
 GathersTo next old new ins new_ins =
     (start : Beginning) (now : RunState) → SettlesFirst start old now.outs
-    → Progress start (record now { core = old; ins = ins; next = 0 })
-    → Progress start (record now { core = new; ins = new_ins; next = next })
+    → Progress start (record now { core = old; ins = ins; next = 0; ticked = true })
+    → Progress start (record now { core = new; ins = new_ins; next = next; ticked = true })
 
 -- so it is for all
 abbrev pub GathersOn : CoreState → CoreState → List InPart → List InPart → Type 0
@@ -208,10 +246,10 @@ NotesRun old new part new_part = (start : Beginning) (now : RunState)
     → Progress start (record now { core = old; journal = part })
     → Progress start (record now { core = new; journal = new_part })
 
--- rounds: they read the inputs, route, and put to the outputs and to the journal's place; no moment counts
+-- rounds: they read the inputs, route, tick, and put to the outputs and to the journal's place
 abbrev pub RunsOn : RunState → RunState → Type 0
 RunsOn old new = (start : Beginning) (counted : List ℤ) → SettlesFirst start old.core old.outs
-    → Progress start (record old { counted_at = counted }) → Progress start (record new { counted_at = counted })
+    → Progress start (record old { counted_at = counted }) → Timely start old.timer new.timer counted new
 
 -- the run is stopped at a moment, which counts, and what is buffered is sent
 abbrev pub StopsAt : ℤ → RunState → RunState → Type 0

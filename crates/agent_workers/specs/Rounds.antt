@@ -22,7 +22,7 @@ pub record HasSent (now : RunState) : Type 0 where
   pub none_raw : now.core.raw ≡ []
   pub settled : AreSettled now.core now.outs
 
--- the run was stopped: nothing is raw, its inputs are as they were, and at each output nothing is buffered
+-- the run was stopped: nothing is raw, its inputs and its timer are as they were, and at each output nothing is buffered
 -- or so many puts failed in succession
 pub record HasStopped (tries : ℕ) (old new : RunState) : Type 0 where
   pub stopped : new.core.stopped ≡ true
@@ -30,4 +30,5 @@ pub record HasStopped (tries : ℕ) (old new : RunState) : Type 0 where
   pub ended : new.core.ended ≡ old.core.ended
   pub none_raw : new.core.raw ≡ []
   pub ins : new.ins ≡ old.ins
+  pub timer : new.timer ≡ old.timer
   pub rest : AreLeft tries new.core new.outs

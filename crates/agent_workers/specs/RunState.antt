@@ -1,5 +1,5 @@
 -- What a run consists of between its steps, as contracts see it.
-use Rattle.std.specs.Prelude.{◌≡◌, ℕ, ℤ, List, [], length}
+use Rattle.std.specs.Prelude.{◌≡◌, ℕ, ℤ, Bool, true, List, [], length}
 use Rattle.std.specs.declared.option.Option.{Option}
 use Rattle.account.specs.Setup.{Setup}
 use Rattle.account.specs.declared.entry.Entry.{Entry}
@@ -13,7 +13,8 @@ use Rattle.agent_workers.specs.Output.{OutPart, outs_of, AreOutputs}
 use Rattle.agent_workers.specs.declared.parts.Parts.{Parts}
 
 -- what a run consists of: its core, its inputs, the input from which on none has a raw item, what routes the
--- items, the outputs, the journal's part, the moments that were counted since the start, and the timer
+-- items, the outputs, the journal's part, the moments that were counted since the start, whether a tick has come since
+-- items that were gathered were routed, and the timer
 pub record RunState : Type 0 where
   pub core : CoreState
   pub ins : List InPart
@@ -22,10 +23,11 @@ pub record RunState : Type 0 where
   pub outs : List OutPart
   pub journal : JournalPart
   pub counted_at : List ℤ
+  pub ticked : Bool
   pub timer : Timed
 
--- a core and its parts, given what sources, sinks and clocks tell: no item is raw that isn't looked at, and
--- no moment was counted
+-- a core and its parts, given what sources, sinks and clocks tell: no item is raw that isn't looked at, no moment was
+-- counted, and a tick has come
 abbrev pub state_of : {S K C : Type 0} → (S → Carried) → (K → Carried) → (C → Timed) → CoreState → Parts S K C
     → RunState
 state_of told put timed core parts = record {
@@ -36,23 +38,29 @@ state_of told put timed core parts = record {
   outs = outs_of put parts.outputs.items;
   journal = part_of put parts.journal;
   counted_at = [];
+  ticked = true;
   timer = timed parts.timer;
 }
 
+-- what routes the items fits the core: there is a filter for each aggregator and for each output
+pub record IsProcFit (core : CoreState) (proc : ProcPart) : Type 0 where
+  pub aggs : length proc.aggs ≡ length core.setup.aggs
+  pub outs : length proc.outs ≡ length core.setup.outputs
+
 -- the parts fit the core: there is one input for each of its set-up and one output, the number of each is
--- its index, and a filter for each output
+-- its index, and a filter for each aggregator and each output
 pub record AreFit (now : RunState) : Type 0 where
   pub inputs : AreInputs (length now.core.setup.inputs) now.core.ended now.ins
   pub outputs : AreOutputs (length now.core.setup.outputs) now.outs
-  pub filters : length now.proc.outs ≡ length now.core.setup.outputs
+  pub filters : IsProcFit now.core now.proc
 
--- what a run is about is as before: its set-up, its inputs' numbers, rules and clocks, the steps and outputs of what
--- routes its items, and the timer
+-- what a run is about is as before: its set-up, its inputs' numbers, rules and clocks, the steps, aggregators and outputs
+-- of what routes its items, and the timer's moments
 pub record IsAboutSame (old new : RunState) : Type 0 where
   pub setup : new.core.setup ≡ old.core.setup
   pub inputs : AreSameInputs old.ins new.ins
   pub proc : IsSameProc old.proc new.proc
-  pub timer : new.timer ≡ old.timer
+  pub timer : new.timer.moments ≡ old.timer.moments
 
 -- what a run began with: its job, the moment of its start, its inputs, its outputs, and the bytes held by
 -- the journal's place and its count of failed puts, when these were new; and the journal that the run

@@ -2,6 +2,7 @@
 use Rattle.std.specs.Prelude.{◌≡◌, ◌≢◌, ◌<◌, ◌≤◌, ◌+◌, ◌-◌, ◌^◌, ◌⊎◌, ℕ, min, Bool, List, [], true}
 use Rattle.std.specs.Prelude.{false}
 use Rattle.std.specs.Prelude.{length, slice_get, IsSome}
+use Rattle.std.specs.List.{AllByRecursion}
 use Rattle.std.specs.declared.option.Option.TheVariants.{None}
 use Rattle.account.specs.Numbers.{output_numbers}
 use Rattle.account.specs.declared.entry.Entry.{Entry}
@@ -10,7 +11,6 @@ use Rattle.pipeline_core.specs.CoreState.{CoreState, lane_at}
 use Rattle.account.specs.declared.entry.Entry.TheVariants.{Begin}
 use Rattle.pipeline_core.specs.Stands.{Stands, Continues}
 use Rattle.pipeline_core.specs.Steps.{IsBatchOf, after_begin}
-use Rattle.pipeline_core.specs.Windows.{HasNoAggs}
 use Rattle.pipeline_core.specs.declared.batches.Batch.{Batch}
 use Rattle.pipeline_core.specs.declared.output.Offer.{Offer}
 use Rattle.agent_workers.specs.Inputs.{InPart, IsFullOf, AreOut}
@@ -22,9 +22,8 @@ pub record IsLaneReady (lane : LaneState Offer) : Type 0 where
   pub some : 1 ≤ lane.batch
   pub landed : lane.flight ≡ None
 
--- there is no aggregator, no item is in hand, and at no output a batch is in flight
+-- no item is in hand, and at no output a batch is in flight
 pub record IsReady (core : CoreState) : Type 0 where
-  pub no_aggs : HasNoAggs core.setup
   pub lane_count : length core.lanes ≡ length core.setup.outputs
   pub each : (output : ℕ) → output < length core.lanes → IsLaneReady (lane_at core.lanes output)
   pub empty_handed : core.held ≡ None
@@ -69,7 +68,12 @@ pub record IsLaneKept (old new : LaneState Offer) : Type 0 where
   pub batch : new.batch ≡ old.batch
   pub flight : new.flight ≡ old.flight
 
--- items were routed: the set-up, what ended and stopped, and the batches in flight are as before
+-- all items without a Route were made
+abbrev pub AllMade : List Bool → Type 0
+AllMade marks = AllByRecursion (λ (mark : Bool). mark ≡ true) marks
+
+-- items were routed, or made: the set-up, what ended and stopped, and the batches in flight are as before, and where all items
+-- had been made all are
 pub record IsRoutable (old new : CoreState) : Type 0 where
   pub setup : new.setup ≡ old.setup
   pub ended : new.ended ≡ old.ended
@@ -78,6 +82,7 @@ pub record IsRoutable (old new : CoreState) : Type 0 where
   pub lane_count : length new.lanes ≡ length old.lanes
   pub each : (output : ℕ) → output < length old.lanes
       → IsLaneKept (lane_at old.lanes output) (lane_at new.lanes output)
+  pub made : AllMade old.made → AllMade new.made
 
 -- the core stands for a legal journal
 pub record HasJournal (core : CoreState) : Type 0 where

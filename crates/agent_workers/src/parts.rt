@@ -42,7 +42,7 @@ pub struct Opened<S: Drop, K: Drop> {
 /// The clocks of a run.
 #[derive(Drop)]
 pub struct Clocks<C: Drop> {
-    /// What gives the moments of the start and of the stop.
+    /// What gives the moments of the start, of the ticks and of the stop.
     pub timer: C,
     /// That of the processors.
     pub proc: C,
@@ -66,7 +66,7 @@ pub struct Back<S: Drop, K: Drop> {
 pub struct Parts<'a, S: Drop, K: Drop, C: Drop> {
     /// Its inputs, by their numbers.
     pub inputs: Vec<InJob<'a, S, C>>,
-    /// The clock that gives the moment of the stop.
+    /// The clock that gives the moments of the ticks and of the stop.
     pub timer: C,
     pub proc: ProcJob<'a, C>,
     /// Its outputs, by their numbers.
@@ -303,6 +303,8 @@ pub fn set_up<'a, S: Source + Drop, K: Sink + Drop, C: Clock + Drop>(
         timer,
         proc: ProcJob {
             chain,
+            skip: config.agent.skip_second,
+            aggs: config.aggs.as_slice(),
             outs: config.outputs.as_slice(),
             clock: proc,
         },

@@ -1,4 +1,4 @@
-//! A run as it goes on: its rounds, its stop and its end.
+//! A run as it goes on: its rounds, its ticks, its stop and its end.
 ghost use Rattle.std.specs.Prelude.{◌≡◌, ◌≤◌, ◌⊎◌, [], length};
 ghost use Rattle.std.specs.Prelude.{IfOk, OnOk, false, true};
 ghost use Rattle.account.specs.AccountText.{account_text};
@@ -8,14 +8,14 @@ ghost use Rattle.agent_workers.specs.Inputs.{ins_of, AreOut, AreSameInputs};
 ghost use Rattle.agent_workers.specs.Item.{proc_of, IsSameProc};
 ghost use Rattle.agent_workers.specs.Job.{Job};
 ghost use Rattle.agent_workers.specs.Noted.{part_of, EndsOn};
-ghost use Rattle.agent_workers.specs.Progress.{RoutesOn, RunsOn, StopsAt};
+ghost use Rattle.agent_workers.specs.Progress.{RoutesOn, RunsOn, StopsAt, TicksOn};
 ghost use Rattle.agent_workers.specs.Rounds.{AreSameParts, HasSent, HasStopped, IsOver};
-ghost use Rattle.agent_workers.specs.RunState.{state_of, AreFit, IsAboutSame};
+ghost use Rattle.agent_workers.specs.RunState.{state_of, AreFit, IsAboutSame, IsProcFit};
 ghost use Rattle.agent_workers.specs.Running.{IsAtRest, SomeIsBuffered, IsRoutable, IsRunning};
 
 use crate::ends::{InputEnd, ends_of};
 use crate::input::{InJob, are_out, gather_each, is_one_in};
-use crate::item::{ProcJob, route_all, route_some};
+use crate::item::{ProcJob, ROUTED_AT_ONCE, route_all, route_some};
 use crate::journal::{JournalJob, last_entries, note};
 use crate::output::{begin_anew, send_each, send_rest};
 use crate::parts::Parts;
@@ -43,8 +43,8 @@ pub struct Ending {
 }
 
 impl<'a, S: Source + Drop, K: Sink + Drop, C: Clock + Drop> Parts<'a, S, K, C> {
-    /// Rounds, until each input is read no more and holds nothing, or the run is full. What a failed put left is
-    /// tried again in the next round. The last one, too, sends what is buffered.
+    /// Rounds, until each input is read no more and holds nothing, or the run is full. Each closes windows once its items are
+    /// routed. What a failed put left is tried again in the next round. The last one, too, sends what is buffered.
     fn rounds(
         &mut self,
         alloc: Global,
@@ -67,6 +67,14 @@ impl<'a, S: Source + Drop, K: Sink + Drop, C: Clock + Drop> Parts<'a, S, K, C> {
             let full = gather_each(alloc, core, &mut self.inputs)?;
             begin_anew(&mut self.outputs);
             route_noted(alloc, core, text, &mut self.proc, &mut self.journal)?;
+            tick_noted(
+                alloc,
+                core,
+                text,
+                &mut self.timer,
+                &mut self.proc,
+                &mut self.journal,
+            )?;
             send_each(alloc, core, text, &mut self.outputs)?;
             note(alloc, core, text, &mut self.journal)?;
             if is_over(full, &self.inputs) {
@@ -148,7 +156,7 @@ fn route_noted<K: Sink + Drop, C: Drop>(
     journal: &mut JournalJob<K, C>,
 ) -> Result<(), OutOfMemory>
     requires rests { IsAtRest core.old }
-    requires outputs { length proc.old.outs.now ≡ length core.old.setup.outputs }
+    requires fit { IsProcFit core.old (proc_of proc.old) }
     ensures rests { OnOk result (IsAtRest core.new) }
     ensures kept { OnOk result (IsRoutable core.old core.new) }
     ensures none { OnOk result (core.new.raw ≡ []) }
@@ -157,12 +165,41 @@ fn route_noted<K: Sink + Drop, C: Drop>(
         (part_of K.told journal.old) (part_of K.told journal.new)) }
 {
     for _part in 0..u64::MAX {
-        if !route_some(alloc, core, proc)? {
+        if !route_some(alloc, core, proc, ROUTED_AT_ONCE)? {
             return Ok(());
         }
         note(alloc, core, text, journal)?;
     }
     Err(OutOfMemory)
+}
+
+/// Where there are aggregators, closes the windows that are due at a moment of the timer, and routes what they make.
+fn tick_noted<K: Sink + Drop, C: Clock + Drop>(
+    alloc: Global,
+    core: &mut Core,
+    text: &mut Vec<u8>,
+    timer: &mut C,
+    proc: &mut ProcJob<'_, C>,
+    journal: &mut JournalJob<K, C>,
+) -> Result<(), OutOfMemory>
+    requires running { IsRunning core.old }
+    requires fit { IsProcFit core.old (proc_of proc.old) }
+    requires none { core.old.raw ≡ [] }
+    ensures running { OnOk result (IsRunning core.new) }
+    ensures kept { OnOk result (IsRoutable core.old core.new) }
+    ensures none { OnOk result (core.new.raw ≡ []) }
+    ensures same { IsSameProc (proc_of proc.old) (proc_of proc.new) }
+    ensures timer { (C.told timer.new).moments ≡ (C.told timer.old).moments }
+    ensures ticks { OnOk result (TicksOn core.old core.new (proc_of proc.old) (proc_of proc.new)
+        (part_of K.told journal.old) (part_of K.told journal.new) (C.told timer.old) (C.told timer.new)) }
+{
+    if proc.aggs.is_empty() {
+        return Ok(());
+    }
+    let moment = timer.now();
+    core.tick(moment)?;
+    route_noted(alloc, core, text, proc, journal)?;
+    Ok(())
 }
 
 /// Whether no round follows: the run is full, or each input is read no more and holds nothing.

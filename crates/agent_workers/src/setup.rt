@@ -1,11 +1,12 @@
 //! What a run and its journal are about.
-ghost use Rattle.std.specs.Prelude.{◌≡◌, [], map, IfOk};
+ghost use Rattle.std.specs.Prelude.{◌≡◌, map, IfOk};
 ghost use Rattle.agent_config.specs.Sound.{IsSound};
 ghost use Rattle.pipeline_core.specs.CoreState.{setup_of as core_setup_of};
-ghost use Rattle.agent_workers.specs.Job.{job_of, journal_setup_of, limit_by, setup_of, sizes_by};
+ghost use Rattle.agent_workers.specs.Job.{job_of, journal_setup_of, limit_by, line_of, setup_of, sizes_by};
 ghost use Rattle.agent_workers.specs.Opened.{in_setup, out_setup, IsNewCore};
 
-use agent_config::{Config, InputConf, OutputConf};
+use account::AggLine;
+use agent_config::{AggConf, Config, InputConf, OutputConf};
 use fixed_num::{Moment, OutOfMemory, Seq};
 use journal_text::JournalSetup;
 use pipeline_core::{Core, CoreSetup, InSetup, OutSetup};
@@ -20,6 +21,17 @@ fn limits_of(alloc: Global, inputs: &[InputConf]) -> Result<Vec<Option<u32>>, Ou
         limits.push(None)?;
     }
     Ok(limits)
+}
+
+/// The line of each aggregator.
+fn lines_of(alloc: Global, aggs: &[AggConf]) -> Result<Vec<AggLine>, OutOfMemory>
+    ensures { IfOk result (λ lines. lines.items ≡ map line_of aggs.now) }
+{
+    let mut lines = Vec::with_capacity(alloc, aggs.len())?;
+    for agg in aggs {
+        lines.push(agg.line)?;
+    }
+    Ok(lines)
 }
 
 /// The sizes of each output: its batch size and its buffer limit.
@@ -72,7 +84,7 @@ pub fn journal_setup(
     Ok(JournalSetup {
         start,
         inputs: Seq::of(limits_of(alloc, config.inputs.as_slice())?),
-        aggs: Seq::of(Vec::new(alloc)),
+        aggs: Seq::of(lines_of(alloc, config.aggs.as_slice())?),
         outputs: Seq::of(output_sizes(alloc, config.outputs.as_slice())?),
     })
 }
@@ -81,12 +93,12 @@ pub fn journal_setup(
 fn core_setup(alloc: Global, config: &Config, start: Moment) -> Result<CoreSetup, OutOfMemory>
     ensures setup { IfOk result (λ setup. core_setup_of setup ≡ setup_of (job_of config.now) start) }
     ensures inputs { IfOk result (λ setup. setup.inputs ≡ map in_setup config.now.inputs) }
-    ensures aggs { IfOk result (λ setup. setup.aggs ≡ []) }
+    ensures aggs { IfOk result (λ setup. setup.aggs ≡ map line_of config.now.aggs) }
     ensures outputs { IfOk result (λ setup. setup.outputs ≡ map out_setup config.now.outputs) }
 {
     Ok(CoreSetup {
         inputs: Seq::of(in_setups(alloc, config.inputs.as_slice())?),
-        aggs: Seq::of(Vec::new(alloc)),
+        aggs: Seq::of(lines_of(alloc, config.aggs.as_slice())?),
         outputs: Seq::of(out_setups(alloc, config.outputs.as_slice())?),
         start,
     })

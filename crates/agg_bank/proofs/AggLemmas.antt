@@ -9,7 +9,7 @@ use Rattle.account.specs.declared.setup.AggWord.{AggWord}
 use Rattle.metric.specs.declared.metric.Content.{Content}
 use Rattle.agg_bank.specs.Bank.{AggMemory, AggStands, FoldMemory, FoldStands}
 use Rattle.agg_bank.specs.Events.{closing_event, has_stopped, offered, view_at, BankEvent, Offer, Stop}
-use Rattle.agg_bank.specs.Line.{IsLine}
+use Rattle.account.specs.AggLines.{IsLine}
 use Rattle.agg_bank.specs.Made.{folded, folded_at, made_by}
 use Rattle.agg_bank.specs.Members.{left, members, members_from, taken_of}
 use Rattle.agg_bank.specs.Open.{begin_after, begin_at, is_open_to}

@@ -3,7 +3,6 @@ pub mod Closing
 pub mod Events
 pub mod Fold
 pub mod Laws
-pub mod Line
 pub mod Made
 pub mod Members
 pub mod Open

@@ -3,7 +3,7 @@ ghost use Rattle.std.specs.Prelude.{◌≡◌, ◌&&◌, ◌<◌, ◌^◌, ◌++
 ghost use Rattle.metric.specs.declared.metric.Content.{Content};
 ghost use Rattle.agg_bank.specs.Bank.{AggStands};
 ghost use Rattle.agg_bank.specs.Events.{closing_event, has_stopped, offered, BankEvent, Offer};
-ghost use Rattle.agg_bank.specs.Line.{IsLine};
+ghost use Rattle.account.specs.AggLines.{IsLine};
 ghost use Rattle.agg_bank.specs.Made.{made_by};
 ghost use Rattle.agg_bank.specs.Ready.{closes_at, takes_at, IsReadyFor, Keeps};
 
@@ -26,7 +26,7 @@ pub(crate) struct Aggregator {
 impl Model for Aggregator {
     ghost use Rattle.agg_bank.specs.Bank.{AggMemory};
     ghost use Rattle.agg_bank.specs.Fold.{memory_of};
-    ghost use Rattle.agg_bank.specs.Line.{IsLine};
+    ghost use Rattle.account.specs.AggLines.{IsLine};
     ghost use Rattle.agg_bank.specs.Open.{IsBegin};
 
     ghost Value = { AggMemory };

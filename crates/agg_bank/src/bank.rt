@@ -4,7 +4,7 @@ ghost use Rattle.std.specs.List.{list_any};
 ghost use Rattle.account.specs.declared.setup.AggLine.{AggLine};
 ghost use Rattle.agg_bank.specs.Bank.{lines_of, BankStands};
 ghost use Rattle.agg_bank.specs.Events.{closing_event, has_stopped, offered, BankEvent, Offer, Tick, Stop};
-ghost use Rattle.agg_bank.specs.Line.{IsLine};
+ghost use Rattle.account.specs.AggLines.{IsLine};
 ghost use Rattle.agg_bank.specs.Made.{made_at, made_from};
 ghost use Rattle.agg_bank.specs.Ready.{consumes_at, lines_in, sees_at, verdict_at, Adds, AllStand, AreReady, Closes};
 ghost use Rattle.agg_bank.specs.Ready.{EachIs, Keeps, Prepares};

@@ -1,7 +1,7 @@
 //! The window that is open.
 ghost use Rattle.std.specs.Prelude.{◌≡◌, ◌+ℤ◌, ◌-ℤ◌, ◌≤ℤ◌, ◌<ℤ◌, neg_ℤ, pos};
 ghost use Rattle.std.specs.Int.{int_min};
-ghost use Rattle.agg_bank.specs.Line.{IsLine};
+ghost use Rattle.account.specs.AggLines.{IsLine};
 ghost use Rattle.agg_bank.specs.Open.{begin_after, begin_at, is_open_to, IsBegin};
 ghost use Rattle.agg_bank.specs.Windows.{last_moment};
 

@@ -2,7 +2,7 @@
 ghost use Rattle.std.specs.Prelude.{◌≡◌, length, All, IfOk};
 ghost use Rattle.std.specs.Bool.{OnTrue};
 ghost use Rattle.agg_bank.specs.Bank.{lines_of as lines_in};
-ghost use Rattle.agg_bank.specs.Line.{IsLine};
+ghost use Rattle.account.specs.AggLines.{IsLine};
 
 use crate::aggregators::lines_of;
 use crate::{Calls, metric, next, shown};

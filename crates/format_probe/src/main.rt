@@ -9,8 +9,8 @@
 //! where the words are others or a template is none, and 1 where standard input or output failed or memory was
 //! wanting.
 //!
-//! `format_probe journal OUT` reads all of standard input as a journal: `journal` writes it again, `count` a line that says
-//! how many inputs, aggregators, outputs, entries, items, views and reports it has, and `reports` a line
+//! `format_probe journal OUT` reads all of standard input as a journal: `journal` writes it again, `count` a line that
+//! says how many inputs, aggregators, outputs, entries, items, views and reports it has, and `reports` a line
 //! `ENTRY GROUP INPUT delivered` (or `rejected`) each, entries from 0. A text that is none gives `KIND PLACE`.
 #![tactic(auto)]
 

@@ -9,6 +9,7 @@ pub mod WholeLemmas
 pub mod TextLemmas
 pub mod AccountLemmas
 pub mod KeyLemmas
+pub mod MarkLemmas
 pub mod ReadLemmas
 pub mod ListLemmas
 pub mod WriteLemmas

@@ -2,15 +2,15 @@
 use Rattle.std.proofs.Common.{◌≡◌, ℕ, ℤ, ◌^◌, ◌<◌, ◌≤◌, Bool, true, false, not, List, [], ◌∷◌, ◌++◌}
 use Rattle.std.proofs.Common.{length, Option, Some}
 use Rattle.std.proofs.Common.{refl, sym, ap, subst, ◌∙◌, arith, append_assoc}
-use Rattle.std.specs.Prelude.{◌==◌, map, nat_eq, codes, FitsSigned}
+use Rattle.std.specs.Prelude.{◌==◌, map, codes, FitsSigned}
 use Rattle.std.specs.Int.{w64}
 use Rattle.std.specs.Fmt.{decimal, signed_decimal}
-use Rattle.std.specs.List.{AllByRecursion, IsDistinct, flat_map, list_any, slice_split}
+use Rattle.std.specs.List.{AllByRecursion, flat_map, slice_split}
 use Rattle.std.specs.List.Sorted.{IsStrictlySortedBy}
 use Rattle.std.specs.Ordering.{nat_cmp}
 use Rattle.std.specs.declared.cmp.Ordering.TheVariants.{Less}
-use Rattle.std.specs.Cmp.Lexicographic.{slice_cmp, pointwise}
-use Rattle.std.specs.Str.{IsUtf8, bytes_eq}
+use Rattle.std.specs.Cmp.Lexicographic.{slice_cmp}
+use Rattle.std.specs.Str.{IsUtf8}
 use Rattle.std.proofs.lemmas.Bool.{ne_eqb, eq-eqb}
 use Rattle.std.proofs.lemmas.List.{append-nil}
 use Rattle.fixed_num.specs.Canonical.{canonical_text}
@@ -29,10 +29,11 @@ use Rattle.metric.specs.declared.value.Value.TheVariants as value
 use Rattle.metric.specs.Metric.{IsMetric, IsValue, IsTag, IsField}
 use Rattle.metric.specs.Plain.{is_plain}
 use Rattle.journal_text.specs.MetricText.{escaped, value_text, tag_text, field_text, fields_text, metric_text}
-use Rattle.journal_reader.specs.Words.{Parts, each, cut, none_behind}
+use Rattle.journal_reader.specs.Words.{each, cut, none_behind}
 use Rattle.journal_reader.specs.MetricReading.{semicolon, plain_value_of, value_of, tag_of}
-use Rattle.journal_reader.specs.MetricReading.{field_of, series_of, content_of, is_filled, are_tags, are_fields}
+use Rattle.journal_reader.specs.MetricReading.{field_of, series_of, content_of, is_filled, are_tags}
 use Rattle.journal_reader.specs.MetricReading.{is_metric, metric_of}
+use Rattle.journal_reader.proofs.KeyLemmas.{all_filled, fields_pass}
 use Rattle.journal_reader.proofs.WordLemmas.{same_bytes}
 use Rattle.journal_reader.proofs.EscapeLemmas.{is_safe, escaped_none, utf8_bytes, text_again}
 
@@ -331,32 +332,11 @@ above_nothing (tag ∷ tags) h = (first tag.0 h.0.0.filled, above_nothing tags h
     first [] lt = absurd (omega arith)
     first (b ∷ bs) lt = refl
 
-abbrev Fresh : Parts → List Field → Type 0
-Fresh before fields = AllByRecursion (λ (field : Field). list_any (λ k. bytes_eq k field.0) before ≡ false) fields
-
-fresh_more : (key : List ℕ) (before : Parts) (fields : List Field)
-    → AllByRecursion (λ y. bytes_eq key y ≡ false) (map (λ (field : Field). field.0) fields) → Fresh before fields
-    → Fresh (key ∷ before) fields
-fresh_more key before [] h f = tt
-fresh_more key before (field ∷ fields) h f = (rw h.0 f.0, fresh_more key before fields h.1 f.1)
-
-fields_pass : (before : Parts) (fields : List Field) → Fresh before fields
-    → IsDistinct (pointwise nat_eq) (map (λ (field : Field). field.0) fields) → AllByRecursion IsField fields
-    → are_fields before fields ≡ true
-unfolding are_fields IsDistinct
-fields_pass before [] fresh distinct h = refl
-fields_pass before (field ∷ fields) fresh distinct h =
-    let key : is_filled field.0 ≡ true = filled field.0 h.0.0.filled in
-    rw (
-      key,
-      fresh.0,
-      fields_pass (field.0 ∷ before) fields (fresh_more field.0 before fields distinct.0 fresh.1)
-          distinct.1 h.1,
-    ) refl
-
-all_fresh : (fields : List Field) → Fresh [] fields
-all_fresh [] = tt
-all_fresh (field ∷ fields) = (refl, all_fresh fields)
+fields_filled : (fields : List Field) → AllByRecursion IsField fields → all_filled fields ≡ true
+fields_filled [] h = refl
+fields_filled (field ∷ fields) h =
+    let first = filled field.0 h.0.0.filled in
+    rw (first, fields_filled fields h.1) refl
 
 metric_passes : (m : Content) (field : Field) (fields : List Field) → m.fields ≡ field ∷ fields → IsMetric m
     → is_metric m ≡ true
@@ -366,7 +346,7 @@ metric_passes m field fields is h =
     let tags = tags_pass [] m.tags (above_nothing m.tags h.tags) h.sorted h.tags in
     let some : (length m.fields == 0) ≡ false =
     ap (λ (fs : List Field). length fs == 0) is ∙ ne_eqb (length (field ∷ fields)) 0 (λ e. absurd (omega (arith, e))) in
-    let pass = fields_pass [] m.fields (all_fresh m.fields) h.distinct h.fields in
+    let pass = fields_pass m.fields (fields_filled m.fields h.fields) h.distinct in
     rw (name, tags, some, pass) refl
 
 some_field : (fields : List Field) → 0 < length fields → (field : Field) × (others : List Field)

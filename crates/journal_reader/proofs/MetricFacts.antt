@@ -2,16 +2,16 @@
 use Rattle.std.proofs.Common.{◌≡◌, ℕ, ℤ, ◌<◌, ◌^◌, Bool, true, false, cond, not, List, [], ◌∷◌, length, Option, Some}
 use Rattle.std.proofs.Common.{None}
 use Rattle.std.proofs.Common.{Result, Ok, Err, refl, subst, arith}
-use Rattle.std.specs.Prelude.{◌==◌, ◌&&◌, map, option_map, codes, nat_eq, FitsSigned}
+use Rattle.std.specs.Prelude.{◌==◌, ◌&&◌, map, option_map, codes, FitsSigned}
 use Rattle.std.specs.Int.{w64}
-use Rattle.std.specs.List.{AllByRecursion, IsDistinct, list_any, slice_split}
+use Rattle.std.specs.List.{AllByRecursion, slice_split}
 use Rattle.std.specs.List.Sorted.{IsStrictlySortedBy}
 use Rattle.std.specs.Ordering.{is_lt, nat_cmp}
 use Rattle.std.specs.declared.cmp.Ordering.{Ordering}
 use Rattle.std.specs.declared.cmp.Ordering.TheVariants.{Less, Equal, Greater}
-use Rattle.std.specs.Cmp.Lexicographic.{slice_cmp, pointwise}
+use Rattle.std.specs.Cmp.Lexicographic.{slice_cmp}
 use Rattle.std.specs.Str.{IsUtf8, is_utf8, bytes_eq}
-use Rattle.std.proofs.lemmas.Bool.{and_parts, or_parts}
+use Rattle.std.proofs.lemmas.Bool.{and_parts}
 use Rattle.std.proofs.lemmas.Cmp.{nat_list_cmp_total}
 use Rattle.std.proofs.lemmas.Str.{IsUtf8-from_is_utf8}
 use Rattle.fixed_num.specs.declared.fixed.NumFault.{NumFault}
@@ -28,6 +28,7 @@ use Rattle.journal_reader.specs.Words.{◌>>=◌, Parts, each, cut}
 use Rattle.journal_reader.specs.MetricReading.{unescaped, text_of, said, plain_value_of, value_of, tag_of, field_of}
 use Rattle.journal_reader.specs.MetricReading.{series_of, content_of, is_filled, are_tags, are_fields, is_metric}
 use Rattle.journal_reader.specs.MetricReading.{semicolon}
+use Rattle.journal_reader.proofs.KeyLemmas.{all_filled, fields_differ}
 use Rattle.journal_reader.proofs.WordLemmas.{bind_some, held, same_some, int_fits, uint_fits, fixed_fits}
 
 abbrev Tag : Type 0
@@ -226,49 +227,12 @@ tags_rise before (tag ∷ tags) e utf8 =
       );
     }
 
-abbrev field_keys : List Field → List (List ℕ)
-field_keys fields = map (λ (field : Field). field.0) fields
-
-not_true : (b : Bool) → not b ≡ true → b ≡ false
-not_true true e = absurd cc
-not_true false e = refl
-
--- the keys before are none of the fields' keys
-abbrev Apart : Parts → List Field → Type 0
-Apart before fields = AllByRecursion (λ (k : List ℕ). AllByRecursion (λ (y : List ℕ). bytes_eq k y ≡ false)
-    (field_keys fields)) before
-
-apart_none : (before : Parts) → Apart before []
-apart_none [] = tt
-apart_none (k ∷ before) = (tt, apart_none before)
-
-apart_more : (before : Parts) (field : Field) (fields : List Field)
-    → list_any (λ k. bytes_eq k field.0) before ≡ false → Apart before fields → Apart before (field ∷ fields)
-apart_more [] field fields e h = tt
-apart_more (k ∷ before) field fields e h =
-    let parts = or_parts (bytes_eq k field.0) (list_any (λ k. bytes_eq k field.0) before) e in
-    ((parts.0, h.0), apart_more before field fields parts.1 h.1)
-
-record Differ (before : Parts) (fields : List Field) : Type 0 where
-  apart : Apart before fields
-  distinct : IsDistinct (pointwise nat_eq) (field_keys fields)
-  fields_are : AllByRecursion IsField fields
-
-fields_differ : (before : Parts) (fields : List Field) → are_fields before fields ≡ true
-    → AllByRecursion FitsField fields → Differ before fields
-unfolding are_fields IsDistinct
-fields_differ before [] e fit = record { apart = apart_none before; distinct = tt; fields_are = tt }
-fields_differ before (field ∷ fields) e fit =
-    let all = and_parts (is_filled field.0 && not (list_any (λ k. bytes_eq k field.0) before))
-    (are_fields (field.0 ∷ before) fields) e in
-    let first = and_parts (is_filled field.0) (not (list_any (λ k. bytes_eq k field.0) before)) all.0 in
-    let rest = fields_differ (field.0 ∷ before) fields all.1 fit.1 in
-    record {
-      apart = apart_more before field fields (not_true (list_any (λ k. bytes_eq k field.0) before) first.1)
-          rest.apart.1;
-      distinct = (rest.apart.0, rest.distinct);
-      fields_are = ((record { filled = not_empty field.0 first.0; utf8 = fit.0.0 }, fit.0.1), rest.fields_are);
-    }
+fields_are : (fields : List Field) → all_filled fields ≡ true → AllByRecursion FitsField fields
+    → AllByRecursion IsField fields
+fields_are [] e fit = tt
+fields_are (field ∷ fields) e fit =
+    let parts = and_parts (is_filled field.0) (all_filled fields) e in
+    ((record { filled = not_empty field.0 parts.0; utf8 = fit.0.0 }, fit.0.1), fields_are fields parts.1 fit.1)
 
 some_fields : (fields : List Field) → not (length fields == 0) ≡ true → 0 < length fields
 some_fields [] e = absurd cc
@@ -284,13 +248,13 @@ metric_fits word m read e =
     let third = and_parts (is_filled m.name && are_tags [] m.tags) (not (length m.fields == 0)) last.0 in
     let second = and_parts (is_filled m.name) (are_tags [] m.tags) third.0 in
     let rise = tags_rise [] m.tags second.1 fit.tags in
-    let differ = fields_differ [] m.fields last.1 fit.fields in
+    let differ = fields_differ [] m.fields last.1 in
     record {
       name = record { filled = not_empty m.name second.0; utf8 = fit.name };
       tags = rise.tags_are;
       sorted = rise.sorted;
       some = some_fields m.fields third.1;
-      fields = differ.fields_are;
+      fields = fields_are m.fields differ.filled fit.fields;
       distinct = differ.distinct;
       time = fit.time;
     }

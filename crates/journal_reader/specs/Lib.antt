@@ -1,6 +1,6 @@
 pub mod Words
 pub mod MetricReading
-pub mod KeySets
+pub mod KeyMarks
 pub mod SetupReading
 pub mod EntryReading
 pub mod AccountReading

@@ -1,17 +1,13 @@
 //! Which contents are metrics.
-ghost use Rattle.std.specs.Prelude.{◌≡◌, ◌&&◌, ◌∷◌, [], not, IfOk, OnOk};
+ghost use Rattle.std.specs.Prelude.{◌≡◌, ◌&&◌, [], IfOk};
 ghost use Rattle.std.specs.Cmp.Lexicographic.{slice_cmp};
-ghost use Rattle.std.specs.List.{list_any};
 ghost use Rattle.std.specs.Ordering.{is_lt, nat_cmp};
-ghost use Rattle.std.specs.Str.{bytes_eq};
-ghost use Rattle.journal_reader.specs.Words.{Parts};
-ghost use Rattle.journal_reader.specs.KeySets.{HasKeys};
+ghost use Rattle.journal_reader.specs.KeyMarks.{mark_of};
 ghost use Rattle.journal_reader.specs.MetricReading.{is_filled, are_tags, are_fields, is_metric};
 
 use fixed_num::OutOfMemory;
 use metric::{Content, Text, Value};
 use std::alloc::Global;
-use std::collections::BTreeSet;
 
 /// Whether a tag's value is filled, and its key comes behind another.
 fn is_behind(before: &str, key: &Text, value: &Text) -> bool
@@ -37,32 +33,33 @@ fn are_tags(tags: &[(Text, Text)]) -> bool
     true
 }
 
-/// Puts a key among others. False where it was there before.
-fn put_key(keys: &mut BTreeSet<Text>, key: &Text) -> Result<bool, OutOfMemory>
-    ensures fresh { IfOk result (λ fresh. (before : Parts) → HasKeys keys.old before
-        → fresh ≡ not (list_any (λ k. bytes_eq k key.now) before)) }
-    ensures put { OnOk result ((before : Parts) → HasKeys keys.old before
-        → HasKeys keys.new (key.now ∷ before)) }
+/// A key's FNV-1a of 64 bits, by which most keys are told apart. A sort of many keys that looked at each text would
+/// mostly wait for memory.
+#[tactic(auto, unfolding(crate::specs::KeyMarks::marked))]
+fn mark_of(key: &str) -> u64
+    ensures { result ≡ mark_of key.now }
 {
-    let copy = key.copy()?;
-    let fresh = keys.insert(copy)?;
-    Ok(fresh)
+    let mut mark: u64 = 0xcbf2_9ce4_8422_2325;
+    for byte in key.as_bytes() {
+        mark = (mark ^ u64::from(*byte)).wrapping_mul(0x0100_0000_01b3);
+    }
+    mark
 }
 
-/// Whether keys are filled, and none comes twice.
+/// Whether keys are filled, and none comes twice: sorted by mark and text, each is above the one before it.
 fn are_fields(alloc: Global, fields: &[(Text, Value)]) -> Result<bool, OutOfMemory>
     ensures { IfOk result (λ are. are ≡ are_fields [] fields.now) }
 {
-    let mut keys = BTreeSet::new(alloc);
+    let mut keys = Vec::with_capacity(alloc, fields.len())?;
     for (key, _value) in fields {
-        if key.as_str().is_empty() {
+        let key = key.as_str();
+        if key.is_empty() {
             return Ok(false);
         }
-        if !put_key(&mut keys, key)? {
-            return Ok(false);
-        }
+        keys.push((mark_of(key), key))?;
     }
-    Ok(true)
+    keys.sort_unstable();
+    Ok(keys.as_slice().is_sorted_by(|before, key| before < key))
 }
 
 /// Whether a content is that of a metric: it has a name and a field, its keys and the values of its tags are filled,

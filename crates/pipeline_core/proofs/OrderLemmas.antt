@@ -1,9 +1,8 @@
 -- What is sent before more is gathered and before the Stop, with one entry more.
-use Rattle.std.proofs.Common.{◌≡◌, ◌<◌, ◌⊎◌, ℕ, List, [], ◌∷◌, ◌++◌, length, sym, subst, append_assoc, append-nil}
+use Rattle.std.proofs.Common.{List, [], ◌∷◌, ◌++◌, sym, subst, append_assoc, append-nil}
 use Rattle.account.specs.Setup.{Setup}
 use Rattle.account.specs.declared.entry.Entry.{Entry}
-use Rattle.pipeline_core.specs.Offers.{lane_events}
-use Rattle.pipeline_core.specs.Order.{NothingBuffered, EndsFailed, IsTicked, IsFlushed, IsOrderly, AreOrderly, InOrder}
+use Rattle.pipeline_core.specs.Order.{IsTicked, IsOrderly, AreOrderly, InOrder}
 use Rattle.pipeline_core.specs.Windows.{HasNoAggs}
 
 AreOrderly-push : (setup : Setup) (before es : List Entry) (e : Entry) → AreOrderly setup before es
@@ -28,10 +27,3 @@ in_order_first setup = tt
 -- without aggregators no Tick has to come
 pub ticked_plain : (setup : Setup) (before : List Entry) → HasNoAggs setup → IsTicked setup before
 ticked_plain setup before none some = absurd (some none)
-
--- without aggregators it is enough that at each output all was sent or the last batch failed
-pub flushed_plain : (setup : Setup) (before : List Entry) → HasNoAggs setup
-    → ((output : ℕ) → output < length setup.outputs
-    → NothingBuffered setup before output ⊎ EndsFailed (lane_events output before))
-    → IsFlushed setup before
-flushed_plain setup before none each = record { each = each; ticked = ticked_plain setup before none }

@@ -1,6 +1,6 @@
 -- What the work of a run makes of each item, with one entry more.
-use Rattle.std.proofs.Common.{◌≡◌, ◌<◌, ℕ, zero, suc, Bool, true, false, List, [], ◌∷◌, ◌++◌, map, take, drop, length}
-use Rattle.std.proofs.Common.{refl, sym, ap, ◌∙◌, arith, ◌+◌, ◌&&◌, if◌then◌else◌, append-nil}
+use Rattle.std.proofs.Common.{◌≡◌, ◌<◌, ℕ, zero, suc, Bool, List, [], ◌∷◌, ◌++◌, map, take, drop, length}
+use Rattle.std.proofs.Common.{refl, sym, ap, ◌∙◌, arith, ◌+◌, ◌&&◌, if◌then◌else◌}
 use Rattle.std.proofs.lemmas.List.{take-append-le, get_or_append_left}
 use Rattle.std.proofs.lemmas.Option.{slice_get_within}
 use Rattle.std.specs.Prelude.{slice_get, slice_index_or, is_none}
@@ -8,8 +8,7 @@ use Rattle.std.specs.List.{filter, zip}
 use Rattle.std.specs.declared.option.Option.{Option}
 use Rattle.std.specs.declared.option.Option.TheVariants.{Some, None}
 use Rattle.metric.specs.declared.metric.Content.{Content}
-use Rattle.account.specs.Items.{items, taken, named_by, takes_by}
-use Rattle.account.specs.Setup.{Setup}
+use Rattle.account.specs.Items.{items, taken, named_by}
 use Rattle.account.specs.Origins.{Origin, made, origins, origins_by, is_made}
 use Rattle.account.specs.declared.entry.Entry.{Entry}
 use Rattle.account.specs.declared.entry.Entry.TheVariants.{Gather, Ended, Take, Route, Tick, Stop, Begin, Done}
@@ -21,9 +20,7 @@ use Rattle.account.proofs.ItemLemmas.{items-push}
 use Rattle.account.proofs.OriginLemmas.{origins-match, origins-push}
 use Rattle.pipeline_core.specs.Work.{Work}
 use Rattle.pipeline_core.specs.Worked.{WorkedBy, AreWorked, Worked, views_of, is_pushed, pushed, whole_of}
-use Rattle.pipeline_core.specs.Worked.{seen_of, taken_items}
-use Rattle.pipeline_core.specs.Legal.{IsLegal}
-use Rattle.pipeline_core.proofs.JournalPush.{taken-push, few_taken}
+use Rattle.pipeline_core.specs.Worked.{seen_of}
 
 -- an item keeps its number as more come
 pub slice_get-append : (xs ys : List Content) (k : ℕ) (m : Content) → slice_get xs k ≡ Some m
@@ -47,7 +44,7 @@ made_stays journal e item within =
     ∙ get_or_append_left (origins journal) (origins_by e) made item (omega (arith, within, origins-match journal)))
 
 -- lists side by side, each with more behind it
-zip-append : (xs ys : List Content) (us vs : List Origin) → length xs ≡ length us
+pub zip-append : (xs ys : List Content) (us vs : List Origin) → length xs ≡ length us
     → zip (xs ++ ys) (us ++ vs) ≡ zip xs us ++ zip ys vs
 zip-append [] ys [] vs l = refl
 zip-append [] ys (u ∷ us) vs l = absurd (omega (arith, l))
@@ -55,7 +52,7 @@ zip-append (x ∷ xs) ys [] vs l = absurd (omega (arith, l))
 zip-append (x ∷ xs) ys (u ∷ us) vs l = ap (λ (all : List (Content × Origin)). (x, u) ∷ all)
     (zip-append xs ys us vs (omega (arith, l)))
 
-length-zip : (xs : List Content) (us : List Origin) → length xs ≡ length us → length (zip xs us) ≡ length xs
+pub length-zip : (xs : List Content) (us : List Origin) → length xs ≡ length us → length (zip xs us) ≡ length xs
 length-zip [] us l = refl
 length-zip (x ∷ xs) [] l = absurd (omega (arith, l))
 length-zip (x ∷ xs) (u ∷ us) l = omega (arith, length-zip xs us (omega (arith, l)))
@@ -74,46 +71,6 @@ pushed_stays skip journal e item within =
     (filter (λ (x : Content × Origin). is_pushed skip x.1) all))
     (take-append-le (item + 1) (zip (items journal) (origins journal)) (zip (named_by e) (origins_by e))
     (omega (arith, within, length-zip (items journal) (origins journal) match)))
-
--- where no item passes the processors by, all up to an item were pushed
-all_pushed : (n : ℕ) (xs : List Content) (us : List Origin) → length xs ≡ length us →
-    map (λ (x : Content × Origin). x.0) (filter (λ (x : Content × Origin). is_pushed false x.1) (take n (zip xs us)))
-    ≡ take n xs
-all_pushed zero xs us l = refl
-all_pushed (suc n) [] us l = refl
-all_pushed (suc n) (x ∷ xs) [] l = absurd (omega (arith, l))
-all_pushed (suc n) (x ∷ xs) (u ∷ us) l = ap (λ (all : List Content). x ∷ all) (all_pushed n xs us (omega (arith, l)))
-
--- one more of a list
-one_more : (xs : List Content) (k : ℕ) (m : Content) → slice_get xs k ≡ Some m → take (suc k) xs ≡ take k xs ++ m ∷ []
-one_more [] k m e = absurd (let x : None ≡ Some m = e in cc)
-one_more (x ∷ xs) zero m e = ap (λ (y : Content). y ∷ []) (let same : Some x ≡ Some m = e in cc)
-one_more (x ∷ xs) (suc k) m e = ap (λ (ys : List Content). x ∷ ys) (one_more xs k m e)
-
-take_next : (xs : List Content) (k : ℕ) (m : Content) → slice_get xs k ≡ Some m → take (k + 1) xs ≡ take k xs ++ m ∷ []
-take_next xs k m e =
-    let next : k + 1 ≡ suc k = omega arith in
-    ap (λ (n : ℕ). take n xs) next ∙ one_more xs k m e
-
--- the items that were taken are the same after an entry that takes none
-pub taken_items-same : (setup : Setup) (journal : List Entry) (e : Entry) → IsLegal setup journal → takes_by e ≡ 0
-    → taken_items (journal ++ e ∷ []) ≡ taken_items journal
-taken_items-same setup journal e legal none =
-    ap (take (taken (journal ++ e ∷ []))) (items-push journal e)
-    ∙ ap (λ (n : ℕ). take n (items journal ++ named_by e)) (taken-push journal e ∙ omega (arith, none))
-    ∙ take-append-le (taken journal) (items journal) (named_by e) (few_taken setup journal legal)
-
--- and one more once the next one was taken
-pub taken_items-take : (journal : List Entry) (item : ℕ) (m : Content) → slice_get (items journal) (taken journal)
-    ≡ Some m
-    → taken_items (journal ++ Take item ∷ []) ≡ taken_items journal ++ m ∷ []
-taken_items-take journal item m at =
-    ap (take (taken (journal ++ Take item ∷ []))) (items-push journal (Take item) ∙ append-nil (items journal))
-    ∙ ap (λ (n : ℕ). take n (items journal)) (taken-push journal (Take item))
-    ∙ take_next (items journal) (taken journal) m at
-
-same_either : {A : Type 0} (b : Bool) (x : A) → (if b then x else x) ≡ x
-same_either b x = elim b as (λ (c : Bool). (if c then x else x) ≡ x) [ true ↦ refl | false ↦ refl ]
 
 module _ (work : Work) where
   WorkedBy-more : (journal : List Entry) (more e : Entry) → WorkedBy work journal e
@@ -173,29 +130,6 @@ module _ (work : Work) where
   worked_route journal item metric whole verdict aggs reports at is seen w =
       worked-push journal (Route item whole verdict aggs (views_of work.outs whole) reports)
       (record { metric = metric; is_item = at; is_whole = is; aggs_are = seen; outs_are = refl }) w
-
-  -- the next item, with what the work makes of it behind those that were taken before, without aggregators
-  pub worked_next : (journal : List Entry) (item : ℕ) (metric : Content) (whole : Option Content) (verdict : Verdict)
-      (reports : List Report) → work.skip ≡ false → work.aggs ≡ [] → slice_get (items journal) item ≡ Some metric →
-      whole ≡ work.whole (take item (items journal) ++ metric ∷ []) → Worked work journal →
-      Worked work (journal ++ Route item whole verdict [] (views_of work.outs whole) reports ∷ [])
-  worked_next journal item metric whole verdict reports skip aggs at is w =
-      worked_route journal item metric whole verdict [] reports at
-      (is ∙ sym (
-      ap (λ (b : Bool). if b && is_made journal item then Some metric else work.whole (pushed b journal item)) skip
-      ∙ ap work.whole (all_pushed (item + 1) (items journal) (origins journal) (sym (origins-match journal))
-      ∙ take_next (items journal) item metric at)
-      ))
-      (sym (
-      ap (λ (fs : List (Content
-      → Option Content)). if is_made journal item then views_of fs None else views_of fs whole)
-      aggs
-      ∙ elim whole as (λ (x : Option Content). (if is_made journal item then views_of [] None else views_of [] x)
-      ≡ []) [
-        | None ↦ same_either (is_made journal item) []
-        | Some x ↦ same_either (is_made journal item) []
-      ]
-      )) w
 
 first_behind : (k : ℕ) (xs : List Content) → slice_get (drop k xs) 0 ≡ slice_get xs k
 first_behind zero [] = refl

@@ -5,7 +5,7 @@ use Rattle.std.specs.List.{filter, zip}
 use Rattle.std.specs.declared.option.Option.{Option}
 use Rattle.std.specs.declared.option.Option.TheVariants.{Some, None}
 use Rattle.metric.specs.declared.metric.Content.{Content}
-use Rattle.account.specs.Items.{items, taken}
+use Rattle.account.specs.Items.{items}
 use Rattle.account.specs.Origins.{Origin, origins, is_made}
 use Rattle.account.specs.declared.entry.Entry.{Entry}
 use Rattle.account.specs.declared.entry.Entry.TheVariants.{Route}
@@ -15,10 +15,6 @@ use Rattle.pipeline_core.specs.Work.{Work}
 abbrev pub views_of : List (Content → Option Content) → Option Content → List (Option Content)
 views_of fs None = map (λ (f : Content → Option Content). None) fs
 views_of fs (Some whole) = map (λ (f : Content → Option Content). f whole) fs
-
--- the metrics of the items that were taken, in order
-abbrev pub taken_items : List Entry → List Content
-taken_items journal = take (taken journal) (items journal)
 
 -- whether an item of an origin is pushed to the processors: where made ones pass them by it is one that was
 -- gathered

@@ -162,8 +162,8 @@ impl Core {
     pub fn take(&mut self) -> Result<Item, TakeAnswer>
         ensures in_hand { (result ≡ Err TakeAnswer.InHand) ↔ IsSome self.old.held }
         ensures empty { (result ≡ Err TakeAnswer.Empty) ↔ (IsNone self.old.held × (self.old.raw ≡ [])) }
-        ensures item { IfOk result (λ item. (item.number ≡ self.old.taken) × (slice_get self.old.made 0 ≡ Some item.made)
-            × (slice_get self.old.raw 0 ≡ Some item.metric)) }
+        ensures item { IfOk result (λ item. (item.number ≡ self.old.taken)
+            × (slice_get self.old.made 0 ≡ Some item.made) × (slice_get self.old.raw 0 ≡ Some item.metric)) }
         ensures ok { OnOk result (self.new ≡ after_take self.old) }
         ensures stands { OnOk result (Continues self.old self.new (entries.Take self.old.taken)) }
         ensures err { OnErr result (self.new ≡ self.old) }

@@ -63,7 +63,8 @@ pub(crate) fn queue_of(alloc: Global, metrics: &[Metric]) -> Result<VecDeque<Met
     Ok(VecDeque::from_vec(copies))
 }
 
-/// Lets items wait behind those that are raw, all of them gathered or all of them made. Without memory all stays as it was.
+/// Lets items wait behind those that are raw, all of them gathered or all of them made. Without memory all stays as it
+/// was.
 pub(crate) fn line_up(
     raw: &mut VecDeque<Metric>,
     made: &mut VecDeque<bool>,

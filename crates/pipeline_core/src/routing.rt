@@ -38,8 +38,8 @@ pub struct Routed {
 }
 
 impl Core {
-    /// Routes the item in hand: it is offered to the aggregators, and where it passes each output takes its view, where it
-    /// has one. The answer is what became of the item. Without memory all is as it was.
+    /// Routes the item in hand: it is offered to the aggregators, and where it passes each output takes its view, where
+    /// it has one. The answer is what became of the item. Without memory all is as it was.
     #[tactic(auto, unfolding(crate::specs::Steps::route_entry))]
     pub fn route(&mut self, r: Routed) -> Result<Verdict, OutOfMemory>
         requires held { self.old.held ≡ Some r.item }
@@ -83,7 +83,8 @@ fn judge(
         → IfOk result (λ verdict. verdict ≡ judged setup before whole.now aggs.now) }
     ensures ok { (setup : Setup) (before : List Entry) → BankIs setup before bank.old
         → offered (bank_events before) < 2 ^ 32
-        → OnOk result (BankStands setup.aggs setup.start (bank_events before ++ offered_to whole.now aggs.now) bank.new) }
+        → OnOk result (BankStands setup.aggs setup.start
+        (bank_events before ++ offered_to whole.now aggs.now) bank.new) }
     ensures err { (setup : Setup) (before : List Entry) → BankIs setup before bank.old
         → OnErr result (BankIs setup before bank.new) }
 {

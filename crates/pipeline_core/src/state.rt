@@ -6,7 +6,7 @@ ghost use Rattle.pipeline_core.specs.CoreState.{first_state, lane_of, lane_at, i
 ghost use Rattle.account.specs.declared.entry.Entry.{Entry};
 ghost use Rattle.pipeline_core.specs.Stands.{Stands, Continues};
 ghost use Rattle.pipeline_core.specs.Totals.{totals};
-ghost use Rattle.agg_bank.specs.Line.{IsLine};
+ghost use Rattle.account.specs.AggLines.{IsLine};
 ghost use Rattle.pipeline_core.specs.Steps.{after_cut};
 ghost use Rattle.account.specs.Numbers.{output_numbers};
 

@@ -12,8 +12,8 @@ use std::alloc::Global;
 use std::collections::VecDeque;
 
 impl Core {
-    /// Closes the windows that are due at a moment (nanoseconds since 1970), each once; what they make becomes items. The
-    /// moment that counts is the greater of this one and the last one counted. Without memory all stays as it was.
+    /// Closes the windows that are due at a moment (nanoseconds since 1970), each once; what they make becomes items.
+    /// The moment that counts is the greater of this one and the last one counted. Without memory all stays as it was.
     pub fn tick(&mut self, moment: Moment) -> Result<(), OutOfMemory>
         requires { self.old.stopped ≡ false }
         ensures ok { OnOk result (IsTickedAt moment self.old self.new) }

@@ -1,6 +1,6 @@
 //! What configurations say.
 use crate::pieces::{put, setting};
-use agent_config::{AgentConf, Config, ConfigFault, InputConf, OutputConf, read_config};
+use agent_config::{AgentConf, AggConf, Config, ConfigFault, InputConf, OutputConf, read_config};
 use format_words::{InFormat, OutFormat};
 use proc_chain::StepWork;
 use scenario_tables::Row;
@@ -38,7 +38,8 @@ pub fn append_interval(alloc: Global, text: &[u8], out: &mut Vec<u8>) -> Result<
     }
 }
 
-/// Appends the values of a configuration, with a line for the agent, each global tag, each input, each step and each output.
+/// Appends the values of a configuration, with a line for the agent, each global tag, each input, each step, each aggregator
+/// and each output.
 fn append_values(config: &Config, out: &mut Vec<u8>) -> Result<(), Fail> {
     append_agent(&config.agent, out)?;
     for (key, value) in config.globals.as_slice() {
@@ -52,6 +53,9 @@ fn append_values(config: &Config, out: &mut Vec<u8>) -> Result<(), Fail> {
     }
     for step in config.steps.as_slice() {
         append_step(&step.work, out)?;
+    }
+    for agg in config.aggs.as_slice() {
+        append_aggregator(agg, out)?;
     }
     for output in config.outputs.as_slice() {
         append_output(output, out)?;
@@ -117,6 +121,20 @@ fn append_step(work: &StepWork, out: &mut Vec<u8>) -> Result<(), Fail> {
             put(out, format_args!("step regex, rules {count}\n"))
         }
     }
+}
+
+/// Appends what an aggregator is.
+fn append_aggregator(agg: &AggConf, out: &mut Vec<u8>) -> Result<(), Fail> {
+    let line = &agg.line;
+    put(out, format_args!("aggregator {:?}, ", line.kind))?;
+    put(
+        out,
+        format_args!("period {}, delay {}, ", line.period, line.delay),
+    )?;
+    put(
+        out,
+        format_args!("grace {}, dropping {}\n", line.grace, line.dropping),
+    )
 }
 
 /// Appends what an output is, with its format.

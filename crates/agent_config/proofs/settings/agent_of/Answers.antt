@@ -11,6 +11,7 @@ returns c =
       c.agent_number-2.ensures,
       c.in_ok-time_at.ensures,
       c.truth_at.ensures,
+      c.truth_at-2.ensures,
       c.in_ok-of.ensures,
       c.journal_of.ensures,
     ) refl

@@ -41,7 +41,7 @@ returns-in-Ok-clause-gathers g c =
     subst (λ (x : Option Gathered). GathersAt c.args.core.now c.gather.new.self old (record old { held = x }))
     (sym free)
     (offer_accepted c.args.core.now c.gather.new.self (in_of g.S.Source.told g.C.Clock.told c.args.job.now)
-    c.in-Some.gathered held c.requires.fits.own c.requires.running.ready.no_aggs c.in-Ok.ensures.answer.0
+    c.in-Some.gathered held c.requires.fits.own c.in-Ok.ensures.answer.0
     c.in-Ok.ensures.ok c.in-Ok.ensures.stands)
 
 pub returns-in-None-clause-gathers : goal.returns-in-None-clause-gathers

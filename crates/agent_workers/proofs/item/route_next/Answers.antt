@@ -1,17 +1,18 @@
 use Rattle.std.proofs.Common.{◌≡◌, ◌∙◌, ◌++◌, ap, subst, sym, rules}
+use Rattle.std.specs.Prelude.{Bool, true}
 use Rattle.std.specs.List.{AllByRecursion}
 use Rattle.std.specs.declared.option.Option.{Option}
 use Rattle.std.specs.declared.option.Option.TheVariants.{None}
 use Rattle.metric.specs.declared.metric.Content.{Content}
 use Rattle.account.specs.Views.{HasViews}
 use Rattle.account.specs.declared.entry.Verdict.{Verdict}
+use Rattle.pipeline_core.specs.CoreState.{CoreState}
 use Rattle.pipeline_core.specs.Stands.{Continues}
 use Rattle.pipeline_core.specs.Steps.{after_route, route_entry}
 use Rattle.pipeline_core.specs.declared.routing.Routed.{Routed}
-use Rattle.agent_workers.specs.Item.{TakesNext, proc_of, routed_by}
-use Rattle.agent_workers.specs.Job.{filters_of}
+use Rattle.agent_workers.specs.Item.{TakesNext, proc_of, routed_by, seen_by}
 use Rattle.agent_workers.specs.Running.{IsRoutable}
-use Rattle.agent_workers.proofs.OutLemmas.{has_views, item_fewer, item_routed, ready_routed}
+use Rattle.agent_workers.proofs.OutLemmas.{has_views, item_fewer, item_routed, marked_first, ready_routed, sees_nothing}
 use Rattle.agent_workers.proofs.ProgressLemmas.{went_item}
 use Rattle.agent_workers.proofs.StandingLemmas.{continues}
 use Rattle.agent_workers.proofs.item.route_next.Given.{Over}
@@ -23,7 +24,7 @@ takes g c = search rules
 
 -- how the item is routed
 abbrev routing : (g : Over) → In_ok-route g → Routed
-routing g c = routed_by c.args.proc.now.outs.now c.in-Some.item.number c.in_ok-routed.routed.whole
+routing g c = routed_by (proc_of c.args.proc.now) c.in-Some.item c.in_ok-routed.routed.whole
 
 -- what became of it
 abbrev verdict : (g : Over) → In_ok-route g → Verdict
@@ -41,15 +42,17 @@ routes g c = subst (λ (r : Routed). Continues c.take_next.new.core c.route.new.
 
 kept : (g : Over) (c : In_ok-route g) → IsRoutable c.args.core.now c.route.new.self
 kept g c = item_routed c.args.core.now c.take_next.new.core c.route.new.self c.in-Some.item
-    c.args.proc.now.outs.now c.in_ok-routed.routed.whole (verdict g c) c.route.new.self.bank (takes g c) (routed g c)
+    (proc_of c.args.proc.now) c.in_ok-routed.routed.whole (verdict g c) c.route.new.self.bank (takes g c) (routed g c)
 
 pub route-requires-clause-views : goal.route-requires-clause-views
 route-requires-clause-views g c = subst (λ (r : Routed). HasViews r.whole (r.aggs ++ r.outs))
-    (sym c.in_ok-routed.ensures.routed) (has_views (filters_of c.args.proc.now.outs.now) c.in_ok-routed.routed.whole)
+    (sym c.in_ok-routed.ensures.routed) (has_views (proc_of c.args.proc.now) c.in-Some.item c.in_ok-routed.routed.whole)
 
 pub route-requires-clause-made : goal.route-requires-clause-made
 route-requires-clause-made g c = λ made. subst (λ (r : Routed). AllByRecursion (λ (view : Option Content). view ≡ None)
-    r.aggs) (sym c.in_ok-routed.ensures.routed) tt
+    r.aggs) (sym c.in_ok-routed.ensures.routed)
+    (sees_nothing (proc_of c.args.proc.now).aggs c.in-Some.item c.in_ok-routed.routed.whole
+    (marked_first c.args.core.now c.take_next.new.core c.in-Some.item (search rules) made))
 
 pub returns-clause-rests : goal.returns-clause-rests
 returns-clause-rests g c = record {
@@ -62,11 +65,11 @@ returns-clause-kept g c = kept g c
 
 pub returns-clause-fewer : goal.returns-clause-fewer
 returns-clause-fewer g c = λ more.
-    item_fewer c.args.core.now c.take_next.new.core c.route.new.self c.in-Some.item c.args.proc.now.outs.now
+    item_fewer c.args.core.now c.take_next.new.core c.route.new.self c.in-Some.item (proc_of c.args.proc.now)
     c.in_ok-routed.routed.whole (verdict g c) c.route.new.self.bank (takes g c) (routed g c)
 
 pub returns-clause-goes : goal.returns-clause-goes
-returns-clause-goes g c = λ start now fresh w.
+returns-clause-goes g c = λ start now ticked fresh stays w.
     went_item start c.args.core.now c.take_next.new.core c.route.new.self now (proc_of c.args.proc.now)
-    (proc_of c.routing.new.proc) c.in-Some.item c.in_ok-routed.routed.whole (verdict g c) fresh (takes g c) (routed g c)
-    (routes g c) c.in_ok-routed.ensures.pushes c.routing.ensures.same w
+    (proc_of c.routing.new.proc) c.in-Some.item c.in_ok-routed.routed.whole (verdict g c) ticked fresh stays (takes g c)
+    (routed g c) (routes g c) c.in_ok-routed.ensures.makes c.routing.ensures.same w

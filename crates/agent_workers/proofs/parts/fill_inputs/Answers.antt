@@ -1,8 +1,6 @@
 use Rattle.std.proofs.Common.{◌≡◌, ◌<◌, ◌∙◌, List, length, get_or, sym, ap, arith, rules}
-use Rattle.std.specs.Prelude.{map}
 use Rattle.agent_config.specs.declared.config.InputConf.{InputConf}
 use Rattle.agent_workers.proofs.OpenedLemmas.{in_filled, in_filled_all, hands_next}
-use Rattle.agent_workers.specs.Opened.{empty_hands, fresh_ins}
 use Rattle.agent_workers.proofs.parts.fill_inputs.Goals as goal
 
 pub in_job-requires-clause-none_read : goal.in_job-requires-clause-none_read

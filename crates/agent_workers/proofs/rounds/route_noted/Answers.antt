@@ -1,11 +1,13 @@
-use Rattle.std.proofs.Common.{◌∙◌, ap, refl}
+use Rattle.std.proofs.Common.{◌∙◌, ap, refl, subst, sym}
 use Rattle.pipeline_core.specs.CoreState.{CoreState}
 use Rattle.agent_workers.specs.Item.{proc_of}
 use Rattle.agent_workers.specs.Noted.{JournalPart, part_of}
 use Rattle.agent_workers.specs.declared.journal.JournalJob.{JournalJob}
 use Rattle.agent_workers.proofs.FinishSteps.{routes_more, routes_last}
 use Rattle.agent_workers.proofs.OutLemmas.{routable_same, routable_more}
-use Rattle.agent_workers.proofs.PartsLemmas.{same_proc}
+use Rattle.agent_workers.proofs.PartsLemmas.{proc_fits, proc_itself, same_proc}
+use Rattle.agent_workers.proofs.ProgressLemmas.{went_unticked}
+use Rattle.agent_workers.specs.Running.{AllMade}
 use Rattle.agent_workers.proofs.rounds.route_noted.Given.{Over}
 use Rattle.agent_workers.proofs.rounds.route_noted.Goals as goal
 
@@ -15,9 +17,12 @@ noted g = part_of g.K.Sink.told
 pub loop-part-init : goal.loop-part-init
 loop-part-init g c = record {
   rests = c.requires.rests;
-  kept = routable_same c.args.core.now c.args.core.now refl refl refl refl refl;
-  same = record { steps = refl; outs = refl };
-  routes = λ start now anew w. w;
+  kept = routable_same c.args.core.now c.args.core.now refl refl refl refl refl (λ all. all);
+  same = proc_itself (proc_of c.args.proc.now);
+  routes = λ start now ticked anew stays w.
+      went_unticked start (record now
+      { core = c.args.core.now; proc = proc_of c.args.proc.now; journal = noted g c.args.journal.now }) ticked
+      (λ t. (stays t).0) w;
 }
 
 pub loop-part-preserved : goal.loop-part-preserved
@@ -31,12 +36,13 @@ loop-part-preserved g c =
           (routable_same c.route_some.new.core c.note.new.core
           (ap (λ (s : CoreState). s.setup) cut) (ap (λ (s : CoreState). s.ended) cut)
           (ap (λ (s : CoreState). s.gathered) cut) (ap (λ (s : CoreState). s.stopped) cut)
-          (ap (λ (s : CoreState). s.lanes) cut));
+          (ap (λ (s : CoreState). s.lanes) cut) (λ all. subst AllMade (sym (ap (λ (s : CoreState). s.made) cut)) all));
       same = same_proc (proc_of c.args.proc.now) (proc_of c.loop-part.proc) (proc_of c.route_some.new.proc)
           c.loop-part.invariant.same c.route_some.ensures.same;
       routes = routes_more c.args.core.now c.loop-part.core c.route_some.new.core c.note.new.core
           (proc_of c.args.proc.now) (proc_of c.loop-part.proc) (proc_of c.route_some.new.proc)
           (noted g c.args.journal.now) (noted g c.loop-part.journal) (noted g c.note.new.journal)
+          c.loop-part.invariant.kept.made
           c.loop-part.invariant.routes c.in_ok-route_some.ensures.goes c.in_ok-note.ensures.notes;
     }
 
@@ -44,5 +50,10 @@ pub returns-then-not-branch-clause-routes : goal.returns-then-not-branch-clause-
 returns-then-not-branch-clause-routes g c =
     routes_last c.args.core.now c.loop-part.core c.route_some.new.core (proc_of c.args.proc.now)
     (proc_of c.loop-part.proc) (proc_of c.route_some.new.proc)
-    (noted g c.args.journal.now) (noted g c.loop-part.journal) c.loop-part.invariant.routes
+    (noted g c.args.journal.now) (noted g c.loop-part.journal) c.loop-part.invariant.kept.made
+    c.loop-part.invariant.routes
     c.in_ok-route_some.ensures.goes
+
+pub route_some-requires-clause-fit : goal.route_some-requires-clause-fit
+route_some-requires-clause-fit g c = proc_fits c.args.core.now c.loop-part.core (proc_of c.args.proc.now)
+    (proc_of c.loop-part.proc) c.requires.fit c.loop-part.invariant.kept.setup c.loop-part.invariant.same

@@ -1,5 +1,5 @@
 use Rattle.std.specs.Prelude.{All}
-use Rattle.agg_bank.specs.Line.{IsLine}
+use Rattle.account.specs.AggLines.{IsLine}
 use Rattle.core_scenarios.proofs.banks.lines_said.Given as goal
 
 abbrev pub invariant-loop-part : goal.invariant-loop-part

@@ -1,66 +1,38 @@
-use Rattle.std.proofs.Common.{◌≡◌, ◌+◌, ◌∷◌, false, true, not, List, drop, sym, ap, ◌∙◌, arith}
-use Rattle.std.proofs.lemmas.List.{drop_all}
-use Rattle.std.specs.List.{list_any}
-use Rattle.std.specs.Str.{bytes_eq}
-use Rattle.journal_reader.specs.MetricReading.{is_filled, are_fields}
-use Rattle.journal_reader.proofs.AccountLemmas.{drop_here}
-use Rattle.journal_reader.proofs.KeyLemmas.{Field, field_step, field_empty, field_twice, fields_end, filled_as}
-use Rattle.journal_reader.proofs.KeyLemmas.{not_false}
-use Rattle.journal_reader.proofs.KeyLemmas.{not_true}
+use Rattle.std.proofs.Common.{◌≡◌, false, true, List, [], take, not, sym, ap, subst, ◌∙◌, rules, arith}
+use Rattle.std.specs.List.{IsAllAdjacentAnswer}
+use Rattle.std.specs.Ordering.{is_lt}
+use Rattle.std.proofs.lemmas.List.{take_all}
+use Rattle.std.proofs.lemmas.List.Folds.{list_all_at}
+use Rattle.std.proofs.lemmas.List.Sorted.{answers_always}
+use Rattle.journal_reader.specs.MetricReading.{is_filled}
+use Rattle.journal_reader.proofs.KeyLemmas.{Field, all_filled, filled_as, fields_differ, no_fields}
+use Rattle.journal_reader.proofs.MarkLemmas.{Key, key_cmp, marked_keys, told}
 use Rattle.journal_reader.proofs.tags.are_fields.Goals as goal
 
 pub returns-then-is_empty : goal.returns-then-is_empty
 returns-then-is_empty c =
-    let i = c.loop-key.key-index in
+    let fields = c.args.fields.now in
     let field = c.loop-key-item.result in
-    let before = c.loop-key.invariant.0 in
     let empty : is_filled field.0 ≡ false =
-    filled_as field.0 c.as_str.result.now c.is_empty.result c.as_str.ensures c.is_empty.ensures
+    filled_as field.0 c.as_str-key.result.now c.is_empty.result c.as_str-key.ensures c.is_empty.ensures
     ∙ ap not c.if-is_empty.true in
-    sym (ap (λ (fs : List Field). are_fields before fs)
-    (drop_here c.args.fields.now i field c.loop-key-test.true c.loop-key-item.is)
-    ∙ field_empty before field (drop (i + 1) c.args.fields.now) empty)
-    ∙ c.loop-key.invariant.2
-
-pub returns-then-not-branch : goal.returns-then-not-branch
-returns-then-not-branch c =
-    let i = c.loop-key.key-index in
-    let field = c.loop-key-item.result in
-    let before = c.loop-key.invariant.0 in
-    let filled : is_filled field.0 ≡ true =
-    filled_as field.0 c.as_str.result.now c.is_empty.result c.as_str.ensures c.is_empty.ensures
-    ∙ ap not c.if-is_empty.false in
-    let twice : list_any (λ k. bytes_eq k field.0) before ≡ true =
-    not_false (list_any (λ k. bytes_eq k field.0) before)
-    (sym (c.in_ok-put_key.ensures.fresh before c.loop-key.invariant.1) ∙ c.if-not-branch.true) in
-    sym (ap (λ (fs : List Field). are_fields before fs)
-    (drop_here c.args.fields.now i field c.loop-key-test.true c.loop-key-item.is)
-    ∙ field_twice before field (drop (i + 1) c.args.fields.now) filled twice)
-    ∙ c.loop-key.invariant.2
-
-pub loop-key-preserved : goal.loop-key-preserved
-loop-key-preserved c =
-    let i = c.loop-key.key-index in
-    let field = c.loop-key-item.result in
-    let before = c.loop-key.invariant.0 in
-    let filled : is_filled field.0 ≡ true =
-    filled_as field.0 c.as_str.result.now c.is_empty.result c.as_str.ensures c.is_empty.ensures
-    ∙ ap not c.if-is_empty.false in
-    let fresh : list_any (λ k. bytes_eq k field.0) before ≡ false =
-    not_true (list_any (λ k. bytes_eq k field.0) before)
-    (sym (c.in_ok-put_key.ensures.fresh before c.loop-key.invariant.1) ∙ c.if-not-branch.false) in (
-      field.0 ∷ before,
-      c.in_ok-put_key.ensures.put before c.loop-key.invariant.1,
-      sym (ap (λ (fs : List Field). are_fields before fs)
-          (drop_here c.args.fields.now i field c.loop-key-test.true c.loop-key-item.is)
-          ∙ field_step before field (drop (i + 1) c.args.fields.now) filled fresh)
-          ∙ c.loop-key.invariant.2,
-    )
+    let here : all_filled fields ≡ false =
+    list_all_at (λ (f : Field). is_filled f.0) fields c.loop-key.key-index field c.loop-key-test.true
+    (subst (λ (f : Field). is_filled f.0 ≡ false) c.loop-key-item.is empty) in
+    sym (no_fields fields (λ e. false_true (sym here ∙ (fields_differ [] fields e).filled)))
+  where
+    false_true : false ≡ true → ⊥
+    false_true e = absurd cc
 
 pub returns : goal.returns
 returns c =
-    let before = c.loop-key.invariant.0 in
-    sym (ap (λ (fs : List Field). are_fields before fs)
-    (drop_all c.loop-key.key-index c.args.fields.now (omega (arith, c.loop-key-test.false)))
-    ∙ fields_end before)
-    ∙ c.loop-key.invariant.2
+    let fields = c.args.fields.now in
+    let all : take c.loop-key.key-index fields ≡ fields =
+    take_all c.loop-key.key-index fields (omega (arith, c.loop-key-test.false)) in
+    let rise = c.is_sorted_by.ensures.cases (λ (x y : Key). is_lt (key_cmp x y))
+    (answers_always _ _ _ (λ f a r g h. search rules)) in
+    told c.loop-key.keys.items c.sort_unstable.new.self.items fields (c.loop-key.invariant.marked ∙ ap marked_keys all)
+    (sym (ap all_filled all) ∙ c.loop-key.invariant.filled)
+    c.sort_unstable.ensures.permutation c.sort_unstable.ensures.sorted c.is_sorted_by.result
+    (subst (λ (keys : List Key). IsAllAdjacentAnswer (λ x y b. b ≡ is_lt (key_cmp x y)) keys c.is_sorted_by.result)
+    c.as_slice.ensures.value rise)

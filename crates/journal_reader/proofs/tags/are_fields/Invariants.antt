@@ -1,10 +1,11 @@
-use Rattle.std.proofs.Common.{◌≡◌, [], drop}
-use Rattle.journal_reader.specs.Words.{Parts}
-use Rattle.journal_reader.specs.KeySets.{HasKeys}
-use Rattle.journal_reader.specs.MetricReading.{are_fields}
+use Rattle.std.proofs.Common.{◌≡◌, take, true}
+use Rattle.journal_reader.proofs.KeyLemmas.{all_filled}
+use Rattle.journal_reader.proofs.MarkLemmas.{seen, marked_keys}
 use Rattle.journal_reader.proofs.tags.are_fields.Given as goal
 
--- the fields that are left, behind the keys before them
+-- the keys so far are filled, and are there with their marks
 abbrev pub invariant-loop-key : goal.invariant-loop-key
-invariant-loop-key l =
-    (before : Parts) × HasKeys l.keys before × (are_fields before (drop l.key-index l.fields) ≡ are_fields [] l.fields)
+invariant-loop-key l = record {
+  filled : all_filled (take l.key-index l.fields) ≡ true;
+  marked : seen l.keys.items ≡ marked_keys (take l.key-index l.fields);
+}

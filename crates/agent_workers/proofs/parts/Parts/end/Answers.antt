@@ -1,3 +1,5 @@
+use Rattle.std.specs.declared.option.Option.{Option}
+use Rattle.agent_base.specs.Moments.{Moments}
 use Rattle.std.proofs.Common.{◌≡◌, ◌∙◌, ◌∷◌, ◌++◌, [], ℕ, ℤ, List, rules, length, ap, sym, subst, refl, inl, inr}
 use Rattle.std.proofs.lemmas.Int.{to_z-of_z}
 use Rattle.std.proofs.lemmas.List.{length-map}
@@ -41,12 +43,13 @@ returns-clause-finished g c = λ job tries start counted is starts_count outs_co
     let moment = to_z w64 (of_z w64 c.now-moment.result) in
     let same_moment : moment ≡ c.now-moment.result = to_z-of_z w64 c.now-moment.result (search rules) in
     let first : RunState = record (state g c.args.core.now c.args.self.now) { counted_at = counted } in
-    let rounded : RunState = record (state g c.rounds.new.core c.rounds.new.self) { counted_at = counted } in
-    let went = went_timed start rounded (g.C.Clock.told c.now-moment.new.self)
-    (c.in_ok-rounds.ensures.runs start counted settled w) in
-    let counts : List ℤ = counted ++ int_max moment (last_of start.start counted) ∷ [] in
+    let over_rounds = c.in_ok-rounds.ensures.runs start counted settled w in
+    let so_far : List ℤ = over_rounds.counted_now in
+    let rounded : RunState = record (state g c.rounds.new.core c.rounds.new.self) { counted_at = so_far } in
+    let went = went_timed start rounded (g.C.Clock.told c.now-moment.new.self) over_rounds.progress in
+    let counts : List ℤ = so_far ++ int_max moment (last_of start.start so_far) ∷ [] in
     let last : RunState = record (state g c.stop.new.core c.stop.new.self) { counted_at = counts } in
-    let stopped : Progress start last = c.in_ok-stop.ensures.stops start counted went in
+    let stopped : Progress start last = c.in_ok-stop.ensures.stops start so_far went in
     let put_so = c.in_ok-account.ensures.ends (journal_setup_of (setup_at start)) start.noted start.note_faults
     stopped.text.written stopped.text.notes (stored_in_order start c.stop.new.core last.journal stopped.journal
     stopped.text) in
@@ -61,11 +64,12 @@ returns-clause-finished g c = λ job tries start counted is starts_count outs_co
           (subst (OneIsFull c.rounds.new.core.gathered) (sym c.in_ok-stop.ensures.stopped.ins) full))
       | inr out ↦ inr (subst AreOut (sym c.in_ok-stop.ensures.stopped.ins) out)
     ] in
-    let gives : Gives first.timer.moments first.timer.next (g.C.Clock.told c.stop.new.self.timer).next moment =
-    subst (λ (t : Timed). Gives t.moments t.next (g.C.Clock.told c.stop.new.self.timer).next moment)
-    c.in_ok-rounds.ensures.about.timer
+    let gives : Gives first.timer.moments (g.C.Clock.told c.rounds.new.self.timer).next
+    (g.C.Clock.told c.stop.new.self.timer).next moment =
+    subst (λ (all : Option Moments). Gives all (g.C.Clock.told c.rounds.new.self.timer).next
+    (g.C.Clock.told c.stop.new.self.timer).next moment) c.in_ok-rounds.ensures.about.timer
     (subst (λ (t : Timed). Gives (g.C.Clock.told c.rounds.new.self.timer).moments
-    (g.C.Clock.told c.rounds.new.self.timer).next t.next moment) (sym c.in_ok-stop.ensures.about.timer)
+    (g.C.Clock.told c.rounds.new.self.timer).next t.next moment) (sym c.in_ok-stop.ensures.stopped.timer)
     (rw same_moment c.now-moment.ensures.gives)) in
     finished start last stopped
     c.in_ok-stop.ensures.stopped.stopped c.in_ok-stop.ensures.stopped.none_raw
@@ -76,7 +80,8 @@ returns-clause-finished g c = λ job tries start counted is starts_count outs_co
     c.in_ok-stop.ensures.fit.inputs)
     (subst (λ (k : ℕ). AreOutputs k last.outs) out_count c.in_ok-stop.ensures.fit.outputs) over
     _ first c.end_journal.new.core (part_of g.K.Sink.told c.end_journal.new.journal)
-    (g.C.Clock.told c.stop.new.self.timer) moment c.in_ok-account.ensures.cut gives refl
+    (g.C.Clock.told c.stop.new.self.timer) (g.C.Clock.told c.rounds.new.self.timer).next so_far moment
+    c.in_ok-account.ensures.cut over_rounds.counts gives refl
     (subst (λ (jobs : List (InJob g.row.S.Denot g.row.C.Denot)). IsOneIn states.LimitReached
     (ins_of g.S.Source.told g.C.Clock.told jobs) c.is_one_in.result) c.deref.ensures.value c.is_one_in.ensures)
     (subst (λ (jobs : List (InJob g.row.S.Denot g.row.C.Denot)). IsOneIn states.Faulted

@@ -21,7 +21,10 @@ use Rattle.agent_workers.specs.declared.output.OutJob.{OutJob}
 use Rattle.agent_workers.specs.declared.parts.Parts.{Parts}
 use Rattle.agent_workers.proofs.InLemmas.{inputs_still, inputs_themselves}
 use Rattle.agent_workers.proofs.OutLemmas.{are_anew, outputs_still, ready_same}
-use Rattle.agent_workers.proofs.PartsLemmas.{state_by}
+use Rattle.agent_workers.specs.Running.{AllMade}
+use Rattle.agent_workers.proofs.TickLemmas.{made_stopped, none_marked}
+use Rattle.std.specs.Prelude.{true}
+use Rattle.agent_workers.proofs.PartsLemmas.{proc_fits, state_by}
 use Rattle.agent_workers.proofs.ProgressLemmas.{went_stop}
 use Rattle.agent_workers.proofs.StandingLemmas.{continues}
 use Rattle.agent_workers.proofs.parts.Parts.stop.Given.{Over}
@@ -89,7 +92,8 @@ fit g c =
           (ins g c.args.self.now.inputs.items) (ended g c) c.requires.fit.inputs);
       outputs = subst (λ (n : ℕ). AreOutputs n (outs g c.send_rest.new.outputs))
           (ap (λ (s : Setup). length s.outputs) (routed_setup g c) ∙ sym out_count) c.in_ok-send_rest.ensures.outputs;
-      filters = ap length c.route_all.ensures.same.outs ∙ c.requires.fit.filters ∙ sym out_count;
+      filters = proc_fits c.args.core.now c.send_rest.new.core (proc_of c.args.self.now.proc)
+          (proc_of c.route_all.new.proc) c.requires.fit.filters (setup g c) c.route_all.ensures.same;
     }
 
 about : (g : Over) (c : In_ok-send_rest g) → IsAboutSame (state g c.args.core.now c.args.self.now) (last g c)
@@ -110,8 +114,15 @@ stopped g c = record {
   ended = ended g c;
   none_raw = c.in_ok-send_rest.ensures.kept.raw ∙ c.in_ok-route_all.ensures.none;
   ins = refl;
+  timer = refl;
   rest = c.in_ok-send_rest.ensures.rest;
 }
+
+-- what the stop made is all that is raw
+all_made : (g : Over) (c : In_ok-send_rest g) → AllMade c.stop.new.self.made
+all_made g c = made_stopped (to_z w64 (of_z w64 c.args.moment)) c.args.core.now c.stop.new.self c.in_ok-stop.ensures.ok
+    (none_marked c.args.core.now c.requires.running.stands c.requires.running.ready.empty_handed
+    c.requires.sent.none_raw)
 
 stops : (g : Over) (c : In_ok-send_rest g) → StopsAt c.args.moment (state g c.args.core.now c.args.self.now) (last g c)
 stops g c = λ start counted w.
@@ -122,13 +133,13 @@ stops g c = λ start counted w.
     let same : to_z w64 (of_z w64 c.args.moment) ≡ c.args.moment = to_z-of_z w64 c.args.moment c.ranges.moment in
     let stops = subst (λ (m : ℤ). IsStoppedAt m c.args.core.now c.stop.new.self) same c.in_ok-stop.ensures.ok in
     let b =
-    went_stop start c.args.core.now c.stop.new.self first olds news c.args.moment c.requires.running.ready.no_aggs
+    went_stop start c.args.core.now c.stop.new.self first olds news c.args.moment
     c.requires.sent.none_raw c.requires.sent.settled (fresh g c) zero stops w in
     let sends = subst (λ (jobs : List (OutJob g.row.K.Denot g.row.C.Denot)). SendsOn c.route_all.new.core
     c.send_rest.new.core (outs g jobs) (outs g c.send_rest.new.outputs)) (mids g c) c.in_ok-send_rest.ensures.sends in
     let counts : List ℤ = counted ++ int_max c.args.moment (last_of start.start counted) ∷ [] in
     let now_stopped : RunState = record first { outs = news; counted_at = counts } in
-    let d = c.in_ok-route_all.ensures.goes start now_stopped zero b in
+    let d = c.in_ok-route_all.ensures.goes start now_stopped true zero (λ t. (refl, all_made g c)) b in
     sends start (record now_stopped { proc = proc_of c.route_all.new.proc }) d
 
 pub route_all-requires-clause-rests : goal.route_all-requires-clause-rests

@@ -7,7 +7,7 @@ use Rattle.metric.specs.declared.metric.Content.{Content}
 use Rattle.agg_bank.specs.Bank.{AggMemory, AggStands}
 use Rattle.agg_bank.specs.Events.{closing_event}
 use Rattle.agg_bank.specs.Fold.{memory_of}
-use Rattle.agg_bank.specs.Line.{IsLine}
+use Rattle.account.specs.AggLines.{IsLine}
 use Rattle.agg_bank.specs.Made.{folded, made_by}
 use Rattle.agg_bank.specs.Members.{members}
 use Rattle.agg_bank.specs.Ready.{closes_at}

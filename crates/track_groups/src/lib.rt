@@ -1,0 +1,10 @@
+//! Groups of gathered metrics: of each, how many copies of its metrics still wait, and whether one was dropped.
+#![tactic(auto)]
+
+mod group;
+mod laws;
+mod tracker;
+
+pub use group::GroupRef;
+pub use laws::law_gone;
+pub use tracker::Tracker;

@@ -43,7 +43,7 @@ use Rattle.agent_workers.specs.Run.{RunsFull, IsCutShort, IsUnread, IsReadFrom, 
 use Rattle.agent_workers.specs.Run.{IsLeft, Ran, buffered_at_end, account_of}
 use Rattle.agent_workers.specs.Finished.{IsCounted, Finished, begun, IsSetUp}
 use Rattle.agent_workers.specs.Noted.{JournalPart, Notes, part_change}
-use Rattle.agent_workers.specs.Job.{Job, journal_setup_of, limit_of, setup_of, output_sizes}
+use Rattle.agent_workers.specs.Job.{Job, journal_setup_of, limit_of, setup_of, output_sizes, IsKnownOf}
 use Rattle.agent_workers.specs.RunState.{RunState, Beginning, setup_at}
 use Rattle.agent_workers.specs.Progress.{HasText, Heard, Said, Progress, GoesOn, RoutesOn, SendsOn, GathersOn, RunsOn}
 use Rattle.agent_workers.specs.Progress.{NotesRun}
@@ -96,8 +96,8 @@ went_first : (job : Job) (start : ℤ) (now : RunState) → Stands now.core [] �
     now.journal → now.counted_at ≡ [] →
     length now.ins ≡ length job.inputs → ((k : ℕ) → k < length now.ins → IsFresh (in_at now.ins k))
     → AreUnfailed now.outs → length now.outs ≡ length job.outputs → job.work ≡ work_by now.proc
-    → AllStand now.proc.chain [] → Progress (begun job start now) now
-went_first job start now stands setup stored notes none in_count fresh unfailed count work pushed = record {
+    → AllStand now.proc.chain [] → IsKnownOf job.work now.journal.known → Progress (begun job start now) now
+went_first job start now stands setup stored notes none in_count fresh unfailed count work pushed known = record {
   journal = [];
   text = record {
     stands = stands;
@@ -107,6 +107,7 @@ went_first job start now stands setup stored notes none in_count fresh unfailed 
     written = [];
     split = sym stored;
     notes = notes;
+    known = known;
   };
   in_count = in_count;
   heard = λ k l. heard_first (in_at now.ins k) k (fresh k l);
@@ -137,6 +138,7 @@ pub record AreNew (job : Job) (start : ℤ) (now : RunState) : Type 0 where
   pub filters : length now.proc.outs ≡ length job.outputs
   pub work : job.work ≡ work_by now.proc
   pub pushed : AllStand now.proc.chain []
+  pub known : IsKnownOf job.work now.journal.known
   pub about : now.journal.setup ≡ journal_setup_of (setup_of job start)
   pub kept : now.journal.kept ≡ []
   pub entries : now.journal.entries ≡ 0
@@ -168,7 +170,7 @@ is_set_up job start now few ready going stands setup stored ended none new =
       settled = none_buffered now.core now.outs none;
       agrees = went_first job start now stands setup stored (notes_none
           (journal_setup_of (setup_of job start)) now.journal new.about new.kept new.entries new.put) new.counted
-          new.in_count new.fresh.fresh new.unfailed new.outputs.count_is new.work new.pushed;
+          new.in_count new.fresh.fresh new.unfailed new.outputs.count_is new.work new.pushed new.known;
     }
 
 -- ---- the end

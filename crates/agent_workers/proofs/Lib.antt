@@ -4,6 +4,7 @@ pub mod GatherLemmas
 pub mod GatherSteps
 pub mod HeardLemmas
 pub mod InLemmas
+pub mod KnownLemmas
 pub mod MomentLemmas
 pub mod NotedLemmas
 pub mod OpenedLemmas

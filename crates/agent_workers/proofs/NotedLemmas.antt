@@ -13,7 +13,9 @@ use Rattle.account.specs.Says.{reports_of}
 use Rattle.metric.specs.declared.metric.Content.{Content}
 use Rattle.agent_base.specs.Counts.{Rose}
 use Rattle.journal_text.specs.declared.setup.JournalSetup.{JournalSetup}
-use Rattle.journal_text.specs.JournalText.{HasItem, metric_line, metric_lines, report_lines, head_text, entry_text}
+use Rattle.journal_text.specs.JournalText.{HasItem, metric_line, metric_lines, report_lines}
+use Rattle.journal_text.specs.Known.{AreKnown, head_as, entry_as}
+use Rattle.journal_text.specs.declared.known.Known.{Known}
 use Rattle.journal_text.specs.JournalText.{entries_text, end_text, journal_text}
 use Rattle.agent_workers.specs.Run.{change, IsPutSo}
 use Rattle.agent_workers.specs.Noted.{JournalPart, IsNotedSo, Notes, IsPartPut, GoesOut, SpellsOut, NotesOn, EndsOn}
@@ -130,6 +132,7 @@ wrote part waiting added rest is = record {
   all = is;
   put = nothing_put part.failed part.held part.faults;
   about = refl;
+  known_same = refl;
   kept_same = refl;
   counted_same = refl;
 }
@@ -143,6 +146,7 @@ put_whole old failed held faults text waiting rest is none put = record {
   all = ap (λ (t : List ℕ). waiting ++ t) none;
   put = put_as old.failed failed text waiting old.held held old.faults faults is put;
   about = refl;
+  known_same = refl;
   kept_same = refl;
   counted_same = refl;
 }
@@ -157,6 +161,7 @@ goes_then old mid new first added second more third h k = record {
   put = parts_put old.failed mid.failed new.failed h.front k.front old.held mid.held new.held old.faults mid.faults
       new.faults h.put k.put;
   about = k.about ∙ h.about;
+  known_same = k.known_same ∙ h.known_same;
   kept_same = k.kept_same ∙ h.kept_same;
   counted_same = k.counted_same ∙ h.counted_same;
 }
@@ -182,18 +187,18 @@ metric_goes old mid new metrics n m first second third rest lt is h line k =
     (wrote mid second (metric_line m) third line)) k)
 
 -- the lines of an entry
-pub entry_goes : (item named : List Content) (e : Entry) (old mid new : JournalPart) (t0 t1 t2 t3 t4 : List ℕ)
-    → named ≡ named_by e → t1 ≡ t0 ++ head_text item e → GoesOut old mid t1 (metric_lines named) t2
-    → t3 ≡ t2 ++ report_lines (reports_of e) →
-    GoesOut mid new t3 [] t4 → GoesOut old new t0 (entry_text item e) t4
-unfolding entry_text
-entry_goes item named e old mid new t0 t1 t2 t3 t4 names head metrics reports full =
-    let front : List ℕ = head_text item e in
+pub entry_goes : (known : Known) (item named : List Content) (e : Entry) (old mid new : JournalPart)
+    (t0 t1 t2 t3 t4 : List ℕ) → named ≡ named_by e → t1 ≡ t0 ++ head_as known item e
+    → GoesOut old mid t1 (metric_lines named) t2 → t3 ≡ t2 ++ report_lines (reports_of e) →
+    GoesOut mid new t3 [] t4 → GoesOut old new t0 (entry_as known item e) t4
+unfolding entry_as
+entry_goes known item named e old mid new t0 t1 t2 t3 t4 names head metrics reports full =
+    let front : List ℕ = head_as known item e in
     let last : List ℕ = report_lines (reports_of e) in
-    let lines : ((front ++ metric_lines named) ++ last) ++ [] ≡ entry_text item e =
+    let lines : ((front ++ metric_lines named) ++ last) ++ [] ≡ entry_as known item e =
     append-nil ((front ++ metric_lines named) ++ last) ∙ ap (λ (ms : List Content). (front ++ metric_lines ms) ++ last)
     names in
-    goes_as old new t0 (((front ++ metric_lines named) ++ last) ++ []) (entry_text item e) t4 lines
+    goes_as old new t0 (((front ++ metric_lines named) ++ last) ++ []) (entry_as known item e) t4 lines
     (goes_then old mid new t0 ((front ++ metric_lines named) ++ last) t3 [] t4
     (goes_then old mid mid t0 (front ++ metric_lines named) t2 last t3
     (goes_then old old mid t0 front t1 (metric_lines named) t2 (wrote old t0 front t1 head) metrics)
@@ -204,24 +209,26 @@ entry_goes item named e old mid new t0 t1 t2 t3 t4 names head metrics reports fu
 
 -- an entry, whose item is at hand
 pub spells_one : (e : Entry) (item mid left : List Content) (old after : JournalPart) (count : ℕ) (text rest : List ℕ)
-    → HasItem item e → old.kept ≡ item ++ mid → GoesOut (record old { kept = mid }) after text (entry_text item e) rest
+    → HasItem item e → old.kept ≡ item ++ mid → GoesOut (record old { kept = mid }) after text (entry_as old.known item e) rest
     → left ≡ after.kept ++ named_by e → count ≡ after.entries + 1 →
     SpellsOut (e ∷ []) old (record after { kept = left; entries = count }) text rest
 spells_one e item mid left old after count text rest has first goes named counted = record {
   front = goes.front;
-  spelled = spells_entry e item old.kept left text (goes.front ++ rest) has
+  spelled = spells_entry old.known e item old.kept left text (goes.front ++ rest) has
       (rest_named item old.kept mid left (named_by e) first (named
       ∙ ap (λ (xs : List Content). xs ++ named_by e) goes.kept_same)) goes.all;
   put = goes.put;
   about = goes.about;
+  known_same = goes.known_same;
   counted = counted ∙ ap (λ (n : ℕ). n + 1) goes.counted_same;
 }
 
 -- entries behind a longer text
-spells_behind : (entries : List Entry) (kept left : List Content) (front text new_text : List ℕ)
-    → SpellsOn entries kept left text new_text → SpellsOn entries kept left (front ++ text) (front ++ new_text)
-spells_behind entries kept left front text new_text spells journal kept_is order more =
-    let s = spells journal kept_is order more in record {
+spells_behind : (known : Known) (entries : List Entry) (kept left : List Content) (front text new_text : List ℕ)
+    → SpellsOn known entries kept left text new_text
+    → SpellsOn known entries kept left (front ++ text) (front ++ new_text)
+spells_behind known entries kept left front text new_text spells journal kept_is order more so =
+    let s = spells journal kept_is order more so in record {
       left_are = s.left_are;
       spelled = ap (λ (t : List ℕ). front ++ t) s.spelled ∙ sym
           (append_assoc front text (entries_text (items journal) entries));
@@ -231,17 +238,19 @@ spells_behind entries kept left front text new_text spells journal kept_is order
 -- the first so many of the entries were spelled so
 pub record FirstOut (n : ℕ) (entries : List Entry) (old now : JournalPart) (waiting rest : List ℕ) : Type 0 where
   pub front : List ℕ
-  pub spelled : SpellsFirst n entries old.kept now.kept waiting (front ++ rest)
+  pub spelled : SpellsFirst old.known n entries old.kept now.kept waiting (front ++ rest)
   pub put : IsPartPut old.failed now.failed (change old.held now.held old.faults now.faults) front
   pub about : now.setup ≡ old.setup
+  pub known_same : now.known ≡ old.known
   pub counted : now.entries ≡ old.entries + length (take n entries)
 
 pub first_none : (entries : List Entry) (part : JournalPart) (text : List ℕ) → FirstOut 0 entries part part text text
 first_none entries part text = record {
   front = [];
-  spelled = spells_no_more entries part.kept text;
+  spelled = spells_no_more part.known entries part.kept text;
   put = nothing_put part.failed part.held part.faults;
   about = refl;
+  known_same = refl;
   counted = let none : length (take 0 entries) ≡ 0 = refl in omega (arith, none);
 }
 
@@ -256,14 +265,17 @@ first_more n entries e old mid new waiting text rest lt is h k =
     record {
       front = h.front ++ k.front;
       spelled =
-          spells_more n entries e old.kept mid.kept new.kept waiting (h.front ++ text)
+          spells_more old.known n entries e old.kept mid.kept new.kept waiting (h.front ++ text)
           ((h.front ++ k.front) ++ rest) lt is h.spelled
-          (subst (λ (t : List ℕ). SpellsOn (e ∷ []) mid.kept new.kept (h.front ++ text) t)
-          (sym (append_assoc h.front k.front rest)) (spells_behind (e ∷ []) mid.kept new.kept h.front text
-          (k.front ++ rest) k.spelled));
+          (subst (λ (t : List ℕ). SpellsOn old.known (e ∷ []) mid.kept new.kept (h.front ++ text) t)
+          (sym (append_assoc h.front k.front rest)) (spells_behind old.known (e ∷ []) mid.kept new.kept h.front text
+          (k.front ++ rest)
+          (subst (λ (known : Known). SpellsOn known (e ∷ []) mid.kept new.kept text (k.front ++ rest)) h.known_same
+          k.spelled)));
       put = parts_put old.failed mid.failed new.failed h.front k.front old.held mid.held new.held old.faults mid.faults
           new.faults h.put k.put;
       about = k.about ∙ h.about;
+      known_same = k.known_same ∙ h.known_same;
       counted = omega (arith, one, h.counted, longer);
     }
 
@@ -271,9 +283,10 @@ pub first_all : (n : ℕ) (entries : List Entry) (old new : JournalPart) (waitin
     → FirstOut n entries old new waiting rest → SpellsOut entries old new waiting rest
 first_all n entries old new waiting rest most h = record {
   front = h.front;
-  spelled = spells_all n entries old.kept new.kept waiting (h.front ++ rest) most h.spelled;
+  spelled = spells_all old.known n entries old.kept new.kept waiting (h.front ++ rest) most h.spelled;
   put = h.put;
   about = h.about;
+  known_same = h.known_same;
   counted = h.counted ∙ ap (λ (es : List Entry). old.entries + length es) (take_all n entries most);
 }
 
@@ -363,35 +376,39 @@ module _ (entries : List Entry) (old : JournalPart) (setup : JournalSetup) (held
 pub notes_more : (entries : List Entry) (old mid new : JournalPart) (rest left : List ℕ) → length entries ≢ 0
     → SpellsOut entries old mid (front_text old.setup old.entries) rest → GoesOut mid new rest [] left → left ≡ []
     → NotesOn entries old new
-notes_more entries old mid new rest left some s k none setup held faults journal h more =
-    let text : List ℕ = s.front ++ rest in
-    let so = s.spelled journal h.kept_are h.in_order more in
-    let is : text ≡ front_text setup old.entries ++ entries_text (items journal) entries =
-    so.spelled ∙ ap (λ (x : JournalSetup). front_text x old.entries ++ entries_text (items journal) entries) h.about in
-    let whole : noted_text setup journal ++ text ≡ text_so_far setup (journal ++ entries) =
-    ap (λ (t : List ℕ). noted_text setup journal ++ t) is ∙ part_text setup old.entries journal entries h.counted in
-    let put = put_all entries old mid new (front_text old.setup old.entries) rest rest left s k none in
-    let all = put_more entries old setup held faults journal h old.failed new.failed text
-    (text_so_far setup (journal ++ entries)) new.held new.faults refl whole
-    (entries_text (items journal) entries, so_far_more setup journal entries) put in
-    record {
-      about = k.about ∙ s.about ∙ h.about;
-      counted = k.counted_same ∙ s.counted ∙ ap (λ (n : ℕ). n + length entries) h.counted
-          ∙ sym (length-append journal entries);
-      kept_are = k.kept_same ∙ so.left_are;
-      in_order = so.in_order;
-      later = all.1;
-      put = noted_by entries old setup held faults journal h new.failed new.held new.faults some all.0;
-    }
+notes_more entries old mid new rest left some s k none = record {
+  noted = λ setup held faults journal h more known_so.
+      let text : List ℕ = s.front ++ rest in
+      let so = s.spelled journal h.kept_are h.in_order more known_so in
+      let is : text ≡ front_text setup old.entries ++ entries_text (items journal) entries =
+      so.spelled
+      ∙ ap (λ (x : JournalSetup). front_text x old.entries ++ entries_text (items journal) entries) h.about in
+      let whole : noted_text setup journal ++ text ≡ text_so_far setup (journal ++ entries) =
+      ap (λ (t : List ℕ). noted_text setup journal ++ t) is ∙ part_text setup old.entries journal entries h.counted in
+      let put = put_all entries old mid new (front_text old.setup old.entries) rest rest left s k none in
+      let all = put_more entries old setup held faults journal h old.failed new.failed text
+      (text_so_far setup (journal ++ entries)) new.held new.faults refl whole
+      (entries_text (items journal) entries, so_far_more setup journal entries) put in
+      record {
+        about = k.about ∙ s.about ∙ h.about;
+        counted = k.counted_same ∙ s.counted ∙ ap (λ (n : ℕ). n + length entries) h.counted
+            ∙ sym (length-append journal entries);
+        kept_are = k.kept_same ∙ so.left_are;
+        in_order = so.in_order;
+        later = all.1;
+        put = noted_by entries old setup held faults journal h new.failed new.held new.faults some all.0;
+      };
+  known_same = k.known_same ∙ s.known_same;
+}
 
 -- the last entries were spelled, and all that waited was put with the end
 pub ends_noted : (entries : List Entry) (account : List ℕ) (old mid new : JournalPart) (rest waiting left : List ℕ)
     → SpellsOut entries old mid (front_text old.setup old.entries) rest → waiting ≡ rest ++ end_text account mid.entries
     → GoesOut mid new waiting [] left → left ≡ [] → EndsOn entries account old new
 unfolding journal_text
-ends_noted entries account old mid new rest waiting left s ended k none setup held faults journal h more =
+ends_noted entries account old mid new rest waiting left s ended k none setup held faults journal h more known_so =
     let text : List ℕ = s.front ++ rest in
-    let so = s.spelled journal h.kept_are h.in_order more in
+    let so = s.spelled journal h.kept_are h.in_order more known_so in
     let is : text ≡ front_text setup old.entries ++ entries_text (items journal) entries =
     so.spelled ∙ ap (λ (x : JournalSetup). front_text x old.entries ++ entries_text (items journal) entries) h.about in
     let front : noted_text setup journal ++ text ≡ text_so_far setup (journal ++ entries) =

@@ -36,13 +36,15 @@ use Rattle.pipeline_core.specs.Stands.{Stands, Continues}
 use Rattle.account.specs.Dones.{dones_by, dones}
 use Rattle.pipeline_core.specs.Stopped.{behind_stop}
 use Rattle.agent_workers.specs.Noted.{JournalPart, Notes, NotesOn}
+use Rattle.journal_text.specs.Known.{AreKnown}
+use Rattle.agent_workers.proofs.KnownLemmas.{are_known}
 use Rattle.pipeline_core.specs.Order.{EndsFailed, IsFlushed, IsOrderly, IsTicked, is_tick, routes_gathered}
 use Rattle.pipeline_core.specs.Worked.{views_of, Worked}
 use Rattle.pipeline_core.specs.declared.routing.Routed.{Routed}
 use Rattle.proc_chain.specs.Chain.{steps_of, AllStand, StageState}
 use Rattle.proc_chain.specs.declared.step.Step.{Step}
 use Rattle.pipeline_core.specs.declared.gathering.Item.{Item}
-use Rattle.agent_workers.specs.Job.{filters_of, journal_setup_of, output_sizes, work_of}
+use Rattle.agent_workers.specs.Job.{filters_of, journal_setup_of, output_sizes, work_of, IsKnownOf}
 use Rattle.account.specs.Routes.{RouteOnInOrder}
 use Rattle.agent_workers.specs.Inputs.{InPart, in_at, no_in}
 use Rattle.agent_workers.specs.RunState.{RunState, Beginning, setup_at}
@@ -87,6 +89,7 @@ text-push start core next part journal e h more stored same = record {
   split = ap (λ (es : List Entry). es ++ e ∷ []) h.split ∙ append_assoc h.written core.stored (e ∷ [])
       ∙ ap (λ (es : List Entry). h.written ++ es) (sym stored);
   notes = h.notes;
+  known = h.known;
 }
 
 -- the Routes of the entries that the core stores come in order
@@ -95,12 +98,21 @@ pub stored_in_order : (start : Beginning) (core : CoreState) (part : JournalPart
 stored_in_order start core part journal h = legal_rest_in_order core.setup h.written core.stored
     (subst (IsLegal core.setup) h.split h.stands.legal)
 
+-- and what is known of them is so
+pub stored_known : (start : Beginning) (core : CoreState) (part : JournalPart) (journal : List Entry)
+    (h : HasText start core part journal) → Worked start.job.work journal
+    → AreKnown part.known (items h.written) core.stored
+stored_known start core part journal h worked =
+    are_known start.job.work part.known journal h.written core.stored h.known h.split
+    (stored_in_order start core part journal h) worked
+
 -- the entries that the core stored are noted
 pub text-cut : (start : Beginning) (core next : CoreState) (part more : JournalPart) (journal : List Entry)
-    → HasText start core part journal → ((es : List Entry) → Stands core es → Stands next es) → next.stored ≡ []
-    → next.setup ≡ core.setup → NotesOn core.stored part more
+    → HasText start core part journal → Worked start.job.work journal
+    → ((es : List Entry) → Stands core es → Stands next es) → next.stored ≡ [] → next.setup ≡ core.setup
+    → NotesOn core.stored part more
     → HasText start next more journal
-text-cut start core next part more journal h stands none same notes = record {
+text-cut start core next part more journal h worked stands none same notes = record {
   stands = stands journal h.stands;
   setup_is = same ∙ h.setup_is;
   more = h.more;
@@ -109,8 +121,9 @@ text-cut start core next part more journal h stands none same notes = record {
   split = sym (append-nil journal) ∙ ap (λ (es : List Entry). journal ++ es) (sym none);
   notes = subst (λ (es : List Entry). Notes (journal_setup_of (setup_at start)) start.noted start.note_faults es more)
       (sym h.split)
-      (notes (journal_setup_of (setup_at start)) start.noted start.note_faults h.written h.notes
-      (stored_in_order start core part journal h));
+      (notes.noted (journal_setup_of (setup_at start)) start.noted start.note_faults h.written h.notes
+      (stored_in_order start core part journal h) (stored_known start core part journal h worked));
+  known = subst (IsKnownOf start.job.work) (sym notes.known_same) h.known;
 }
 
 -- what is buffered at an output is what the journal says
@@ -438,7 +451,7 @@ pub went_cut : (start : Beginning) (core next : CoreState) (part more : JournalP
     → Progress start (record now { core = next; journal = more })
 went_cut start core next part more now stands is notes w = record {
   journal = w.journal;
-  text = text-cut start core next part more w.journal w.text stands (ap (λ (s : CoreState). s.stored) is)
+  text = text-cut start core next part more w.journal w.text w.worked stands (ap (λ (s : CoreState). s.stored) is)
       (ap (λ (s : CoreState). s.setup) is) notes;
   in_count = w.in_count;
   heard = w.heard;

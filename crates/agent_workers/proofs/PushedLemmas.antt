@@ -94,6 +94,19 @@ among_one : (skip : Bool) (m : Content) (o : Origin) (b : Bool) → (skip && is_
 among_one skip m o true e = ap (λ (c : Bool). map (λ (x : Content × Origin). x.0) (if not c then (m, o) ∷ [] else [])) e
 among_one skip m o false e = ap (λ (c : Bool). map (λ (x : Content × Origin). x.0) (if not c then (m, o) ∷ [] else [])) e
 
+-- the last of those that went through them up to an item is that item, where it did
+pub pushed_last : (skip : Bool) (journal : List Entry) (item : ℕ) (m : Content) → slice_get (items journal) item ≡ Some m
+    → (before : List Content) × ((skip && is_made journal item) ≡ false → pushed skip journal item ≡ before ++ m ∷ [])
+pushed_last skip journal item m at =
+    let before = take item (zip (items journal) (origins journal)) in (
+      among skip before,
+      λ goes.
+          ap (among skip) (take_next (items journal) (origins journal) item m (sym (origins-match journal)) at)
+          ∙ among-append skip before ((m, origin_at journal item) ∷ [])
+          ∙ ap (λ (xs : List Content). among skip before ++ xs)
+          (among_one skip m (origin_at journal item) false goes),
+    )
+
 -- what the steps make of a metric: it is the whole behind those that went through them, and they stand for these
 whole_is : (b : Bool) (proc new_proc : ProcPart) (metric : Content) (whole : Option Content) (before after : List Content)
     → MakesSo b proc new_proc metric whole → AllStand proc.chain before

@@ -4,20 +4,23 @@ use Rattle.std.specs.Io.KnownBytes.{Appends}
 use Rattle.std.specs.declared.option.Option.{Option}
 use Rattle.metric.specs.declared.metric.Content.{Content}
 use Rattle.account.specs.declared.entry.Entry.{Entry}
-use Rattle.account.specs.Items.{unrouted_items}
+use Rattle.account.specs.Items.{items, unrouted_items}
 use Rattle.agent_base.specs.Carried.{Carried}
 use Rattle.agent_base.specs.Counts.{Rose}
 use Rattle.journal_text.specs.declared.setup.JournalSetup.{JournalSetup}
 use Rattle.journal_text.specs.JournalText.{journal_text}
+use Rattle.journal_text.specs.Known.{AreKnown}
+use Rattle.journal_text.specs.declared.known.Known.{Known}
 use Rattle.agent_workers.specs.Run.{Change, change, IsPut, IsPutSo}
 use Rattle.account.specs.Routes.{RoutesInOrder, RouteOnInOrder}
 use Rattle.agent_workers.specs.declared.journal.JournalJob.{JournalJob}
 use Rattle.journal_text.specs.SoFar.{text_so_far, noted_text, SpellsOn}
 
--- the journal's part of a run: what the journal is about, the items that have no Route yet, how many entries
--- there were, whether a put failed, and the bytes and the count of failed puts at the journal's place
+-- the journal's part of a run: what the journal is about, what is known of its Routes, the items that have no Route yet,
+-- how many entries there were, whether a put failed, and the bytes and the count of failed puts at the journal's place
 pub record JournalPart : Type 0 where
   pub setup : JournalSetup
+  pub known : Known
   pub kept : List Content
   pub entries : ℕ
   pub failed : Bool
@@ -28,6 +31,7 @@ pub record JournalPart : Type 0 where
 abbrev pub part_of : {K C : Type 0} → (K → Carried) → JournalJob K C → JournalPart
 part_of told job = record {
   setup = job.setup;
+  known = job.known;
   kept = job.kept.items;
   entries = job.entries;
   failed = job.failed;
@@ -69,6 +73,7 @@ pub record GoesOut (old new : JournalPart) (waiting added rest : List ℕ) : Typ
   pub all : front ++ rest ≡ waiting ++ added
   pub put : IsPartPut old.failed new.failed (part_change old new) front
   pub about : new.setup ≡ old.setup
+  pub known_same : new.known ≡ old.known
   pub kept_same : new.kept ≡ old.kept
   pub counted_same : new.entries ≡ old.entries
 
@@ -76,23 +81,25 @@ pub record GoesOut (old new : JournalPart) (waiting added rest : List ℕ) : Typ
 -- before, and the rest waits
 pub record SpellsOut (entries : List Entry) (old new : JournalPart) (waiting rest : List ℕ) : Type 0 where
   pub front : List ℕ
-  pub spelled : SpellsOn entries old.kept new.kept waiting (front ++ rest)
+  pub spelled : SpellsOn old.known entries old.kept new.kept waiting (front ++ rest)
   pub put : IsPartPut old.failed new.failed (part_change old new) front
   pub about : new.setup ≡ old.setup
+  pub known_same : new.known ≡ old.known
   pub counted : new.entries ≡ old.entries + length entries
 
--- the part noted a journal, and now notes it with these entries behind it
-abbrev pub NotesOn : List Entry → JournalPart → JournalPart → Type 0
-NotesOn entries old new =
-    (setup : JournalSetup) (held : Option (List ℕ)) (faults : ℕ) (journal : List Entry) →
-    Notes setup held faults journal old → RouteOnInOrder journal entries
-    → Notes setup held faults (journal ++ entries) new
+-- the part noted a journal, and now notes it with these entries behind it, where their Routes come in order, and what is
+-- known of them is so
+pub record NotesOn (entries : List Entry) (old new : JournalPart) : Type 0 where
+  pub noted : (setup : JournalSetup) (held : Option (List ℕ)) (faults : ℕ) (journal : List Entry) →
+      Notes setup held faults journal old → RouteOnInOrder journal entries → AreKnown old.known (items journal) entries
+      → Notes setup held faults (journal ++ entries) new
+  pub known_same : new.known ≡ old.known
 
 -- the part noted a journal, and the whole text of the journal with these entries behind it is put, or a
 -- prefix where a put failed
 abbrev pub EndsOn : List Entry → List ℕ → JournalPart → JournalPart → Type 0
 EndsOn entries account old new =
     (setup : JournalSetup) (held : Option (List ℕ)) (faults : ℕ) (journal : List Entry) →
-    Notes setup held faults journal old → RouteOnInOrder journal entries
+    Notes setup held faults journal old → RouteOnInOrder journal entries → AreKnown old.known (items journal) entries
     → IsPutSo new.failed (change held new.held faults new.faults)
     (journal_text setup (journal ++ entries) account)

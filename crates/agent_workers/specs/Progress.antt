@@ -28,7 +28,7 @@ use Rattle.pipeline_core.specs.Stopped.{behind_stop}
 use Rattle.account.specs.EntryMoments.{counted_moments}
 use Rattle.agent_workers.specs.Noted.{JournalPart, Notes}
 use Rattle.pipeline_core.specs.Order.{EndsFailed, InOrder, IsTicked}
-use Rattle.agent_workers.specs.Job.{journal_setup_of}
+use Rattle.agent_workers.specs.Job.{journal_setup_of, IsKnownOf}
 use Rattle.pipeline_core.specs.Sent.{Sent}
 use Rattle.formats.specs.Batches.{batch_text}
 use Rattle.agent_workers.specs.Output.{AppendsSo, OutPart, out_at, AreAnew, FailedLast}
@@ -40,7 +40,7 @@ use Rattle.pipeline_core.specs.Worked.{Worked, is_pushed}
 use Rattle.proc_chain.specs.Chain.{AllStand}
 
 -- the core stands for a journal, which goes on from the one that the run continues, and whose entries are
--- noted but for those that the core stores
+-- noted but for those that the core stores; what is taken as known of its Routes is so, by what the run makes of its items
 pub record HasText (start : Beginning) (core : CoreState) (part : JournalPart)
     (journal : List Entry) : Type 0 where
   pub stands : Stands core journal
@@ -50,6 +50,7 @@ pub record HasText (start : Beginning) (core : CoreState) (part : JournalPart)
   pub written : List Entry
   pub split : journal ≡ written ++ core.stored
   pub notes : Notes (journal_setup_of (setup_at start)) start.noted start.note_faults written part
+  pub known : IsKnownOf start.job.work part.known
 
 -- while an input is read on its Gathers name full groups up to the pieces that are to come, or all pieces; else
 -- they name groups of its text, all pieces where it has ended

@@ -64,7 +64,7 @@ fn no_views(alloc: Global, confs: &[OutputConf]) -> Result<Seq<Option<Metric>>, 
     Ok(Seq::of(views))
 }
 
-/// What the filter of each aggregator gives for a metric.
+/// What the filter of each aggregator gives for a metric. That of one aggregator takes no memory but its own.
 fn agg_views(
     alloc: Global,
     metric: &Metric,
@@ -72,9 +72,12 @@ fn agg_views(
 ) -> Result<Seq<Option<Metric>>, OutOfMemory>
     ensures { IfOk result (λ views. views ≡ views_of (agg_filters confs.now) (Some metric.now)) }
 {
+    if let [conf] = confs {
+        return Ok(Seq::of_one(conf.filter.apply(metric)?));
+    }
     let mut seen = Vec::with_capacity(alloc, confs.len())?;
     for conf in confs {
-        seen.push(conf.filter.apply_to(metric.copy()?)?)?;
+        seen.push(conf.filter.apply(metric)?)?;
     }
     Ok(Seq::of(seen))
 }

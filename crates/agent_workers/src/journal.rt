@@ -2,7 +2,8 @@
 ghost use Rattle.std.specs.Prelude.{◌≡◌, ◌≢◌, ◌++◌, ◌∷◌, [], false, length, All, IfOk, OnOk};
 ghost use Rattle.std.specs.Option.{option_to_list};
 ghost use Rattle.account.specs.Items.{named_by};
-ghost use Rattle.journal_text.specs.JournalText.{entry_text, metric_lines, HasItem, IsWholeOrRemoved};
+ghost use Rattle.journal_text.specs.JournalText.{metric_lines, HasItem, IsWholeOrRemoved};
+ghost use Rattle.journal_text.specs.Known.{entry_as};
 ghost use Rattle.pipeline_core.specs.CoreState.{CoreState};
 ghost use Rattle.pipeline_core.specs.Steps.{after_cut};
 ghost use Rattle.agent_workers.specs.Noted.{part_of, IsPartPut, GoesOut, SpellsOut, NotesOn, EndsOn};
@@ -16,7 +17,7 @@ use account::Entry;
 use agent_base::Sink;
 use fixed_num::{OutOfMemory, Seq};
 use journal_text::{
-    JournalSetup, named_by, write_end, write_head, write_metric, write_reports, write_setup,
+    JournalSetup, Known, named_by, write_end, write_head, write_metric, write_reports, write_setup,
 };
 use metric::Metric;
 use pipeline_core::{Core, CutAnswer};
@@ -31,7 +32,7 @@ const FULL: usize = 1 << 20;
 const MOST_ROOM: usize = 1 << 22;
 
 /// The journal's part of a run: what the journal is about, where its text goes, and what is needed to go on
-/// with it.
+/// with it. What is known of the Routes isn't looked for as they are spelled.
 ///
 /// The text goes out in parts, one put each, which end behind a line. The first part begins with the set-up,
 /// and the last one ends with the account and the number of entries. After a put that failed nothing more is
@@ -39,6 +40,8 @@ const MOST_ROOM: usize = 1 << 22;
 #[derive(Drop)]
 pub struct JournalJob<K: Drop, C: Drop> {
     pub setup: JournalSetup,
+    /// What is known of its Routes, by what the run makes of its items.
+    pub known: Known,
     pub sink: K,
     /// Its clock, which is asked for no moment yet.
     pub clock: C,
@@ -52,8 +55,15 @@ pub struct JournalJob<K: Drop, C: Drop> {
 
 impl<K: Sink + Drop, C: Drop> JournalJob<K, C> {
     /// The part of a journal without an entry: nothing is put.
-    pub fn new(alloc: Global, setup: JournalSetup, sink: K, clock: C) -> JournalJob<K, C>
+    pub fn new(
+        alloc: Global,
+        setup: JournalSetup,
+        known: Known,
+        sink: K,
+        clock: C,
+    ) -> JournalJob<K, C>
         ensures setup { result.setup ≡ setup }
+        ensures known { result.known ≡ known }
         ensures sink { result.sink ≡ sink }
         ensures kept { result.kept.items ≡ [] }
         ensures entries { result.entries ≡ 0 }
@@ -61,6 +71,7 @@ impl<K: Sink + Drop, C: Drop> JournalJob<K, C> {
     {
         JournalJob {
             setup,
+            known,
             sink,
             clock,
             kept: VecDeque::new(alloc),
@@ -173,9 +184,9 @@ impl<K: Sink + Drop, C: Drop> JournalJob<K, C> {
         requires whole { IsWholeOrRemoved entry.now }
         ensures { OnOk result (GoesOut
             (part_of K.told self.old) (part_of K.told self.new)
-            text.old.items (entry_text item.now entry.now) text.new.items) }
+            text.old.items (entry_as self.old.known item.now entry.now) text.new.items) }
     {
-        write_head(alloc, item, entry, text)?;
+        write_head(alloc, self.known, item, entry, text)?;
         self.write_metrics(alloc, named_by(entry), text)?;
         write_reports(entry, text)?;
         self.put_full(text)?;

@@ -1,10 +1,10 @@
 -- What is kept of a list of members with one more.
-use Rattle.std.proofs.Common.{◌≡◌, ◌<◌, ◌≤◌, ◌||◌, ℕ, ℤ, true, false, cond, not, Bool, List, [], ◌∷◌, ◌++◌}
-use Rattle.std.proofs.Common.{length, filter, refl, sym, ap, subst, ◌∙◌, arith, append-nil, length-append, Some, None}
-use Rattle.std.specs.Prelude.{nat_eq, is_none, is_some, Option, Result, Ok, Err, OnOk, OnErr, IsSome, option_and_then}
+use Rattle.std.proofs.Common.{◌≡◌, ◌<◌, ◌≤◌, ◌||◌, ◌++◌, ◌∙◌, ℕ, ℤ, true, false, zero, suc, cond, not, Bool, List, []}
+use Rattle.std.proofs.Common.{◌∷◌, length, filter, map, set, refl, sym, ap, subst, arith, append-nil, length-append, Some}
+use Rattle.std.proofs.Common.{None}
+use Rattle.std.specs.Prelude.{nat_eq, Option, option_and_then, option_map, slice_get}
 use Rattle.std.specs.Bool.{Decides}
-use Rattle.std.specs.Borrow.{Bor}
-use Rattle.std.specs.Option.{option_copied, option_to_list}
+use Rattle.std.specs.Option.{option_to_list}
 use Rattle.std.specs.Ordering.{is_eq}
 use Rattle.std.specs.Cmp.Lexicographic.{pointwise}
 use Rattle.std.specs.List.{flat_map, list_any, AllByRecursion, IsDistinct}
@@ -12,23 +12,24 @@ use Rattle.std.specs.Map.{keys_of}
 use Rattle.std.specs.Str.{bytes_eq}
 use Rattle.std.proofs.lemmas.Bool.Decides.{Decides-and}
 use Rattle.std.proofs.lemmas.Grind.{flat_map-append}
+use Rattle.std.proofs.lemmas.List.{map-append}
 use Rattle.std.proofs.lemmas.List.Elements.{filter-append}
-use Rattle.std.proofs.lemmas.List.Folds.{list_any-append}
 use Rattle.std.proofs.lemmas.List.Sums.{fold-append}
+use Rattle.std.proofs.lemmas.Option.{cond_some, slice_get-map, slice_get_past, slice_get_within}
 use Rattle.std.proofs.lemmas.Slice.Eq.{bytes_eq-Decides, slice_eq-Decides}
 use Rattle.metric.specs.Draft.{Field}
 use Rattle.metric.specs.Metric.{IsMetric}
-use Rattle.metric.specs.Pairs.{first_of_each}
 use Rattle.metric.specs.Series.{series_cmp, series_eq, series_ties, tag_eq, Series, Tag}
 use Rattle.metric.specs.declared.metric.Content.{Content}
+use Rattle.metric.proofs.GroupLemmas.{not_same}
 use Rattle.metric.proofs.PairLemmas.{AllKeys}
 use Rattle.agg_stats.specs.Asked.{asked_of, Asked}
-use Rattle.agg_stats.specs.Folds.{made_of, members_of, metric_at, numbers_in, series_in, series_of, stats_of, summed}
-use Rattle.agg_stats.specs.Kept.{entry_of, fields_in, held, made_at, row_of, row_with, sums_in, with_field}
-use Rattle.agg_stats.specs.Kept.{with_fields, IsReady, Memory, SeriesSums, StandsFor, Sums}
+use Rattle.agg_stats.specs.Folds.{made_of, members_of, numbers_in, series_in, series_of, stats_of, summed}
+use Rattle.agg_stats.specs.Kept.{entry_of, fields_in, made_at, place_at, place_if, place_of, row_of, rows_of, seen, with_field}
+use Rattle.agg_stats.specs.Kept.{with_fields, IsIndexed, IsPlace, IsReady, Memory, ReadyMemory, RowMemory, SeriesSums}
+use Rattle.agg_stats.specs.Kept.{StandsFor, Sums}
 use Rattle.agg_stats.specs.Summary.{is_number}
 use Rattle.agg_stats.specs.declared.kind.StatsKind.{StatsKind}
-use Rattle.metric.proofs.GroupLemmas.{not_same}
 use Rattle.agg_stats.proofs.SummedLemmas.{summed_are, AreFew}
 
 -- ---- series that are equal
@@ -82,7 +83,7 @@ series-push (n ∷ ms) m =
           ] refl
     ]
 
--- ---- what is held of a series
+-- ---- the row of a series
 
 no_members : (p : Content → Bool) (ms : List Content) → list_any p ms ≡ false → filter p ms ≡ []
 no_members p [] e = refl
@@ -94,24 +95,6 @@ no_members p (m ∷ ms) e =
 
 abbrev all_fields : Series → List Content → List Field
 all_fields series ms = fields_in (members_of series ms)
-
-pub sums_are : (series : Series) (ms : List Content)
-    → sums_in (row_of series ms) ≡ with_fields [] (all_fields series ms)
-sums_are series ms =
-    elim (has series ms) as (λ t. has series ms ≡ t → sums_in (cond t
-    (Some (series, with_fields [] (all_fields series ms))) None) ≡ with_fields [] (all_fields series ms)) [
-      | true ↦ λ e. refl
-      | false ↦ λ e. ap (λ (members : List Content). with_fields [] (fields_in members))
-          (sym (no_members (λ m. series_eq series (series_of m)) ms e))
-    ] refl
-
-or_true : (t : Bool) → (t || true) ≡ true
-or_true true = refl
-or_true false = refl
-
-or_false : (t : Bool) → (t || false) ≡ t
-or_false true = refl
-or_false false = refl
 
 -- the members of the metric's own series are one more
 own_members : (series : Series) (ms : List Content) (m : Content) → series_eq series (series_of m) ≡ true
@@ -125,12 +108,6 @@ other_members series ms m e =
     filter-append (λ n. series_eq series (series_of n)) ms (m ∷ [])
     ∙ rw e (append-nil (members_of series ms))
 
-any-push : (series : Series) (ms : List Content) (m : Content)
-    → has series (ms ++ m ∷ []) ≡ (has series ms || series_eq series (series_of m))
-any-push series ms m =
-    list_any-append (λ n. series_eq series (series_of n)) ms (m ∷ [])
-    ∙ ap (λ (t : Bool). has series ms || t) (or_false (series_eq series (series_of m)))
-
 own_fields : (members : List Content) (m : Content)
     → with_fields [] (fields_in (members ++ m ∷ [])) ≡ with_fields (with_fields [] (fields_in members)) m.fields
 own_fields members m =
@@ -138,20 +115,236 @@ own_fields members m =
     ∙ ap (λ (fields : List Field). fields_in members ++ fields) (append-nil m.fields))
     ∙ fold-append with_field [] (fields_in members) m.fields
 
-own-push : (series : Series) (ms : List Content) (m : Content) → series_eq series (series_of m) ≡ true
-    → row_of series (ms ++ m ∷ []) ≡ Some (series, with_fields (sums_in (row_of series ms)) m.fields)
-own-push series ms m e =
-    let any : has series (ms ++ m ∷ []) ≡ true = any-push series ms m
-    ∙ ap (λ (t : Bool). has series ms || t) e ∙ or_true (has series ms) in
-    rw (any, own_members series ms m e, sums_are series ms)
-    (ap (λ (sums : Sums). Some (series, sums)) (own_fields (members_of series ms) m))
+-- a row with a metric more, where it is of its series
+abbrev row_with : Content → SeriesSums → SeriesSums
+row_with m row = cond (series_eq row.0 (series_of m)) (row.0, with_fields row.1 m.fields) row
 
-other-push : (series : Series) (ms : List Content) (m : Content) → series_eq series (series_of m) ≡ false
-    → row_of series (ms ++ m ∷ []) ≡ row_of series ms
-other-push series ms m e =
-    let any : has series (ms ++ m ∷ []) ≡ has series ms = any-push series ms m
-    ∙ ap (λ (t : Bool). has series ms || t) e ∙ or_false (has series ms) in
-    rw (any, other_members series ms m e) refl
+row-push : (ms : List Content) (m : Content) (series : Series)
+    → row_of (ms ++ m ∷ []) series ≡ row_with m (row_of ms series)
+row-push ms m series =
+    elim (series_eq series (series_of m)) as (λ t. series_eq series (series_of m) ≡ t
+    → row_of (ms ++ m ∷ []) series
+    ≡ cond t (series, with_fields (with_fields [] (all_fields series ms)) m.fields) (row_of ms series)) [
+      | true ↦ λ e. ap (λ (sums : Sums). (series, sums))
+          (ap (λ (members : List Content). with_fields [] (fields_in members)) (own_members series ms m e)
+          ∙ own_fields (members_of series ms) m)
+      | false ↦ λ e. ap (λ (members : List Content). (series, with_fields [] (fields_in members)))
+          (other_members series ms m e)
+    ] refl
+
+rows_with : (ms : List Content) (m : Content) (all : List Series)
+    → map (row_of (ms ++ m ∷ [])) all ≡ map (row_with m) (map (row_of ms) all)
+rows_with ms m [] = refl
+rows_with ms m (series ∷ all) =
+    let first = row-push ms m series in
+    let rest = rows_with ms m all in
+    λ i. first i ∷ rest i
+
+-- ---- which series have a row
+
+any_others : (series other : Series) (all : List Series) → series_eq series other ≡ false
+    → list_any (series_eq series) (others other all) ≡ list_any (series_eq series) all
+any_others series other [] apart = refl
+any_others series other (one ∷ all) apart =
+    elim (series_eq other one) as (λ t. series_eq other one ≡ t
+    → list_any (series_eq series) (cond (not t) (one ∷ others other all) (others other all))
+    ≡ (series_eq series one || list_any (series_eq series) all)) [
+      | true ↦ λ e.
+          let differs : series_eq series one ≡ false = subst (λ (s : Series). series_eq series s ≡ false)
+          ((series_same other one).0 e) apart in
+          rw differs (any_others series other all apart)
+      | false ↦ λ e. ap (λ (t : Bool). series_eq series one || t) (any_others series other all apart)
+    ] refl
+
+any_series : (series : Series) (ms : List Content) → list_any (series_eq series) (series_in ms) ≡ has series ms
+unfolding series_in
+any_series series [] = refl
+any_series series (m ∷ ms) =
+    elim (series_eq series (series_of m)) as (λ t. series_eq series (series_of m) ≡ t
+    → (t || list_any (series_eq series) (others (series_of m) (series_in ms))) ≡ (t || has series ms)) [
+      | true ↦ λ e. refl
+      | false ↦ λ e. any_others series (series_of m) (series_in ms) e ∙ any_series series ms
+    ] refl
+
+abbrev is_of : Series → SeriesSums → Bool
+is_of series row = series_eq series row.0
+
+any_rows : (series : Series) (ms : List Content) (all : List Series)
+    → list_any (is_of series) (map (row_of ms) all) ≡ list_any (series_eq series) all
+any_rows series ms [] = refl
+any_rows series ms (one ∷ all) = ap (λ (t : Bool). series_eq series one || t) (any_rows series ms all)
+
+or_true : (t : Bool) → (t || true) ≡ true
+or_true true = refl
+or_true false = refl
+
+-- one that stands at an index is among them
+any_at : (p : SeriesSums → Bool) (rows : List SeriesSums) (at : ℕ) (row : SeriesSums) → slice_get rows at ≡ Some row
+    → p row ≡ true → list_any p rows ≡ true
+any_at p [] at row is e = absurd (let x : None ≡ Some row = is in cc)
+any_at p (one ∷ rows) zero row is e =
+    let same : one ≡ row = cc in
+    ap (λ (t : Bool). t || list_any p rows) (ap p same ∙ e)
+any_at p (one ∷ rows) (suc at) row is e =
+    ap (λ (t : Bool). p one || t) (any_at p rows at row is e) ∙ or_true (p one)
+
+record Stands (p : SeriesSums → Bool) (rows : List SeriesSums) : Type 0 where
+  at : ℕ
+  row : SeriesSums
+  is : slice_get rows at ≡ Some row
+  so : p row ≡ true
+
+-- one that is among them stands at an index
+at_any : (p : SeriesSums → Bool) (rows : List SeriesSums) → list_any p rows ≡ true → Stands p rows
+at_any p [] e = absurd (true_false (sym e))
+at_any p (row ∷ rows) e =
+    elim (p row) as (λ t. p row ≡ t → (t || list_any p rows) ≡ true → Stands p (row ∷ rows)) [
+      | true ↦ λ so e. record { at = 0; row = row; is = refl; so = so }
+      | false ↦ λ so e.
+          let rest = at_any p rows e in
+          record { at = suc rest.at; row = rest.row; is = rest.is; so = rest.so }
+    ] refl e
+
+-- ---- what the entries say
+
+abbrev pub Entries : Type 0
+Entries = List (Series × ℕ)
+
+-- the row of a series stands at its entry alone
+own_entry : (kept : Entries) (rows : List SeriesSums) (series : Series) (at : ℕ) (row : SeriesSums) → IsIndexed kept rows
+    → slice_get rows at ≡ Some row → series_eq series row.0 ≡ true → entry_of kept series ≡ Some at
+own_entry kept rows series at row h is e =
+    ap (entry_of kept) ((series_same series row.0).0 e) ∙ h at row is
+
+same_some : {X : Type 0} (a b : X) → Some a ≡ Some b → a ≡ b
+same_some a b e = cc
+
+abbrev OnlyAt : Content → List SeriesSums → ℕ → Type 0
+OnlyAt m rows at =
+    (other : ℕ) (row : SeriesSums) → slice_get rows other ≡ Some row → series_eq row.0 (series_of m) ≡ true → other ≡ at
+
+none_changed : (m : Content) (rows : List SeriesSums)
+    → ((other : ℕ) (row : SeriesSums) → slice_get rows other ≡ Some row → series_eq row.0 (series_of m) ≡ true → ⊥)
+    → rows ≡ map (row_with m) rows
+none_changed m [] none = refl
+none_changed m (row ∷ rows) none =
+    let apart : series_eq row.0 (series_of m) ≡ false = not_same (series_eq row.0 (series_of m)) (none 0 row refl) in
+    let rest = none_changed m rows (λ other one is. none (suc other) one is) in
+    rw apart (ap (λ (rs : List SeriesSums). row ∷ rs) rest)
+
+-- so that row alone is another with a metric more
+one_changed : (m : Content) (rows : List SeriesSums) (at : ℕ) (row : SeriesSums) → slice_get rows at ≡ Some row
+    → series_eq row.0 (series_of m) ≡ true → OnlyAt m rows at
+    → set rows at (row.0, with_fields row.1 m.fields) ≡ map (row_with m) rows
+one_changed m [] at row is e only = absurd (let x : None ≡ Some row = is in cc)
+one_changed m (one ∷ rows) zero row is e only =
+    let same : one ≡ row = same_some one row is in
+    let here : series_eq one.0 (series_of m) ≡ true =
+    ap (λ (r : SeriesSums). series_eq r.0 (series_of m)) same ∙ e in
+    let rest = none_changed m rows
+    (λ other row is so. absurd (let x : suc other ≡ 0 = only (suc other) row is so in omega arith)) in
+    rw here (λ i. ((sym same i).0, with_fields (sym same i).1 m.fields) ∷ rest i)
+one_changed m (one ∷ rows) (suc at) row is e only =
+    let apart : series_eq one.0 (series_of m) ≡ false = not_same (series_eq one.0 (series_of m))
+    (λ so. let x : 0 ≡ suc at = only 0 one refl so in absurd (omega arith)) in
+    let rest = one_changed m rows at row is e
+    (λ other row is so. let x : suc other ≡ suc at = only (suc other) row is so in omega arith) in
+    rw apart (ap (λ (rs : List SeriesSums). one ∷ rs) rest)
+
+series_kept : (m : Content) (row : SeriesSums) → (row_with m row).0 ≡ row.0
+series_kept m row =
+    elim (series_eq row.0 (series_of m)) as (λ t. (cond t (row.0, with_fields row.1 m.fields) row).0 ≡ row.0)
+    [ true ↦ refl | false ↦ refl ]
+
+-- the entries stay right where series stay
+still_indexed : (kept : Entries) (m : Content) (rows : List SeriesSums) → IsIndexed kept rows
+    → IsIndexed kept (map (row_with m) rows)
+still_indexed kept m rows h at new is =
+    before (slice_get rows at) refl (sym (slice_get-map (row_with m) rows at) ∙ is)
+  where
+    before : (found : Option SeriesSums) → slice_get rows at ≡ found → option_map (row_with m) found ≡ Some new
+        → entry_of kept new.0 ≡ Some at
+    before None found e = absurd (let x : None ≡ Some new = e in cc)
+    before (Some old) found e =
+        let same : row_with m old ≡ new = same_some (row_with m old) new e in
+        ap (entry_of kept) (sym (ap (λ (r : SeriesSums). r.0) same) ∙ series_kept m old) ∙ h at old found
+
+last_at : (rows : List SeriesSums) (last : SeriesSums) (at : ℕ) (row : SeriesSums) (P : Type 0)
+    → slice_get (rows ++ last ∷ []) at ≡ Some row → (slice_get rows at ≡ Some row → P)
+    → (at ≡ length rows → last ≡ row → P) → P
+last_at [] last zero row P is before here = here refl (same_some last row is)
+last_at [] last (suc at) row P is before here = absurd (let x : None ≡ Some row = is in cc)
+last_at (one ∷ rows) last zero row P is before here = before is
+last_at (one ∷ rows) last (suc at) row P is before here =
+    last_at rows last at row P is before (λ e same. here (ap suc e) same)
+
+more_indexed : (kept : Entries) (rows : List SeriesSums) (last : SeriesSums) → IsIndexed kept rows
+    → entry_of kept last.0 ≡ Some (length rows) → IsIndexed kept (rows ++ last ∷ [])
+more_indexed kept rows last h entry at row is =
+    last_at rows last at row (entry_of kept row.0 ≡ Some at) is (h at row)
+    (λ e same. ap (λ (r : SeriesSums). entry_of kept r.0) (sym same) ∙ entry ∙ ap Some (sym e))
+
+-- ---- an entry that is set
+
+abbrev pub IsSet : Entries → Series → ℕ → Entries → Type 0
+IsSet old series at new = (q : Series) → entry_of new q ≡ cond (is_eq (series_cmp series q)) (Some at) (entry_of old q)
+
+-- a series with a row has its place
+has_place : (kept : Entries) (rows : List SeriesSums) (series : Series) (at : ℕ) (row : SeriesSums) → IsIndexed kept rows
+    → slice_get rows at ≡ Some row → series_eq series row.0 ≡ true → place_of kept rows series ≡ Some at
+has_place kept rows series at row h is e =
+    rw (own_entry kept rows series at row h is e, is, turned series row.0 true e) refl
+
+pub set_indexed : (old new : Entries) (rows : List SeriesSums) (series : Series) (at : ℕ)
+    → place_of old rows series ≡ None → IsSet old series at new → IsIndexed old rows → IsIndexed new rows
+set_indexed old new rows series at none put h other row is =
+    let apart : series_eq series row.0 ≡ false = not_same (series_eq series row.0)
+    (λ e. absurd (let x : None ≡ Some other = sym none ∙ has_place old rows series other row h is e in cc)) in
+    let differs : is_eq (series_cmp series row.0) ≡ false = sym (series_ties series row.0) ∙ apart in
+    put row.0 ∙ rw differs (h other row is)
+
+pub new_place : (old new : Entries) (rows : List SeriesSums) (series : Series) (at : ℕ) → at ≡ length rows
+    → IsSet old series at new → IsPlace series new rows at
+new_place old new rows series at end put =
+    let past : slice_get rows at ≡ None = slice_get_past rows at (omega (arith, end)) in
+    let same : is_eq (series_cmp series series) ≡ true =
+    sym (series_ties series series) ∙ (series_same series series).1 refl in
+    record {
+      entry = put series ∙ rw same refl;
+      own = λ row is. absurd (let x : None ≡ Some row = sym past ∙ is in cc);
+      behind = λ none. end;
+    }
+
+pub record IsKnown (series : Series) (kept : Entries) (rows : List SeriesSums) (at : ℕ) : Type 0 where
+  pub place : IsPlace series kept rows at
+  pub within : at < length rows
+
+-- a place that was found
+pub known_place : (kept : Entries) (rows : List SeriesSums) (series : Series) (at : ℕ)
+    → place_of kept rows series ≡ Some at → IsKnown series kept rows at
+known_place kept rows series at e = from_entry (entry_of kept series) refl e
+  where
+    from_row : (other : ℕ) → entry_of kept series ≡ Some other → (found : Option SeriesSums)
+        → slice_get rows other ≡ found → option_and_then (place_if series other) found ≡ Some at
+        → IsKnown series kept rows at
+    from_row other entry None found e = absurd (let x : None ≡ Some at = e in cc)
+    from_row other entry (Some row) found e =
+        let parts = cond_some (series_eq row.0 series) other at e in
+        let here : slice_get rows at ≡ Some row = subst (λ (n : ℕ). slice_get rows n ≡ Some row) parts.1 found in
+        record {
+          place = record {
+            entry = entry ∙ ap Some parts.1;
+            own = λ one is. sym (ap (λ (r : SeriesSums). r.0) (same_some row one (sym here ∙ is)))
+                ∙ (series_same row.0 series).0 parts.0;
+            behind = λ none. absurd (let x : None ≡ Some row = sym none ∙ here in cc);
+          };
+          within = slice_get_within rows at row here;
+        }
+
+    from_entry : (found : Option ℕ) → entry_of kept series ≡ found
+        → option_and_then (place_at rows series) found ≡ Some at → IsKnown series kept rows at
+    from_entry None entry e = absurd (let x : None ≡ Some at = e in cc)
+    from_entry (Some other) entry e = from_row other entry (slice_get rows other) refl e
 
 -- ---- how many numbers a key has
 
@@ -222,167 +415,170 @@ all-push : (ms : List Content) (m : Content) → AllByRecursion IsMetric ms → 
 all-push [] m h i = (i, tt)
 all-push (n ∷ ms) m h i = (h.0, all-push ms m h.1 i)
 
-abbrev Entries : Type 0
-Entries = List (Series × Option SeriesSums)
-
-pub none_held : (kind : StatsKind) (memory : Memory) → memory.asked ≡ asked_of kind → memory.kept ≡ []
-    → memory.order ≡ [] → StandsFor kind [] memory
+pub none_stand : (kind : StatsKind) (memory : Memory) → memory.asked ≡ asked_of kind → memory.rows ≡ []
+    → StandsFor kind [] memory
 unfolding series_in
-none_held kind memory same kept order = record {
+none_stand kind memory same rows = record {
   same = same;
-  ordered = order;
-  each = λ series. ap (λ (kept : Entries). held kept series) kept;
+  rows = ap seen rows;
+  indexed = λ at row is. absurd (let x : None ≡ Some row = sym (ap (λ (rs : List RowMemory). slice_get (seen rs) at) rows)
+      ∙ is in cc);
   few = omega arith;
   metrics = tt;
 }
 
-abbrev some_row : Series → List Content → Option SeriesSums
-some_row series ms = Some (series, with_fields [] (all_fields series ms))
-
-is_new : (series : Series) (ms : List Content) → is_none (row_of series ms) ≡ not (has series ms)
-is_new series ms =
-    elim (has series ms) as (λ t. is_none (cond t (some_row series ms) None) ≡ not t) [ true ↦ refl | false ↦ refl ]
-
-turned_order : (t : Bool) (a b : List Series) → cond (not t) a b ≡ cond t b a
-turned_order true a b = refl
-turned_order false a b = refl
-
-pub added : (kind : StatsKind) (ms : List Content) (m : Content) (old new : Memory) → StandsFor kind ms old
-    → IsMetric m → length ms < 4294967296
-    → new.asked ≡ old.asked
-    → ((q : Series) → held new.kept q ≡ cond (series_eq (series_of m) q) (Some (row_with old.kept m)) (held old.kept q))
-    → new.order ≡ cond (is_none (held old.kept (series_of m))) (old.order ++ series_of m ∷ []) old.order
-    → StandsFor kind (ms ++ m ∷ []) new
-added kind ms m old new h is few asked put order = record {
+-- another memory with the same rows stands for the same members
+pub still_stands : (kind : StatsKind) (ms : List Content) (old new : Memory) → new.asked ≡ old.asked
+    → seen new.rows ≡ seen old.rows
+    → (IsIndexed old.kept (seen old.rows) → IsIndexed new.kept (seen new.rows))
+    → StandsFor kind ms old → StandsFor kind ms new
+still_stands kind ms old new asked rows indexed h = record {
   same = asked ∙ h.same;
-  ordered = order ∙ rw (h.each (series_of m), is_new (series_of m) ms, h.ordered)
-      (turned_order (has (series_of m) ms) (series_in ms ++ series_of m ∷ []) (series_in ms)
-      ∙ sym (series-push ms m));
-  each = λ q. put q ∙ elim (series_eq (series_of m) q) as (λ t. series_eq (series_of m) q ≡ t
-      → cond t (Some (row_with old.kept m)) (held old.kept q) ≡ row_of q (ms ++ m ∷ [])) [
-        | true ↦ λ e. subst (λ (s : Series). Some (row_with old.kept m) ≡ row_of s (ms ++ m ∷ []))
-            ((series_same (series_of m) q).0 e)
-            (ap (λ (row : Option SeriesSums). Some (series_of m, with_fields (sums_in row) m.fields))
-            (h.each (series_of m))
-            ∙ sym (own-push (series_of m) ms m ((series_same (series_of m) (series_of m)).1 refl)))
-        | false ↦ λ e. h.each q ∙ sym (other-push q ms m (turned (series_of m) q false e))
-      ] refl;
-  few = omega (arith, few, length-append ms (m ∷ []));
-  metrics = all-push ms m h.metrics is;
+  rows = rows ∙ h.rows;
+  indexed = indexed h.indexed;
+  few = h.few;
+  metrics = h.metrics;
 }
+
+module _ (kind : StatsKind) (ms : List Content) (m : Content) (old : Memory) (h : StandsFor kind ms old) (at : ℕ)
+    (place : IsPlace (series_of m) old.kept (seen old.rows) at) where
+  abbrev olds : List SeriesSums
+  olds = seen old.rows
+
+  abbrev own : Series
+  own = series_of m
+
+  has_row : list_any (is_of own) olds ≡ has own ms
+  has_row = ap (list_any (is_of own)) h.rows ∙ any_rows own ms (series_in ms) ∙ any_series own ms
+
+  only : OnlyAt m olds at
+  only other row is so =
+      same_some other at (sym (own_entry old.kept olds own other row h.indexed is (turned row.0 own true so)) ∙ place.entry)
+
+  -- the row of the series was there
+  known_rows : (row : SeriesSums) → slice_get olds at ≡ Some row
+      → set olds at (row.0, with_fields row.1 m.fields) ≡ rows_of (ms ++ m ∷ [])
+  known_rows row is =
+      let same : series_eq row.0 own ≡ true = (series_same row.0 own).1 (place.own row is) in
+      let there : has own ms ≡ true = sym has_row ∙ any_at (is_of own) olds at row is (turned row.0 own true same) in
+      one_changed m olds at row is same only ∙ ap (map (row_with m)) h.rows ∙ sym (rows_with ms m (series_in ms))
+      ∙ ap (map (row_of (ms ++ m ∷ []))) (sym (series-push ms m ∙ rw there refl))
+
+  known_indexed : (row : SeriesSums) → slice_get olds at ≡ Some row
+      → IsIndexed old.kept (set olds at (row.0, with_fields row.1 m.fields))
+  known_indexed row is =
+      let same : series_eq row.0 own ≡ true = (series_same row.0 own).1 (place.own row is) in
+      subst (IsIndexed old.kept) (sym (one_changed m olds at row is same only)) (still_indexed old.kept m olds h.indexed)
+
+  -- it wasn't
+  no_row : slice_get olds at ≡ None → has own ms ≡ false
+  no_row none = not_same (has own ms) (λ e.
+      let one = at_any (is_of own) olds (has_row ∙ e) in
+      let same : one.at ≡ at = only one.at one.row one.is (turned own one.row.0 true one.so) in
+      absurd (let x : None ≡ Some one.row = sym none ∙ ap (slice_get olds) (sym same) ∙ one.is in cc))
+
+  new_rows : slice_get olds at ≡ None → olds ++ (own, with_fields [] m.fields) ∷ [] ≡ rows_of (ms ++ m ∷ [])
+  new_rows none =
+      let unknown : has own ms ≡ false = no_row none in
+      let members : members_of own (ms ++ m ∷ []) ≡ m ∷ [] = own_members own ms m ((series_same own own).1 refl)
+      ∙ ap (λ (members : List Content). members ++ m ∷ []) (no_members (λ n. series_eq own (series_of n)) ms unknown) in
+      let last : row_of (ms ++ m ∷ []) own ≡ (own, with_fields [] m.fields) =
+      ap (λ (members : List Content). (own, with_fields [] (fields_in members))) members
+      ∙ ap (λ (fields : List Field). (own, with_fields [] fields)) (append-nil m.fields) in
+      let others_stay : olds ≡ map (row_of (ms ++ m ∷ [])) (series_in ms) =
+      none_changed m olds (λ other row is so.
+      absurd (let x : None ≡ Some row = sym none ∙ ap (slice_get olds) (sym (only other row is so)) ∙ is in cc))
+      ∙ ap (map (row_with m)) h.rows ∙ sym (rows_with ms m (series_in ms)) in
+      (λ i. others_stay i ++ sym last i ∷ [])
+      ∙ sym (map-append (row_of (ms ++ m ∷ [])) (series_in ms) (own ∷ []))
+      ∙ ap (map (row_of (ms ++ m ∷ []))) (sym (series-push ms m ∙ rw unknown refl))
+
+  new_indexed : slice_get olds at ≡ None → IsIndexed old.kept (olds ++ (own, with_fields [] m.fields) ∷ [])
+  new_indexed none =
+      more_indexed old.kept olds (own, with_fields [] m.fields) h.indexed (place.entry ∙ ap Some (place.behind none))
+
+  more_stand : (new : Memory) → IsMetric m → length ms < 4294967296 → new.asked ≡ old.asked
+      → seen new.rows ≡ rows_of (ms ++ m ∷ []) → IsIndexed new.kept (seen new.rows)
+      → StandsFor kind (ms ++ m ∷ []) new
+  more_stand new is few asked rows indexed = record {
+    same = asked ∙ h.same;
+    rows = rows;
+    indexed = indexed;
+    few = omega (arith, few, length-append ms (m ∷ []));
+    metrics = all-push ms m h.metrics is;
+  }
+
+  -- what is added at the place
+  pub added : (new : Memory) → IsMetric m → length ms < 4294967296 → new.asked ≡ old.asked → new.kept ≡ old.kept
+      → ((row : SeriesSums) → slice_get olds at ≡ Some row
+      → seen new.rows ≡ set olds at (row.0, with_fields row.1 m.fields))
+      → (slice_get olds at ≡ None → seen new.rows ≡ olds ++ (own, with_fields [] m.fields) ∷ [])
+      → StandsFor kind (ms ++ m ∷ []) new
+  added new is few asked kept known fresh = by_place (slice_get olds at) refl
+    where
+      indexed : (rows : List SeriesSums) → seen new.rows ≡ rows → IsIndexed old.kept rows
+          → IsIndexed new.kept (seen new.rows)
+      indexed rows e h2 = subst (λ (k : Entries). IsIndexed k (seen new.rows)) (sym kept)
+          (subst (IsIndexed old.kept) (sym e) h2)
+
+      by_place : (found : Option SeriesSums) → slice_get olds at ≡ found → StandsFor kind (ms ++ m ∷ []) new
+      by_place None found = more_stand new is few asked (fresh found ∙ new_rows found)
+          (indexed _ (fresh found) (new_indexed found))
+      by_place (Some row) found = more_stand new is few asked (known row found ∙ known_rows row found)
+          (indexed _ (known row found) (known_indexed row found))
+
+-- what was prepared is added
+pub ready_added : (kind : StatsKind) (ms : List Content) (m : Content) (old new : Memory) (ready : ReadyMemory)
+    → StandsFor kind ms old → IsReady m old → length ms < 4294967296 → old.ready ≡ Some ready
+    → new.asked ≡ old.asked → new.kept ≡ old.kept
+    → ((row : SeriesSums) → slice_get (seen old.rows) ready.at ≡ Some row
+    → seen new.rows ≡ set (seen old.rows) ready.at (row.0, with_fields row.1 ready.metric.fields))
+    → (slice_get (seen old.rows) ready.at ≡ None → seen new.rows
+    ≡ seen old.rows ++ (series_of ready.metric, with_fields [] ready.metric.fields) ∷ [])
+    → StandsFor kind (ms ++ m ∷ []) new
+ready_added kind ms m old new ready h is few prepared asked kept known fresh =
+    let same : ready ≡ record { metric = m; at = is.at; fresh = is.fresh } =
+    same_some ready (record { metric = m; at = is.at; fresh = is.fresh }) (sym prepared ∙ is.ready) in
+    added kind ms m old h is.at is.place new is.metric few asked kept
+    (subst (λ (r : ReadyMemory). (row : SeriesSums) → slice_get (seen old.rows) r.at ≡ Some row
+    → seen new.rows ≡ set (seen old.rows) r.at (row.0, with_fields row.1 r.metric.fields)) same known)
+    (subst (λ (r : ReadyMemory). slice_get (seen old.rows) r.at ≡ None → seen new.rows
+    ≡ seen old.rows ++ (series_of r.metric, with_fields [] r.metric.fields) ∷ []) same fresh)
 
 -- ---- what is made
 
--- nothing of a series without a member
-none_made : (time : ℤ) (asked : Asked) (series : Series) → option_to_list (made_of asked time (series, summed [])) ≡ []
-unfolding metric_at first_of_each
-none_made time asked series = refl
-
-module _ (time : ℤ) (asked : Asked) (kept : Entries) (ms : List Content) where
+module _ (time : ℤ) (asked : Asked) (ms : List Content) where
   abbrev one_made : Series → List Content
   one_made series = option_to_list (made_of asked time (series, summed (numbers_in (members_of series ms))))
 
-  made_here : length ms ≤ 4294967296 → AllByRecursion IsMetric ms → ((q : Series) → held kept q ≡ row_of q ms)
-      → (series : Series) → made_at asked time kept series ≡ one_made series
-  made_here few metrics each series =
-      ap (λ (row : Option SeriesSums). option_to_list (option_and_then (made_of asked time) row)) (each series)
-      ∙ elim (has series ms) as (λ t. has series ms ≡ t
-      → option_to_list (option_and_then (made_of asked time) (cond t
-      (Some (series, with_fields [] (all_fields series ms))) None)) ≡ one_made series) [
-        | true ↦ λ e.
-            let few_here : AreFew (filter (λ field. is_number field.1) (all_fields series ms)) =
-            λ key. omega (arith, few, few_left series key ms metrics) in
-            ap (λ (sums : Sums). option_to_list (made_of asked time (series, sums)))
-            (summed_are (all_fields series ms) few_here ∙ ap summed (numbers_are (members_of series ms)))
-        | false ↦ λ e. sym (ap (λ (members : List Content).
-            option_to_list (made_of asked time (series, summed (numbers_in members))))
-            (no_members (λ m. series_eq series (series_of m)) ms e) ∙ none_made time asked series)
-      ] refl
+  made_here : length ms ≤ 4294967296 → AllByRecursion IsMetric ms → (series : Series)
+      → option_to_list (made_of asked time (row_of ms series)) ≡ one_made series
+  made_here few metrics series =
+      let few_here : AreFew (filter (λ field. is_number field.1) (all_fields series ms)) =
+      λ key. omega (arith, few, few_left series key ms metrics) in
+      ap (λ (sums : Sums). option_to_list (made_of asked time (series, sums)))
+      (summed_are (all_fields series ms) few_here ∙ ap summed (numbers_are (members_of series ms)))
 
-  pub each_made : length ms ≤ 4294967296 → AllByRecursion IsMetric ms → ((q : Series) → held kept q ≡ row_of q ms)
-      → (order : List Series) → flat_map (made_at asked time kept) order ≡ flat_map one_made order
-  each_made few metrics each [] = refl
-  each_made few metrics each (series ∷ order) =
-      ap (λ (first : List Content). first ++ flat_map (made_at asked time kept) order)
-      (made_here few metrics each series)
-      ∙ ap (λ (rest : List Content). one_made series ++ rest) (each_made few metrics each order)
+  abbrev row_made : SeriesSums → List Content
+  row_made row = option_to_list (made_of asked time row)
+
+  each_made : length ms ≤ 4294967296 → AllByRecursion IsMetric ms → (all : List Series)
+      → flat_map row_made (map (row_of ms) all) ≡ flat_map one_made all
+  each_made few metrics [] = refl
+  each_made few metrics (series ∷ all) =
+      let first = made_here few metrics series in
+      let rest = each_made few metrics all in
+      λ i. first i ++ rest i
+
+seen_made : (time : ℤ) (asked : Asked) (rows : List RowMemory)
+    → flat_map (made_at asked time) rows ≡ flat_map (λ (row : SeriesSums). option_to_list (made_of asked time row)) (seen rows)
+seen_made time asked [] = refl
+seen_made time asked (memory ∷ rows) =
+    ap (λ (rest : List Content). made_at asked time memory ++ rest) (seen_made time asked rows)
 
 pub made_is : (kind : StatsKind) (time : ℤ) (ms : List Content) (memory : Memory) → StandsFor kind ms memory
-    → flat_map (made_at memory.asked time memory.kept) memory.order ≡ stats_of kind time ms
+    → flat_map (made_at memory.asked time) memory.rows ≡ stats_of kind time ms
 made_is kind time ms memory h =
-    each_made time memory.asked memory.kept ms h.few h.metrics h.each memory.order
-    ∙ rw (h.same, h.ordered) refl
-
--- ---- what stands in the map
-
-pub room_made : (old new : Entries) (k : Series) → entry_of old k ≡ None
-    → ((q : Series) → entry_of new q ≡ cond (is_eq (series_cmp k q)) (Some None) (entry_of old q))
-    → (series : Series) → held new series ≡ held old series
-room_made old new k none put series =
-    elim (series_eq k series) as (λ t. series_eq k series ≡ t → held new series ≡ held old series) [
-      | true ↦ λ e.
-          let at : is_eq (series_cmp k series) ≡ true = sym (series_ties k series) ∙ e in
-          let here : entry_of old series ≡ None = ap (entry_of old) (sym ((series_same k series).0 e)) ∙ none in
-          rw (put series, at, here) refl
-      | false ↦ λ e.
-          let at : is_eq (series_cmp k series) ≡ false = sym (series_ties k series) ∙ e in
-          rw (put series, at) refl
-    ] refl
-
-row_put : (old new : Entries) (k : Series) (row : SeriesSums)
-    → ((q : Series) → entry_of new q ≡ cond (is_eq (series_cmp k q)) (Some (Some row)) (entry_of old q))
-    → (series : Series) → held new series ≡ cond (series_eq k series) (Some row) (held old series)
-row_put old new k row put series =
-    rw (put series, series_ties k series)
-    (elim (is_eq (series_cmp k series)) as (λ t. option_and_then (λ (entry : Option SeriesSums). entry)
-    (cond t (Some (Some row)) (entry_of old series)) ≡ cond t (Some row) (held old series))
-    [ true ↦ refl | false ↦ refl ])
-
-abbrev pub Parts : Type 0
-Parts = Series × Series × SeriesSums
-
-pub parts_put : (old new : Entries) (parts : Parts) (row : SeriesSums) → parts ≡ (row.0, row.0, row)
-    → ((q : Series) → entry_of new q ≡ cond (is_eq (series_cmp parts.0 q)) (Some (Some parts.2)) (entry_of old q))
-    → (series : Series) → held new series ≡ cond (series_eq row.0 series) (Some row) (held old series)
-parts_put old new parts row e put =
-    row_put old new row.0 row (λ q. put q ∙ ap (λ (p : Parts). cond (is_eq (series_cmp p.0 q))
-    (Some (Some p.2)) (entry_of old q)) e)
-
-pub succeeds : {A E X U : Type 0} (result : Result A E) (entry : Option X) → OnOk result U → OnErr result (entry ≡ None)
-    → IsSome entry → U
-succeeds (Ok x) entry ok err here = ok
-succeeds (Err e) (Some x) ok err here = cc
-succeeds (Err e) None ok err here = cc
-
-pub none_copied : {X : Type 0} (found : Option (Bor X)) → is_some found ≡ false → option_copied found ≡ None
-none_copied (Some x) h = cc
-none_copied None h = refl
-
--- ---- steps of the aggregator
-
-pub on_ok : {A E U : Type 0} (result : Result A E) → U → OnOk result U
-on_ok (Ok x) u = u
-on_ok (Err e) u = tt
-
-pub on_err : {A E U : Type 0} (result : Result A E) → U → OnErr result U
-on_err (Ok x) u = tt
-on_err (Err e) u = u
-
--- what was prepared is added
-pub ready_added : (kind : StatsKind) (ms : List Content) (m : Content) (old new : Memory) (row : SeriesSums)
-    → StandsFor kind ms old → IsReady m old → length ms < 4294967296
-    → old.ready ≡ Some row
-    → new.asked ≡ old.asked
-    → ((q : Series) → held new.kept q ≡ cond (series_eq row.0 q) (Some row) (held old.kept q))
-    → new.order ≡ cond (is_none (held old.kept row.0)) (old.order ++ row.0 ∷ []) old.order
-    → StandsFor kind (ms ++ m ∷ []) new
-ready_added kind ms m old new row h ready few is asked put order =
-    let same : row ≡ row_with old.kept m = some_same row (row_with old.kept m) (sym is ∙ ready.row) in
-    added kind ms m old new h ready.metric few asked
-    (subst (λ (r : SeriesSums). (q : Series) → held new.kept q ≡ cond (series_eq r.0 q) (Some r) (held old.kept q))
-    same put)
-    (subst (λ (r : SeriesSums). new.order ≡ cond (is_none (held old.kept r.0)) (old.order ++ r.0 ∷ []) old.order) same
-    order)
-  where
-    some_same : (a b : SeriesSums) → Some a ≡ Some b → a ≡ b
-    some_same a b e = cc
+    seen_made time memory.asked memory.rows
+    ∙ ap (flat_map (λ (row : SeriesSums). option_to_list (made_of memory.asked time row))) h.rows
+    ∙ each_made time memory.asked ms h.few h.metrics (series_in ms) ∙ rw h.same refl

@@ -21,7 +21,7 @@ pub(crate) fn metric_of(
     time: Moment,
     row: &Row,
 ) -> Result<Option<Metric>, OutOfMemory>
-    ensures { IfOk result (λ made. made ≡ made_of asked time row.now) }
+    ensures { IfOk result (λ made. made ≡ made_of asked time row.now.row) }
 {
     let fields = fields_of(alloc, asked, row.sums())?;
     if fields.is_empty() {

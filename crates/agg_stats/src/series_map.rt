@@ -1,15 +1,15 @@
 //! The numbers of all series.
-ghost use Rattle.std.specs.Prelude.{◌≡◌, ◌++◌, ◌∷◌, [], ◌<◌, ◌≤◌, true, IfOk, OnOk, Some, if◌then◌else◌};
-ghost use Rattle.std.specs.Prelude.{is_none, length, vec_capacity};
+ghost use Rattle.std.specs.Prelude.{◌≡◌, ◌<◌, ◌++◌, ◌∷◌, [], length, set, slice_get, IfOk, OnOk, None, Some};
+ghost use Rattle.std.specs.Prelude.{vec_capacity};
 ghost use Rattle.std.specs.List.{flat_map};
-ghost use Rattle.std.specs.Option.{option_copied, option_to_list};
-ghost use Rattle.metric.specs.Series.{series_eq, Series};
+ghost use Rattle.std.specs.Option.{option_to_list};
 ghost use Rattle.agg_stats.specs.Folds.{series_of};
-ghost use Rattle.agg_stats.specs.Kept.{held, made_at, row_with, sums_in, AreSums, HasRoom};
+ghost use Rattle.agg_stats.specs.Kept.{made_at, place_at, place_of, seen, with_fields};
+ghost use Rattle.agg_stats.specs.Kept.{HasRoom, IsIndexed, IsPlace, SeriesSums};
 
 use crate::give::metric_of;
 use crate::kind::Asked;
-use crate::row::{Row, copies};
+use crate::row::{Row, all_fresh};
 use crate::summary::Summary;
 use fixed_num::{Moment, OutOfMemory};
 use metric::{Metric, Series, Text};
@@ -17,108 +17,149 @@ use std::alloc::Global;
 use std::collections::BTreeMap;
 use std::marker::Model;
 
-/// The numbers by their series. Where there is room for a series alone there are none yet.
-pub(crate) type Kept = BTreeMap<Series, Option<Row>>;
+/// Where the row of each series stands. A series that was prepared and not added has none there.
+pub(crate) type Kept = BTreeMap<Series, usize>;
 
-/// The numbers that a series has with a metric more, and its series twice: a key and one in the order.
+/// A metric that can be added, where the row of its series stands or will stand, and the keys that are new to it.
 #[derive(Drop)]
 pub(crate) struct Ready {
-    key: Series,
-    place: Series,
-    row: Row,
+    metric: Metric,
+    at: usize,
+    fresh: Vec<(Text, Summary)>,
 }
 
 impl Model for Ready {
-    ghost use Rattle.std.specs.Prelude.{◌≡◌};
-    ghost use Rattle.agg_stats.specs.Kept.{SeriesSums};
+    ghost use Rattle.agg_stats.specs.Kept.{ReadyMemory};
 
-    ghost Value = { SeriesSums };
+    ghost Value = { ReadyMemory };
 
-    ghost view = { λ r. r.row };
-
-    ghost invariant = { λ r. record { key : r.key ≡ r.row.0; place : r.place ≡ r.row.0 } };
+    ghost view = { λ r. record { metric = r.metric; at = r.at; fresh = r.fresh.items } };
 }
 
 impl Ready {
-    /// What is held of a metric's series, with the metric.
-    pub(crate) fn of(alloc: Global, kept: &Kept, m: &Metric) -> Result<Ready, OutOfMemory>
-        ensures { IfOk result (λ ready. ready ≡ row_with kept.now.entries m.now) }
+    /// A metric, an index and the new keys.
+    fn of(metric: Metric, at: usize, fresh: Vec<(Text, Summary)>) -> Ready
+        ensures { result ≡ record { metric = metric; at = at; fresh = fresh.items } }
     {
-        let key = m.series()?;
-        let place = m.series()?;
-        let row = Row::with(sums_of(alloc, kept, &key)?, m)?;
-        Ok(Ready { key, place, row })
+        Ready { metric, at, fresh }
     }
 
-    /// Its series twice, and its numbers.
-    fn into_parts(self) -> (Series, Series, Row)
-        ensures { result ≡ (self.0, self.0, self) }
+    /// Makes room for a metric in the row of its series, or for a row of it.
+    pub(crate) fn make(
+        alloc: Global,
+        kept: &mut Kept,
+        rows: &mut Vec<Row>,
+        m: &Metric,
+    ) -> Result<Ready, OutOfMemory>
+        ensures seen { seen rows.new.items ≡ seen rows.old.items }
+        ensures indexed { IsIndexed kept.old.entries (seen rows.old.items)
+            → IsIndexed kept.new.entries (seen rows.new.items) }
+        ensures metric { IfOk result (λ ready. ready.metric ≡ m.now) }
+        ensures place { IfOk result
+            (λ ready. IsPlace (series_of m.now) kept.new.entries (seen rows.new.items) ready.at) }
+        ensures room { IfOk result (λ ready. HasRoom rows.new.items (vec_capacity rows.new) ready) }
     {
-        let Ready { key, place, row } = self;
-        (key, place, row)
+        let series = m.series()?;
+        match place_of(kept, rows.as_slice(), &series, m) {
+            Some(at) => Ready::known(alloc, rows, at, m),
+            None => Ready::new(alloc, kept, rows, series, m),
+        }
+    }
+
+    /// Makes room for a metric in the row at an index.
+    fn known(
+        alloc: Global,
+        rows: &mut Vec<Row>,
+        at: usize,
+        m: &Metric,
+    ) -> Result<Ready, OutOfMemory>
+        requires { at < length rows.old.items }
+        ensures seen { seen rows.new.items ≡ seen rows.old.items }
+        ensures metric { IfOk result (λ ready. ready.metric ≡ m.now) }
+        ensures place { IfOk result (λ ready. ready.at ≡ at) }
+        ensures room { IfOk result (λ ready. HasRoom rows.new.items (vec_capacity rows.new) ready) }
+    {
+        let fresh = rows[at].make_room(alloc, m)?;
+        Ok(Ready::of(m.copy()?, at, fresh))
+    }
+
+    /// Makes room for a row of a metric's series behind the others.
+    fn new(
+        alloc: Global,
+        kept: &mut Kept,
+        rows: &mut Vec<Row>,
+        series: Series,
+        m: &Metric,
+    ) -> Result<Ready, OutOfMemory>
+        requires series { series ≡ series_of m.now }
+        requires none { place_of kept.old.entries (seen rows.old.items) (series_of m.now) ≡ None }
+        ensures seen { seen rows.new.items ≡ seen rows.old.items }
+        ensures indexed { IsIndexed kept.old.entries (seen rows.old.items)
+            → IsIndexed kept.new.entries (seen rows.new.items) }
+        ensures metric { IfOk result (λ ready. ready.metric ≡ m.now) }
+        ensures place { IfOk result
+            (λ ready. IsPlace (series_of m.now) kept.new.entries (seen rows.new.items) ready.at) }
+        ensures room { IfOk result (λ ready. HasRoom rows.new.items (vec_capacity rows.new) ready) }
+    {
+        let at = rows.len();
+        let fields = m.fields();
+        let fresh = all_fresh(alloc, &[], fields, fields.len())?;
+        let metric = m.copy()?;
+        rows.reserve(1)?;
+        kept.insert(series, at)?;
+        Ok(Ready::of(metric, at, fresh))
+    }
+
+    /// Its metric, the index, and the new keys.
+    fn into_parts(self) -> (Metric, usize, Vec<(Text, Summary)>)
+        ensures metric { result.0 ≡ self.metric }
+        ensures at { result.1 ≡ self.at }
+        ensures fresh { result.2.items ≡ self.fresh }
+    {
+        let Ready { metric, at, fresh } = self;
+        (metric, at, fresh)
     }
 }
 
-/// The numbers that are held of a series.
-fn row_of<'a>(kept: &'a Kept, series: &Series) -> Option<&'a Row>
-    ensures { option_copied result ≡ held kept.now.entries series.now }
+/// Where the row of a metric's series stands.
+fn place_of(kept: &Kept, rows: &[Row], series: &Series, m: &Metric) -> Option<usize>
+    requires { series.now ≡ series_of m.now }
+    ensures { result ≡ place_of kept.now.entries (seen rows.now) (series_of m.now) }
 {
     match kept.get(series) {
-        Some(Some(row)) => Some(row),
-        Some(None) => None,
+        Some(at) => place_at(rows, *at, m),
         None => None,
     }
 }
 
-/// A copy of the numbers that are held of a series, if any.
-fn sums_of(alloc: Global, kept: &Kept, series: &Series) -> Result<Vec<(Text, Summary)>, OutOfMemory>
-    ensures sums { IfOk result (λ sums. sums.items ≡ sums_in (held kept.now.entries series.now)) }
-    ensures valid { IfOk result (λ sums. AreSums sums.items) }
+/// An index, where the row of a metric's series stands there.
+fn place_at(rows: &[Row], at: usize, m: &Metric) -> Option<usize>
+    ensures { result ≡ place_at (seen rows.now) (series_of m.now) at }
 {
-    match row_of(kept, series) {
-        None => Ok(Vec::new(alloc)),
-        Some(row) => copies(alloc, row.sums()),
+    if at >= rows.len() {
+        return None;
     }
-}
-
-/// Makes room for the series of a metric.
-pub(crate) fn make_room(kept: &mut Kept, m: &Metric) -> Result<(), OutOfMemory>
-    ensures same { (series : Series) → held kept.new.entries series ≡ held kept.old.entries series }
-    ensures room { OnOk result (HasRoom kept.new.entries (series_of m.now)) }
-{
-    let series = m.series()?;
-    if kept.get(&series).is_some() {
-        return Ok(());
+    if !rows[at].is_of(m) {
+        return None;
     }
-    kept.insert(series, None)?;
-    Ok(())
+    Some(at)
 }
 
-/// Puts the numbers of a series, for which there is room, over those that it had; a new series stands behind the
-/// others.
-pub(crate) fn put(kept: &mut Kept, order: &mut Vec<Series>, ready: Ready)
-    requires room { HasRoom kept.old.entries ready.0 }
-    requires space { length order.old.items < vec_capacity order.old }
-    ensures kept { (series : Series) → held kept.new.entries series
-        ≡ if series_eq ready.0 series then Some ready else held kept.old.entries series }
-    ensures order { order.new.items ≡ if is_none (held kept.old.entries ready.0)
-        then order.old.items ++ ready.0 ∷ [] else order.old.items }
+/// Adds what is prepared: a new series stands behind the others.
+pub(crate) fn add(rows: &mut Vec<Row>, ready: Ready)
+    requires { HasRoom rows.old.items (vec_capacity rows.old) ready }
+    ensures known { (row : SeriesSums) → slice_get (seen rows.old.items) ready.at ≡ Some row
+        → seen rows.new.items ≡ set (seen rows.old.items) ready.at
+        (row.0, with_fields row.1 ready.metric.fields) }
+    ensures new { slice_get (seen rows.old.items) ready.at ≡ None → seen rows.new.items
+        ≡ seen rows.old.items ++ (series_of ready.metric, with_fields [] ready.metric.fields) ∷ [] }
 {
-    let (key, place, row) = ready.into_parts();
-    let is_new = row_of(kept, &key).is_none();
-    push_new(order, is_new, place);
-    // Only a new key can want memory.
-    let _ = kept.insert(key, Some(row));
-}
-
-/// Puts a series behind the others, where it is new.
-fn push_new(order: &mut Vec<Series>, is_new: bool, place: Series)
-    requires { length order.old.items < vec_capacity order.old }
-    ensures { order.new.items ≡ if is_new then order.old.items ++ place ∷ [] else order.old.items }
-{
-    if is_new {
+    let (metric, at, fresh) = ready.into_parts();
+    if at < rows.len() {
+        rows[at].add(&metric, fresh);
+    } else {
         // There is room for it.
-        let _ = order.push(place);
+        let _ = rows.push(Row::of(metric, fresh));
     }
 }
 
@@ -127,35 +168,15 @@ pub(crate) fn made(
     alloc: Global,
     asked: Asked,
     time: Moment,
-    kept: &Kept,
-    order: &[Series],
+    rows: &[Row],
 ) -> Result<Vec<Metric>, OutOfMemory>
-    ensures { IfOk result
-        (λ made. made.items ≡ flat_map (made_at asked time kept.now.entries) order.now) }
+    ensures { IfOk result (λ made. made.items ≡ flat_map (made_at asked time) rows.now) }
 {
     let mut made = Vec::new(alloc);
-    for series in order {
-        append_made(alloc, asked, time, kept, series, &mut made)?;
+    for row in rows {
+        push_some(&mut made, metric_of(alloc, asked, time, row)?)?;
     }
     Ok(made)
-}
-
-/// Appends the metric of a series, where there is one.
-fn append_made(
-    alloc: Global,
-    asked: Asked,
-    time: Moment,
-    kept: &Kept,
-    series: &Series,
-    made: &mut Vec<Metric>,
-) -> Result<(), OutOfMemory>
-    ensures { OnOk result
-        (made.new.items ≡ made.old.items ++ made_at asked time kept.now.entries series.now) }
-{
-    match row_of(kept, series) {
-        None => Ok(()),
-        Some(row) => push_some(made, metric_of(alloc, asked, time, row)?),
-    }
 }
 
 /// Appends a metric, where there is one.

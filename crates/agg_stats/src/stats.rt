@@ -7,21 +7,22 @@ ghost use Rattle.agg_stats.specs.declared.kind.StatsKind.{StatsKind as Kind};
 
 use crate::StatsKind;
 use crate::kind::Asked;
-use crate::series_map::{Kept, Ready, made, make_room, put};
+use crate::row::Row;
+use crate::series_map::{Kept, Ready, add, made};
 use fixed_num::{Moment, OutOfMemory};
-use metric::{Metric, Series};
+use metric::Metric;
 use std::alloc::Global;
 use std::marker::Model;
 
 /// Folds the numbers of the fields of each series (as Telegraf's aggregators minmax and basicstats do). The members are
 /// the metrics that were added since the last emit. It keeps a summary for each series and field, and of each series
-/// the contents of its first member and of its last.
+/// the content of its first member.
 #[derive(Drop)]
 pub struct Stats {
     alloc: Global,
     asked: Asked,
     kept: Kept,
-    order: Vec<Series>,
+    rows: Vec<Row>,
     ready: Option<Ready>,
 }
 
@@ -34,8 +35,8 @@ impl Model for Stats {
     ghost view = { λ s. record {
       asked = s.asked;
       kept = s.kept.entries;
-      order = s.order.items;
-      room = vec_capacity s.order;
+      rows = s.rows.items;
+      room = vec_capacity s.rows;
       ready = s.ready;
     } };
 }
@@ -49,7 +50,7 @@ impl Stats {
             alloc,
             asked: Asked::of(kind),
             kept: Kept::new(alloc),
-            order: Vec::new(alloc),
+            rows: Vec::new(alloc),
             ready: None,
         }
     }
@@ -74,9 +75,8 @@ impl Stats {
     {
         m.shows_metric();
         self.ready = None;
-        make_room(&mut self.kept, m)?;
-        self.order.reserve(1)?;
-        self.ready = Some(Ready::of(self.alloc, &self.kept, m)?);
+        let ready = Ready::make(self.alloc, &mut self.kept, &mut self.rows, m)?;
+        self.ready = Some(ready);
         Ok(())
     }
 
@@ -89,7 +89,7 @@ impl Stats {
             → StandsFor kind (members ++ m ∷ []) self.new }
     {
         match self.ready.take() {
-            Some(ready) => put(&mut self.kept, &mut self.order, ready),
+            Some(ready) => add(&mut self.rows, ready),
             None => {}
         }
     }
@@ -99,8 +99,7 @@ impl Stats {
         ensures { (kind : Kind) (members : List Content) → StandsFor kind members self.now
             → IfOk result (λ made. made.items ≡ stats_of kind time members) }
     {
-        let order = self.order.as_slice();
-        Ok(made(self.alloc, self.asked, time, &self.kept, order)?)
+        Ok(made(self.alloc, self.asked, time, self.rows.as_slice())?)
     }
 
     /// Forgets the members. It takes no memory.
@@ -109,7 +108,7 @@ impl Stats {
             → StandsFor kind [] self.new }
     {
         self.kept.clear();
-        self.order.clear();
+        self.rows.clear();
         self.ready = None;
     }
 

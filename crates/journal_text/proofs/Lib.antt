@@ -1,3 +1,4 @@
 pub mod MetricLemmas
 pub mod JournalLemmas
+pub mod KnownLemmas
 pub mod SoFarLemmas

@@ -7,15 +7,20 @@ use Rattle.metric.specs.declared.metric.Content.{Content}
 use Rattle.account.specs.declared.entry.Entry.{Entry}
 use Rattle.account.specs.declared.entry.Entry.TheVariants.{Gather, Ended, Take, Route, Tick, Stop, Begin, Done}
 use Rattle.account.specs.Items.{named_by, taken, routes_by, items, routes, unrouted_items}
-use Rattle.journal_text.specs.JournalText.{item_of, HasItem, entry_text, entries_text}
+use Rattle.journal_text.specs.JournalText.{item_of, HasItem, entry_text, entries_text, metric_lines, report_lines}
+use Rattle.account.specs.Says.{reports_of}
 use Rattle.account.specs.Routes.{IsNextRoute, RoutesInOrder, RouteOnInOrder}
 use Rattle.std.specs.Prelude.{◌≢◌}
 use Rattle.std.proofs.lemmas.Bool.{ne_eqb}
 use Rattle.std.proofs.lemmas.List.{drop_at, drop_more, take_more, take_all}
 use Rattle.journal_text.specs.declared.setup.JournalSetup.{JournalSetup}
 use Rattle.journal_text.specs.SetupText.{setup_text}
+use Rattle.journal_text.specs.Known.{IsKnown, AreKnown, entry_as}
+use Rattle.journal_text.specs.declared.known.Known.{Known}
 use Rattle.journal_text.proofs.JournalLemmas.{entries_text-append}
+use Rattle.journal_text.proofs.KnownLemmas.{known_stays}
 use Rattle.journal_text.specs.SoFar.{text_so_far, noted_text, front_text, IsSpelled, SpellsOn}
+use Rattle.account.proofs.ItemLemmas.{items-push}
 use Rattle.account.proofs.RouteLemmas.{order_after, in_order-push, unrouted-push, next_of, alone}
 
 -- the first of those that a drop leaves is the one at its place
@@ -66,43 +71,67 @@ no_entries : (known : List Content) → entries_text known [] ≡ []
 unfolding entries_text
 no_entries known = refl
 
+-- what is known of an entry is so, and of those behind it
+known_next : (known : Known) (named : List Content) (e : Entry) (es : List Entry) → AreKnown known named (e ∷ es)
+    → IsKnown known (item_of named e) e × AreKnown known (named ++ named_by e) es
+unfolding AreKnown
+known_next known named e es h = h
+
+known_alone : (known : Known) (named : List Content) (e : Entry) → IsKnown known (item_of named e) e
+    → AreKnown known named (e ∷ [])
+unfolding AreKnown
+known_alone known named e h = (h, tt)
+
+-- it adds nothing to the entry's text
+entry_stays : (known : Known) (item : List Content) (e : Entry) → IsKnown known item e
+    → entry_as known item e ≡ entry_text item e
+unfolding entry_as entry_text
+entry_stays known item e h =
+    ap (λ (head : List ℕ). head ++ metric_lines (named_by e) ++ report_lines (reports_of e)) (known_stays known item e h)
+
 -- one entry, where its item is at hand
-pub spells_entry : (e : Entry) (item kept left : List Content) (text new_text : List ℕ) → HasItem item e
-    → kept ++ named_by e ≡ item ++ left → new_text ≡ text ++ entry_text item e
-    → SpellsOn (e ∷ []) kept left text new_text
-spells_entry e item kept left text new_text has rest is journal kept_is order more =
+pub spells_entry : (known : Known) (e : Entry) (item kept left : List Content) (text new_text : List ℕ) → HasItem item e
+    → kept ++ named_by e ≡ item ++ left → new_text ≡ text ++ entry_as known item e
+    → SpellsOn known (e ∷ []) kept left text new_text
+spells_entry known e item kept left text new_text has rest is journal kept_is order more so =
     let next = (next_of (routes journal) (length (items journal)) e [] more).0 in
     let at_hand : unrouted_items journal ++ named_by e ≡ item ++ left =
     ap (λ (xs : List Content). xs ++ named_by e) (sym kept_is) ∙ rest in
-    let known : item ≡ item_of (items journal) e = item_is (items journal) item left (routes journal)
+    let its : item ≡ item_of (items journal) e = item_is (items journal) item left (routes journal)
     (length (items journal)) e next has at_hand in
+    let known_so : IsKnown known item e = subst (λ (i : List Content). IsKnown known i e) (sym its)
+    (known_next known (items journal) e [] so).0 in
     record {
       left_are = sym (drop_at item left (routes_by e) (has_length item e has)) ∙ ap (drop (routes_by e)) (sym at_hand)
           ∙ sym (unrouted-push journal e order);
-      spelled = is ∙ ap (λ (i : List Content). text ++ entry_text i e) known
+      spelled = is ∙ ap (λ (t : List ℕ). text ++ t) (entry_stays known item e known_so)
+          ∙ ap (λ (i : List Content). text ++ entry_text i e) its
           ∙ ap (λ (t : List ℕ). text ++ t) (sym (one_entry (items journal) e));
       in_order = in_order-push journal e order next;
     }
 
--- the first so many of the entries were spelled, and the Routes of the others come in order
-abbrev pub SpellsFirst : ℕ → List Entry → List Content → List Content → List ℕ → List ℕ → Type 0
-SpellsFirst n entries kept left text new_text =
+-- the first so many of the entries were spelled, and the Routes of the others come in order, and what is known of them
+-- is so
+abbrev pub SpellsFirst : Known → ℕ → List Entry → List Content → List Content → List ℕ → List ℕ → Type 0
+SpellsFirst known n entries kept left text new_text =
     (journal : List Entry) → kept ≡ unrouted_items journal → RoutesInOrder 0 0 journal → RouteOnInOrder journal entries
-    → IsSpelled journal (take n entries) left text new_text × RouteOnInOrder (journal ++ take n entries)
-    (drop n entries)
+    → AreKnown known (items journal) entries → IsSpelled journal (take n entries) left text new_text
+    × RouteOnInOrder (journal ++ take n entries) (drop n entries)
+    × AreKnown known (items (journal ++ take n entries)) (drop n entries)
 
-pub spells_no_more : (entries : List Entry) (kept : List Content) (text : List ℕ)
-    → SpellsFirst 0 entries kept kept text text
-spells_no_more entries kept text journal kept_is order more = (
+pub spells_no_more : (known : Known) (entries : List Entry) (kept : List Content) (text : List ℕ)
+    → SpellsFirst known 0 entries kept kept text text
+spells_no_more known entries kept text journal kept_is order more so = (
   record {
     left_are = kept_is ∙ ap unrouted_items (sym (append-nil journal));
     spelled = sym (append-nil text) ∙ ap (λ (t : List ℕ). text ++ t) (sym (no_entries (items journal)));
     in_order = subst (RoutesInOrder 0 0) (sym (append-nil journal)) order;
   },
   subst (λ (p : List Entry). RouteOnInOrder p entries) (sym (append-nil journal)) more,
+  subst (λ (p : List Entry). AreKnown known (items p) entries) (sym (append-nil journal)) so,
 )
 
-items-append : (es more : List Entry) → items (es ++ more) ≡ items es ++ items more
+pub items-append : (es more : List Entry) → items (es ++ more) ≡ items es ++ items more
 unfolding items
 items-append [] more = refl
 items-append (e ∷ es) more = ap (λ (xs : List Content). named_by e ++ xs) (items-append es more)
@@ -115,12 +144,12 @@ text_behind journal es more =
     entries_text-append (items journal) es more ∙ ap (λ (known : List Content). entries_text (items journal) es
     ++ entries_text known more) (sym (items-append journal es))
 
-pub spells_more : (n : ℕ) (entries : List Entry) (e : Entry) (kept mid left : List Content)
+pub spells_more : (known : Known) (n : ℕ) (entries : List Entry) (e : Entry) (kept mid left : List Content)
     (text mid_text new_text : List ℕ) → n < length entries → e ≡ get_or entries n e
-    → SpellsFirst n entries kept mid text mid_text → SpellsOn (e ∷ []) mid left mid_text new_text
-    → SpellsFirst (n + 1) entries kept left text new_text
-spells_more n entries e kept mid left text mid_text new_text l is first one journal kept_is order more =
-    let so = first journal kept_is order more in
+    → SpellsFirst known n entries kept mid text mid_text → SpellsOn known (e ∷ []) mid left mid_text new_text
+    → SpellsFirst known (n + 1) entries kept left text new_text
+spells_more known n entries e kept mid left text mid_text new_text l is first one journal kept_is order more known_so =
+    let so = first journal kept_is order more known_so in
     let front : List Entry = journal ++ take n entries in
     let split : drop n entries ≡ e ∷ drop (n + 1) entries = drop_more entries n e l
     ∙ ap (λ (x : Entry). x ∷ drop (n + 1) entries) (sym is) in
@@ -130,7 +159,10 @@ spells_more n entries e kept mid left text mid_text new_text l is first one jour
     ap (λ (x : Entry). take n entries ++ x ∷ []) is ∙ sym (take_more entries n e l) in
     let grown : front ++ e ∷ [] ≡ journal ++ take (n + 1) entries =
     append_assoc journal (take n entries) (e ∷ []) ∙ ap (λ (es : List Entry). journal ++ es) behind in
-    let last = one front so.0.left_are so.0.in_order (alone (routes front) (length (items front)) e next.0) in (
+    let its = known_next known (items front) e (drop (n + 1) entries)
+    (subst (λ (es : List Entry). AreKnown known (items front) es) split so.2) in
+    let last = one front so.0.left_are so.0.in_order (alone (routes front) (length (items front)) e next.0)
+    (known_alone known (items front) e its.0) in (
       record {
         left_are = last.left_are ∙ ap unrouted_items grown;
         spelled = last.spelled ∙ ap (λ (t : List ℕ). t ++ entries_text (items front) (e ∷ [])) so.0.spelled
@@ -141,13 +173,16 @@ spells_more n entries e kept mid left text mid_text new_text l is first one jour
       },
       subst (λ (p : List Entry). RouteOnInOrder p (drop (n + 1) entries)) grown
           (order_after front e (drop (n + 1) entries) next.1),
+      subst (λ (p : List Entry). AreKnown known (items p) (drop (n + 1) entries)) grown
+          (subst (λ (named : List Content). AreKnown known named (drop (n + 1) entries)) (sym (items-push front e)) its.1),
     )
 
-pub spells_all : (n : ℕ) (entries : List Entry) (kept left : List Content) (text new_text : List ℕ) → length entries ≤ n
-    → SpellsFirst n entries kept left text new_text → SpellsOn entries kept left text new_text
-spells_all n entries kept left text new_text l first journal kept_is order more =
+pub spells_all : (known : Known) (n : ℕ) (entries : List Entry) (kept left : List Content) (text new_text : List ℕ)
+    → length entries ≤ n → SpellsFirst known n entries kept left text new_text
+    → SpellsOn known entries kept left text new_text
+spells_all known n entries kept left text new_text l first journal kept_is order more so =
     subst (λ (es : List Entry). IsSpelled journal es left text new_text) (take_all n entries l)
-    (first journal kept_is order more).0
+    (first journal kept_is order more so).0
 
 -- the text so far with entries behind it
 pub so_far_more : (setup : JournalSetup) (journal entries : List Entry)

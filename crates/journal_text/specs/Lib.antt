@@ -1,4 +1,5 @@
 pub mod MetricText
 pub mod SetupText
 pub mod JournalText
+pub mod Known
 pub mod SoFar

@@ -6,6 +6,8 @@ use Rattle.account.specs.Items.{items, unrouted_items}
 use Rattle.journal_text.specs.declared.setup.JournalSetup.{JournalSetup}
 use Rattle.journal_text.specs.SetupText.{setup_text}
 use Rattle.journal_text.specs.JournalText.{entries_text}
+use Rattle.journal_text.specs.Known.{AreKnown}
+use Rattle.journal_text.specs.declared.known.Known.{Known}
 use Rattle.account.specs.Routes.{RoutesInOrder, RouteOnInOrder}
 
 -- the text of the set-up and of the entries
@@ -29,9 +31,9 @@ pub record IsSpelled (journal entries : List Entry) (left : List Content)
   pub in_order : RoutesInOrder 0 0 (journal ++ entries)
 
 -- so it is for each journal whose items without a Route are those that were kept, where the entries' Routes
--- come in order
-abbrev pub SpellsOn : List Entry → List Content → List Content → List ℕ → List ℕ → Type 0
-SpellsOn entries kept left text new_text =
+-- come in order, and what is known of them is so
+abbrev pub SpellsOn : Known → List Entry → List Content → List Content → List ℕ → List ℕ → Type 0
+SpellsOn known entries kept left text new_text =
     (journal : List Entry) → kept ≡ unrouted_items journal → RoutesInOrder 0 0 journal
-    → RouteOnInOrder journal entries
+    → RouteOnInOrder journal entries → AreKnown known (items journal) entries
     → IsSpelled journal entries left text new_text

@@ -1,192 +1,24 @@
 //! The entries of a journal, and its end.
-ghost use Rattle.std.specs.Prelude.{◌≡◌, ◌++◌, OnOk, OnErr, Some, true, codes, decimal, if◌then◌else◌};
+ghost use Rattle.std.specs.Prelude.{◌≡◌, ◌++◌, OnOk, OnErr, codes, decimal, if◌then◌else◌};
 ghost use Rattle.text_parts.specs.Adds.{Adds};
 ghost use Rattle.account.specs.Items.{named_by};
 ghost use Rattle.account.specs.Says.{gather_of, reports_of};
-ghost use Rattle.journal_text.specs.JournalText.{beside_text, whole_text, view_text, views_text};
-ghost use Rattle.journal_text.specs.JournalText.{verdict_text, routed_text, metric_line, metric_lines};
+ghost use Rattle.journal_text.specs.JournalText.{metric_line, metric_lines};
 ghost use Rattle.journal_text.specs.JournalText.{report_line, report_lines, group_text, spaced, gather_line};
-ghost use Rattle.journal_text.specs.JournalText.{gather_head, made_line, route_head, head_text, entry_text};
+ghost use Rattle.journal_text.specs.JournalText.{gather_head, made_line, entry_text};
 ghost use Rattle.journal_text.specs.JournalText.{end_text, HasItem, IsWholeOrRemoved};
+ghost use Rattle.journal_text.specs.Known.{head_as, route_as};
 
+use crate::known::Known;
 use crate::metrics::{append_byte, append_metric};
-use account::{Entry, Report, Verdict};
+use crate::route::{Views, append_routed};
+use account::{Entry, Report};
 use fixed_num::{Moment, OutOfMemory};
 use metric::Metric;
 use std::alloc::Global;
 use text_parts::{
     append_bytes, append_line, append_numbers, append_signed, append_unsigned, append_words, settle,
 };
-
-// Appends a metric beside one that is known: `=` where they are equal, else its text.
-#[tactic(auto, unfolding(crate::specs::JournalText::beside_text))]
-fn append_beside(
-    alloc: Global,
-    out: &mut Vec<u8>,
-    known: &Metric,
-    metric: &Metric,
-) -> Result<(), OutOfMemory>
-    ensures { Adds result out.old.items out.new.items (beside_text known.now metric.now) }
-{
-    if metric == known {
-        append_words(out, "=")?;
-        Ok(())
-    } else {
-        append_metric(alloc, out, metric)?;
-        Ok(())
-    }
-}
-
-// Appends the whole of a Route, beside its item.
-#[tactic(auto, unfolding(crate::specs::JournalText::whole_text))]
-fn append_whole(
-    alloc: Global,
-    out: &mut Vec<u8>,
-    item: &[Metric],
-    whole: &Metric,
-) -> Result<(), OutOfMemory>
-    ensures { Adds result out.old.items out.new.items (whole_text item.now whole.now) }
-{
-    match item {
-        [item, ..] => append_beside(alloc, out, item, whole),
-        [] => append_metric(alloc, out, whole),
-    }
-}
-
-// Appends a view, beside the whole, behind a space: `-` for none.
-#[tactic(auto, unfolding(crate::specs::JournalText::view_text))]
-fn append_view(
-    alloc: Global,
-    out: &mut Vec<u8>,
-    whole: &Metric,
-    view: &Option<Metric>,
-) -> Result<(), OutOfMemory>
-    ensures { Adds result out.old.items out.new.items (codes " " ++ view_text whole.now view.now) }
-{
-    match view {
-        None => append_words(out, " -"),
-        Some(view) => {
-            append_words(out, " ")?;
-            append_beside(alloc, out, whole, view)?;
-            Ok(())
-        }
-    }
-}
-
-// Appends views, each behind a space.
-fn append_views(
-    alloc: Global,
-    out: &mut Vec<u8>,
-    whole: &Metric,
-    views: &[Option<Metric>],
-) -> Result<(), OutOfMemory>
-    ensures { Adds result out.old.items out.new.items (views_text whole.now views.now) }
-{
-    for view in views {
-        append_view(alloc, out, whole, view)?;
-    }
-    Ok(())
-}
-
-// The word for what became of an item, behind a space.
-fn word_of(verdict: Verdict) -> &'static str
-    ensures { result.now ≡ codes " " ++ verdict_text verdict }
-{
-    match verdict {
-        Verdict::Passes => " passes",
-        Verdict::Consumed => " consumed",
-        Verdict::Late => " late",
-        Verdict::Removed => " removed",
-    }
-}
-
-// Appends the views at outputs, which end the line of a Route.
-fn append_outs(
-    alloc: Global,
-    out: &mut Vec<u8>,
-    whole: &Metric,
-    outs: &[Option<Metric>],
-) -> Result<(), OutOfMemory>
-    ensures { Adds result out.old.items out.new.items
-        (codes " /" ++ views_text whole.now outs.now ++ codes "\n") }
-{
-    append_words(out, " /")?;
-    append_views(alloc, out, whole, outs)?;
-    append_words(out, "\n")?;
-    Ok(())
-}
-
-// Whether the whole of a Route equals its item.
-#[tactic(auto, unfolding(crate::specs::JournalText::whole_text, crate::specs::JournalText::beside_text))]
-fn equals_item(item: &[Metric], whole: &Metric) -> bool
-    ensures { result ≡ true → whole_text item.now whole.now ≡ codes "=" }
-{
-    match item {
-        [item, ..] => whole == item,
-        [] => false,
-    }
-}
-
-// Whether there is one view, which equals the whole.
-#[tactic(auto, unfolding(crate::specs::JournalText::view_text, crate::specs::JournalText::beside_text))]
-fn is_one_equal(whole: &Metric, views: &[Option<Metric>]) -> bool
-    ensures { result ≡ true → views_text whole.now views.now ≡ codes " =" }
-{
-    match views {
-        [Some(view)] => view == whole,
-        _ => false,
-    }
-}
-
-// The views of the whole of a Route.
-#[derive(Clone, Copy)]
-struct Views<'a> {
-    // At the aggregators.
-    aggs: &'a [Option<Metric>],
-    // At the outputs.
-    outs: &'a [Option<Metric>],
-}
-
-// Whether an item went on as it was, to one output and no aggregator: most do.
-#[tactic(auto, unfolding(crate::specs::JournalText::routed_text))]
-fn is_as_it_was(item: &[Metric], whole: &Metric, verdict: Verdict, views: &Views) -> bool
-    ensures { result ≡ true → routed_text item.now (Some whole.now) verdict views.now.aggs.now views.now.outs.now
-        ≡ codes " = passes / =\n" }
-{
-    verdict == Verdict::Passes
-        && views.aggs.is_empty()
-        && equals_item(item, whole)
-        && is_one_equal(whole, views.outs)
-}
-
-// Appends what a Route says behind its item.
-#[tactic(auto, unfolding(crate::specs::JournalText::routed_text))]
-fn append_routed(
-    alloc: Global,
-    out: &mut Vec<u8>,
-    item: &[Metric],
-    whole: &Option<Metric>,
-    verdict: Verdict,
-    views: &Views,
-) -> Result<(), OutOfMemory>
-    ensures { Adds result out.old.items out.new.items
-        (routed_text item.now whole.now verdict views.now.aggs.now views.now.outs.now) }
-{
-    let Some(whole) = whole else {
-        append_words(out, " - removed\n")?;
-        return Ok(());
-    };
-    if is_as_it_was(item, whole, verdict, views) {
-        append_words(out, " = passes / =\n")?;
-        return Ok(());
-    }
-    append_words(out, " ")?;
-    append_whole(alloc, out, item, whole)?;
-    append_words(out, word_of(verdict))?;
-    append_views(alloc, out, whole, views.aggs)?;
-    append_outs(alloc, out, whole, views.outs)?;
-    Ok(())
-}
 
 // Appends the line of a metric.
 fn append_metric_line(alloc: Global, out: &mut Vec<u8>, metric: &Metric) -> Result<(), OutOfMemory>
@@ -334,14 +166,15 @@ fn append_gather(e: &Entry, out: &mut Vec<u8>) -> Result<(), OutOfMemory>
 }
 
 // Appends the line of a Route, beside its item. Another entry adds nothing.
-#[tactic(auto, unfolding(crate::specs::JournalText::route_head, crate::specs::JournalText::head_text))]
+#[tactic(auto, unfolding(crate::specs::Known::route_as, crate::specs::Known::head_as))]
 fn append_route(
     alloc: Global,
+    known: Known,
     item: &[Metric],
     e: &Entry,
     out: &mut Vec<u8>,
 ) -> Result<(), OutOfMemory>
-    ensures { Adds result out.old.items out.new.items (route_head item.now e.now) }
+    ensures { Adds result out.old.items out.new.items (route_as known item.now e.now) }
 {
     let Entry::Route {
         item: number,
@@ -359,7 +192,7 @@ fn append_route(
         outs: outs.as_slice(),
     };
     append_unsigned(out, "route ", *number)?;
-    append_routed(alloc, out, item, whole, *verdict, &views)?;
+    append_routed(alloc, out, known, item, whole, *verdict, &views)?;
     Ok(())
 }
 
@@ -384,14 +217,15 @@ fn append_done(out: &mut Vec<u8>, output: u32, ok: bool) -> Result<(), OutOfMemo
 }
 
 // Appends the line of an entry, or a front of it.
-#[tactic(auto, unfolding(crate::specs::JournalText::head_text, crate::specs::JournalText::gather_head, crate::specs::JournalText::route_head))]
+#[tactic(auto, unfolding(crate::specs::JournalText::head_text, crate::specs::JournalText::gather_head, crate::specs::Known::head_as, crate::specs::Known::route_as))]
 fn append_head(
     alloc: Global,
+    known: Known,
     item: &[Metric],
     e: &Entry,
     out: &mut Vec<u8>,
 ) -> Result<(), OutOfMemory>
-    ensures { Adds result out.old.items out.new.items (head_text item.now e.now) }
+    ensures { Adds result out.old.items out.new.items (head_as known item.now e.now) }
 {
     match e {
         Entry::Gather { .. } => append_gather(e, out),
@@ -403,7 +237,7 @@ fn append_head(
             append_line(out, "take ", *item)?;
             Ok(())
         }
-        Entry::Route { .. } => append_route(alloc, item, e, out),
+        Entry::Route { .. } => append_route(alloc, known, item, e, out),
         Entry::Tick { moment, made } => append_made(out, "tick ", moment, made.as_slice().len()),
         Entry::Stop { moment, made } => append_made(out, "stop ", moment, made.as_slice().len()),
         Entry::Begin { output, from, to } => append_begin(out, *output, *from, *to),
@@ -453,7 +287,7 @@ fn append_entry(
 ) -> Result<(), OutOfMemory>
     ensures { Adds result out.old.items out.new.items (entry_text item.now e.now) }
 {
-    append_head(alloc, item, e, out)?;
+    append_head(alloc, Known::nothing(), item, e, out)?;
     append_metric_lines(alloc, out, named_by(e))?;
     append_reports(out, reports_of(e))?;
     Ok(())
@@ -479,21 +313,23 @@ pub fn write_entry(
 }
 
 /// Appends the line of an entry. Behind it stand the lines of the metrics that it names (`write_metric`) and of its
-/// reports (`write_reports`), and so it is an entry. A Route is written beside its item. `OutOfMemory` leaves
-/// `out` as it was.
+/// reports (`write_reports`), and so it is an entry. A Route is written beside its item, with what is known of it, which
+/// isn't looked for: where it is so this is the line that the entry has (`known_stays`). `OutOfMemory` leaves `out` as it
+/// was.
 pub fn write_head(
     alloc: Global,
+    known: Known,
     metrics: &[Metric],
     e: &Entry,
     out: &mut Vec<u8>,
 ) -> Result<(), OutOfMemory>
     requires item { HasItem metrics.now e.now }
     requires whole { IsWholeOrRemoved e.now }
-    ensures ok { OnOk result (out.new.items ≡ out.old.items ++ head_text metrics.now e.now) }
+    ensures ok { OnOk result (out.new.items ≡ out.old.items ++ head_as known metrics.now e.now) }
     ensures err { OnErr result (out.new.items ≡ out.old.items) }
 {
     let len = out.len();
-    let written = append_head(alloc, metrics, e, out);
+    let written = append_head(alloc, known, metrics, e, out);
     settle(out, len, written)
 }
 

@@ -6,10 +6,11 @@ use Rattle.std.proofs.lemmas.List.{drop_more, drop_all, append-nil}
 use Rattle.metric.specs.declared.glob.Element.{Element}
 use Rattle.metric.specs.declared.metric.Content.{Content}
 use Rattle.metric_filter.specs.declared.rules.FilterRules.{FilterRules}
-use Rattle.metric_filter.specs.Filter.{applied, has_no_rule, keeps, keeps_each, kept, left, selects, with_fields}
+use Rattle.metric_filter.specs.Filter.{applied, has_no_rule, keeps, keeps_each, kept, leaves_all_parts, left, selects}
+use Rattle.metric_filter.specs.Filter.{with_fields, GivesItself}
 use Rattle.metric.specs.Metric.{IsMetric}
 use Rattle.metric.proofs.KeptLemmas.{kept as is_kept}
-use Rattle.std.specs.Prelude.{◌==◌}
+use Rattle.std.specs.Prelude.{◌==◌, IfSome, if◌then◌else◌, Option, None}
 use Rattle.std.proofs.lemmas.Bool.{eqb-false, eqb-true, ne_eqb}
 use Rattle.std.proofs.Common.{arith, subst, ℤ, suc, Some}
 use Rattle.metric.specs.declared.value.Value.{Value}
@@ -115,3 +116,24 @@ no_rule_applied rules m h some =
     rw (none_of rules.taginclude b.1, none_of rules.tagexclude a.1) (all_kept m.tags) in
     let filled : (length m.fields == 0) ≡ false = ne_eqb (length m.fields) 0 (λ z. absurd (omega (arith, z, some))) in
     rw selected (ap with_fields (left_whole rules m fields tags) ∙ rw filled refl)
+
+-- ---- a filter without rules for fields and tags
+
+selected_so : (selected empty : Bool) (m : Content)
+    → IfSome (if selected then (if empty then None else Some m) else None) (λ (view : Content). view ≡ m)
+selected_so true true m = tt
+selected_so true false m = refl
+selected_so false empty m = tt
+
+-- gives a metric as it is, or nothing
+pub gives_itself : (rules : FilterRules) → leaves_all_parts rules ≡ true → GivesItself (applied rules)
+gives_itself rules h m =
+    let a = and_parts _ (length rules.tagexclude == 0) h in
+    let b = and_parts _ (length rules.taginclude == 0) a.0 in
+    let c = and_parts (length rules.fieldinclude == 0) (length rules.fieldexclude == 0) b.0 in
+    let fields : keeps_each rules.fieldinclude rules.fieldexclude m.fields ≡ true =
+    rw (none_of rules.fieldinclude c.0, none_of rules.fieldexclude c.1) (all_kept m.fields) in
+    let tags : keeps_each rules.taginclude rules.tagexclude m.tags ≡ true =
+    rw (none_of rules.taginclude b.1, none_of rules.tagexclude a.1) (all_kept m.tags) in
+    subst (λ (l : Content). IfSome (if selects rules m then with_fields l else None) (λ (view : Content). view ≡ m))
+    (sym (left_whole rules m fields tags)) (selected_so (selects rules m) (length m.fields == 0) m)

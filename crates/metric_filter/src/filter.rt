@@ -1,7 +1,7 @@
 //! Filters.
 ghost use Rattle.std.specs.Prelude.{◌≡◌, true, IfOk, Some};
-ghost use Rattle.metric_filter.specs.Filter.{applied, has_no_rule, left, no_rules, selects};
-ghost use Rattle.metric_filter.specs.Filter.{with_fields};
+ghost use Rattle.metric_filter.specs.Filter.{applied, has_no_rule, leaves_all_parts, left, no_rules};
+ghost use Rattle.metric_filter.specs.Filter.{selects, with_fields};
 
 use crate::left::{keeps_all, left};
 use crate::rules::{FilterRules, passes, some_matches, some_tag, tags_pass};
@@ -121,6 +121,18 @@ impl Filter {
         ensures { result ≡ has_no_rule self.now }
     {
         self.no_rule
+    }
+
+    /// Does it leave each part of the metrics that it selects? Then what `apply` gives for a metric is the metric, or
+    /// nothing (`all_parts_left`).
+    pub fn leaves_all_parts(&self) -> bool
+        ensures { result ≡ leaves_all_parts self.now }
+    {
+        let rules = &self.rules;
+        rules.fieldinclude.as_slice().is_empty()
+            && rules.fieldexclude.as_slice().is_empty()
+            && rules.taginclude.as_slice().is_empty()
+            && rules.tagexclude.as_slice().is_empty()
     }
 
     /// What `apply` gives for the metric, which is given up; where the filter has no rule that is the metric itself.

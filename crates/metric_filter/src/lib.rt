@@ -2,8 +2,10 @@
 #![tactic(auto)]
 
 mod filter;
+mod laws;
 mod left;
 mod rules;
 
 pub use filter::Filter;
+pub use laws::all_parts_left;
 pub use rules::FilterRules;

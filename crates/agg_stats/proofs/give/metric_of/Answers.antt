@@ -15,7 +15,7 @@ use Rattle.agg_stats.proofs.give.metric_of.Goals as goal
 
 pub returns-then-is_empty : goal.returns-then-is_empty
 returns-then-is_empty c =
-    let row = c.args.row.now in
+    let row = c.args.row.now.row in
     let fields = c.in_ok-fields.fields in
     let empty = eqb-true fields.len 0 (sym c.is_empty.ensures ∙ c.if-is_empty.true) in
     let none : length fields.items ≡ 0 = omega (arith, empty, fields.ok.0) in
@@ -25,7 +25,7 @@ returns-then-is_empty c =
 
 pub of-requires-2 : goal.of-requires-2
 of-requires-2 c =
-    let row = c.args.row.now in
+    let row = c.args.row.now.row in
     let fields = c.in_ok-fields.fields in
     let some = eqb-false fields.len 0 (sym c.is_empty.ensures ∙ c.if-is_empty.false) in
     let filled : 0 < length fields.items = omega (arith, some, fields.ok.0) in
@@ -38,7 +38,7 @@ of-requires-2 c =
 
 pub returns : goal.returns
 returns c =
-    let row = c.args.row.now in
+    let row = c.args.row.now.row in
     let fields = c.in_ok-fields.fields in
     let some = eqb-false fields.len 0 (sym c.is_empty.ensures ∙ c.if-is_empty.false) in
     let filled : 0 < length fields.items = omega (arith, some, fields.ok.0) in

@@ -1,7 +1,7 @@
 use Rattle.std.proofs.Common.{◌≡◌, ◌+◌, List, subst, rules}
 use Rattle.std.specs.Option.{option_to_list}
 use Rattle.metric.specs.declared.metric.Content.{Content}
-use Rattle.journal_text.specs.JournalText.{entry_text}
+use Rattle.journal_text.specs.Known.{entry_as}
 use Rattle.agent_workers.specs.Noted.{JournalPart, part_of, GoesOut}
 use Rattle.agent_workers.proofs.NotedLemmas.{slice_is, spells_one}
 use Rattle.agent_workers.proofs.journal.JournalJob.write_one.Goals as goal
@@ -16,6 +16,6 @@ returns g c =
     spells_one c.args.entry.now item mid c.keep_named.new.unrouted_items.items old after c.in_ok-self.field-0
     c.args.text.now.items c.write_lines.new.text.items c.in_ok-item.ensures.one c.in_ok-item.ensures.rest
     (subst (λ (i : List Content). GoesOut (record old { kept = mid }) after c.args.text.now.items
-    (entry_text i c.args.entry.now) c.write_lines.new.text.items)
+    (entry_as c.args.self.now.known i c.args.entry.now) c.write_lines.new.text.items)
     (slice_is c.in_ok-item.item c.as_slice.result.now c.as_slice.ensures) c.in_ok-write_lines.ensures)
     c.in_ok-keep_named.ensures count

@@ -10,10 +10,10 @@ returns-in-Some c = λ kind members m stands ready few.
     let old : Memory = record {
       asked = i.asked;
       kept = i.kept.entries;
-      order = i.order.items;
-      room = vec_capacity i.order;
+      rows = i.rows.items;
+      room = vec_capacity i.rows;
       ready = i.ready;
     } in
     ready_added kind members m old _ c.in-Some.ready (subst (StandsFor kind members) (sym c.self.view_is) stands)
-    (subst (IsReady m) (sym c.self.view_is) ready) few (sym c.take.ensures.value ∙ c.in-Some.is) refl
-    c.put.ensures.kept c.put.ensures.order
+    (subst (IsReady m) (sym c.self.view_is) ready) few (sym c.take.ensures.value ∙ c.in-Some.is) refl refl
+    c.add.ensures.known c.add.ensures.new

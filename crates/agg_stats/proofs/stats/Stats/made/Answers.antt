@@ -14,12 +14,11 @@ returns c = λ kind members stands.
     let memory : Memory = record {
       asked = i.asked;
       kept = i.kept.entries;
-      order = i.order.items;
-      room = vec_capacity i.order;
+      rows = i.rows.items;
+      room = vec_capacity i.rows;
       ready = i.ready;
     } in
     c.in_ok-made.ensures
-    ∙ ap (λ (t : ℤ). flat_map (made_at i.asked t i.kept.entries) c.as_slice-order.result.now)
-    (to_z-of_z w64 time c.ranges.time)
-    ∙ ap (flat_map (made_at i.asked time i.kept.entries)) c.as_slice-order.ensures.value
+    ∙ ap (λ (t : ℤ). flat_map (made_at i.asked t) c.as_slice.result.now) (to_z-of_z w64 time c.ranges.time)
+    ∙ ap (flat_map (made_at i.asked time)) c.as_slice.ensures.value
     ∙ made_is kind time members memory (subst (StandsFor kind members) (sym c.self.view_is) stands)

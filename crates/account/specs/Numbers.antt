@@ -1,5 +1,5 @@
 -- What is counted of a run.
-use Rattle.std.specs.Prelude.{ℕ, ◌+◌, ◌-◌, ◌<◌, Bool, false, List, map, replicate, All, slice_set}
+use Rattle.std.specs.Prelude.{ℕ, ◌+◌, ◌-◌, ◌<◌, Bool, true, false, List, map, replicate, All, slice_set}
 use Rattle.std.specs.Prelude.{slice_index_or}
 use Rattle.account.specs.declared.numbers.InputNumbers.{InputNumbers}
 use Rattle.account.specs.declared.numbers.OutputNumbers.{OutputNumbers}
@@ -68,6 +68,15 @@ gathered_more x pieces refused passed filtered metrics =
       filtered = x.filtered + filtered;
       gathered = x.gathered + metrics;
     }
+
+-- an input's numbers, once a group of it began, which isn't delivered yet
+abbrev pub started_more : InputNumbers → InputNumbers
+started_more x = record x { undelivered = x.undelivered + 1 }
+
+-- an input's numbers, once a group of it settled: it is delivered or rejected
+abbrev pub settled_more : InputNumbers → Bool → InputNumbers
+settled_more x true = record x { delivered = x.delivered + 1; undelivered = x.undelivered - 1 }
+settled_more x false = record x { rejected = x.rejected + 1; undelivered = x.undelivered - 1 }
 
 -- an output's numbers, once so many buffered metrics were written
 abbrev pub written_more : OutputNumbers → ℕ → OutputNumbers

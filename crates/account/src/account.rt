@@ -2,7 +2,7 @@
 ghost use Rattle.std.specs.Prelude.{◌≡◌, ◌+◌, ◌<◌, ◌≤◌, ◌^◌, ◌↔◌, true, ◌++◌, length, IfOk, OnOk, OnErr};
 ghost use Rattle.std.specs.Prelude.{IsTrue};
 ghost use Rattle.account.specs.Numbers.{Numbers, no_numbers, input_numbers, output_numbers, with_input};
-ghost use Rattle.account.specs.Numbers.{with_output, gathered_more, written_more, dropped_more, IsInputBelow};
+ghost use Rattle.account.specs.Numbers.{with_output, gathered_more, settled_more, started_more, written_more, dropped_more, IsInputBelow};
 ghost use Rattle.account.specs.Numbers.{AreBelow};
 ghost use Rattle.text_parts.specs.Adds.{Adds};
 ghost use Rattle.account.specs.AccountText.{account_text};
@@ -120,6 +120,32 @@ impl Account {
             self.new ≡ with_input self.old input (record x { has_ended = true }) }
     {
         self.inputs[input as usize].has_ended = true;
+    }
+
+    /// Counts a group of an input, which isn't delivered yet.
+    pub fn group_started(&mut self, input: u32)
+        requires within { input < length self.old.inputs }
+        requires room { (input_numbers self.old input).undelivered + 1 < 2 ^ 64 }
+        ensures { self.new ≡ with_input self.old input (started_more (input_numbers self.old input)) }
+    {
+        self.inputs[input as usize].undelivered += 1;
+    }
+
+    /// Counts a group of an input that settled: as delivered, or as rejected.
+    pub fn group_settled(&mut self, input: u32, delivered: bool)
+        requires within { input < length self.old.inputs }
+        requires some { 0 < (input_numbers self.old input).undelivered }
+        requires delivered { (input_numbers self.old input).delivered + 1 < 2 ^ 64 }
+        requires rejected { (input_numbers self.old input).rejected + 1 < 2 ^ 64 }
+        ensures { self.new ≡ with_input self.old input (settled_more (input_numbers self.old input) delivered) }
+    {
+        let x = &mut self.inputs[input as usize];
+        x.undelivered -= 1;
+        if delivered {
+            x.delivered += 1;
+        } else {
+            x.rejected += 1;
+        }
     }
 
     /// Counts metrics that were made.

@@ -118,12 +118,6 @@ head_text item e = gather_head (gather_of e)
 unfoldable pub entry_text : List Content → Entry → List ℕ
 entry_text item e = head_text item e ++ metric_lines (named_by e) ++ report_lines (reports_of e)
 
--- the line of a Route with its item, and nothing for another entry
-unfoldable pub route_head : List Content → Entry → List ℕ
-route_head item (Route routed whole verdict aggs outs reports) =
-    head_text item (Route routed whole verdict aggs outs reports)
-route_head item _ = []
-
 -- the item of an entry among these: that of a Route
 abbrev pub item_of : List Content → Entry → List Content
 item_of known (Route routed whole verdict aggs outs reports) = option_to_list (slice_get known routed)

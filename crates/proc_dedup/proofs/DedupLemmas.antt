@@ -15,7 +15,7 @@ use Rattle.std.proofs.lemmas.Slice.Eq.{bytes_eq-Decides, slice_eq-Decides}
 use Rattle.metric.specs.Series.{series_cmp, series_eq, series_ties, tag_eq, Series, Tag}
 use Rattle.metric.specs.declared.metric.Content.{Content}
 use Rattle.proc_dedup.specs.Dedup.{entry_of, held, is_removed, last_kept, CanKeep, HasRoom, Memory, StandsFor}
-use Rattle.proc_dedup.specs.Repeats.{repeats, series_of}
+use Rattle.proc_dedup.specs.Repeats.{repeats, repeats_one, series_of}
 use Rattle.proc_dedup.specs.declared.sight.Sight.{Sight}
 use Rattle.proc_dedup.specs.declared.sight.Sight.TheVariants.{Repeated, Fresh}
 
@@ -66,6 +66,15 @@ pub succeeds : {A E X U : Type 0} (result : Result A E) (entry : Option X) → O
 succeeds (Ok x) entry ok err here = ok
 succeeds (Err e) (Some x) ok err here = cc
 succeeds (Err e) None ok err here = cc
+
+-- whether a metric repeats the one that was found under its series
+pub answers_held : (interval : ℤ) (old : Entries) (found series : Series) (m last : Content) (entry : Option Content)
+    (answer : Bool) → answer ≡ repeats_one interval last m → entry ≡ Some last → Some entry ≡ entry_of old found
+    → found ≡ series → answer ≡ repeats interval (held old series) m
+answers_held interval old found series m last entry answer is some at same =
+    is ∙ ap (λ (e : Option Content). repeats interval e m) (sym some)
+    ∙ ap (λ (e : Option (Option Content)). repeats interval (option_and_then (λ (x : Option Content). x) e) m)
+    (at ∙ ap (entry_of old) same)
 
 -- what a search that found nothing says
 pub none_copied : {X : Type 0} (found : Option (Bor X)) → is_some found ≡ false → option_copied found ≡ None

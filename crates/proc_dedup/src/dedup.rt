@@ -5,7 +5,7 @@ ghost use Rattle.metric.specs.declared.metric.Content.{Content};
 ghost use Rattle.proc_dedup.specs.Dedup.{is_removed, left_after, sight_of, CanKeep, HasRoom, StandsFor};
 ghost use Rattle.proc_dedup.specs.Repeats.{series_of};
 
-use crate::map::{Kept, is_repeated, make_room, put};
+use crate::map::{Kept, look, put};
 use crate::{Fresh, Sight};
 use fixed_num::OutOfMemory;
 use metric::Metric;
@@ -71,8 +71,7 @@ impl Dedup {
         ensures room { IfOk result (λ sight. CanKeep self.new.kept sight) }
     {
         let fresh = Fresh::of(m)?;
-        let repeated = is_repeated(&self.kept, self.interval, m)?;
-        make_room(&mut self.kept, m)?;
+        let repeated = look(&mut self.kept, self.interval, m)?;
         Ok(sight(repeated, fresh))
     }
 

@@ -13,40 +13,22 @@ use std::collections::BTreeMap;
 /// Metrics by their series. Where there is room for a series alone there is no metric yet.
 pub(crate) type Kept = BTreeMap<Series, Option<Metric>>;
 
-/// Whether a metric repeats the one that is held of its series.
-pub(crate) fn is_repeated(kept: &Kept, interval: i64, m: &Metric) -> Result<bool, OutOfMemory>
-    ensures { IfOk result
-        (λ answer. answer ≡ repeats interval (held kept.now.entries (series_of m.now)) m.now) }
-{
-    let series = m.series()?;
-    Ok(match last_of(kept, &series) {
-        Some(last) => repeats_one(interval, last, m),
-        None => false,
-    })
-}
-
-/// The metric that is held of a series.
-fn last_of<'a>(kept: &'a Kept, series: &Series) -> Option<&'a Metric>
-    ensures { option_copied result ≡ held kept.now.entries series.now }
-{
-    match kept.get(series) {
-        Some(Some(last)) => Some(last),
-        Some(None) => None,
-        None => None,
-    }
-}
-
-/// Makes room for the series of a metric.
-pub(crate) fn make_room(kept: &mut Kept, m: &Metric) -> Result<(), OutOfMemory>
+/// Whether a metric repeats the one that is held of its series. Where the series has no room yet, there is room behind it.
+pub(crate) fn look(kept: &mut Kept, interval: i64, m: &Metric) -> Result<bool, OutOfMemory>
+    ensures answer { IfOk result
+        (λ answer. answer ≡ repeats interval (held kept.old.entries (series_of m.now)) m.now) }
     ensures same { (series : Series) → held kept.new.entries series ≡ held kept.old.entries series }
     ensures room { OnOk result (HasRoom kept.new.entries (series_of m.now)) }
 {
     let series = m.series()?;
-    if kept.get(&series).is_some() {
-        return Ok(());
+    match kept.get(&series) {
+        Some(Some(last)) => Ok(repeats_one(interval, last, m)),
+        Some(None) => Ok(false),
+        None => {
+            kept.insert(series, None)?;
+            Ok(false)
+        }
     }
-    kept.insert(series, None)?;
-    Ok(())
 }
 
 /// Keeps a metric as the last one of its series, for which there is room.

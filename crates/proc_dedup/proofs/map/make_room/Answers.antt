@@ -1,8 +1,0 @@
-use Rattle.std.proofs.Common.{◌∙◌, sym}
-use Rattle.proc_dedup.proofs.DedupLemmas.{none_copied, room_made}
-use Rattle.proc_dedup.proofs.map.make_room.Goals as goal
-
-pub returns-clause-same : goal.returns-clause-same
-returns-clause-same c = room_made c.args.kept.now.entries c.insert.new.self.entries c.in_ok-series.series
-    (sym c.get.ensures.value ∙ none_copied c.get.result (sym c.is_some.ensures ∙ c.if-is_some.false))
-    (c.in_ok-insert.ensures.updates).0

@@ -26,11 +26,11 @@ find_none g (x ∷ xs) none =
     let f : has_number g x ≡ false = has-false g x (none 0 x (omega arith)) in
     rw f (find_none g xs (λ k d l. none (suc k) d (omega arith)))
 
-rises-tail : (x : LiveGroup) (xs : List LiveGroup) → Rises (x ∷ xs) → Rises xs
+pub rises-tail : (x : LiveGroup) (xs : List LiveGroup) → Rises (x ∷ xs) → Rises xs
 rises-tail x xs rises i j d l m = rises (suc i) (suc j) d (omega arith) (omega arith)
 
 -- the groups behind the first have other numbers
-none_behind : (x : LiveGroup) (xs : List LiveGroup) → Rises (x ∷ xs) → NoneHas x.number xs
+pub none_behind : (x : LiveGroup) (xs : List LiveGroup) → Rises (x ∷ xs) → NoneHas x.number xs
 none_behind x xs rises k d l e = let up = rises 0 (suc k) d (omega arith) (omega arith) in omega arith
 
 -- the group at a place is the one with its number
@@ -43,7 +43,7 @@ find_at (x ∷ xs) (suc at) d rises l =
     let f : has_number (get_or xs at d).number x ≡ false = has-false _ x (λ e. omega arith) in
     rw f (find_at xs at d (rises-tail x xs rises) (omega arith))
 
-changed_none : (g : ℕ) (change : LiveGroup → LiveGroup) (groups : List LiveGroup) → NoneHas g groups →
+pub changed_none : (g : ℕ) (change : LiveGroup → LiveGroup) (groups : List LiveGroup) → NoneHas g groups →
     changed g change groups ≡ groups
 changed_none g change [] none = refl
 changed_none g change (x ∷ xs) none =
@@ -62,7 +62,7 @@ changed_at change (x ∷ xs) (suc at) d rises l =
     let f : has_number (get_or xs at d).number x ≡ false = has-false _ x (λ e. omega arith) in
     rw f (ap (λ (ys : List LiveGroup). x ∷ ys) (changed_at change xs at d (rises-tail x xs rises) (omega arith)))
 
-without_none : (g : ℕ) (groups : List LiveGroup) → NoneHas g groups → without g groups ≡ groups
+pub without_none : (g : ℕ) (groups : List LiveGroup) → NoneHas g groups → without g groups ≡ groups
 without_none g [] none = refl
 without_none g (x ∷ xs) none =
     let f : has_number g x ≡ false = has-false g x (none 0 x (omega arith)) in

@@ -3,8 +3,9 @@
 
 mod group;
 mod laws;
+mod reports;
 mod tracker;
 
 pub use group::GroupRef;
-pub use laws::law_gone;
+pub use laws::{law_copies, law_gone, law_told};
 pub use tracker::Tracker;

@@ -1,15 +1,22 @@
 //! The groups that are live, with what is counted of them.
-ghost use Rattle.std.specs.Prelude.{◌≡◌, ◌≢◌, ℕ, ◌+◌, ◌^◌, ◌<◌, ◌≤◌, length, slice_index, sum, Some, option_map, IfOk, IfNone, OnSome};
+ghost use Rattle.std.specs.Prelude.{◌≡◌, ◌≢◌, ◌↔◌, IsTrue, ℕ, ◌+◌, ◌^◌, ◌<◌, ◌≤◌, length, slice_index, sum};
+ghost use Rattle.std.specs.Prelude.{Some, option_map, IfOk, IfNone, OnSome, List, [], ◌∷◌, ◌++◌};
+ghost use Rattle.std.specs.Vec.{vec_len, vec_capacity};
 ghost use Rattle.track_groups.specs.Tracker.{new_tracker, live_group, live_of, copies_of, IsLive, IsTracker};
 ghost use Rattle.track_groups.specs.Tracker.{new_group, after_start, start_report, held, after_hold, settled};
-ghost use Rattle.track_groups.specs.Tracker.{after_settle, settle_report};
+ghost use Rattle.track_groups.specs.Tracker.{after_settle, settle_report, TrackerState};
+ghost use Rattle.track_groups.specs.Settling.{Copy, after_copies, reports_with};
 
 use crate::group::{GroupRef, LiveGroup, place_of};
+use crate::reports::put_told;
 use account::Report;
 use fixed_num::OutOfMemory;
 use std::alloc::Global;
 use std::collections::VecDeque;
 use std::marker::Model;
+
+// Fewer groups than this are started, 2^63.
+const GROUP_LIMIT: u64 = 1 << 63;
 
 /// The groups of tracked inputs that are live: copies of their metrics still wait.
 ///
@@ -135,6 +142,40 @@ impl Tracker {
             input: group.input,
             delivered: !rejected,
         })
+    }
+
+    /// Lets go one copy of a live group, as [`Tracker::settle`] does. Where the group is reported, its report is put
+    /// among these, which stand by rising number; there is room for it.
+    pub fn settle_among(&mut self, g: GroupRef, dropped: bool, reports: &mut Vec<Report>)
+        requires live { IsLive self.old g }
+        requires room { vec_len reports.old < vec_capacity reports.old }
+        ensures state { self.new ≡ after_settle self.old g dropped }
+        ensures gone { (first : TrackerState) (copies : List Copy) → IsTracker first →
+            self.old ≡ after_copies first copies →
+            self.new ≡ after_copies first (copies ++ record { group = g; dropped = dropped } ∷ []) }
+        ensures told { (first : TrackerState) (copies : List Copy) → IsTracker first →
+            self.old ≡ after_copies first copies → reports.old.items ≡ reports_with first copies →
+            reports.new.items ≡ reports_with first (copies ++ record { group = g; dropped = dropped } ∷ []) }
+        ensures few { vec_len reports.new ≤ vec_len reports.old + 1 }
+        ensures kept { vec_capacity reports.new ≡ vec_capacity reports.old }
+        ensures stands { IsTracker self.new }
+    {
+        let told = self.settle(g, dropped);
+        put_told(reports, told);
+    }
+
+    /// Whether a group more may be started: fewer than 2^63 were.
+    pub fn has_room(&self) -> bool
+        ensures { IsTrue result ↔ (self.now.started < 2 ^ 63) }
+    {
+        self.started < GROUP_LIMIT
+    }
+
+    /// Whether no group is live.
+    pub fn is_idle(&self) -> bool
+        ensures { IsTrue result ↔ (self.now.live ≡ []) }
+    {
+        self.live.is_empty()
     }
 
     /// How many groups of an input are live; 0 where there is no such input.

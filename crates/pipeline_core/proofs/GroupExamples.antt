@@ -1,12 +1,12 @@
 -- A journal with a tracked input and two outputs: what settles when, by the definitions. What is expected is written
 -- from the meanings: the reports stand in the entries, and the fates and numbers below.
-use Rattle.std.proofs.Common.{◌≡◌, ℕ, Bool, true, false, List, [], ◌∷◌, ◌++◌, map, refl}
+use Rattle.std.proofs.Common.{◌≡◌, ◌<◌, ◌≤◌, ℕ, ◌+◌, Bool, true, false, List, [], ◌∷◌, ◌++◌, map, refl, inr, arith}
 use Rattle.std.specs.Prelude.{pos}
 use Rattle.std.specs.declared.option.Option.TheVariants.{Some, None}
 use Rattle.metric.specs.declared.metric.Content.{Content}
 use Rattle.account.specs.Setup.{Setup}
 use Rattle.account.specs.Says.{reports_of}
-use Rattle.account.specs.Items.{items, taken, routes}
+use Rattle.account.specs.Items.{items, taken, routes, in_hand_from}
 use Rattle.account.specs.Numbers.{unread_input}
 use Rattle.account.specs.Origins.{origins, group_inputs}
 use Rattle.account.specs.declared.entry.Entry.{Entry}
@@ -18,7 +18,10 @@ use Rattle.pipeline_core.specs.Offers.{offers, lane_events}
 use Rattle.pipeline_core.specs.Fates.{Fate, ItemFate, item_fates, fates_from}
 use Rattle.pipeline_core.specs.Fates as fate
 use Rattle.pipeline_core.specs.Groups.{reports_at}
+use Rattle.pipeline_core.specs.Legal.{AreLegal, IsLegal, has_stop, has_ended, gathered_count}
+use Rattle.pipeline_core.specs.Windows.{judged}
 use Rattle.pipeline_core.specs.Totals.{input_total, input_total_from, reported_with}
+use Rattle.pipeline_core.proofs.JournalPush.{IsLegal-push}
 
 -- an input that may have five live groups; an output with batches of two and room for two, and one with batches
 -- of one and room for three
@@ -33,9 +36,12 @@ told group delivered = record { group = group; input = 0; delivered = delivered 
 abbrev pub group : ℕ → List Content → List Report → Entry
 group number metrics reports = Gather 0 (pos 0) 1 0 0 0 metrics (Some number) reports
 
--- an item goes to the first output, to both, or to none of them, or is removed
+-- an item goes to the first output, to the second one, to both, or to none of them, or is removed
 abbrev pub first : Content → ℕ → List Report → Entry
 first m item reports = Route item (Some m) Passes [] (Some m ∷ None ∷ []) reports
+
+abbrev pub second : Content → ℕ → List Report → Entry
+second m item reports = Route item (Some m) Passes [] (None ∷ Some m ∷ []) reports
 
 abbrev pub both : Content → ℕ → List Report → Entry
 both m item reports = Route item (Some m) Passes [] (Some m ∷ Some m ∷ []) reports
@@ -122,3 +128,109 @@ pub counts : (m : Content) →
     { pieces = 7; gathered = 8; delivered = 3; rejected = 4 }
 unfolding input_total_from reported_with
 counts m = refl
+
+-- an input that may have one live group, and two outputs with batches of one and room for one
+abbrev pub pair_setup : Setup
+pair_setup = record { start = pos 0; inputs = Some 1 ∷ []; aggs = []; outputs = (1, 1) ∷ (1, 1) ∷ [] }
+
+-- Group 0 has the items A, which goes to both outputs, and B, which goes to the second one and takes A's place there.
+-- The first output accepts A, by which the group doesn't settle. The second one accepts B: the group is rejected, for
+-- what was dropped there. Group 1, which may come now, has no metric.
+abbrev pub pair : Content → Content → List Entry
+pair a b =
+    group 0 (a ∷ b ∷ []) []
+    ∷ Take 0
+    ∷ both a 0 []
+    ∷ Take 1
+    ∷ second b 1 []
+    ∷ Begin 0 0 1
+    ∷ Done 0 true []
+    ∷ Begin 1 1 2
+    ∷ Done 1 true (told 0 false ∷ [])
+    ∷ group 1 [] (told 1 true ∷ [])
+    ∷ []
+
+-- what stands in facts of legal journals: numbers are compared, and nothing happened at first
+pub below : (a more : ℕ) → a < a + 1 + more
+below a more = omega arith
+
+pub at_most : (a more : ℕ) → a ≤ a + more
+at_most a more = omega arith
+
+pub none_legal : (setup : Setup) → IsLegal setup []
+unfolding AreLegal
+none_legal _ = tt
+
+-- the journal is legal, with the groups and the reports as they are written
+pub pair_legal : (a b : Content) → IsLegal pair_setup (pair a b)
+unfolding reports_at origins items taken routes in_hand_from group_inputs offers lane_events fates_from ranges_from
+    accepted_from has_stop has_ended gathered_count judged
+pair_legal a b =
+    let l1 = IsLegal-push pair_setup [] (group 0 (a ∷ b ∷ []) []) (none_legal pair_setup) (record {
+      line = record {
+        most = Some 1;
+        known = refl;
+        going = refl;
+        reading = refl;
+        fits = below 2 4294967293;
+        room = inr (at_most 2 9998);
+        few = below 0 0;
+        group = refl;
+      };
+      reports = refl;
+    }) in
+    let l2 = IsLegal-push pair_setup _ (Take 0) l1 (record {
+      line = record { empty_handed = refl; first = refl; raw = below 0 1 };
+      reports = refl;
+    }) in
+    let l3 = IsLegal-push pair_setup _ (both a 0 []) l2 (record {
+      line = record { held = refl; aggregators = refl; outputs = refl; views = tt; made = λ e. tt; verdict_is = refl };
+      reports = refl;
+    }) in
+    let l4 = IsLegal-push pair_setup _ (Take 1) l3 (record {
+      line = record { empty_handed = refl; first = refl; raw = below 1 0 };
+      reports = refl;
+    }) in
+    let l5 = IsLegal-push pair_setup _ (second b 1 []) l4 (record {
+      line = record { held = refl; aggregators = refl; outputs = refl; views = tt; made = λ e. tt; verdict_is = refl };
+      reports = refl;
+    }) in
+    let l6 = IsLegal-push pair_setup _ (Begin 0 0 1) l5 (record {
+      line = record {
+        batch = 1;
+        limit = 1;
+        known = refl;
+        next = record { closed = refl; first = refl; end = refl; some = below 0 0 };
+      };
+      reports = refl;
+    }) in
+    let l7 = IsLegal-push pair_setup _ (Done 0 true []) l6 (record {
+      line = record { known = below 0 1; begun = tt };
+      reports = refl;
+    }) in
+    let l8 = IsLegal-push pair_setup _ (Begin 1 1 2) l7 (record {
+      line = record {
+        batch = 1;
+        limit = 1;
+        known = refl;
+        next = record { closed = refl; first = refl; end = refl; some = below 1 0 };
+      };
+      reports = refl;
+    }) in
+    let l9 = IsLegal-push pair_setup _ (Done 1 true (told 0 false ∷ [])) l8 (record {
+      line = record { known = below 1 0; begun = tt };
+      reports = refl;
+    }) in
+    IsLegal-push pair_setup _ (group 1 [] (told 1 true ∷ [])) l9 (record {
+      line = record {
+        most = Some 1;
+        known = refl;
+        going = refl;
+        reading = refl;
+        fits = below 2 4294967293;
+        room = inr (at_most 0 10000);
+        few = below 0 0;
+        group = refl;
+      };
+      reports = refl;
+    })

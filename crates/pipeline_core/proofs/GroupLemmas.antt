@@ -46,7 +46,7 @@ ungrouped setup before (Stop moment made) untracked m = refl
 ungrouped setup before (Begin output from to) untracked m = refl
 ungrouped setup before (Done output ok reports) untracked m = refl
 
-no_groups : (setup : Setup) (before es : List Entry) → All (λ (x : Option ℕ). x ≡ None) setup.inputs →
+pub no_groups : (setup : Setup) (before es : List Entry) → All (λ (x : Option ℕ). x ≡ None) setup.inputs →
     AreLegal setup before es → group_inputs es ≡ []
 unfolding AreLegal group_inputs
 no_groups setup before [] untracked h = refl

@@ -1,5 +1,5 @@
 -- What a core keeps agrees after each step.
-use Rattle.std.proofs.Common.{◌≡◌, ◌<◌, ◌≤◌, ℕ, ℤ, ◌+◌, ◌-◌, ◌^◌, ◌==◌, Bool, true, false, List, [], ◌∷◌}
+use Rattle.std.proofs.Common.{◌≡◌, ◌≢◌, ◌<◌, ◌≤◌, ℕ, ℤ, ◌+◌, ◌-◌, ◌^◌, ◌==◌, Bool, true, false, List, [], ◌∷◌}
 use Rattle.std.proofs.Common.{◌++◌, length, take, drop, map, refl, sym, ap, ◌∙◌, subst, inl, inr, arith}
 use Rattle.std.proofs.Common.{get_or, set, replicate, is_some, IsSome, if◌then◌else◌, length-append}
 use Rattle.std.proofs.Common.{length-drop}
@@ -15,11 +15,12 @@ use Rattle.std.specs.declared.option.Option.{Option}
 use Rattle.std.specs.declared.option.Option.TheVariants.{Some, None}
 use Rattle.metric.specs.declared.metric.Content.{Content}
 use Rattle.account.specs.declared.entry.Entry.{Entry}
+use Rattle.account.specs.declared.entry.Report.{Report}
 use Rattle.account.specs.declared.entry.Verdict.{Verdict}
 use Rattle.account.specs.declared.entry.Verdict.TheVariants as verdicts
 use Rattle.account.specs.Numbers.{Numbers, output_numbers, unread_input, no_numbers, unreached_output}
-use Rattle.account.specs.Numbers.{with_output, sum_of_fates}
-use Rattle.account.specs.declared.numbers.InputNumbers.{InputNumbers}
+use Rattle.account.specs.Numbers.{with_output, sum_of_fates, input_numbers, settled_more, with_input}
+use Rattle.track_groups.specs.Tracker.{TrackerState}
 use Rattle.account.specs.declared.numbers.OutputNumbers.{OutputNumbers}
 use Rattle.agg_bank.specs.Bank.{lines_of, BankMemory}
 use Rattle.out_lane.specs.Lane.{LaneState, empty_lane}
@@ -32,13 +33,12 @@ use Rattle.pipeline_core.specs.declared.setup.CoreSetup.{CoreSetup}
 use Rattle.pipeline_core.specs.declared.setup.InSetup.{InSetup}
 use Rattle.pipeline_core.specs.declared.setup.OutSetup.{OutSetup}
 use Rattle.pipeline_core.specs.CoreState.{setup_of, lane_of, sizes, most_undelivered, is_tracked, CoreState}
-use Rattle.pipeline_core.specs.CoreState.{IsCore, IsOutput, OutputsAgree, InputsAgree, ItemsAgree, sizes_at, flights}
+use Rattle.pipeline_core.specs.CoreState.{IsCore, IsOutput, OutputsAgree, ItemsAgree, sizes_at, flights}
 use Rattle.pipeline_core.specs.CoreState.{in_flight}
 use Rattle.pipeline_core.specs.CoreState.{held_count, lane_at}
-use Rattle.pipeline_core.specs.declared.gathering.Gathered.{Gathered}
-use Rattle.pipeline_core.specs.Steps.{after_gather, after_ended, after_take, lanes_routed, numbers_routed}
+use Rattle.pipeline_core.specs.Steps.{with_reports, after_ended, after_take, lanes_routed, numbers_routed}
 use Rattle.pipeline_core.specs.Steps.{HasFew, lane_with, numbers_with, buffered_more, lane_done, count_done}
-use Rattle.pipeline_core.specs.Steps.{counted_done, late_more, consumed_more, with_made, HasNumbers, HasItems}
+use Rattle.pipeline_core.specs.Steps.{counted_done, late_more, consumed_more}
 
 in_flight-le : (x : LaneState Offer) → in_flight x ≤ 1
 in_flight-le x = elim (is_some x.flight) as (λ b. (if b then 1 else 0) ≤ 1) [ true ↦ omega arith | false ↦ omega arith ]
@@ -60,7 +60,6 @@ kept_entries s stored counted stopped h =
       outputs = h.outputs;
       inputs = h.inputs;
       items = h.items;
-      untracked = h.untracked;
       lines = h.lines;
       marks = h.marks;
     }
@@ -73,14 +72,65 @@ kept_bank s bank same h =
       outputs = h.outputs;
       inputs = h.inputs;
       items = h.items;
-      untracked = h.untracked;
       lines = same ∙ h.lines;
       marks = h.marks;
     }
 
+-- nor have groups
+pub kept_groups : (s : CoreState) (groups : List (Option ℕ)) (tracker : TrackerState)
+    (marked : List (LaneState (Option ℕ))) (told : List (List Report)) → IsCore s
+    → IsCore (record s { groups = groups; tracker = tracker; marked = marked; told = told })
+kept_groups s groups tracker marked told h =
+    record {
+      outputs = h.outputs;
+      inputs = h.inputs;
+      items = h.items;
+      lines = h.lines;
+      marks = h.marks;
+    }
+
+-- the numbers of inputs have no part in the others
+pub kept_inputs : (s : CoreState) (n : Numbers) → n ≡ record s.numbers { inputs = n.inputs } →
+    length n.inputs ≡ length s.numbers.inputs → IsCore s → IsCore (record s { numbers = n })
+kept_inputs s n rest long h =
+    subst (λ (m : Numbers). IsCore (record s { numbers = m })) (sym rest)
+    (record {
+      outputs = h.outputs;
+      inputs = record { number_count = long ∙ h.inputs.number_count; ended_count = h.inputs.ended_count };
+      items = h.items;
+      lines = h.lines;
+      marks = h.marks;
+    })
+
+-- reports change the numbers of inputs alone
+pub reported_rest : (n : Numbers) (reports : List Report) →
+    with_reports n reports ≡ record n { inputs = (with_reports n reports).inputs }
+unfolding with_reports
+reported_rest n [] = refl
+reported_rest n (r ∷ reports) =
+    reported_rest (with_input n r.input (settled_more (input_numbers n r.input) r.delivered)) reports
+
+pub reported_length : (n : Numbers) (reports : List Report) →
+    length (with_reports n reports).inputs ≡ length n.inputs
+unfolding with_reports
+reported_length n [] = refl
+reported_length n (r ∷ reports) =
+    reported_length (with_input n r.input (settled_more (input_numbers n r.input) r.delivered)) reports
+    ∙ length-set n.inputs r.input (settled_more (input_numbers n r.input) r.delivered)
+
+pub kept_reported : (s : CoreState) (reports : List Report) → IsCore s →
+    IsCore (record s { numbers = with_reports s.numbers reports })
+kept_reported s reports h =
+    kept_inputs s (with_reports s.numbers reports) (reported_rest s.numbers reports)
+    (reported_length s.numbers reports) h
+
 -- what was made is raw
 pub kept_made : (s : CoreState) (metrics : List Content) → IsCore s → s.taken + (length s.raw + length metrics) < 2 ^ 63
-    → IsCore (with_made metrics s)
+    → IsCore (record s {
+      raw = s.raw ++ metrics;
+      made = s.made ++ replicate (length metrics) true;
+      numbers = record s.numbers { made = s.numbers.made + length metrics };
+    })
 kept_made s metrics h few =
     record {
       outputs = h.outputs;
@@ -91,7 +141,6 @@ kept_made s metrics h few =
         few_gathered = h.items.few_gathered;
         gone = h.items.gone;
       };
-      untracked = h.untracked;
       lines = h.lines;
       marks = more_marks s.made (length metrics) true (omega (arith, length-append s.raw metrics, h.marks));
     }
@@ -116,30 +165,25 @@ kept_moment s metrics raw marks numbers bank stored counted stopped h few r m n 
     rw (r, m, n) (kept_entries _ stored counted stopped (kept_bank _ bank same (kept_made s metrics h
     (omega (arith, few, ap (λ (xs : List Content). length xs) r, length-append s.raw metrics)))))
 
--- an input's numbers have no part in the others
-inputs_kept : (inputs : List (Option ℕ)) (numbers : List InputNumbers) (ended : List Bool) (i : ℕ) (x : InputNumbers)
-    → InputsAgree inputs numbers ended → InputsAgree inputs (set numbers i x) ended
-inputs_kept inputs numbers ended i x h = record {
-  number_count = length-set numbers i x
-      ∙ h.number_count;
-  ended_count = h.ended_count;
-}
-
-pub kept_gather : (s : CoreState) (g : Gathered) (stored : List Entry) → IsCore s → HasNumbers s g → HasItems s g
-    → IsCore (record (after_gather s g) { stored = stored })
-kept_gather s g stored h few items =
+-- what was gathered is raw
+pub kept_gather : (s : CoreState) (metrics : List Content) → IsCore s → s.gathered + length metrics < 2 ^ 32 →
+    s.taken + length s.raw + length metrics < 2 ^ 63 → IsCore (record s {
+      raw = s.raw ++ metrics;
+      made = s.made ++ replicate (length metrics) false;
+      gathered = s.gathered + length metrics;
+    })
+kept_gather s metrics h few items =
     record {
       outputs = h.outputs;
-      inputs = inputs_kept s.setup.inputs s.numbers.inputs s.ended g.input _ h.inputs;
+      inputs = h.inputs;
       items = record {
-        come = omega (arith, length-append s.raw g.metrics, h.items.come);
-        few = omega (arith, length-append s.raw g.metrics, items);
+        come = omega (arith, length-append s.raw metrics, h.items.come);
+        few = omega (arith, length-append s.raw metrics, items);
         few_gathered = few;
         gone = h.items.gone;
       };
-      untracked = h.untracked;
       lines = h.lines;
-      marks = more_marks s.made (length g.metrics) false (omega (arith, length-append s.raw g.metrics, h.marks));
+      marks = more_marks s.made (length metrics) false (omega (arith, length-append s.raw metrics, h.marks));
     }
 
 pub kept_ended : (s : CoreState) (input : ℕ) (stored : List Entry) → IsCore s
@@ -153,7 +197,6 @@ kept_ended s input stored h =
         ended_count = length-set s.ended _ _ ∙ h.inputs.ended_count;
       };
       items = h.items;
-      untracked = h.untracked;
       lines = h.lines;
       marks = h.marks;
     }
@@ -170,7 +213,6 @@ kept_take s stored h empty some =
         few_gathered = h.items.few_gathered;
         gone = omega (arith, h.items.gone, ap held_count empty);
       };
-      untracked = h.untracked;
       lines = h.lines;
       marks = omega (arith, length-drop 1 s.raw, h.marks, ap held_count empty);
     }
@@ -188,8 +230,14 @@ one_flies x h = ap (λ (b : Bool). if b then 1 else 0) h
 pub not_full : (m n : ℕ) → m < n → (m == n) ≡ false
 not_full m n h = grind (arith, nat_tests)
 
+pub differs : (m n : ℕ) → m ≢ n → (m == n) ≡ false
+differs m n h = grind (arith, nat_tests)
+
 pub full : (m n : ℕ) → m ≡ n → (m == n) ≡ true
 full m n h = grind (arith, nat_tests)
+
+pub same_number : (n : ℕ) → (n == n) ≡ true
+same_number n = full n n refl
 
 -- one more waits
 output_pushed : (size : ℕ × ℕ) (routed : ℕ) (x : OutputNumbers) (at : LaneState Offer) (view : Offer) →
@@ -400,7 +448,6 @@ kept_as verdicts.Passes s outs item stored held h =
       };
       inputs = h.inputs;
       items = routed_items s item held h;
-      untracked = h.untracked;
       lines = h.lines;
       marks = one_mark_fewer s item held h;
     }
@@ -411,7 +458,6 @@ kept_as verdicts.Consumed s outs item stored held h =
           (omega arith) (h.outputs.each o b)) h;
       inputs = h.inputs;
       items = routed_items s item held h;
-      untracked = h.untracked;
       lines = h.lines;
       marks = one_mark_fewer s item held h;
     }
@@ -422,7 +468,6 @@ kept_as verdicts.Late s outs item stored held h =
           (h.outputs.each o b)) h;
       inputs = h.inputs;
       items = routed_items s item held h;
-      untracked = h.untracked;
       lines = h.lines;
       marks = one_mark_fewer s item held h;
     }
@@ -436,7 +481,6 @@ kept_as verdicts.Removed s outs item stored held h =
         few_gathered = h.items.few_gathered;
         gone = omega (arith, h.items.gone, ap held_count held);
       };
-      untracked = h.untracked;
       lines = h.lines;
       marks = one_mark_fewer s item held h;
     }
@@ -501,7 +545,6 @@ kept_begin s o at stored b none e h =
       };
       inputs = h.inputs;
       items = h.items;
-      untracked = h.untracked;
       lines = h.lines;
       marks = h.marks;
     }
@@ -533,7 +576,6 @@ kept_done s o ok at numbers stored b e n h =
       };
       inputs = h.inputs;
       items = h.items;
-      untracked = h.untracked;
       lines = h.lines;
       marks = h.marks;
     })
@@ -597,18 +639,11 @@ each_at_first outputs h k b =
     )
     (empty_output (get_or outputs k no_output) (h k no_output b).0 (h k no_output b).1)
 
-untracked_at_first : (inputs : List InSetup) → All (λ (x : InSetup). x.tracked ≡ false) inputs →
-    All (λ (x : Option ℕ). x ≡ None) (map most_undelivered inputs)
-untracked_at_first inputs h k d b =
-    let within : k < length inputs = omega (arith, length-map inputs most_undelivered) in
-    get_or-map most_undelivered inputs k no_input d within
-    ∙ ap (λ (t : Bool). if t then Some (get_or inputs k no_input).max_undelivered else None) (h k no_input within)
-
 -- a core in which nothing happened
 pub kept_first : (setup : CoreSetup) (raw : List Content) (made : List Bool) (bank : BankMemory)
-    (lanes : List (LaneState Offer)) (numbers : Numbers) (stored : List Entry) (counted : ℤ) (ended : List Bool) →
-    length setup.outputs ≤ 16 → All (λ (x : InSetup). x.tracked ≡ false) setup.inputs
-    → All (λ (x : OutSetup). (1 ≤ x.batch) × (x.batch ≤ x.limit)) setup.outputs →
+    (lanes : List (LaneState Offer)) (numbers : Numbers) (stored : List Entry) (counted : ℤ) (ended : List Bool)
+    (groups : List (Option ℕ)) (tracker : TrackerState) (marked : List (LaneState (Option ℕ)))
+    (told : List (List Report)) → length setup.outputs ≤ 16 → All (λ (x : OutSetup). (1 ≤ x.batch) × (x.batch ≤ x.limit)) setup.outputs →
     raw ≡ [] → made ≡ [] → lines_of bank ≡ setup.aggs → lanes ≡ map lane_of setup.outputs → numbers ≡ no_numbers
     (map is_tracked setup.inputs)
     (length setup.outputs) → ended ≡ replicate (length setup.inputs) false →
@@ -618,8 +653,12 @@ pub kept_first : (setup : CoreSetup) (raw : List Content) (made : List Bool) (ba
       taken = 0;
       held = None;
       made = made;
+      groups = groups;
+      tracker = tracker;
       bank = bank;
       lanes = lanes;
+      marked = marked;
+      told = told;
       numbers = numbers;
       stored = stored;
       gathered = 0;
@@ -627,7 +666,7 @@ pub kept_first : (setup : CoreSetup) (raw : List Content) (made : List Bool) (ba
       ended = ended;
       stopped = false;
     })
-kept_first setup raw made bank lanes numbers stored counted ended few untracked sized r m same l n e =
+kept_first setup raw made bank lanes numbers stored counted ended groups tracker marked told few sized r m same l n e =
     rw (r, m, l, n, e)
     (record {
       outputs = record {
@@ -642,25 +681,9 @@ kept_first setup raw made bank lanes numbers stored counted ended few untracked 
         ended_count = length-replicate (length setup.inputs) false ∙ sym (length-map setup.inputs most_undelivered);
       };
       items = record { come = refl; few = omega arith; few_gathered = omega arith; gone = refl };
-      untracked = untracked_at_first setup.inputs untracked;
       lines = same;
       marks = refl;
     })
-
-pub kept_gathered : (s : CoreState) (g : Gathered) (raw : List Content) (made : List Bool) (numbers : Numbers)
-    (gathered : ℕ) (stored : List Entry) → IsCore s → HasNumbers s g → HasItems s g →
-    raw ≡ s.raw ++ g.metrics → made ≡ s.made ++ replicate (length g.metrics) false → numbers ≡
-    (after_gather s g).numbers → gathered ≡ s.gathered + length g.metrics
-    → IsCore (record s {
-      raw =
-          raw;
-      made = made;
-      numbers = numbers;
-      gathered = gathered;
-      stored = stored;
-    })
-kept_gathered s g raw made numbers gathered stored h few items r m n e =
-    rw (r, m, n, e) (kept_gather s g stored h few items)
 
 -- a batch that is begun is in flight
 pub flies : (s : CoreState) (o : ℕ) (at : LaneState Offer) → IsCore s → o < length s.setup.outputs →

@@ -14,7 +14,7 @@ use Rattle.account.specs.declared.entry.Entry.{Entry}
 use Rattle.account.proofs.OriginLemmas.{origins-match, origins-push}
 use Rattle.pipeline_core.specs.Legal.{IsLegal}
 use Rattle.pipeline_core.proofs.JournalPush.{taken-push, few_taken}
-use Rattle.pipeline_core.proofs.StandsSteps.{differs}
+use Rattle.pipeline_core.proofs.Keeping.{differs}
 
 skip : (p : Origin → Bool) (b : Bool) (x : Origin) (xs : List Origin) → cond b (x ∷ filter p xs) (filter p xs) ≡ []
     → filter p xs ≡ []

@@ -23,7 +23,7 @@ use Rattle.pipeline_core.specs.Stands.{Stands}
 use Rattle.pipeline_core.specs.Steps.{IsBatchOf}
 use Rattle.pipeline_core.specs.declared.batches.Batch.{Batch}
 use Rattle.pipeline_core.proofs.JournalPush.{offers-push}
-use Rattle.pipeline_core.proofs.StandsSteps.{same_number}
+use Rattle.pipeline_core.proofs.Keeping.{same_number}
 use Rattle.pipeline_core.specs.Sent.{BatchSays, views_in, begun_after, batches_by, batches_from, batches, IsPart}
 use Rattle.pipeline_core.specs.Sent.{AreSent, Sent}
 

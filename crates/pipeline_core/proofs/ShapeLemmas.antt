@@ -15,6 +15,7 @@ use Rattle.agg_bank.specs.Verdicts.{consumes, sees, verdict_on}
 use Rattle.account.specs.declared.entry.Verdict.TheVariants as verdicts
 use Rattle.pipeline_core.specs.Shapes.{EntriesHaveShape}
 use Rattle.pipeline_core.specs.Steps.{gather_entry, route_entry, tick_entry, stop_entry, done_entry}
+use Rattle.pipeline_core.specs.Steps.{done_reports, gather_reports, group_for, route_reports}
 use Rattle.pipeline_core.specs.Windows.{NothingAggregates, RemovedHasNoWhole, HasNoAggs, bank_events, verdict_of}
 use Rattle.pipeline_core.specs.Windows.{judged}
 use Rattle.pipeline_core.specs.Windows.{made_by_stop, made_by_tick}
@@ -22,11 +23,11 @@ use Rattle.pipeline_core.specs.Windows.{made_by_stop, made_by_tick}
 pub entries-have-shape : EntriesHaveShape
 unfolding gather_entry route_entry tick_entry stop_entry done_entry
 entries-have-shape = record {
-  gathers = λ state g. (None, [], refl);
-  routes = λ r verdict. (verdict, [], refl);
+  gathers = λ state g. (group_for state g.input, gather_reports state g, refl);
+  routes = λ state r verdict. (verdict, route_reports state r verdict, refl);
   ticks = λ state moment metrics. (metrics, refl);
   stops = λ state moment metrics. (metrics, refl);
-  dones = λ state output ok. ([], refl);
+  dones = λ state output ok. (done_reports state output ok, refl);
 }
 
 -- no verdict on an item with a whole says that it was removed

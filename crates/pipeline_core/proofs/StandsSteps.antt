@@ -1,5 +1,5 @@
 -- A core that stands for a journal stands for it with the call's entry more.
-use Rattle.std.proofs.Common.{◌≡◌, ◌≢◌, ◌<◌, ◌≤◌, ◌≤ℤ◌, ◌⊎◌, ℕ, zero, suc, ℤ, ◌+◌, ◌==◌, Bool, true, false, ◌||◌, List}
+use Rattle.std.proofs.Common.{◌≡◌, ◌<◌, ◌≤◌, ◌≤ℤ◌, ◌⊎◌, ℕ, zero, suc, ℤ, ◌+◌, ◌==◌, Bool, true, false, ◌||◌, List}
 use Rattle.std.proofs.Common.{[], ◌∷◌, ◌++◌, length, drop, inl, inr, refl, sym, ap, ◌∙◌, subst, arith}
 use Rattle.std.proofs.Common.{append-nil, length-drop, map, replicate, set, get_or, if◌then◌else◌}
 use Rattle.std.proofs.Math.Bool.{or-false}
@@ -14,57 +14,47 @@ use Rattle.std.specs.declared.option.Option.TheVariants.{Some, None}
 use Rattle.metric.specs.declared.metric.Content.{Content}
 use Rattle.account.specs.Setup.{Setup}
 use Rattle.account.specs.Items.{items, taken}
-use Rattle.account.specs.Says.{GatherSays, gather_of, reports_of}
-use Rattle.account.specs.Origins.{group_inputs_said, made, Origin}
+use Rattle.account.specs.Origins.{made, Origin}
 use Rattle.agg_bank.specs.Bank.{BankMemory, BankStands}
 use Rattle.agg_bank.specs.Events as events
-use Rattle.account.specs.Numbers.{Numbers, unread_input, gathered_more}
+use Rattle.account.specs.Numbers.{Numbers, unread_input}
 use Rattle.account.specs.declared.numbers.InputNumbers.{InputNumbers}
 use Rattle.account.specs.declared.entry.Entry.{Entry}
 use Rattle.account.specs.declared.entry.Entry.TheVariants.{Ended, Take, Tick, Stop}
 use Rattle.pipeline_core.specs.Fates.{Fate}
 use Rattle.pipeline_core.specs.Offers.{offered_by, lane_events_by}
-use Rattle.pipeline_core.specs.Legal.{counted_from, has_ended}
-use Rattle.pipeline_core.specs.Totals.{totals, reported_with, gathered_with, gathers_too, group_count, input_with}
+use Rattle.pipeline_core.specs.Legal.{counted_from, has_ended, MeetsLine}
+use Rattle.pipeline_core.specs.Totals.{totals, reported_with, input_with}
 use Rattle.pipeline_core.specs.Totals.{made_by, removed_by, routed_by}
-use Rattle.pipeline_core.specs.Groups.{reports_at}
 use Rattle.pipeline_core.specs.Windows.{bank_events, made_by_stop, made_by_tick}
-use Rattle.pipeline_core.specs.CoreState.{CoreState, IsCore, sizes_at}
-use Rattle.pipeline_core.specs.Stands.{was_made, Stands, Continues}
-use Rattle.pipeline_core.specs.Steps.{after_gather, after_ended, after_take, after_tick, after_stop, gather_entry}
+use Rattle.pipeline_core.specs.CoreState.{CoreState, GroupsAgree, sizes_at}
+use Rattle.pipeline_core.specs.Stands.{group_in, was_made, Stands, Continues}
+use Rattle.pipeline_core.specs.Steps.{after_ended, after_take, after_tick, after_stop}
 use Rattle.pipeline_core.specs.Steps.{tick_entry, stop_entry, moment_at}
-use Rattle.pipeline_core.specs.Steps.{HasNumbers, HasRawRoom}
-use Rattle.pipeline_core.specs.declared.gathering.Gathered.{Gathered}
-use Rattle.std.proofs.lemmas.Bool.Decides.{nat_tests}
 use Rattle.std.proofs.lemmas.Int.{ints}
-use Rattle.pipeline_core.proofs.GroupLemmas.{nothing_settles}
-use Rattle.pipeline_core.proofs.Keeping.{full}
+use Rattle.pipeline_core.proofs.GroupStanding.{quiet_lets, stays_silent, stays_tracker}
+use Rattle.pipeline_core.proofs.Keeping.{differs, same_number}
 use Rattle.pipeline_core.proofs.FateCounts.{kept_out}
 use Rattle.pipeline_core.proofs.TotalPush.{inputs-same, inputs-set, outputs-same}
 use Rattle.pipeline_core.proofs.OutputPush.{output_stays, totals-push}
-use Rattle.pipeline_core.proofs.Standing.{stands_grows, lanes_stay, ended_stays, bank_stays}
+use Rattle.pipeline_core.proofs.Standing.{stands_grows, lanes_stay, ended_stays, bank_stays, groups_stay, marks_stay}
+use Rattle.pipeline_core.proofs.Standing.{told_stays}
 
 pub nil_of_length : {X : Type 0} (xs : List X) → length xs ≡ 0 → xs ≡ []
 nil_of_length [] h = refl
 nil_of_length (x ∷ xs) h = absurd (omega (arith, h))
 
-pub differs : (m n : ℕ) → m ≢ n → (m == n) ≡ false
-differs m n h = grind (arith, nat_tests)
-
-pub same_number : (n : ℕ) → (n == n) ≡ true
-same_number n = full n n refl
-
 or_true : (b : Bool) → (b || true) ≡ true
 or_true true = refl
 or_true false = refl
 
-some_same : (a b : Bool) → Some a ≡ Some b → a ≡ b
+pub some_same : (a b : Bool) → Some a ≡ Some b → a ≡ b
 some_same a b h = cc
 
 below_max : (a b : ℤ) → b ≤ℤ int_max a b
 below_max a b = grind (arith, ints)
 
-placed_raw : (raw : List Content) (n : ℕ) → (length raw ≡ 0) ⊎ (length raw + n ≤ 10000) →
+pub placed_raw : (raw : List Content) (n : ℕ) → (length raw ≡ 0) ⊎ (length raw + n ≤ 10000) →
     (raw ≡ []) ⊎ (length raw + n ≤ 10000)
 placed_raw raw n (inl h) = inl (nil_of_length raw h)
 placed_raw raw n (inr h) = inr h
@@ -73,21 +63,6 @@ placed_raw raw n (inr h) = inr h
 pub nothing_reported : (input : ℕ) (x : InputNumbers) → reported_with input x [] ≡ x
 unfolding reported_with
 nothing_reported input x = refl
-
--- an entry that begins no group, and by which none settles
-pub settles_none : (s : CoreState) (journal : List Entry) (e : Entry) → IsCore s → Stands s journal →
-    group_inputs_said (gather_of e) ≡ [] → reports_of e ≡ [] → reports_of e ≡ reports_at s.setup journal e
-settles_none s journal e core h none quiet =
-    quiet ∙ sym (nothing_settles s.setup journal e core.untracked h.legal none)
-
--- an input's numbers with those of a Gather that has no group
-ungrouped_more : (x : InputNumbers) (says : GatherSays) → says.group ≡ None
-    → gathers_too x says ≡ gathered_more x says.pieces says.refused says.passed says.filtered (length says.metrics)
-ungrouped_more x says none =
-    ap (λ (n : ℕ). record (gathered_more x says.pieces says.refused says.passed says.filtered (length says.metrics))
-    { undelivered = n })
-    (ap (λ (group : Option ℕ). x.undelivered + group_count group) none
-    ∙ (let e : x.undelivered + 0 ≡ x.undelivered = omega arith in e))
 
 -- an entry that does nothing at the outputs
 pub outputs_stay : (setup : Setup) (journal : List Entry) (e : Entry) → ((o : ℕ) → lane_events_by o e ≡ []) →
@@ -113,28 +88,31 @@ totals_stay s journal e more h none l v k made removed routed =
     (inputs_stay s journal e h none) made (omega (arith, removed)) (omega (arith, routed))
     (ap (λ (n : Numbers). n.outputs) h.numbers ∙ sym (outputs_stay s.setup journal e l v k))
 
-pub stands_take : (s : CoreState) → IsCore s → s.held ≡ None → 0 < length s.raw →
+pub stands_take : (s : CoreState) → GroupsAgree s → s.held ≡ None → 0 < length s.raw →
     Continues s (after_take s) (Take s.taken)
-stands_take s core none some journal h =
+stands_take s agree none some journal h =
     let e : Entry = Take s.taken in
+    let line : MeetsLine s.setup journal e = record {
+      empty_handed = sym h.held ∙ none;
+      first = h.taken_is;
+      raw = omega (arith, ap length h.raw, length-drop (taken journal) (items journal), h.taken_is);
+    } in
+    let lets = quiet_lets s.setup journal e h.legal line tt refl in
     stands_grows s (after_take s) journal e h
     (record {
-      meets = record {
-        line = record {
-          empty_handed = sym h.held
-              ∙ none;
-          first = h.taken_is;
-          raw = omega (arith, ap length h.raw, length-drop (taken journal) (items journal), h.taken_is);
-        };
-        reports = settles_none s journal e core h refl refl;
-      };
+      meets = record { line = line; reports = stays_silent s journal e agree h lets };
       raw = ap (drop 1) (sym (append-nil s.raw));
       taken_is = refl;
       held = refl;
       made = sym (append-nil s.made);
+      groups = groups_stay s.groups;
+      tracker = stays_tracker s journal e agree h lets;
       bank = bank_stays s journal h;
       lanes = lanes_stay s journal h;
       lane_count = refl;
+      marked = marks_stay s journal e h line tt;
+      mark_count = refl;
+      told = λ i b. told_stays s i;
       numbers = totals_stay s journal e s.numbers.made h (λ i x. nothing_reported i x) (λ o. refl) (λ o. refl)
           (λ o t. refl) (omega arith) refl refl;
       stored = refl;
@@ -146,11 +124,15 @@ stands_take s core none some journal h =
     })
 
 -- the marks of items of one origin
-marks_of : (n : ℕ) (origin : Origin) → replicate n (was_made origin) ≡ map was_made (replicate n origin)
+pub marks_of : (n : ℕ) (origin : Origin) → replicate n (was_made origin) ≡ map was_made (replicate n origin)
 marks_of zero origin = refl
 marks_of (suc n) origin = ap (λ (marks : List Bool). was_made origin ∷ marks) (marks_of n origin)
 
-module _ (s : CoreState) (moment : ℤ) (metrics : List Content) (bank : BankMemory) (core : IsCore s)
+pub groups_of : (n : ℕ) (origin : Origin) → replicate n (group_in origin) ≡ map group_in (replicate n origin)
+groups_of zero origin = refl
+groups_of (suc n) origin = ap (λ (groups : List (Option ℕ)). group_in origin ∷ groups) (groups_of n origin)
+
+module _ (s : CoreState) (moment : ℤ) (metrics : List Content) (bank : BankMemory) (agree : GroupsAgree s)
     (going : s.stopped ≡ false) where
   -- the moment isn't below the last one counted
   later : (journal : List Entry) → Stands s journal → counted_from s.setup.start journal ≤ℤ moment_at s moment
@@ -164,19 +146,27 @@ module _ (s : CoreState) (moment : ℤ) (metrics : List Content) (bank : BankMem
   unfolding tick_entry
   stands_tick is keeps journal h =
       let e : Entry = Tick (moment_at s moment) metrics in
+      let line : MeetsLine s.setup journal e = record {
+        going = sym h.stopped ∙ going;
+        later = later journal h;
+        all_made = is journal h;
+      } in
+      let lets = quiet_lets s.setup journal e h.legal line tt refl in
       stands_grows s (after_tick s moment metrics bank) journal e h
       (record {
-        meets = record {
-          line = record { going = sym h.stopped ∙ going; later = later journal h; all_made = is journal h };
-          reports = settles_none s journal e core h refl refl;
-        };
+        meets = record { line = line; reports = stays_silent s journal e agree h lets };
         raw = refl;
         taken_is = omega arith;
         held = refl;
         made = ap (λ (marks : List Bool). s.made ++ marks) (marks_of (length metrics) made);
+        groups = ap (λ (groups : List (Option ℕ)). s.groups ++ groups) (groups_of (length metrics) made);
+        tracker = stays_tracker s journal e agree h lets;
         bank = keeps journal h;
         lanes = lanes_stay s journal h;
         lane_count = refl;
+        marked = marks_stay s journal e h line tt;
+        mark_count = refl;
+        told = λ i b. told_stays s i;
         numbers = totals_stay s journal e (s.numbers.made + length metrics) h (λ i x. nothing_reported i x)
             (λ o. refl) (λ o. refl) (λ o t. refl) refl refl refl;
         stored = refl;
@@ -195,19 +185,27 @@ module _ (s : CoreState) (moment : ℤ) (metrics : List Content) (bank : BankMem
   unfolding stop_entry
   stands_stop is keeps journal h =
       let e : Entry = Stop (moment_at s moment) metrics in
+      let line : MeetsLine s.setup journal e = record {
+        going = sym h.stopped ∙ going;
+        later = later journal h;
+        all_made = is journal h;
+      } in
+      let lets = quiet_lets s.setup journal e h.legal line tt refl in
       stands_grows s (after_stop s moment metrics bank) journal e h
       (record {
-        meets = record {
-          line = record { going = sym h.stopped ∙ going; later = later journal h; all_made = is journal h };
-          reports = settles_none s journal e core h refl refl;
-        };
+        meets = record { line = line; reports = stays_silent s journal e agree h lets };
         raw = refl;
         taken_is = omega arith;
         held = refl;
         made = ap (λ (marks : List Bool). s.made ++ marks) (marks_of (length metrics) made);
+        groups = ap (λ (groups : List (Option ℕ)). s.groups ++ groups) (groups_of (length metrics) made);
+        tracker = stays_tracker s journal e agree h lets;
         bank = keeps journal h;
         lanes = lanes_stay s journal h;
         lane_count = refl;
+        marked = marks_stay s journal e h line tt;
+        mark_count = refl;
+        told = λ i b. told_stays s i;
         numbers = totals_stay s journal e (s.numbers.made + length metrics) h (λ i x. nothing_reported i x)
             (λ o. refl) (λ o. refl) (λ o t. refl) refl refl refl;
         stored = refl;
@@ -244,33 +242,36 @@ ended_more s journal input reading h i b =
       ]
     ]
 
-pub stands_ended : (s : CoreState) (input : ℕ) → IsCore s → slice_get s.ended input ≡ Some false →
+pub stands_ended : (s : CoreState) (input : ℕ) → GroupsAgree s → slice_get s.ended input ≡ Some false →
     s.stopped ≡ false → Continues s (after_ended s input) (Ended input)
-stands_ended s input core reading going journal h =
+stands_ended s input agree reading going journal h =
     let e : Entry = Ended input in
     let n : input < length s.setup.inputs = omega (
       arith,
       slice_get_within s.ended input false reading,
       h.ended_count,
     ) in
+    let line : MeetsLine s.setup journal e = record {
+      known = n;
+      going = sym h.stopped ∙ going;
+      reading = some_same (has_ended input journal) false (sym (h.ended input n) ∙ reading);
+    } in
+    let lets = quiet_lets s.setup journal e h.legal line tt refl in
     stands_grows s (after_ended s input) journal e h
     (record {
-      meets = record {
-        line = record {
-          known = n;
-          going = sym h.stopped
-              ∙ going;
-          reading = some_same (has_ended input journal) false (sym (h.ended input n) ∙ reading);
-        };
-        reports = settles_none s journal e core h refl refl;
-      };
+      meets = record { line = line; reports = stays_silent s journal e agree h lets };
       raw = sym (append-nil s.raw);
       taken_is = omega arith;
       held = refl;
       made = sym (append-nil s.made);
+      groups = groups_stay s.groups;
+      tracker = stays_tracker s journal e agree h lets;
       bank = bank_stays s journal h;
       lanes = lanes_stay s journal h;
       lane_count = refl;
+      marked = marks_stay s journal e h line tt;
+      mark_count = refl;
+      told = λ i b. told_stays s i;
       numbers = totals-push s.setup journal e s.numbers (after_ended s input).numbers h.numbers
           (ap (λ (m : Numbers). set m.inputs input (record (get_or m.inputs input (unread_input false))
           { has_ended = true })) h.numbers
@@ -295,109 +296,35 @@ stands_ended s input core reading going journal h =
       stopped = sym (or-false s.stopped);
     })
 
-pub stands_gather : (s : CoreState) (g : Gathered) → IsCore s → slice_get s.ended g.input ≡ Some false →
-    s.stopped ≡ false → HasNumbers s g → HasRawRoom s g → Continues s (after_gather s g) (gather_entry s g)
-unfolding gather_entry
-stands_gather s g core reading going few place journal h =
-    let e : Entry = gather_entry s g in
-    let says : GatherSays = record {
-      input = g.input;
-      moment = g.moment;
-      pieces = g.pieces;
-      refused =
-          g.refused;
-      passed = g.passed;
-      filtered = g.filtered;
-      metrics = g.metrics;
-      group = None;
-      reports = [];
-    } in
-    let n : g.input < length s.setup.inputs = omega (
-      arith,
-      slice_get_within s.ended g.input false reading,
-      h.ended_count,
-    ) in
-    let more : InputNumbers → InputNumbers = λ x. gathered_more x g.pieces g.refused g.passed g.filtered
-    (length g.metrics) in
-    let old : InputNumbers = get_or (totals s.setup journal).inputs g.input (unread_input false) in
-    stands_grows s (after_gather s g) journal e h
-    (record {
-      meets = record {
-        line = record {
-          most = None;
-          known = slice_get-get_or s.setup.inputs g.input None n ∙ ap Some (core.untracked g.input None n);
-          going = sym h.stopped ∙ going;
-          reading = some_same (has_ended g.input journal) false (sym (h.ended g.input n) ∙ reading);
-          fits = omega (arith, h.gathered, few);
-          room = subst (λ (xs : List Content). (xs ≡ []) ⊎ (length xs + length g.metrics ≤ 10000)) h.raw
-              (placed_raw s.raw (length g.metrics) place);
-          few = tt;
-          group = refl;
-        };
-        reports = settles_none s journal e core h refl refl;
-      };
-      raw = refl;
-      taken_is = omega arith;
-      held = refl;
-      made = ap (λ (marks : List Bool). s.made ++ marks) (marks_of (length g.metrics)
-          (record { input = Some g.input; group = None }));
-      bank = bank_stays s journal h;
-      lanes = lanes_stay s journal h;
-      lane_count = refl;
-      numbers = totals-push s.setup journal e s.numbers (after_gather s g).numbers h.numbers
-          (ap (λ (m : Numbers). set m.inputs g.input (more (get_or m.inputs g.input (unread_input false)))) h.numbers
-          ∙ sym (inputs-set s.setup journal e g.input (more old) n
-          (λ k x d. nothing_reported k (gathered_with k x (Some says))
-          ∙ ap (λ (t : Bool). if t then gathers_too x says else x) (differs g.input k (omega (arith, d))))
-          (nothing_reported g.input (gathered_with g.input old (Some says))
-          ∙ ap (λ (t : Bool). if t then gathers_too old says else old) (same_number g.input)
-          ∙ ungrouped_more old says refl)))
-          (omega arith) (omega arith) (omega arith)
-          (ap (λ (m : Numbers). m.outputs) h.numbers ∙ sym (outputs_stay s.setup journal e (λ o. refl) (λ o. refl)
-          (λ o t. refl)));
-      stored = refl;
-      gathered = refl;
-      counted = refl;
-      ended = ended_stays s journal h;
-      ended_count = refl;
-      stopped = sym (or-false s.stopped);
-    })
-
 -- the same of a core that is what the call makes of the old one
-by_step : (s n t : CoreState) (e : Entry) → n ≡ t → Continues s t e → Continues s n e
+pub by_step : (s n t : CoreState) (e : Entry) → n ≡ t → Continues s t e → Continues s n e
 by_step s n t e q h = subst (λ (m : CoreState). Continues s m e) (sym q) h
 
-pub take_stands : (s n : CoreState) → n ≡ after_take s → IsCore s → s.held ≡ None → 0 < length s.raw →
+pub take_stands : (s n : CoreState) → n ≡ after_take s → GroupsAgree s → s.held ≡ None → 0 < length s.raw →
     Continues s n (Take s.taken)
-take_stands s n q core none some = by_step s n (after_take s) (Take s.taken) q (stands_take s core none some)
+take_stands s n q agree none some = by_step s n (after_take s) (Take s.taken) q (stands_take s agree none some)
 
-pub ended_stands : (s n : CoreState) (input : ℕ) → n ≡ after_ended s input → IsCore s →
+pub ended_stands : (s n : CoreState) (input : ℕ) → n ≡ after_ended s input → GroupsAgree s →
     slice_get s.ended input ≡ Some false → s.stopped ≡ false → Continues s n (Ended input)
-ended_stands s n input q core reading going =
-    by_step s n (after_ended s input) (Ended input) q (stands_ended s input core reading going)
-
-pub gather_stands : (s n : CoreState) (g : Gathered) → n ≡ after_gather s g → IsCore s →
-    slice_get s.ended g.input ≡ Some false → s.stopped ≡ false → HasNumbers s g → HasRawRoom s g →
-    Continues s n (gather_entry s g)
-gather_stands s n g q core reading going few place =
-    by_step s n (after_gather s g) (gather_entry s g) q (stands_gather s g core reading going few place)
+ended_stands s n input q agree reading going =
+    by_step s n (after_ended s input) (Ended input) q (stands_ended s input agree reading going)
 
 pub tick_stands : (s n : CoreState) (moment : ℤ) (metrics : List Content) → n ≡ after_tick s moment metrics n.bank
-    → IsCore s → s.stopped ≡ false
+    → GroupsAgree s → s.stopped ≡ false
     → ((journal : List Entry) → Stands s journal → metrics ≡ made_by_tick s.setup journal (moment_at s moment))
     → ((journal : List Entry) → Stands s journal → BankStands s.setup.aggs s.setup.start
     (bank_events journal ++ events.Tick (moment_at s moment) ∷ []) n.bank)
     → Continues s n (tick_entry s moment metrics)
-tick_stands s n moment metrics q core going is keeps =
+tick_stands s n moment metrics q agree going is keeps =
     by_step s n (after_tick s moment metrics n.bank) (tick_entry s moment metrics) q
-    (stands_tick s moment metrics n.bank core going is keeps)
+    (stands_tick s moment metrics n.bank agree going is keeps)
 
 pub stop_stands : (s n : CoreState) (moment : ℤ) (metrics : List Content) → n ≡ after_stop s moment metrics n.bank
-    → IsCore s → s.stopped ≡ false
+    → GroupsAgree s → s.stopped ≡ false
     → ((journal : List Entry) → Stands s journal → metrics ≡ made_by_stop s.setup journal (moment_at s moment))
     → ((journal : List Entry) → Stands s journal → BankStands s.setup.aggs s.setup.start
     (bank_events journal ++ events.Stop (moment_at s moment) ∷ []) n.bank)
     → Continues s n (stop_entry s moment metrics)
-stop_stands s n moment metrics q core going is keeps =
+stop_stands s n moment metrics q agree going is keeps =
     by_step s n (after_stop s moment metrics n.bank) (stop_entry s moment metrics) q
-    (stands_stop s moment metrics n.bank core going is keeps)
+    (stands_stop s moment metrics n.bank agree going is keeps)

@@ -49,7 +49,7 @@ pub length-inputs : (setup : Setup) (journal : List Entry) →
     length (totals setup journal).inputs ≡ length setup.inputs
 length-inputs setup journal = length-map _ _ ∙ length-enumerate_from 0 setup.inputs
 
-inputs-push : (setup : Setup) (journal : List Entry) (e : Entry) (i : ℕ) → i < length setup.inputs →
+pub inputs-push : (setup : Setup) (journal : List Entry) (e : Entry) (i : ℕ) → i < length setup.inputs →
     get_or (totals setup (journal ++ e ∷ [])).inputs i (unread_input false) ≡ input_with i
     (get_or (totals setup journal).inputs i (unread_input false)) e
 inputs-push setup journal e i b =

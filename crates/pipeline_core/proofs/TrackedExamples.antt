@@ -1,7 +1,7 @@
 -- A journal of an input that isn't tracked and of one that is, with two outputs: that it is legal, what was counted
 -- behind each of its entries, and that a group more than the input may have is held. What is expected is written from
 -- the meanings: the reports stand in the entries, and the numbers below.
-use Rattle.std.proofs.Common.{◌≡◌, ◌<◌, ◌≤◌, ℕ, ◌+◌, Bool, true, false, List, [], ◌∷◌, ◌++◌, refl, sym, subst, inr}
+use Rattle.std.proofs.Common.{◌≡◌, ◌<◌, ℕ, Bool, true, false, List, [], ◌∷◌, ◌++◌, refl, sym, subst, inr}
 use Rattle.std.proofs.Common.{arith}
 use Rattle.std.proofs.lemmas.Int.{ints}
 use Rattle.std.specs.Prelude.{pos, ◌≤ℤ◌, IfSome}
@@ -13,21 +13,20 @@ use Rattle.account.specs.Items.{items, taken, routes, in_hand_from}
 use Rattle.account.specs.Numbers.{Numbers, unread_input, unreached_output}
 use Rattle.account.specs.Origins.{origins, group_inputs}
 use Rattle.account.specs.declared.entry.Entry.{Entry}
-use Rattle.account.specs.declared.entry.Entry.TheVariants.{Gather, Ended, Take, Route, Stop, Begin, Done}
+use Rattle.account.specs.declared.entry.Entry.TheVariants.{Gather, Ended, Take, Stop, Begin, Done}
 use Rattle.account.specs.declared.entry.Report.{Report}
-use Rattle.account.specs.declared.entry.Verdict.TheVariants.{Passes}
 use Rattle.account.specs.declared.numbers.InputNumbers.{InputNumbers}
 use Rattle.account.specs.declared.numbers.OutputNumbers.{OutputNumbers}
 use Rattle.out_lane.specs.LaneEvents.{ranges_from, accepted_from}
 use Rattle.pipeline_core.specs.Offers.{offers, lane_events}
 use Rattle.pipeline_core.specs.Fates.{fates_from}
 use Rattle.pipeline_core.specs.Groups.{live_count, reports_at}
-use Rattle.pipeline_core.specs.Legal.{Meets, AreLegal, IsLegal, has_stop, has_ended, gathered_count, counted_from}
+use Rattle.pipeline_core.specs.Legal.{Meets, IsLegal, has_stop, has_ended, gathered_count, counted_from}
 use Rattle.pipeline_core.specs.Totals.{totals, total_by, input_total_from, reported_with}
 use Rattle.agg_bank.specs.Made.{made_from}
 use Rattle.pipeline_core.specs.Windows.{judged, made_by_stop}
 use Rattle.pipeline_core.proofs.JournalPush.{IsLegal-push}
-use Rattle.pipeline_core.proofs.GroupExamples.{both, first, each}
+use Rattle.pipeline_core.proofs.GroupExamples.{both, first, second, each, below, at_most, none_legal}
 
 -- an input that isn't tracked, and one that may have two live groups; an output with batches of one and room for one,
 -- and one with batches of two and room for two
@@ -41,10 +40,6 @@ group number metrics = Gather 1 (pos 0) 1 0 0 0 metrics (Some number) []
 -- what was told of a group
 abbrev pub told : ℕ → Bool → List Report
 told number delivered = record { group = number; input = 1; delivered = delivered } ∷ []
-
--- an item goes to the second output
-abbrev pub second : Content → ℕ → List Report → Entry
-second m item reports = Route item (Some m) Passes [] (None ∷ Some m ∷ []) reports
 
 -- The first entries: item 0 is of no group, item 1 is group 0, and items 2 and 3 are group 1.
 abbrev pub front : Content → List Entry
@@ -81,26 +76,15 @@ back m =
 abbrev pub journal : Content → List Entry
 journal m = front m ++ back m
 
-below : (a more : ℕ) → a < a + 1 + more
-below a more = omega arith
-
-at_most : (a more : ℕ) → a ≤ a + more
-at_most a more = omega arith
-
 at_last : pos 0 ≤ℤ pos 7
 at_last = grind (arith, ints)
-
--- nothing happened
-none_legal : IsLegal setup []
-unfolding AreLegal
-none_legal = tt
 
 -- the journal is legal, entry by entry
 pub legal : (m : Content) → IsLegal setup (journal m)
 unfolding reports_at origins items taken routes in_hand_from group_inputs offers lane_events fates_from ranges_from
     accepted_from has_stop has_ended gathered_count counted_from judged made_by_stop made_from
 legal m =
-    let l1 = IsLegal-push setup [] (Gather 0 (pos 0) 5 1 2 3 (m ∷ []) None []) none_legal
+    let l1 = IsLegal-push setup [] (Gather 0 (pos 0) 5 1 2 3 (m ∷ []) None []) (none_legal setup)
     (record {
       line = record {
         most = None;

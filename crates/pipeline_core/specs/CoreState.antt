@@ -1,6 +1,6 @@
 -- What a core keeps, as contracts see it.
 use Rattle.std.specs.Prelude.{◌≡◌, ◌<◌, ◌≤◌, ℕ, ℤ, ◌+◌, ◌^◌, Bool, false, is_some, List, [], map, length}
-use Rattle.std.specs.Prelude.{replicate, slice_index_or, All, if◌then◌else◌}
+use Rattle.std.specs.Prelude.{replicate, slice_index_or, if◌then◌else◌}
 use Rattle.std.specs.List.{sum_by}
 use Rattle.std.specs.declared.option.Option.{Option}
 use Rattle.std.specs.declared.option.Option.TheVariants.{Some, None}
@@ -10,8 +10,11 @@ use Rattle.account.specs.Numbers.{Numbers, no_numbers, sum_of_fates, unreached_o
 use Rattle.account.specs.declared.numbers.InputNumbers.{InputNumbers}
 use Rattle.account.specs.declared.numbers.OutputNumbers.{OutputNumbers}
 use Rattle.account.specs.declared.entry.Entry.{Entry}
+use Rattle.account.specs.declared.entry.Report.{Report}
 use Rattle.agg_bank.specs.Bank.{lines_of, BankMemory}
 use Rattle.out_lane.specs.Lane.{LaneState, empty_lane, flying}
+use Rattle.track_groups.specs.Tracker.{TrackerState, IsTracker, new_tracker}
+use Rattle.pipeline_core.specs.Tracked.{most_live, is_tracking}
 use Rattle.pipeline_core.specs.declared.output.Offer.{Offer}
 use Rattle.pipeline_core.specs.declared.setup.CoreSetup.{CoreSetup}
 use Rattle.pipeline_core.specs.declared.setup.InSetup.{InSetup}
@@ -27,10 +30,18 @@ pub record CoreState : Type 0 where
   pub held : Option ℕ
   -- of each item without a Route, the one in hand and the raw ones, whether it was made
   pub made : List Bool
+  -- and its group, where the input that gathered it is tracked
+  pub groups : List (Option ℕ)
+  -- the groups that are live
+  pub tracker : TrackerState
   -- what the aggregators keep
   pub bank : BankMemory
   -- what waits at each output, and its batch in flight
   pub lanes : List (LaneState Offer)
+  -- where an input is tracked, at each output the groups of these
+  pub marked : List (LaneState (Option ℕ))
+  -- of each input the reports that weren't handed out yet, oldest first
+  pub told : List (List Report)
   pub numbers : Numbers
   -- the entries since the last cut
   pub stored : List Entry
@@ -67,6 +78,14 @@ setup_of setup = record {
 abbrev pub lane_of : OutSetup → LaneState Offer
 lane_of output = empty_lane output.batch output.limit
 
+-- an output at which no group waits
+abbrev pub marked_of : OutSetup → LaneState (Option ℕ)
+marked_of output = empty_lane output.batch output.limit
+
+-- a tracker for the inputs of a set-up
+abbrev pub first_tracker : Setup → TrackerState
+first_tracker setup = new_tracker (map most_live setup.inputs)
+
 -- nothing happened yet
 abbrev pub first_state : CoreSetup → BankMemory → CoreState
 first_state setup bank = record {
@@ -75,8 +94,12 @@ first_state setup bank = record {
   taken = 0;
   held = None;
   made = [];
+  groups = [];
+  tracker = first_tracker (setup_of setup);
   bank = bank;
   lanes = map lane_of setup.outputs;
+  marked = if is_tracking (setup_of setup) then map marked_of setup.outputs else [];
+  told = replicate (length setup.inputs) [];
   numbers = no_numbers (map is_tracked setup.inputs) (length setup.outputs);
   stored = [];
   gathered = 0;
@@ -88,6 +111,14 @@ first_state setup bank = record {
 -- an output's lane
 abbrev pub lane_at : List (LaneState Offer) → ℕ → LaneState Offer
 lane_at lanes output = slice_index_or lanes output (empty_lane 0 0)
+
+-- the groups at an output
+abbrev pub marked_at : List (LaneState (Option ℕ)) → ℕ → LaneState (Option ℕ)
+marked_at marked output = slice_index_or marked output (empty_lane 0 0)
+
+-- the reports of an input that weren't handed out yet
+abbrev pub told_at : List (List Report) → ℕ → List Report
+told_at told input = slice_index_or told input []
 
 -- an output's sizes
 abbrev pub sizes_at : Setup → ℕ → ℕ × ℕ
@@ -142,10 +173,6 @@ pub record ItemsAgree (raw taken held gathered made removed routed : ℕ) : Type
   pub few_gathered : gathered < 2 ^ 32
   pub gone : removed + routed + held ≡ taken
 
--- no input is tracked
-abbrev pub IsUntracked : Setup → Type 0
-IsUntracked setup = All (λ x. x ≡ None) setup.inputs
-
 -- what a core keeps agrees
 pub record IsCore (state : CoreState) : Type 0 where
   pub outputs :
@@ -154,7 +181,15 @@ pub record IsCore (state : CoreState) : Type 0 where
   pub items :
       ItemsAgree (length state.raw) state.taken (held_count state.held) state.gathered state.numbers.made
       state.numbers.removed state.numbers.routed
-  pub untracked : IsUntracked state.setup
   -- the aggregators are those of the set-up, and each item without a Route is known as gathered or made
   pub lines : lines_of state.bank ≡ state.setup.aggs
   pub marks : length state.made ≡ held_count state.held + length state.raw
+
+-- the group of each item without a Route is known, the tracker is one of the set-up's inputs, which have begun few
+-- enough groups, and each of them has a list of reports
+pub record GroupsAgree (state : CoreState) : Type 0 where
+  pub known : length state.groups ≡ length state.made
+  pub tracks : IsTracker state.tracker
+  pub limits : state.tracker.limits ≡ map most_live state.setup.inputs
+  pub few : state.tracker.started ≤ 2 ^ 63
+  pub told_count : length state.told ≡ length state.setup.inputs

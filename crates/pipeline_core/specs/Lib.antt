@@ -1,6 +1,9 @@
 pub mod Offers
 pub mod Fates
 pub mod Groups
+pub mod GroupLaws
+pub mod Tracked
+pub mod Letting
 pub mod Windows
 pub mod Legal
 pub mod Totals
@@ -8,6 +11,8 @@ pub mod CoreState
 pub mod CoreView
 pub mod OutputView
 pub mod Steps
+pub mod ToldView
+pub mod MarkedView
 pub mod Shapes
 pub mod Stands
 pub mod Moments

@@ -32,7 +32,7 @@ IsDoneEntry output ok e = (reports : List Report) × (e ≡ entries.Done output 
 -- each call's entry has its shape
 pub record EntriesHaveShape : Type 0 where
   pub gathers : (state : CoreState) (g : Gathered) → IsGatherEntry g (gather_entry state g)
-  pub routes : (r : Routed) (verdict : Verdict) → IsRouteEntry r (route_entry r verdict)
+  pub routes : (state : CoreState) (r : Routed) (verdict : Verdict) → IsRouteEntry r (route_entry state r verdict)
   pub ticks : (state : CoreState) (moment : ℤ) (metrics : List Content) →
       IsTickEntry (moment_at state moment) (tick_entry state moment metrics)
   pub stops : (state : CoreState) (moment : ℤ) (metrics : List Content) →

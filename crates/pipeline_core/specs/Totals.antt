@@ -1,11 +1,11 @@
 -- The numbers of a journal.
-use Rattle.std.specs.Prelude.{ℕ, ◌+◌, ◌-◌, ◌==◌, Bool, true, false, is_some, List, [], ◌∷◌, length, map, count_by}
+use Rattle.std.specs.Prelude.{ℕ, ◌+◌, ◌==◌, Bool, true, false, is_some, List, [], ◌∷◌, length, map, count_by}
 use Rattle.std.specs.Prelude.{if◌then◌else◌}
 use Rattle.std.specs.List.{enumerate_from}
 use Rattle.std.specs.declared.option.Option.{Option}
 use Rattle.std.specs.declared.option.Option.TheVariants.{Some, None}
 use Rattle.account.specs.Setup.{Setup}
-use Rattle.account.specs.Numbers.{Numbers, gathered_more, unread_input}
+use Rattle.account.specs.Numbers.{Numbers, gathered_more, settled_more, unread_input}
 use Rattle.account.specs.declared.numbers.InputNumbers.{InputNumbers}
 use Rattle.account.specs.declared.numbers.OutputNumbers.{OutputNumbers}
 use Rattle.account.specs.declared.entry.Entry.{Entry}
@@ -38,16 +38,11 @@ abbrev pub said_with : ℕ → InputNumbers → Entry → InputNumbers
 said_with input x (Ended number) = if number == input then record x { has_ended = true } else x
 said_with input x e = gathered_with input x (gather_of e)
 
--- one group of an input settled: it is delivered or rejected
-abbrev pub settled_with : InputNumbers → Bool → InputNumbers
-settled_with x true = record x { delivered = x.delivered + 1; undelivered = x.undelivered - 1 }
-settled_with x false = record x { rejected = x.rejected + 1; undelivered = x.undelivered - 1 }
-
 -- an input's numbers with the reports of its groups
 unfoldable pub reported_with : ℕ → InputNumbers → List Report → InputNumbers
 reported_with input x [] = x
 reported_with input x (report ∷ reports) =
-    reported_with input (if report.input == input then settled_with x report.delivered else x) reports
+    reported_with input (if report.input == input then settled_more x report.delivered else x) reports
 
 -- an input's numbers with those of an entry: what it says, and then its reports
 abbrev pub input_with : ℕ → InputNumbers → Entry → InputNumbers

@@ -1,15 +1,17 @@
 //! Batches of an output.
-ghost use Rattle.std.specs.Prelude.{◌≡◌, ◌<◌, ◌≤◌, ◌^◌, ◌↔◌, [], length, IfOk, OnOk, OnErr, IsSome};
+ghost use Rattle.std.specs.Prelude.{◌≡◌, ◌<◌, ◌≤◌, ◌^◌, ◌↔◌, [], length, vec_capacity, IfOk, OnOk, OnErr, IsSome};
 ghost use Rattle.account.specs.Numbers.{with_output, output_numbers, IsOutputBelow};
-ghost use Rattle.pipeline_core.specs.CoreState.{lane_at};
+ghost use Rattle.pipeline_core.specs.CoreState.{lane_at, sizes_at};
 ghost use Rattle.account.specs.declared.entry.Entry.TheVariants as entries;
 ghost use Rattle.pipeline_core.specs.Stands.{Continues};
 ghost use Rattle.pipeline_core.specs.Steps.{after_begin, after_done, done_entry, IsBatchOf, counted_done};
 
+use crate::marked::Leaving;
 use crate::room::make_room;
+use crate::settling::{begin_marks, leave, settle_all, tell};
 use crate::state::Core;
 use account::{Account, Entry};
-use fixed_num::Seq;
+use fixed_num::{OutOfMemory, Seq};
 use metric::Metric;
 
 /// A batch that was begun.
@@ -57,10 +59,14 @@ impl Core {
         let Ok(()) = make_room(&mut self.stored, self.outputs.len()) else {
             return Err(BeginAnswer::OutOfMemory);
         };
+        let Ok(room) = self.leaving_room(output) else {
+            return Err(BeginAnswer::OutOfMemory);
+        };
         let chosen = &mut self.outputs[output as usize];
         let Ok(batch) = chosen.begin(self.alloc) else {
             return Err(BeginAnswer::OutOfMemory);
         };
+        begin_marks(&mut self.marked, output as usize, room);
         self.stored.push_reserved(Entry::Begin {
             output,
             from: batch.from,
@@ -80,11 +86,33 @@ impl Core {
         let chosen = &mut self.outputs[output as usize];
         let count = chosen.done(ok);
         count_done(&mut self.account, output, ok, count);
+        let Leaving {
+            groups,
+            mut reports,
+        } = leave(&mut self.marked, self.alloc, output as usize, ok);
+        settle_all(&mut self.tracker, groups.as_slice(), !ok, &mut reports);
+        tell(&mut self.account, &mut self.told, reports.as_slice());
         self.stored.push_reserved(Entry::Done {
             output,
             ok,
-            reports: Seq::of(Vec::new(self.alloc)),
+            reports: Seq::of(reports),
         });
+    }
+
+    // Room for what leaves an output as its next batch ends; none where no input is tracked.
+    fn leaving_room(&self, output: u32) -> Result<Leaving, OutOfMemory>
+        requires { output < length self.now.setup.outputs }
+        ensures empty { IfOk result (λ room. (room.groups.items ≡ []) × (room.reports.items ≡ [])) }
+        ensures groups { IfOk result (λ room. output < length self.now.marked
+            → (sizes_at self.now.setup output).0 ≤ vec_capacity room.groups) }
+        ensures reports { IfOk result (λ room. output < length self.now.marked
+            → (sizes_at self.now.setup output).0 ≤ vec_capacity room.reports) }
+    {
+        if self.marked.is_empty() {
+            return Ok(Leaving::none(self.alloc));
+        }
+        let most = self.setup.outputs.as_slice()[output as usize].batch as usize;
+        Leaving::with_room(self.alloc, most)
     }
 }
 

@@ -1,4 +1,5 @@
 //! Laws of journals. The body of each function is empty; its contract is the law.
+ghost use Rattle.pipeline_core.specs.GroupLaws.{GroupTotals, ReportedOnce, SettledStays};
 ghost use Rattle.pipeline_core.specs.Laws.{UntrackedHasNoGroups};
 ghost use Rattle.pipeline_core.specs.Shapes.{EntriesHaveShape};
 ghost use Rattle.pipeline_core.specs.Sums.{FatesAddUp};
@@ -28,4 +29,21 @@ pub fn removed_has_no_whole()
 /// its reports.
 pub fn entries_have_shape()
     ensures { EntriesHaveShape }
+{}
+
+/// A group that has settled has no copies ever again.
+pub fn settled_stays()
+    ensures { SettledStays }
+{}
+
+/// Each group is reported at most once, not before its Gather, and exactly when it has settled; what is
+/// reported of it stays true.
+pub fn reported_once()
+    ensures { ReportedOnce }
+{}
+
+/// The numbers of a journal count the groups of each input: those that are live, and those that are
+/// delivered and rejected.
+pub fn groups_counted()
+    ensures { GroupTotals }
 {}

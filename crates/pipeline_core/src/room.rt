@@ -1,6 +1,7 @@
 //! Room for entries and copies of metrics.
 ghost use Rattle.std.specs.Prelude.{◌≡◌, ◌+◌, ◌++◌, ◌<◌, ◌≤◌, ◌^◌, length, replicate, vec_len, vec_capacity};
 ghost use Rattle.std.specs.Prelude.{IfOk, OnOk, OnErr};
+ghost use Rattle.std.specs.VecDeque.{deque_capacity, deque_len};
 ghost use Rattle.pipeline_core.specs.Offers.{offered_views};
 
 use crate::output::Offer;
@@ -10,6 +11,7 @@ use metric::Metric;
 use smallvec::SmallVec;
 use std::alloc::Global;
 use std::collections::VecDeque;
+use track_groups::GroupRef;
 
 /// Makes room for one entry more, and for one of each output.
 pub(crate) fn make_room(stored: &mut Vec<Entry>, outputs: usize) -> Result<(), OutOfMemory>
@@ -111,4 +113,18 @@ pub(crate) fn view_copies(alloc: Global, views: &[Option<Metric>]) -> Result<Vie
         copies.push(copy)?;
     }
     Ok(copies)
+}
+
+/// Lets so many items be of a group, or of none, for which there is room.
+pub(crate) fn mark_items(
+    groups: &mut VecDeque<Option<GroupRef>>,
+    group: &Option<GroupRef>,
+    count: usize,
+)
+    requires { deque_len groups.old + count ≤ deque_capacity groups.old }
+    ensures { groups.new.items ≡ groups.old.items ++ replicate count group.now }
+{
+    for _item in 0..count {
+        groups.push_back_reserved(*group);
+    }
 }

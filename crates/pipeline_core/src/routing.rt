@@ -1,7 +1,7 @@
 //! The item in hand goes to the outputs.
 ghost use Rattle.std.specs.Prelude.{◌≡◌, ℕ, ◌<◌, ◌≤◌, ◌+◌, ◌++◌, ◌^◌, [], List, true, false, length, map, slice_get};
 ghost use Rattle.std.specs.Prelude.{slice_set, None, Some};
-ghost use Rattle.std.specs.Prelude.{IfOk, OnOk, OnErr};
+ghost use Rattle.std.specs.Prelude.{IfOk, OnOk, OnErr, vec_capacity};
 ghost use Rattle.std.specs.List.{AllByRecursion};
 ghost use Rattle.account.specs.Numbers.{with_output, output_numbers};
 ghost use Rattle.pipeline_core.specs.CoreState.{lane_at};
@@ -18,8 +18,9 @@ ghost use Rattle.pipeline_core.specs.Steps.{consumed_more, late_more};
 
 use crate::output::{Offer, Output};
 use crate::room::{Views, make_room, view_copies};
+use crate::settling::{settle_routed, tell};
 use crate::state::Core;
-use account::{Account, Entry, Verdict};
+use account::{Account, Entry, Report, Verdict};
 use agg_bank::Bank;
 use fixed_num::{OutOfMemory, Seq};
 use metric::Metric;
@@ -50,24 +51,47 @@ impl Core {
         ensures verdict { (journal : List Entry) → Stands self.old journal
             → IfOk result (λ verdict. verdict ≡ judged self.old.setup journal r.whole r.aggs) }
         ensures ok { IfOk result (λ verdict. self.new ≡ after_route self.old r verdict self.new.bank) }
-        ensures stands { IfOk result (λ verdict. Continues self.old self.new (route_entry r verdict)) }
+        ensures stands { IfOk result (λ verdict. Continues self.old self.new (route_entry self.old r verdict)) }
         ensures err { OnErr result (IsAsBefore self.old self.new) }
     {
         let views = view_copies(self.alloc, r.outs.as_slice())?;
         make_room(&mut self.stored, self.outputs.len())?;
+        let mut reports = self.report_room()?;
         let verdict = judge(&mut self.bank, &r.whole, r.aggs.as_slice())?;
         self.held = None;
         self.made.pop_front();
+        let group = self.groups.pop_front().unwrap();
         hand_out(&mut self.outputs, &mut self.account, r.item, verdict, views);
+        settle_routed(
+            &mut self.tracker,
+            &mut self.marked,
+            &group,
+            verdict,
+            r.outs.as_slice(),
+            &mut reports,
+        );
+        tell(&mut self.account, &mut self.told, reports.as_slice());
         self.stored.push_reserved(Entry::Route {
             item: r.item,
             whole: r.whole,
             verdict,
             aggs: r.aggs,
             outs: r.outs,
-            reports: Seq::of(Vec::new(self.alloc)),
+            reports: Seq::of(reports),
         });
         Ok(verdict)
+    }
+
+    // Room for the reports of a Route: where groups are live, one at each output and one of the item's own group.
+    fn report_room(&self) -> Result<Vec<Report>, OutOfMemory>
+        ensures none { IfOk result (λ reports. reports.items ≡ []) }
+        ensures room { IfOk result (λ reports. 0 < length self.now.tracker.live
+            → length self.now.marked + 1 ≤ vec_capacity reports) }
+    {
+        if self.tracker.is_idle() {
+            return Ok(Vec::new(self.alloc));
+        }
+        Ok(Vec::with_capacity(self.alloc, self.marked.len() + 1)?)
     }
 }
 

@@ -1,19 +1,23 @@
 //! What a core keeps, and its entries.
 ghost use Rattle.std.specs.Prelude.{◌≡◌, ◌≤◌, ◌<◌, ◌+◌, [], length, map, true, false, IfOk, OnOk, OnErr, ◌↔◌};
-ghost use Rattle.std.specs.Prelude.{List, IsTrue, IsSome, slice_get};
-ghost use Rattle.std.specs.List.{All};
-ghost use Rattle.pipeline_core.specs.CoreState.{first_state, lane_of, lane_at, is_tracked};
+ghost use Rattle.std.specs.Prelude.{List, IsTrue, IsSome, slice_get, replicate, if◌then◌else◌};
+ghost use Rattle.std.specs.List.{All, list_any};
+ghost use Rattle.pipeline_core.specs.CoreState.{first_state, lane_of, lane_at, is_tracked, marked_of, told_at};
+ghost use Rattle.pipeline_core.specs.CoreState.{most_undelivered};
+ghost use Rattle.pipeline_core.specs.ToldView.{reports_in};
+ghost use Rattle.pipeline_core.specs.Tracked.{most_live, tracker_after};
 ghost use Rattle.account.specs.declared.entry.Entry.{Entry};
 ghost use Rattle.pipeline_core.specs.Stands.{Stands, Continues};
 ghost use Rattle.pipeline_core.specs.Totals.{totals};
 ghost use Rattle.account.specs.AggLines.{IsLine};
-ghost use Rattle.pipeline_core.specs.Steps.{after_cut};
+ghost use Rattle.pipeline_core.specs.Steps.{after_cut, after_told};
 ghost use Rattle.account.specs.Numbers.{output_numbers};
 
+use crate::marked::Marked;
 use crate::output::Output;
-use crate::room::make_room;
 use crate::setup::{CoreSetup, InSetup, OutSetup};
-use account::{Account, Entry};
+use crate::told::Told;
+use account::{Account, Entry, Report};
 use agg_bank::Bank;
 use fixed_num::{Moment, OutOfMemory};
 use metric::Metric;
@@ -21,6 +25,7 @@ use std::alloc::Global;
 use std::collections::VecDeque;
 use std::marker::Model;
 use std::mem;
+use track_groups::{GroupRef, Tracker};
 
 /// Why no entries came.
 #[derive(Clone, Copy, Debug, PartialEq, Eq)]
@@ -41,8 +46,13 @@ pub struct Core {
     pub(crate) taken: u64,
     pub(crate) held: Option<u64>,
     pub(crate) made: VecDeque<bool>,
+    pub(crate) groups: VecDeque<Option<GroupRef>>,
+    pub(crate) tracker: Tracker,
     pub(crate) bank: Bank,
     pub(crate) outputs: Vec<Output>,
+    // Empty where no input is tracked.
+    pub(crate) marked: Vec<Marked>,
+    pub(crate) told: Vec<Told>,
     pub(crate) account: Account,
     pub(crate) stored: Vec<Entry>,
     pub(crate) gathered: u32,
@@ -64,13 +74,13 @@ impl Model for Core {
 }
 
 impl Core {
-    /// Makes a core in which nothing happened. Its inputs aren't tracked.
+    /// Makes a core in which nothing happened.
     pub fn new(alloc: Global, setup: CoreSetup) -> Result<Core, OutOfMemory>
         requires inputs { length setup.inputs ≤ 16 }
         requires aggregators { length setup.aggs ≤ 16 }
         requires outputs { length setup.outputs ≤ 16 }
         requires lines { All IsLine setup.aggs }
-        requires untracked { All (λ x. x.tracked ≡ false) setup.inputs }
+        requires limits { All (λ x. x.tracked ≡ true → 1 ≤ x.max_undelivered) setup.inputs }
         requires sizes { All (λ x. (1 ≤ x.batch) × (x.batch ≤ x.limit)) setup.outputs }
         ensures ok { IfOk result (λ core. core ≡ first_state setup core.bank) }
         ensures stands { IfOk result (λ core. Stands core []) }
@@ -78,7 +88,12 @@ impl Core {
         let inputs = setup.inputs.as_slice().len();
         let ended = vec![in alloc; false; inputs]?;
         let tracked = tracked_flags(alloc, setup.inputs.as_slice())?;
+        let limits = group_limits(alloc, setup.inputs.as_slice())?;
+        let tracker = Tracker::new(alloc, limits.as_slice())?;
+        let told = empty_told(alloc, inputs)?;
         let outputs = empty_outputs(alloc, setup.outputs.as_slice())?;
+        let tracking = tracks_any(setup.inputs.as_slice());
+        let marked = empty_marked(alloc, tracking, setup.outputs.as_slice())?;
         let bank = Bank::new(alloc, setup.aggs.as_slice(), setup.start)?;
         let account = Account::new(alloc, tracked.as_slice(), outputs.len() as u32)?;
         let counted = setup.start;
@@ -89,8 +104,12 @@ impl Core {
             taken: 0,
             held: None,
             made: VecDeque::new(alloc),
+            groups: VecDeque::new(alloc),
+            tracker,
             bank,
             outputs,
+            marked,
+            told,
             account,
             stored: Vec::new(alloc),
             gathered: 0,
@@ -174,6 +193,26 @@ impl Core {
         self.outputs[output as usize].buffered()
     }
 
+    /// Hands out the oldest report of an input that wasn't handed out yet: one of its groups settled. None where there
+    /// is none. It is no event of the journal.
+    pub fn next_report(&mut self, input: u32) -> Option<Report>
+        requires { input < length self.old.setup.inputs }
+        ensures oldest { result ≡ slice_get (told_at self.old.told input) 0 }
+        ensures after { self.new ≡ after_told self.old input }
+        ensures stands { (journal : List Entry) → Stands self.old journal → Stands self.new journal }
+    {
+        self.told[input as usize].next()
+    }
+
+    /// The groups that are live.
+    pub fn tracker(&self) -> &Tracker
+        ensures tracker { result.now ≡ self.now.tracker }
+        ensures live { (journal : List Entry) → Stands self.now journal →
+            result.now ≡ tracker_after self.now.setup journal }
+    {
+        &self.tracker
+    }
+
     /// What was counted.
     pub fn account(&self) -> &Account
         ensures numbers { result.now ≡ self.now.numbers }
@@ -205,4 +244,58 @@ fn empty_outputs(alloc: Global, sizes: &[OutSetup]) -> Result<Vec<Output>, OutOf
         outputs.push(Output::new(alloc, size.batch, size.limit)?)?;
     }
     Ok(outputs)
+}
+
+// Whether an input is tracked.
+fn tracks_any(inputs: &[InSetup]) -> bool
+    ensures { result ≡ list_any is_tracked inputs.now }
+{
+    inputs.iter().any(|input| input.tracked)
+}
+
+// The most groups of each input that may be live, in order: 0 where it isn't tracked.
+fn group_limits(alloc: Global, inputs: &[InSetup]) -> Result<Vec<u32>, OutOfMemory>
+    ensures { IfOk result (λ limits. limits.items ≡ map (λ x. most_live (most_undelivered x)) inputs.now) }
+{
+    let limits = inputs
+        .iter()
+        .map(|input| {
+            if input.tracked {
+                input.max_undelivered
+            } else {
+                0
+            }
+        })
+        .collect::<Vec<u32>>(alloc)?;
+    Ok(limits)
+}
+
+// Of each input no reports.
+fn empty_told(alloc: Global, inputs: usize) -> Result<Vec<Told>, OutOfMemory>
+    ensures { IfOk result (λ told. map reports_in told.items ≡ replicate inputs []) }
+{
+    let mut told = Vec::with_capacity(alloc, inputs)?;
+    for _input in 0..inputs {
+        told.push(Told::new(alloc))?;
+    }
+    Ok(told)
+}
+
+// At each output no groups, where an input is tracked; none at all where none is.
+fn empty_marked(
+    alloc: Global,
+    tracking: bool,
+    sizes: &[OutSetup],
+) -> Result<Vec<Marked>, OutOfMemory>
+    requires { All (λ x. (1 ≤ x.batch) × (x.batch ≤ x.limit)) sizes.now }
+    ensures { IfOk result (λ marked. marked.items ≡ (if tracking then map marked_of sizes.now else [])) }
+{
+    if !tracking {
+        return Ok(Vec::new(alloc));
+    }
+    let mut marked = Vec::with_capacity(alloc, sizes.len())?;
+    for size in sizes {
+        marked.push(Marked::new(alloc, size.batch, size.limit)?)?;
+    }
+    Ok(marked)
 }

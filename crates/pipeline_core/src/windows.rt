@@ -1,15 +1,16 @@
 //! Windows close: what they make becomes raw items.
-ghost use Rattle.std.specs.Prelude.{◌≡◌, ◌+◌, ◌++◌, ◌<◌, ◌≤◌, ◌^◌, true, false, length, replicate, OnErr, OnOk};
+ghost use Rattle.std.specs.Prelude.{◌≡◌, ◌+◌, ◌++◌, ◌<◌, ◌≤◌, ◌^◌, true, false, length, replicate, OnErr, OnOk, None};
 ghost use Rattle.pipeline_core.specs.Moments.{IsStoppedAt, IsTickedAt};
 
 use crate::gathering::has_numbers;
-use crate::room::{line_up, make_room, queue_of};
+use crate::room::{line_up, make_room, mark_items, queue_of};
 use crate::state::Core;
 use account::{Account, Entry};
 use fixed_num::{Moment, OutOfMemory, Seq};
 use metric::Metric;
 use std::alloc::Global;
 use std::collections::VecDeque;
+use track_groups::GroupRef;
 
 impl Core {
     /// Closes the windows that are due at a moment (nanoseconds since 1970), each once; what they make becomes items.
@@ -26,6 +27,7 @@ impl Core {
             self.alloc,
             &mut self.raw,
             &mut self.made,
+            &mut self.groups,
             &mut self.account,
             self.taken,
             made.as_slice(),
@@ -53,6 +55,7 @@ impl Core {
             self.alloc,
             &mut self.raw,
             &mut self.made,
+            &mut self.groups,
             &mut self.account,
             self.taken,
             made.as_slice(),
@@ -74,6 +77,7 @@ fn take_in(
     alloc: Global,
     raw: &mut VecDeque<Metric>,
     made: &mut VecDeque<bool>,
+    groups: &mut VecDeque<Option<GroupRef>>,
     account: &mut Account,
     taken: u64,
     metrics: &[Metric],
@@ -82,17 +86,20 @@ fn take_in(
     ensures few { OnOk result (taken + length raw.new.items < 2 ^ 63) }
     ensures raw { OnOk result (raw.new.items ≡ raw.old.items ++ metrics.now) }
     ensures made { OnOk result (made.new.items ≡ made.old.items ++ replicate (length metrics.now) true) }
+    ensures groups { OnOk result (groups.new.items ≡ groups.old.items ++ replicate (length metrics.now) None) }
     ensures account { OnOk result
         (account.new ≡ record account.old { made = account.old.made + length metrics.now }) }
     ensures err { OnErr result ((raw.new.items ≡ raw.old.items) × (made.new.items ≡ made.old.items)
-        × (account.new ≡ account.old)) }
+        × (groups.new.items ≡ groups.old.items) × (account.new ≡ account.old)) }
 {
     let count = metrics.len();
     if !has_numbers(taken, raw.len(), count) {
         return Err(OutOfMemory);
     }
     let copies = queue_of(alloc, metrics)?;
+    groups.reserve(count)?;
     line_up(raw, made, copies, true)?;
+    mark_items(groups, &None, count);
     account.made(count as u64);
     Ok(())
 }

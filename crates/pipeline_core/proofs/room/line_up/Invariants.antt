@@ -1,4 +1,4 @@
-use Rattle.std.proofs.Common.{◌≡◌, ◌≤◌, ◌+◌, ◌++◌, length, replicate}
+use Rattle.std.proofs.Common.{◌≡◌, ◌≤◌, ◌+◌, ◌++◌, replicate}
 use Rattle.std.specs.VecDeque.{deque_capacity, deque_len}
 use Rattle.pipeline_core.proofs.room.line_up.Given as goal
 

@@ -1,5 +1,4 @@
-use Rattle.std.proofs.Common.{◌≡◌, ◌++◌, length, map, take, drop}
-use Rattle.account.specs.Numbers.{Numbers}
+use Rattle.std.proofs.Common.{◌≡◌, ◌++◌, map, take, drop}
 use Rattle.pipeline_core.specs.Steps.{late_more}
 use Rattle.pipeline_core.proofs.routing.count_late.Given as goal
 

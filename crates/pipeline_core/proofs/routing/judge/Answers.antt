@@ -1,4 +1,4 @@
-use Rattle.std.proofs.Common.{◌≡◌, ◌∙◌, sym, subst}
+use Rattle.std.proofs.Common.{◌≡◌, sym, subst}
 use Rattle.std.specs.Prelude.{IfOk}
 use Rattle.account.specs.declared.entry.Verdict.{Verdict}
 use Rattle.pipeline_core.proofs.ShapeLemmas.{judged_none, judged_some}

@@ -7,31 +7,17 @@ use Rattle.account.specs.declared.entry.Entry.{Entry}
 use Rattle.agg_bank.specs.Bank.{BankStands}
 use Rattle.agg_bank.specs.Events as events
 use Rattle.agg_bank.specs.Made.{made_at}
-use Rattle.pipeline_core.specs.CoreState.{CoreState, IsCore}
+use Rattle.pipeline_core.specs.CoreState.{CoreState, GroupsAgree}
 use Rattle.pipeline_core.specs.CoreView.{core_state}
-use Rattle.pipeline_core.specs.Stands.{Stands}
-use Rattle.pipeline_core.specs.Steps.{after_stop, stop_entry, moment_at}
+use Rattle.std.specs.declared.option.Option.TheVariants.{None}
+use Rattle.pipeline_core.specs.Stands.{HasJournal, Stands}
+use Rattle.pipeline_core.proofs.JournalKept.{has_next, known_more}
+use Rattle.pipeline_core.specs.Steps.{stop_entry, moment_at}
 use Rattle.pipeline_core.specs.Windows.{bank_events, made_by_stop, BankIs}
-use Rattle.pipeline_core.proofs.Keeping.{flights-le, kept_moment}
+use Rattle.pipeline_core.proofs.Keeping.{flights-le, kept_groups, kept_moment}
 use Rattle.pipeline_core.proofs.StandsSteps.{stop_stands}
 use Rattle.pipeline_core.proofs.state.Core.stop.Goals.{After-push_reserved}
 use Rattle.pipeline_core.proofs.state.Core.stop.Goals as goal
-
-pub invariant_of-self-2 : goal.invariant_of-self-2
-invariant_of-self-2 c =
-    record {
-      core = kept_moment (core_state c.self.inside) c.in_ok-made.made.items c.take_in.new.raw.items
-          c.take_in.new.made.items c.take_in.new.account c.close_all.new.self _ _ _ c.self.invariant.core
-          c.in_ok-take_in.ensures.few
-          (c.in_ok-take_in.ensures.raw ∙ ap (λ (xs : List Content). c.self.inside.raw.items
-          ++ xs) c.as_slice.ensures.value)
-          (c.in_ok-take_in.ensures.made ∙ ap (λ (xs : List Content). c.self.inside.made.items
-          ++ replicate (length xs) true) c.as_slice.ensures.value)
-          (c.in_ok-take_in.ensures.account ∙ ap (λ (xs : List Content). record c.self.inside.account
-          { made = c.self.inside.account.made + length xs }) c.as_slice.ensures.value)
-          c.close_all.ensures.lines;
-      spare = omega (arith, flights-le c.self.inside.outputs.items, c.in_ok-make_room.ensures.room);
-    }
 
 -- the bank stands for the journals for which the core stands
 bank_is : (c : After-push_reserved) (journal : List Entry) → Stands c.args.self.now journal
@@ -61,6 +47,42 @@ keeps c journal h =
     (c.close_all.ensures.stands c.args.self.now.setup.aggs c.args.self.now.setup.start (bank_events journal)
     (bank_is c journal h))
 
+pub invariant_of-self-2 : goal.invariant_of-self-2
+unfolding stop_entry
+invariant_of-self-2 c =
+    let at = (goal.at.invariant_of-self-2 c).After-push_reserved in
+    let groups = c.self.invariant.groups in
+    record {
+      core = kept_groups _ c.take_in.new.groups.items c.self.inside.tracker c.self.inside.marked.items
+          (core_state c.self.inside).told
+          (kept_moment (core_state c.self.inside) c.in_ok-made.made.items c.take_in.new.raw.items
+          c.take_in.new.made.items c.take_in.new.account c.close_all.new.self _ _ _ c.self.invariant.core
+          c.in_ok-take_in.ensures.few
+          (c.in_ok-take_in.ensures.raw ∙ ap (λ (xs : List Content). c.self.inside.raw.items
+          ++ xs) c.as_slice.ensures.value)
+          (c.in_ok-take_in.ensures.made ∙ ap (λ (xs : List Content). c.self.inside.made.items
+          ++ replicate (length xs) true) c.as_slice.ensures.value)
+          (c.in_ok-take_in.ensures.account ∙ ap (λ (xs : List Content). record c.self.inside.account
+          { made = c.self.inside.account.made + length xs }) c.as_slice.ensures.value)
+          c.close_all.ensures.lines);
+      groups = record {
+        known = ap length c.in_ok-take_in.ensures.groups
+            ∙ known_more c.self.inside.groups.items c.self.inside.made.items (length c.as_slice.result.now) None true
+            groups.known
+            ∙ sym (ap length c.in_ok-take_in.ensures.made);
+        tracks = groups.tracks;
+        limits = groups.limits;
+        few = groups.few;
+        told_count = groups.told_count;
+      };
+      told = has_next c.args.self.now _ (stop_entry c.args.self.now c.args.moment c.in_ok-made.made.items)
+          (stop_stands c.args.self.now _ c.args.moment c.in_ok-made.made.items (search rules)
+          (subst GroupsAgree c.self.view_is groups) c.requires (made_so at) (keeps at))
+          (subst HasJournal c.self.view_is c.self.invariant.told);
+      spare = omega (arith, flights-le c.self.inside.outputs.items, c.in_ok-make_room.ensures.room);
+      places = c.self.invariant.places;
+    }
+
 pub returns-clause-ok : goal.returns-clause-ok
 unfolding stop_entry
 returns-clause-ok c =
@@ -68,5 +90,5 @@ returns-clause-ok c =
       metrics = c.in_ok-made.made.items;
       after = (search rules);
       continues = stop_stands c.args.self.now _ c.args.moment c.in_ok-made.made.items (search rules)
-          (subst IsCore c.self.view_is c.self.invariant.core) c.requires (made_so c) (keeps c);
+          (subst GroupsAgree c.self.view_is c.self.invariant.groups) c.requires (made_so c) (keeps c);
     }

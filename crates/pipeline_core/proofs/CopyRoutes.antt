@@ -1,0 +1,209 @@
+-- What a Route does to the items of a group at an output, by the output's lane of groups.
+use Rattle.std.proofs.Common.{◌≡◌, ℕ, ◌+◌, ◌&&◌, cond, Bool, true, false, List, [], ◌∷◌, ◌++◌}
+use Rattle.std.proofs.Common.{map, refl, ap, arith, is_some}
+use Rattle.std.specs.List.{count_by}
+use Rattle.std.specs.Option.{option_to_list}
+use Rattle.std.specs.declared.option.Option.{Option}
+use Rattle.std.specs.declared.option.Option.TheVariants.{Some, None}
+use Rattle.metric.specs.declared.metric.Content.{Content}
+use Rattle.account.specs.Setup.{Setup}
+use Rattle.account.specs.Origins.{origin_at, is_number}
+use Rattle.account.specs.declared.entry.Entry.{Entry}
+use Rattle.account.specs.declared.entry.Entry.TheVariants.{Route}
+use Rattle.account.specs.declared.entry.Report.{Report}
+use Rattle.account.specs.declared.entry.Verdict.{Verdict}
+use Rattle.account.specs.declared.entry.Verdict.TheVariants as verdicts
+use Rattle.out_lane.specs.Lane.{LaneState, after_push}
+use Rattle.out_lane.specs.Lane.{pushed_out}
+use Rattle.out_lane.specs.LaneCounts.{ones}
+use Rattle.out_lane.specs.LaneEvents as lane
+use Rattle.out_lane.specs.LaneLaws.{IsLaneOf, Pushes}
+use Rattle.out_lane.proofs.LaneLemmas.{push_meets}
+use Rattle.track_groups.specs.Settling.{Copy, drops, times}
+use Rattle.pipeline_core.specs.Offers.{lane_events, offer_of, offered, pushes, view_at}
+use Rattle.pipeline_core.specs.Fates.{Fate, is_buffered, is_dropped}
+use Rattle.pipeline_core.specs.Legal.{IsLegal, MeetsLine}
+use Rattle.pipeline_core.specs.Tracked.{gone_for, mark_of, marks}
+use Rattle.pipeline_core.specs.Steps.{marked_with}
+use Rattle.pipeline_core.proofs.CopySteps.{buffered-of_lane, count-come, count-still}
+use Rattle.pipeline_core.proofs.CopySteps.{dropped-of_lane, fate_count, is_item_of, IsLaneTest, lane-event, lane-still}
+use Rattle.pipeline_core.proofs.CopySteps.{no_route_kept, one_if}
+use Rattle.pipeline_core.proofs.TotalPush.{tested}
+use Rattle.pipeline_core.proofs.CopyLanes.{drops_in, times_in}
+
+-- ---- an item that is routed
+
+-- the copies that a routed item's view pushes out at an output
+abbrev pub gone_at : Verdict → Option Content → LaneState (Option ℕ) → List Copy
+gone_at verdicts.Passes view x = gone_for view x
+gone_at _ view x = []
+
+-- whether it comes to the output
+abbrev pub comes_at : Verdict → Option Content → Bool
+comes_at verdicts.Passes view = is_some view
+comes_at _ view = false
+
+-- a lane of groups, once an item of a group was routed
+abbrev pub marks_routed : Verdict → Option Content → Option ℕ → LaneState (Option ℕ) → LaneState (Option ℕ)
+marks_routed verdicts.Passes view grp x = marked_with grp view x
+marks_routed _ view grp x = x
+
+-- an item that comes to no lane
+stays_out : (setup : Setup) (t : Fate → Bool) (l o : ℕ) (es : List Entry) (item : ℕ) (whole : Option Content)
+    (verdict : Verdict) (aggs outs : List (Option Content)) (reports : List Report) (g : ℕ) →
+    let e : Entry = Route item whole verdict aggs outs reports in
+    IsLegal setup es → MeetsLine setup es e → IsLaneTest t → offered item verdict (view_at o outs) ≡ []
+    → fate_count t l o (es ++ e ∷ []) g ≡ fate_count t l o es g
+stays_out setup t l o es item whole verdict aggs outs reports g h m is none =
+    let e : Entry = Route item whole verdict aggs outs reports in
+    count-still setup t l o es e g h m (ap pushes none) none
+    (no_route_kept t (is_item_of (es ++ e ∷ []) g) o item whole verdict aggs outs reports is)
+
+-- one that comes
+comes_in : (setup : Setup) (t : Fate → Bool) (b l o : ℕ) (es : List Entry) (item : ℕ) (whole : Option Content)
+    (aggs outs : List (Option Content)) (reports : List Report) (g : ℕ) (view : Content) (x : LaneState (Option ℕ)) →
+    let e : Entry = Route item whole verdicts.Passes aggs outs reports in
+    IsLegal setup es → MeetsLine setup es e → IsLaneTest t → view_at o outs ≡ Some view
+    → IsLaneOf b l (lane_events o es) (marks o es) x
+    → fate_count t l o (es ++ e ∷ []) g + cond (tested t lane.Buffered)
+    (count_by (is_number g) (option_to_list (pushed_out x))) 0
+    ≡ fate_count t l o es g + cond (tested t lane.Dropped) (count_by (is_number g) (option_to_list (pushed_out x))) 0
+    + ones (tested t lane.Buffered && is_number g (origin_at es item).group)
+comes_in setup t b l o es item whole aggs outs reports g view x h m is v at =
+    let e : Entry = Route item whole verdicts.Passes aggs outs reports in
+    let mark : Option ℕ = (origin_at es item).group in
+    let p : Pushes b l (lane_events o es) (marks o es) x mark =
+    push_meets b l (lane_events o es) (marks o es) x mark at in
+    count-come setup t l o es e g mark (option_to_list (pushed_out x)) h m
+    (ap (λ (w : Option Content). pushes (offer_of item w)) v)
+    (ap (λ (w : Option Content). map (mark_of es) (offer_of item w)) v)
+    (no_route_kept t (is_item_of (es ++ e ∷ []) g) o item whole verdicts.Passes aggs outs reports is) p.comes p.dropped
+
+ones_if : (b : Bool) → ones b ≡ one_if b
+ones_if true = refl
+ones_if false = refl
+
+view_buffered : (view : Option Content) (setup : Setup) (b l o : ℕ) (es : List Entry) (item : ℕ)
+    (whole : Option Content) (aggs outs : List (Option Content)) (reports : List Report) (g : ℕ)
+    (x : LaneState (Option ℕ)) →
+    let e : Entry = Route item whole verdicts.Passes aggs outs reports in
+    IsLegal setup es → MeetsLine setup es e → view_at o outs ≡ view → IsLaneOf b l (lane_events o es) (marks o es) x
+    → fate_count is_buffered l o (es ++ e ∷ []) g + times g (gone_for view x)
+    ≡ fate_count is_buffered l o es g + one_if (is_some view && is_number g (origin_at es item).group)
+view_buffered None setup b l o es item whole aggs outs reports g x h m v at =
+    omega (
+      arith,
+      stays_out setup is_buffered l o es item whole verdicts.Passes aggs outs reports g h m buffered-of_lane
+          (ap (offer_of item) v),
+    )
+view_buffered (Some view) setup b l o es item whole aggs outs reports g x h m v at =
+    omega (
+      arith,
+      comes_in setup is_buffered b l o es item whole aggs outs reports g view x h m buffered-of_lane v at,
+      times_in g true (option_to_list (pushed_out x)),
+      ones_if (is_number g (origin_at es item).group),
+    )
+
+view_dropped : (view : Option Content) (setup : Setup) (b l o : ℕ) (es : List Entry) (item : ℕ)
+    (whole : Option Content) (aggs outs : List (Option Content)) (reports : List Report) (g : ℕ)
+    (x : LaneState (Option ℕ)) →
+    let e : Entry = Route item whole verdicts.Passes aggs outs reports in
+    IsLegal setup es → MeetsLine setup es e → view_at o outs ≡ view → IsLaneOf b l (lane_events o es) (marks o es) x
+    → fate_count is_dropped l o (es ++ e ∷ []) g ≡ fate_count is_dropped l o es g + drops g (gone_for view x)
+view_dropped None setup b l o es item whole aggs outs reports g x h m v at =
+    omega (
+      arith,
+      stays_out setup is_dropped l o es item whole verdicts.Passes aggs outs reports g h m dropped-of_lane
+          (ap (offer_of item) v),
+    )
+view_dropped (Some view) setup b l o es item whole aggs outs reports g x h m v at =
+    omega (
+      arith,
+      comes_in setup is_dropped b l o es item whole aggs outs reports g view x h m dropped-of_lane v at,
+      drops_in g true (option_to_list (pushed_out x)),
+    )
+
+-- what is buffered, with a Route more
+pub route_buffered : (verdict : Verdict) (setup : Setup) (b l o : ℕ) (es : List Entry) (item : ℕ)
+    (whole : Option Content) (aggs outs : List (Option Content)) (reports : List Report) (g : ℕ)
+    (x : LaneState (Option ℕ)) →
+    let e : Entry = Route item whole verdict aggs outs reports in
+    IsLegal setup es → MeetsLine setup es e → IsLaneOf b l (lane_events o es) (marks o es) x
+    → fate_count is_buffered l o (es ++ e ∷ []) g + times g (gone_at verdict (view_at o outs) x)
+    ≡ fate_count is_buffered l o es g + one_if
+    (comes_at verdict (view_at o outs) && is_number g (origin_at es item).group)
+route_buffered verdicts.Passes setup b l o es item whole aggs outs reports g x h m at =
+    view_buffered (view_at o outs) setup b l o es item whole aggs outs reports g x h m refl at
+route_buffered verdicts.Consumed setup b l o es item whole aggs outs reports g x h m at =
+    omega (
+      arith,
+      stays_out setup is_buffered l o es item whole verdicts.Consumed aggs outs reports g h m buffered-of_lane refl,
+    )
+route_buffered verdicts.Late setup b l o es item whole aggs outs reports g x h m at =
+    omega (
+      arith,
+      stays_out setup is_buffered l o es item whole verdicts.Late aggs outs reports g h m buffered-of_lane refl,
+    )
+route_buffered verdicts.Removed setup b l o es item whole aggs outs reports g x h m at =
+    omega (
+      arith,
+      stays_out setup is_buffered l o es item whole verdicts.Removed aggs outs reports g h m buffered-of_lane refl,
+    )
+
+-- and what is dropped
+pub route_dropped : (verdict : Verdict) (setup : Setup) (b l o : ℕ) (es : List Entry) (item : ℕ)
+    (whole : Option Content) (aggs outs : List (Option Content)) (reports : List Report) (g : ℕ)
+    (x : LaneState (Option ℕ)) →
+    let e : Entry = Route item whole verdict aggs outs reports in
+    IsLegal setup es → MeetsLine setup es e → IsLaneOf b l (lane_events o es) (marks o es) x
+    → fate_count is_dropped l o (es ++ e ∷ []) g
+    ≡ fate_count is_dropped l o es g + drops g (gone_at verdict (view_at o outs) x)
+route_dropped verdicts.Passes setup b l o es item whole aggs outs reports g x h m at =
+    view_dropped (view_at o outs) setup b l o es item whole aggs outs reports g x h m refl at
+route_dropped verdicts.Consumed setup b l o es item whole aggs outs reports g x h m at =
+    omega (
+      arith,
+      stays_out setup is_dropped l o es item whole verdicts.Consumed aggs outs reports g h m dropped-of_lane refl,
+    )
+route_dropped verdicts.Late setup b l o es item whole aggs outs reports g x h m at =
+    omega (
+      arith,
+      stays_out setup is_dropped l o es item whole verdicts.Late aggs outs reports g h m dropped-of_lane refl,
+    )
+route_dropped verdicts.Removed setup b l o es item whole aggs outs reports g x h m at =
+    omega (
+      arith,
+      stays_out setup is_dropped l o es item whole verdicts.Removed aggs outs reports g h m dropped-of_lane refl,
+    )
+
+view_lane : (view : Option Content) (setup : Setup) (b l o : ℕ) (es : List Entry) (item : ℕ) (whole : Option Content)
+    (aggs outs : List (Option Content)) (reports : List Report) (x : LaneState (Option ℕ)) →
+    let e : Entry = Route item whole verdicts.Passes aggs outs reports in
+    IsLegal setup es → MeetsLine setup es e → view_at o outs ≡ view → IsLaneOf b l (lane_events o es) (marks o es) x
+    → IsLaneOf b l (lane_events o (es ++ e ∷ [])) (marks o (es ++ e ∷ []))
+    (marked_with (origin_at es item).group view x)
+view_lane None setup b l o es item whole aggs outs reports x h m v at =
+    lane-still setup b l o es (Route item whole verdicts.Passes aggs outs reports) x h m
+    (ap (λ (w : Option Content). pushes (offer_of item w)) v) (ap (offer_of item) v) at
+view_lane (Some view) setup b l o es item whole aggs outs reports x h m v at =
+    let mark : Option ℕ = (origin_at es item).group in
+    lane-event setup b l o es (Route item whole verdicts.Passes aggs outs reports) lane.Push (mark ∷ [])
+    (after_push x mark) h m (ap (λ (w : Option Content). pushes (offer_of item w)) v)
+    (ap (λ (w : Option Content). map (mark_of es) (offer_of item w)) v)
+    (push_meets b l (lane_events o es) (marks o es) x mark at).state
+
+-- and the lane
+pub route_lane : (verdict : Verdict) (setup : Setup) (b l o : ℕ) (es : List Entry) (item : ℕ)
+    (whole : Option Content) (aggs outs : List (Option Content)) (reports : List Report) (x : LaneState (Option ℕ)) →
+    let e : Entry = Route item whole verdict aggs outs reports in
+    IsLegal setup es → MeetsLine setup es e → IsLaneOf b l (lane_events o es) (marks o es) x
+    → IsLaneOf b l (lane_events o (es ++ e ∷ [])) (marks o (es ++ e ∷ []))
+    (marks_routed verdict (view_at o outs) (origin_at es item).group x)
+route_lane verdicts.Passes setup b l o es item whole aggs outs reports x h m at =
+    view_lane (view_at o outs) setup b l o es item whole aggs outs reports x h m refl at
+route_lane verdicts.Consumed setup b l o es item whole aggs outs reports x h m at =
+    lane-still setup b l o es (Route item whole verdicts.Consumed aggs outs reports) x h m refl refl at
+route_lane verdicts.Late setup b l o es item whole aggs outs reports x h m at =
+    lane-still setup b l o es (Route item whole verdicts.Late aggs outs reports) x h m refl refl at
+route_lane verdicts.Removed setup b l o es item whole aggs outs reports x h m at =
+    lane-still setup b l o es (Route item whole verdicts.Removed aggs outs reports) x h m refl refl at

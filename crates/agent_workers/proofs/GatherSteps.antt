@@ -21,7 +21,7 @@ use Rattle.pipeline_core.specs.Order.{IsDrained}
 use Rattle.pipeline_core.specs.Windows.{HasNoAggs}
 use Rattle.pipeline_core.specs.declared.gathering.Gathered.{Gathered}
 use Rattle.pipeline_core.proofs.ShapeLemmas.{entries-have-shape}
-use Rattle.pipeline_core.proofs.StandsSteps.{differs}
+use Rattle.pipeline_core.proofs.Keeping.{differs}
 use Rattle.pipeline_core.proofs.RawLemmas.{none_of_other}
 use Rattle.pipeline_core.proofs.WorkedLemmas.{worked-push}
 use Rattle.account.proofs.MomentLemmas.{counted_moments-same}

@@ -24,7 +24,7 @@ use Rattle.agent_base.specs.Told.{Told}
 use Rattle.agent_base.proofs.ClockLemmas.{clocked_none, clocked_one, clocked_joined, clocked_wider}
 use Rattle.pipeline_core.specs.Legal.{has_ended, is_ended_of, gathered_count}
 use Rattle.pipeline_core.proofs.JournalPush.{has_ended-push, gathered_count-push}
-use Rattle.pipeline_core.proofs.StandsSteps.{same_number}
+use Rattle.pipeline_core.proofs.Keeping.{same_number}
 use Rattle.pipeline_core.specs.declared.gathering.Gathered.{Gathered}
 use Rattle.formats.specs.declared.reading.Group.{Group}
 use Rattle.formats.specs.declared.pieces.InState.{InState}

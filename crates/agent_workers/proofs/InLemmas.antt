@@ -1,19 +1,23 @@
 -- Inputs by their indices: one changes, and the others stay.
 use Rattle.std.proofs.Common.{◌≡◌, ◌≢◌, ◌≤◌, ◌<◌, ◌+◌, ℕ, zero, suc, Bool, true, false, List, [], ◌∷◌, length}
 use Rattle.std.proofs.Common.{length-append, get_or, set, replicate, refl, sym, ap, ◌∙◌, subst, inl, inr, arith}
-use Rattle.std.proofs.Common.{below_more}
-use Rattle.std.specs.Prelude.{slice_get, is_some, ◌⊎◌, IfSome}
+use Rattle.std.proofs.Common.{below_more, Err}
+use Rattle.std.specs.Prelude.{slice_get, slice_index_or, is_some, ◌⊎◌, All, IfSome}
 use Rattle.std.proofs.lemmas.List.{length-map, length-set, get_or-map, get_or-set_same, get_or-set_other}
 use Rattle.std.specs.declared.option.Option.{Option}
 use Rattle.std.specs.declared.option.Option.TheVariants.{Some, None}
 use Rattle.agent_base.specs.Carried.{Timed, Carried}
-use Rattle.account.specs.Numbers.{unreached_output}
+use Rattle.account.specs.Numbers.{Numbers, input_numbers, unreached_output, with_input}
 use Rattle.account.specs.declared.numbers.OutputNumbers.{OutputNumbers}
 use Rattle.agent_base.specs.Hand.{Hand}
 use Rattle.account.specs.declared.entry.Entry.TheVariants.{Ended}
 use Rattle.pipeline_core.specs.CoreState.{CoreState}
-use Rattle.pipeline_core.specs.Steps.{after_gather, after_ended, gather_entry}
+use Rattle.pipeline_core.specs.Steps.{after_gather, after_ended, gather_entry, gather_reports, gathered_too, most_of}
+use Rattle.pipeline_core.specs.Steps.{IsGatherAnswer}
+use Rattle.pipeline_core.proofs.Keeping.{reported_rest}
 use Rattle.pipeline_core.specs.declared.gathering.Gathered.{Gathered}
+use Rattle.pipeline_core.specs.declared.gathering.GatherRefused.{GatherRefused}
+use Rattle.pipeline_core.specs.declared.gathering.GatherRefused.TheVariants.{HeldUndelivered}
 use Rattle.formats.specs.declared.pieces.InState.{InState}
 use Rattle.formats.specs.declared.pieces.InState.TheVariants as states
 use Rattle.agent_workers.specs.declared.input.InJob.{InJob}
@@ -235,7 +239,10 @@ gathered_core i core next g is = record {
     held = ap (λ (s : CoreState). s.held) is;
     stopped = ap (λ (s : CoreState). s.stopped) is;
     lanes = ap (λ (s : CoreState). s.lanes) is;
-    numbers = ap (λ (s : CoreState). s.numbers.outputs) is;
+    numbers = ap (λ (s : CoreState). s.numbers.outputs) is
+        ∙ ap (λ (n : Numbers). n.outputs) (reported_rest (with_input core.numbers g.input
+        (gathered_too (input_numbers core.numbers g.input) g (is_some (most_of core g.input))))
+        (gather_reports core g));
     stored = omega (
       arith,
       ap (λ (s : CoreState). length s.stored) is,
@@ -276,6 +283,23 @@ same_core i core next same = subst (IsGatheredAt i core) (sym same)
 -- the core is ready as before
 pub ready_gathered : (i : ℕ) (old new : CoreState) → IsGatheredAt i old new → IsReady old → IsReady new
 ready_gathered i old new h ready = ready_same old new h.kept.setup h.kept.lanes h.kept.held ready
+
+-- where no input is tracked none has a limit of groups
+none_most : (all : List (Option ℕ)) (k : ℕ) → All (λ (most : Option ℕ). most ≡ None) all
+    → slice_index_or all k None ≡ None
+none_most [] k h = refl
+none_most (x ∷ all) zero h = h zero None (omega arith)
+none_most (x ∷ all) (suc k) h = none_most all k (λ i d l. h (suc i) d (omega (arith, l)))
+
+if_none : {X : Type 0} (P : X → Type 0) (x : Option X) → x ≡ None → IfSome x P
+if_none {X} P x none = subst (λ (y : Option X). IfSome y P) (sym none) tt
+
+-- so no gather is held back since groups are undelivered
+pub never_undelivered : (core : CoreState) (g back : Gathered) (why : GatherRefused) → IsReady core
+    → why ≡ HeldUndelivered back → IsGatherAnswer core g (Err why) → ⊥
+never_undelivered core g back why ready is h =
+    let answer = subst (λ (w : GatherRefused). IsGatherAnswer core g (Err w)) is h in
+    answer.2 (if_none _ (most_of core g.input) (none_most core.setup.inputs g.input ready.untracked))
 
 no_end_none : (state : InState) → HoldsNoEnd state None
 no_end_none states.Reading = tt

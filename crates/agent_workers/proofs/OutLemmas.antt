@@ -11,7 +11,7 @@ use Rattle.std.specs.declared.option.Option.{Option}
 use Rattle.std.specs.declared.option.Option.TheVariants.{Some, None}
 use Rattle.agent_base.specs.Carried.{Carried}
 use Rattle.metric.specs.declared.metric.Content.{Content}
-use Rattle.account.specs.Numbers.{output_numbers, unreached_output, Numbers}
+use Rattle.account.specs.Numbers.{output_numbers, unreached_output, with_output, Numbers}
 use Rattle.account.specs.Setup.{Setup}
 use Rattle.account.specs.Views.{HasViews}
 use Rattle.account.specs.declared.entry.Verdict.{Verdict}
@@ -20,12 +20,14 @@ use Rattle.agg_bank.specs.Bank.{BankMemory}
 use Rattle.pipeline_core.specs.declared.routing.Routed.{Routed}
 use Rattle.out_lane.specs.Lane.{LaneState, empty_lane}
 use Rattle.out_lane.specs.Lane as lane
-use Rattle.pipeline_core.specs.CoreState.{CoreState, lane_at, lane_of, first_state, sizes}
+use Rattle.pipeline_core.specs.CoreState.{CoreState, lane_at, lane_of, first_state, setup_of, sizes}
 use Rattle.pipeline_core.specs.declared.setup.CoreSetup.{CoreSetup}
 use Rattle.pipeline_core.specs.declared.setup.OutSetup.{OutSetup}
 use Rattle.pipeline_core.specs.Offers.{view_at}
 use Rattle.pipeline_core.specs.Steps.{after_begin, after_done, after_route, lane_done, lane_with, count_done}
-use Rattle.pipeline_core.specs.Steps.{counted_done}
+use Rattle.pipeline_core.specs.Steps.{counted_done, done_reports, with_reports}
+use Rattle.pipeline_core.proofs.Keeping.{reported_rest}
+use Rattle.account.specs.declared.entry.Report.{Report}
 use Rattle.pipeline_core.specs.declared.output.Offer.{Offer}
 use Rattle.pipeline_core.proofs.Offering.{lanes_with-at, length-lanes_with}
 use Rattle.agent_workers.specs.Output.{OutPart, out_of, outs_of, out_at, no_out, anew, AreAnew, AreOutputs}
@@ -37,6 +39,7 @@ use Rattle.pipeline_core.specs.Worked.{views_of}
 use Rattle.pipeline_core.specs.declared.gathering.Item.{Item}
 use Rattle.std.proofs.lemmas.List.Edits.{map_over_more}
 use Rattle.agent_workers.specs.Running.{AllMade, IsLaneReady, IsReady, IsLaneKept, IsRoutable, IsSentOn, IsSentAt}
+use Rattle.agent_workers.specs.Running.{IsUntracked}
 
 -- what holds of what was set at an index, and of the others, holds at each index
 pub each_set : {X : Type 0} (P : ℕ → X → Type 0) (xs : List X) (i : ℕ) (y d : X) → i < length xs → P i y
@@ -48,6 +51,11 @@ each_set P xs i y d b here others k l =
           (subst (P i) (sym (get_or-set_same xs i y d b)) here)
       | inr ne ↦ subst (P k) (sym (get_or-set_other xs i k y d ne)) (others k (omega (arith, l, length-set xs i y)) ne)
     ]
+
+-- reports say nothing of an output's numbers
+reported_output : (n : Numbers) (reports : List Report) (o : ℕ)
+    → output_numbers (with_reports n reports) o ≡ output_numbers n o
+reported_output n reports o = ap (λ (m : Numbers). output_numbers m o) (reported_rest n reports)
 
 -- ---- lanes
 
@@ -84,6 +92,8 @@ module _ (core mid next : CoreState) (o from to : ℕ) (ok : Bool) (b : o < leng
         (lane_done ok (lane.after_begin (lane_at core.lanes o))) (empty_lane 0 0) b
         (lane_lands ok (lane_at core.lanes o) (h.each o b).some) (λ k l ne. h.each k l));
     empty_handed = ap (λ (s : CoreState). s.held) done ∙ ap (λ (s : CoreState). s.held) began ∙ h.empty_handed;
+    untracked = subst IsUntracked (sym (ap (λ (s : CoreState). s.setup) done ∙ ap (λ (s : CoreState). s.setup) began))
+        h.untracked;
   }
 
   -- and all else but the output is as before
@@ -103,6 +113,8 @@ module _ (core mid next : CoreState) (o from to : ℕ) (ok : Bool) (b : o < leng
           ∙ get_or-set_other core.lanes o k (lane_done ok (lane.after_begin (lane_at core.lanes o)))
           (empty_lane 0 0) ne;
       numbers = ap (λ (s : CoreState). output_numbers s.numbers k) done
+          ∙ reported_output (with_output mid.numbers o (counted_done ok (count_done ok (lane_at mid.lanes o))
+          (output_numbers mid.numbers o))) (done_reports mid o ok) k
           ∙ get_or-set_other mid.numbers.outputs o k (counted_done ok (count_done ok (lane_at mid.lanes o))
           (output_numbers mid.numbers o)) unreached_output ne
           ∙ ap (λ (s : CoreState). output_numbers s.numbers k) began;
@@ -290,6 +302,7 @@ ready_routed old new h k held = record {
             ∙ (h.each o l).landed;
       };
   empty_handed = held;
+  untracked = subst IsUntracked (sym k.setup) h.untracked;
 }
 
 -- a core whose lanes and set-up are as before is ready as before
@@ -300,6 +313,7 @@ ready_same old new setup lanes held h = record {
   each = subst (λ (xs : List (LaneState Offer)). (k : ℕ) → k < length xs → IsLaneReady (lane_at xs k))
       (sym lanes) h.each;
   empty_handed = held ∙ h.empty_handed;
+  untracked = subst IsUntracked (sym setup) h.untracked;
 }
 
 -- ---- parts of outputs
@@ -337,8 +351,9 @@ outputs_still count last outs fresh are same h = rw (are, same) (outputs_anew co
 -- nothing happened yet
 pub ready_first : (setup : CoreSetup) (outputs : List OutSetup) (core : CoreState) → core ≡ first_state setup core.bank
     → setup.outputs ≡ outputs
-    → All (λ (x : OutSetup). (1 ≤ x.batch) × (x.batch ≤ x.limit)) outputs → IsReady core
-ready_first setup outputs core is same sizes_fit = record {
+    → All (λ (x : OutSetup). (1 ≤ x.batch) × (x.batch ≤ x.limit)) outputs
+    → IsUntracked (setup_of setup) → IsReady core
+ready_first setup outputs core is same sizes_fit none_tracked = record {
   lane_count = ap (λ (s : CoreState). length s.lanes) is ∙ length-map setup.outputs lane_of
       ∙ sym (ap (λ (s : CoreState). length s.setup.outputs) is ∙ length-map setup.outputs sizes);
   each = λ o b.
@@ -355,6 +370,7 @@ ready_first setup outputs core is same sizes_fit = record {
       (sym same) sizes_fit o d within in
       subst IsLaneReady (sym lane_is) (record { some = fits.0; landed = refl });
   empty_handed = ap (λ (s : CoreState). s.held) is;
+  untracked = subst (λ (s : CoreState). IsUntracked s.setup) (sym is) none_tracked;
 }
 
 -- the part of a job is the one at its index

@@ -357,7 +357,7 @@ module _ (start : Beginning) (core mid next : CoreState) (now : RunState) (proc 
     (whole : Option Content) (answer : Verdict) (ticked : Bool) (fresh : AreAnew now.outs)
     (stays : StaysTicked now.ticked ticked core) (takes : TakesNext core mid item)
     (routed : next ≡ after_route mid (routed_by proc item whole) answer next.bank)
-    (routes : Continues mid next (route_entry (routed_by proc item whole) answer))
+    (routes : Continues mid next (route_entry mid (routed_by proc item whole) answer))
     (makes : Makes proc new_proc item whole) (same : IsSameProc proc new_proc)
     (w : Progress start (record now { core = core; proc = proc })) where
   abbrev taking : Entry
@@ -366,8 +366,8 @@ module _ (start : Beginning) (core mid next : CoreState) (now : RunState) (proc 
   abbrev between : List Entry
   between = w.journal ++ Take core.taken ∷ []
 
-  shape : IsRouteEntry (routed_by proc item whole) (route_entry (routed_by proc item whole) answer)
-  shape = entries-have-shape.routes (routed_by proc item whole) answer
+  shape : IsRouteEntry (routed_by proc item whole) (route_entry mid (routed_by proc item whole) answer)
+  shape = entries-have-shape.routes mid (routed_by proc item whole) answer
 
   abbrev routing : Entry
   routing = Route core.taken whole shape.0 (seen_by proc.aggs item.made whole) (views_of (filters_of proc.outs) whole)
@@ -384,7 +384,7 @@ module _ (start : Beginning) (core mid next : CoreState) (now : RunState) (proc 
       takes.mark at makes w.pushed
 
   -- its entry
-  entry_is : route_entry (routed_by proc item whole) answer ≡ routing
+  entry_is : route_entry mid (routed_by proc item whole) answer ≡ routing
   entry_is = shape.2 ∙ ap (λ (n : ℕ). Route n whole shape.0 (seen_by proc.aggs item.made whole)
       (views_of (filters_of proc.outs) whole) shape.1) takes.number
 

@@ -34,7 +34,7 @@ use Rattle.agent_workers.proofs.FailedLemmas.{failed_accepted, failed_once}
 use Rattle.agent_workers.proofs.OutLemmas.{each_set}
 use Rattle.agent_workers.proofs.ProgressLemmas.{IsQuietAt, said_push}
 use Rattle.out_lane.specs.LaneEvents as events
-use Rattle.pipeline_core.proofs.StandsSteps.{differs, same_number}
+use Rattle.pipeline_core.proofs.Keeping.{differs, same_number}
 use Rattle.std.proofs.lemmas.List.{length-set, get_or-set_same, set-set, set-get_or}
 use Rattle.account.proofs.DoneLemmas.{dones-same, dones-more, failed-more, last_none, last_more, last_fewer, last_same}
 use Rattle.agent_workers.proofs.RoseLemmas.{rose_later, rose_more}

@@ -1,8 +1,9 @@
 -- What a run of a configuration is about.
-use Rattle.std.proofs.Common.{◌≡◌, ◌≤◌, ◌<◌, ℕ, zero, suc, ℤ, false, List, [], ◌∷◌, replicate, length, get_or, refl}
-use Rattle.std.proofs.Common.{sym, ap, ◌∙◌, subst, arith}
+use Rattle.std.proofs.Common.{◌≡◌, ◌≤◌, ◌<◌, ℕ, zero, suc, ℤ, false, true, List, [], ◌∷◌, replicate, length, get_or}
+use Rattle.std.proofs.Common.{refl, sym, ap, ◌∙◌, subst, arith}
 use Rattle.std.specs.Prelude.{map, pos, All}
 use Rattle.std.specs.declared.option.Option.{Option}
+use Rattle.std.specs.declared.option.Option.TheVariants.{None}
 use Rattle.std.proofs.lemmas.List.{length-map, get_or-map}
 use Rattle.account.specs.Numbers.{unreached_output}
 use Rattle.account.specs.declared.numbers.OutputNumbers.{OutputNumbers}
@@ -70,18 +71,35 @@ core_is config inputs aggs outputs start first e n f g = rw (
   sizes_are config.outputs,
 ) refl
 
--- none of the inputs is tracked
+-- none of the inputs is tracked, so none has a limit of groups
 no_input : InputConf
 no_input = record { place = []; format = read.Influx; tracked = false; max_undelivered = 0; filter = no_rules }
 
-untracked_all : (confs : List InputConf) → All (λ (x : InSetup). x.tracked ≡ false) (map in_setup confs)
+untracked_all : (confs : List InputConf)
+    → All (λ (most : Option ℕ). most ≡ None) (map most_undelivered (map in_setup confs))
 untracked_all confs = λ k d l.
-    let within : k < length confs = omega (arith, l, length-map confs in_setup) in
-    subst (λ (x : InSetup). x.tracked ≡ false) (sym (get_or-map in_setup confs k no_input d within)) refl
+    let within : k < length confs =
+    omega (arith, l, length-map (map in_setup confs) most_undelivered, length-map confs in_setup) in
+    ap (λ (xs : List (Option ℕ)). get_or xs k d) (core_limits confs) ∙ get_or-map limit_by confs k no_input d within
 
-pub untracked : (confs : List InputConf) (inputs : List InSetup) → inputs ≡ map in_setup confs
-    → All (λ (x : InSetup). x.tracked ≡ false) inputs
-untracked confs inputs same = subst (All (λ (x : InSetup). x.tracked ≡ false)) (sym same) (untracked_all confs)
+pub untracked_first : (confs : List InputConf) (inputs : List InSetup) → inputs ≡ map in_setup confs
+    → All (λ (most : Option ℕ). most ≡ None) (map most_undelivered inputs)
+untracked_first confs inputs same =
+    subst (λ (xs : List InSetup). All (λ (most : Option ℕ). most ≡ None) (map most_undelivered xs)) (sym same)
+    (untracked_all confs)
+
+-- and none has to have room for a group
+limits_all : (confs : List InputConf)
+    → All (λ (x : InSetup). x.tracked ≡ true → 1 ≤ x.max_undelivered) (map in_setup confs)
+limits_all confs = λ k d l.
+    let within : k < length confs = omega (arith, l, length-map confs in_setup) in
+    subst (λ (x : InSetup). x.tracked ≡ true → 1 ≤ x.max_undelivered)
+    (sym (get_or-map in_setup confs k no_input d within)) (λ e. absurd (let x : false ≡ true = e in cc))
+
+pub limits_fit : (confs : List InputConf) (inputs : List InSetup) → inputs ≡ map in_setup confs
+    → All (λ (x : InSetup). x.tracked ≡ true → 1 ≤ x.max_undelivered) inputs
+limits_fit confs inputs same =
+    subst (All (λ (x : InSetup). x.tracked ≡ true → 1 ≤ x.max_undelivered)) (sym same) (limits_all confs)
 
 -- none of them has ended in a core in which nothing happened
 pub none_ended_first : (confs : List InputConf) (setup : CoreSetup) (core : CoreState) → core

@@ -1,7 +1,7 @@
 -- Cores that stand for a journal, and the entries that they keep.
-use Rattle.std.proofs.Common.{◌≡◌, ◌≤◌, ◌<◌, ℕ, zero, suc, true, List, [], ◌∷◌, ◌++◌, length, take, set, refl, sym, ap}
-use Rattle.std.proofs.Common.{◌∙◌, arith, subst}
-use Rattle.std.specs.Prelude.{All, ◌↔◌, slice_set}
+use Rattle.std.proofs.Common.{◌≡◌, ◌≤◌, ◌<◌, ℕ, zero, suc, Bool, true, false, List, [], ◌∷◌, ◌++◌, length, take, set}
+use Rattle.std.proofs.Common.{refl, sym, ap, ◌∙◌, arith, subst}
+use Rattle.std.specs.Prelude.{All, ◌↔◌, not, slice_set}
 use Rattle.std.specs.List.{AllByRecursion}
 use Rattle.std.specs.declared.option.Option.{Option}
 use Rattle.std.specs.declared.option.Option.TheVariants.{Some, None}
@@ -13,17 +13,18 @@ use Rattle.account.specs.declared.entry.Entry.{Entry}
 use Rattle.account.specs.declared.entry.Entry.TheVariants.{Gather, Ended, Take, Route, Tick, Stop, Begin, Done}
 use Rattle.account.specs.declared.entry.Verdict.{Verdict}
 use Rattle.account.specs.declared.entry.Verdict.TheVariants as verdicts
-use Rattle.out_lane.specs.Lane.{LaneState, after_begin, empty_lane}
+use Rattle.out_lane.specs.Lane.{LaneState, empty_lane}
+use Rattle.out_lane.specs.Lane as lane
 use Rattle.agent_workers.proofs.OutLemmas.{lanes_done}
 use Rattle.pipeline_core.specs.CoreState.{CoreState, lane_at}
-use Rattle.pipeline_core.specs.Steps.{lane_done}
+use Rattle.pipeline_core.specs.Steps.{after_begin, after_done, lane_done}
 use Rattle.pipeline_core.specs.Legal.{AreLegal, Meets}
 use Rattle.pipeline_core.specs.Windows.{judged}
 use Rattle.pipeline_core.specs.declared.output.Offer.{Offer}
 use Rattle.pipeline_core.proofs.ShapeLemmas.{removed-has-no-whole}
-use Rattle.pipeline_core.specs.Stands.{Stands}
+use Rattle.pipeline_core.specs.Stands.{HasJournal, Stands}
 use Rattle.journal_text.specs.JournalText.{IsWholeOrRemoved}
-use Rattle.agent_workers.specs.Running.{HasJournal}
+use Rattle.agent_workers.specs.Running.{waiting_at}
 
 pub has : {core : CoreState} {journal : List Entry} → Stands core journal → HasJournal core
 has {core} {journal} s = record { journal = journal; stands = s }
@@ -101,15 +102,27 @@ some_wait (x ∷ xs) ne = omega arith
 -- a batch that was begun and accepted: fewer items wait
 pub fewer_wait : (lanes : List (LaneState Offer)) (o : ℕ) → o < length lanes → 1 ≤ (lane_at lanes o).batch
     → (length (lane_at lanes o).waiting ≡ 0 → ⊥) →
-    (let begun : List (LaneState Offer) = slice_set lanes o (after_begin (lane_at lanes o)) in
+    (let begun : List (LaneState Offer) = slice_set lanes o (lane.after_begin (lane_at lanes o)) in
     length (lane_at (slice_set begun o (lane_done true (lane_at begun o))) o).waiting < length
     (lane_at lanes o).waiting)
 fewer_wait lanes o b some ne =
     let x : LaneState Offer = lane_at lanes o in
-    let is : lane_at (set (set lanes o (after_begin x)) o (lane_done true (lane_at (set lanes o (after_begin x)) o))) o
-    ≡ lane_done true (after_begin x) =
+    let is : lane_at (set (set lanes o (lane.after_begin x)) o
+    (lane_done true (lane_at (set lanes o (lane.after_begin x)) o))) o ≡ lane_done true (lane.after_begin x) =
     ap (λ (xs : List (LaneState Offer)). lane_at xs o) (lanes_done lanes o true b)
-    ∙ get_or-set_same lanes o (lane_done true (after_begin x)) (empty_lane 0 0) b in
-    let fewer : length (lane_done true (after_begin x)).waiting < length x.waiting =
+    ∙ get_or-set_same lanes o (lane_done true (lane.after_begin x)) (empty_lane 0 0) b in
+    let fewer : length (lane_done true (lane.after_begin x)).waiting < length x.waiting =
     omega (arith, length-drop x.batch x.waiting, some, some_wait x.waiting ne) in
     subst (λ (y : LaneState Offer). length y.waiting < length x.waiting) (sym is) fewer
+
+-- the same of the cores
+pub fewer_sent : (core mid next : CoreState) (o from to : ℕ) (failed : Bool) → o < length core.lanes
+    → 1 ≤ (lane_at core.lanes o).batch → (waiting_at core o ≡ 0 → ⊥) → mid ≡ after_begin core o from to
+    → next ≡ after_done mid o (not failed) → failed ≡ false → waiting_at next o < waiting_at core o
+fewer_sent core mid next o from to failed b some ne began done accepted =
+    let lanes_are =
+    ap (λ (s : CoreState). s.lanes) done
+    ∙ ap (λ (f : Bool). slice_set mid.lanes o (lane_done (not f) (lane_at mid.lanes o))) accepted
+    ∙ ap (λ (s : CoreState). slice_set s.lanes o (lane_done true (lane_at s.lanes o))) began in
+    subst (λ (xs : List (LaneState Offer)). length (lane_at xs o).waiting < waiting_at core o) (sym lanes_are)
+    (fewer_wait core.lanes o b some ne)

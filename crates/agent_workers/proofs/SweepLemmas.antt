@@ -3,7 +3,7 @@ use Rattle.std.proofs.Common.{◌≡◌, ◌≢◌, ◌≤◌, ◌<◌, ◌+◌,
 use Rattle.std.proofs.Common.{length, set, refl, sym, ap, ◌∙◌, subst, inl, inr, arith, below_more}
 use Rattle.std.specs.Prelude.{◌⊎◌}
 use Rattle.std.proofs.lemmas.Bool.{cases_Bool, cases_eq}
-use Rattle.pipeline_core.proofs.StandsSteps.{differs}
+use Rattle.pipeline_core.proofs.Keeping.{differs}
 use Rattle.std.proofs.lemmas.List.{get_or-set_same, get_or-set_other}
 use Rattle.account.specs.declared.numbers.OutputNumbers.{OutputNumbers}
 use Rattle.out_lane.specs.Lane.{LaneState}
@@ -11,7 +11,7 @@ use Rattle.pipeline_core.specs.CoreState.{CoreState, lane_at}
 use Rattle.pipeline_core.specs.declared.output.Offer.{Offer}
 use Rattle.agent_workers.specs.Output.{OutPart, out_at, no_out}
 use Rattle.agent_workers.specs.Running.{IsSentAt, HasFlushed, WasTried, HasSwept, HaveFailed, AreLeft, buffered_at}
-use Rattle.agent_workers.specs.Running.{waiting_at}
+use Rattle.agent_workers.specs.Running.{waiting_at, HasNothing}
 use Rattle.agent_workers.specs.declared.output.Flush.{Flush}
 
 never : false ≡ true → ⊥
@@ -74,6 +74,14 @@ flushed_failed batch o old mid new failed mid_failed new_failed some rose first 
     rose
         ∙ ap (λ (n : ℕ). min (n + 1) (2 ^ 32 - 1)) (first (zero_of batch none)),
   );
+}
+
+pub flushed_nothing : (accepted : Bool) (o other : ℕ) (old new : CoreState) (failed new_failed : ℕ) → other ≡ o
+    → HasNothing other new → HasFlushed (record { emptied = true; accepted = accepted }) o old new failed new_failed
+flushed_nothing accepted o other old new failed new_failed same none = record {
+  emptied = λ e. subst (λ (k : ℕ). HasNothing k new) same none;
+  failed_last = λ e. absurd (never (sym e));
+  stuck = λ e stays. absurd (never (sym e));
 }
 
 -- what was tried, by other terms

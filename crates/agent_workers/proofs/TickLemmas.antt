@@ -22,10 +22,10 @@ use Rattle.pipeline_core.proofs.RouteLemmas.{hand_fits, HandFits}
 use Rattle.pipeline_core.proofs.WorkedLemmas.{made_stays}
 use Rattle.pipeline_core.specs.CoreState.{CoreState}
 use Rattle.pipeline_core.specs.Moments.{IsStoppedAt, IsTickedAt}
-use Rattle.pipeline_core.specs.Stands.{was_made}
+use Rattle.pipeline_core.specs.Stands.{HasJournal, was_made}
 use Rattle.agent_config.specs.declared.config.AggConf.{AggConf}
 use Rattle.pipeline_core.specs.Windows.{HasNoAggs}
-use Rattle.agent_workers.specs.Running.{AllMade, HasJournal, IsAtRest, IsRoutable, IsRunning}
+use Rattle.agent_workers.specs.Running.{AllMade, IsAtRest, IsRoutable, IsRunning}
 use Rattle.agent_workers.proofs.OutLemmas.{ready_same, routable_same}
 use Rattle.agent_workers.proofs.StandingLemmas.{continues}
 

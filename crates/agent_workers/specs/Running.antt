@@ -1,15 +1,16 @@
 -- What a core keeps between the steps of a run.
 use Rattle.std.specs.Prelude.{◌≡◌, ◌≢◌, ◌<◌, ◌≤◌, ◌+◌, ◌-◌, ◌^◌, ◌⊎◌, ℕ, min, Bool, List, [], true}
 use Rattle.std.specs.Prelude.{false}
-use Rattle.std.specs.Prelude.{length, slice_get, IsSome}
+use Rattle.std.specs.Prelude.{length, slice_get, IsSome, All}
 use Rattle.std.specs.List.{AllByRecursion}
+use Rattle.std.specs.declared.option.Option.{Option}
 use Rattle.std.specs.declared.option.Option.TheVariants.{None}
 use Rattle.account.specs.Numbers.{output_numbers}
-use Rattle.account.specs.declared.entry.Entry.{Entry}
+use Rattle.account.specs.Setup.{Setup}
 use Rattle.out_lane.specs.Lane.{LaneState}
 use Rattle.pipeline_core.specs.CoreState.{CoreState, lane_at}
 use Rattle.account.specs.declared.entry.Entry.TheVariants.{Begin}
-use Rattle.pipeline_core.specs.Stands.{Stands, Continues}
+use Rattle.pipeline_core.specs.Stands.{Continues, HasJournal}
 use Rattle.pipeline_core.specs.Steps.{IsBatchOf, after_begin}
 use Rattle.pipeline_core.specs.declared.batches.Batch.{Batch}
 use Rattle.pipeline_core.specs.declared.output.Offer.{Offer}
@@ -22,11 +23,16 @@ pub record IsLaneReady (lane : LaneState Offer) : Type 0 where
   pub some : 1 ≤ lane.batch
   pub landed : lane.flight ≡ None
 
--- no item is in hand, and at no output a batch is in flight
+-- no input of a set-up is tracked
+abbrev pub IsUntracked : Setup → Type 0
+IsUntracked setup = All (λ (most : Option ℕ). most ≡ None) setup.inputs
+
+-- no item is in hand, at no output a batch is in flight, and no input is tracked
 pub record IsReady (core : CoreState) : Type 0 where
   pub lane_count : length core.lanes ≡ length core.setup.outputs
   pub each : (output : ℕ) → output < length core.lanes → IsLaneReady (lane_at core.lanes output)
   pub empty_handed : core.held ≡ None
+  pub untracked : IsUntracked core.setup
 
 -- inputs were gathered or ended: the set-up, what is in hand and stopped, what waits at the outputs and their
 -- numbers are as before, and no entry that was stored and no raw item is lost
@@ -83,11 +89,6 @@ pub record IsRoutable (old new : CoreState) : Type 0 where
   pub each : (output : ℕ) → output < length old.lanes
       → IsLaneKept (lane_at old.lanes output) (lane_at new.lanes output)
   pub made : AllMade old.made → AllMade new.made
-
--- the core stands for a legal journal
-pub record HasJournal (core : CoreState) : Type 0 where
-  pub journal : List Entry
-  pub stands : Stands core journal
 
 -- a core between two steps of a run: it is ready for the next one, and stands for a legal journal
 pub record IsAtRest (core : CoreState) : Type 0 where

@@ -6,7 +6,7 @@ use Rattle.agent_workers.specs.Inputs.{InPart, in_of, FitsInput}
 use Rattle.agent_workers.specs.Progress.{GathersAt}
 use Rattle.pipeline_core.specs.declared.gathering.Gathered.{Gathered}
 use Rattle.agent_workers.proofs.GatherSteps.{offer_accepted, offer_full, offer_kept, gathers_none}
-use Rattle.agent_workers.proofs.InLemmas.{gathered_core, ready_gathered, fits_gathered}
+use Rattle.agent_workers.proofs.InLemmas.{gathered_core, never_undelivered, ready_gathered, fits_gathered}
 use Rattle.agent_workers.proofs.StandingLemmas.{continues}
 use Rattle.agent_workers.proofs.input.offer.Goals as goal
 
@@ -64,3 +64,14 @@ returns-in-Err-HeldRaw-clause-gathers g c =
     let held : c.args.job.now.held ≡ Some c.in-Some.gathered = search rules in
     offer_kept c.args.core.now c.gather.new.self (in_of g.S.Source.told g.C.Clock.told c.args.job.now)
     c.in-Some.gathered c.in-Err-HeldRaw.back held (search rules) (search rules)
+
+-- no input is tracked
+pub returns-in-Err-HeldUndelivered-clause-offered : goal.returns-in-Err-HeldUndelivered-clause-offered
+returns-in-Err-HeldUndelivered-clause-offered g c = absurd (never_undelivered c.args.core.now c.in-Some.gathered
+    c.in-Err-HeldUndelivered.back c.in-Err-HeldUndelivered.field-0 c.requires.running.ready
+    c.in-Err-HeldUndelivered.field-0-is c.in-Err-HeldUndelivered.ensures.answer)
+
+pub returns-in-Err-HeldUndelivered-clause-gathers : goal.returns-in-Err-HeldUndelivered-clause-gathers
+returns-in-Err-HeldUndelivered-clause-gathers g c = absurd (never_undelivered c.args.core.now c.in-Some.gathered
+    c.in-Err-HeldUndelivered.back c.in-Err-HeldUndelivered.field-0 c.requires.running.ready
+    c.in-Err-HeldUndelivered.field-0-is c.in-Err-HeldUndelivered.ensures.answer)

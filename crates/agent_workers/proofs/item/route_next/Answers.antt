@@ -36,9 +36,9 @@ routed g c = c.in_ok-route.ensures.ok ∙ ap (λ (r : Routed). after_route c.tak
     c.route.new.self.bank) c.in_ok-routed.ensures.routed
 
 routes : (g : Over) (c : In_ok-route g) → Continues c.take_next.new.core c.route.new.self
-    (route_entry (routing g c) (verdict g c))
+    (route_entry c.take_next.new.core (routing g c) (verdict g c))
 routes g c = subst (λ (r : Routed). Continues c.take_next.new.core c.route.new.self
-    (route_entry r (verdict g c))) c.in_ok-routed.ensures.routed c.in_ok-route.ensures.stands
+    (route_entry c.take_next.new.core r (verdict g c))) c.in_ok-routed.ensures.routed c.in_ok-route.ensures.stands
 
 kept : (g : Over) (c : In_ok-route g) → IsRoutable c.args.core.now c.route.new.self
 kept g c = item_routed c.args.core.now c.take_next.new.core c.route.new.self c.in-Some.item

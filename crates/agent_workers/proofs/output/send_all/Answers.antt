@@ -7,7 +7,7 @@ use Rattle.agent_workers.specs.declared.output.OutJob.{OutJob}
 use Rattle.agent_workers.specs.declared.output.Sending.TheVariants as sendings
 use Rattle.agent_workers.proofs.OutLemmas.{sent_more}
 use Rattle.agent_workers.proofs.SendSteps.{sends_more}
-use Rattle.agent_workers.proofs.SweepLemmas.{flushed_failed}
+use Rattle.agent_workers.proofs.SweepLemmas.{flushed_failed, flushed_nothing}
 use Rattle.agent_workers.proofs.output.send_all.Given.{Over}
 use Rattle.agent_workers.proofs.output.send_all.Goals.{In_ok-send_next}
 use Rattle.agent_workers.proofs.output.send_all.Goals as goal
@@ -54,6 +54,13 @@ returns-in-Failed-clause-flushed g c =
     c.args.job.now.failed_since c.loop-batch.job.failed_since c.send_next.new.job.failed_since
     (subst (λ (o : ℕ). waiting_at c.loop-batch.core o ≢ 0) c.loop-batch.invariant.number came.0) came.1
     c.loop-batch.invariant.first c.loop-batch.invariant.waits
+
+pub returns-in-Nothing-clause-flushed : goal.returns-in-Nothing-clause-flushed
+returns-in-Nothing-clause-flushed g c =
+    let is : c.send_next.result ≡ Ok sendings.Nothing = search rules in
+    flushed_nothing _ c.args.job.now.output c.loop-batch.job.output c.args.core.now c.send_next.new.core
+    c.args.job.now.failed_since c.send_next.new.job.failed_since c.loop-batch.invariant.number
+    (c.send_next.ensures.nothing is)
 
 pub returns-in-Nothing-clause-kept : goal.returns-in-Nothing-clause-kept
 returns-in-Nothing-clause-kept g c = kept g (goal.at.returns-in-Nothing-clause-kept g c).In_ok-send_next

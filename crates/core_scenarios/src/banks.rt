@@ -78,7 +78,7 @@ fn line_of(words: &str) -> Result<AggLine, Fail>
 }
 
 /// The lines that words say, with commas between them.
-fn lines_said(alloc: Global, words: &str) -> Result<Vec<AggLine>, Fail>
+pub(crate) fn lines_said(alloc: Global, words: &str) -> Result<Vec<AggLine>, Fail>
     ensures { IfOk result (λ lines. All IsLine lines.items) }
 {
     let mut lines = Vec::new(alloc);

@@ -58,7 +58,7 @@ fn spelled(alloc: Global, entry: &Entry) -> Result<String, Fail> {
 }
 
 /// The sizes of an output: how many metrics a batch has at most, and how many wait.
-fn sizes(words: &mut SplitWhitespace<'_>) -> OutSetup
+pub(crate) fn sizes(words: &mut SplitWhitespace<'_>) -> OutSetup
     ensures { (1 ≤ result.batch) × (result.batch ≤ result.limit) }
 {
     let batch = next::<u32>(words).max(1);
@@ -69,7 +69,7 @@ fn sizes(words: &mut SplitWhitespace<'_>) -> OutSetup
 }
 
 /// What a call that may not come is answered with.
-fn refused<T>() -> Result<T, Fail> {
+pub(crate) fn refused<T>() -> Result<T, Fail> {
     Err(Fail::new("the call may not come"))
 }
 

@@ -1,9 +1,11 @@
-//! Calls of the outside and of the core, one after another, as the tables in `data/` show them.
+//! Calls of the outside and of the core, one after another, as the tables in `data/` show them: `core_scenarios` looks
+//! at all tables, `core_scenarios TABLE` at one.
 #![tactic(auto)]
 
 mod aggregators;
 mod banks;
 mod cores;
+mod groups;
 mod journals;
 mod lanes;
 mod pieces;
@@ -13,6 +15,7 @@ mod singles;
 use aggregators::{FinalCalls, MergeCalls, StatsCalls};
 use banks::BankCalls;
 use cores::CoreCalls;
+use groups::GroupCalls;
 use journals::JournalCalls;
 use lanes::LaneCalls;
 use line_proto::read_line;
@@ -22,9 +25,9 @@ use readings::ReadCalls;
 use scenario_tables::{Row, Table, Tally};
 use singles::SingleCalls;
 use std::alloc::Global;
-use std::fmt;
 use std::str::{FromStr, SplitWhitespace};
 use std::test::Fail;
+use std::{env, fmt};
 
 /// What the calls of a row are made at.
 trait Calls: Drop {
@@ -53,9 +56,12 @@ fn shown<D: fmt::Debug + Drop>(alloc: Global, answer: D) -> Result<String, Fail>
     Ok(format!(in alloc; "{answer:?}")?)
 }
 
-/// Makes the calls of a table, and says whether all rows hold.
-fn table<C: Calls>(rt: &HostRuntime, name: &str) -> Result<bool, Fail> {
+/// Makes the calls of a table, and says whether all rows hold. No call is made where words ask for other tables.
+fn table<C: Calls>(rt: &HostRuntime, asked: &[String], name: &str) -> Result<bool, Fail> {
     let alloc = rt.alloc();
+    if !asked.is_empty() && !asked.iter().any(|word| word.as_str() == name) {
+        return Ok(true);
+    }
     let table = Table::open(rt, format!(in alloc; "{name}.txt")?.as_str())?;
     let rows = table.rows(alloc)?;
     let mut tally = Tally::of(name);
@@ -76,17 +82,20 @@ fn table<C: Calls>(rt: &HostRuntime, name: &str) -> Result<bool, Fail> {
 }
 
 fn main(rt: HostRuntime) -> Result<(), Fail> {
-    let mut all = table::<PieceCalls>(&rt, "pieces")?;
-    all &= table::<SingleCalls>(&rt, "worlds")?;
-    all &= table::<SingleCalls>(&rt, "accounts")?;
-    all &= table::<LaneCalls>(&rt, "lanes")?;
-    all &= table::<JournalCalls>(&rt, "journals")?;
-    all &= table::<ReadCalls>(&rt, "readings")?;
-    all &= table::<CoreCalls>(&rt, "cores")?;
-    all &= table::<StatsCalls>(&rt, "statistics")?;
-    all &= table::<MergeCalls>(&rt, "merges")?;
-    all &= table::<FinalCalls>(&rt, "finals")?;
-    all &= table::<BankCalls>(&rt, "banks")?;
+    let words = env::args(&rt)?.skip(1).collect::<Vec<String>>(rt.alloc())?;
+    let asked = words.as_slice();
+    let mut all = table::<PieceCalls>(&rt, asked, "pieces")?;
+    all &= table::<SingleCalls>(&rt, asked, "worlds")?;
+    all &= table::<SingleCalls>(&rt, asked, "accounts")?;
+    all &= table::<LaneCalls>(&rt, asked, "lanes")?;
+    all &= table::<JournalCalls>(&rt, asked, "journals")?;
+    all &= table::<ReadCalls>(&rt, asked, "readings")?;
+    all &= table::<CoreCalls>(&rt, asked, "cores")?;
+    all &= table::<GroupCalls>(&rt, asked, "groups")?;
+    all &= table::<StatsCalls>(&rt, asked, "statistics")?;
+    all &= table::<MergeCalls>(&rt, asked, "merges")?;
+    all &= table::<FinalCalls>(&rt, asked, "finals")?;
+    all &= table::<BankCalls>(&rt, asked, "banks")?;
     if all {
         Ok(())
     } else {

@@ -252,7 +252,8 @@ pub done_lane : (setup : Setup) (b l o : ℕ) (es : List Entry) (ok : Bool) (rep
     → IsLaneOf b l (lane_events o (es ++ Done o ok reports ∷ [])) (marks o (es ++ Done o ok reports ∷ []))
     (marked_done ok x)
 done_lane setup b l o es ok reports x h m at =
-    lane-event setup b l o es (Done o ok reports) (lane.Done ok) [] (marked_done ok x) h m (done_event o ok reports) refl
+    lane-event setup b l o es (Done o ok reports) (lane.Done ok) [] (marked_done ok x) h m
+    (done_event o ok reports) refl
     (subst (λ (all : List (Option ℕ)). IsLaneOf b l (lane_events o es ++ lane.Done ok ∷ []) all (marked_done ok x))
     (sym (append-nil (marks o es)))
     (done_state ok b l (lane_events o es) (marks o es) x (done_flies setup b l o es ok reports x m at) at))

@@ -344,7 +344,8 @@ route_dropped_all verdicts.Passes setup es item whole aggs outs reports g all h 
     sum_routed (at_output is_dropped (es ++ e ∷ []) g) (at_output is_dropped es g) (λ (x : Copy). false)
     (is_dropped_of g) false 0 setup.outputs outs all m.outputs are.as_many
     (λ i n q l. subst (λ (k : ℕ). fate_count is_dropped (sizes_at setup i).1 k (es ++ e ∷ []) g + count_by
-    (λ (x : Copy). false) (gone_for (view_at i outs) (marked_at all i)) ≡ fate_count is_dropped (sizes_at setup i).1 k es
+    (λ (x : Copy). false) (gone_for (view_at i outs) (marked_at all i)) ≡ fate_count is_dropped
+    (sizes_at setup i).1 k es
     g + drops g (gone_for (view_at i outs) (marked_at all i)) + one_if (is_some (view_at i outs) && false))
     (plain_number i n q)
     (omega (

@@ -1,6 +1,7 @@
 -- What a core keeps as metrics are gathered: a place for the report of their group.
 use Rattle.std.proofs.Common.{◌≡◌, ◌<◌, ◌≤◌, ◌^◌, ℕ, ◌+◌, ◌==◌, Bool, true, false, cond, List, [], ◌∷◌, ◌++◌, length}
-use Rattle.std.proofs.Common.{map, refl, sym, ap, ◌∙◌, subst, inl, inr, arith, get_or, is_some, length-append, replicate}
+use Rattle.std.proofs.Common.{map, refl, sym, ap, ◌∙◌, subst, inl, inr, arith, get_or, is_some, length-append}
+use Rattle.std.proofs.Common.{replicate}
 use Rattle.std.proofs.Common.{if◌then◌else◌}
 use Rattle.std.proofs.lemmas.Bool.{cases_eq}
 use Rattle.std.proofs.lemmas.List.{get_or-map, get_or-set_other, get_or-set_same, length-map, length-set}
@@ -77,7 +78,8 @@ live_grows t (Some m) input copies i = go (copies == 0) (new_group t.started inp
 pub started_few : (t : TrackerState) (most : Option ℕ) (input copies i : ℕ) →
     count_by (is_report_of i) (reports_started t (next_number most t.started) input copies)
     ≤ cond (input == i) (one_of most) 0
-started_few t most input copies i = omega (arith, started_counts t most input copies i, live_grows t most input copies i)
+started_few t most input copies i = omega
+    (arith, started_counts t most input copies i, live_grows t most input copies i)
 
 one_few : (most : Option ℕ) → one_of most ≤ 1
 one_few None = omega arith
@@ -151,7 +153,8 @@ module _ (t : TrackerState) (most : Option ℕ) (input copies : ℕ) (old new : 
       sym (get_or-map reports_in last i no_reports [] b)
       ∙ ap (λ (xs : List (List Report)). get_or xs i []) told
       ∙ told_with-at (map reports_in new) reports i (omega (arith, c, length-map new reports_in))
-      ∙ ap (λ (xs : List Report). xs ++ filter (is_report_of i) reports) (get_or-map reports_in new i no_reports [] c) in
+      ∙ ap (λ (xs : List Report). xs ++ filter (is_report_of i) reports)
+      (get_or-map reports_in new i no_reports [] c) in
       omega (
         arith,
         ap length are,
@@ -176,7 +179,8 @@ few_groups s core told i b =
       ap (λ (t : TrackerState). t.started) h.tracker,
     )
 
-more_groups : (x : InputNumbers) (g : Gathered) (tracked : Bool) → groups_in (gathered_too x g tracked) ≤ groups_in x + 1
+more_groups : (x : InputNumbers) (g : Gathered) (tracked : Bool) → groups_in
+    (gathered_too x g tracked) ≤ groups_in x + 1
 more_groups x g true = omega arith
 more_groups x g false = omega arith
 

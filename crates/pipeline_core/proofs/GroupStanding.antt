@@ -245,7 +245,13 @@ module _ (verdict : Verdict) (setup : Setup) (es : List Entry) (item : ℕ) (who
         counts = λ g. (let zero_if : (if is_number g (shown_group verdict (origin_at es item).group)
             then comers verdict outs else 0) ≡ 0 = sym (shown_counts verdict g (origin_at es item).group outs)
             ∙ ap (λ (o : Option ℕ). if is_number g o then comers verdict outs else 0) no_grp in
-            omega (arith, known.counts g, no_copies setup es g legal (omega (arith, ap length none)), ap (times g) gone));
+            omega (
+              arith,
+              known.counts g,
+              no_copies setup es g legal (omega (arith, ap length none)),
+              ap
+                  (times g) gone,
+            ));
         dropped = λ g. (let zero_if : (if is_number g (shown_group verdict (origin_at es item).group)
             then comers verdict outs else 0) ≡ 0 = sym (shown_counts verdict g (origin_at es item).group outs)
             ∙ ap (λ (o : Option ℕ). if is_number g o then comers verdict outs else 0) no_grp in

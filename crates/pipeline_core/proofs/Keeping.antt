@@ -643,7 +643,8 @@ each_at_first outputs h k b =
 pub kept_first : (setup : CoreSetup) (raw : List Content) (made : List Bool) (bank : BankMemory)
     (lanes : List (LaneState Offer)) (numbers : Numbers) (stored : List Entry) (counted : ℤ) (ended : List Bool)
     (groups : List (Option ℕ)) (tracker : TrackerState) (marked : List (LaneState (Option ℕ)))
-    (told : List (List Report)) → length setup.outputs ≤ 16 → All (λ (x : OutSetup). (1 ≤ x.batch) × (x.batch ≤ x.limit)) setup.outputs →
+    (told : List (List Report)) → length setup.outputs ≤ 16 → All (λ (x : OutSetup). (1 ≤ x.batch) ×
+    (x.batch ≤ x.limit)) setup.outputs →
     raw ≡ [] → made ≡ [] → lines_of bank ≡ setup.aggs → lanes ≡ map lane_of setup.outputs → numbers ≡ no_numbers
     (map is_tracked setup.inputs)
     (length setup.outputs) → ended ≡ replicate (length setup.inputs) false →

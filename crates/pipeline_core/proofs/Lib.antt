@@ -45,3 +45,4 @@ pub mod SentLemmas
 pub mod WorkedLemmas
 pub mod RawLemmas
 pub mod BankLemmas
+pub mod UnroutedLemmas

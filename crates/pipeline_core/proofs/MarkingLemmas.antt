@@ -2,7 +2,8 @@
 use Rattle.std.proofs.Common.{◌≡◌, ◌<◌, ◌≤◌, ℕ, zero, suc, ◌+◌, List, [], ◌∷◌, ◌++◌, length, take, drop, refl, sym}
 use Rattle.std.proofs.Common.{ap, ◌∙◌, subst, inl, inr, arith, get_or, set, append_assoc, append-nil, length-append}
 use Rattle.std.proofs.Math.Nat.{eq-or-lt_of_le}
-use Rattle.std.proofs.lemmas.List.{get_or-set_same, get_or-set_other, ext_get_or, length-set, get_or-map, get_or_default, length-map}
+use Rattle.std.proofs.lemmas.List.{get_or-set_same, get_or-set_other, ext_get_or, length-set, get_or-map}
+use Rattle.std.proofs.lemmas.List.{get_or_default, length-map}
 use Rattle.std.proofs.lemmas.List.{drop_all}
 use Rattle.std.proofs.lemmas.List.FromFn.{get_or-enumerate_from, length-enumerate_from}
 use Rattle.std.specs.List.{enumerate_from}
@@ -110,7 +111,8 @@ pushed-suc zero (view ∷ views) (x ∷ all) v d b c = append-nil (gone_for view
 pushed-suc n [] all v d b c = absurd (omega (arith, b))
 pushed-suc n (view ∷ views) [] v d b c = absurd (omega (arith, c))
 pushed-suc (suc n) (view ∷ views) (x ∷ all) v d b c =
-    ap (λ (rest : List Copy). gone_for view x ++ rest) (pushed-suc n views all v d (omega (arith, b)) (omega (arith, c)))
+    ap (λ (rest : List Copy). gone_for view x ++ rest) (pushed-suc n views all v d (omega (arith, b)) (omega
+    (arith, c)))
     ∙ sym (append_assoc (gone_for view x) (pushed_copies (take n views) (take n all))
     (gone_for (get_or views n v) (get_or all n d)))
 

@@ -1,10 +1,11 @@
 -- What a core keeps of groups as the item in hand is routed.
 use Rattle.std.proofs.Common.{◌≡◌, ◌<◌, ◌≤◌, ◌^◌, ◌*◌, ℕ, ◌+◌, Bool, true, false, cond, List, [], ◌∷◌, ◌++◌, length}
-use Rattle.std.proofs.Common.{refl, sym, ap, ◌∙◌, subst, inl, inr, arith, drop, length-append, if◌then◌else◌, is_some, get_or}
+use Rattle.std.proofs.Common.{refl, sym, ap, ◌∙◌, subst, inl, inr, arith, drop, length-append, if◌then◌else◌, is_some}
+use Rattle.std.proofs.Common.{get_or}
 use Rattle.std.proofs.Math.Nat.{mul-le-mul_right}
 use Rattle.std.proofs.lemmas.Bool.{cases_lt}
-use Rattle.std.proofs.lemmas.List.{get_or_default}
-use Rattle.std.specs.Prelude.{IfSome, find}
+use Rattle.std.proofs.lemmas.Option.{get_or_from_slice_get}
+use Rattle.std.specs.Prelude.{IfSome, find, slice_get}
 use Rattle.std.specs.Option.{option_to_list, option_map_or}
 use Rattle.std.specs.List.{count_by}
 use Rattle.std.specs.declared.option.Option.{Option}
@@ -30,7 +31,8 @@ use Rattle.pipeline_core.specs.Letting.{HasCopies}
 use Rattle.pipeline_core.specs.Tracked.{copies_in, copy_of, gone_for, held_routed, pushed_copies, routed_copies}
 use Rattle.pipeline_core.specs.CoreState.{CoreState, IsCore}
 use Rattle.pipeline_core.specs.Stands.{HasJournal}
-use Rattle.pipeline_core.specs.Steps.{after_route, held_group, lanes_routed, marked_routed, numbers_routed, route_copies}
+use Rattle.pipeline_core.specs.Steps.{after_route, held_group, lanes_routed, marked_routed, numbers_routed}
+use Rattle.pipeline_core.specs.Steps.{route_copies}
 use Rattle.pipeline_core.specs.Steps.{route_entry, route_reports, route_tracker, told_with, with_reports}
 use Rattle.pipeline_core.specs.ToldView.{ToldState}
 use Rattle.pipeline_core.proofs.GatherKept.{HasPlaces}
@@ -44,10 +46,8 @@ use Rattle.pipeline_core.proofs.Keeping.{kept_groups, kept_reported, kept_route,
 use Rattle.pipeline_core.proofs.TrackerLemmas.{copies_in_tracker, live_in_tracker}
 
 -- what a queue gives first
-pub front_is : (xs : List (Option ℕ)) (o : Option (Option ℕ)) (r : Option ℕ) → o ≡ Some r →
-    IfSome o (λ x. x ≡ get_or xs 0 x) → 0 < length xs → r ≡ get_or xs 0 None
-front_is xs o r is first some =
-    subst (λ (p : Option (Option ℕ)). IfSome p (λ x. x ≡ get_or xs 0 x)) is first ∙ get_or_default xs 0 r None some
+pub front_is : (xs : List (Option ℕ)) (r : Option ℕ) → slice_get xs 0 ≡ Some r → r ≡ get_or xs 0 None
+front_is xs r is = sym (get_or_from_slice_get xs 0 r None is)
 
 -- of the copies that the item in hand lets go as many wait
 pub route_has : (s : CoreState) (r : Routed) (verdict : Verdict) → IsCore s → (told : HasJournal s) →
@@ -114,7 +114,8 @@ none_goes (x ∷ xs) t idle has =
     let none : copies_of t x.group ≡ 0 =
     ap (λ (live : List LiveGroup). option_map_or (λ (group : LiveGroup). group.copies)
     (find (has_number x.group) live) 0) idle in
-    let one : cond {A = ℕ} (is_copy_of x.group x) 1 0 ≡ 1 = ap (λ (b : Bool). cond {A = ℕ} b 1 0) (same_number x.group) in
+    let one : cond {A = ℕ} (is_copy_of x.group x) 1 0 ≡ 1 = ap (λ (b : Bool). cond {A = ℕ} b 1 0)
+    (same_number x.group) in
     absurd (omega (arith, has x.group, count-cons (is_copy_of x.group) x xs, none, one))
 
 -- holding changes no numbers of groups

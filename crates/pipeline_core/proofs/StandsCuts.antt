@@ -1,6 +1,7 @@
 -- A new core stands for the empty journal, and a cut changes no journal.
 use Rattle.std.proofs.Common.{◌≡◌, ◌<◌, ◌≤◌, ℕ, Bool, true, false, List, [], length, map, replicate, is_some, refl}
-use Rattle.std.proofs.Common.{sym, ap, ◌∙◌, subst, arith, append-nil, append_assoc, get_or, if◌then◌else◌, ◌++◌, inl, inr}
+use Rattle.std.proofs.Common.{sym, ap, ◌∙◌, subst, arith, append-nil, append_assoc, get_or, if◌then◌else◌, ◌++◌, inl}
+use Rattle.std.proofs.Common.{inr}
 use Rattle.std.proofs.Common.{◌∷◌, take, drop, set, ℤ, ◌||◌}
 use Rattle.std.proofs.lemmas.Simd.{map-map}
 use Rattle.std.proofs.lemmas.Bool.{cases_eq}
@@ -26,7 +27,8 @@ use Rattle.pipeline_core.specs.Offers.{offers, lane_events}
 use Rattle.pipeline_core.specs.Fates.{fates_from}
 use Rattle.pipeline_core.specs.Legal.{AreLegal, has_stop, has_ended, gathered_count, counted_from}
 use Rattle.pipeline_core.specs.Totals.{totals, total_by, input_total_from}
-use Rattle.pipeline_core.specs.CoreState.{CoreState, setup_of, first_state, lane_at, lane_of, marked_at, marked_of, sizes}
+use Rattle.pipeline_core.specs.CoreState.{CoreState, setup_of, first_state, lane_at, lane_of, marked_at, marked_of}
+use Rattle.pipeline_core.specs.CoreState.{sizes}
 use Rattle.pipeline_core.specs.CoreState.{first_tracker, told_at}
 use Rattle.pipeline_core.specs.Tracked.{is_tracking, marks, most_live, tracker_after}
 use Rattle.pipeline_core.specs.CoreState.{most_undelivered, is_tracked}

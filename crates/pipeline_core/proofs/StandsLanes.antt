@@ -268,7 +268,8 @@ stands_done s o ok core agree b some journal h =
           (λ k b. ap (λ (m : Numbers). get_or m.inputs k (unread_input false)) h.numbers))
           (omega (arith, ap (λ (m : Numbers). m.made) rest)) (omega (arith, ap (λ (m : Numbers). m.removed) rest))
           (omega (arith, ap (λ (m : Numbers). m.routed) rest))
-          (ap (λ (m : Numbers). m.outputs) rest ∙ ap (λ (n : Numbers). set n.outputs o (counted_done ok (count_done ok x)
+          (ap (λ (m : Numbers). m.outputs) rest ∙ ap (λ (n : Numbers). set n.outputs o (counted_done ok
+          (count_done ok x)
           (get_or n.outputs o unreached_output))) h.numbers
           ∙ sym (outputs-set s.setup journal e o (counted_done ok (count_done ok x) old) b
           (λ k c d. output_stays (sizes_at s.setup k).1 k journal e (others k d) refl (λ t. refl))
@@ -306,7 +307,8 @@ kept_view t view = kept_out_by t verdicts.Passes view
 
 -- and its numbers
 total_is_offered : (view : Option Content) (b l o : ℕ) (journal : List Entry) (item : ℕ) (whole : Option Content)
-    (aggs outs : List (Option Content)) (reports : List Report) (x : LaneState Offer) → view_at o outs ≡ view → 1 ≤ x.limit
+    (aggs outs : List (Option Content)) (reports : List Report) (x : LaneState Offer) → view_at o outs ≡ view
+    → 1 ≤ x.limit
     → length x.waiting ≤ x.limit →
     IsLaneOf b l (lane_events o journal) (offers o journal) x
     → output_total l o (journal ++ Route item whole verdicts.Passes aggs outs reports ∷ []) ≡ numbers_with view x
@@ -367,7 +369,8 @@ numbers_grow verdicts.Passes s journal item whole aggs outs reports core h =
     (λ k b. ap (λ (m : Numbers). get_or m.inputs k (unread_input false)) h.numbers))
     (omega (arith, ap (λ (m : Numbers). m.made) rest)) (omega (arith, ap (λ (m : Numbers). m.removed) rest))
     (omega (arith, ap (λ (m : Numbers). m.routed) rest))
-    (ap (λ (m : Numbers). m.outputs) rest ∙ sym (outputs-as s.setup journal e (outputs_with outs s.lanes s.numbers.outputs)
+    (ap (λ (m : Numbers). m.outputs) rest ∙ sym (outputs-as s.setup journal e
+    (outputs_with outs s.lanes s.numbers.outputs)
     (length-outputs_with outs s.lanes s.numbers.outputs ∙ core.outputs.number_count)
     (λ o b. total_is_offered (view_at o outs) (sizes_at s.setup o).0 (sizes_at s.setup o).1 o journal item whole aggs
     outs reports (lane_at s.lanes o) refl (omega (arith, (core.outputs.each o b).some, (core.outputs.each o b).fits))
@@ -384,7 +387,8 @@ numbers_grow verdicts.Consumed s journal item whole aggs outs reports core h =
     (λ k b. ap (λ (m : Numbers). get_or m.inputs k (unread_input false)) h.numbers))
     (omega (arith, ap (λ (m : Numbers). m.made) rest)) (omega (arith, ap (λ (m : Numbers). m.removed) rest))
     (omega (arith, ap (λ (m : Numbers). m.routed) rest))
-    (ap (λ (m : Numbers). m.outputs) rest ∙ counted_at_each consumed_more s journal e core h (λ l o. output_consumes l o journal e refl refl (λ t. refl)))
+    (ap (λ (m : Numbers). m.outputs) rest ∙ counted_at_each consumed_more s journal e core h
+    (λ l o. output_consumes l o journal e refl refl (λ t. refl)))
 numbers_grow verdicts.Late s journal item whole aggs outs reports core h =
     let e : Entry = Route item whole verdicts.Late aggs outs reports in
     let more : Numbers = numbers_routed verdicts.Late outs s.lanes s.numbers in
@@ -394,7 +398,8 @@ numbers_grow verdicts.Late s journal item whole aggs outs reports core h =
     (λ k b. ap (λ (m : Numbers). get_or m.inputs k (unread_input false)) h.numbers))
     (omega (arith, ap (λ (m : Numbers). m.made) rest)) (omega (arith, ap (λ (m : Numbers). m.removed) rest))
     (omega (arith, ap (λ (m : Numbers). m.routed) rest))
-    (ap (λ (m : Numbers). m.outputs) rest ∙ counted_at_each late_more s journal e core h (λ l o. output_lates l o journal e refl refl (λ t. refl)))
+    (ap (λ (m : Numbers). m.outputs) rest ∙ counted_at_each late_more s journal e core h
+    (λ l o. output_lates l o journal e refl refl (λ t. refl)))
 numbers_grow verdicts.Removed s journal item whole aggs outs reports core h =
     let e : Entry = Route item whole verdicts.Removed aggs outs reports in
     let more : Numbers = numbers_routed verdicts.Removed outs s.lanes s.numbers in
@@ -404,7 +409,8 @@ numbers_grow verdicts.Removed s journal item whole aggs outs reports core h =
     (λ k b. ap (λ (m : Numbers). get_or m.inputs k (unread_input false)) h.numbers))
     (omega (arith, ap (λ (m : Numbers). m.made) rest)) (omega (arith, ap (λ (m : Numbers). m.removed) rest))
     (omega (arith, ap (λ (m : Numbers). m.routed) rest))
-    (ap (λ (m : Numbers). m.outputs) rest ∙ ap (λ (n : Numbers). n.outputs) h.numbers ∙ sym (outputs_stay s.setup journal e (λ o. refl) (λ o. refl)
+    (ap (λ (m : Numbers). m.outputs) rest ∙ ap (λ (n : Numbers). n.outputs) h.numbers ∙ sym
+    (outputs_stay s.setup journal e (λ o. refl) (λ o. refl)
     (λ o t. refl)))
 
 -- an item is routed with the verdict of the windows
@@ -461,7 +467,8 @@ route_line s r verdict reports journal h held number count views none is = recor
 }
 
 pub stands_route : (s : CoreState) (r : Routed) (verdict : Verdict) (bank : BankMemory) → IsCore s
-    → GroupsAgree s → s.held ≡ Some r.item → length r.aggs ≡ length s.setup.aggs → length r.outs ≡ length s.setup.outputs
+    → GroupsAgree s → s.held ≡ Some r.item → length r.aggs ≡ length s.setup.aggs → length r.outs
+    ≡ length s.setup.outputs
     → HasViews r.whole (r.aggs ++ r.outs)
     → (slice_get s.made 0 ≡ Some true → AllByRecursion (λ (view : Option Content). view ≡ None) r.aggs)
     → ((journal : List Entry) → Stands s journal → verdict ≡ judged s.setup journal r.whole r.aggs)
@@ -512,7 +519,8 @@ stands_route s r verdict bank core agree held number count views none is keeps j
 
 -- the same of a core that is what the call makes of the old one
 pub route_stands : (s n : CoreState) (r : Routed) (verdict : Verdict) → n ≡ after_route s r verdict n.bank → IsCore s
-    → GroupsAgree s → s.held ≡ Some r.item → length r.aggs ≡ length s.setup.aggs → length r.outs ≡ length s.setup.outputs
+    → GroupsAgree s → s.held ≡ Some r.item → length r.aggs ≡ length s.setup.aggs → length r.outs
+    ≡ length s.setup.outputs
     → HasViews r.whole (r.aggs ++ r.outs)
     → (slice_get s.made 0 ≡ Some true → AllByRecursion (λ (view : Option Content). view ≡ None) r.aggs)
     → ((journal : List Entry) → Stands s journal → verdict ≡ judged s.setup journal r.whole r.aggs)
@@ -528,7 +536,8 @@ pub begin_stands : (s n : CoreState) (o from to : ℕ) → n ≡ after_begin s o
     from ≡ waiting_from (lane_at s.lanes o) → to ≡ waiting_from (lane_at s.lanes o) + min (lane_at s.lanes o).batch
     (length (lane_at s.lanes o).waiting) → Continues s n (Begin o from to)
 begin_stands s n o from to q core agree b none some f t =
-    subst (λ (m : CoreState). Continues s m (Begin o from to)) (sym q) (stands_begin s o from to core agree b none some f t)
+    subst (λ (m : CoreState). Continues s m (Begin o from to)) (sym q)
+    (stands_begin s o from to core agree b none some f t)
 
 pub done_stands : (s n : CoreState) (o : ℕ) (ok : Bool) → n ≡ after_done s o ok → IsCore s → GroupsAgree s →
     o < length s.setup.outputs → IsSome (lane_at s.lanes o).flight → Continues s n (done_entry s o ok)

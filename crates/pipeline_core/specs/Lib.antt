@@ -23,3 +23,4 @@ pub mod Order
 pub mod Sent
 pub mod Work
 pub mod Worked
+pub mod UnroutedView

@@ -98,7 +98,8 @@ after_gather state g = record state {
   told = told_with state.told (gather_reports state g);
   numbers =
       with_reports (with_input state.numbers g.input
-      (gathered_too (input_numbers state.numbers g.input) g (is_some (most_of state g.input)))) (gather_reports state g);
+      (gathered_too (input_numbers state.numbers g.input) g (is_some (most_of state g.input))))
+      (gather_reports state g);
   stored = state.stored ++ gather_entry state g ∷ [];
   gathered = state.gathered + length g.metrics;
 }

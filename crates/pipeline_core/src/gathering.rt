@@ -12,7 +12,7 @@ ghost use Rattle.pipeline_core.specs.Steps.{IsGatherAnswer, HasGroup, IsAdmitted
 ghost use Rattle.pipeline_core.specs.Steps.{next_number, reports_started, start_group};
 ghost use Rattle.pipeline_core.specs.declared.gathering.GatherRefused.TheVariants as refused;
 
-use crate::room::{line_up, make_room, make_room_for, mark_items, queue_of};
+use crate::room::{line_up, make_room, make_room_for, queue_of};
 use crate::settling::tell;
 use crate::state::Core;
 use crate::told::Told;
@@ -138,12 +138,12 @@ impl Core {
         let copies = queue_of(self.alloc, g.metrics.as_slice())?;
         let mut reports = Vec::with_capacity(self.alloc, usize::from(count == 0))?;
         make_room_for(&mut self.stored, self.outputs.len(), count)?;
-        self.groups.reserve(count)?;
+        self.unrouted.reserve()?;
         make_place(&mut self.told, &self.tracker, g.input)?;
-        line_up(&mut self.raw, &mut self.made, copies, false)?;
+        line_up(&mut self.raw, copies)?;
         self.gathered += count as u32;
         let group = start(&mut self.tracker, most, g.input, count as u32, &mut reports);
-        mark_items(&mut self.groups, &group, count);
+        self.unrouted.push(false, &group, count);
         count_gathered(&mut self.account, &g, most.is_some());
         tell(&mut self.account, &mut self.told, reports.as_slice());
         self.stored.push_reserved(Entry::Gather {
@@ -242,7 +242,7 @@ impl Core {
             return Err(TakeAnswer::OutOfMemory);
         };
         let metric = self.raw.pop_front().unwrap();
-        let made = self.made[0];
+        let made = self.unrouted.is_first_made();
         let number = self.taken;
         self.held = Some(number);
         self.taken += 1;

@@ -12,6 +12,7 @@ mod settling;
 mod setup;
 mod state;
 mod told;
+mod unrouted;
 mod windows;
 
 pub use batches::{Batch, BeginAnswer};

@@ -1,7 +1,6 @@
 //! Room for entries and copies of metrics.
-ghost use Rattle.std.specs.Prelude.{◌≡◌, ◌+◌, ◌++◌, ◌<◌, ◌≤◌, ◌^◌, length, replicate, vec_len, vec_capacity};
+ghost use Rattle.std.specs.Prelude.{◌≡◌, ◌+◌, ◌++◌, ◌<◌, ◌≤◌, ◌^◌, vec_len, vec_capacity};
 ghost use Rattle.std.specs.Prelude.{IfOk, OnOk, OnErr};
-ghost use Rattle.std.specs.VecDeque.{deque_capacity, deque_len};
 ghost use Rattle.pipeline_core.specs.Offers.{offered_views};
 
 use crate::output::Offer;
@@ -11,7 +10,6 @@ use metric::Metric;
 use smallvec::SmallVec;
 use std::alloc::Global;
 use std::collections::VecDeque;
-use track_groups::GroupRef;
 
 /// Makes room for one entry more, and for one of each output.
 pub(crate) fn make_room(stored: &mut Vec<Entry>, outputs: usize) -> Result<(), OutOfMemory>
@@ -65,24 +63,15 @@ pub(crate) fn queue_of(alloc: Global, metrics: &[Metric]) -> Result<VecDeque<Met
     Ok(VecDeque::from_vec(copies))
 }
 
-/// Lets items wait behind those that are raw, all of them gathered or all of them made. Without memory all stays as it
-/// was.
+/// Lets items wait behind those that are raw. Without memory all stays as it was.
 pub(crate) fn line_up(
     raw: &mut VecDeque<Metric>,
-    made: &mut VecDeque<bool>,
     mut more: VecDeque<Metric>,
-    are_made: bool,
 ) -> Result<(), OutOfMemory>
     ensures raw { OnOk result (raw.new.items ≡ raw.old.items ++ more.items) }
-    ensures made { OnOk result (made.new.items ≡ made.old.items ++ replicate (length more.items) are_made) }
-    ensures err { OnErr result ((raw.new.items ≡ raw.old.items) × (made.new.items ≡ made.old.items)) }
+    ensures err { OnErr result (raw.new.items ≡ raw.old.items) }
 {
-    let count = more.len();
-    made.reserve(count)?;
     raw.append(&mut more)?;
-    for _item in 0..count {
-        made.push_back_reserved(are_made);
-    }
     Ok(())
 }
 
@@ -113,18 +102,4 @@ pub(crate) fn view_copies(alloc: Global, views: &[Option<Metric>]) -> Result<Vie
         copies.push(copy)?;
     }
     Ok(copies)
-}
-
-/// Lets so many items be of a group, or of none, for which there is room.
-pub(crate) fn mark_items(
-    groups: &mut VecDeque<Option<GroupRef>>,
-    group: &Option<GroupRef>,
-    count: usize,
-)
-    requires { deque_len groups.old + count ≤ deque_capacity groups.old }
-    ensures { groups.new.items ≡ groups.old.items ++ replicate count group.now }
-{
-    for _item in 0..count {
-        groups.push_back_reserved(*group);
-    }
 }

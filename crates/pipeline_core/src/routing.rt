@@ -59,8 +59,7 @@ impl Core {
         let mut reports = self.report_room()?;
         let verdict = judge(&mut self.bank, &r.whole, r.aggs.as_slice())?;
         self.held = None;
-        self.made.pop_front();
-        let group = self.groups.pop_front().unwrap();
+        let group = self.unrouted.pop();
         hand_out(&mut self.outputs, &mut self.account, r.item, verdict, views);
         settle_routed(
             &mut self.tracker,

@@ -105,11 +105,9 @@ pub(crate) fn settle_routed(
         → (marked_at marked.old.items output).pushed < 2 ^ 63 }
     requires copies { HasCopies (routed_copies verdict outs.now marked.old.items ++ copy_of false group.now)
         (held_routed tracker.old group.now verdict outs.now) }
-    requires outputs { length marked.old.items ≤ length outs.now }
-    requires most { length outs.now ≤ 16 }
-    requires none { reports.old.items ≡ [] }
-    requires room { length (routed_copies verdict outs.now marked.old.items ++ copy_of false group.now)
-        ≤ vec_capacity reports.old }
+    requires outputs { (length marked.old.items ≤ length outs.now) × (length outs.now ≤ 16) }
+    requires room { (reports.old.items ≡ []) × (length (routed_copies verdict outs.now marked.old.items
+        ++ copy_of false group.now) ≤ vec_capacity reports.old) }
     ensures marked { marked.new.items ≡ marked_routed group.now verdict outs.now marked.old.items }
     ensures held { IsTracker (held_routed tracker.old group.now verdict outs.now) }
     ensures settled { LetsGo (routed_copies verdict outs.now marked.old.items ++ copy_of false group.now)

@@ -17,6 +17,7 @@ use crate::marked::Marked;
 use crate::output::Output;
 use crate::setup::{CoreSetup, InSetup, OutSetup};
 use crate::told::Told;
+use crate::unrouted::Unrouted;
 use account::{Account, Entry, Report};
 use agg_bank::Bank;
 use fixed_num::{Moment, OutOfMemory};
@@ -25,7 +26,7 @@ use std::alloc::Global;
 use std::collections::VecDeque;
 use std::marker::Model;
 use std::mem;
-use track_groups::{GroupRef, Tracker};
+use track_groups::Tracker;
 
 /// Why no entries came.
 #[derive(Clone, Copy, Debug, PartialEq, Eq)]
@@ -45,8 +46,7 @@ pub struct Core {
     pub(crate) raw: VecDeque<Metric>,
     pub(crate) taken: u64,
     pub(crate) held: Option<u64>,
-    pub(crate) made: VecDeque<bool>,
-    pub(crate) groups: VecDeque<Option<GroupRef>>,
+    pub(crate) unrouted: Unrouted,
     pub(crate) tracker: Tracker,
     pub(crate) bank: Bank,
     pub(crate) outputs: Vec<Output>,
@@ -103,8 +103,7 @@ impl Core {
             raw: VecDeque::new(alloc),
             taken: 0,
             held: None,
-            made: VecDeque::new(alloc),
-            groups: VecDeque::new(alloc),
+            unrouted: Unrouted::new(alloc),
             tracker,
             bank,
             outputs,
@@ -158,6 +157,13 @@ impl Core {
         ensures { result ≡ self.now.held }
     {
         self.held
+    }
+
+    /// Whether an item is raw.
+    pub fn has_raw(&self) -> bool
+        ensures { IsTrue result ↔ (0 < length self.now.raw) }
+    {
+        !self.raw.is_empty()
     }
 
     /// How many outputs there are.

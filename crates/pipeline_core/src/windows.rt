@@ -3,14 +3,14 @@ ghost use Rattle.std.specs.Prelude.{◌≡◌, ◌+◌, ◌++◌, ◌<◌, ◌�
 ghost use Rattle.pipeline_core.specs.Moments.{IsStoppedAt, IsTickedAt};
 
 use crate::gathering::has_numbers;
-use crate::room::{line_up, make_room, mark_items, queue_of};
+use crate::room::{line_up, make_room, queue_of};
 use crate::state::Core;
+use crate::unrouted::Unrouted;
 use account::{Account, Entry};
 use fixed_num::{Moment, OutOfMemory, Seq};
 use metric::Metric;
 use std::alloc::Global;
 use std::collections::VecDeque;
-use track_groups::GroupRef;
 
 impl Core {
     /// Closes the windows that are due at a moment (nanoseconds since 1970), each once; what they make becomes items.
@@ -26,8 +26,7 @@ impl Core {
         take_in(
             self.alloc,
             &mut self.raw,
-            &mut self.made,
-            &mut self.groups,
+            &mut self.unrouted,
             &mut self.account,
             self.taken,
             made.as_slice(),
@@ -54,8 +53,7 @@ impl Core {
         take_in(
             self.alloc,
             &mut self.raw,
-            &mut self.made,
-            &mut self.groups,
+            &mut self.unrouted,
             &mut self.account,
             self.taken,
             made.as_slice(),
@@ -76,8 +74,7 @@ impl Core {
 fn take_in(
     alloc: Global,
     raw: &mut VecDeque<Metric>,
-    made: &mut VecDeque<bool>,
-    groups: &mut VecDeque<Option<GroupRef>>,
+    unrouted: &mut Unrouted,
     account: &mut Account,
     taken: u64,
     metrics: &[Metric],
@@ -85,21 +82,21 @@ fn take_in(
     requires { account.old.made ≤ taken + length raw.old.items }
     ensures few { OnOk result (taken + length raw.new.items < 2 ^ 63) }
     ensures raw { OnOk result (raw.new.items ≡ raw.old.items ++ metrics.now) }
-    ensures made { OnOk result (made.new.items ≡ made.old.items ++ replicate (length metrics.now) true) }
-    ensures groups { OnOk result (groups.new.items ≡ groups.old.items ++ replicate (length metrics.now) None) }
+    ensures made { OnOk result (unrouted.new.made ≡ unrouted.old.made ++ replicate (length metrics.now) true) }
+    ensures groups { OnOk result (unrouted.new.groups ≡ unrouted.old.groups ++ replicate (length metrics.now) None) }
     ensures account { OnOk result
         (account.new ≡ record account.old { made = account.old.made + length metrics.now }) }
-    ensures err { OnErr result ((raw.new.items ≡ raw.old.items) × (made.new.items ≡ made.old.items)
-        × (groups.new.items ≡ groups.old.items) × (account.new ≡ account.old)) }
+    ensures err { OnErr result ((raw.new.items ≡ raw.old.items) × (unrouted.new.made ≡ unrouted.old.made)
+        × (unrouted.new.groups ≡ unrouted.old.groups) × (account.new ≡ account.old)) }
 {
     let count = metrics.len();
     if !has_numbers(taken, raw.len(), count) {
         return Err(OutOfMemory);
     }
     let copies = queue_of(alloc, metrics)?;
-    groups.reserve(count)?;
-    line_up(raw, made, copies, true)?;
-    mark_items(groups, &None, count);
+    unrouted.reserve()?;
+    line_up(raw, copies)?;
+    unrouted.push(true, &None, count);
     account.made(count as u64);
     Ok(())
 }

@@ -1,4 +1,5 @@
-use Rattle.std.proofs.Common.{◌≡◌, ◌<◌, ◌+◌, ◌++◌, [], ◌∷◌, ◌∙◌, suc, map, set, ap, sym, subst, get_or, take, drop, length, arith}
+use Rattle.std.proofs.Common.{◌≡◌, ◌<◌, ◌+◌, ◌++◌, [], ◌∷◌, ◌∙◌, suc, map, set, ap, sym, subst, get_or, take, drop}
+use Rattle.std.proofs.Common.{length, arith}
 use Rattle.std.proofs.lemmas.List.{take_more, take_all, get_or_default}
 use Rattle.account.specs.declared.entry.Report.{Report}
 use Rattle.pipeline_core.specs.ToldView.{ToldState, no_reports, reports_in}
@@ -82,7 +83,8 @@ loop-report-preserved c =
     c.index_mut.result.now (omega (arith, known.0, c.loop-report.invariant.as_many))) in
     let on : k + 1 ≡ suc k = omega arith in
     rw (take_more c.args.reports.now k no_report c.loop-report-test.true, on)
-    (telling_more c.args.account.now c.args.told.now.items (take k c.args.reports.now) (drop (suc k) c.args.reports.now) r
+    (telling_more c.args.account.now c.args.told.now.items (take k c.args.reports.now) (drop
+    (suc k) c.args.reports.now) r
     c.loop-report.account c.loop-report.told.items h c.group_settled.new.self _ c.group_settled.ensures
     (ap (λ (x : ToldState). set c.loop-report.told.items r.input x) (c.push.ensures
     ∙ ap (λ (x : ToldState). record x { reports = x.reports ++ r ∷ [] }) place)))

@@ -1,4 +1,5 @@
-use Rattle.std.proofs.Common.{◌≡◌, ◌<◌, ◌∙◌, ap, sym, length, slice_set, ◌+◌, min, take, subst, arith, List, [], ◌∷◌, ◌++◌}
+use Rattle.std.proofs.Common.{◌≡◌, ◌<◌, ◌∙◌, ap, sym, length, slice_set, ◌+◌, min, take, subst, arith, List, [], ◌∷◌}
+use Rattle.std.proofs.Common.{◌++◌}
 use Rattle.std.proofs.lemmas.List.{length-set}
 use Rattle.pipeline_core.specs.Offers.{offered_views}
 use Rattle.pipeline_core.specs.declared.output.Offer.{Offer}
@@ -105,7 +106,7 @@ invariant_of-self-3 c =
     let at = (goal.at.invariant_of-self-3 c).After-begin in
     let groups = c.self.invariant.groups in
     record {
-      core = kept_groups _ c.self.inside.groups.items c.self.inside.tracker c.begin_marks.new.marked.items
+      core = kept_groups _ c.self.inside.unrouted.groups c.self.inside.tracker c.begin_marks.new.marked.items
           (core_state c.self.inside).told
           (kept_begin (core_state c.self.inside) c.args.output c.begin.new.self _ (known at)
           (ap (λ (x : LaneState Offer). x.flight) (first at) ∙ c.in_ok-ready.ensures.ok.0)

@@ -15,7 +15,8 @@ use Rattle.pipeline_core.specs.Stands.{HasJournal}
 use Rattle.pipeline_core.specs.Steps.{FitsRaw, HasGroup, HasRawRoom, after_gather, gather_entry, most_of}
 use Rattle.pipeline_core.specs.Steps.{next_number, reports_started, start_group, told_with}
 use Rattle.pipeline_core.specs.ToldView.{reports_in}
-use Rattle.pipeline_core.proofs.GatherKept.{HasPlaces, agree_gathered, core_gathered, few_counted, limit_is, places_kept}
+use Rattle.pipeline_core.proofs.GatherKept.{HasPlaces, agree_gathered, core_gathered, few_counted, limit_is}
+use Rattle.pipeline_core.proofs.GatherKept.{places_kept}
 use Rattle.pipeline_core.proofs.GatherKept.{places_to_tell, places_told, started_own}
 use Rattle.pipeline_core.proofs.GatherStanding.{gather_stands}
 use Rattle.pipeline_core.proofs.JournalKept.{agree_same, has_next, has_same, kept_same}
@@ -126,7 +127,8 @@ few c =
     subst (λ (xs : List Content). c.args.self.now.gathered + length xs < 2 ^ 32) c.as_slice-count.ensures
     c.in-Admitted.ensures.0
 
-few_items : (c : After-as_slice-2) → c.args.self.now.taken + length c.args.self.now.raw + length c.args.g.metrics < 2 ^ 63
+few_items : (c : After-as_slice-2)
+    → c.args.self.now.taken + length c.args.self.now.raw + length c.args.g.metrics < 2 ^ 63
 few_items c =
     subst (λ (xs : List Content). c.args.self.now.taken + length c.args.self.now.raw + length xs < 2 ^ 63)
     c.as_slice-count.ensures c.in-Admitted.ensures.3

@@ -43,17 +43,26 @@ invariant_of-self c =
             ∙ sym (length-map c.self.inside.told.items reports_in) ∙ groups.told_count;
       };
       told = has_still state (record state { told = told }) (told_stands state (record state { told = told })
-          c.args.input (ap (λ (xs : List (List Report)). record state { told = xs }) (told_is (goal.at.invariant_of-self c).After-next))
-          (omega (arith, within (goal.at.invariant_of-self c).After-next, length-map c.self.inside.told.items reports_in))) c.self.invariant.told;
+          c.args.input (ap (λ (xs : List (List Report)). record state { told = xs }) (told_is
+          (goal.at.invariant_of-self c).After-next))
+          (omega (
+            arith,
+            within
+                (goal.at.invariant_of-self c).After-next,
+            length-map c.self.inside.told.items reports_in,
+          )))
+          c.self.invariant.told;
       spare = c.self.invariant.spare;
       places = places_next c.self.inside.told.items c.args.input c.index_mut.result.now c.next.new.self
-          (live_of state.tracker) (within (goal.at.invariant_of-self c).After-next) c.index_mut.ensures.value (ap reports_in c.next.ensures.others)
+          (live_of state.tracker) (within (goal.at.invariant_of-self c).After-next) c.index_mut.ensures.value
+          (ap reports_in c.next.ensures.others)
           (ap (λ (x : ToldState). x.places) c.next.ensures.others) c.self.invariant.places;
     }
 
 pub returns-clause-after : goal.returns-clause-after
 returns-clause-after c =
-    ap (λ (xs : List (List Report)). record (core_state c.self.inside) { told = xs }) (told_is (goal.at.returns-clause-after c).After-next)
+    ap (λ (xs : List (List Report)). record (core_state c.self.inside) { told = xs }) (told_is
+    (goal.at.returns-clause-after c).After-next)
     ∙ ap (λ (s : CoreState). after_told s c.args.input) c.self.view_is
 
 pub returns-clause-stands : goal.returns-clause-stands

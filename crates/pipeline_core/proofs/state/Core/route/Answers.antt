@@ -9,11 +9,12 @@ use Rattle.account.specs.declared.entry.Entry.TheVariants.{Route}
 use Rattle.account.specs.declared.entry.Report.{Report}
 use Rattle.account.specs.declared.entry.Verdict.{Verdict}
 use Rattle.agg_bank.specs.Bank.{BankStands, lines_of}
-use Rattle.pipeline_core.specs.CoreState.{CoreState, GroupsAgree, IsCore, held_count}
+use Rattle.pipeline_core.specs.CoreState.{CoreState, GroupsAgree, IsCore}
 use Rattle.pipeline_core.specs.CoreView.{core_state}
 use Rattle.pipeline_core.specs.Stands.{HasJournal, IsAsBefore, Stands}
 use Rattle.pipeline_core.specs.Letting.{HasCopies, LetsGo}
-use Rattle.pipeline_core.specs.Steps.{after_route, held_group, lanes_routed, marked_routed, numbers_routed, route_copies}
+use Rattle.pipeline_core.specs.Steps.{after_route, held_group, lanes_routed, marked_routed, numbers_routed}
+use Rattle.pipeline_core.specs.Steps.{route_copies}
 use Rattle.pipeline_core.specs.Steps.{route_entry}
 use Rattle.pipeline_core.specs.Steps.{route_reports, route_tracker, told_with, with_reports}
 use Rattle.pipeline_core.specs.ToldView.{reports_in}
@@ -27,7 +28,8 @@ use Rattle.pipeline_core.proofs.GatherKept.{HasPlaces}
 use Rattle.pipeline_core.proofs.InStep.{marked_in_step, marked_within}
 use Rattle.pipeline_core.proofs.JournalKept.{has_next, has_still, kept_same, known_fewer}
 use Rattle.pipeline_core.proofs.LettingLemmas.{lets_all}
-use Rattle.pipeline_core.proofs.RouteKept.{core_routed, front_is, hand_few, hand_lives, held_limits, held_live, held_started}
+use Rattle.pipeline_core.proofs.RouteKept.{core_routed, front_is, hand_few, hand_lives, held_limits, held_live}
+use Rattle.pipeline_core.proofs.RouteKept.{held_started}
 use Rattle.pipeline_core.proofs.RouteKept.{held_places, room_for, route_has, routed_is, same_inputs}
 use Rattle.pipeline_core.proofs.TellingLemmas.{length-told_with}
 use Rattle.pipeline_core.proofs.Standing.{few_offers, on_err, stands_with}
@@ -36,16 +38,9 @@ use Rattle.pipeline_core.proofs.state.Core.route.Goals.{After-as_slice-3, After-
 use Rattle.pipeline_core.proofs.state.Core.route.Goals as goal
 
 -- the group of the item in hand
-group_is : (c : After-as_slice-3) → c.unwrap-group.result ≡ held_group (core_state c.self.inside)
+group_is : (c : After-as_slice-3) → c.pop-group.result ≡ held_group (core_state c.self.inside)
 group_is c =
-    front_is c.self.inside.groups.items c.pop_front-2.result c.unwrap-group.result c.unwrap-group.ensures
-    c.pop_front-2.ensures.lookup
-    (omega (
-      arith,
-      c.self.invariant.groups.known,
-      c.self.invariant.core.marks,
-      ap held_count (ap (λ (s : CoreState). s.held) c.self.view_is ∙ c.requires.held),
-    ))
+    front_is c.self.inside.unrouted.groups c.pop-group.result c.pop-group.ensures.first
 
 held_is : (c : After-as_slice-3) → (core_state c.self.inside).held ≡ Some c.args.r.item
 held_is c = ap (λ (s : CoreState). s.held) c.self.view_is ∙ c.requires.held
@@ -84,18 +79,18 @@ has c =
 
 -- the copies in the words of the call
 copies_are : (c : After-as_slice-3) → routed_copies c.in_ok-verdict.verdict c.as_slice-3.result.now
-    c.self.inside.marked.items ++ copy_of false c.unwrap-group.result ≡ route_copies (core_state c.self.inside) c.args.r
+    c.self.inside.marked.items ++ copy_of false c.pop-group.result ≡ route_copies (core_state c.self.inside) c.args.r
     c.in_ok-verdict.verdict
 copies_are c =
     ap (λ (outs : List (Option Content)). routed_copies c.in_ok-verdict.verdict outs c.self.inside.marked.items
-    ++ copy_of false c.unwrap-group.result) c.as_slice-3.ensures
+    ++ copy_of false c.pop-group.result) c.as_slice-3.ensures
     ∙ ap (λ (group : Option ℕ). routed_copies c.in_ok-verdict.verdict c.args.r.outs c.self.inside.marked.items
     ++ copy_of false group) (group_is c)
 
-tracker_is : (c : After-as_slice-3) → held_routed c.self.inside.tracker c.unwrap-group.result c.in_ok-verdict.verdict
+tracker_is : (c : After-as_slice-3) → held_routed c.self.inside.tracker c.pop-group.result c.in_ok-verdict.verdict
     c.as_slice-3.result.now ≡ route_tracker (core_state c.self.inside) c.args.r c.in_ok-verdict.verdict
 tracker_is c =
-    ap (λ (outs : List (Option Content)). held_routed c.self.inside.tracker c.unwrap-group.result
+    ap (λ (outs : List (Option Content)). held_routed c.self.inside.tracker c.pop-group.result
     c.in_ok-verdict.verdict outs) c.as_slice-3.ensures
     ∙ ap (λ (group : Option ℕ). held_routed c.self.inside.tracker group c.in_ok-verdict.verdict c.args.r.outs)
     (group_is c)
@@ -139,9 +134,11 @@ settle_routed-requires-clause-copies c =
 
 pub settle_routed-requires-clause-room : goal.settle_routed-requires-clause-room
 settle_routed-requires-clause-room c =
-    let at = (goal.at.settle_routed-requires-clause-room c).After-as_slice-3 in
-    rw (copies_are at) (room_for (core_state c.self.inside) c.args.r c.in_ok-verdict.verdict
-    (vec_capacity c.in_ok-reports.reports) (has at) c.in_ok-reports.ensures.room)
+    let at = (goal.at.settle_routed-requires-clause-room c).After-as_slice-3 in (
+      c.in_ok-reports.ensures.none,
+      rw (copies_are at) (room_for (core_state c.self.inside) c.args.r c.in_ok-verdict.verdict
+          (vec_capacity c.in_ok-reports.reports) (has at) c.in_ok-reports.ensures.room),
+    )
 
 -- what settling the copies makes
 settled : (c : After-as_slice-4) → (c.settle_routed.new.tracker ≡ after_copies (route_tracker
@@ -157,7 +154,7 @@ settled c =
     (subst (λ (xs : List Copy). LetsGo xs tracker c.in_ok-reports.reports.items c.settle_routed.new.tracker
     c.settle_routed.new.reports.items) (copies_are at)
     (subst (λ (t : TrackerState). LetsGo (routed_copies c.in_ok-verdict.verdict c.as_slice-3.result.now
-    c.self.inside.marked.items ++ copy_of false c.unwrap-group.result) t c.in_ok-reports.reports.items
+    c.self.inside.marked.items ++ copy_of false c.pop-group.result) t c.in_ok-reports.reports.items
     c.settle_routed.new.tracker c.settle_routed.new.reports.items) (tracker_is at) c.settle_routed.ensures.settled))
 
 told_are : (c : After-as_slice-4) → c.as_slice-4.result.now ≡ route_reports (core_state c.self.inside) c.args.r
@@ -223,15 +220,15 @@ returns-clause-ok c =
     let at = (goal.at.returns-clause-ok c).After-as_slice-4 in
     let before = (goal.at.returns-clause-ok c).After-as_slice-3 in
     let verdict : Verdict = c.in_ok-verdict.verdict in
-    routed_is (core_state c.self.inside) c.args.r verdict c.judge.new.bank c.pop_front.new.self.items
-    c.pop_front-2.new.self.items c.settle_routed.new.tracker c.hand_out.new.outputs.items
+    routed_is (core_state c.self.inside) c.args.r verdict c.judge.new.bank c.pop-group.new.self.made
+    c.pop-group.new.self.groups c.settle_routed.new.tracker c.hand_out.new.outputs.items
     c.settle_routed.new.marked.items (map reports_in c.tell.new.told.items) c.tell.new.account c.hand_out.new.account
-    c.settle_routed.new.reports.items c.push_reserved.new.self.items c.pop_front.ensures.rest c.pop_front-2.ensures.rest
+    c.settle_routed.new.reports.items c.push_reserved.new.self.items c.pop-group.ensures.made c.pop-group.ensures.groups
     (settled at).0
     (c.hand_out.ensures.lanes ∙ ap (λ (xs : List (Option Content)). lanes_routed c.args.r.item verdict xs
     c.self.inside.outputs.items) (c.in_ok-views.ensures ∙ c.as_slice.ensures))
     (c.settle_routed.ensures.marked
-    ∙ ap (λ (outs : List (Option Content)). marked_routed c.unwrap-group.result verdict outs c.self.inside.marked.items)
+    ∙ ap (λ (outs : List (Option Content)). marked_routed c.pop-group.result verdict outs c.self.inside.marked.items)
     c.as_slice-3.ensures
     ∙ ap (λ (group : Option ℕ). marked_routed group verdict c.args.r.outs c.self.inside.marked.items) (group_is before))
     (settled at).1
@@ -265,9 +262,9 @@ invariant_of-self-3 c =
           (subst IsCore c.self.view_is c.self.invariant.core) c.requires.held
           (c.judge.ensures.lines ∙ ap (λ (s : CoreState). lines_of s.bank) c.self.view_is));
       groups = record {
-        known = ap length c.pop_front-2.ensures.rest
-            ∙ known_fewer c.self.inside.groups.items c.self.inside.made.items c.self.invariant.groups.known
-            ∙ sym (ap length c.pop_front.ensures.rest);
+        known = ap length c.pop-group.ensures.groups
+            ∙ known_fewer c.self.inside.unrouted.groups c.self.inside.unrouted.made c.self.invariant.groups.known
+            ∙ sym (ap length c.pop-group.ensures.made);
         tracks = c.settle_routed.ensures.stands;
         limits = ap (λ (t : TrackerState). t.limits) (settled at).0
             ∙ held_limits verdict c.self.inside.tracker (held_group state) c.args.r.outs

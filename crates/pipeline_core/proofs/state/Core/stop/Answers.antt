@@ -53,21 +53,22 @@ invariant_of-self-2 c =
     let at = (goal.at.invariant_of-self-2 c).After-push_reserved in
     let groups = c.self.invariant.groups in
     record {
-      core = kept_groups _ c.take_in.new.groups.items c.self.inside.tracker c.self.inside.marked.items
+      core = kept_groups _ c.take_in.new.unrouted.groups c.self.inside.tracker c.self.inside.marked.items
           (core_state c.self.inside).told
           (kept_moment (core_state c.self.inside) c.in_ok-made.made.items c.take_in.new.raw.items
-          c.take_in.new.made.items c.take_in.new.account c.close_all.new.self _ _ _ c.self.invariant.core
+          c.take_in.new.unrouted.made c.take_in.new.account c.close_all.new.self _ _ _ c.self.invariant.core
           c.in_ok-take_in.ensures.few
           (c.in_ok-take_in.ensures.raw ∙ ap (λ (xs : List Content). c.self.inside.raw.items
           ++ xs) c.as_slice.ensures.value)
-          (c.in_ok-take_in.ensures.made ∙ ap (λ (xs : List Content). c.self.inside.made.items
+          (c.in_ok-take_in.ensures.made ∙ ap (λ (xs : List Content). c.self.inside.unrouted.made
           ++ replicate (length xs) true) c.as_slice.ensures.value)
           (c.in_ok-take_in.ensures.account ∙ ap (λ (xs : List Content). record c.self.inside.account
           { made = c.self.inside.account.made + length xs }) c.as_slice.ensures.value)
           c.close_all.ensures.lines);
       groups = record {
         known = ap length c.in_ok-take_in.ensures.groups
-            ∙ known_more c.self.inside.groups.items c.self.inside.made.items (length c.as_slice.result.now) None true
+            ∙ known_more c.self.inside.unrouted.groups c.self.inside.unrouted.made
+            (length c.as_slice.result.now) None true
             groups.known
             ∙ sym (ap length c.in_ok-take_in.ensures.made);
         tracks = groups.tracks;

@@ -1,0 +1,16 @@
+use Rattle.std.proofs.Common.{rules, ◌≡◌, ◌<◌, ◌++◌, ◌∙◌, [], replicate, drop, slice_get, Some, ℕ, ◌+◌, ◌≤◌, length}
+use Rattle.std.proofs.Common.{Bool, List, ◌∷◌, slice_index_or, sym, ap, subst}
+use Rattle.std.specs.List.{All}
+use Rattle.pipeline_core.specs.declared.unrouted.Together.{Together}
+use Rattle.pipeline_core.specs.UnroutedView.{UnroutedState, made_of}
+use Rattle.pipeline_core.proofs.UnroutedLemmas.{first_is, has_rows}
+use Rattle.pipeline_core.proofs.unrouted.Unrouted.is_first_made.Goals as goal
+
+-- src/unrouted.rt:74:5
+pub returns : goal.returns
+returns c =
+    subst (λ (u : UnroutedState). slice_get u.made 0 ≡ Some c.index.result.now.made) c.self.view_is
+    (first_is (λ (row : Together). row.made) c.self.inside.rows.items c.index.result.now c.self.invariant
+    (has_rows made_of c.self.inside.rows.items (subst (λ (u : UnroutedState). 0 < length u.made)
+    (sym c.self.view_is) c.requires))
+    ∙ ap (λ (row : Together). Some row.made) (sym c.index.ensures))

@@ -315,6 +315,18 @@ REFUSED_BY_PLACES = [
     ),
 ]
 
+# An input of two lines, each a group, of which one may be undelivered.
+HELD_BACK = b"""[agent]
+gather_pieces = 1
+flush_interval = "10ms"
+[[inputs.file]]
+files = ["in"]
+tracked = true
+max_undelivered_messages = 1
+[[outputs.file]]
+files = ["/dev/full"]
+"""
+
 FAULTS = [
     Case(
         "a configuration with a fault isn't run",
@@ -353,9 +365,81 @@ FAULTS = [
         report=ACCOUNT.replace(b"written 2 buffered 0", b"written 0 buffered 2"),
         told=b"hogzent: output 0 (/dev/full): 2 metrics left after 1 failed try\n",
     ),
+    Case(
+        "a tracked input is held back to the end by an output that takes nothing",
+        "timeout 5 hogzent run c; status=$?; rm agent.journal; exit $status",
+        laid(HELD_BACK),
+        status=6,
+        report=b"input 0 pieces 1 refused 0 passed 0 filtered 0 gathered 1 unread\n"
+        b"groups 0 delivered 0 rejected 0 undelivered 1\n"
+        b"items made 0 removed 0 routed 1\n"
+        b"output 0 filtered 0 late 0 consumed 0 written 0 buffered 1 dropped 0\n",
+        told=b"hogzent: input 0 (in): max_undelivered_messages of its groups were undelivered to the end, so no more was "
+        b"gathered; it was not read to its end\n"
+        b"hogzent: output 0 (/dev/full): 1 metric left after 3 failed tries\n",
+    ),
 ]
 
-CONFIGURED = [*RUNS_WELL, *REFUSED_BY_PLACES, *FAULTS]
+# Two inputs, a processor, an aggregator and three outputs.
+EXAMPLE = b"""[global_tags]
+dc = "x"
+[agent]
+interval = "10s"
+metric_batch_size = 1000
+metric_buffer_limit = 10000
+collection_jitter = "0s"
+workers = false
+[[inputs.file]]
+files = ["cpu.in"]
+tracked = true
+[[inputs.file]]
+files = ["web.in"]
+data_format = "statsd"
+[[processors.rename]]
+[[processors.rename.replace]]
+tag = "host"
+dest = "node"
+[[aggregators.minmax]]
+period = "10s"
+delay = "0s"
+drop_original = true
+namepass = ["cpu"]
+[[outputs.file]]
+files = ["a.out"]
+[[outputs.file]]
+files = ["b.out"]
+data_format = "graphite"
+namedrop = ["cpu"]
+[[outputs.file]]
+files = ["c.out"]
+data_format = "openmetrics"
+namepass = ["cpu"]
+"""
+
+GENERATED = [
+    Case(
+        "generated lines, where the input isn't there",
+        "hogzent gen 3 c && rm agent.journal",
+        laid(configured(inputs=("nowhere",))),
+        {"out": b"cpu,host=h0 v=0i 0\ncpu,host=h1 v=919i 1000000\ncpu,host=h2 v=838i 2000000\n"},
+        report=ACCOUNT.replace(b" 2", b" 3"),
+    ),
+    Case(
+        "a hundred thousand generated lines through an aggregator to three outputs",
+        "hogzent gen 100000 c && rm agent.journal a.out b.out c.out",
+        {"c": EXAMPLE},
+        report=b"input 0 pieces 100000 refused 0 passed 0 filtered 0 gathered 100000 ended\n"
+        b"input 1 pieces 0 refused 0 passed 0 filtered 0 gathered 0 ended\n"
+        b"groups 0 delivered 100 rejected 0 undelivered 0\n"
+        b"items made 100 removed 0 routed 100100\n"
+        b"output 0 filtered 0 late 0 consumed 100000 written 100 buffered 0 dropped 0\n"
+        b"output 1 filtered 100 late 0 consumed 100000 written 0 buffered 0 dropped 0\n"
+        b"output 2 filtered 0 late 0 consumed 100000 written 100 buffered 0 dropped 0\n",
+    ),
+    refused("generated lines to a folder", "hogzent gen 3 c", ".", laid(configured(outputs=(".",))), FOLDER),
+]
+
+CONFIGURED = [*RUNS_WELL, *REFUSED_BY_PLACES, *FAULTS, *GENERATED]
 
 # The example of docs/users/configuration.md with all four formats, and its inputs.
 DATA = os.path.join(os.path.dirname(os.path.realpath(__file__)), "..", "crates", "agent_main", "data")

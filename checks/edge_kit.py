@@ -50,7 +50,8 @@ UNREAD = NOTHING.replace(b"ended", b"unread")
 UNREAD_JOURNAL = SET_UP + b"stop 0 0\n" + UNREAD + b"end 1\n"
 
 USAGE = (
-    b"hogzent: usage: hogzent run CONFIG; or hogzent check CONFIG; or hogzent pipe IN OUT BATCH LIMIT,"
+    b"hogzent: usage: hogzent run CONFIG; or hogzent check CONFIG; or hogzent gen N CONFIG,"
+    b" with 1 <= N <= 1000000; or hogzent pipe IN OUT BATCH LIMIT,"
     b" with 1 <= BATCH <= LIMIT <= 10000, and OUT not agent.journal\n"
 )
 READ_FAULT = (

@@ -26,6 +26,7 @@ GLOBS = ['"cpu*"', '"m?m"', '"[a-c]"', '"[a"', '"{a}"', '"[!x]"', '"[b-a]"', '"a
 TIMES = ['"10s"', "10", '"1h30m.5s"', '"0.5ns0.5ns"', '"0.5ns"', "0", "9223372036", "9223372037", '"10"', "1.5",
          '""', '"1 s"', '"5.s"', '"1e3s"', "-1", "true"]
 COUNTS = ["1", "10", "1000", "10000", "10001", "0", "-1", "1.0", '"1"', "true", "[]"]
+GROUPS = ["1", "7", "99999", "100000", "100001", "0", "-1", "1.0", '"1"', "true", "[]"]
 FORMATS = ['"influx"', '"influx"', '"graphite"', '"openmetrics"', '"statsd"', '"json"', '"Influx"', '""', "1"]
 TEMPLATES = ["1"] + [json.dumps(it.decode(), ensure_ascii=False) for it in format_graphite.TEMPLATES]
 GOOD_TEMPLATES = [json.dumps(it.decode(), ensure_ascii=False) for it in format_graphite.TEMPLATES
@@ -52,16 +53,20 @@ def key_of(chance, output):
         return "data_format", chance.choice(FORMATS[:4] if chance.random() < 0.7 else FORMATS)
     if output and chance.random() < 0.95:
         return chance.choice(["metric_batch_size", "metric_buffer_limit"]), chance.choice(COUNTS)
-    return key_of_format(chance)
+    return key_of_input(chance)
 
 
-def key_of_format(chance):
-    """A key of an input for its format, with a value that mostly fits."""
-    kind = chance.randrange(4)
+def key_of_input(chance):
+    """A key that inputs alone have, with a value that mostly fits."""
+    kind = chance.randrange(6)
     if kind <= 1:
         return "templates", a_list(chance, GOOD_TEMPLATES if chance.random() < 0.7 else TEMPLATES)
     if kind == 2:
         return "separator", chance.choice(['"."', '"_"', '""', '"::"', "1"])
+    if kind == 3:
+        return "tracked", chance.choice(["true", "false", "true", "false", "1", '"true"'])
+    if kind == 4:
+        return "max_undelivered_messages", chance.choice(GROUPS[:4] if chance.random() < 0.7 else GROUPS)
     return chance.choice(("type_tag", "pass_out_of_range")), chance.choice(["true", "false", "true", "false", '"true"'])
 
 

@@ -239,6 +239,8 @@ INPUT = PLUGIN | {
     "separator": any_text,
     "type_tag": truth,
     "pass_out_of_range": truth,
+    "tracked": truth,
+    "max_undelivered_messages": count(100_000),
 }
 OUTPUT = PLUGIN | {
     "data_format": format_name(OUT_FORMATS),

@@ -1,6 +1,6 @@
 -- What holds of the values of a configuration without faults.
 use Rattle.std.proofs.Common.{◌≡◌, ◌≤◌, ◌+◌, ◌==◌, ℕ, ℤ, pos, negsuc, Bool, true, false, not}
-use Rattle.std.proofs.Common.{List, [], ◌∷◌, ◌++◌, length, map, Option, Some, None, refl, sym, ap, ◌∙◌, subst}
+use Rattle.std.proofs.Common.{List, [], ◌∷◌, ◌++◌, length, map, get_or, Option, Some, None, refl, sym, ap, ◌∙◌, subst}
 use Rattle.std.proofs.Common.{arith, option_map}
 use Rattle.std.proofs.lemmas.Bool.{leb-true, eqb-false}
 use Rattle.std.proofs.lemmas.Int.{ints}
@@ -24,8 +24,9 @@ use Rattle.agent_config.specs.Found.{at, whole, wrong}
 use Rattle.agent_config.specs.Kinds.{agent_limits, agent_number, aggregator_kind, kind_keys, kind_of}
 use Rattle.agent_config.specs.Kinds.{limits_faults, needs, number_at, output_kind, own_limits, time_at}
 use Rattle.agent_config.specs.Rows.{counted_or, members_in, table_at, time_in, timed_or}
-use Rattle.agent_config.specs.Sound.{HasSizes, HasTimes, IsCounted, IsFilled, IsSound}
+use Rattle.agent_config.specs.Sound.{HasSizes, HasTimes, HasUndelivered, IsCounted, IsFilled, IsSound}
 use Rattle.agent_config.specs.Unless.{unless}
+use Rattle.agent_config.specs.Usual.{usual_undelivered}
 use Rattle.agent_config.specs.Values.{config_of, global_tag, globals_of, input_of, output_of}
 use Rattle.agent_config.specs.declared.config.Config.{Config}
 use Rattle.agent_config.specs.declared.config.InputConf.{InputConf}
@@ -107,6 +108,22 @@ counted : (most other : ℕ) (number : Option ℤ) → IsCounted most other → 
 counted most other None h = h
 counted most other (Some (pos n)) h = counted_if most other n (nat_le 1 n && nat_le n most) refl h
 counted most other (Some (negsuc n)) h = h
+
+-- ---- inputs
+
+-- of the kinds of inputs, and of an unknown one
+kind_undelivered : (file : Bool) (members : Members)
+    → IsCounted 100000 (number_at (kind_keys (if file then Some kind.FileInput else None))
+    (codes "max_undelivered_messages") usual_undelivered members)
+unfolding number_at
+kind_undelivered true members =
+    counted 100000 usual_undelivered (option_and_then as_integer (get_member (codes "max_undelivered_messages")
+    members)) (omega arith, omega arith)
+kind_undelivered false _ = (omega arith, omega arith)
+
+undelivered : (plugin : Plugin) → HasUndelivered (input_of plugin)
+unfolding kind_of
+undelivered plugin = kind_undelivered (bytes_eq plugin.name (codes "file")) (plugin_members plugin)
 
 -- ---- outputs
 
@@ -341,6 +358,7 @@ sound_tree root none =
       outputs_apart = subst (λ (places : List (List ℕ)). IsDistinct bytes_eq (journal ∷ places))
           (output_places limits outs)
           (with_first journal (map (place_of class.Outputs) outs) outs_apart.0 outs_apart.1);
+      undelivered = All-map HasUndelivered input_of ins (λ k d l. undelivered (get_or ins k d));
       sizes = All-map HasSizes (output_of limits) outs (All-from_recursion
           (λ (plugin : Plugin). HasSizes (output_of limits plugin)) outs
           (all_sized limits 0 outs (agent_counted agent) none.outs.known none.outs.right));

@@ -17,14 +17,16 @@ use Rattle.agent_config.specs.Faults.{key_faults, keys_faults, number_faults, nu
 use Rattle.agent_config.specs.Faults.{plugin_faults, plugins_at}
 use Rattle.agent_config.specs.Faults.{unknown_faults}
 use Rattle.agent_config.specs.Found.{at, wrong}
-use Rattle.agent_config.specs.Kinds.{agent_limits, agent_number, kind_keys, kind_of, limits_faults}
+use Rattle.agent_config.specs.Kinds.{agent_limits, agent_number, input_kind, kind_keys, kind_of, limits_faults}
 use Rattle.agent_config.specs.Kinds.{number_at, output_kind, own_limits, row_of, time_at}
 use Rattle.agent_config.specs.Rows.{count_row, counted_or, is_counted, is_long_enough, members_in, number_by}
 use Rattle.agent_config.specs.Rows.{table_at, time_in, timed_or}
 use Rattle.agent_config.specs.Unless.{unless}
-use Rattle.agent_config.specs.Values.{agent_of, config_of, output_of}
-use Rattle.agent_config.specs.Written.{AgentIsWritten, IsAsWritten, IsWritten, OutputIsWritten, SizeIsWritten}
-use Rattle.agent_config.specs.Written.{WrittenCounts, number_in}
+use Rattle.agent_config.specs.Usual.{usual_undelivered}
+use Rattle.agent_config.specs.Values.{agent_of, config_of, input_of, output_of}
+use Rattle.agent_config.specs.Written.{AgentIsWritten, InputIsWritten, IsAsWritten, IsWritten, OutputIsWritten}
+use Rattle.agent_config.specs.Written.{SizeIsWritten, WrittenCounts, number_in}
+use Rattle.agent_config.specs.declared.fault.Class.{Class}
 use Rattle.agent_config.specs.declared.fault.Class.TheVariants as class
 use Rattle.agent_config.specs.declared.fault.FaultKind.TheVariants as kinds
 use Rattle.agent_config.specs.declared.shapes.CountRow.{CountRow}
@@ -123,6 +125,56 @@ agent_written agent e =
           (get_member (codes "flush_interval") agent) refl;
     }
 
+-- ---- plugins
+
+-- what holds of each plugin of a class that has no fault holds beside each that is made of one
+module _ {X : Type 0} (c : Class) (limits : Limits) (make : Plugin → X) (R : Plugin → X → Type 0)
+    (one : (plugin : Plugin) → unknown_faults c plugin ≡ [] → plugin_faults c limits plugin ≡ []
+    → R plugin (make plugin)) where
+  each_written : (number : ℕ) (plugins : List Plugin) → numbered c (unknown_faults c) number plugins ≡ []
+      → numbered c (plugin_faults c limits) number plugins ≡ [] → AllZip R plugins (map make plugins)
+  each_written number [] known e = tt
+  each_written number (plugin ∷ plugins) known e =
+      let unknown = unknown_faults c in
+      let bad = plugin_faults c limits in
+      let first = at c number (unknown plugin) in
+      let rest = numbered c unknown (number + 1) plugins in
+      let own = at c number (bad plugin) in
+      let others = numbered c bad (number + 1) plugins in (
+        one plugin (none_at c number (unknown plugin) (front_none first rest known))
+            (none_at c number (bad plugin) (front_none own others e)),
+        each_written (number + 1) plugins (rest_none first rest known) (rest_none own others e),
+      )
+
+-- ---- inputs
+
+-- how many groups may be undelivered at once, at an input of a kind
+abbrev UndeliveredIsWritten : Keys → Members → Type 0
+UndeliveredIsWritten keys members =
+    IsWritten (codes "max_undelivered_messages") members
+    (number_at keys (codes "max_undelivered_messages") usual_undelivered members)
+
+file_undelivered : (limits : Limits) (value : Option Members) → faults_by (Some kind.FileInput) limits value ≡ []
+    → UndeliveredIsWritten (keys.Plugin kind.FileInput) (members_in value)
+file_undelivered limits None e = cc
+file_undelivered limits (Some members) e =
+    number_written (keys.Plugin kind.FileInput) (codes "max_undelivered_messages") members usual_undelivered _ refl
+    (front_none (keys_faults (keys.Plugin kind.FileInput) members) _ e)
+
+kind_undelivered : (limits : Limits) (file : Bool) (value : Option Members)
+    → is_some (if file then Some kind.FileInput else None) ≡ true
+    → faults_by (if file then Some kind.FileInput else None) limits value ≡ []
+    → UndeliveredIsWritten (kind_keys (if file then Some kind.FileInput else None)) (members_in value)
+kind_undelivered limits true value known e = file_undelivered limits value e
+kind_undelivered limits false value known e = cc
+
+input_written : (limits : Limits) (plugin : Plugin) → unknown_faults class.Inputs plugin ≡ []
+    → plugin_faults class.Inputs limits plugin ≡ [] → InputIsWritten plugin (input_of plugin)
+unfolding kind_of plugin_faults
+input_written limits plugin known e =
+    kind_undelivered limits (bytes_eq plugin.name (codes "file")) (as_table plugin.value)
+    (holds (is_some (input_kind plugin.name)) (wrong kinds.UnknownKind plugin.name) known) e
+
 -- ---- outputs
 
 other_by : (row : Option CountRow) (other : ℕ) → number_by row other None ≡ other
@@ -191,33 +243,18 @@ output_written agent limits plugin agents known e =
     (holds (is_some (output_kind plugin.name)) (wrong kinds.UnknownKind plugin.name) known) e in
     record { batch = written.batch; limit = written.limit }
 
-outputs_written : (agent : Members) (limits : Limits) (number : ℕ) (plugins : List Plugin) → AreAgents agent limits
-    → numbered class.Outputs (unknown_faults class.Outputs) number plugins ≡ []
-    → numbered class.Outputs (plugin_faults class.Outputs limits) number plugins ≡ []
-    → AllZip (OutputIsWritten agent) plugins (map (output_of limits) plugins)
-outputs_written agent limits number [] agents known e = tt
-outputs_written agent limits number (plugin ∷ plugins) agents known e =
-    let unknown = unknown_faults class.Outputs in
-    let bad = plugin_faults class.Outputs limits in
-    let rest = numbered class.Outputs unknown (number + 1) plugins in
-    let others = numbered class.Outputs bad (number + 1) plugins in (
-      output_written agent limits plugin agents
-          (none_at class.Outputs number (unknown plugin) (front_none (at class.Outputs number (unknown plugin)) rest
-          known))
-          (none_at class.Outputs number (bad plugin) (front_none (at class.Outputs number (bad plugin)) others e)),
-      outputs_written agent limits (number + 1) plugins agents
-          (rest_none (at class.Outputs number (unknown plugin)) rest known)
-          (rest_none (at class.Outputs number (bad plugin)) others e),
-    )
-
 -- ---- the whole
 
 root_written : (root : Members) → IsFaultless root → IsAsWritten root (config_of root)
 root_written root none =
-    let agent = table_at (codes "agent") root in record {
+    let agent = table_at (codes "agent") root in
+    let limits = agent_limits agent in record {
       agent = agent_written agent none.agent;
-      outputs = outputs_written agent (agent_limits agent) 0 (plugins_at (codes "outputs") root)
-          (agents_written agent none.agent) none.outs.known none.outs.right;
+      inputs = each_written class.Inputs limits input_of InputIsWritten (input_written limits) 0
+          (plugins_at (codes "inputs") root) none.ins.known none.ins.right;
+      outputs = each_written class.Outputs limits (output_of limits) (OutputIsWritten agent)
+          (λ plugin. output_written agent limits plugin (agents_written agent none.agent)) 0
+          (plugins_at (codes "outputs") root) none.outs.known none.outs.right;
     }
 
 -- where a text has no fault, what is written counts

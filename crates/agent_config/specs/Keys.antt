@@ -11,6 +11,7 @@ use Rattle.agent_config.specs.declared.shapes.Shape.TheVariants.{Anything, Count
 use Rattle.agent_config.specs.declared.inner.Inner.TheVariants.{Replacement, FieldTargets, TagTargets, Rewriting}
 use Rattle.agent_config.specs.declared.shapes.Shape.TheVariants.{OneOf, Templates, Time, Globs, TagGlobs}
 use Rattle.agent_config.specs.declared.shapes.Shape.TheVariants.{WholeNumber, Table, Tables, Statistics}
+use Rattle.agent_config.specs.Usual.{usual_undelivered}
 
 -- is the key one of these
 abbrev pub is_one_of : List (List ℕ) → List ℕ → Bool
@@ -100,7 +101,11 @@ read_format_key key =
 
 -- what a key of an input of a file takes
 abbrev pub file_input_key : List ℕ → Option Shape
-file_input_key key = if bytes_eq key (codes "files") then Some Files else read_format_key key
+file_input_key key =
+    if bytes_eq key (codes "files") then Some Files
+    else if bytes_eq key (codes "tracked") then Some (Truth false)
+    else if bytes_eq key (codes "max_undelivered_messages") then count_to 100000 usual_undelivered
+    else read_format_key key
 
 -- what a key of an output of a file takes: its sizes what those of the agent take
 abbrev pub file_output_key : List ℕ → Option Shape

@@ -18,6 +18,10 @@ pub record HasSizes (output : OutputConf) : Type 0 where
   pub ordered : output.batch ≤ output.limit
   pub most : output.limit ≤ 10000
 
+-- how many groups of an input may be undelivered at once is at least one, and at most 100,000
+abbrev pub HasUndelivered : InputConf → Type 0
+HasUndelivered input = IsCounted 100000 input.max_undelivered
+
 -- neither the key nor the value of a tag is empty
 abbrev pub IsFilled : List ℕ × List ℕ → Type 0
 IsFilled tag = (1 ≤ length tag.0) × (1 ≤ length tag.1)
@@ -36,6 +40,7 @@ pub record IsSound (config : Config) : Type 0 where
   pub inputs_apart : IsDistinct bytes_eq (map (λ (input : InputConf). input.place) config.inputs)
   pub outputs_apart : IsDistinct bytes_eq
       (config.agent.journal ∷ map (λ (output : OutputConf). output.place) config.outputs)
+  pub undelivered : All HasUndelivered config.inputs
   pub sizes : All HasSizes config.outputs
   pub gather_pieces : IsCounted 10000 config.agent.gather_pieces
   pub final_tries : IsCounted 100 config.agent.final_tries

@@ -1,5 +1,5 @@
 -- The values of a configuration, each with its default.
-use Rattle.std.specs.Prelude.{◌==◌, ◌++◌, ℕ, false, List, [], ◌∷◌, length, map}
+use Rattle.std.specs.Prelude.{◌==◌, ◌++◌, ℕ, List, [], ◌∷◌, length, map}
 use Rattle.std.specs.Prelude.{codes, Option, Some, None, option_and_then, option_to_list, if◌then◌else◌}
 use Rattle.std.specs.Str.{bytes_eq}
 use Rattle.toml.specs.Data.{Members, no_members, member, get_member, as_str}
@@ -7,7 +7,7 @@ use Rattle.format_words.specs.Template.{Shape as Template}
 use Rattle.agent_config.specs.Aggs.{agg_of}
 use Rattle.agent_config.specs.Faults.{Plugin, journal_of, place_of, plugins_at, template_in, texts_in}
 use Rattle.agent_config.specs.Filters.{filter_of, plugin_members}
-use Rattle.agent_config.specs.Kinds.{agent_limits, agent_number, keys_of, own_limits, text_at, time_at}
+use Rattle.agent_config.specs.Kinds.{agent_limits, agent_number, keys_of, number_at, own_limits, text_at, time_at}
 use Rattle.agent_config.specs.Kinds.{truth_at}
 use Rattle.agent_config.specs.Rows.{table_at}
 use Rattle.agent_config.specs.Steps.{in_order, step_of}
@@ -98,8 +98,9 @@ input_of plugin = record {
   place = place_of Inputs plugin;
   format = in_format (keys_of Inputs plugin.name)
       (format_name (keys_of Inputs plugin.name) (plugin_members plugin)) (plugin_members plugin);
-  tracked = false;
-  max_undelivered = usual_undelivered;
+  tracked = truth_at (keys_of Inputs plugin.name) (codes "tracked") (plugin_members plugin);
+  max_undelivered = number_at (keys_of Inputs plugin.name)
+      (codes "max_undelivered_messages") usual_undelivered (plugin_members plugin);
   filter = filter_of (plugin_members plugin);
 }
 

@@ -8,6 +8,7 @@ use Rattle.agent_config.specs.Filters.{plugin_members}
 use Rattle.agent_config.specs.Values.{config_of}
 use Rattle.agent_config.specs.declared.config.AgentConf.{AgentConf}
 use Rattle.agent_config.specs.declared.config.Config.{Config}
+use Rattle.agent_config.specs.declared.config.InputConf.{InputConf}
 use Rattle.agent_config.specs.declared.config.OutputConf.{OutputConf}
 
 -- the whole number that stands at a key
@@ -27,6 +28,11 @@ pub record OutputIsWritten (agent : Members) (plugin : Plugin) (output : OutputC
   pub batch : SizeIsWritten (codes "metric_batch_size") agent (plugin_members plugin) output.batch
   pub limit : SizeIsWritten (codes "metric_buffer_limit") agent (plugin_members plugin) output.limit
 
+-- how many groups of an input may be undelivered at once is the number that stands at its key
+abbrev pub InputIsWritten : Plugin → InputConf → Type 0
+InputIsWritten plugin input =
+    IsWritten (codes "max_undelivered_messages") (plugin_members plugin) input.max_undelivered
+
 pub record AgentIsWritten (agent : Members) (conf : AgentConf) : Type 0 where
   pub gather_pieces : IsWritten (codes "gather_pieces") agent conf.gather_pieces
   pub final_tries : IsWritten (codes "final_tries") agent conf.final_tries
@@ -35,6 +41,7 @@ pub record AgentIsWritten (agent : Members) (conf : AgentConf) : Type 0 where
 
 pub record IsAsWritten (root : Members) (config : Config) : Type 0 where
   pub agent : AgentIsWritten (table_at (codes "agent") root) config.agent
+  pub inputs : AllZip InputIsWritten (plugins_at (codes "inputs") root) config.inputs
   pub outputs : AllZip (OutputIsWritten (table_at (codes "agent") root)) (plugins_at (codes "outputs") root)
       config.outputs
 

@@ -12,7 +12,7 @@ use crate::filters::filter_of;
 use crate::formats::{in_format_at, out_format_at};
 use crate::places::place_of;
 use crate::plugins::{Plugin, classes_of};
-use crate::rows::{agent_number, time_at, truth_at};
+use crate::rows::{agent_number, number_at, time_at, truth_at};
 use crate::steps::steps_of;
 use crate::table::{Keys, keys_of};
 use crate::tables::{Limits, agent_limits, journal_of, members_in, own_limits, table_at};
@@ -119,8 +119,8 @@ fn input_of<'a>(
     Ok(InputConf {
         place: Text::of(alloc, place_of(&Class::Inputs, plugin, empty))?,
         format: in_format_at(alloc, &keys, table)?,
-        tracked: false,
-        max_undelivered: USUAL_UNDELIVERED,
+        tracked: truth_at(&keys, table, "tracked"),
+        max_undelivered: number_at(&keys, table, "max_undelivered_messages", USUAL_UNDELIVERED),
         filter: filter_of(alloc, table)?,
     })
 }

@@ -24,7 +24,8 @@ const OUT_OF_MEMORY: &str = "hogzent: out of memory; nothing is promised of what
 fn advice(status: Status) -> Option<&'static str> {
     match status {
         Status::Usage => Some(
-            "hogzent: usage: hogzent run CONFIG; or hogzent check CONFIG; or hogzent pipe IN OUT BATCH LIMIT, \
+            "hogzent: usage: hogzent run CONFIG; or hogzent check CONFIG; or hogzent gen N CONFIG, \
+            with 1 <= N <= 1000000; or hogzent pipe IN OUT BATCH LIMIT, \
             with 1 <= BATCH <= LIMIT <= 10000, and OUT not agent.journal",
         ),
         Status::Config => Some("hogzent: the configuration was refused"),
@@ -86,7 +87,7 @@ fn tell_unopened(rt: &impl Eprint, words: &[String], refusal: Refusal, report: &
 
 /// Tells standard error of an end of which the run itself told people nothing, given what was reported.
 fn tell<R: Eprint>(rt: &R, words: &[String], status: Status, report: &[u8]) {
-    let [command, _] = words else {
+    let Some(command) = words.first() else {
         tell_advice(rt, advice(status));
         return;
     };
@@ -95,7 +96,7 @@ fn tell<R: Eprint>(rt: &R, words: &[String], status: Status, report: &[u8]) {
         return;
     }
     let advice = match command.as_str() {
-        "run" => run_advice(status, report),
+        "run" | "gen" => run_advice(status, report),
         "check" => check_advice(status),
         _ => advice(status),
     };

@@ -10,3 +10,4 @@ pub mod LoopLemmas
 pub mod RunningLemmas
 pub mod PipeLemmas
 pub mod RunCallLemmas
+pub mod GeneratingLemmas

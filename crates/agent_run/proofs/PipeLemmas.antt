@@ -3,8 +3,7 @@ use Rattle.std.proofs.Common.{◌≡◌, ◌≢◌, ◌≤◌, ℕ, zero, suc, B
 use Rattle.std.specs.List.{All, IsDistinct}
 use Rattle.std.specs.Str.{bytes_eq}
 use Rattle.std.proofs.lemmas.Slice.Eq.{bytes_eq-Decides}
-use Rattle.agent_config.specs.Sound.{IsSound, HasSizes}
-use Rattle.agent_config.specs.declared.config.OutputConf.{OutputConf}
+use Rattle.agent_config.specs.Sound.{HasSizes, HasUndelivered, IsSound}
 use Rattle.agent_run.specs.Command.{journal_place, pipe_config}
 
 differ : (a b : List ℕ) → (b ≢ a) → bytes_eq a b ≡ false
@@ -22,9 +21,9 @@ apart_two : (a b : List ℕ) → (b ≢ a) → IsDistinct bytes_eq (a ∷ b ∷ 
 unfolding IsDistinct
 apart_two a b ne = ((differ a b ne, tt), (tt, tt))
 
-sizes_one : (conf : OutputConf) → HasSizes conf → All HasSizes (conf ∷ [])
-sizes_one conf h zero d l = h
-sizes_one conf h (suc k) d l = absurd (omega (arith, l))
+all_one : {X : Type 0} (P : X → Type 0) (x : X) → P x → All P (x ∷ [])
+all_one P x h zero d l = h
+all_one P x h (suc k) d l = absurd (omega (arith, l))
 
 pub pipe_sound : (input output : List ℕ) (batch limit : ℕ) → (output ≢ journal_place) → 1 ≤ batch → batch ≤ limit
     → limit ≤ 10000 → IsSound (pipe_config input output batch limit)
@@ -35,7 +34,8 @@ pipe_sound input output batch limit apart some ordered most = record {
   times = λ k d l. absurd (omega (arith, l));
   inputs_apart = apart_one input;
   outputs_apart = apart_two journal_place output apart;
-  sizes = sizes_one _ (record { some = some; ordered = ordered; most = most });
+  undelivered = all_one HasUndelivered _ (omega arith, omega arith);
+  sizes = all_one HasSizes _ (record { some = some; ordered = ordered; most = most });
   gather_pieces = (omega arith, omega arith);
   final_tries = (omega arith, omega arith);
   globals = λ k d l. absurd (omega (arith, l));

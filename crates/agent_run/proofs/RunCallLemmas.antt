@@ -12,7 +12,7 @@ use Rattle.agent_base.specs.Views.{WorldView, OnlyIn}
 use Rattle.agent_config.specs.Faults.{faults_in, text_faults}
 use Rattle.agent_config.specs.declared.config.Config.{Config}
 use Rattle.agent_run.specs.Checking.{Approves, ChecksAs, IsJudged, IsUnread, Judges, TakesAtMost, TakesText, most_taken}
-use Rattle.agent_run.specs.Command.{IsCheck, IsPipe, IsRunAt}
+use Rattle.agent_run.specs.Command.{IsCheck, IsPipe, IsRunAt, NamesRun}
 use Rattle.agent_run.specs.Configured.{SaysRun, IsReadAt, IsRunUnread, NeitherFailed, IsUnready, IsUnrun, IsUnsaid}
 use Rattle.agent_run.specs.Configured.{RunEnds, SaysConfig, UnreadAs, unread_line, unread_status}
 use Rattle.agent_run.specs.Headline.{Ends, NothingRose, world_change}
@@ -173,6 +173,12 @@ module _ (status : Status) (place : List ℕ) (config : Config) (old mid last : 
     | inr away ↦ omega (arith, ap (λ (p : Place). p.part_faults) (read.only.others q away))
   ]
 
+  pub opened_since : IsOpenedSame mid last → IsOpenedSame old last
+  opened_since opened = record {
+    ins = λ q. opened.ins q ∙ opens_still q;
+    outs = λ q. opened.outs q ∙ ap (λ (p : Place). p.open_faults) (read.only.outs q);
+  }
+
   pub ran : (status ≡ statuses.OpenFault → IsRefusedBy config mid last)
       → ((status ≢ statuses.OpenFault) → Ends config (world_change config mid last) status)
       → ((status ≢ statuses.OpenFault) → (status ≢ statuses.OutOfMemory) → IsOpenedSame mid last) →
@@ -183,14 +189,11 @@ module _ (status : Status) (place : List ℕ) (config : Config) (old mid last : 
     read = read;
     refused = refused;
     ends = ends;
-    opened = λ o s. record {
-      ins = λ q. (opened o s).ins q ∙ opens_still q;
-      outs = λ q. (opened o s).outs q ∙ ap (λ (p : Place). p.open_faults) (read.only.outs q);
-    };
+    opened = λ o s. opened_since (opened o s);
     only = only;
   })
 
-  nothing_since : NothingRose old last → NothingRose mid last
+  pub nothing_since : NothingRose old last → NothingRose mid last
   nothing_since nothing = record {
     ins_opened = λ q rose. nothing.ins_opened q (omega (arith, rose, opens_still q));
     ins_used = λ q rose. nothing.ins_used q (omega (arith, rose, later_at q));
@@ -204,9 +207,13 @@ module _ (status : Status) (place : List ℕ) (config : Config) (old mid last : 
 
 -- ---- a command
 
+pub unrun_never_usage : (status : Status) (place : List ℕ) (old last : WorldView) → IsUnrun status place old last
+    → status ≡ statuses.Usage → ⊥
+unrun_never_usage status place old last h e = subst (λ (s : Status). UnreadAs s place old last) e h.answer
+
 pub run_never_usage : (status : Status) (place : List ℕ) (old last : WorldView) → SaysRun status place old last
     → status ≡ statuses.Usage → ⊥
-run_never_usage status place old last (inl h) e = subst (λ (s : Status). UnreadAs s place old last) e h.answer
+run_never_usage status place old last (inl h) e = unrun_never_usage status place old last h e
 run_never_usage status place old last (inr h) e =
     never_usage h.config (world_change h.config h.mid last) status
     (h.ends (λ o. let x : statuses.Usage ≡ statuses.OpenFault = sym e ∙ o in cc)) e
@@ -234,7 +241,7 @@ run_completes status place config old mid last some read refused ends nothing li
     limit
 
 -- a text with a fault, that no failure kept from being read
-unread_faulty : (status : Status) (place : List ℕ) (old last : WorldView) → UnreadAs status place old last
+pub unread_faulty : (status : Status) (place : List ℕ) (old last : WorldView) → UnreadAs status place old last
     → NeitherFailed (old.ins place) (last.ins place) → (status ≡ statuses.Config) ⊎ (status ≡ statuses.OutOfMemory)
 unread_faulty statuses.Config place old last h n = inl refl
 unread_faulty statuses.OutOfMemory place old last h n = inr refl
@@ -246,13 +253,19 @@ unread_faulty statuses.Usage place old last h n = absurd h
 unread_faulty statuses.Left place old last h n = absurd h
 unread_faulty statuses.Limit place old last h n = absurd h
 
+-- a text with a fault isn't read
+pub read_faulty : (place bytes : List ℕ) (config : Config) (old mid : WorldView) → IsReadAt place config old mid
+    → (old.ins place).bytes ≡ Some bytes → (text_faults bytes ≢ []) → ⊥
+read_faulty place bytes config old mid read told faulty =
+    faulty (subst (λ (b : Option (List ℕ)). IfSome b (λ xs. text_faults xs ≡ text_faults read.text)) told
+    (told_faults (old.ins place).bytes (mid.ins place).bytes read.text read.taken) ∙ read.says.0)
+
 pub run_faulty : (status : Status) (place bytes : List ℕ) (old last : WorldView) → SaysRun status place old last
     → (old.ins place).bytes ≡ Some bytes → (text_faults bytes ≢ []) → NeitherFailed (old.ins place) (last.ins place)
     → (status ≡ statuses.Config) ⊎ (status ≡ statuses.OutOfMemory)
 run_faulty status place bytes old last (inl h) told faulty n = unread_faulty status place old last h.answer n
 run_faulty status place bytes old last (inr h) told faulty n =
-    absurd (faulty (subst (λ (b : Option (List ℕ)). IfSome b (λ xs. text_faults xs ≡ text_faults h.read.text)) told
-    (told_faults (old.ins place).bytes (h.mid.ins place).bytes h.read.text h.read.taken) ∙ h.read.says.0))
+    absurd (read_faulty place bytes h.config old h.mid h.read told faulty)
 
 -- the same of a check
 judged_faulty : (status : Status) (bytes : List ℕ) (old new : Place) (rest new_rest : Rest)
@@ -279,8 +292,8 @@ check_faulty statuses.Usage place bytes ins new_ins rest new_rest h told faulty 
 check_faulty statuses.Left place bytes ins new_ins rest new_rest h told faulty n = absurd h
 check_faulty statuses.Limit place bytes ins new_ins rest new_rest h told faulty n = absurd h
 
-unread_run : (status : Status) (words : List (String Global)) (place : List ℕ) (old last : WorldView)
-    → IsRunAt words place → IsUnrun status place old last → (status ≢ statuses.Config) → (status ≢ statuses.OpenFault)
+pub unread_run : (status : Status) (words : List (String Global)) (place : List ℕ) (old last : WorldView)
+    → NamesRun words place → IsUnrun status place old last → (status ≢ statuses.Config) → (status ≢ statuses.OpenFault)
     → (status ≢ statuses.OutOfMemory) → IsRunUnread status words old last
 unread_run statuses.ReadFault words place old last command h config shut short =
     record { place = place; command = command; status_is = refl; unread = h }
@@ -301,7 +314,7 @@ pub run_ends : (status : Status) (words : List (String Global)) (place : List �
 run_ends status words place old last command (inr h) config shut short =
     inl (record { place = place; command = command; ran = h })
 run_ends status words place old last command (inl h) config shut short =
-    inr (unread_run status words place old last command h config shut short)
+    inr (unread_run status words place old last (inl command) h config shut short)
 
 -- words are no two commands
 pub pipe_or_run : (words : List (String Global)) (input output : List ℕ) (batch limit : ℕ) (place : List ℕ)

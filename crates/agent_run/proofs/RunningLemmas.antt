@@ -1,7 +1,8 @@
 -- What running a configuration leaves of a world.
-use Rattle.std.proofs.Common.{◌≡◌, ◌<◌, ◌≤◌, ◌+◌, ℕ, suc, Bool, List, [], ◌∷◌, length, get_or, refl, sym, ap, ◌∙◌}
+use Rattle.std.proofs.Common.{◌≡◌, ◌<◌, ◌≤◌, ◌+◌, ℕ, suc, List, [], ◌∷◌, length, get_or, refl, sym, ap, ◌∙◌}
 use Rattle.std.proofs.Common.{subst, inl, inr, arith, Option}
-use Rattle.std.specs.Prelude.{◌⊎◌, ◌||◌, All, Contains, None}
+use Rattle.std.specs.Prelude.{◌⊎◌, All, Contains, Err, IfOk, None, Ok, OnErr, Result}
+use Rattle.fixed_num.specs.declared.memory.OutOfMemory.{OutOfMemory}
 use Rattle.std.proofs.lemmas.List.{length-map, get_or-map, get_or_default}
 use Rattle.agent_base.specs.Moments.{Moments}
 use Rattle.agent_base.specs.Places.{Place, Rest, SameAtAll, AreHome, Opens, TakesIn}
@@ -13,16 +14,17 @@ use Rattle.agent_base.specs.Carried.{no_part, Carried, Timed}
 use Rattle.agent_workers.specs.Job.{job_of, rule_by}
 use Rattle.agent_workers.specs.Opened.{Carries, Times, change_by, config_ins, config_outs}
 use Rattle.agent_workers.proofs.OpenedLemmas.{carries_is}
-use Rattle.agent_workers.specs.Run.{Ran, Change, change, InRun, OutRun, IsPutSo}
+use Rattle.agent_workers.specs.Run.{Ran, Change, change, InRun, OutRun}
 use Rattle.agent_workers.specs.declared.rounds.Ending.{Ending}
 use Rattle.agent_run.specs.ClockLists.{HasInputClocks, clock_count, from_first, timed_at}
-use Rattle.agent_run.specs.Headline.{Ends, place_change, report_change, status_of, world_change, world_ins, world_outs}
+use Rattle.agent_run.specs.Headline.{Ends, place_change, report_change, world_change, world_ins, world_outs}
 use Rattle.agent_run.specs.Headline.{input_clock, run_clock}
 use Rattle.agent_run.specs.PlaceLists.{GoEach, AreOpened, AreGiven, AreHomeBut, PartsAreOut, IsInUnopened}
-use Rattle.agent_run.specs.PlaceLists.{IsOutUnopened, OpensAll, carried_at, in_places, out_places, place_at, places_in}
-use Rattle.agent_run.specs.PlaceLists.{places_out}
+use Rattle.agent_run.specs.PlaceLists.{IsOutUnopened, OnlyIns, OpensAll, carried_at, in_places, out_places, place_at}
+use Rattle.agent_run.specs.PlaceLists.{places_in, places_out}
 use Rattle.agent_run.specs.Places.{AreOpensSame, ReportsLine, open_fault_line}
-use Rattle.agent_run.specs.Running.{given_back, IsOpenedSame, IsRefusedBy, OnlyNamed, told, told_at}
+use Rattle.agent_run.specs.Running.{left_with, IsOpenedSame, IsRefusedBy, OnlyNamed, OnlyWritten, ReportsEnd}
+use Rattle.agent_run.specs.Running.{told, told_at}
 use Rattle.agent_run.specs.declared.status.Status.{Status}
 use Rattle.agent_run.specs.declared.status.Status.TheVariants as statuses
 use Rattle.agent_run.proofs.HeadlineLemmas.{reported_ends}
@@ -239,22 +241,16 @@ are_out places parts w0 w1 h = λ k l. (h.each k l).is_out
 
 module _ (config : Config) (status : Status) (old mid last : WorldView) where
   -- what it left, as the world tells it behind the report
-  pub leaves : (ending : Ending) (opened left : Carries) (times : Times)
-      → AreGiven (in_places config) left.sources old.ins mid.ins
+  leaves : (ending : Ending) (opened left : Carries) (times : Times)
       → AreGiven (out_places config) (left.journal ∷ left.sinks) old.outs mid.outs → mid.report ≡ old.report
-      → SameAtAll mid.ins last.ins → SameAtAll mid.outs last.outs →
+      → SameAtAll mid.outs last.outs →
       Ran (job_of config) ending (change_by config opened left times) →
-      (status ≡ statuses.OutOfMemory) ⊎ ((failed : Bool) × (status ≡ status_of ending.limit ending.read_fault
-      (ending.journal_fault || failed) ending.left) × IsPutSo failed
-      (report_change mid.report last.report) ending.account.items) →
+      ReportsEnd status ending mid.report last.report →
       Ends config (record {
-        run = change_by config opened (given_back config last) times;
+        run = change_by config opened (left_with config left.sources last) times;
         report = report_change old.report last.report;
       }) status
-  leaves ending opened left times ins outs report ins_same outs_same ran answer =
-      let read_is : left.sources ≡ told_at (in_places config) last.ins =
-      given_told (in_places config) left.sources old.ins mid.ins ins
-      ∙ sym (told_same (in_places config) mid.ins last.ins ins_same) in
+  leaves ending opened left times outs report outs_same ran answer =
       let all_is : left.journal ∷ left.sinks ≡ told_at (out_places config) last.outs =
       given_told (out_places config) (left.journal ∷ left.sinks) old.outs mid.outs outs
       ∙ sym (told_same (out_places config) mid.outs last.outs outs_same) in
@@ -268,13 +264,27 @@ module _ (config : Config) (status : Status) (old mid last : WorldView) where
         run = change_by config opened x times;
         report = report_change old.report last.report;
       }) status)
-      (carries_is left.sources (told_at (in_places config) last.ins) left.sinks
-      (told_at (places_out config.outputs) last.outs) left.journal (told (last.outs config.agent.journal)) read_is
+      (carries_is left.sources left.sources left.sinks
+      (told_at (places_out config.outputs) last.outs) left.journal (told (last.outs config.agent.journal)) refl
       written_is journal_is)
       (subst (λ (x : Change). Ends config (record { run = change_by config opened left times; report = x }) status)
       (reports_same old.report mid.report last.report report)
       (reported_ends config (change_by config opened left times) (report_change mid.report last.report) ending status
       ran answer))
+
+  -- the same of a run that came to its end, or for which memory was short
+  pub leaves_ran : (ran : Result Ending OutOfMemory) (opened left : Carries) (times : Times)
+      → AreGiven (out_places config) (left.journal ∷ left.sinks) old.outs mid.outs → mid.report ≡ old.report
+      → SameAtAll mid.outs last.outs →
+      IfOk ran (λ ending. Ran (job_of config) ending (change_by config opened left times)) →
+      IfOk ran (λ ending. ReportsEnd status ending mid.report last.report) → OnErr ran (status ≡ statuses.OutOfMemory) →
+      Ends config (record {
+        run = change_by config opened (left_with config left.sources last) times;
+        report = report_change old.report last.report;
+      }) status
+  leaves_ran (Ok ending) opened left times outs report outs_same ran answer short =
+      leaves ending opened left times outs report outs_same ran answer
+  leaves_ran (Err fault) opened left times outs report outs_same ran answer short = rw short tt
 
 -- ---- a run of a configuration
 
@@ -291,60 +301,116 @@ pub all_first : (config : Config) (timed : List Timed) (told_of : ℕ → Option
 all_first config timed told_of h = λ k d l.
     ap (λ (t : Timed). t.next) (get_or_default timed k d (from_first None) l ∙ h.each k (omega (arith, l, h.count_is)))
 
-module _ (config : Config) (status : Status) (start opened_at mid last : WorldView) (opened : Carries)
-    (opens : OpensAll config opened.sources (opened.journal ∷ opened.sinks) start opened_at) where
-  pub runs : (times : Times) → HasInputClocks config times.ins opened_at.clocks
-      → times.timer.moments ≡ opened_at.clocks run_clock → mid.report ≡ opened_at.report →
+-- what its outputs and its journal were and are, as the world tells it
+record AreWritten (config : Config) (sinks : List Carried) (journal : Carried) (world : WorldView) : Type 0 where
+  pub sinks_are : sinks ≡ told_at (places_out config.outputs) world.outs
+  pub journal_is : journal ≡ told (world.outs config.agent.journal)
+
+are_written : (config : Config) (sinks : List Carried) (journal : Carried) (world opened_at : WorldView)
+    → AreOpened (out_places config) (journal ∷ sinks) world.outs opened_at.outs → AreWritten config sinks journal world
+are_written config sinks journal world opened_at opens =
+    let all_is : journal ∷ sinks ≡ told_at (out_places config) world.outs =
+    opened_told (out_places config) (journal ∷ sinks) world.outs opened_at.outs opens in
+    record {
+      sinks_are = tail_is journal (told (world.outs config.agent.journal)) sinks
+          (told_at (places_out config.outputs) world.outs) all_is;
+      journal_is = head_is journal (told (world.outs config.agent.journal)) sinks
+          (told_at (places_out config.outputs) world.outs) all_is;
+    }
+
+-- a run over sources and clocks from wherever, given what it makes of its inputs
+module _ (config : Config) (status : Status) (start opened_at last : WorldView) (opened : Carries)
+    (outputs : AreOpened (out_places config) (opened.journal ∷ opened.sinks) start.outs opened_at.outs) where
+  pub written_runs : (times : Times) (sources : List Carried) (report : Rest) (ins : List InRun)
+      (moments : Option Moments) → report ≡ start.report
+      → config_ins config config.inputs opened.sources sources times.ins ≡ ins → times.timer.moments ≡ moments →
       Ends config (record {
-        run = change_by config opened (given_back config last) times;
-        report = report_change mid.report last.report;
+        run = change_by config opened (left_with config sources last) times;
+        report = report_change report last.report;
+      }) status → Ends config (record {
+        run = record {
+          ins = ins;
+          outs = world_outs config.outputs start last;
+          journal = place_change (start.outs config.agent.journal) (last.outs config.agent.journal);
+          moments = moments;
+        };
+        report = report_change start.report last.report;
+      }) status
+  written_runs times sources report ins moments same ins_are moments_are ends =
+      let written = are_written config opened.sinks opened.journal start opened_at outputs in
+      let after : Place = last.outs config.agent.journal in
+      change_of config status _ _ _ _ _ _ _ _ times.timer.moments moments ins_are
+      (ap (λ (xs : List Carried). config_outs config.outputs xs (told_at (places_out config.outputs) last.outs))
+      written.sinks_are ∙ outs_told config.outputs start last)
+      (ap (λ (x : Carried). change x.bytes after.bytes x.faults after.part_faults) written.journal_is)
+      (reports_same start.report report last.report same) moments_are ends
+
+module _ (config : Config) (status : Status) (start opened_at mid done last : WorldView) (opened : Carries)
+    (opens : OpensAll config opened.sources (opened.journal ∷ opened.sinks) start opened_at) where
+  pub runs : (times : Times) (sources : List Carried) → HasInputClocks config times.ins opened_at.clocks
+      → times.timer.moments ≡ opened_at.clocks run_clock → mid.report ≡ opened_at.report →
+      AreGiven (in_places config) sources done.ins last.ins → OnlyIns done last → Ends config (record {
+        run = change_by config opened (left_with config sources done) times;
+        report = report_change mid.report done.report;
       }) status → Ends config (world_change config start last) status
-  runs times clocks moments_are report ends =
+  runs times sources clocks moments_are report given only ends =
       let read_is : opened.sources ≡ told_at (in_places config) start.ins =
       opened_told (in_places config) opened.sources start.ins opened_at.ins opens.inputs in
-      let all_is : opened.journal ∷ opened.sinks ≡ told_at (out_places config) start.outs =
-      opened_told (out_places config) (opened.journal ∷ opened.sinks) start.outs opened_at.outs opens.outputs in
-      let journal_is : opened.journal ≡ told (start.outs config.agent.journal) =
-      head_is opened.journal (told (start.outs config.agent.journal)) opened.sinks
-      (told_at (places_out config.outputs) start.outs) all_is in
-      let written_is : opened.sinks ≡ told_at (places_out config.outputs) start.outs =
-      tail_is opened.journal (told (start.outs config.agent.journal)) opened.sinks
-      (told_at (places_out config.outputs) start.outs) all_is in
-      let after : Place = last.outs config.agent.journal in
-      change_of config status _ _ _ _ _ _ _ _ times.timer.moments (start.clocks run_clock)
-      (ap (λ (xs : List Carried). config_ins config config.inputs xs (told_at (in_places config) last.ins) times.ins)
-      read_is ∙ ins_told config 0 config.inputs times.ins start last clocks.count_is
+      let left_is : sources ≡ told_at (in_places config) last.ins =
+      given_told (in_places config) sources done.ins last.ins given in
+      let ends_last : Ends config (record {
+        run = change_by config opened (left_with config sources last) times;
+        report = report_change mid.report last.report;
+      }) status =
+      subst (λ (r : Rest). Ends config (record {
+        run = change_by config opened (left_with config sources last) times;
+        report = report_change mid.report r;
+      }) status) (sym only.report)
+      (subst (λ (x : Carries). Ends config (record {
+        run = change_by config opened x times;
+        report = report_change mid.report done.report;
+      }) status) (carries_is sources sources (told_at (places_out config.outputs) done.outs)
+      (told_at (places_out config.outputs) last.outs) (told (done.outs config.agent.journal))
+      (told (last.outs config.agent.journal)) refl
+      (sym (told_same (places_out config.outputs) done.outs last.outs only.outs))
+      (sym (ap told (only.outs config.agent.journal)))) ends) in
+      written_runs config status start opened_at last opened opens.outputs times sources mid.report
+      (world_ins config 0 config.inputs start last) (start.clocks run_clock) (report ∙ opens.only.report)
+      (ap (λ (xs : List Carried). config_ins config config.inputs xs sources times.ins) read_is
+      ∙ ap (λ (xs : List Carried). config_ins config config.inputs (told_at (in_places config) start.ins) xs times.ins)
+      left_is
+      ∙ ins_told config 0 config.inputs times.ins start last clocks.count_is
       (input_number config times.ins opened_at start clocks opens.only.clocks))
-      (ap (λ (xs : List Carried). config_outs config.outputs xs (told_at (places_out config.outputs) last.outs))
-      written_is ∙ outs_told config.outputs start last)
-      (ap (λ (x : Carried). change x.bytes after.bytes x.faults after.part_faults) journal_is)
-      (reports_same start.report mid.report last.report (report ∙ opens.only.report))
-      (moments_are ∙ opens.only.clocks run_clock) ends
+      (moments_are ∙ opens.only.clocks run_clock) ends_last
 
   -- what isn't named is as before
-  pub only_named : SameAtAll opened_at.ins mid.ins → SameAtAll opened_at.outs mid.outs
+  pub only_named : (sources : List Carried) → SameAtAll opened_at.ins mid.ins → SameAtAll opened_at.outs mid.outs
       → ((who : ℕ) → clock_count config ≤ who → mid.clocks who ≡ opened_at.clocks who)
-      → SameButAt (in_places config) mid.ins last.ins → SameButAt (out_places config) mid.outs last.outs
-      → SameAtAll mid.clocks last.clocks → OnlyNamed config start last
-  only_named ins outs clocks last_ins last_outs last_clocks = record {
-    ins = λ q away. last_ins q away ∙ ins q ∙ opens.inputs.others q away;
-    outs = λ q away. last_outs q away ∙ outs q ∙ opens.outputs.others q away;
-    clocks = λ who above. last_clocks who ∙ clocks who above ∙ opens.only.clocks who;
+      → OnlyWritten config mid done → AreGiven (in_places config) sources done.ins last.ins → OnlyIns done last
+      → OnlyNamed config start last
+  only_named sources ins outs clocks written given only = record {
+    ins = λ q away. given.others q away ∙ written.ins q ∙ ins q ∙ opens.inputs.others q away;
+    outs = λ q away. only.outs q ∙ written.outs q away ∙ outs q ∙ opens.outputs.others q away;
+    clocks = λ who above. only.clocks who ∙ written.clocks who ∙ clocks who above ∙ opens.only.clocks who;
   }
 
-  pub opened_same : SameAtAll opened_at.ins mid.ins → SameAtAll opened_at.outs mid.outs → AreOpensSame mid.ins last.ins
-      → AreOpensSame mid.outs last.outs → IsOpenedSame start last
-  opened_same ins outs last_ins last_outs = record {
-    ins = opens_then start.ins mid.ins last.ins (opens_along start.ins opened_at.ins mid.ins
-        (opened_opens (in_places config) opened.sources start.ins opened_at.ins opens.inputs) ins) last_ins;
-    outs = opens_then start.outs mid.outs last.outs (opens_along start.outs opened_at.outs mid.outs
-        (opened_opens (out_places config) (opened.journal ∷ opened.sinks) start.outs opened_at.outs opens.outputs) outs)
-        last_outs;
+  pub opened_same : (sources : List Carried) → SameAtAll opened_at.ins mid.ins → SameAtAll opened_at.outs mid.outs
+      → SameAtAll mid.ins done.ins → AreOpensSame mid.outs done.outs
+      → AreGiven (in_places config) sources done.ins last.ins → OnlyIns done last → IsOpenedSame start last
+  opened_same sources ins outs same done_outs given only = record {
+    ins = opens_then start.ins done.ins last.ins (opens_along start.ins mid.ins done.ins (opens_along start.ins
+        opened_at.ins mid.ins (opened_opens (in_places config) opened.sources start.ins opened_at.ins opens.inputs) ins)
+        same) (given_opens (in_places config) sources done.ins last.ins given);
+    outs = opens_along start.outs done.outs last.outs (opens_then start.outs mid.outs done.outs (opens_along start.outs
+        opened_at.outs mid.outs (opened_opens (out_places config) (opened.journal ∷ opened.sinks) start.outs
+        opened_at.outs opens.outputs) outs) done_outs) only.outs;
   }
 
-  pub ins_home_but : AreHome start.ins → SameAtAll opened_at.ins mid.ins → AreHomeBut (in_places config) mid.ins
-  ins_home_but home same = home_but_along (in_places config) opened_at.ins mid.ins
-      (home_but (in_places config) start.ins opened_at.ins home opens.inputs.others) same
+  pub ins_home_but : AreHome start.ins → SameAtAll opened_at.ins mid.ins → SameAtAll mid.ins done.ins
+      → AreHomeBut (in_places config) done.ins
+  ins_home_but home same then_same = home_but_along (in_places config) mid.ins done.ins
+      (home_but_along (in_places config) opened_at.ins mid.ins
+      (home_but (in_places config) start.ins opened_at.ins home opens.inputs.others) same) then_same
 
   pub outs_home_but : AreHome start.outs → SameAtAll opened_at.outs mid.outs → AreHomeBut (out_places config) mid.outs
   outs_home_but home same = home_but_along (out_places config) opened_at.outs mid.outs

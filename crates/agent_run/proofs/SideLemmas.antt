@@ -1,10 +1,10 @@
 -- The places of both sides: what is left where they are opened, or one isn't, or they are given back.
 use Rattle.std.proofs.Common.{◌≡◌, ℕ, List, refl, sym, ◌∙◌, subst, inl, inr}
 use Rattle.std.specs.Prelude.{IfErr, IsErrAnd, Result, Ok, Err}
-use Rattle.agent_base.specs.Places.{Place, SameAtAll, AreHome, Opens, TakesIn}
+use Rattle.agent_base.specs.Places.{Place, SameAtAll, AreHome, Opens}
 use Rattle.agent_base.specs.Views.{WorldView}
 use Rattle.agent_config.specs.declared.config.Config.{Config}
-use Rattle.agent_run.specs.PlaceLists.{AreOpened, AreGiven, AreRefused, GivesAll, IsLeftUnopened, OnlyIns, OnlyOuts}
+use Rattle.agent_run.specs.PlaceLists.{AreOpened, AreGiven, AreRefused, IsLeftUnopened, OnlyIns, OnlyOuts}
 use Rattle.agent_run.specs.PlaceLists.{OpensAll, in_places, out_places}
 use Rattle.agent_base.specs.Carried.{Carried}
 use Rattle.agent_run.specs.declared.places.Unopened.{Unopened}
@@ -96,15 +96,5 @@ pub opens_all : (config : Config) (read written : List Carried) (w0 w1 w2 : Worl
 opens_all config read written w0 w1 w2 ins first outs second = record {
   inputs = go_along Opens (in_places config) read w0.ins w0.ins w1.ins w2.ins (λ q. refl) ins second.ins;
   outputs = go_along Opens (out_places config) written w0.outs w1.outs w2.outs w2.outs first.outs outs (λ q. refl);
-  only = record { clocks = λ who. second.clocks who ∙ first.clocks who; report = second.report ∙ first.report };
-}
-
--- all parts were given back
-pub gives_all : (config : Config) (read written : List Carried) (w0 w1 w2 : WorldView)
-    → AreGiven (in_places config) read w0.ins w1.ins → OnlyIns w0 w1
-    → AreGiven (out_places config) written w1.outs w2.outs → OnlyOuts w1 w2 → GivesAll config read written w0 w2
-gives_all config read written w0 w1 w2 ins first outs second = record {
-  inputs = go_along TakesIn (in_places config) read w0.ins w0.ins w1.ins w2.ins (λ q. refl) ins second.ins;
-  outputs = go_along TakesIn (out_places config) written w0.outs w1.outs w2.outs w2.outs first.outs outs (λ q. refl);
   only = record { clocks = λ who. second.clocks who ∙ first.clocks who; report = second.report ∙ first.report };
 }

@@ -9,7 +9,7 @@ use Rattle.agent_config.specs.Values.{config_of}
 use Rattle.agent_config.specs.declared.config.Config.{Config}
 use Rattle.agent_config.specs.declared.fault.ConfigFault.{ConfigFault}
 use Rattle.agent_run.specs.Checking.{TakesAtMost, TakesText, IsUnreadAt, config_fault_line, most_taken}
-use Rattle.agent_run.specs.Command.{IsRunAt}
+use Rattle.agent_run.specs.Command.{IsRunAt, NamesRun}
 use Rattle.agent_run.specs.Headline.{Ends, world_change}
 use Rattle.agent_run.specs.Places.{IsUnopened, ReportsLine, RoseToOpen, RoseToUse}
 use Rattle.agent_run.specs.Places.{open_fault_line, read_fault_line}
@@ -118,9 +118,10 @@ pub record RunEnds (status : Status) (words : List (String Global)) (old new : W
   pub command : IsRunAt words place
   pub ran : IsRunThere status place old new
 
--- the words are a run of a configuration that wasn't read, since a read of it failed
+-- the words are a run of a configuration, over its own inputs or over generated ones, that wasn't read, since a read of
+-- it failed
 pub record IsRunUnread (status : Status) (words : List (String Global)) (old new : WorldView) : Type 0 where
   pub place : List ℕ
-  pub command : IsRunAt words place
+  pub command : NamesRun words place
   pub status_is : status ≡ statuses.ReadFault
   pub unread : IsUnrun statuses.ReadFault place old new

@@ -9,11 +9,12 @@ use Rattle.agent_base.specs.Views.{WorldView}
 use Rattle.agent_config.specs.declared.config.Config.{Config}
 use Rattle.agent_config.specs.declared.config.InputConf.{InputConf}
 use Rattle.agent_config.specs.declared.config.OutputConf.{OutputConf}
+use Rattle.pipeline_core.specs.Groups.{live_count}
 use Rattle.pipeline_core.specs.Legal.{has_ended}
 use Rattle.agent_workers.specs.Job.{job_of, rule_by, setup_of}
-use Rattle.agent_workers.specs.Run.{Change, change, InRun, OutRun, RunChange, run_at, buffered_at_end}
-use Rattle.agent_workers.specs.Run.{account_of, text_of}
-use Rattle.agent_workers.specs.Run.{IsRun, IsPutSo, IsCutShort, SomeIsFull}
+use Rattle.agent_workers.specs.Run.{Change, change, InRun, OutRun, RunChange, buffered_at_end}
+use Rattle.agent_workers.specs.Run.{account_of, text_of, Course, course_of}
+use Rattle.agent_workers.specs.Run.{IsRun, IsPutSo, IsBrokenOff, SomeIsFull, StaysHeld}
 use Rattle.agent_base.specs.Counts.{Rose}
 use Rattle.agent_run.specs.Command.{IsPipe, pipe_config}
 use Rattle.agent_run.specs.Places.{AreOpensSame, RoseToOpen, RoseToUse}
@@ -93,40 +94,61 @@ pub record Headline (config : Config) (x : WorldChange) (journal_failed report_f
   pub reported : IsPutSo report_failed x.report (account_of (setup_of (job_of config) start) journal)
 
 module _ (config : Config) (x : WorldChange) where
+  -- the course of the run whose headline it is
+  abbrev pub course_in : Headline config x false false → Course
+  course_in headline = course_of (job_of config) headline.start x.run.ins headline.journal
+
   -- an input was read to its end
-  pub record IsWhole (taken : ℕ → ℕ) (journal : List Entry) (number : ℕ) : Type 0 where
-    pub few : taken number < 2 ^ 40
-    pub ended : has_ended number journal ≡ true
+  pub record IsWhole (headline : Headline config x false false) (number : ℕ) : Type 0 where
+    pub few : headline.run.has.taken number < 2 ^ 40
+    pub ended : has_ended number headline.journal ≡ true
 
   -- a read of an input failed, and it wasn't read to its end
-  pub record IsBroken (taken : ℕ → ℕ) (journal : List Entry) (number : ℕ) : Type 0 where
-    pub few : taken number < 2 ^ 40
-    pub unended : has_ended number journal ≡ false
-    pub cut_short : IsCutShort number (run_at x.run.ins number) journal
+  pub record IsBroken (headline : Headline config x false false) (number : ℕ) : Type 0 where
+    pub few : headline.run.has.taken number < 2 ^ 40
+    pub unended : has_ended number headline.journal ≡ false
+    pub broken_off : IsBrokenOff (course_in headline) number
 
-  -- each input was read to its end, and nothing is buffered
+  -- an input wasn't read to its end, since it is held back: as many of its groups were live as may be, and the last
+  -- tries at the outputs had failed
+  pub record IsHeld (headline : Headline config x false false) (number : ℕ) : Type 0 where
+    pub few : headline.run.has.taken number < 2 ^ 40
+    pub unended : has_ended number headline.journal ≡ false
+    pub held : StaysHeld (course_in headline) number
+
+  -- a metric is buffered at some output
+  abbrev pub SomeIsBuffered : Headline config x false false → Type 0
+  SomeIsBuffered headline = (output : ℕ) × (output < length config.outputs)
+      × (buffered_at_end (setup_of (job_of config) headline.start) headline.journal output ≢ 0)
+
+  -- some input is held back
+  abbrev pub SomeIsHeld : Headline config x false false → Type 0
+  SomeIsHeld headline = (number : ℕ) × (number < length config.inputs) × IsHeld headline number
+
+  -- each input was read to its end, nothing is buffered, and no group is live
   pub record IsDone : Type 0 where
     pub headline : Headline config x false false
-    pub whole : (number : ℕ) → number < length config.inputs → IsWhole headline.run.has.taken headline.journal number
+    pub whole : (number : ℕ) → number < length config.inputs → IsWhole headline number
     pub none_left : (output : ℕ) → output < length config.outputs →
         buffered_at_end (setup_of (job_of config) headline.start) headline.journal output ≡ 0
+    pub none_live : (number : ℕ) → number < length config.inputs →
+        live_count (setup_of (job_of config) headline.start) headline.journal number ≡ 0
 
-  -- each input was read to its end, and a metric is buffered at some output
+  -- each input was read to its end or is held back; and a metric is buffered at some output, or some input is held
+  -- back
   pub record IsLeftOver : Type 0 where
     pub headline : Headline config x false false
-    pub whole : (number : ℕ) → number < length config.inputs → IsWhole headline.run.has.taken headline.journal number
-    pub output : ℕ
-    pub known : output < length config.outputs
-    pub some_left : buffered_at_end (setup_of (job_of config) headline.start) headline.journal output ≢ 0
+    pub each : (number : ℕ) → number < length config.inputs → IsWhole headline number ⊎ IsHeld headline number
+    pub some_left : SomeIsBuffered headline ⊎ SomeIsHeld headline
 
-  -- a read of some input failed, and it wasn't read to its end; so it is with each that wasn't
+  -- a read of some input failed, and it wasn't read to its end; so it is with each that wasn't and isn't held back
   pub record IsReadFault : Type 0 where
     pub headline : Headline config x false false
     pub each : (number : ℕ) → number < length config.inputs →
-        IsWhole headline.run.has.taken headline.journal number ⊎ IsBroken headline.run.has.taken headline.journal number
+        IsWhole headline number ⊎ IsBroken headline number ⊎ IsHeld headline number
     pub number : ℕ
     pub known : number < length config.inputs
-    pub broken : IsBroken headline.run.has.taken headline.journal number
+    pub broken : IsBroken headline number
 
   -- the put of the journal or of the report failed
   pub record IsReportFault : Type 0 where

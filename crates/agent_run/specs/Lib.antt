@@ -8,3 +8,5 @@ pub mod Checking
 pub mod PlaceLists
 pub mod ClockLists
 pub mod Running
+pub mod Generated
+pub mod Generating

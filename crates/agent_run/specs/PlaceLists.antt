@@ -88,13 +88,6 @@ pub record OpensAll (config : Config) (read written : List Carried) (old new : W
   pub outputs : AreOpened (out_places config) written old.outs new.outs
   pub only : OnlyPlaces old new
 
--- the part of each input, and of the journal and each output, was given back at its place, and nothing else
--- changed
-pub record GivesAll (config : Config) (read written : List Carried) (old new : WorldView) : Type 0 where
-  pub inputs : AreGiven (in_places config) read old.ins new.ins
-  pub outputs : AreGiven (out_places config) written old.outs new.outs
-  pub only : OnlyPlaces old new
-
 -- no part is out but at these places
 abbrev pub AreHomeBut : List (List ℕ) → (List ℕ → Place) → Type 0
 AreHomeBut places told = (other : List ℕ) → (Contains places other → ⊥) → (told other).is_out ≡ false

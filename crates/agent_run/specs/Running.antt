@@ -1,13 +1,18 @@
 -- What a run of a configuration touches, and what it leaves where a place isn't opened.
-use Rattle.std.specs.Prelude.{◌≡◌, ◌≤◌, ◌⊎◌, ℕ, List, Contains, map}
-use Rattle.agent_base.specs.Places.{Place, SameAtAll}
+use Rattle.std.specs.Prelude.{◌≡◌, ◌≤◌, ◌⊎◌, ◌||◌, ℕ, Bool, List, Contains, map}
+use Rattle.agent_base.specs.Places.{Place, Rest, SameAtAll}
 use Rattle.agent_base.specs.Views.{WorldView, SameButAt}
 use Rattle.agent_config.specs.declared.config.Config.{Config}
 use Rattle.agent_base.specs.Carried.{Carried}
 use Rattle.agent_workers.specs.Opened.{Carries}
+use Rattle.agent_workers.specs.Run.{IsPutSo}
+use Rattle.agent_workers.specs.declared.rounds.Ending.{Ending}
 use Rattle.agent_run.specs.ClockLists.{clock_count}
-use Rattle.agent_run.specs.PlaceLists.{PartsAreOut, in_places, out_places, places_out}
+use Rattle.agent_run.specs.Headline.{report_change, status_of}
+use Rattle.agent_run.specs.PlaceLists.{in_places, out_places, places_out}
 use Rattle.agent_run.specs.Places.{AreOpensSame, IsUnopened, ReportsLine, open_fault_line}
+use Rattle.agent_run.specs.declared.status.Status.{Status}
+use Rattle.agent_run.specs.declared.status.Status.TheVariants as statuses
 
 -- what a part that is opened at a place carries, and one that was given back there carried
 abbrev pub told : Place → Carried
@@ -30,26 +35,29 @@ pub record OnlyNamed (config : Config) (old new : WorldView) : Type 0 where
   pub outs : SameButAt (out_places config) old.outs new.outs
   pub clocks : (who : ℕ) → clock_count config ≤ who → new.clocks who ≡ old.clocks who
 
--- what the parts of a configuration carry that were given back in a world
-abbrev pub given_back : Config → WorldView → Carries
-given_back config world = record {
-  sources = told_at (in_places config) world.ins;
+-- no output place changed but those that a configuration names, no input place, and no clock
+pub record OnlyWritten (config : Config) (old new : WorldView) : Type 0 where
+  pub ins : SameAtAll old.ins new.ins
+  pub outs : SameButAt (out_places config) old.outs new.outs
+  pub clocks : SameAtAll old.clocks new.clocks
+
+-- what the parts of a run carry at its end: its sources, and what was given back in a world of those that are written
+abbrev pub left_with : Config → List Carried → WorldView → Carries
+left_with config sources world = record {
+  sources = sources;
   sinks = told_at (places_out config.outputs) world.outs;
   journal = told (world.outs config.agent.journal);
 }
-
--- at each place of a configuration a part is out
-pub record AreItsOut (config : Config) (world : WorldView) : Type 0 where
-  pub ins : PartsAreOut (in_places config) world.ins
-  pub outs : PartsAreOut (out_places config) world.outs
-
--- no place changed but those of a configuration, and no clock
-pub record OnlyIts (config : Config) (old new : WorldView) : Type 0 where
-  pub ins : SameButAt (in_places config) old.ins new.ins
-  pub outs : SameButAt (out_places config) old.outs new.outs
-  pub clocks : SameAtAll old.clocks new.clocks
 
 -- no count of failed opens changed
 pub record IsOpenedSame (old new : WorldView) : Type 0 where
   pub ins : AreOpensSame old.ins new.ins
   pub outs : AreOpensSame old.outs new.outs
+
+-- The account of a run that came to this end was reported, and this is the status of the end and of whether that
+-- failed; or memory was short.
+abbrev pub ReportsEnd : Status → Ending → Rest → Rest → Type 0
+ReportsEnd status ending old new = (status ≡ statuses.OutOfMemory)
+    ⊎ ((failed : Bool)
+    × (status ≡ status_of ending.limit ending.read_fault (ending.journal_fault || failed) ending.left)
+    × IsPutSo failed (report_change old new) ending.account.items)

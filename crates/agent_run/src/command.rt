@@ -1,13 +1,16 @@
 //! The words of a command.
 ghost use Rattle.std.specs.Prelude.{◌≡◌, ◌≢◌, ◌==◌, ◌<◌, ◌≤◌, ℕ, List, [], ◌∷◌, length, map, string_bytes};
 ghost use Rattle.std.specs.Prelude.{MatchOption, slice_index};
-ghost use Rattle.agent_run.specs.Command.{IsCommand, IsNoCommand, IsNumber, IsPipe, IsPipeOf, NamesNoConfig};
+ghost use Rattle.agent_run.specs.Command.{IsCommand, IsGen, IsNoCommand, IsNumber, IsPipe, IsPipeOf, NamesNoConfig};
 
 use agent_config::usual_journal;
 use fixed_num::read_uint;
 
 /// The greatest batch size and buffer limit.
-const MOST: u64 = 10_000;
+const MOST: u32 = 10_000;
+
+/// The most lines that an input is generated with.
+const MOST_LINES: u32 = 1_000_000;
 
 /// One line protocol input and one line protocol output.
 #[derive(Clone, Copy, Debug)]
@@ -22,6 +25,15 @@ pub struct Pipe<'a> {
     pub limit: u32,
 }
 
+/// A configuration, over inputs that are generated.
+#[derive(Clone, Copy, Debug)]
+pub struct Gen<'a> {
+    /// How many lines each input of line protocol has.
+    pub lines: u32,
+    /// The place of the configuration.
+    pub place: &'a str,
+}
+
 /// A command.
 #[derive(Clone, Copy, Debug)]
 pub enum Command<'a> {
@@ -31,6 +43,8 @@ pub enum Command<'a> {
     Check(&'a str),
     /// Runs the configuration at a place.
     Run(&'a str),
+    /// Runs a configuration over inputs that are generated.
+    Gen(Gen<'a>),
 }
 
 fn begins_with_plus(bytes: &[u8]) -> bool
@@ -42,17 +56,23 @@ fn begins_with_plus(bytes: &[u8]) -> bool
     }
 }
 
-/// The number that a word of decimal digits spells, where it is at most 10,000.
-fn number_of(word: &str) -> Option<u32>
-    ensures { MatchOption result ((n : ℕ) → IsNumber word.now n → MOST < n) (λ n. IsNumber word.now n
-        × (n ≤ MOST)) }
+/// The number that a word of decimal digits spells, where it is at most so great.
+fn number_of(word: &str, most: u32) -> Option<u32>
+    ensures { MatchOption result ((n : ℕ) → IsNumber word.now n → most < n) (λ n. IsNumber word.now n
+        × (n ≤ most)) }
 {
     let bytes = word.as_bytes();
     if begins_with_plus(bytes) {
         return None;
     }
     match read_uint(bytes) {
-        Ok(n) => { if n <= MOST { Some(n as u32) } else { None } }
+        Ok(n) => {
+            if n <= u64::from(most) {
+                Some(n as u32)
+            } else {
+                None
+            }
+        }
         Err(_) => None,
     }
 }
@@ -98,8 +118,8 @@ fn pipe_of<'a>(words: &Words<'a>) -> Option<Pipe<'a>>
     if words.command != "pipe" || words.output == usual_journal() {
         return None;
     }
-    let batch = number_of(words.batch)?;
-    let limit = number_of(words.limit)?;
+    let batch = number_of(words.batch, MOST)?;
+    let limit = number_of(words.limit, MOST)?;
     if batch == 0 || limit < batch {
         return None;
     }
@@ -132,11 +152,41 @@ fn two_of(words: &[String]) -> Option<(&str, &str)>
     Some((command.as_str(), place.as_str()))
 }
 
-/// The place whose configuration the words want to be checked, or run.
+/// The words, where they are three.
+fn three_of(words: &[String]) -> Option<(&str, &str, &str)>
+    ensures { MatchOption result (length words.now ≢ 3)
+        (λ w. map string_bytes words.now ≡ w.0.now ∷ w.1.now ∷ w.2.now ∷ []) }
+{
+    let [command, lines, place] = words else {
+        return None;
+    };
+    Some((command.as_str(), lines.as_str(), place.as_str()))
+}
+
+/// The run over generated inputs that the words are.
+fn gen_in(words: &[String]) -> Option<Gen<'_>>
+    ensures { MatchOption result
+        ((lines : ℕ) (place : List ℕ) → IsGen words.now lines place → ⊥)
+        (λ run. IsGen words.now run.lines run.place.now) }
+{
+    let (command, lines, place) = three_of(words)?;
+    if command != "gen" {
+        return None;
+    }
+    let lines = number_of(lines, MOST_LINES)?;
+    if lines == 0 {
+        return None;
+    }
+    Some(Gen { lines, place })
+}
+
+/// The command on a configuration that the words are.
 fn config_command(words: &[String]) -> Option<Command<'_>>
     ensures { MatchOption result (NamesNoConfig words.now) (IsCommand words.now) }
 {
-    let (command, place) = two_of(words)?;
+    let Some((command, place)) = two_of(words) else {
+        return Some(Command::Gen(gen_in(words)?));
+    };
     match command {
         "check" => Some(Command::Check(place)),
         "run" => Some(Command::Run(place)),

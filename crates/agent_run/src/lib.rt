@@ -6,6 +6,8 @@ mod clocks;
 mod command;
 mod fault_words;
 mod faults;
+mod generated;
+mod generating;
 mod lines;
 mod pipe;
 mod places;
@@ -15,6 +17,7 @@ mod running;
 mod shown;
 mod status;
 mod telegraf;
+mod ticking;
 mod top;
 
 pub use shown::Shown;

@@ -77,8 +77,16 @@ fn stop_of(end: &InputEnd) -> Option<&'static str> {
             "with its next gather the run would have 4,294,967,296 metrics, or more; \
             it was not read to its end",
         ),
+        None if end.is_faulted && end.is_held => Some(
+            "a read failed; what was read just before was not gathered, as max_undelivered_messages of its groups were \
+            undelivered",
+        ),
         None if end.is_faulted => Some(
             "a read failed; what was read before was sent, buffered or dropped, as the account says",
+        ),
+        None if end.is_held => Some(
+            "max_undelivered_messages of its groups were undelivered to the end, so no more was gathered; it was not read \
+            to its end",
         ),
         None => None,
     }

@@ -6,7 +6,7 @@ ghost use Rattle.agent_base.specs.Carried.{Carried};
 ghost use Rattle.agent_base.specs.Places.{AreHome, Opens, Place, Refuses, SameBut, TakesIn};
 ghost use Rattle.agent_base.specs.Views.{WorldView};
 ghost use Rattle.std.proofs.Common.{◌∙◌};
-ghost use Rattle.agent_run.specs.PlaceLists.{AreGiven, AreHomeBut, AreOpened, PartsAreOut, AreRefused, GivesAll, IsLeftUnopened, IsUnopenedBy};
+ghost use Rattle.agent_run.specs.PlaceLists.{AreGiven, AreHomeBut, AreOpened, PartsAreOut, AreRefused, IsLeftUnopened, IsUnopenedBy};
 ghost use Rattle.agent_run.specs.PlaceLists.{OnlyIns, OnlyOuts, OpensAll, StopsAt};
 ghost use Rattle.agent_run.specs.PlaceLists.{in_places, out_places, places_in, places_out, read_parts};
 ghost use Rattle.agent_run.specs.PlaceLists.{written_parts};
@@ -225,8 +225,9 @@ fn open_side<'a, W: World, S: Side<W>>(
     }
 }
 
-/// Opens the places that are written: those of the outputs in their order, and the journal's.
-fn open_written<'a, W: World>(
+/// Opens the places that are written: those of the outputs in their order, and the journal's. Where one isn't opened,
+/// those that were are given back unused, and it is named. It takes no memory.
+pub(crate) fn open_written<'a, W: World>(
     world: &mut W,
     config: &'a Config,
     parts: Vec<W::Out>,
@@ -256,13 +257,19 @@ fn open_written<'a, W: World>(
 }
 
 /// Gives back the parts that are written: those of the outputs in their order, and the journal's.
-fn give_written<W: World>(world: &mut W, config: &Config, outputs: Vec<W::Out>, journal: W::Out)
+pub(crate) fn give_written<W: World>(
+    world: &mut W,
+    config: &Config,
+    outputs: Vec<W::Out>,
+    journal: W::Out,
+)
     requires count { length outputs.items ≡ length config.now.outputs }
     requires apart { IsDistinct bytes_eq (out_places config.now) }
     requires out { PartsAreOut (out_places config.now) (W.view world.old).outs }
     ensures given { AreGiven (out_places config.now)
         (W.Out.told journal ∷ map W.Out.told outputs.items)
         (W.view world.old).outs (W.view world.new).outs }
+    ensures home { AreHomeBut (out_places config.now) (W.view world.old).outs → AreHome (W.view world.new).outs }
     ensures only { OnlyOuts (W.view world.old) (W.view world.new) }
 {
     give_each::<W, Written>(world, config.outputs.as_slice(), outputs);
@@ -311,26 +318,15 @@ pub(crate) fn open_places<'a, W: World>(
     }
 }
 
-/// Gives the parts of a configuration back, each at its own place.
-pub(crate) fn give_back<W: World>(world: &mut W, config: &Config, opened: Opened<W::In, W::Out>)
-    requires inputs { length opened.inputs.items ≡ length config.now.inputs }
-    requires outputs { length opened.outputs.items ≡ length config.now.outputs }
-    requires inputs_apart { IsDistinct bytes_eq (in_places config.now) }
-    requires outputs_apart { IsDistinct bytes_eq (out_places config.now) }
-    requires inputs_out { PartsAreOut (in_places config.now) (W.view world.old).ins }
-    requires outputs_out { PartsAreOut (out_places config.now) (W.view world.old).outs }
-    ensures given { GivesAll config.now (read_parts W.In.told opened)
-        (written_parts W.Out.told opened) (W.view world.old) (W.view world.new) }
-    ensures ins_home { AreHomeBut (in_places config.now) (W.view world.old).ins
-        → AreHome (W.view world.new).ins }
-    ensures outs_home { AreHomeBut (out_places config.now) (W.view world.old).outs
-        → AreHome (W.view world.new).outs }
+/// Gives back the parts that are read: those of the inputs, in their order.
+pub(crate) fn give_read<W: World>(world: &mut W, config: &Config, inputs: Vec<W::In>)
+    requires count { length inputs.items ≡ length config.now.inputs }
+    requires apart { IsDistinct bytes_eq (in_places config.now) }
+    requires out { PartsAreOut (in_places config.now) (W.view world.old).ins }
+    ensures given { AreGiven (in_places config.now) (map W.In.told inputs.items)
+        (W.view world.old).ins (W.view world.new).ins }
+    ensures home { AreHomeBut (in_places config.now) (W.view world.old).ins → AreHome (W.view world.new).ins }
+    ensures only { OnlyIns (W.view world.old) (W.view world.new) }
 {
-    let Opened {
-        inputs,
-        outputs,
-        journal,
-    } = opened;
     give_each::<W, Read>(world, config.inputs.as_slice(), inputs);
-    give_written(world, config, outputs, journal);
 }

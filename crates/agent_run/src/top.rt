@@ -1,15 +1,17 @@
 //! The top call.
 ghost use Rattle.std.specs.Prelude.{◌≡◌, ◌≢◌, ◌≤◌, ◌⊎◌, ℕ, List};
 ghost use Rattle.agent_base.specs.Places.{AreHome};
-ghost use Rattle.agent_run.specs.Agent.{SaysFaulty, SaysUnopened, SaysUsage};
+ghost use Rattle.agent_run.specs.Agent.{SaysFaulty, SaysRuns, SaysUnopened, SaysUsage};
 ghost use Rattle.agent_run.specs.Checking.{HasChecked};
-ghost use Rattle.agent_run.specs.Command.{IsCheck, IsNoCommand, IsPipe, IsRunAt, journal_place, pipe_config};
-ghost use Rattle.agent_run.specs.Configured.{SaysRun, IsRunUnread, RunEnds};
+ghost use Rattle.agent_run.specs.Command.{IsCheck, IsNoCommand, IsPipe, journal_place, pipe_config};
+ghost use Rattle.agent_run.specs.Configured.{IsRunUnread, RunEnds};
+ghost use Rattle.agent_run.specs.Generating.{GenEnds};
 ghost use Rattle.agent_run.specs.Headline.{Ends, NothingRose, PipeEnds, world_change};
 ghost use Rattle.agent_run.specs.Running.{IsOpenedSame, IsRefusedBy, OnlyNamed};
 
 use crate::checking::check_call;
 use crate::command::{Command, Pipe, read_command};
+use crate::generating::gen_call;
 use crate::pipe::pipe_config;
 use crate::reporting::report_line;
 use crate::running::{run_call, run_config};
@@ -51,6 +53,8 @@ fn run_pipe<W: World>(alloc: Global, pipe: &Pipe<'_>, world: &mut W) -> Status
 /// metrics, of which at most LIMIT wait; it writes the journal to `agent.journal`, and reports the account.
 /// `run CONFIG` reads a configuration at CONFIG, gives that place back, and runs it: it reads its inputs, writes
 /// its outputs and the journal at `agent.journal`'s value, and reports the account.
+/// `gen N CONFIG` is `run CONFIG`, but that each input of line protocol has N generated lines, and every other nothing:
+/// no place of an input is opened, and no clock of the world is asked.
 /// `check CONFIG` reads a configuration at CONFIG, and reports `ok`, or its first fault as
 /// `config: KIND CLASS NUMBER`. It always returns.
 ///
@@ -67,9 +71,10 @@ pub fn agent<W: World>(alloc: Global, words: &[String], world: &mut W) -> Status
     ensures check { (place : List ℕ) → IsCheck words.now place
         → HasChecked result place (W.view world.old) (W.view world.new) }
 
-    // A run of a configuration: each status says what it says, and no place changed that the configuration
-    // doesn't name, and no clock that it doesn't take.
-    ensures run { (place : List ℕ) → IsRunAt words.now place → SaysRun result place (W.view world.old) (W.view world.new) }
+    // A run of a configuration, over its own inputs or over generated ones: each status says what it says, and no
+    // place changed that the configuration doesn't name, and no clock that it doesn't take; over generated ones no
+    // input place but that of the configuration, and no clock.
+    ensures runs { SaysRuns result words.now (W.view world.old) (W.view world.new) }
 
     // Config comes only of a check or a run, where the configuration has a fault. A command on a configuration with a
     // fault comes to it, where neither opening nor reading its place failed.
@@ -85,6 +90,7 @@ pub fn agent<W: World>(alloc: Global, words: &[String], world: &mut W) -> Status
         → (result ≢ Status.OutOfMemory)
         → PipeEnds result words.now (W.view world.old) (W.view world.new)
         ⊎ RunEnds result words.now (W.view world.old) (W.view world.new)
+        ⊎ GenEnds result words.now (W.view world.old) (W.view world.new)
         ⊎ IsRunUnread result words.now (W.view world.old) (W.view world.new) }
 
     // A command, no count of the world that rose, no fault of a configuration, and no limit that was reached:
@@ -104,6 +110,7 @@ pub fn agent<W: World>(alloc: Global, words: &[String], world: &mut W) -> Status
         Some(Command::Pipe(pipe)) => run_pipe(alloc, &pipe, world),
         Some(Command::Check(place)) => check_call(alloc, world, place),
         Some(Command::Run(place)) => run_call(alloc, world, place),
+        Some(Command::Gen(wanted)) => gen_call(alloc, world, wanted.lines, wanted.place),
         None => report_line(world, b"usage\n", Status::Usage),
     }
 }

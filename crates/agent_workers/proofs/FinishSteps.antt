@@ -1,10 +1,6 @@
 -- What a run leaves at its end, and what it begins with.
 use Rattle.account.specs.Origins.{origins}
-use Rattle.pipeline_core.specs.Moments.{IsTickedAt}
-use Rattle.pipeline_core.specs.Windows.{HasNoAggs}
-use Rattle.agent_workers.specs.Running.{AllMade}
-use Rattle.agent_workers.specs.Progress.{CountsTo, StaysTicked, TicksOn, pushed_items}
-use Rattle.agent_workers.proofs.ProgressLemmas.{went_tick, went_tickless}
+use Rattle.agent_workers.specs.Progress.{CountsTo, pushed_items}
 use Rattle.agent_workers.proofs.TickLemmas.{ticked_first}
 use Rattle.std.proofs.Common.{◌≡◌, ◌≢◌, ◌≤◌, ◌<◌, ℕ, zero, suc, ℤ, ◌^◌, min, Bool, true, false, List, [], ◌∷◌, ◌++◌}
 use Rattle.std.proofs.Common.{length, take, replicate, refl, sym, ap, ◌∙◌, subst, inl, inr, arith}
@@ -21,7 +17,7 @@ use Rattle.agent_base.specs.Moments.{Moments, Gives}
 use Rattle.agent_base.proofs.ClockLemmas.{counted_joined, counted_one_over, counted_wider}
 use Rattle.journal_text.specs.JournalText.{journal_text}
 use Rattle.agent_base.specs.Carried.{Timed}
-use Rattle.agent_workers.specs.Item.{ProcPart, work_by}
+use Rattle.agent_workers.specs.Item.{work_by}
 use Rattle.proc_chain.specs.Chain.{AllStand}
 use Rattle.pipeline_core.specs.CoreState.{CoreState}
 use Rattle.pipeline_core.specs.Legal.{IsLegal, has_ended, gathered_count}
@@ -36,20 +32,24 @@ use Rattle.account.specs.EntryMoments.{counted_moments}
 use Rattle.account.specs.Items.{raw_items, items, taken}
 use Rattle.agent_workers.specs.Input.{IsFull}
 use Rattle.formats.specs.Reader.{InRule, FitsGather}
-use Rattle.agent_workers.specs.Inputs.{InPart, in_at, HoldsTooMany, AreInputs, AreOut, OneIsFull, IsOneOf, IsOneIn}
+use Rattle.agent_workers.specs.Inputs.{InPart, in_at, HoldsTooMany, AreInputs, AreOut, HaveLimits, IsOut, OneIsFull}
+use Rattle.agent_workers.specs.Inputs.{IsOneOf, IsOneIn}
 use Rattle.agent_workers.specs.Inputs.{IsFresh, AreFresh}
 use Rattle.agent_workers.specs.Run.{change, InRun, in_run, in_runs, run_at, out_run, out_run_at, out_runs, SomeIsFull}
 use Rattle.agent_workers.specs.Run.{RunsFull, IsCutShort, IsUnread, IsReadFrom, IsSentTo, HasRun, EndsSo, IsPutSo}
-use Rattle.agent_workers.specs.Run.{IsLeft, Ran, buffered_at_end, account_of}
+use Rattle.agent_workers.specs.Run.{IsLeft, Ran, buffered_at_end, account_of, course_of, Course, SomeIsLeft, StaysHeld}
+use Rattle.agent_workers.specs.Held.{HasFailed, IsHeldBack}
+use Rattle.agent_workers.proofs.HeldLemmas.{failed_none}
+use Rattle.agent_base.specs.Counts.{Rose}
+use Rattle.std.specs.Prelude.{◌||◌}
 use Rattle.agent_workers.specs.Finished.{IsCounted, Finished, begun, IsSetUp}
 use Rattle.agent_workers.specs.Noted.{JournalPart, Notes, part_change}
 use Rattle.agent_workers.specs.Job.{Job, journal_setup_of, limit_of, setup_of, output_sizes, IsKnownOf}
 use Rattle.agent_workers.specs.RunState.{RunState, Beginning, setup_at}
-use Rattle.agent_workers.specs.Progress.{HasText, Heard, Said, Progress, GoesOn, RoutesOn, SendsOn, GathersOn, RunsOn}
-use Rattle.agent_workers.specs.Progress.{NotesRun}
+use Rattle.agent_workers.specs.Progress.{HasText, Heard, Said, Progress}
 use Rattle.agent_workers.specs.Running.{IsReady, AreSettled, AreLeft, SomeIsBuffered, buffered_at}
 use Rattle.formats.specs.Batches.{batch_text}
-use Rattle.agent_workers.specs.Output.{OutPart, out_at, anew, AreAnew, AreOutputs, IsUnfailed, AreUnfailed}
+use Rattle.agent_workers.specs.Output.{OutPart, out_at, AreOutputs, IsUnfailed, AreUnfailed}
 use Rattle.formats.specs.declared.pieces.InState.{InState}
 use Rattle.formats.specs.declared.pieces.InState.TheVariants as states
 use Rattle.agent_workers.specs.declared.rounds.Ending.{Ending}
@@ -63,8 +63,7 @@ use Rattle.pipeline_core.proofs.WorkedLemmas.{worked_first}
 use Rattle.agent_workers.proofs.HeardLemmas.{heard_first, gathered_at_end, clocked_at_end, full_at_end}
 use Rattle.agent_workers.proofs.InLemmas.{fit_first}
 use Rattle.agent_workers.proofs.NotedLemmas.{notes_none}
-use Rattle.agent_workers.proofs.OutLemmas.{are_anew}
-use Rattle.agent_workers.proofs.ProgressLemmas.{buffered_is, went_anew, went_next, went_timed}
+use Rattle.agent_workers.proofs.ProgressLemmas.{buffered_is}
 use Rattle.agent_workers.proofs.RoseLemmas.{rose_none}
 use Rattle.agent_workers.proofs.SentLemmas.{sent_first}
 
@@ -96,8 +95,9 @@ went_first : (job : Job) (start : ℤ) (now : RunState) → Stands now.core [] �
     now.journal → now.counted_at ≡ [] →
     length now.ins ≡ length job.inputs → ((k : ℕ) → k < length now.ins → IsFresh (in_at now.ins k))
     → AreUnfailed now.outs → length now.outs ≡ length job.outputs → job.work ≡ work_by now.proc
-    → AllStand now.proc.chain [] → IsKnownOf job.work now.journal.known → Progress (begun job start now) now
-went_first job start now stands setup stored notes none in_count fresh unfailed count work pushed known = record {
+    → AllStand now.proc.chain [] → IsKnownOf job.work now.journal.known → now.still ≡ 0
+    → Progress (begun job start now) now
+went_first job start now stands setup stored notes none in_count fresh unfailed count work pushed known yet = record {
   journal = [];
   text = record {
     stands = stands;
@@ -122,6 +122,7 @@ went_first job start now stands setup stored notes none in_count fresh unfailed 
     has_ticked = λ t f. ticked_first (setup_of job start);
   };
   counted_at = counted_none ∙ sym none;
+  still = subst (λ (n : ℕ). HasFailed n []) (sym yet) (failed_none []);
 }
 
 -- where nothing is buffered the outputs are settled
@@ -143,7 +144,9 @@ pub record AreNew (job : Job) (start : ℤ) (now : RunState) : Type 0 where
   pub kept : now.journal.kept ≡ []
   pub entries : now.journal.entries ≡ 0
   pub put : now.journal.failed ≡ false
+  pub limits : HaveLimits (map limit_of job.inputs) now.ins
   pub counted : now.counted_at ≡ []
+  pub still : now.still ≡ 0
 
 -- a run is set up
 pub is_set_up : (job : Job) (start : ℤ) (now : RunState) → length job.outputs ≤ 16 → IsReady now.core
@@ -161,6 +164,7 @@ is_set_up job start now few ready going stands setup stored ended none new =
       fit = record {
         inputs = fit_first (length job.inputs) (length now.core.setup.inputs) now.core.ended now.ins inputs_are
             new.in_count ended new.fresh;
+        limits = subst (λ (s : Setup). HaveLimits s.inputs now.ins) (sym setup) new.limits;
         outputs = subst (λ (k : ℕ). AreOutputs k now.outs) (sym outputs_are) new.outputs;
         filters = record {
           aggs = new.aggs ∙ sym (ap (λ (s : Setup). length s.aggs) setup);
@@ -170,7 +174,8 @@ is_set_up job start now few ready going stands setup stored ended none new =
       settled = none_buffered now.core now.outs none;
       agrees = went_first job start now stands setup stored (notes_none
           (journal_setup_of (setup_of job start)) now.journal new.about new.kept new.entries new.put) new.counted
-          new.in_count new.fresh.fresh new.unfailed new.outputs.count_is new.work new.pushed new.known;
+          new.in_count new.fresh.fresh new.unfailed new.outputs.count_is new.work new.pushed new.known
+          new.still;
     }
 
 -- ---- the end
@@ -229,14 +234,15 @@ counted_of None first next floor ms h = tt
 counted_of (Some moments) first next floor ms h = h.1
 
 -- one moment more of a clock counts
-pub counts_one : (timer : Timed) (last : ℕ) (floor moment : ℤ) (olds : List ℤ) → Gives timer.moments timer.next last moment
+pub counts_one : (timer : Timed) (last : ℕ) (floor moment : ℤ) (olds : List ℤ)
+    → Gives timer.moments timer.next last moment
     → CountsTo timer last floor olds (olds ++ int_max moment (last_of floor olds) ∷ [])
 counts_one timer last floor moment olds gives = λ first h.
     counted_of timer.moments first last floor (olds ++ int_max moment (last_of floor olds) ∷ [])
     (counted_on timer.moments first timer.next last floor moment olds (olds ++ int_max moment (last_of floor olds) ∷ [])
     gives refl h)
 
-counts_then : (old mid : Timed) (last : ℕ) (floor : ℤ) (olds mids news : List ℤ) → mid.moments ≡ old.moments
+pub counts_then : (old mid : Timed) (last : ℕ) (floor : ℤ) (olds mids news : List ℤ) → mid.moments ≡ old.moments
     → CountsTo old mid.next floor olds mids → CountsTo mid last floor mids news → CountsTo old last floor olds news
 counts_then old mid last floor olds mids news same h k = λ first c.
     subst (λ (all : Option Moments). IfSome all (λ moments. Counted moments first last floor news)) same
@@ -251,15 +257,25 @@ counted_all None next last start ms g h = tt
 counted_all (Some moments) next last start ms g h = counted_wider moments (min 1 moments.last) next last moments.last
     start ms (omega (arith, g.next)) h.0 h.1
 
-left_is : (left : Bool) (start : Beginning) (core : CoreState) (part : JournalPart) (journal : List Entry)
-    → HasText start core part journal → SomeIsBuffered left core → IsLeft left (setup_at start) journal
-left_is false start core part journal h none = λ o l. sym (buffered_is start core part journal h o)
+buffered_left : (left : Bool) (start : Beginning) (core : CoreState) (part : JournalPart) (journal : List Entry)
+    → HasText start core part journal → SomeIsBuffered left core → SomeIsLeft left (setup_at start) journal
+buffered_left false start core part journal h none = λ o l. sym (buffered_is start core part journal h o)
     ∙ none o (omega (arith, l, ap (λ (s : Setup). length s.outputs) h.setup_is))
-left_is true start core part journal h some = (
+buffered_left true start core part journal h some = (
   some.0,
   omega (arith, some.1, ap (λ (s : Setup). length s.outputs) h.setup_is),
   λ z. some.2 (buffered_is start core part journal h some.0 ∙ z),
 )
+
+left_is : (buffered reading left : Bool) (setup : Setup) (journal : List Entry) (count : ℕ) (state : ℕ → InState)
+    → left ≡ (buffered || reading) → SomeIsLeft buffered setup journal → IsOneOf states.Reading count state reading
+    → IsLeft left setup journal count state
+left_is true reading left setup journal count state is some one =
+    subst (λ (b : Bool). IsLeft b setup journal count state) (sym is) (inl some)
+left_is false true left setup journal count state is some one =
+    subst (λ (b : Bool). IsLeft b setup journal count state) (sym is) (inr one)
+left_is false false left setup journal count state is some one =
+    subst (λ (b : Bool). IsLeft b setup journal count state) (sym is) (some, one)
 
 some_none : (g : Gathered) → Some g ≡ None → ⊥
 some_none g e = cc
@@ -269,32 +285,50 @@ taken_only : (limit : Bool) (ins : List InRun) (taken gathered : ℕ) (journal :
 taken_only limit ins taken gathered journal (inl many) = inl many
 taken_only limit ins taken gathered journal (inr many) = absurd many
 
--- what the state of an input says, where the run is full or the input is out
-ends_by : (limit : Bool) (ins : List InRun) (state : InState) (held : Option Gathered) (start part : InPart) (k : ℕ)
-    (journal : List Entry) → run_at ins k ≡ in_run start part
-    → RunsFull limit ins journal ⊎ ((state ≢ states.Reading) × (held ≡ None))
-    → Heard start (record part { state = state; held = held }) k journal
-    → EndsSo limit ins k state part.hand.taken journal
-ends_by limit ins states.Reading held start part k journal at (inl full) h = full
-ends_by limit ins states.Reading held start part k journal at (inr out) h = absurd (out.0 refl)
-ends_by limit ins states.Ended held start part k journal at why h = (h.state, h.ended)
-ends_by limit ins states.Faulted held start part k journal at (inl full) h = (h.state.0, h.ended, inr full)
-ends_by limit ins states.Faulted None start part k journal at (inr out) h =
-    (h.state.0, h.ended, inl (subst (λ (x : InRun). IsCutShort k x journal) (sym at) (h.state.1, h.of_taken)))
-ends_by limit ins states.Faulted (Some g) start part k journal at (inr out) h = absurd (some_none g out.1)
-ends_by limit ins states.LimitReached held start part k journal at (inl full) h = (h.ended, inr full)
-ends_by limit ins states.LimitReached None start part k journal at (inr out) h =
-    (h.ended, taken_only limit ins part.hand.taken (gathered_count journal) journal h.state)
-ends_by limit ins states.LimitReached (Some g) start part k journal at (inr out) h = absurd (some_none g out.1)
+-- why no round follows, of an input in a state that holds something: the run is full, the input is out, or it is held
+-- back; and where what it holds is too much the run is full
+abbrev pub WhyOver : Bool → Course → ℕ → InState → Option Gathered → Type 0
+WhyOver limit run k state held = RunsFull limit run.ins run.journal ⊎ ((state ≢ states.Reading) × (held ≡ None))
+    ⊎ (StaysHeld run k × (state ≡ states.LimitReached → HoldsTooMany held (gathered_count run.journal)
+    → RunsFull limit run.ins run.journal))
 
-unread_by : (limit : Bool) (ins : List InRun) (state : InState) (taken k : ℕ) (journal : List Entry)
-    → EndsSo limit ins k state taken journal → has_ended k journal ≡ false → IsUnread ins k (run_at ins k) taken journal
-unread_by limit ins states.Reading taken k journal h e = inr (inr h.1)
-unread_by limit ins states.Ended taken k journal h e = absurd (let x : true ≡ false = sym h.1 ∙ e in cc)
-unread_by limit ins states.Faulted taken k journal h e = elim h.2
-    [ inl short ↦ inl short | inr full ↦ inr (inr full.1) ]
-unread_by limit ins states.LimitReached taken k journal h e =
-    elim h.1 [ inl many ↦ inr (inl many) | inr full ↦ inr (inr full.1) ]
+-- what the state of an input says then
+ends_by : (limit : Bool) (run : Course) (state : InState) (held : Option Gathered) (start part : InPart) (k : ℕ)
+    → run_at run.ins k ≡ in_run start part → WhyOver limit run k state held
+    → Heard start (record part { state = state; held = held }) k run.journal
+    → EndsSo limit run k state part.hand.taken
+ends_by limit run states.Reading held start part k at (inl full) h = (h.state, h.ended, inl full)
+ends_by limit run states.Reading held start part k at (inr (inl out)) h = absurd (out.0 refl)
+ends_by limit run states.Reading held start part k at (inr (inr stays)) h = (h.state, h.ended, inr stays.0)
+ends_by limit run states.Ended held start part k at why h = (h.state, h.ended)
+ends_by limit run states.Faulted held start part k at (inl full) h = (h.state.0, h.ended, inr full)
+ends_by limit run states.Faulted None start part k at (inr (inl out)) h =
+    (h.state.0, h.ended, inl (inl (subst (λ (x : InRun). IsCutShort k x run.journal) (sym at) (h.state.1, h.of_taken))))
+ends_by limit run states.Faulted (Some g) start part k at (inr (inl out)) h = absurd (some_none g out.1)
+ends_by limit run states.Faulted held start part k at (inr (inr stays)) h = (
+  h.state.0,
+  h.ended,
+  inl (inr (subst (λ (x : InRun). Rose x.place.faults_before x.place.faults_after) (sym at) h.state.1, stays.0)),
+)
+ends_by limit run states.LimitReached held start part k at (inl full) h = (h.ended, inr full)
+ends_by limit run states.LimitReached None start part k at (inr (inl out)) h =
+    (h.ended, taken_only limit run.ins part.hand.taken (gathered_count run.journal) run.journal h.state)
+ends_by limit run states.LimitReached (Some g) start part k at (inr (inl out)) h = absurd (some_none g out.1)
+ends_by limit run states.LimitReached held start part k at (inr (inr stays)) h =
+    (h.ended, elim h.state [ inl many ↦ inl many | inr over ↦ inr (stays.1 refl over) ])
+
+unread_by : (limit : Bool) (run : Course) (state : InState) (taken k : ℕ) → EndsSo limit run k state taken
+    → has_ended k run.journal ≡ false → IsUnread run k (run_at run.ins k) taken
+unread_by limit run states.Reading taken k h e =
+    elim h.2 [ inl full ↦ inr (inr (inl full.1)) | inr stays ↦ inr (inr (inr stays)) ]
+unread_by limit run states.Ended taken k h e = absurd (let x : true ≡ false = sym h.1 ∙ e in cc)
+unread_by limit run states.Faulted taken k h e =
+    elim h.2 [
+      | inl broken ↦ elim broken [ inl short ↦ inl short | inr both ↦ inr (inr (inr both.1)) ]
+      | inr full ↦ inr (inr (inl full.1))
+    ]
+unread_by limit run states.LimitReached taken k h e =
+    elim h.1 [ inl many ↦ inr (inl many) | inr full ↦ inr (inr (inl full.1)) ]
 
 few_of : (held : Option Gathered) (i : ℕ) (rule : InRule) → IfSome held
     (λ g. (g.input ≡ i) × FitsGather rule (length g.metrics)) → IfSome held (λ g. FitsGather rule (length g.metrics))
@@ -307,13 +341,24 @@ limit_by : (limit : Bool) (gathered : ℕ) (ins : List InPart) → IsOneIn state
 limit_by true gathered ins one full = refl
 limit_by false gathered ins none full = absurd (none full.0 full.1 full.2.limit)
 
+-- and an input that reached it says so
+reached_by : (limit : Bool) (ins : List InPart) (k : ℕ) → k < length ins → IsOneIn states.LimitReached ins limit
+    → (in_at ins k).state ≡ states.LimitReached → limit ≡ true
+reached_by true ins k l one state = refl
+reached_by false ins k l none state = absurd (none k l state)
+
 module _ (start : Beginning) (now : RunState) where
   module _ (w : Progress start now) (stopped : now.core.stopped ≡ true) (raw : now.core.raw ≡ [])
       (none_held : now.core.held ≡ None) (starts_count : length start.ins ≡ length start.job.inputs)
       (outs_count : length start.outs ≡ length start.job.outputs) (rest : AreLeft start.job.tries now.core now.outs)
       (ended : List Bool) (fit : AreInputs (length start.job.inputs) ended now.ins)
       (outputs_fit : AreOutputs (length start.job.outputs) now.outs) (why : OneIsFull now.core.gathered now.ins
-      ⊎ AreOut now.ins) where
+      ⊎ AreOut now.ins ⊎ ((k : ℕ) → k < length now.ins → IsOut (in_at now.ins k)
+      ⊎ IsHeldBack start.job.tries (setup_at start) w.journal k)) where
+    -- the course of the run
+    abbrev course : Course
+    course = course_of start.job start.start (in_runs start.ins now.ins) w.journal
+
     left_failed : (o : ℕ) → o < length now.outs → (buffered_at now.core o ≡ 0)
         ⊎ (start.job.tries ≤ (out_at now.outs o).failed_since) → buffered_at_end (setup_at start) w.journal o ≢ 0
         → LastFailed start.job.tries (dones o (behind_stop w.journal))
@@ -344,51 +389,56 @@ module _ (start : Beginning) (now : RunState) where
         (in_at now.ins k)
     at_index k l = runs_at start.ins now.ins k same_count (omega (arith, l, starts_count))
 
-    is_full : OneIsFull now.core.gathered now.ins → SomeIsFull (in_runs start.ins now.ins) w.journal
-    is_full full =
-        let k : ℕ = full.0 in
-        let l : k < length start.job.inputs = omega (arith, full.1, fit.count_is) in
+    full_at : (k : ℕ) → k < length now.ins → HoldsTooMany (in_at now.ins k).held (gathered_count w.journal)
+        → SomeIsFull (in_runs start.ins now.ins) w.journal
+    full_at k b many =
+        let l : k < length start.job.inputs = omega (arith, b, fit.count_is) in
         let part : InPart = in_at now.ins k in
         let f = fit.each k l in
-        let many : HoldsTooMany part.held (gathered_count w.journal) =
-        subst (HoldsTooMany part.held) w.text.stands.gathered full.2.many in
         let is : IsFull part.rule w.journal k (in_at start.ins k).left part.left =
-        full_at_end (in_at start.ins k) part part.held k w.journal f.readable.some f.none_held many (w.heard k full.1)
+        full_at_end (in_at start.ins k) part part.held k w.journal f.readable.some f.none_held many (w.heard k b)
         (few_of part.held part.input part.rule f.own) in (
           k,
           omega (arith, l, starts_count, length-in_runs start.ins now.ins same_count),
           subst (λ (x : InRun). IsFull x.rule w.journal k x.place.before x.place.after) (sym (at_index k l)) is,
         )
 
-    why_by : (limit : Bool) → IsOneIn states.LimitReached now.ins limit → (k : ℕ) → k < length now.ins
-        → RunsFull limit (in_runs start.ins now.ins) w.journal
-        ⊎ (((in_at now.ins k).state ≢ states.Reading) × ((in_at now.ins k).held ≡ None))
-    why_by limit one k l =
+    is_full : OneIsFull now.core.gathered now.ins → SomeIsFull (in_runs start.ins now.ins) w.journal
+    is_full full = full_at full.0 full.1
+        (subst (HoldsTooMany (in_at now.ins full.0).held) w.text.stands.gathered full.2.many)
+
+    why_by : (limit : Bool) → (OneIsFull now.core.gathered now.ins → limit ≡ true) → (k : ℕ) → k < length now.ins
+        → ((in_at now.ins k).state ≡ states.LimitReached → limit ≡ true)
+        → WhyOver limit course k (in_at now.ins k).state (in_at now.ins k).held
+    why_by limit whole k l reached =
         elim why [
-          | inl full ↦ inl (limit_by limit now.core.gathered now.ins one full, is_full full)
-          | inr out ↦ inr ((out k l).read, (out k l).none_held)
+          | inl full ↦ inl (whole full, is_full full)
+          | inr (inl out) ↦ inr (inl ((out k l).read, (out k l).none_held))
+          | inr (inr each) ↦ elim (each k l) [
+            | inl out ↦ inr (inl (out.read, out.none_held))
+            | inr stays ↦ inr (inr (stays, λ state many. (reached state, full_at k l many)))
+          ]
         ]
+
+    ends_with : (limit : Bool) → (OneIsFull now.core.gathered now.ins → limit ≡ true) → (k : ℕ)
+        → k < length start.job.inputs → ((in_at now.ins k).state ≡ states.LimitReached → limit ≡ true)
+        → EndsSo limit course k (in_at now.ins k).state (in_at now.ins k).hand.taken
+    ends_with limit whole k l reached =
+        ends_by limit course (in_at now.ins k).state (in_at now.ins k).held (in_at start.ins k)
+        (in_at now.ins k) k (at_index k l) (why_by limit whole k (within_ins k l) reached) (w.heard k (within_ins k l))
 
     ends_at : (limit : Bool) → IsOneIn states.LimitReached now.ins limit → (k : ℕ) → k < length start.job.inputs
-        → EndsSo limit (in_runs start.ins now.ins) k (in_at now.ins k).state (in_at now.ins k).hand.taken w.journal
+        → EndsSo limit course k (in_at now.ins k).state (in_at now.ins k).hand.taken
     ends_at limit one k l =
-        ends_by limit (in_runs start.ins now.ins) (in_at now.ins k).state (in_at now.ins k).held (in_at start.ins k)
-        (in_at now.ins k) k w.journal (at_index k l) (why_by limit one k (within_ins k l)) (w.heard k (within_ins k l))
+        ends_with limit (limit_by limit now.core.gathered now.ins one) k l
+        (reached_by limit now.ins k (within_ins k l) one)
 
     unread : (k : ℕ) → k < length start.job.inputs → has_ended k w.journal ≡ false
-        → IsUnread (in_runs start.ins now.ins) k (run_at (in_runs start.ins now.ins) k)
-        (in_at now.ins k).hand.taken w.journal
-    unread k l =
-        elim why [
-          | inl full ↦ λ e. inr (inr (is_full full))
-          | inr out ↦ unread_by false (in_runs start.ins now.ins) (in_at now.ins k).state
-              (in_at now.ins k).hand.taken k w.journal
-              (ends_by false (in_runs start.ins now.ins) (in_at now.ins k).state (in_at now.ins k).held
-              (in_at start.ins k) (in_at now.ins k) k w.journal (at_index k l)
-              (inr ((out k (within_ins k l)).read, (out k (within_ins k l)).none_held)) (w.heard k (within_ins k l)))
-        ]
+        → IsUnread course k (run_at (in_runs start.ins now.ins) k) (in_at now.ins k).hand.taken
+    unread k l = unread_by true course (in_at now.ins k).state (in_at now.ins k).hand.taken k
+        (ends_with true (λ full. refl) k l (λ state. refl))
 
-    read_of : (k : ℕ) → k < length start.job.inputs → IsReadFrom (in_runs start.ins now.ins) w.journal k
+    read_of : (k : ℕ) → k < length start.job.inputs → IsReadFrom course k
         (in_run (in_at start.ins k) (in_at now.ins k)) (in_at now.ins k).hand.taken
     read_of k l =
         let part : InPart = in_at now.ins k in
@@ -398,16 +448,16 @@ module _ (start : Beginning) (now : RunState) where
           gathered = gathered_at_end (in_at start.ins k) part part.held k w.journal f.readable.some f.none_held h;
           clocked = clocked_at_end (in_at start.ins k) part part.held k w.journal h;
           bytes_taken = h.counted;
-          unread = subst (λ (x : InRun). has_ended k w.journal ≡ false
-              → IsUnread (in_runs start.ins now.ins) k x part.hand.taken w.journal) (at_index k l) (unread k l);
+          unread = subst (λ (x : InRun). has_ended k w.journal ≡ false → IsUnread course k x part.hand.taken)
+              (at_index k l) (unread k l);
         }
 
     pub has_run : HasRun start.job start.start (in_runs start.ins now.ins) (out_runs start.outs now.outs) w.journal
     has_run = record {
       legal = subst (λ (s : Setup). IsLegal s w.journal) w.text.setup_is w.text.stands.legal;
       taken = λ k. (in_at now.ins k).hand.taken;
-      read_from = λ k l. subst (λ (x : InRun). IsReadFrom (in_runs start.ins now.ins) w.journal k x
-          (in_at now.ins k).hand.taken) (sym (at_index k l)) (read_of k l);
+      read_from = λ k l. subst (λ (x : InRun). IsReadFrom course k x (in_at now.ins k).hand.taken)
+          (sym (at_index k l)) (read_of k l);
       sent_to = sent_to;
       worked = w.worked;
       stopped = sym w.text.stands.stopped ∙ stopped;
@@ -438,13 +488,15 @@ module _ (start : Beginning) (now : RunState) where
         → CountsTo old.timer mid start.start old.counted_at so_far → Gives old.timer.moments mid timer.next moment
         → now.counted_at ≡ so_far ++ int_max moment (last_of start.start so_far) ∷ [] →
         IsOneIn states.LimitReached now.ins ending.limit → IsOneIn states.Faulted now.ins ending.read_fault
-        → SomeIsBuffered ending.left now.core → ending.account.items ≡ account_text now.core.numbers →
+        → (buffered reading : Bool) → ending.left ≡ (buffered || reading) → SomeIsBuffered buffered now.core
+        → IsOneIn states.Reading now.ins reading → ending.account.items ≡ account_text now.core.numbers →
         IsPutSo ending.journal_fault (change start.noted part.held start.note_faults part.faults)
         (journal_text (journal_setup_of (setup_at start)) (w.text.written ++ now.core.stored)
         (account_text now.core.numbers)) → Finished start ending old
-        (record now { core = last; journal = part; timer = timer; counted_at = []; ticked = true })
+        (record now { core = last; journal = part; timer = timer; counted_at = []; ticked = true; still = 0 })
     unfolding has_run
-    finished ending old last part timer mid so_far moment cut counts_before gives counts limit fault left account_is noted =
+    finished ending old last part timer mid so_far moment cut counts_before gives counts limit fault buffered reading
+        left some_left some_reading account_is noted =
         let totals_are : now.core.numbers ≡ totals (setup_at start) w.journal =
         w.text.stands.numbers ∙ ap (λ (s : Setup). totals s w.journal) w.text.setup_is in
         let same : account_text now.core.numbers ≡ account_of (setup_at start) w.journal = ap account_text totals_are in
@@ -464,7 +516,9 @@ module _ (start : Beginning) (now : RunState) where
           ends = λ k l. ends_at ending.limit limit k l;
           limit = limit;
           read_fault = fault;
-          left = left_is ending.left start now.core now.journal w.journal w.text left;
+          left = left_is buffered reading ending.left (setup_at start) w.journal (length now.ins)
+              (λ k. (in_at now.ins k).state) left
+              (buffered_left buffered start now.core now.journal w.journal w.text some_left) some_reading;
           account = account_is ∙ same;
           noted = subst (λ (account : List ℕ). IsPutSo ending.journal_fault
               (change start.noted part.held start.note_faults part.faults)
@@ -513,109 +567,8 @@ ran job start ending old new gives none number f =
           f.limit;
       read_fault = subst (λ (n : ℕ). IsOneOf states.Faulted n (λ k. (in_at new.ins k).state) ending.read_fault) number
           f.read_fault;
-      left = f.left;
+      left = subst (λ (n : ℕ). IsLeft ending.left (setup_of job start) f.journal n (λ k. (in_at new.ins k).state))
+          number f.left;
       account = f.account;
       noted = f.noted;
     }
-
--- ---- rounds
-
--- where it is said that a tick has come it had come
-stays_then : (before after : Bool) (core next : CoreState) → (AllMade core.made → AllMade next.made)
-    → StaysTicked before after core → StaysTicked after after next
-stays_then before after core next made h = λ t. (t, made (h t).1)
-
--- more items were routed, and the entries spelled
-pub routes_more : (first old routed new : CoreState) (proc0 proc new_proc : ProcPart)
-    (part0 part new_part : JournalPart) → (AllMade first.made → AllMade old.made)
-    → RoutesOn first old proc0 proc part0 part → GoesOn old routed proc new_proc
-    → NotesRun routed new part new_part → RoutesOn first new proc0 new_proc part0 new_part
-routes_more first old routed new proc0 proc new_proc part0 part new_part made routes goes notes =
-    λ start now ticked anew stays w.
-    notes start (record now { proc = new_proc; ticked = ticked })
-    (goes start (record now { journal = part; ticked = ticked }) ticked anew
-    (stays_then now.ticked ticked first old made stays) (routes start now ticked anew stays w))
-
--- the last items were routed
-pub routes_last : (first old new : CoreState) (proc0 proc new_proc : ProcPart) (part0 part : JournalPart)
-    → (AllMade first.made → AllMade old.made) → RoutesOn first old proc0 proc part0 part → GoesOn old new proc new_proc
-    → RoutesOn first new proc0 new_proc part0 part
-routes_last first old new proc0 proc new_proc part0 part made routes goes = λ start now ticked anew stays w.
-    goes start (record now { journal = part; ticked = ticked }) ticked anew
-    (stays_then now.ticked ticked first old made stays) (routes start now ticked anew stays w)
-
--- items were routed, and then more
-pub goes_more : (first old new : CoreState) (proc0 proc new_proc : ProcPart) → (AllMade first.made → AllMade old.made)
-    → GoesOn first old proc0 proc → GoesOn old new proc new_proc → GoesOn first new proc0 new_proc
-goes_more first old new proc0 proc new_proc made routes goes = λ start now ticked anew stays w.
-    goes start (record now { ticked = ticked }) ticked anew (stays_then now.ticked ticked first old made stays)
-    (routes start now ticked anew stays w)
-
--- windows were closed at a moment of the timer, and what they made was routed
-pub ticks_routed : (core mid new : CoreState) (proc new_proc : ProcPart) (part new_part : JournalPart)
-    (timer new_timer : Timed) (moment : ℤ) → IsTickedAt moment core mid → AllMade mid.made
-    → Gives timer.moments timer.next new_timer.next moment → RoutesOn mid new proc new_proc part new_part
-    → TicksOn core new proc new_proc part new_part timer new_timer
-ticks_routed core mid new proc new_proc part new_part timer new_timer moment ticks made gives routes =
-    λ start now anew w.
-    let counts : List ℤ = now.counted_at ++ int_max moment (last_of start.start now.counted_at) ∷ [] in
-    record {
-      counted_now = counts;
-      counts = counts_one timer new_timer.next start.start moment now.counted_at gives;
-      progress = routes start (record now { counted_at = counts; ticked = true }) true anew (λ t. (refl, made))
-          (went_tick start core mid (record now { proc = proc; journal = part }) moment ticks w);
-    }
-
--- there are no aggregators, so no tick has to come
-pub ticks_none : (core : CoreState) (proc : ProcPart) (part : JournalPart) (timer : Timed) → HasNoAggs core.setup
-    → TicksOn core core proc proc part part timer timer
-ticks_none core proc part timer none = λ start now anew w. record {
-  counted_now = now.counted_at;
-  counts = λ first h. h;
-  progress = went_tickless start core (record now { proc = proc; journal = part }) none w;
-}
-
--- one round more: inputs were gathered, the items were routed, windows were closed, batches were sent, and the entries
--- spelled
-pub runs_more : (first old last : RunState) (gathered routed ticked sent : CoreState) (mid_proc : ProcPart)
-    (fresh : List OutPart) (mid_part tick_part : JournalPart) → old.timer.moments ≡ first.timer.moments
-    → RunsOn first old → (AreSettled first.core first.outs → AreSettled old.core old.outs) →
-    old.next ≡ 0 → old.ticked ≡ true → last.next ≡ 0 → last.ticked ≡ true
-    → GathersOn old.core gathered old.ins last.ins → fresh ≡ map anew old.outs
-    → RoutesOn gathered routed old.proc mid_proc old.journal mid_part
-    → TicksOn routed ticked mid_proc last.proc mid_part tick_part old.timer last.timer → ticked.raw ≡ []
-    → SendsOn ticked sent fresh last.outs → NotesRun sent last.core tick_part last.journal → RunsOn first last
-runs_more first old last gathered routed ticked sent mid_proc fresh mid_part tick_part same runs settles at_first
-    ticked_first at_last ticked_last gathers anews routes ticks none sends notes = λ start counted settled w.
-    let a = runs start counted settled w in
-    let here : RunState = record old { counted_at = a.counted_now } in
-    let a0 = subst (λ (k : ℕ). Progress start (record here { next = k })) at_first a.progress in
-    let a1 = subst (λ (b : Bool). Progress start (record here { next = 0; ticked = b })) ticked_first a0 in
-    let b = gathers start here (λ f. settles (settled f)) a1 in
-    let after : RunState = record here { ins = last.ins; next = length old.ins; ticked = true } in
-    let c = went_anew start gathered after old.outs fresh anews b in
-    let zeros : AreAnew fresh = subst AreAnew (sym anews) (are_anew old.outs) in
-    let d = routes start (record after { outs = fresh }) false zeros (λ t. absurd (let no : false ≡ true = t in cc)) c in
-    let went : RunState = record after { outs = fresh; proc = mid_proc; journal = mid_part; ticked = false } in
-    let t = ticks start went zeros d in
-    let closed : RunState = record went
-    { proc = last.proc; journal = tick_part; counted_at = t.counted_now; ticked = true } in
-    let n = went_next start ticked closed 0 none t.progress in
-    let zero : RunState = record closed { next = 0 } in
-    let e = sends start zero n in
-    let f = notes start (record zero { outs = last.outs }) e in
-    let last_zero : RunState = record zero { core = last.core; outs = last.outs; journal = last.journal } in
-    record {
-      counted_now = t.counted_now;
-      counts = counts_then first.timer old.timer last.timer.next start.start counted a.counted_now t.counted_now same
-          a.counts t.counts;
-      progress =
-          subst (λ (b : Bool). Progress start (record last { counted_at = t.counted_now; ticked = b })) (sym ticked_last)
-          (subst (λ (k : ℕ). Progress start (record last { next = k; counted_at = t.counted_now; ticked = true }))
-          (sym at_last) (went_timed start last_zero last.timer f));
-    }
-
--- the outputs are settled still, once the entries were spelled
-pub settled_still : (sent new : CoreState) (outs : List OutPart) → new ≡ after_cut sent → AreSettled sent outs
-    → AreSettled new outs
-settled_still sent new outs is h = rw is h

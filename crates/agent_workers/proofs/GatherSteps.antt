@@ -18,7 +18,6 @@ use Rattle.pipeline_core.specs.Shapes.{IsGatherEntry}
 use Rattle.pipeline_core.specs.Stands.{Continues}
 use Rattle.pipeline_core.specs.Steps.{after_gather, after_ended, gather_entry}
 use Rattle.pipeline_core.specs.Order.{IsDrained}
-use Rattle.pipeline_core.specs.Windows.{HasNoAggs}
 use Rattle.pipeline_core.specs.declared.gathering.Gathered.{Gathered}
 use Rattle.pipeline_core.proofs.ShapeLemmas.{entries-have-shape}
 use Rattle.pipeline_core.proofs.Keeping.{differs}
@@ -33,11 +32,12 @@ use Rattle.agent_workers.specs.Inputs.{gathered_of}
 use Rattle.formats.specs.Reader.{FitsGather}
 use Rattle.agent_workers.specs.Inputs.{InPart, in_at, no_in, HoldsNoEnd, HoldsOwn, IsOffered, HasMetEnd}
 use Rattle.agent_workers.specs.RunState.{RunState, Beginning, setup_at}
-use Rattle.agent_workers.specs.Progress.{Heard, Progress, SettlesFirst, ReadsAt, GathersAt, EndsAt}
+use Rattle.agent_workers.specs.Progress.{still_after, Heard, Progress, SettlesFirst, ReadsAt, GathersAt, EndsAt}
 use Rattle.agent_workers.specs.Running.{AreSettled}
 use Rattle.agent_workers.proofs.GatherLemmas.{entry_of, said_of}
 use Rattle.agent_workers.proofs.HeardLemmas.{IsNotOf, read_to, heard_push, heard_accepted, heard_full, heard_ended}
 use Rattle.agent_workers.proofs.HeardLemmas.{heard_free, heard_read_none, heard_read_some}
+use Rattle.agent_workers.proofs.HeldLemmas.{failed_none, failed_quiet}
 use Rattle.agent_workers.proofs.ProgressLemmas.{text-push, all_heard_set, all_said_push, order-push, went_behind}
 use Rattle.agent_workers.proofs.ProgressLemmas.{all_flushed, pushed_still}
 use Rattle.formats.proofs.GroupLemmas.{told_then}
@@ -58,6 +58,7 @@ went_set start core now ins i part b w here = record {
   pushed = w.pushed;
   order = w.order;
   counted_at = w.counted_at;
+  still = w.still;
 }
 
 -- the next group was read, and is held where it has a piece
@@ -130,7 +131,7 @@ ended_other i k ne = record { none = refl; other = differs i k (λ e. ne (sym e)
 -- no item of the input is raw, and at each output nothing is buffered or the last batch failed
 drained : (start : Beginning) (core : CoreState) (now : RunState)
     (w : Progress start (record now { core = core; ticked = true })) (i : ℕ)
-    → now.next ≤ i → start.front ≡ [] → AreSettled core now.outs → IsDrained (setup_at start) w.journal i
+    → now.next ≤ i → start.first ≡ true → AreSettled core now.outs → IsDrained (setup_at start) w.journal i
 drained start core now w i l f settled = record {
   none_raw = w.order.none_raw f i l;
   flushed = all_flushed start core (record now { ticked = true }) w (w.order.has_ticked refl f) settled;
@@ -147,6 +148,7 @@ pub went_accepted : (start : Beginning) (core next : CoreState) (now : RunState)
       ins = set ins part.input (record part { held = None });
       next = part.input + 1;
       ticked = true;
+      still = 0;
     })
 went_accepted start core next now ins part g b at own few is more settled w =
     let i : ℕ = part.input in
@@ -180,6 +182,7 @@ went_accepted start core next now ins part g b at own few is more settled w =
           (λ k l. none_of_other k g.input (length g.metrics) number
           (λ (q : g.input ≡ k). absurd (omega (arith, l, q, own)))) w.order;
       counted_at = counted_moments-same w.journal e refl ∙ w.counted_at;
+      still = failed_none (w.journal ++ e ∷ []);
     }
 
 -- what an input holds is too much for the run
@@ -227,15 +230,17 @@ went_ended start core next now ins part b at some is more none w =
       work_is = w.work_is;
       worked = worked-push start.job.work w.journal e tt w.worked;
       pushed = pushed_still core now.proc w.journal e w.text.stands refl w.pushed;
-      order = order-push start core now.next now.next now.ticked w.journal e refl refl w.worked w.text.stands (omega arith)
+      order = order-push start core now.next now.next now.ticked w.journal e refl refl w.worked w.text.stands
+          (omega arith)
           (λ f. tt)
           (λ k l. refl) w.order;
       counted_at = counted_moments-same w.journal e refl ∙ w.counted_at;
+      still = failed_quiet now.still w.journal e refl refl w.still;
     }
 
 -- nothing was held
 pub gathers_none : (old new : CoreState) (part new_part : InPart) → new ≡ old → new_part ≡ part
-    → GathersAt old new part new_part
+    → GathersAt false old new part new_part
 gathers_none old new part new_part core same = λ ins b at start now settled w.
     let kept : set ins part.input new_part ≡ ins = ap (set ins part.input) same
     ∙ subst (λ (x : InPart). set ins part.input x ≡ ins) at (set-get_or ins part.input no_in) in
@@ -260,9 +265,10 @@ ends_none met old new part new_part core same = λ ins b at start now told w.
 set_here : (ins : List InPart) (i : ℕ) (part : InPart) → i < length ins → in_at (set ins i part) i ≡ part
 set_here ins i part b = get_or-set_same ins i part no_in b
 
-module _ (met : Bool) (old offered new : CoreState) (part read held last : InPart) (same : read.input ≡ part.input)
+module _ (met accepted : Bool) (old offered new : CoreState) (part read held last : InPart) (same : read.input
+    ≡ part.input)
     (offered_as : IsOffered read held) (reads : ReadsAt old old part read) (ends_met : met ≡ true → HasMetEnd part read)
-    (gathers : GathersAt old offered read held) where
+    (gathers : GathersAt accepted old offered read held) where
   module _ (ins : List InPart) (b : part.input < length ins) (at : in_at ins part.input ≡ part) (start : Beginning)
       (now : RunState) (settled : SettlesFirst start old now.outs)
       (w : Progress start (record now { core = old; ins = ins; next = part.input; ticked = true })) where
@@ -272,8 +278,13 @@ module _ (met : Bool) (old offered new : CoreState) (part read held last : InPar
     after_read = reads ins b at start (record now { next = part.input; ticked = true }) w
 
     -- once what it holds was offered
-    after_offer : Progress start (record now
-        { core = offered; ins = set ins part.input held; next = part.input + 1; ticked = true })
+    after_offer : Progress start (record now {
+      core = offered;
+      ins = set ins part.input held;
+      next = part.input + 1;
+      ticked = true;
+      still = still_after accepted now.still;
+    })
     after_offer =
         let i : ℕ = part.input in
         let l : read.input < length (set ins i read) = omega (arith, b, same, length-set ins i read) in
@@ -285,10 +296,11 @@ module _ (met : Bool) (old offered new : CoreState) (part read held last : InPar
         subst (λ (k : ℕ). Progress start (record now { core = old; ins = set ins i read; next = k; ticked = true }))
         (sym same) after_read in
         let to = gathers (set ins i read) l here start now settled from in
+        let count : ℕ = still_after accepted now.still in
         subst (λ (k : ℕ). Progress start (record now
-        { core = offered; ins = set ins i held; next = k + 1; ticked = true })) same
+        { core = offered; ins = set ins i held; next = k + 1; ticked = true; still = count })) same
         (subst (λ (all : List InPart). Progress start (record now
-        { core = offered; ins = all; next = read.input + 1; ticked = true }))
+        { core = offered; ins = all; next = read.input + 1; ticked = true; still = count }))
         twice to)
 
     -- what the end is told by
@@ -303,11 +315,11 @@ module _ (met : Bool) (old offered new : CoreState) (part read held last : InPar
         (sym offered_as) told
 
   -- the run is full
-  pub turns_full : GathersAt old offered part held
+  pub turns_full : GathersAt accepted old offered part held
   turns_full = λ ins b at start now settled w. after_offer ins b at start now settled w
 
   -- it isn't, and the end may be noted
-  pub turns : held.input ≡ read.input → EndsAt met offered new held last → GathersAt old new part last
+  pub turns : held.input ≡ read.input → EndsAt met offered new held last → GathersAt accepted old new part last
   turns number ends = λ ins b at start now settled w.
       let i : ℕ = part.input in
       let is : held.input ≡ i = number ∙ same in
@@ -317,8 +329,10 @@ module _ (met : Bool) (old offered new : CoreState) (part read held last : InPar
       ap (λ (k : ℕ). set (set ins i held) k last) is ∙ set-set ins i held last in
       let told = subst (λ (k : ℕ). met ≡ true → Told (in_at start.ins k).left held.left
       (λ xs ys. to_come held.hand ys ≡ [])) (sym is) (told_end ins b at start now settled w) in
-      subst (λ (all : List InPart). Progress start (record now { core = new; ins = all; next = i + 1; ticked = true }))
-      twice (ends (set ins i held) l here start (record now { next = i + 1; ticked = true }) told
+      let count : ℕ = still_after accepted now.still in
+      subst (λ (all : List InPart). Progress start (record now
+      { core = new; ins = all; next = i + 1; ticked = true; still = count }))
+      twice (ends (set ins i held) l here start (record now { next = i + 1; ticked = true; still = count }) told
       (after_offer ins b at start now settled w))
 
 -- ---- what came of an offer
@@ -327,21 +341,21 @@ module _ (met : Bool) (old offered new : CoreState) (part read held last : InPar
 pub held_as : (part : InPart) (g : Gathered) → part.held ≡ Some g → part ≡ record part { held = Some g }
 held_as part g e = ap (λ (x : Option Gathered). let p : InPart = record part { held = x } in p) e
 
-own_of : (part : InPart) (g : Gathered) → part.held ≡ Some g → HoldsOwn part → g.input ≡ part.input
+pub own_of : (part : InPart) (g : Gathered) → part.held ≡ Some g → HoldsOwn part → g.input ≡ part.input
 own_of part g e own = (subst (λ (x : Option Gathered). IfSome x
     (λ y. (y.input ≡ part.input) × FitsGather part.rule (length y.metrics))) e own).0
 
 -- it was accepted
 pub offer_accepted : (core next : CoreState) (part : InPart) (g : Gathered) → part.held ≡ Some g → HoldsOwn part
     → core.gathered + length g.metrics < 2 ^ 32 → next ≡ after_gather core g
-    → Continues core next (gather_entry core g) → GathersAt core next part (record part { held = None })
+    → Continues core next (gather_entry core g) → GathersAt true core next part (record part { held = None })
 offer_accepted core next part g e own few is more = λ ins b at start now settled w. went_accepted start core
     next now ins part g b (at ∙ held_as part g e) (own_of part g e own) few is more settled w
 
 -- the run is full
 pub offer_full : (core next : CoreState) (part : InPart) (g back : Gathered) → part.held ≡ Some g → back ≡ g
     → next ≡ core → 1 ≤ part.rule.most → HoldsNoEnd part.state part.held → 2 ^ 32 ≤ core.gathered + length g.metrics
-    → GathersAt core next part (record part { held = Some back; state = states.LimitReached })
+    → GathersAt false core next part (record part { held = Some back; state = states.LimitReached })
 offer_full core next part g back e same core_same some no_end many = λ ins b at start now settled w.
     let full : Progress start (record now {
       core = core;
@@ -372,7 +386,7 @@ offer_full core next part g back e same core_same some no_end many = λ ins b at
 
 -- items were raw
 pub offer_kept : (core next : CoreState) (part : InPart) (g back : Gathered) → part.held ≡ Some g → back ≡ g
-    → next ≡ core → GathersAt core next part (record part { held = Some back })
+    → next ≡ core → GathersAt false core next part (record part { held = Some back })
 offer_kept core next part g back e same core_same =
     gathers_none core next part (record part { held = Some back }) core_same
     (ap (λ (x : Gathered). let p : InPart = record part { held = Some x } in p) same ∙ sym (held_as part g e))

@@ -2,7 +2,8 @@
 use Rattle.std.proofs.Common.{◌≡◌, ◌≢◌, ◌≤◌, ◌<◌, ◌+◌, ℕ, zero, suc, Bool, true, false, List, [], ◌∷◌, length}
 use Rattle.std.proofs.Common.{length-append, get_or, set, replicate, refl, sym, ap, ◌∙◌, subst, inl, inr, arith}
 use Rattle.std.proofs.Common.{below_more, Err}
-use Rattle.std.specs.Prelude.{slice_get, slice_index_or, is_some, ◌⊎◌, All, IfSome}
+use Rattle.std.specs.Prelude.{slice_get, slice_index_or, is_some, ◌||◌, IfSome}
+use Rattle.std.proofs.lemmas.Bool.{cases_lt}
 use Rattle.std.proofs.lemmas.List.{length-map, length-set, get_or-map, get_or-set_same, get_or-set_other}
 use Rattle.std.specs.declared.option.Option.{Option}
 use Rattle.std.specs.declared.option.Option.TheVariants.{Some, None}
@@ -17,17 +18,24 @@ use Rattle.pipeline_core.specs.Steps.{IsGatherAnswer}
 use Rattle.pipeline_core.proofs.Keeping.{reported_rest}
 use Rattle.pipeline_core.specs.declared.gathering.Gathered.{Gathered}
 use Rattle.pipeline_core.specs.declared.gathering.GatherRefused.{GatherRefused}
-use Rattle.pipeline_core.specs.declared.gathering.GatherRefused.TheVariants.{HeldUndelivered}
+use Rattle.pipeline_core.specs.declared.gathering.GatherRefused.TheVariants.{HeldRaw, HeldUndelivered}
 use Rattle.formats.specs.declared.pieces.InState.{InState}
 use Rattle.formats.specs.declared.pieces.InState.TheVariants as states
 use Rattle.agent_workers.specs.declared.input.InJob.{InJob}
 use Rattle.agent_workers.specs.Inputs.{InPart, in_of, ins_of, in_at, no_in, is_ended, IsSameInput, AreSameInputs}
-use Rattle.agent_workers.specs.Inputs.{FitsInput, AreInputs, IsCutBy, HoldsNoEnd, HoldsOwn, IsReadable, IsMoved, IsOut}
+use Rattle.agent_workers.specs.Inputs.{FitsInput, AreInputs, HaveLimits, IsCutBy, HoldsNoEnd, HoldsOwn, IsReadable}
+use Rattle.agent_workers.specs.Inputs.{IsMoved}
 use Rattle.agent_workers.specs.Inputs.{IsFullOf, OneIsFull, IsOneIn, AreFresh}
 use Rattle.formats.specs.Reader.{FitsGather}
 use Rattle.agent_workers.specs.Output.{OutPart}
-use Rattle.agent_workers.specs.Progress.{Progress, GathersAt, GathersTo}
-use Rattle.agent_workers.specs.Running.{IsReady, AreSettled, IsGathered, IsGatheredAt, HasMoved, HasGone, IdlesOut}
+use Rattle.agent_workers.specs.Progress.{still_after, Progress, GathersAt, GathersTo}
+use Rattle.agent_workers.specs.Running.{IsReady, AreSettled, IsGathered, IsGatheredAt, HasOffered, IsQuiet, IsQuietTurn}
+use Rattle.agent_workers.specs.Running.{AreQuietTurns, IsAtLimit, IsHeldIn, IsOutOrHeld}
+use Rattle.agent_workers.specs.Inputs.{is_accepted}
+use Rattle.agent_workers.specs.declared.input.Offered.{Offered}
+use Rattle.agent_workers.specs.declared.input.Offered.TheVariants as offers
+use Rattle.account.specs.Setup.{Setup}
+use Rattle.track_groups.specs.Tracker.{TrackerState, live_of}
 use Rattle.agent_workers.specs.Running.{buffered_at}
 use Rattle.agent_workers.proofs.HeardLemmas.{not_ended, holds_no_end}
 use Rattle.agent_workers.proofs.OutLemmas.{each_set, ready_same}
@@ -39,6 +47,7 @@ pub same_input : (first old new : InPart) → IsSameInput first old → IsSameIn
 same_input first old new h k = record {
   input = k.input ∙ h.input;
   rule = k.rule ∙ h.rule;
+  limit = k.limit ∙ h.limit;
   moments = k.moments
       ∙ h.moments;
 }
@@ -52,7 +61,10 @@ same_inputs firsts olds news h k = record {
 }
 
 pub inputs_themselves : (ins : List InPart) → AreSameInputs ins ins
-inputs_themselves ins = record { count = refl; each = λ i l. record { input = refl; rule = refl; moments = refl } }
+inputs_themselves ins = record {
+  count = refl;
+  each = λ i l. record { input = refl; rule = refl; limit = refl; moments = refl };
+}
 
 pub same_set : (firsts ins : List InPart) (n : ℕ) (part : InPart) → n < length ins → AreSameInputs firsts ins
     → IsSameInput (in_at ins n) part → AreSameInputs firsts (set ins n part)
@@ -142,27 +154,49 @@ settled_gathered old new outs h s = λ o l.
       | inr some ↦ inr some
     ]
 
+-- it came on with one of two steps, or with none
+twice : (accepted more : Bool) (still : ℕ)
+    → still_after more (still_after accepted still) ≡ still_after (accepted || more) still
+twice true true still = refl
+twice true false still = refl
+twice false more still = refl
+
 -- one input more had its turn
-pub gathers_then : (n : ℕ) (old mid new : CoreState) (ins mid_ins : List InPart) (part new_part : InPart)
-    → IsGathered old mid → part.input ≡ n → n < length mid_ins → in_at mid_ins n ≡ part
-    → GathersAt mid new part new_part → GathersTo n old mid ins mid_ins
-    → GathersTo (n + 1) old new ins (set mid_ins n new_part)
-gathers_then n old mid new ins mid_ins part new_part kept number b at turn h = λ start now settled w.
-    let from : Progress start (record now { core = mid; ins = mid_ins; next = part.input; ticked = true }) =
-    subst (λ (k : ℕ). Progress start (record now { core = mid; ins = mid_ins; next = k; ticked = true })) (sym number)
-    (h start now settled w) in
-    subst (λ (k : ℕ). Progress start (record now { core = new; ins = set mid_ins k new_part; next = k + 1; ticked = true }))
-    number
-    (turn mid_ins (omega (arith, b, number)) (ap (in_at mid_ins) number ∙ at) start now
-    (λ f. settled_gathered old mid now.outs kept (settled f)) from)
+pub gathers_then : (n : ℕ) (accepted more : Bool) (old mid new : CoreState) (ins mid_ins : List InPart)
+    (part new_part : InPart) → IsGathered old mid → part.input ≡ n → n < length mid_ins → in_at mid_ins n ≡ part
+    → GathersAt more mid new part new_part → GathersTo n accepted old mid ins mid_ins
+    → GathersTo (n + 1) (accepted || more) old new ins (set mid_ins n new_part)
+gathers_then n accepted more old mid new ins mid_ins part new_part kept number b at turn h = λ start now settled w.
+    let count : ℕ = still_after accepted now.still in
+    let from : Progress start (record now
+    { core = mid; ins = mid_ins; next = part.input; ticked = true; still = count }) =
+    subst (λ (k : ℕ). Progress start (record now { core = mid; ins = mid_ins; next = k; ticked = true; still = count }))
+    (sym number) (h start now settled w) in
+    subst (λ (k : ℕ). Progress start (record now {
+      core = new;
+      ins = set mid_ins k new_part;
+      next = k + 1;
+      ticked = true;
+      still = still_after (accepted || more) now.still;
+    })) number
+    (subst (λ (still : ℕ). Progress start (record now {
+      core = new;
+      ins = set mid_ins part.input new_part;
+      next = part.input + 1;
+      ticked = true;
+      still = still;
+    })) (twice accepted more now.still)
+    (turn mid_ins (omega (arith, b, number)) (ap (in_at mid_ins) number ∙ at) start (record now { still = count })
+    (λ f. settled_gathered old mid now.outs kept (settled f)) from))
 
 -- the others had none
-pub gathers_on : (n : ℕ) (old new : CoreState) (ins new_ins : List InPart) → n ≤ length ins
-    → GathersTo n old new ins new_ins → GathersTo (length ins) old new ins new_ins
-gathers_on n old new ins new_ins l h = λ start now settled w. went_behind start new
-    (record now { ins = new_ins; ticked = true }) n (length ins) l (h start now settled w)
+pub gathers_on : (n : ℕ) (accepted : Bool) (old new : CoreState) (ins new_ins : List InPart) → n ≤ length ins
+    → GathersTo n accepted old new ins new_ins → GathersTo (length ins) accepted old new ins new_ins
+gathers_on n accepted old new ins new_ins l h = λ start now settled w. went_behind start new
+    (record now { ins = new_ins; ticked = true; still = still_after accepted now.still }) n (length ins) l
+    (h start now settled w)
 
-pub gathers_nothing : (core : CoreState) (ins : List InPart) → GathersTo 0 core core ins ins
+pub gathers_nothing : (core : CoreState) (ins : List InPart) → GathersTo 0 false core core ins ins
 gathers_nothing core ins = λ start now settled w. w
 
 -- ---- parts of jobs
@@ -284,22 +318,39 @@ same_core i core next same = subst (IsGatheredAt i core) (sym same)
 pub ready_gathered : (i : ℕ) (old new : CoreState) → IsGatheredAt i old new → IsReady old → IsReady new
 ready_gathered i old new h ready = ready_same old new h.kept.setup h.kept.lanes h.kept.held ready
 
--- where no input is tracked none has a limit of groups
-none_most : (all : List (Option ℕ)) (k : ℕ) → All (λ (most : Option ℕ). most ≡ None) all
-    → slice_index_or all k None ≡ None
-none_most [] k h = refl
-none_most (x ∷ all) zero h = h zero None (omega arith)
-none_most (x ∷ all) (suc k) h = none_most all k (λ i d l. h (suc i) d (omega (arith, l)))
+-- an input whose groups aren't fewer than they may be
+pub at_limit : (core : CoreState) (input : ℕ) (all : List (Option ℕ)) → all ≡ core.setup.inputs
+    → ¬ IfSome (slice_index_or all input None) (λ most. live_of core.tracker input < most) → IsAtLimit core input
+at_limit core input all are h = limit_of (slice_index_or all input None) refl h
+  where
+    found : (all : List (Option ℕ)) (k most : ℕ) → slice_index_or all k None ≡ Some most
+        → slice_get all k ≡ Some (Some most)
+    found [] k most e = absurd (let x : None ≡ Some most = e in cc)
+    found (x ∷ all) zero most e = ap Some e
+    found (x ∷ all) (suc k) most e = found all k most e
 
-if_none : {X : Type 0} (P : X → Type 0) (x : Option X) → x ≡ None → IfSome x P
-if_none {X} P x none = subst (λ (y : Option X). IfSome y P) (sym none) tt
+    limit_of : (o : Option ℕ) → slice_index_or all input None ≡ o
+        → ¬ IfSome o (λ most. live_of core.tracker input < most) → IsAtLimit core input
+    limit_of None e none = absurd (none tt)
+    limit_of (Some most) e none = record {
+      most = most;
+      tracked = ap (λ (xs : List (Option ℕ)). slice_get xs input) (sym are) ∙ found all input most e;
+      full = elim (cases_lt (live_of core.tracker input) most) [ inl less ↦ absurd (none less) | inr least ↦ least ];
+    }
 
--- so no gather is held back since groups are undelivered
-pub never_undelivered : (core : CoreState) (g back : Gathered) (why : GatherRefused) → IsReady core
-    → why ≡ HeldUndelivered back → IsGatherAnswer core g (Err why) → ⊥
-never_undelivered core g back why ready is h =
+-- so it is where a gather is held back since groups are undelivered
+pub undelivered_at : (core : CoreState) (g back : Gathered) (why : GatherRefused) → why ≡ HeldUndelivered back
+    → IsGatherAnswer core g (Err why) → IsAtLimit core g.input
+undelivered_at core g back why is h =
     let answer = subst (λ (w : GatherRefused). IsGatherAnswer core g (Err w)) is h in
-    answer.2 (if_none _ (most_of core g.input) (none_most core.setup.inputs g.input ready.untracked))
+    at_limit core g.input core.setup.inputs refl answer.2
+
+-- and where one is held back since items are raw
+pub raw_there : (core : CoreState) (g back : Gathered) (why : GatherRefused) → why ≡ HeldRaw back
+    → IsGatherAnswer core g (Err why) → core.raw ≢ []
+raw_there core g back why is h = λ e.
+    let answer = subst (λ (w : GatherRefused). IsGatherAnswer core g (Err w)) is h in
+    answer.3 (inl (ap length e))
 
 no_end_none : (state : InState) → HoldsNoEnd state None
 no_end_none states.Reading = tt
@@ -391,70 +442,124 @@ pub fits_own : (index : ℕ) (ended : List Bool) (part : InPart) → FitsInput i
     → FitsInput part.input ended part
 fits_own index ended part h = subst (λ (k : ℕ). FitsInput k ended part) (sym h.number) h
 
--- it is out, or a gather was accepted or items were raw
-pub turn_moved : (met : Bool) (held : Option Gathered) (old offered new : CoreState) (read part last : InPart)
-    → read.held ≡ held → (met ≡ true → read.state ≡ states.Reading) → (met ≡ false → IsMoved read)
-    → (read.held ≢ None → HasMoved old offered) → (read.held ≡ None → part.held ≡ None) → part.state ≡ read.state
-    → last.held ≡ part.held → (met ≡ true → part.held ≡ None → part.state ≡ states.Reading → last.state ≡ states.Ended)
-    → (met ≡ false → last.state ≡ part.state) → length offered.stored ≤ length new.stored
-    → IsOut last ⊎ HasMoved old new
-turn_moved met (Some g) old offered new read part last is reading moved gathered none room held ends unmet grown =
-    elim (gathered (λ e. let x : Some g ≡ None = sym is ∙ e in absurd cc)) [
-      | inl raw ↦ inr (inl raw)
-      | inr more ↦ inr (inr (omega (arith, more, grown)))
-    ]
-turn_moved true None old offered new read part last is reading moved gathered none room held ends unmet grown =
-    let free : part.held ≡ None = none is in
+-- the limits are as before, where the inputs are the same
+pub limits_still : (limits others : List (Option ℕ)) (olds news : List InPart) → others ≡ limits
+    → AreSameInputs olds news → HaveLimits limits olds → HaveLimits others news
+limits_still limits others olds news setup same h = λ k l.
+    let b : k < length olds = omega (arith, l, same.count) in
+    ap (λ (xs : List (Option ℕ)). slice_get xs k) setup ∙ h k b ∙ ap Some (sym (same.each k b).limit)
+
+-- what isn't accepted stays so while the live groups, and what is raw, are as they were
+pub held_still : (old new : CoreState) (input : ℕ) → IsQuiet old new → new.setup ≡ old.setup → IsHeldIn old input
+    → IsHeldIn new input
+held_still old new input quiet same (inl raw) = inl (λ e. raw (sym quiet.raw ∙ e))
+held_still old new input quiet same (inr full) = inr (record {
+  most = full.most;
+  tracked = ap (λ (s : Setup). slice_get s.inputs input) same ∙ full.tracked;
+  full = subst (λ (t : TrackerState). full.most ≤ live_of t input) (sym quiet.tracker) full.full;
+})
+
+-- an offer that was held back
+pub held_as_before : (old new : CoreState) (part new_part : InPart) → new ≡ old → new_part.state ≡ part.state
+    → IsHeldIn old part.input → HasOffered offers.Held old new part new_part
+held_as_before old new part new_part same room held = record {
+  full = λ e. absurd (let x : offers.Held ≡ offers.Full = e in cc);
+  room = λ e. room;
+  nothing = λ e. absurd (let x : offers.Held ≡ offers.Nothing = e in cc);
+  accepted = λ e. absurd (let x : offers.Held ≡ offers.Accepted = e in cc);
+  held = λ e. (same, held);
+}
+
+quiet_as : (old mid new : CoreState) → mid ≡ old → IsQuiet mid new → IsQuiet old new
+quiet_as old mid new is h = subst (λ (s : CoreState). IsQuiet s new) is h
+
+-- where no gather was accepted the live groups and the raw items are as before, and the input is out, or held back
+pub turn_quiet : (met : Bool) (offer : Offered) (old offered new : CoreState) (read part last : InPart)
+    → HasOffered offer old offered read part → (offer ≢ offers.Full) → is_accepted offer ≡ false
+    → IsQuiet offered new → new.setup ≡ offered.setup → (met ≡ true → read.state ≡ states.Reading)
+    → (met ≡ false → IsMoved read) → last.input ≡ read.input → last.held ≡ part.held
+    → (met ≡ true → part.held ≡ None → part.state ≡ states.Reading → last.state ≡ states.Ended)
+    → (met ≡ false → last.state ≡ part.state) → IsQuietTurn old new last
+turn_quiet met offers.Full old offered new read part last h room_is none quiet same reading moved number held ends
+    unmet =
+    absurd (room_is refl)
+turn_quiet met offers.Accepted old offered new read part last h room_is none quiet same reading moved number held ends
+    unmet = absurd (let x : true ≡ false = none in cc)
+turn_quiet met offers.Held old offered new read part last h room_is none quiet same reading moved number held ends
+    unmet =
+    let stays : offered ≡ old = (h.held refl).0 in
+    let as_before : IsQuiet old new = quiet_as old offered new stays quiet in
+    record {
+      quiet = as_before;
+      waits = inr (subst (IsHeldIn new) (sym number) (held_still old new read.input as_before
+          (same ∙ ap (λ (s : CoreState). s.setup) stays) (h.held refl).1));
+    }
+turn_quiet true offers.Nothing old offered new read part last h room_is none quiet same reading moved number held ends
+    unmet =
+    let free : part.held ≡ None = (h.nothing refl).2 in
+    let room : part.state ≡ read.state = h.room room_is in
     let over : last.state ≡ states.Ended = ends refl free (room ∙ reading refl) in
-    inl (record {
-      read = λ e. let x : states.Ended ≡ states.Reading = sym over ∙ e in
-          absurd cc;
-      none_held = held ∙ free;
-    })
-turn_moved false None old offered new read part last is reading moved gathered none room held ends unmet grown =
-    elim (moved refl) [
-      | inl some ↦ absurd (some is)
-      | inr stopped ↦ inl (record { read = λ e. stopped (sym room ∙ sym (unmet refl) ∙ e); none_held = held ∙ none is })
-    ]
+    record {
+      quiet = quiet_as old offered new (h.nothing refl).0 quiet;
+      waits = inl (record {
+        read = λ e. let x : states.Ended ≡ states.Reading = sym over ∙ e in
+            absurd cc;
+        none_held = held ∙ free;
+      });
+    }
+turn_quiet false offers.Nothing old offered new read part last h room_is none quiet same reading moved number held ends
+    unmet =
+    let room : part.state ≡ read.state = h.room room_is in
+    record {
+      quiet = quiet_as old offered new (h.nothing refl).0 quiet;
+      waits = elim (moved refl) [
+        | inl some ↦ absurd (some (h.nothing refl).1)
+        | inr stopped ↦ inl (record {
+          read = λ e. stopped (sym room ∙ sym (unmet refl) ∙ e);
+          none_held = held ∙ (h.nothing refl).2;
+        })
+      ];
+    }
 
 pub none_held : (held : Option Gathered) → is_some held ≡ false → held ≡ None
 none_held None e = refl
 none_held (Some g) e = absurd (let x : true ≡ false = e in cc)
 
--- ---- a round in which nothing goes on
+-- ---- a round in which no gather is accepted
 
-none_of : {X : Type 0} (xs : List X) → length xs ≡ 0 → xs ≡ []
-none_of [] e = refl
-none_of (x ∷ xs) e = absurd (omega (arith, e))
-
--- raw items stay raw
-raw_still : (old new : CoreState) → IsGathered old new → old.raw ≢ [] → new.raw ≢ []
-raw_still old new h some = λ e. some (none_of old.raw (omega (arith, h.raw, ap length e)))
-
--- the first so many inputs are out, or something has gone on
-abbrev pub HasTurned : ℕ → CoreState → CoreState → List InPart → Type 0
-HasTurned n old new ins = ((k : ℕ) → k < n → IsOut (in_at ins k)) ⊎ HasGone old new
+-- the first so many inputs are out, or held back
+pub record HasTurned (n : ℕ) (old new : CoreState) (ins : List InPart) : Type 0 where
+  pub quiet : IsQuiet old new
+  pub each : (k : ℕ) → k < n → IsOutOrHeld new (in_at ins k)
 
 pub turned_none : (core : CoreState) (ins : List InPart) → HasTurned 0 core core ins
-turned_none core ins = inl (λ k l. absurd (omega (arith, l)))
+turned_none core ins = record {
+  quiet = record { tracker = refl; raw = refl };
+  each = λ k l. absurd (omega (arith, l));
+}
+
+waits_still : (old new : CoreState) (part : InPart) → IsQuiet old new → new.setup ≡ old.setup → IsOutOrHeld old part
+    → IsOutOrHeld new part
+waits_still old new part quiet same (inl out) = inl out
+waits_still old new part quiet same (inr held) = inr (held_still old new part.input quiet same held)
 
 -- one input more had its turn
 pub turned_more : (n : ℕ) (old mid new : CoreState) (ins : List InPart) (part : InPart) → n < length ins
-    → IsGathered old mid → IsGathered mid new → IsOut part ⊎ HasMoved mid new → HasTurned n old mid ins
-    → HasTurned (n + 1) old new (set ins n part)
-turned_more n old mid new ins part b before kept turn (inr (inl raw)) = inr (inl (raw_still mid new kept raw))
-turned_more n old mid new ins part b before kept turn (inr (inr more)) = inr (inr (omega (arith, more, kept.stored)))
-turned_more n old mid new ins part b before kept (inr (inl raw)) (inl outs) = inr (inl (raw_still mid new kept raw))
-turned_more n old mid new ins part b before kept (inr (inr more)) (inl outs) =
-    inr (inr (omega (arith, more, before.stored)))
-turned_more n old mid new ins part b before kept (inl out) (inl outs) =
-    inl (below_more _ _ (λ k l. subst IsOut (sym (get_or-set_other ins n k part no_in
-    (λ (q : k ≡ n). absurd (omega (arith, l, q))))) (outs k l))
-    (subst IsOut (sym (get_or-set_same ins n part no_in b)) out))
+    → new.setup ≡ mid.setup → IsQuietTurn mid new part → HasTurned n old mid ins → HasTurned (n + 1) old new
+    (set ins n part)
+turned_more n old mid new ins part b same turn h = record {
+  quiet = record { tracker = turn.quiet.tracker ∙ h.quiet.tracker; raw = turn.quiet.raw ∙ h.quiet.raw };
+  each = below_more _ _ (λ k l. subst (IsOutOrHeld new) (sym (get_or-set_other ins n k part no_in
+      (λ (q : k ≡ n). absurd (omega (arith, l, q))))) (waits_still mid new (in_at ins k) turn.quiet same (h.each k l)))
+      (subst (IsOutOrHeld new) (sym (get_or-set_same ins n part no_in b)) turn.waits);
+}
 
--- where nothing has gone on all are out
-pub idles_out : (n : ℕ) (old new : CoreState) (ins : List InPart) → length ins ≤ n → HasTurned n old new ins
-    → IdlesOut old new ins
-idles_out n old new ins all (inl outs) = λ none same. λ k l. outs k (omega (arith, l, all))
-idles_out n old new ins all (inr (inl raw)) = λ none same. absurd (raw none)
-idles_out n old new ins all (inr (inr more)) = λ none same. absurd (omega (arith, more, same))
+-- so it is of all
+pub turned_all : (n : ℕ) (old new : CoreState) (ins : List InPart) → length ins ≤ n → HasTurned n old new ins
+    → AreQuietTurns old new ins
+turned_all n old new ins all h = record { quiet = h.quiet; each = λ k l. h.each k (omega (arith, l, all)) }
+
+-- what accepts nothing more accepts as much as before
+pub either_none : (a b : Bool) → (a || b) ≡ false → (a ≡ false) × (b ≡ false)
+either_none true b e = absurd (let x : true ≡ false = e in cc)
+either_none false b e = (refl, e)

@@ -1,6 +1,7 @@
 -- What is known of the Routes of a run is so, by what it makes of its items.
-use Rattle.std.proofs.Common.{◌≡◌, ◌<◌, ℕ, zero, suc, Bool, true, false, List, [], ◌∷◌, ◌++◌, map, length, refl, sym, ap, subst}
-use Rattle.std.proofs.Common.{◌∙◌, arith, ◌+◌, ◌&&◌, if◌then◌else◌, append_assoc}
+use Rattle.std.proofs.Common.{◌≡◌, ◌<◌, ℕ, zero, suc, Bool, true, false, List, [], ◌∷◌, ◌++◌, map, length, refl, sym}
+use Rattle.std.proofs.Common.{ap, subst}
+use Rattle.std.proofs.Common.{◌∙◌, arith, ◌&&◌, if◌then◌else◌, append_assoc}
 use Rattle.std.proofs.lemmas.Bool.{and_parts, eqb-true}
 use Rattle.std.specs.Prelude.{slice_get, IfSome, ◌==◌}
 use Rattle.std.specs.List.{list_all, last_or, AllByRecursion}
@@ -8,10 +9,9 @@ use Rattle.std.specs.Option.{option_to_list}
 use Rattle.std.specs.declared.option.Option.{Option}
 use Rattle.std.specs.declared.option.Option.TheVariants.{Some, None}
 use Rattle.metric.specs.declared.metric.Content.{Content}
-use Rattle.metric_filter.specs.Filter.{applied, leaves_all_parts, GivesItself}
-use Rattle.metric_filter.specs.declared.rules.FilterRules.{FilterRules}
+use Rattle.metric_filter.specs.Filter.{leaves_all_parts}
 use Rattle.metric_filter.proofs.LeftLemmas.{gives_itself}
-use Rattle.account.specs.Items.{items, named_by, routes}
+use Rattle.account.specs.Items.{items, routes}
 use Rattle.account.specs.Origins.{is_made}
 use Rattle.account.specs.Routes.{IsNextRoute, RouteOnInOrder}
 use Rattle.account.specs.declared.entry.Entry.{Entry}
@@ -26,7 +26,7 @@ use Rattle.journal_text.specs.Known.{AreWhole, IsKnown, AreKnown}
 use Rattle.journal_text.specs.declared.known.Known.{Known}
 use Rattle.journal_text.proofs.SoFarLemmas.{items-append}
 use Rattle.pipeline_core.specs.Work.{Work}
-use Rattle.pipeline_core.specs.Worked.{views_of, pushed, whole_of, seen_of, IsRoutedBy, WorkedBy, AreWorked}
+use Rattle.pipeline_core.specs.Worked.{views_of, pushed, IsRoutedBy, WorkedBy, AreWorked}
 use Rattle.proc_chain.specs.Steps.{whole as whole_by}
 use Rattle.proc_chain.specs.declared.step.Step.{Step}
 use Rattle.proc_chain.proofs.LawLemmas.{no_steps}
@@ -114,7 +114,8 @@ module _ (work : Work) (known : Known) (is : IsKnownOf work known) (journal : Li
   item_itself item whole aggs outs w k =
       let last = pushed_last work.skip journal item w.metric w.is_item in
       w.is_whole
-      ∙ whole_itself (work.skip && is_made journal item) work w.metric last.0 (pushed work.skip journal item) (is.whole k)
+      ∙ whole_itself (work.skip && is_made journal item) work w.metric last.0 (pushed work.skip journal item)
+      (is.whole k)
       last.1
 
   entry_known : (named more : List Content) (e : Entry) (routed : ℕ) → WorkedBy work journal e
@@ -129,7 +130,8 @@ module _ (work : Work) (known : Known) (is : IsKnownOf work known) (journal : Li
     seen = λ k. subst (AreWhole whole) (sym w.aggs_are) (seen_whole (is_made journal item) work.aggs whole (is.aggs k));
     passed = λ k. subst (AreWhole whole) (sym w.outs_are) (views_whole work.outs whole (is.outs k));
   }
-  entry_known named more (Gather input moment pieces refused passed filtered metrics group reports) routed w next all = tt
+  entry_known named more
+      (Gather input moment pieces refused passed filtered metrics group reports) routed w next all = tt
   entry_known named more (Ended input) routed w next all = tt
   entry_known named more (Take taken) routed w next all = tt
   entry_known named more (Tick moment made) routed w next all = tt

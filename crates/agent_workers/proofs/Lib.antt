@@ -3,6 +3,7 @@ pub mod FinishSteps
 pub mod GatherLemmas
 pub mod GatherSteps
 pub mod HeardLemmas
+pub mod HeldLemmas
 pub mod InLemmas
 pub mod KnownLemmas
 pub mod MomentLemmas
@@ -13,6 +14,7 @@ pub mod PartsLemmas
 pub mod ProgressLemmas
 pub mod PushedLemmas
 pub mod RoseLemmas
+pub mod RoundSteps
 pub mod SendSteps
 pub mod SentLemmas
 pub mod StandingLemmas

@@ -14,7 +14,7 @@ use Rattle.metric.specs.declared.metric.Content.{Content}
 use Rattle.agent_base.specs.Counts.{Rose}
 use Rattle.journal_text.specs.declared.setup.JournalSetup.{JournalSetup}
 use Rattle.journal_text.specs.JournalText.{HasItem, metric_line, metric_lines, report_lines}
-use Rattle.journal_text.specs.Known.{AreKnown, head_as, entry_as}
+use Rattle.journal_text.specs.Known.{head_as, entry_as}
 use Rattle.journal_text.specs.declared.known.Known.{Known}
 use Rattle.journal_text.specs.JournalText.{entries_text, end_text, journal_text}
 use Rattle.agent_workers.specs.Run.{change, IsPutSo}
@@ -209,7 +209,8 @@ entry_goes known item named e old mid new t0 t1 t2 t3 t4 names head metrics repo
 
 -- an entry, whose item is at hand
 pub spells_one : (e : Entry) (item mid left : List Content) (old after : JournalPart) (count : ℕ) (text rest : List ℕ)
-    → HasItem item e → old.kept ≡ item ++ mid → GoesOut (record old { kept = mid }) after text (entry_as old.known item e) rest
+    → HasItem item e → old.kept ≡ item ++ mid → GoesOut (record old { kept = mid }) after text
+    (entry_as old.known item e) rest
     → left ≡ after.kept ++ named_by e → count ≡ after.entries + 1 →
     SpellsOut (e ∷ []) old (record after { kept = left; entries = count }) text rest
 spells_one e item mid left old after count text rest has first goes named counted = record {

@@ -1,6 +1,6 @@
 -- What a run of a configuration begins with, and what it leaves.
 use Rattle.std.specs.Prelude.{Bool}
-use Rattle.agent_workers.specs.Job.{line_of}
+use Rattle.agent_workers.specs.Job.{limit_of, line_of}
 use Rattle.agent_config.specs.declared.config.AggConf.{AggConf}
 use Rattle.std.proofs.Common.{◌≡◌, ◌<◌, ◌≤◌, ◌+◌, ℕ, zero, suc, ℤ, false, List, [], ◌∷◌, ◌++◌, length, get_or, drop}
 use Rattle.std.proofs.Common.{replicate, refl, sym, ap, ◌∙◌, subst, arith, append_assoc, append-nil}
@@ -18,11 +18,13 @@ use Rattle.agent_config.specs.declared.config.OutputConf.{OutputConf}
 use Rattle.formats.specs.Reader.{cut_of}
 use Rattle.metric.specs.Metric.{IsFilledTag}
 use Rattle.agent_workers.specs.Finished.{FinishesSo, begun}
-use Rattle.agent_workers.specs.Inputs.{InPart, in_of, ins_of, in_at, IsSameInput, AreSameInputs, AreFresh, IsFresh}
+use Rattle.agent_workers.specs.Inputs.{InPart, in_of, ins_of, in_at, IsSameInput, AreSameInputs, AreFresh, HaveLimits}
+use Rattle.agent_workers.specs.Inputs.{IsFresh}
 use Rattle.agent_workers.specs.Inputs.{IsReadable}
 use Rattle.proc_chain.specs.Chain.{steps_of, IsBehind}
 use Rattle.proc_chain.specs.declared.step.Step.{Step}
-use Rattle.agent_workers.specs.Job.{Job, job_of, job_input, job_output, journal_setup_of, known_by, rule_by, setup_of, work_of, IsKnownOf}
+use Rattle.agent_workers.specs.Job.{Job, job_of, job_input, job_output, journal_setup_of, known_by, rule_by, setup_of}
+use Rattle.agent_workers.specs.Job.{work_of, IsKnownOf}
 use Rattle.agent_workers.proofs.KnownLemmas.{known_is}
 use Rattle.agent_workers.specs.Noted.{part_change}
 use Rattle.agent_workers.specs.Opened.{Carries, Times, fresh_in, fresh_ins, fresh_out, fresh_outs, empty_hands}
@@ -72,6 +74,17 @@ fresh_at config some filled n (conf ∷ confs) (source ∷ sources) (clock ∷ c
     subst (λ (i : ℕ). IsFreshAt i (in_at (fresh_ins config (n + 1) confs sources clocks) k)) (omega arith)
     (fresh_at config some filled (n + 1) confs sources clocks (λ j d b. first (suc j) d (omega (arith, b))) k
     (omega (arith, l)))
+
+-- each input has the limit of its configuration
+limits_from : (config : Config) (n : ℕ) (confs : List InputConf) (sources : List Carried) (clocks : List Timed)
+    → HaveLimits (map limit_of (map (job_input config) confs)) (fresh_ins config n confs sources clocks)
+unfolding fresh_ins
+limits_from config n [] sources clocks k l = absurd (omega (arith, l))
+limits_from config n (conf ∷ confs) [] clocks k l = absurd (omega (arith, l))
+limits_from config n (conf ∷ confs) (source ∷ sources) [] k l = absurd (omega (arith, l))
+limits_from config n (conf ∷ confs) (source ∷ sources) (clock ∷ clocks) zero l = refl
+limits_from config n (conf ∷ confs) (source ∷ sources) (clock ∷ clocks) (suc k) l =
+    limits_from config (n + 1) confs sources clocks k (omega (arith, l))
 
 pub are_fresh : (config : Config) (sources : List Carried) (clocks : List Timed) → IsSound config
     → All (λ (clock : Timed). clock.next ≡ 0) clocks → AreFresh (fresh_ins config 0 config.inputs sources clocks)
@@ -143,6 +156,7 @@ pub record AreMade (config : Config) (start : ℤ) (opened : Carries) (times : T
   pub entries : now.journal.entries ≡ 0
   pub put : now.journal.failed ≡ false
   pub counted : now.counted_at ≡ []
+  pub still : now.still ≡ 0
   pub held : now.journal.held ≡ opened.journal.bytes
   pub faults : now.journal.faults ≡ opened.journal.faults
   pub timer : now.timer ≡ times.timer
@@ -170,7 +184,8 @@ is_made config start opened times now sound new made =
             filters = ap length made.filters ∙ sym out_jobs;
             work = ap (λ (steps : List Step). work_of config.agent.skip_second steps config.aggs config.outputs)
                 (sym made.chain.same)
-                ∙ ap (λ (skip : Bool). work_of skip (steps_of now.proc.chain) config.aggs config.outputs) (sym made.skip)
+                ∙ ap (λ (skip : Bool). work_of skip (steps_of now.proc.chain) config.aggs config.outputs)
+                (sym made.skip)
                 ∙ ap (λ (aggs : List AggConf). work_of now.proc.skip (steps_of now.proc.chain) aggs config.outputs)
                 (sym made.aggs)
                 ∙ ap (work_of now.proc.skip (steps_of now.proc.chain) now.proc.aggs) (sym made.filters);
@@ -180,7 +195,10 @@ is_made config start opened times now sound new made =
             kept = made.kept;
             entries = made.entries;
             put = made.put;
+            limits = subst (HaveLimits (map limit_of (map (job_input config) config.inputs))) (sym made.ins_are)
+                (limits_from config 0 config.inputs opened.sources times.ins);
             counted = made.counted;
+            still = made.still;
           });
       ins_are = made.ins_are;
       outs_are = made.outs_are;

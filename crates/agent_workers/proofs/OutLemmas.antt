@@ -39,7 +39,7 @@ use Rattle.pipeline_core.specs.Worked.{views_of}
 use Rattle.pipeline_core.specs.declared.gathering.Item.{Item}
 use Rattle.std.proofs.lemmas.List.Edits.{map_over_more}
 use Rattle.agent_workers.specs.Running.{AllMade, IsLaneReady, IsReady, IsLaneKept, IsRoutable, IsSentOn, IsSentAt}
-use Rattle.agent_workers.specs.Running.{IsUntracked}
+use Rattle.agent_workers.specs.Running.{HasLimits}
 
 -- what holds of what was set at an index, and of the others, holds at each index
 pub each_set : {X : Type 0} (P : ℕ → X → Type 0) (xs : List X) (i : ℕ) (y d : X) → i < length xs → P i y
@@ -92,8 +92,8 @@ module _ (core mid next : CoreState) (o from to : ℕ) (ok : Bool) (b : o < leng
         (lane_done ok (lane.after_begin (lane_at core.lanes o))) (empty_lane 0 0) b
         (lane_lands ok (lane_at core.lanes o) (h.each o b).some) (λ k l ne. h.each k l));
     empty_handed = ap (λ (s : CoreState). s.held) done ∙ ap (λ (s : CoreState). s.held) began ∙ h.empty_handed;
-    untracked = subst IsUntracked (sym (ap (λ (s : CoreState). s.setup) done ∙ ap (λ (s : CoreState). s.setup) began))
-        h.untracked;
+    limits = subst HasLimits (sym (ap (λ (s : CoreState). s.setup) done ∙ ap (λ (s : CoreState). s.setup) began))
+        h.limits;
   }
 
   -- and all else but the output is as before
@@ -273,7 +273,8 @@ pub has_views : (proc : ProcPart) (item : Item) (whole : Option Content)
 has_views proc item (Some whole) = tt
 has_views proc item None =
     subst (λ (views : List (Option Content)). AllByRecursion (λ (view : Option Content). view ≡ None)
-    (views ++ views_of (filters_of proc.outs) None)) (sym (either_none item.made (views_of (agg_filters proc.aggs) None)))
+    (views ++ views_of (filters_of proc.outs) None)) (sym (either_none item.made (views_of
+    (agg_filters proc.aggs) None)))
     (no_view_at_all (agg_filters proc.aggs) (filters_of proc.outs))
 
 pub sees_nothing : (aggs : List AggConf) (item : Item) (whole : Option Content) → item.made ≡ true
@@ -302,7 +303,7 @@ ready_routed old new h k held = record {
             ∙ (h.each o l).landed;
       };
   empty_handed = held;
-  untracked = subst IsUntracked (sym k.setup) h.untracked;
+  limits = subst HasLimits (sym k.setup) h.limits;
 }
 
 -- a core whose lanes and set-up are as before is ready as before
@@ -313,7 +314,7 @@ ready_same old new setup lanes held h = record {
   each = subst (λ (xs : List (LaneState Offer)). (k : ℕ) → k < length xs → IsLaneReady (lane_at xs k))
       (sym lanes) h.each;
   empty_handed = held ∙ h.empty_handed;
-  untracked = subst IsUntracked (sym setup) h.untracked;
+  limits = subst HasLimits (sym setup) h.limits;
 }
 
 -- ---- parts of outputs
@@ -352,8 +353,8 @@ outputs_still count last outs fresh are same h = rw (are, same) (outputs_anew co
 pub ready_first : (setup : CoreSetup) (outputs : List OutSetup) (core : CoreState) → core ≡ first_state setup core.bank
     → setup.outputs ≡ outputs
     → All (λ (x : OutSetup). (1 ≤ x.batch) × (x.batch ≤ x.limit)) outputs
-    → IsUntracked (setup_of setup) → IsReady core
-ready_first setup outputs core is same sizes_fit none_tracked = record {
+    → HasLimits (setup_of setup) → IsReady core
+ready_first setup outputs core is same sizes_fit limits_fit = record {
   lane_count = ap (λ (s : CoreState). length s.lanes) is ∙ length-map setup.outputs lane_of
       ∙ sym (ap (λ (s : CoreState). length s.setup.outputs) is ∙ length-map setup.outputs sizes);
   each = λ o b.
@@ -370,7 +371,7 @@ ready_first setup outputs core is same sizes_fit none_tracked = record {
       (sym same) sizes_fit o d within in
       subst IsLaneReady (sym lane_is) (record { some = fits.0; landed = refl });
   empty_handed = ap (λ (s : CoreState). s.held) is;
-  untracked = subst (λ (s : CoreState). IsUntracked s.setup) (sym is) none_tracked;
+  limits = subst (λ (s : CoreState). HasLimits s.setup) (sym is) limits_fit;
 }
 
 -- the part of a job is the one at its index

@@ -2,19 +2,17 @@
 use Rattle.std.proofs.Common.{◌≡◌, ◌≢◌, ◌≤◌, ◌<◌, ℕ, ℤ, length, set, Bool, true, false, List, [], ◌∷◌, ◌++◌, refl, sym}
 use Rattle.std.proofs.Common.{ap, ◌∙◌, subst, arith, append_assoc, append-nil}
 use Rattle.std.proofs.Common.{inl, inr}
-use Rattle.std.specs.Prelude.{not, count_by, slice_get, map, take}
+use Rattle.std.specs.Prelude.{not, count_by, slice_get, map}
 use Rattle.std.specs.Int.{int_max}
 use Rattle.std.specs.List.{filter}
 use Rattle.std.specs.declared.option.Option.{Option}
 use Rattle.std.specs.declared.option.Option.TheVariants.{Some, None}
 use Rattle.account.specs.Setup.{Setup}
 use Rattle.account.specs.Numbers.{Numbers, output_numbers}
-use Rattle.account.specs.Items.{items, taken, takes_by}
-use Rattle.account.proofs.ItemLemmas.{items-push}
+use Rattle.account.specs.Items.{items, takes_by}
 use Rattle.account.specs.Origins.{is_made, origins_by, is_of_input}
 use Rattle.account.specs.declared.entry.Entry.{Entry}
 use Rattle.account.specs.declared.entry.Entry.TheVariants.{Take, Route, Stop, Tick}
-use Rattle.account.specs.declared.entry.Report.{Report}
 use Rattle.account.specs.declared.entry.Verdict.{Verdict}
 use Rattle.metric.specs.declared.metric.Content.{Content}
 use Rattle.agent_base.specs.Carried.{Timed}
@@ -26,7 +24,7 @@ use Rattle.out_lane.specs.LaneEvents.{LaneEvent}
 use Rattle.pipeline_core.specs.Legal.{IsLegal, has_stop, is_stop}
 use Rattle.pipeline_core.specs.Offers.{lane_events, lane_events_by}
 use Rattle.pipeline_core.specs.Moments.{IsStoppedAt, IsTickedAt}
-use Rattle.pipeline_core.specs.Steps.{after_take, after_route, after_cut, route_entry, stop_entry, tick_entry}
+use Rattle.pipeline_core.specs.Steps.{after_route, after_cut, route_entry, stop_entry, tick_entry}
 use Rattle.pipeline_core.specs.Steps.{moment_at}
 use Rattle.pipeline_core.specs.Shapes.{IsRouteEntry, IsStopEntry, IsTickEntry}
 use Rattle.pipeline_core.proofs.ShapeLemmas.{entries-have-shape}
@@ -40,8 +38,7 @@ use Rattle.journal_text.specs.Known.{AreKnown}
 use Rattle.agent_workers.proofs.KnownLemmas.{are_known}
 use Rattle.pipeline_core.specs.Order.{EndsFailed, IsFlushed, IsOrderly, IsTicked, is_tick, routes_gathered}
 use Rattle.pipeline_core.specs.Worked.{views_of, Worked}
-use Rattle.pipeline_core.specs.declared.routing.Routed.{Routed}
-use Rattle.proc_chain.specs.Chain.{steps_of, AllStand, StageState}
+use Rattle.proc_chain.specs.Chain.{steps_of, AllStand}
 use Rattle.proc_chain.specs.declared.step.Step.{Step}
 use Rattle.pipeline_core.specs.declared.gathering.Item.{Item}
 use Rattle.agent_workers.specs.Job.{filters_of, journal_setup_of, output_sizes, work_of, IsKnownOf}
@@ -49,7 +46,7 @@ use Rattle.account.specs.Routes.{RouteOnInOrder}
 use Rattle.agent_workers.specs.Inputs.{InPart, in_at, no_in}
 use Rattle.agent_workers.specs.RunState.{RunState, Beginning, setup_at}
 use Rattle.agent_workers.specs.Progress.{HasText, Heard, AllHeard, Said, AllSaid, HasOrder, Progress, StaysTicked}
-use Rattle.agent_workers.specs.Progress.{pushed_items}
+use Rattle.agent_workers.specs.Progress.{pushed_items, StopsTo}
 use Rattle.formats.specs.Batches.{batch_text}
 use Rattle.agent_workers.specs.Output.{OutPart, out_at, anew, AreAnew}
 use Rattle.pipeline_core.specs.Totals.{totals}
@@ -60,6 +57,7 @@ use Rattle.agent_workers.specs.Running.{buffered_at, AllMade, AreSettled}
 use Rattle.agent_config.specs.declared.config.AggConf.{AggConf}
 use Rattle.agent_workers.proofs.OutLemmas.{each_set, at_anew}
 use Rattle.agent_workers.proofs.FailedLemmas.{failed_same}
+use Rattle.agent_workers.proofs.HeldLemmas.{failed_fewer, failed_none, failed_quiet}
 use Rattle.agent_workers.proofs.HeardLemmas.{IsNotOf, heard_push}
 use Rattle.std.proofs.lemmas.List.{length-map}
 use Rattle.account.proofs.DoneLemmas.{dones-same, last_none, last_same}
@@ -151,9 +149,9 @@ all_heard_set starts ins old new i part b here others h = each_set
 -- ---- the order
 
 order_with : (start : Beginning) (core : CoreState) (next last : ℕ) (ticked new_ticked : Bool) (journal : List Entry)
-    (e : Entry) → Stands core journal → next ≤ last → (start.front ≡ [] → IsOrderly (setup_at start) journal e)
+    (e : Entry) → Stands core journal → next ≤ last → (start.first ≡ true → IsOrderly (setup_at start) journal e)
     → ((input : ℕ) → last ≤ input → filter (is_of_input input) (origins_by e) ≡ [])
-    → (new_ticked ≡ true → start.front ≡ [] → IsTicked (setup_at start) (journal ++ e ∷ []))
+    → (new_ticked ≡ true → start.first ≡ true → IsTicked (setup_at start) (journal ++ e ∷ []))
     → HasOrder start next ticked journal → HasOrder start last new_ticked (journal ++ e ∷ [])
 order_with start core next last ticked new_ticked journal e stands l orderly none ticks h = record {
   in_order = λ f. in_order-push (setup_at start) journal e (h.in_order f) (orderly f);
@@ -163,9 +161,10 @@ order_with start core next last ticked new_ticked journal e stands l orderly non
 }
 
 -- an entry that is no tick, and routes nothing that was gathered
-pub order-push : (start : Beginning) (core : CoreState) (next last : ℕ) (ticked : Bool) (journal : List Entry) (e : Entry)
+pub order-push : (start : Beginning) (core : CoreState) (next last : ℕ) (ticked : Bool) (journal : List Entry)
+    (e : Entry)
     → is_tick e ≡ false → routes_gathered (journal ++ e ∷ []) e ≡ false → Worked start.job.work journal
-    → Stands core journal → next ≤ last → (start.front ≡ [] → IsOrderly (setup_at start) journal e)
+    → Stands core journal → next ≤ last → (start.first ≡ true → IsOrderly (setup_at start) journal e)
     → ((input : ℕ) → last ≤ input → filter (is_of_input input) (origins_by e) ≡ []) → HasOrder start next ticked journal
     → HasOrder start last ticked (journal ++ e ∷ [])
 order-push start core next last ticked journal e no_tick still worked stands l orderly none h =
@@ -192,10 +191,11 @@ went_next start core now next none w = record {
     has_ticked = w.order.has_ticked;
   };
   counted_at = w.counted_at;
+  still = w.still;
 }
 
 -- the timer says nothing of how far a run has come
-pub went_timed : (start : Beginning) (now : RunState) (timer : Timed) → Progress start now
+abbrev pub went_timed : (start : Beginning) (now : RunState) (timer : Timed) → Progress start now
     → Progress start (record now { timer = timer })
 went_timed start now timer w = record {
   journal = w.journal;
@@ -209,6 +209,7 @@ went_timed start now timer w = record {
   pushed = w.pushed;
   order = w.order;
   counted_at = w.counted_at;
+  still = w.still;
 }
 
 -- and none is of an input behind those of which none is
@@ -232,6 +233,80 @@ went_behind start core now next last l w = record {
     has_ticked = w.order.has_ticked;
   };
   counted_at = w.counted_at;
+  still = w.still;
+}
+
+-- fewer batches may be said to have failed since the run last came on
+pub went_fewer : (start : Beginning) (now : RunState) (still : ℕ) → still ≤ now.still → Progress start now
+    → Progress start (record now { still = still })
+went_fewer start now still few w = record {
+  journal = w.journal;
+  text = w.text;
+  in_count = w.in_count;
+  heard = w.heard;
+  out_count = w.out_count;
+  said = w.said;
+  work_is = w.work_is;
+  worked = w.worked;
+  pushed = w.pushed;
+  order = w.order;
+  counted_at = w.counted_at;
+  still = failed_fewer still now.still w.journal few w.still;
+}
+
+-- what has come so far is a front of whatever is to come
+pub went_front : (start : Beginning) (now : RunState) (w : Progress start now)
+    → Progress (record start { front = w.journal }) now
+went_front start now w = record {
+  journal = w.journal;
+  text = record {
+    stands = w.text.stands;
+    setup_is = w.text.setup_is;
+    more = [];
+    goes_on = sym (append-nil w.journal);
+    written = w.text.written;
+    split = w.text.split;
+    notes = w.text.notes;
+    known = w.text.known;
+  };
+  in_count = w.in_count;
+  heard = w.heard;
+  out_count = w.out_count;
+  said = w.said;
+  work_is = w.work_is;
+  worked = w.worked;
+  pushed = w.pushed;
+  order = record { in_order = w.order.in_order; none_raw = w.order.none_raw; has_ticked = w.order.has_ticked };
+  counted_at = w.counted_at;
+  still = w.still;
+}
+
+-- and that front goes on from the one before it
+abbrev pub went_back : (start : Beginning) (now last : RunState) (w : Progress start now)
+    → Progress (record start { front = w.journal }) last → Progress start last
+went_back start now last w v = record {
+  journal = v.journal;
+  text = record {
+    stands = v.text.stands;
+    setup_is = v.text.setup_is;
+    more = w.text.more ++ v.text.more;
+    goes_on = v.text.goes_on ∙ ap (λ (es : List Entry). es ++ v.text.more) w.text.goes_on
+        ∙ append_assoc start.front w.text.more v.text.more;
+    written = v.text.written;
+    split = v.text.split;
+    notes = v.text.notes;
+    known = v.text.known;
+  };
+  in_count = v.in_count;
+  heard = v.heard;
+  out_count = v.out_count;
+  said = v.said;
+  work_is = v.work_is;
+  worked = v.worked;
+  pushed = v.pushed;
+  order = record { in_order = v.order.in_order; none_raw = v.order.none_raw; has_ticked = v.order.has_ticked };
+  counted_at = v.counted_at;
+  still = v.still;
 }
 
 -- ---- steps
@@ -328,6 +403,7 @@ went_anew start core now outs new_outs are w = record {
   pushed = w.pushed;
   order = w.order;
   counted_at = w.counted_at;
+  still = w.still;
 }
 
 -- the steps stand for the same items after an entry that takes none
@@ -338,7 +414,8 @@ pushed_still core proc journal e stands none h =
     subst (AllStand proc.chain) (sym (pushed_same core.setup proc.skip journal e stands.legal none)) h
 
 -- the work stays, where the steps, the aggregators and the outputs do
-work_same : (work : Work) (proc new_proc : ProcPart) → IsSameProc proc new_proc → work ≡ work_by proc → work ≡ work_by new_proc
+work_same : (work : Work) (proc new_proc : ProcPart) → IsSameProc proc new_proc → work ≡ work_by proc → work
+    ≡ work_by new_proc
 work_same work proc new_proc same is =
     is ∙ ap (λ (steps : List Step). work_of proc.skip steps proc.aggs proc.outs) (sym same.steps)
     ∙ ap (λ (skip : Bool). work_of skip (steps_of new_proc.chain) proc.aggs proc.outs) (sym same.skip)
@@ -393,7 +470,8 @@ module _ (start : Beginning) (core mid next : CoreState) (now : RunState) (proc 
 
   worked_now : Worked start.job.work (between ++ routing ∷ [])
   worked_now = subst (λ (x : Work). Worked x (between ++ routing ∷ [])) (sym w.work_is)
-      (worked_route (work_by proc) between core.taken item.metric whole shape.0 (seen_by proc.aggs item.made whole) shape.1
+      (worked_route (work_by proc) between core.taken item.metric whole shape.0
+      (seen_by proc.aggs item.made whole) shape.1
       (item_stays w.journal taking core.taken item.metric at)
       (whole_made core mid proc new_proc item.made item.metric whole w.journal takes.after w.text.stands stood
       takes.mark at makes w.pushed)
@@ -407,7 +485,7 @@ module _ (start : Beginning) (core mid next : CoreState) (now : RunState) (proc 
       takes.mark at makes w.pushed))
 
   -- where it had been made, and all before it, a tick has come still
-  ticked_now : ticked ≡ true → start.front ≡ [] → IsTicked (setup_at start) (between ++ routing ∷ [])
+  ticked_now : ticked ≡ true → start.first ≡ true → IsTicked (setup_at start) (between ++ routing ∷ [])
   ticked_now t f =
       let so : (now.ticked ≡ true) × AllMade core.made = stays t in
       let here : is_made between core.taken ≡ true =
@@ -418,7 +496,7 @@ module _ (start : Beginning) (core mid next : CoreState) (now : RunState) (proc 
       ticked-push start.job.work between (setup_at start) routing refl (ap not there) worked_between
       (ticked-push start.job.work w.journal (setup_at start) taking refl refl w.worked (w.order.has_ticked so.0 f))
 
-  pub went_item : Progress start (record now { core = next; proc = new_proc; ticked = ticked })
+  pub went_item : Progress start (record now { core = next; proc = new_proc; ticked = ticked; still = 0 })
   went_item = record {
     journal = between ++ routing ∷ [];
     text = text-push start mid next now.journal between routing
@@ -442,6 +520,7 @@ module _ (start : Beginning) (core mid next : CoreState) (now : RunState) (proc 
         (order-push start core now.next now.next now.ticked w.journal taking refl refl w.worked w.text.stands
         (omega arith) (λ f. tt) (λ k b. refl) w.order);
     counted_at = counted_moments-same between routing refl ∙ counted_moments-same w.journal taking refl ∙ w.counted_at;
+    still = failed_none (between ++ routing ∷ []);
   }
 
 -- the stored entries were noted
@@ -462,6 +541,7 @@ went_cut start core next part more now stands is notes w = record {
   pushed = w.pushed;
   order = w.order;
   counted_at = w.counted_at;
+  still = w.still;
 }
 
 -- no entry was stored
@@ -496,8 +576,8 @@ counted_so start core now w =
 pub went_stop : (start : Beginning) (core next : CoreState) (now : RunState) (outs new_outs : List OutPart) (moment : ℤ)
     → core.raw ≡ [] → AreSettled core outs → new_outs ≡ map anew outs → AreAnew new_outs
     → IsStoppedAt moment core next
-    → Progress start (record now { core = core; outs = outs; ticked = true })
-    → Progress start (record now {
+    → (w : Progress start (record now { core = core; outs = outs; ticked = true }))
+    → StopsTo start w.journal (record now {
       core = next;
       outs = new_outs;
       counted_at = now.counted_at ++ int_max moment (last_of start.start now.counted_at) ∷ [];
@@ -508,29 +588,36 @@ went_stop start core next now outs new_outs moment none_raw settled are fresh st
     entries-have-shape.stops core moment stops.metrics in
     let e : Entry = Stop (int_max moment core.counted) shape.0 in
     record {
-      journal = w.journal ++ e ∷ [];
-      text = text-push start core next now.journal w.journal e w.text (subst
-          (Continues core next) shape.1 stops.continues)
-          (ap (λ (s : CoreState). s.stored) stops.after ∙ ap (λ (x : Entry). core.stored ++ x ∷ []) shape.1)
-          (ap (λ (s : CoreState). s.setup) stops.after);
-      in_count = w.in_count;
-      heard = all_heard_push start.ins now.ins w.journal e (λ k. record { none = refl; other = refl }) w.heard;
-      out_count = ap length are ∙ length-map outs anew ∙ w.out_count;
-      said = all_said_anew start.outs new_outs w.journal e fresh (λ o. tt) (λ o. refl)
-          (all_said_fresh start.outs outs new_outs w.journal are w.said);
-      work_is = w.work_is;
-      worked = worked-push start.job.work w.journal e tt w.worked;
-      pushed = pushed_still core now.proc w.journal e w.text.stands refl w.pushed;
-      order = order-push start core now.next now.next true w.journal e refl refl w.worked w.text.stands (omega arith)
-          (λ f. record {
-            none_raw = sym w.text.stands.raw ∙ none_raw;
-            flushed = all_flushed start core (record now { outs = outs; ticked = true }) w (w.order.has_ticked refl f)
-                settled;
-          })
-          (λ k b. none_of_made k (length shape.0)) w.order;
-      counted_at = counted_moments-push w.journal e ∙ ap (λ (ms : List ℤ). ms ++ int_max moment core.counted ∷ [])
-          w.counted_at ∙ ap (λ (m : ℤ). now.counted_at ++ int_max moment m ∷ [])
-          (counted_so start core (record now { outs = outs; ticked = true }) w);
+      progress = record {
+        journal = w.journal ++ e ∷ [];
+        text = text-push start core next now.journal w.journal e w.text (subst
+            (Continues core next) shape.1 stops.continues)
+            (ap (λ (s : CoreState). s.stored) stops.after ∙ ap (λ (x : Entry). core.stored ++ x ∷ []) shape.1)
+            (ap (λ (s : CoreState). s.setup) stops.after);
+        in_count = w.in_count;
+        heard = all_heard_push start.ins now.ins w.journal e (λ k. record { none = refl; other = refl }) w.heard;
+        out_count = ap length are ∙ length-map outs anew ∙ w.out_count;
+        said = all_said_anew start.outs new_outs w.journal e fresh (λ o. tt) (λ o. refl)
+            (all_said_fresh start.outs outs new_outs w.journal are w.said);
+        work_is = w.work_is;
+        worked = worked-push start.job.work w.journal e tt w.worked;
+        pushed = pushed_still core now.proc w.journal e w.text.stands refl w.pushed;
+        order = order-push start core now.next now.next true w.journal e refl refl w.worked w.text.stands (omega arith)
+            (λ f. record {
+              none_raw = sym w.text.stands.raw ∙ none_raw;
+              flushed = all_flushed start core (record now { outs = outs; ticked = true }) w (w.order.has_ticked refl f)
+                  settled;
+            })
+            (λ k b. none_of_made k (length shape.0)) w.order;
+        counted_at = counted_moments-push w.journal e ∙ ap (λ (ms : List ℤ). ms ++ int_max moment core.counted ∷ [])
+            w.counted_at ∙ ap (λ (m : ℤ). now.counted_at ++ int_max moment m ∷ [])
+            (counted_so start core (record now { outs = outs; ticked = true }) w);
+        still = failed_quiet now.still w.journal e refl refl w.still;
+      };
+      moment = int_max moment core.counted;
+      made = shape.0;
+      behind = [];
+      stops = refl;
     }
 
 -- windows are closed at a moment, which counts: a tick has come
@@ -564,11 +651,12 @@ went_tick start core next now moment ticks w =
           (λ t f. ticked-tick (setup_at start) w.journal (int_max moment core.counted) shape.0) w.order;
       counted_at = counted_moments-push w.journal e ∙ ap (λ (ms : List ℤ). ms ++ int_max moment core.counted ∷ [])
           w.counted_at ∙ ap (λ (m : ℤ). now.counted_at ++ int_max moment m ∷ []) (counted_so start core now w);
+      still = failed_quiet now.still w.journal e refl refl w.still;
     }
 
 -- another mark, where it is true that a tick has come if the mark says so
 went_marked : (start : Beginning) (now : RunState) (ticked : Bool) (w : Progress start now)
-    → (ticked ≡ true → start.front ≡ [] → IsTicked (setup_at start) w.journal)
+    → (ticked ≡ true → start.first ≡ true → IsTicked (setup_at start) w.journal)
     → Progress start (record now { ticked = ticked })
 went_marked start now ticked w has_ticked = record {
   journal = w.journal;
@@ -582,12 +670,19 @@ went_marked start now ticked w has_ticked = record {
   pushed = w.pushed;
   order = record { in_order = w.order.in_order; none_raw = w.order.none_raw; has_ticked = has_ticked };
   counted_at = w.counted_at;
+  still = w.still;
 }
 
 -- whether a tick has come may be left open
 pub went_unticked : (start : Beginning) (now : RunState) (ticked : Bool) → (ticked ≡ true → now.ticked ≡ true)
     → Progress start now → Progress start (record now { ticked = ticked })
 went_unticked start now ticked only w = went_marked start now ticked w (λ t f. w.order.has_ticked (only t) f)
+
+-- and so may be how many batches failed
+pub went_open : (start : Beginning) (now : RunState) (ticked : Bool) → (ticked ≡ true → now.ticked ≡ true)
+    → Progress start now → Progress start (record now { ticked = ticked; still = 0 })
+went_open start now ticked only w =
+    went_fewer start (record now { ticked = ticked }) 0 (omega arith) (went_unticked start now ticked only w)
 
 -- where there are no aggregators no tick has to come
 pub went_tickless : (start : Beginning) (core : CoreState) (now : RunState) → HasNoAggs core.setup

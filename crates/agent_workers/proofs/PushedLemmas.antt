@@ -1,6 +1,6 @@
 -- What goes through the steps of a run, with one entry more.
-use Rattle.std.proofs.Common.{◌≡◌, ◌<◌, ℕ, zero, suc, Bool, true, false, List, [], ◌∷◌, ◌++◌, map, take, length}
-use Rattle.std.proofs.Common.{refl, sym, ap, subst, ◌∙◌, arith, ◌+◌, ◌&&◌, if◌then◌else◌, append-nil}
+use Rattle.std.proofs.Common.{◌≡◌, ℕ, zero, suc, Bool, true, false, List, [], ◌∷◌, ◌++◌, map, take, length}
+use Rattle.std.proofs.Common.{sym, ap, subst, ◌∙◌, arith, ◌+◌, ◌&&◌, if◌then◌else◌, append-nil}
 use Rattle.std.proofs.lemmas.List.{take-append-le, map-append}
 use Rattle.std.proofs.lemmas.List.Elements.{filter-append}
 use Rattle.std.specs.Prelude.{slice_get, slice_index_or, is_none, not}
@@ -19,7 +19,6 @@ use Rattle.pipeline_core.specs.CoreState.{CoreState}
 use Rattle.pipeline_core.specs.Legal.{IsLegal}
 use Rattle.pipeline_core.specs.Stands.{Stands, was_made}
 use Rattle.pipeline_core.specs.Steps.{after_take}
-use Rattle.pipeline_core.specs.Work.{Work}
 use Rattle.pipeline_core.specs.Worked.{is_pushed, pushed, whole_of}
 use Rattle.pipeline_core.proofs.BankLemmas.{mark_in_hand}
 use Rattle.pipeline_core.proofs.JournalPush.{taken-push, few_taken}
@@ -92,10 +91,12 @@ pushed_take skip journal item m at =
 among_one : (skip : Bool) (m : Content) (o : Origin) (b : Bool) → (skip && is_none o.input) ≡ b
     → among skip ((m, o) ∷ []) ≡ (if b then [] else m ∷ [])
 among_one skip m o true e = ap (λ (c : Bool). map (λ (x : Content × Origin). x.0) (if not c then (m, o) ∷ [] else [])) e
-among_one skip m o false e = ap (λ (c : Bool). map (λ (x : Content × Origin). x.0) (if not c then (m, o) ∷ [] else [])) e
+among_one skip m o false e = ap (λ (c : Bool). map (λ (x : Content × Origin). x.0) (if not c then
+    (m, o) ∷ [] else [])) e
 
 -- the last of those that went through them up to an item is that item, where it did
-pub pushed_last : (skip : Bool) (journal : List Entry) (item : ℕ) (m : Content) → slice_get (items journal) item ≡ Some m
+pub pushed_last : (skip : Bool) (journal : List Entry) (item : ℕ) (m : Content) → slice_get (items journal) item
+    ≡ Some m
     → (before : List Content) × ((skip && is_made journal item) ≡ false → pushed skip journal item ≡ before ++ m ∷ [])
 pushed_last skip journal item m at =
     let before = take item (zip (items journal) (origins journal)) in (
@@ -108,7 +109,8 @@ pushed_last skip journal item m at =
     )
 
 -- what the steps make of a metric: it is the whole behind those that went through them, and they stand for these
-whole_is : (b : Bool) (proc new_proc : ProcPart) (metric : Content) (whole : Option Content) (before after : List Content)
+whole_is : (b : Bool) (proc new_proc : ProcPart) (metric : Content) (whole : Option Content)
+    (before after : List Content)
     → MakesSo b proc new_proc metric whole → AllStand proc.chain before
     → after ≡ before ++ (if b then [] else metric ∷ [])
     → whole ≡ (if b then Some metric else (work_by proc).whole after)
@@ -116,7 +118,8 @@ whole_is true proc new_proc metric whole before after h stands is = h.whole_is
 whole_is false proc new_proc metric whole before after h stands is =
     h.whole_is before stands ∙ ap (λ (xs : List Content). (work_by proc).whole xs) (sym is)
 
-stands_on : (b : Bool) (proc new_proc : ProcPart) (metric : Content) (whole : Option Content) (before after : List Content)
+stands_on : (b : Bool) (proc new_proc : ProcPart) (metric : Content) (whole : Option Content)
+    (before after : List Content)
     → MakesSo b proc new_proc metric whole → AllStand proc.chain before
     → after ≡ before ++ (if b then [] else metric ∷ []) → AllStand new_proc.chain after
 stands_on true proc new_proc metric whole before after h stands is =

@@ -1,7 +1,7 @@
 -- How far a run has come once a batch was sent.
 use Rattle.std.proofs.Common.{◌≢◌, ◌==◌, set, if◌then◌else◌, ◌≡◌, ◌≤◌, ◌<◌, ℕ, ◌+◌, ◌-◌, ◌^◌, min, Bool, true, false}
 use Rattle.std.proofs.Common.{List, [], ◌∷◌, ◌++◌, length, refl, sym, ap, ◌∙◌, subst, arith, Err}
-use Rattle.std.specs.Prelude.{not, count_by}
+use Rattle.std.specs.Prelude.{not, count_by, ◌&&◌, ◌||◌}
 use Rattle.std.specs.Io.KnownBytes.{Appends}
 use Rattle.std.specs.declared.option.Option.{Option}
 use Rattle.account.specs.declared.entry.Entry.{Entry}
@@ -23,14 +23,17 @@ use Rattle.pipeline_core.specs.declared.batches.Batch.{Batch}
 use Rattle.account.specs.Dones.{dones}
 use Rattle.pipeline_core.specs.Stopped.{behind_stop}
 use Rattle.agent_workers.specs.RunState.{RunState, Beginning}
-use Rattle.agent_workers.specs.Progress.{Said, AllSaid, SendsOn, SendsAt, Progress}
+use Rattle.agent_workers.specs.Progress.{still_flushed, Said, AllSaid, SendsOn, SendsAt, Progress}
+use Rattle.agent_workers.specs.declared.output.Flush.{Flush}
 use Rattle.format_words.specs.declared.format.OutFormat.{OutFormat}
 use Rattle.formats.specs.Batches.{batch_text}
 use Rattle.agent_base.specs.Carried.{Carried}
 use Rattle.agent_workers.specs.Output.{OutPart, out_at, after_put, no_out}
 use Rattle.agent_workers.specs.Run.{change, IsPut}
 use Rattle.agent_workers.specs.Running.{BeginsNext}
+use Rattle.agent_workers.specs.Held.{HasFailed}
 use Rattle.agent_workers.proofs.FailedLemmas.{failed_accepted, failed_once}
+use Rattle.agent_workers.proofs.HeldLemmas.{failed_more, failed_none, failed_quiet}
 use Rattle.agent_workers.proofs.OutLemmas.{each_set}
 use Rattle.agent_workers.proofs.ProgressLemmas.{IsQuietAt, said_push}
 use Rattle.out_lane.specs.LaneEvents as events
@@ -40,7 +43,7 @@ use Rattle.account.proofs.DoneLemmas.{dones-same, dones-more, failed-more, last_
 use Rattle.agent_workers.proofs.RoseLemmas.{rose_later, rose_more}
 use Rattle.pipeline_core.proofs.StopLemmas.{behind_stop-push, stop_before}
 use Rattle.account.proofs.MomentLemmas.{counted_moments-same}
-use Rattle.agent_workers.proofs.ProgressLemmas.{text-push, all_heard_push, order-push, pushed_still}
+use Rattle.agent_workers.proofs.ProgressLemmas.{text-push, all_heard_push, order-push, pushed_still, went_fewer}
 use Rattle.agent_workers.proofs.SentLemmas.{sent_accepted, sent_failed}
 use Rattle.pipeline_core.proofs.WorkedLemmas.{worked-push}
 
@@ -68,6 +71,16 @@ done_quiet reports output other ok ne =
       none = ap (λ (here : Bool). if here then ok ∷ [] else []) apart;
       quiet = ap (λ (here : Bool). if here then events.Done ok ∷ [] else []) apart;
     }
+
+-- how many batches failed since the run last came on, behind one more
+abbrev pub still_done : Bool → ℕ → ℕ
+still_done true still = 0
+still_done false still = still + 1
+
+failed_done : (still : ℕ) (journal : List Entry) (output : ℕ) (ok : Bool) (reports : List Report)
+    → HasFailed still journal → HasFailed (still_done ok still) (journal ++ Done output ok reports ∷ [])
+failed_done still journal output true reports h = failed_none (journal ++ Done output true reports ∷ [])
+failed_done still journal output false reports h = failed_more still journal output reports h
 
 module _ (start : Beginning) (core mid next : CoreState) (now : RunState) (old new : OutPart) (batch : Batch)
     (text : List ℕ)
@@ -98,7 +111,7 @@ module _ (start : Beginning) (core mid next : CoreState) (now : RunState) (old n
       → Continues mid next (Done old.output ok reports) →
       Said (out_at start.outs old.output) new old.output ((w.journal ++ Begin old.output batch.from batch.to ∷ [])
       ++ Done old.output ok reports ∷ []) → Progress start (record now
-      { core = next; outs = set now.outs old.output new })
+      { core = next; outs = set now.outs old.output new; still = still_done ok now.still })
   went_done reports ok w stored same ends said =
       let begin : Entry = Begin old.output batch.from batch.to in
       let end : Entry = Done old.output ok reports in
@@ -121,9 +134,12 @@ module _ (start : Beginning) (core mid next : CoreState) (now : RunState) (old n
         order = order-push start mid now.next now.next now.ticked between end refl refl
             (worked-push start.job.work w.journal begin tt w.worked) (begins w.journal w.text.stands) (omega arith)
             (λ f. tt) (λ k b. refl)
-            (order-push start core now.next now.next now.ticked w.journal begin refl refl w.worked w.text.stands (omega arith)
+            (order-push start core now.next now.next now.ticked w.journal begin refl refl w.worked w.text.stands
+            (omega arith)
             (λ f. sym w.text.stands.raw ∙ routed) (λ k b. refl) w.order);
         counted_at = counted_moments-same between end refl ∙ counted_moments-same w.journal begin refl ∙ w.counted_at;
+        still = failed_done now.still between old.output ok reports
+            (failed_quiet now.still w.journal begin refl refl w.still);
       }
 
   -- what was said of the output
@@ -136,7 +152,7 @@ module _ (start : Beginning) (core mid next : CoreState) (now : RunState) (old n
   pub went_accepted : new.failed ≡ 0 → new.failed_since ≡ 0 → next ≡ after_done mid old.output true
       → Continues mid next (done_entry mid old.output true) → Appends old.held new.held text
       → Progress start (record now { core = core }) → Progress start
-      (record now { core = next; outs = set now.outs old.output new })
+      (record now { core = next; outs = set now.outs old.output new; still = 0 })
   went_accepted none nil done ends put w =
       let o : ℕ = old.output in
       let shape : IsDoneEntry o true (done_entry mid o true) = entries-have-shape.dones mid o true in
@@ -171,7 +187,7 @@ module _ (start : Beginning) (core mid next : CoreState) (now : RunState) (old n
       → Continues mid next (done_entry mid old.output false) → PutAppends old.held new.held text (Err fault)
       → Rose old.put_faults new.put_faults
       → Progress start (record now { core = core }) → Progress start
-      (record now { core = next; outs = set now.outs old.output new })
+      (record now { core = next; outs = set now.outs old.output new; still = now.still + 1 })
   went_failed fault f one few done ends put rose w =
       let o : ℕ = old.output in
       let shape : IsDoneEntry o false (done_entry mid o false) = entries-have-shape.dones mid o false in
@@ -232,8 +248,11 @@ pub went_put : (start : Beginning) (core mid next : CoreState) (now : RunState) 
     old.output < length now.outs → out_at now.outs old.output ≡ old
     → IsPut failed (change old.held sink.bytes old.put_faults sink.faults) text
     → next ≡ after_done mid old.output (not failed) → Continues mid next (done_entry mid old.output (not failed)) →
-    Progress start (record now { core = core }) → Progress start
-    (record now { core = next; outs = set now.outs old.output (after_put failed sink old) })
+    Progress start (record now { core = core }) → Progress start (record now {
+      core = next;
+      outs = set now.outs old.output (after_put failed sink old);
+      still = still_done (not failed) now.still;
+    })
 went_put start core mid next now old batch text false sink within routed begins spelled b at put done ends w =
     went_accepted start core mid next now old (after_put false sink old) batch text within routed begins.batch_is
     spelled refl put.1 begins.after begins.continues b at refl refl done ends put.0 w
@@ -242,7 +261,7 @@ went_put start core mid next now old batch text true sink within routed begins s
     refl put.1 begins.after begins.continues b at Failed refl refl (omega arith) done ends put.0.1 put.0.0 w
 
 -- nothing was put
-pub sends_none : (old new : CoreState) (out : OutPart) → new ≡ old → SendsAt old new out out
+pub sends_none : (old new : CoreState) (out : OutPart) → new ≡ old → SendsAt (λ still. still) old new out out
 sends_none old new out core = λ outs b at start now w.
     let same : set outs out.output out ≡ outs = subst (λ (x : OutPart). set outs out.output x ≡ outs) at
     (set-get_or outs out.output no_out) in
@@ -250,25 +269,89 @@ sends_none old new out core = λ outs b at start now w.
     (subst (λ (s : CoreState). Progress start (record now { core = s; outs = outs })) (sym core) w)
 
 -- one batch after another
-pub sends_more : (old mid new : CoreState) (out mid_out new_out : OutPart) → mid_out.output ≡ out.output
-    → SendsAt old mid out mid_out → SendsAt mid new mid_out new_out → SendsAt old new out new_out
-sends_more old mid new out mid_out new_out number first second = λ outs b at start now w.
+pub sends_more : (count more : ℕ → ℕ) (old mid new : CoreState) (out mid_out new_out : OutPart)
+    → mid_out.output ≡ out.output → SendsAt count old mid out mid_out → SendsAt more mid new mid_out new_out
+    → SendsAt (λ still. more (count still)) old new out new_out
+sends_more count more old mid new out mid_out new_out number first second = λ outs b at start now w.
     let i : ℕ = out.output in
     let l : mid_out.output < length (set outs i mid_out) = omega (arith, b, number, length-set outs i mid_out) in
     let here : out_at (set outs i mid_out) mid_out.output ≡ mid_out =
     ap (out_at (set outs i mid_out)) number ∙ get_or-set_same outs i mid_out no_out b in
     let twice : set (set outs i mid_out) mid_out.output new_out ≡ set outs i new_out =
     ap (λ (k : ℕ). set (set outs i mid_out) k new_out) number ∙ set-set outs i mid_out new_out in
-    subst (λ (all : List OutPart). Progress start (record now { core = new; outs = all })) twice
-    (second (set outs i mid_out) l here start now (first outs b at start now w))
+    subst (λ (all : List OutPart). Progress start (record now
+    { core = new; outs = all; still = more (count now.still) })) twice
+    (second (set outs i mid_out) l here start (record now { still = count now.still }) (first outs b at start now w))
 
 -- a put to one of the outputs is one to the outputs
-pub sends_at : (old new : CoreState) (i : ℕ) (out new_out : OutPart) (outs : List OutPart) → out.output ≡ i
-    → i < length outs → out_at outs i ≡ out → SendsAt old new out new_out → SendsOn old new outs (set outs i new_out)
-sends_at old new i out new_out outs number b at h =
-    subst (λ (k : ℕ). SendsOn old new outs (set outs k new_out)) number
+pub sends_at : (count : ℕ → ℕ) (old new : CoreState) (i : ℕ) (out new_out : OutPart) (outs : List OutPart)
+    → out.output ≡ i → i < length outs → out_at outs i ≡ out → SendsAt count old new out new_out
+    → SendsOn count old new outs (set outs i new_out)
+sends_at count old new i out new_out outs number b at h =
+    subst (λ (k : ℕ). SendsOn count old new outs (set outs k new_out)) number
     (h outs (omega (arith, b, number)) (ap (out_at outs) number ∙ at))
 
-pub sends_then : (old mid new : CoreState) (outs mid_outs new_outs : List OutPart) → SendsOn old mid outs mid_outs
-    → SendsOn mid new mid_outs new_outs → SendsOn old new outs new_outs
-sends_then old mid new outs mid_outs new_outs first second = λ start now w. second start now (first start now w)
+pub sends_then : (count more : ℕ → ℕ) (old mid new : CoreState) (outs mid_outs new_outs : List OutPart)
+    → SendsOn count old mid outs mid_outs → SendsOn more mid new mid_outs new_outs
+    → SendsOn (λ still. more (count still)) old new outs new_outs
+sends_then count more old mid new outs mid_outs new_outs first second = λ start now w.
+    second start (record now { still = count now.still }) (first start now w)
+
+-- of what was sent it may be said that fewer batches failed
+pub sends_fewer : (count few : ℕ → ℕ) (old new : CoreState) (outs new_outs : List OutPart)
+    → ((still : ℕ) → few still ≤ count still) → SendsOn count old new outs new_outs → SendsOn few old new outs new_outs
+sends_fewer count few old new outs new_outs less h = λ start now w.
+    went_fewer start (record now { core = new; outs = new_outs; still = count now.still }) (few now.still)
+    (less now.still) (h start now w)
+
+pub sends_fewer_at : (count few : ℕ → ℕ) (old new : CoreState) (out new_out : OutPart)
+    → ((still : ℕ) → few still ≤ count still) → SendsAt count old new out new_out → SendsAt few old new out new_out
+sends_fewer_at count few old new out new_out less h = λ outs b at.
+    sends_fewer count few old new outs (set outs out.output new_out) less (h outs b at)
+
+-- how many failed behind so many batches that were accepted
+abbrev pub still_from : ℕ → ℕ → ℕ
+still_from batch still = if batch == 0 then still else 0
+
+pub from_more : (batch still other : ℕ) → still_from (batch + 1) still ≤ other
+from_more batch still other =
+    let apart : ((batch + 1) == 0) ≡ false = differs (batch + 1) 0 (λ e. omega (arith, e)) in
+    let none : still_from (batch + 1) still ≡ 0 = ap (λ (b : Bool). if b then still else 0) apart in
+    omega (arith, none)
+
+-- one more failed behind them, or none was left
+pub flushed_fewer : (batch still : ℕ) (emptied : Bool)
+    → still_flushed (record { emptied = emptied; accepted = not (batch == 0) }) still
+    ≤ (if emptied then still_from batch still else still_from batch still + 1)
+flushed_fewer batch still emptied = by_mark (batch == 0) emptied
+  where
+    by_mark : (none emptied : Bool) → still_flushed (record { emptied = emptied; accepted = not none }) still
+        ≤ (if emptied then (if none then still else 0) else (if none then still else 0) + 1)
+    by_mark true true = omega arith
+    by_mark true false = omega arith
+    by_mark false true = omega arith
+    by_mark false false = omega arith
+
+-- of batches of one output more fewer may be said to have failed than of each
+pub flushed_both : (sweep flush : Flush) (emptied accepted : Bool) (still : ℕ) → emptied ≡ (sweep.emptied
+    && flush.emptied)
+    → accepted ≡ (sweep.accepted || flush.accepted)
+    → still_flushed (record { emptied = emptied; accepted = accepted }) still
+    ≤ still_flushed flush (still_flushed sweep still)
+flushed_both sweep flush emptied accepted still e a =
+    subst (λ (x : Bool). still_flushed (record { emptied = emptied; accepted = x }) still
+    ≤ still_flushed flush (still_flushed sweep still)) (sym a)
+    (subst (λ (x : Bool). still_flushed (record { emptied = x; accepted = sweep.accepted || flush.accepted }) still
+    ≤ still_flushed flush (still_flushed sweep still)) (sym e)
+    (by_marks sweep.emptied sweep.accepted flush.emptied flush.accepted))
+  where
+    by_marks : (p q r s : Bool) → still_flushed (record { emptied = p && r; accepted = q || s }) still
+        ≤ still_flushed (record { emptied = r; accepted = s }) (still_flushed
+        (record { emptied = p; accepted = q }) still)
+    by_marks true true r s = omega arith
+    by_marks false true r s = omega arith
+    by_marks p false r true = omega arith
+    by_marks true false true false = omega arith
+    by_marks true false false false = omega arith
+    by_marks false false true false = omega arith
+    by_marks false false false false = omega arith

@@ -1,16 +1,16 @@
 -- What a run of a configuration is about.
 use Rattle.std.proofs.Common.{◌≡◌, ◌≤◌, ◌<◌, ℕ, zero, suc, ℤ, false, true, List, [], ◌∷◌, replicate, length, get_or}
 use Rattle.std.proofs.Common.{refl, sym, ap, ◌∙◌, subst, arith}
-use Rattle.std.specs.Prelude.{map, pos, All}
+use Rattle.std.specs.Prelude.{map, pos, All, IfSome, Bool, if◌then◌else◌}
 use Rattle.std.specs.declared.option.Option.{Option}
-use Rattle.std.specs.declared.option.Option.TheVariants.{None}
+use Rattle.std.specs.declared.option.Option.TheVariants.{None, Some}
 use Rattle.std.proofs.lemmas.List.{length-map, get_or-map}
 use Rattle.account.specs.Numbers.{unreached_output}
 use Rattle.account.specs.declared.numbers.OutputNumbers.{OutputNumbers}
 use Rattle.account.specs.declared.setup.AggLine.{AggLine}
 use Rattle.account.specs.declared.setup.AggWord.TheVariants as words
 use Rattle.account.specs.AggLines.{IsLine}
-use Rattle.agent_config.specs.Sound.{HasSizes, HasTimes}
+use Rattle.agent_config.specs.Sound.{HasSizes, HasTimes, HasUndelivered}
 use Rattle.agent_config.specs.declared.config.AggConf.{AggConf}
 use Rattle.agent_config.specs.declared.config.Config.{Config}
 use Rattle.agent_config.specs.declared.config.InputConf.{InputConf}
@@ -22,7 +22,8 @@ use Rattle.pipeline_core.specs.CoreState.{CoreState, first_state, most_undeliver
 use Rattle.pipeline_core.specs.declared.setup.CoreSetup.{CoreSetup}
 use Rattle.pipeline_core.specs.declared.setup.InSetup.{InSetup}
 use Rattle.pipeline_core.specs.declared.setup.OutSetup.{OutSetup}
-use Rattle.agent_workers.specs.Job.{job_of, job_input, job_output, journal_setup_of, limit_by, limit_of, line_of, setup_of}
+use Rattle.agent_workers.specs.Job.{job_of, job_input, job_output, journal_setup_of, limit_by, limit_of, line_of}
+use Rattle.agent_workers.specs.Job.{setup_of}
 use Rattle.agent_workers.specs.Job.{sizes_by, output_sizes}
 use Rattle.agent_workers.specs.Opened.{in_setup, out_setup}
 use Rattle.agent_workers.specs.Running.{buffered_at}
@@ -71,35 +72,45 @@ core_is config inputs aggs outputs start first e n f g = rw (
   sizes_are config.outputs,
 ) refl
 
--- none of the inputs is tracked, so none has a limit of groups
+-- of each input that is tracked a group may be live
 no_input : InputConf
 no_input = record { place = []; format = read.Influx; tracked = false; max_undelivered = 0; filter = no_rules }
 
-untracked_all : (confs : List InputConf)
-    → All (λ (most : Option ℕ). most ≡ None) (map most_undelivered (map in_setup confs))
-untracked_all confs = λ k d l.
+has_limit : (conf : InputConf) → HasUndelivered conf → IfSome (limit_by conf) (λ n. 1 ≤ n)
+has_limit conf h = by_mark conf.tracked
+  where
+    by_mark : (b : Bool) → IfSome (if b then Some conf.max_undelivered else None) (λ n. 1 ≤ n)
+    by_mark true = h.0
+    by_mark false = tt
+
+limits_have : (confs : List InputConf) → All HasUndelivered confs
+    → All (λ (most : Option ℕ). IfSome most (λ n. 1 ≤ n)) (map most_undelivered (map in_setup confs))
+limits_have confs h = λ k d l.
     let within : k < length confs =
     omega (arith, l, length-map (map in_setup confs) most_undelivered, length-map confs in_setup) in
-    ap (λ (xs : List (Option ℕ)). get_or xs k d) (core_limits confs) ∙ get_or-map limit_by confs k no_input d within
+    subst (λ (most : Option ℕ). IfSome most (λ n. 1 ≤ n))
+    (sym (ap (λ (xs : List (Option ℕ)). get_or xs k d) (core_limits confs)
+    ∙ get_or-map limit_by confs k no_input d within))
+    (has_limit (get_or confs k no_input) (h k no_input within))
 
-pub untracked_first : (confs : List InputConf) (inputs : List InSetup) → inputs ≡ map in_setup confs
-    → All (λ (most : Option ℕ). most ≡ None) (map most_undelivered inputs)
-untracked_first confs inputs same =
-    subst (λ (xs : List InSetup). All (λ (most : Option ℕ). most ≡ None) (map most_undelivered xs)) (sym same)
-    (untracked_all confs)
+pub limits_first : (confs : List InputConf) (inputs : List InSetup) → inputs ≡ map in_setup confs
+    → All HasUndelivered confs → All (λ (most : Option ℕ). IfSome most (λ n. 1 ≤ n)) (map most_undelivered inputs)
+limits_first confs inputs same h =
+    subst (λ (xs : List InSetup). All (λ (most : Option ℕ). IfSome most (λ n. 1 ≤ n)) (map most_undelivered xs))
+    (sym same) (limits_have confs h)
 
--- and none has to have room for a group
-limits_all : (confs : List InputConf)
+-- and it has room for a group
+limits_all : (confs : List InputConf) → All HasUndelivered confs
     → All (λ (x : InSetup). x.tracked ≡ true → 1 ≤ x.max_undelivered) (map in_setup confs)
-limits_all confs = λ k d l.
+limits_all confs h = λ k d l.
     let within : k < length confs = omega (arith, l, length-map confs in_setup) in
     subst (λ (x : InSetup). x.tracked ≡ true → 1 ≤ x.max_undelivered)
-    (sym (get_or-map in_setup confs k no_input d within)) (λ e. absurd (let x : false ≡ true = e in cc))
+    (sym (get_or-map in_setup confs k no_input d within)) (λ e. (h k no_input within).0)
 
 pub limits_fit : (confs : List InputConf) (inputs : List InSetup) → inputs ≡ map in_setup confs
-    → All (λ (x : InSetup). x.tracked ≡ true → 1 ≤ x.max_undelivered) inputs
-limits_fit confs inputs same =
-    subst (All (λ (x : InSetup). x.tracked ≡ true → 1 ≤ x.max_undelivered)) (sym same) (limits_all confs)
+    → All HasUndelivered confs → All (λ (x : InSetup). x.tracked ≡ true → 1 ≤ x.max_undelivered) inputs
+limits_fit confs inputs same h =
+    subst (All (λ (x : InSetup). x.tracked ≡ true → 1 ≤ x.max_undelivered)) (sym same) (limits_all confs h)
 
 -- none of them has ended in a core in which nothing happened
 pub none_ended_first : (confs : List InputConf) (setup : CoreSetup) (core : CoreState) → core

@@ -54,7 +54,7 @@ tried_by : (emptied : Bool) (flush : Flush) (o : ℕ) (old new : CoreState) (fai
 tried_by true flush o old new failed new_failed e a h = inl (h.emptied e)
 tried_by false flush o old new failed new_failed e a h = inr (h.stuck e a)
 
-zero_of : (n : ℕ) → not (n == 0) ≡ false → n ≡ 0
+pub zero_of : (n : ℕ) → not (n == 0) ≡ false → n ≡ 0
 zero_of n e =
     elim (cases_eq n 0) [
       | inl z ↦ z

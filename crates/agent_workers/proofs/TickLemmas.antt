@@ -1,5 +1,6 @@
 -- Whether a tick has come since items that were gathered were routed, with one entry more; and what windows make.
-use Rattle.std.proofs.Common.{◌≡◌, ℕ, zero, suc, ℤ, Bool, true, false, List, [], ◌∷◌, ◌++◌, ◌||◌, ◌+◌, refl, sym, ap, ◌∙◌, arith}
+use Rattle.std.proofs.Common.{◌≡◌, ℕ, zero, suc, ℤ, Bool, true, false, List, [], ◌∷◌, ◌++◌, ◌||◌, ◌+◌, refl, sym, ap}
+use Rattle.std.proofs.Common.{◌∙◌, arith}
 use Rattle.std.proofs.Common.{if◌then◌else◌, length, map, subst}
 use Rattle.std.proofs.lemmas.List.{length-drop, length-map}
 use Rattle.std.proofs.lemmas.List.Sums.{sum_by-append, sum_by-cons}
@@ -15,7 +16,7 @@ use Rattle.account.proofs.OriginLemmas.{origins-match}
 use Rattle.account.specs.Setup.{Setup}
 use Rattle.account.specs.declared.entry.Entry.{Entry}
 use Rattle.account.specs.declared.entry.Entry.TheVariants.{Gather, Ended, Take, Route, Tick, Stop, Begin, Done}
-use Rattle.pipeline_core.specs.Order.{behind_tick, has_tick, is_tick, routed_since_tick, routes_gathered, IsTicked}
+use Rattle.pipeline_core.specs.Order.{behind_tick, has_tick, is_tick, routes_gathered, IsTicked}
 use Rattle.pipeline_core.specs.Work.{Work}
 use Rattle.pipeline_core.specs.Worked.{AreWorked, Worked, WorkedBy}
 use Rattle.pipeline_core.proofs.RouteLemmas.{hand_fits, HandFits}
@@ -105,7 +106,8 @@ module _ (work : Work) (journal : List Entry) where
       → Worked work journal → IsTicked setup journal → IsTicked setup (journal ++ e ∷ [])
   ticked-push setup e none still w h some =
       let gathers : Entry → Bool = routes_gathered (journal ++ e ∷ []) in
-      let behind : count_by gathers (behind_tick (journal ++ e ∷ [])) ≡ count_by gathers (behind_tick journal ++ e ∷ []) =
+      let behind : count_by gathers (behind_tick (journal ++ e ∷ [])) ≡ count_by gathers (behind_tick journal
+      ++ e ∷ []) =
       ap (count_by gathers) (behind-push journal e none) in
       let sum : count_by gathers (behind_tick journal ++ e ∷ []) ≡ count_by gathers (behind_tick journal)
       + count_by gathers (e ∷ []) =
@@ -121,7 +123,8 @@ module _ (work : Work) (journal : List Entry) where
 pub ticked-tick : (setup : Setup) (journal : List Entry) (moment : ℤ) (metrics : List Content)
     → IsTicked setup (journal ++ Tick moment metrics ∷ [])
 ticked-tick setup journal moment metrics some =
-    ap (count_by (routes_gathered (journal ++ Tick moment metrics ∷ []))) (behind-tick journal (Tick moment metrics) refl)
+    ap (count_by (routes_gathered (journal ++ Tick moment metrics ∷ []))) (behind-tick journal
+    (Tick moment metrics) refl)
 
 -- and nothing happened
 pub ticked_first : (setup : Setup) → IsTicked setup []
@@ -169,7 +172,8 @@ pub made_stopped : (moment : ℤ) (core next : CoreState) → IsStoppedAt moment
 made_stopped moment core next stops none = subst AllMade (sym (ap (λ (s : CoreState). s.made) stops.after))
     (made_alone core.made (length stops.metrics) none)
 
-pub made_ticked : (moment : ℤ) (core next : CoreState) → IsTickedAt moment core next → core.made ≡ [] → AllMade next.made
+pub made_ticked : (moment : ℤ) (core next : CoreState) → IsTickedAt moment core next → core.made ≡ []
+    → AllMade next.made
 made_ticked moment core next ticks none = subst AllMade (sym (ap (λ (s : CoreState). s.made) ticks.after))
     (made_alone core.made (length ticks.metrics) none)
 

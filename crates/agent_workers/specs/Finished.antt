@@ -1,5 +1,5 @@
 -- How a run ends, from whatever it had come to.
-use Rattle.std.specs.Prelude.{◌≡◌, ◌≤◌, ◌<◌, ℕ, ℤ, List, [], ◌++◌, length, IfSome}
+use Rattle.std.specs.Prelude.{◌≡◌, ◌≤◌, ◌<◌, ℕ, ℤ, true, List, [], ◌++◌, length, IfSome}
 use Rattle.account.specs.EntryMoments.{counted_moments}
 use Rattle.account.specs.declared.entry.Entry.{Entry}
 use Rattle.agent_base.specs.Carried.{Timed}
@@ -12,7 +12,7 @@ use Rattle.agent_workers.specs.Job.{Job}
 use Rattle.agent_workers.specs.Output.{AreOutputs}
 use Rattle.agent_workers.specs.Progress.{Progress, AllHeard, AllSaid, SettlesFirst}
 use Rattle.agent_workers.specs.Run.{change, in_runs, out_runs, HasRun, EndsSo, IsPutSo, IsLeft}
-use Rattle.agent_workers.specs.Run.{account_of, text_of}
+use Rattle.agent_workers.specs.Run.{account_of, course_of, text_of}
 use Rattle.agent_workers.specs.RunState.{RunState, Beginning, AreFit, setup_at}
 use Rattle.agent_workers.specs.Running.{IsRunning, AreSettled}
 use Rattle.formats.specs.declared.pieces.InState.TheVariants as states
@@ -43,14 +43,15 @@ pub record Finished (start : Beginning) (ending : Ending) (old new : RunState) :
   pub said : AllSaid start.outs new.outs journal
   -- the moments that count go on by those that the timer gave
   pub counted : CountsOn old.timer new.timer.next start.start old.counted_at (counted_moments journal)
-  pub in_order : start.front ≡ [] → InOrder (setup_at start) journal
+  pub in_order : start.first ≡ true → InOrder (setup_at start) journal
   -- whether each input was read to its end, or why not; a limit was reached, or a read failed, exactly where a
   -- state says so
   pub ends : (number : ℕ) → number < length start.job.inputs →
-      EndsSo ending.limit (in_runs start.ins new.ins) number (in_at new.ins number).state (run.taken number) journal
+      EndsSo ending.limit (course_of start.job start.start (in_runs start.ins new.ins) journal) number
+      (in_at new.ins number).state (run.taken number)
   pub limit : IsOneIn states.LimitReached new.ins ending.limit
   pub read_fault : IsOneIn states.Faulted new.ins ending.read_fault
-  pub left : IsLeft ending.left (setup_at start) journal
+  pub left : IsLeft ending.left (setup_at start) journal (length new.ins) (λ number. (in_at new.ins number).state)
   pub account : ending.account.items ≡ account_of (setup_at start) journal
   pub noted : IsPutSo ending.journal_fault (change start.noted new.journal.held start.note_faults new.journal.faults)
       (text_of (setup_at start) journal)
@@ -72,6 +73,7 @@ begun job start now = record {
   noted = now.journal.held;
   note_faults = now.journal.faults;
   front = [];
+  first = true;
 }
 
 -- a core in which nothing happened, and parts that fit it and agree with it: with them a run of a job can be finished

@@ -15,13 +15,15 @@ use Rattle.metric.specs.Metric.{IsFilledTag}
 use Rattle.pipeline_core.specs.declared.gathering.Gathered.{Gathered}
 use Rattle.formats.specs.Reader.{InRule, in_rule, plain_rule, cut_of, FitsGather}
 use Rattle.agent_workers.specs.declared.input.InJob.{InJob}
+use Rattle.agent_workers.specs.declared.input.Offered.{Offered}
+use Rattle.agent_workers.specs.declared.input.Offered.TheVariants as offers
 use Rattle.formats.specs.declared.pieces.InState.{InState}
 use Rattle.formats.specs.declared.pieces.InState.TheVariants as states
 use Rattle.formats.specs.declared.reading.Group.{Group}
 
 -- an input of a run: its number, by what rule it is read, what is in hand of its bytes, the bytes left of it,
--- its count of failed reads, the moments of its clock and the index of the next one, the gather that is held, and
--- whether it is read on
+-- its count of failed reads, the moments of its clock and the index of the next one, how many of its groups may be
+-- undelivered where it is tracked, the gather that is held, and whether it is read on
 pub record InPart : Type 0 where
   pub input : ℕ
   pub rule : InRule
@@ -30,6 +32,7 @@ pub record InPart : Type 0 where
   pub read_faults : ℕ
   pub moments : Option Moments
   pub next : ℕ
+  pub limit : Option ℕ
   pub held : Option Gathered
   pub state : InState
 
@@ -47,6 +50,7 @@ in_of told timed job = record {
   read_faults = (told job.source).faults;
   moments = (timed job.clock).moments;
   next = (timed job.clock).next;
+  limit = job.limit;
   held = job.held;
   state = job.state;
 }
@@ -65,6 +69,7 @@ no_in = record {
   read_faults = 0;
   moments = None;
   next = 0;
+  limit = None;
   held = None;
   state = states.Reading;
 }
@@ -73,10 +78,11 @@ no_in = record {
 abbrev pub in_at : List InPart → ℕ → InPart
 in_at ins input = slice_index_or ins input no_in
 
--- it has the same number, the same rule, and a clock with the same moments
+-- it has the same number, the same rule, the same limit, and a clock with the same moments
 pub record IsSameInput (old new : InPart) : Type 0 where
   pub input : new.input ≡ old.input
   pub rule : new.rule ≡ old.rule
+  pub limit : new.limit ≡ old.limit
   pub moments : new.moments ≡ old.moments
 
 -- so it is for each input
@@ -146,6 +152,10 @@ pub record AreInputs (count : ℕ) (ended : List Bool) (ins : List InPart) : Typ
   pub count_is : length ins ≡ count
   pub each : (input : ℕ) → input < count → FitsInput input ended (in_at ins input)
 
+-- of each input as many groups may be undelivered as a set-up has it
+abbrev pub HaveLimits : List (Option ℕ) → List InPart → Type 0
+HaveLimits limits ins = (input : ℕ) → input < length ins → slice_get limits input ≡ Some (in_at ins input).limit
+
 -- an input is read no more, and holds nothing
 pub record IsOut (part : InPart) : Type 0 where
   pub read : part.state ≢ states.Reading
@@ -165,6 +175,11 @@ HasMetEnd old new = (new.state ≡ states.Reading) × Told old.left new.left (λ
 -- what an input holds was offered: all else of it but its state is as before
 abbrev pub IsOffered : InPart → InPart → Type 0
 IsOffered old new = new ≡ record old { held = new.held; state = new.state }
+
+-- whether an offer was accepted
+abbrev pub is_accepted : Offered → Bool
+is_accepted offers.Accepted = true
+is_accepted _ = false
 
 -- an input is read no more, since what it holds is too much for the run
 pub record IsFullOf (gathered : ℕ) (part : InPart) : Type 0 where

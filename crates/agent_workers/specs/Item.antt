@@ -17,7 +17,8 @@ use Rattle.proc_chain.specs.Chain.{steps_of, AllStand, StageState}
 use Rattle.agent_workers.specs.Job.{agg_filters, filters_of, work_of}
 use Rattle.agent_workers.specs.declared.item.ProcJob.{ProcJob}
 
--- what routes the items: the steps that each goes through, with what these remember, whether made ones pass them by, and
+-- what routes the items: the steps that each goes through, with what these remember, whether made ones pass them by,
+-- and
 -- the aggregators and the outputs, each with its filter
 pub record ProcPart : Type 0 where
   pub chain : List StageState

@@ -1,6 +1,6 @@
 -- What a run is to do: a configuration, the job that it is, the set-up of the job's journal, and the
 -- journal's head are made one of the other.
-use Rattle.std.specs.Prelude.{◌≡◌, ◌==◌, ◌++◌, ◌∷◌, [], ℕ, ℤ, Bool, true, List, length, map}
+use Rattle.std.specs.Prelude.{◌≡◌, ◌==◌, ◌++◌, ◌∷◌, [], ℕ, ℤ, Bool, true, List, length, map, if◌then◌else◌}
 use Rattle.std.specs.List.{list_all, AllByRecursion}
 use Rattle.std.specs.declared.option.Option.{Option}
 use Rattle.std.specs.declared.option.Option.TheVariants.{Some, None}
@@ -53,15 +53,16 @@ filters_of outputs = map (λ (output : OutputConf). applied output.filter) outpu
 abbrev pub agg_filters : List AggConf → List (Content → Option Content)
 agg_filters aggs = map (λ (agg : AggConf). applied agg.filter) aggs
 
--- what a run makes of its items: the whole is what the steps make of an item behind those before it, but for what was made
+-- what a run makes of its items: the whole is what the steps make of an item behind those before it, but for what was
+-- made
 -- where it passes them by; and the filter of each aggregator and of each output gives the view of it
 abbrev pub work_of : Bool → List Step → List AggConf → List OutputConf → Work
 work_of skip steps aggs outputs = record
     { skip = skip; whole = whole_by steps; aggs = agg_filters aggs; outs = filters_of outputs }
 
--- how many groups of an input may be undelivered at most: none is tracked
+-- how many groups of an input may be undelivered at most, where it is tracked
 abbrev pub limit_by : InputConf → Option ℕ
-limit_by conf = None
+limit_by conf = if conf.tracked then Some conf.max_undelivered else None
 
 abbrev pub job_input : Config → InputConf → JobInput
 job_input config conf = record { rule = rule_by config conf; most_undelivered = limit_by conf }
@@ -115,7 +116,8 @@ pub record IsKnownOf (work : Work) (known : Known) : Type 0 where
   pub aggs : known.aggs ≡ true → GiveThemselves work.aggs
   pub outs : known.outs ≡ true → GiveThemselves work.outs
 
--- what a configuration tells of them: that it has no processors, and that no rule of these filters is for fields and tags
+-- what a configuration tells of them: that it has no processors, and that no rule of these filters is for fields and
+-- tags
 abbrev pub known_by : Config → Known
 known_by config = record {
   whole = length config.steps == 0;

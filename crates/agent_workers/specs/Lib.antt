@@ -1,4 +1,5 @@
 pub mod Finished
+pub mod Held
 pub mod Input
 pub mod Inputs
 pub mod Item

@@ -16,7 +16,8 @@ use Rattle.account.specs.Routes.{RoutesInOrder, RouteOnInOrder}
 use Rattle.agent_workers.specs.declared.journal.JournalJob.{JournalJob}
 use Rattle.journal_text.specs.SoFar.{text_so_far, noted_text, SpellsOn}
 
--- the journal's part of a run: what the journal is about, what is known of its Routes, the items that have no Route yet,
+-- the journal's part of a run: what the journal is about, what is known of its Routes, the items that have no Route
+-- yet,
 -- how many entries there were, whether a put failed, and the bytes and the count of failed puts at the journal's place
 pub record JournalPart : Type 0 where
   pub setup : JournalSetup
@@ -87,7 +88,8 @@ pub record SpellsOut (entries : List Entry) (old new : JournalPart) (waiting res
   pub known_same : new.known ≡ old.known
   pub counted : new.entries ≡ old.entries + length entries
 
--- the part noted a journal, and now notes it with these entries behind it, where their Routes come in order, and what is
+-- the part noted a journal, and now notes it with these entries behind it, where their Routes come in order, and what
+-- is
 -- known of them is so
 pub record NotesOn (entries : List Entry) (old new : JournalPart) : Type 0 where
   pub noted : (setup : JournalSetup) (held : Option (List ℕ)) (faults : ℕ) (journal : List Entry) →

@@ -14,7 +14,7 @@ use Rattle.formats.specs.Reader.{cut_of}
 use Rattle.formats.specs.declared.pieces.InState.TheVariants as states
 use Rattle.agent_workers.specs.Finished.{IsSetUp}
 use Rattle.agent_workers.specs.Inputs.{InPart}
-use Rattle.agent_workers.specs.Job.{job_of, rule_by, setup_of}
+use Rattle.agent_workers.specs.Job.{job_of, limit_by, rule_by, setup_of}
 use Rattle.agent_workers.specs.Output.{OutPart}
 use Rattle.agent_workers.specs.Run.{carried_change, InRun, OutRun, RunChange}
 use Rattle.agent_workers.specs.RunState.{RunState}
@@ -24,9 +24,9 @@ use Rattle.agent_workers.specs.declared.parts.Clocks.{Clocks}
 use Rattle.agent_workers.specs.declared.parts.Opened.{Opened}
 use Rattle.agent_workers.specs.declared.parts.Parts.{Parts}
 
--- with what the core is set up of an input, which isn't tracked, and of an output
+-- with what the core is set up of an input, and of an output
 abbrev pub in_setup : InputConf → InSetup
-in_setup conf = record { tracked = false; max_undelivered = 0 }
+in_setup conf = record { tracked = conf.tracked; max_undelivered = conf.max_undelivered }
 
 abbrev pub out_setup : OutputConf → OutSetup
 out_setup conf = record { batch = conf.batch; limit = conf.limit }
@@ -84,6 +84,7 @@ fresh_in config number conf source clock = record {
   read_faults = source.faults;
   moments = clock.moments;
   next = clock.next;
+  limit = limit_by conf;
   held = None;
   state = states.Reading;
 }

@@ -1,12 +1,13 @@
 -- How far a run has come.
 use Rattle.std.specs.Prelude.{◌≡◌, ◌<◌, ◌≤◌, ◌⊎◌, ◌+◌, ◌^◌, ℕ, ℤ, Bool, true, List, [], ◌++◌, map, length}
-use Rattle.std.specs.Prelude.{IfSome, slice_set, take, ◌∷◌}
+use Rattle.std.specs.Prelude.{IfSome, slice_set, take, ◌∷◌, false, if◌then◌else◌}
 use Rattle.std.specs.List.{filter, zip}
 use Rattle.std.specs.Int.{int_max}
 use Rattle.account.specs.Says.{GatherSays}
 use Rattle.account.specs.Items.{items, taken}
 use Rattle.account.specs.Origins.{Origin, origins, raw_of}
 use Rattle.account.specs.declared.entry.Entry.{Entry}
+use Rattle.account.specs.declared.entry.Entry.TheVariants.{Stop}
 use Rattle.agent_base.specs.Counts.{Rose, RoseBy}
 use Rattle.agent_base.specs.Cut.{Cut}
 use Rattle.agent_base.specs.Carried.{Timed}
@@ -35,12 +36,17 @@ use Rattle.agent_workers.specs.Output.{AppendsSo, OutPart, out_at, AreAnew, Fail
 use Rattle.agent_workers.specs.Item.{ProcPart, work_by}
 use Rattle.agent_workers.specs.RunState.{RunState, Beginning, setup_at}
 use Rattle.agent_workers.specs.Running.{AllMade, AreSettled}
+use Rattle.agent_workers.specs.Held.{HasFailed}
+use Rattle.agent_workers.specs.declared.output.Flush.{Flush}
+use Rattle.agent_workers.specs.declared.output.Sending.{Sending}
+use Rattle.agent_workers.specs.declared.output.Sending.TheVariants as sendings
 use Rattle.metric.specs.declared.metric.Content.{Content}
 use Rattle.pipeline_core.specs.Worked.{Worked, is_pushed}
 use Rattle.proc_chain.specs.Chain.{AllStand}
 
 -- the core stands for a journal, which goes on from the one that the run continues, and whose entries are
--- noted but for those that the core stores; what is taken as known of its Routes is so, by what the run makes of its items
+-- noted but for those that the core stores; what is taken as known of its Routes is so, by what the run makes of its
+-- items
 pub record HasText (start : Beginning) (core : CoreState) (part : JournalPart)
     (journal : List Entry) : Type 0 where
   pub stands : Stands core journal
@@ -122,15 +128,16 @@ AllSaid starts outs journal =
 -- no item is raw of an input from the next one on, and where that is said a tick has come since items that were
 -- gathered were routed
 pub record HasOrder (start : Beginning) (next : ℕ) (ticked : Bool) (journal : List Entry) : Type 0 where
-  pub in_order : start.front ≡ [] → InOrder (setup_at start) journal
-  pub none_raw : start.front ≡ [] → (input : ℕ) → next ≤ input → raw_of input journal ≡ []
-  pub has_ticked : ticked ≡ true → start.front ≡ [] → IsTicked (setup_at start) journal
+  pub in_order : start.first ≡ true → InOrder (setup_at start) journal
+  pub none_raw : start.first ≡ true → (input : ℕ) → next ≤ input → raw_of input journal ≡ []
+  pub has_ticked : ticked ≡ true → start.first ≡ true → IsTicked (setup_at start) journal
 
 -- the metrics of the items that were taken and went through the steps, in order
 abbrev pub pushed_items : Bool → List Entry → List Content
 pushed_items skip journal =
     map (λ (x : Content × Origin). x.0)
-    (filter (λ (x : Content × Origin). is_pushed skip x.1) (take (taken journal) (zip (items journal) (origins journal))))
+    (filter (λ (x : Content × Origin). is_pushed skip x.1) (take (taken journal) (zip (items journal)
+    (origins journal))))
 
 -- there is a journal for which the core stands, which is noted, and which says what was read and what was
 -- sent
@@ -148,6 +155,13 @@ pub record Progress (start : Beginning) (now : RunState) : Type 0 where
   pub pushed : AllStand now.proc.chain (pushed_items now.proc.skip journal)
   pub order : HasOrder start now.next now.ticked journal
   pub counted_at : counted_moments journal ≡ now.counted_at
+  -- so many batches failed since the run last came on
+  pub still : HasFailed now.still journal
+
+-- how many batches failed at least since a run last came on, where it may have come on
+abbrev pub still_after : Bool → ℕ → ℕ
+still_after true still = 0
+still_after false still = still
 
 -- as items are routed it is said that a tick has come only where it had come, and all of them were made
 abbrev pub StaysTicked : Bool → Bool → CoreState → Type 0
@@ -158,14 +172,27 @@ abbrev pub GoesOn : CoreState → CoreState → ProcPart → ProcPart → Type 0
 GoesOn old new proc new_proc = (start : Beginning) (now : RunState) (ticked : Bool) → AreAnew now.outs
     → StaysTicked now.ticked ticked old
     → Progress start (record now { core = old; proc = proc })
-    → Progress start (record now { core = new; proc = new_proc; ticked = ticked })
+    → Progress start (record now { core = new; proc = new_proc; ticked = ticked; still = 0 })
 
 -- a step that routes items and puts to the journal's place, while no batch failed
 abbrev pub RoutesOn : CoreState → CoreState → ProcPart → ProcPart → JournalPart → JournalPart → Type 0
 RoutesOn old new proc new_proc part new_part = (start : Beginning) (now : RunState) (ticked : Bool) → AreAnew now.outs
     → StaysTicked now.ticked ticked old
     → Progress start (record now { core = old; proc = proc; journal = part })
-    → Progress start (record now { core = new; proc = new_proc; journal = new_part; ticked = ticked })
+    → Progress start (record now { core = new; proc = new_proc; journal = new_part; ticked = ticked; still = 0 })
+
+-- a step that routes items where some are raw, and says whether some were
+abbrev pub RoutesWhere : Bool → CoreState → CoreState → ProcPart → ProcPart → JournalPart → JournalPart → Type 0
+RoutesWhere routed old new proc new_proc part new_part = (start : Beginning) (now : RunState) (ticked : Bool)
+    → AreAnew now.outs → StaysTicked now.ticked ticked old
+    → Progress start (record now { core = old; proc = proc; journal = part })
+    → Progress start (record now {
+      core = new;
+      proc = new_proc;
+      journal = new_part;
+      ticked = ticked;
+      still = still_after routed now.still;
+    })
 
 -- moments that count came from an index of a clock's list to where the clock was; now they come to where it is
 abbrev pub CountsTo : Timed → ℕ → ℤ → List ℤ → List ℤ → Type 0
@@ -179,29 +206,49 @@ pub record Timely (start : Beginning) (timer new_timer : Timed) (counted : List 
   pub counts : CountsTo timer new_timer.next start.start counted counted_now
   pub progress : Progress start (record now { counted_at = counted_now })
 
--- a step that closes windows where there are aggregators, at a moment of the timer, routes what they make, and puts to the
--- journal's place, while no batch failed: then a tick has come
-abbrev pub TicksOn : CoreState → CoreState → ProcPart → ProcPart → JournalPart → JournalPart → Timed → Timed → Type 0
-TicksOn old new proc new_proc part new_part timer new_timer = (start : Beginning) (now : RunState) → AreAnew now.outs
-    → Progress start (record now { core = old; proc = proc; journal = part })
-    → Timely start timer new_timer now.counted_at
-    (record now { core = new; proc = new_proc; journal = new_part; ticked = true })
+-- a step that closes windows where there are aggregators, at a moment of the timer, routes what they make, and puts to
+-- the
+-- journal's place, while no batch failed: then a tick has come. It says whether some were made.
+abbrev pub TicksOn : Bool → CoreState → CoreState → ProcPart → ProcPart → JournalPart → JournalPart → Timed → Timed
+    → Type 0
+TicksOn made old new proc new_proc part new_part timer new_timer = (start : Beginning) (now : RunState)
+    → AreAnew now.outs → Progress start (record now { core = old; proc = proc; journal = part })
+    → Timely start timer new_timer now.counted_at (record now {
+      core = new;
+      proc = new_proc;
+      journal = new_part;
+      ticked = true;
+      still = still_after made now.still;
+    })
 
--- a step that puts to the outputs
-abbrev pub SendsOn : CoreState → CoreState → List OutPart → List OutPart → Type 0
-SendsOn old new outs new_outs = (start : Beginning) (now : RunState)
+-- a step that puts to the outputs, behind which at least so many batches failed since the run last came on
+abbrev pub SendsOn : (ℕ → ℕ) → CoreState → CoreState → List OutPart → List OutPart → Type 0
+SendsOn count old new outs new_outs = (start : Beginning) (now : RunState)
     → Progress start (record now { core = old; outs = outs })
-    → Progress start (record now { core = new; outs = new_outs })
+    → Progress start (record now { core = new; outs = new_outs; still = count now.still })
 
 -- a step that puts to one of the outputs, whatever the others are
-abbrev pub SendsAt : CoreState → CoreState → OutPart → OutPart → Type 0
-SendsAt old new out new_out =
+abbrev pub SendsAt : (ℕ → ℕ) → CoreState → CoreState → OutPart → OutPart → Type 0
+SendsAt count old new out new_out =
     (outs : List OutPart) → out.output < length outs → out_at outs out.output ≡ out
-    → SendsOn old new outs (slice_set outs out.output new_out)
+    → SendsOn count old new outs (slice_set outs out.output new_out)
+
+-- how many failed behind one batch: one more where it failed, none where it was accepted
+abbrev pub still_sent : Sending → ℕ → ℕ
+still_sent sendings.Nothing still = still
+still_sent sendings.Accepted still = 0
+still_sent sendings.Failed still = still + 1
+
+-- and behind batches of an output, or of all of them
+abbrev pub still_flushed : Flush → ℕ → ℕ
+still_flushed flush still =
+    if flush.accepted then 0
+    else if flush.emptied then still
+    else still + 1
 
 -- where the run began with nothing the outputs are settled
 abbrev pub SettlesFirst : Beginning → CoreState → List OutPart → Type 0
-SettlesFirst start core outs = start.front ≡ [] → AreSettled core outs
+SettlesFirst start core outs = start.first ≡ true → AreSettled core outs
 
 -- a step that reads one of the inputs, whatever the others are
 abbrev pub ReadsAt : CoreState → CoreState → InPart → InPart → Type 0
@@ -221,25 +268,31 @@ EndsAt met old new part new_part =
     → Progress start (record now { core = new; ins = slice_set ins part.input new_part })
 
 -- a step that may gather of one of the inputs: before it no item is raw of that one and of those behind it, and
--- then of none behind it
-abbrev pub GathersAt : CoreState → CoreState → InPart → InPart → Type 0
-GathersAt old new part new_part =
+-- then of none behind it; it says whether a gather was accepted
+abbrev pub GathersAt : Bool → CoreState → CoreState → InPart → InPart → Type 0
+GathersAt accepted old new part new_part =
     (ins : List InPart) → part.input < length ins → in_at ins part.input ≡ part
     → (start : Beginning) (now : RunState) → SettlesFirst start old now.outs
     → Progress start (record now { core = old; ins = ins; next = part.input; ticked = true })
-    → Progress start (record now
-    { core = new; ins = slice_set ins part.input new_part; next = part.input + 1; ticked = true })
+    → Progress start (record now {
+      core = new;
+      ins = slice_set ins part.input new_part;
+      next = part.input + 1;
+      ticked = true;
+      still = still_after accepted now.still;
+    })
 
 -- steps that read and gather of the inputs before one
-abbrev pub GathersTo : ℕ → CoreState → CoreState → List InPart → List InPart → Type 0
-GathersTo next old new ins new_ins =
+abbrev pub GathersTo : ℕ → Bool → CoreState → CoreState → List InPart → List InPart → Type 0
+GathersTo next accepted old new ins new_ins =
     (start : Beginning) (now : RunState) → SettlesFirst start old now.outs
     → Progress start (record now { core = old; ins = ins; next = 0; ticked = true })
-    → Progress start (record now { core = new; ins = new_ins; next = next; ticked = true })
+    → Progress start
+    (record now { core = new; ins = new_ins; next = next; ticked = true; still = still_after accepted now.still })
 
 -- so it is for all
-abbrev pub GathersOn : CoreState → CoreState → List InPart → List InPart → Type 0
-GathersOn old new ins new_ins = GathersTo (length ins) old new ins new_ins
+abbrev pub GathersOn : Bool → CoreState → CoreState → List InPart → List InPart → Type 0
+GathersOn accepted old new ins new_ins = GathersTo (length ins) accepted old new ins new_ins
 
 -- a step that puts to the journal's place
 abbrev pub NotesRun : CoreState → CoreState → JournalPart → JournalPart → Type 0
@@ -247,13 +300,29 @@ NotesRun old new part new_part = (start : Beginning) (now : RunState)
     → Progress start (record now { core = old; journal = part })
     → Progress start (record now { core = new; journal = new_part })
 
--- rounds: they read the inputs, route, tick, and put to the outputs and to the journal's place
-abbrev pub RunsOn : RunState → RunState → Type 0
-RunsOn old new = (start : Beginning) (counted : List ℤ) → SettlesFirst start old.core old.outs
-    → Progress start (record old { counted_at = counted }) → Timely start old.timer new.timer counted new
+-- a step that takes reports out of the core
+abbrev pub TellsOn : CoreState → CoreState → Type 0
+TellsOn old new = (start : Beginning) (now : RunState) → Progress start (record now { core = old })
+    → Progress start (record now { core = new })
+
+-- rounds: they read the inputs, route, tick, and put to the outputs and to the journal's place; behind them so many
+-- batches failed, at least, since the run last came on, as it was before
+abbrev pub RunsOn : (ℕ → ℕ) → RunState → RunState → Type 0
+RunsOn count old new = (start : Beginning) (counted : List ℤ) (still : ℕ) → SettlesFirst start old.core old.outs
+    → Progress start (record old { counted_at = counted; still = still })
+    → Timely start old.timer new.timer counted (record new { still = count still })
+
+-- how far a run has come that was stopped: behind what it had come to stands the Stop
+pub record StopsTo (start : Beginning) (journal : List Entry) (now : RunState) : Type 0 where
+  pub progress : Progress start now
+  pub moment : ℤ
+  pub made : List Content
+  pub behind : List Entry
+  pub stops : progress.journal ≡ journal ++ Stop moment made ∷ behind
 
 -- the run is stopped at a moment, which counts, and what is buffered is sent
 abbrev pub StopsAt : ℤ → RunState → RunState → Type 0
-StopsAt moment old new = (start : Beginning) (counted : List ℤ)
-    → Progress start (record old { counted_at = counted })
-    → Progress start (record new { counted_at = counted ++ int_max moment (last_of start.start counted) ∷ [] })
+StopsAt moment old new = (start : Beginning) (counted : List ℤ) (still : ℕ)
+    → (w : Progress start (record old { counted_at = counted; still = still }))
+    → StopsTo start w.journal
+    (record new { counted_at = counted ++ int_max moment (last_of start.start counted) ∷ [] })

@@ -17,6 +17,7 @@ use Rattle.agent_base.specs.Told.{Told}
 use Rattle.journal_text.specs.JournalText.{journal_text}
 use Rattle.pipeline_core.specs.Legal.{IsLegal, has_ended, has_stop}
 use Rattle.pipeline_core.specs.Totals.{totals}
+use Rattle.agent_workers.specs.Held.{IsHeldBack}
 use Rattle.agent_workers.specs.Input.{IsFull, AreGathered, NamesTaken}
 use Rattle.account.specs.Gathers.{gathers}
 use Rattle.account.specs.Dones.{dones, failed_count, LastFailed}
@@ -137,22 +138,32 @@ SomeIsFull ins journal = (number : ℕ) × (number < length ins)
     × IsFull (run_at ins number).rule journal number (run_at ins number).place.before
     (run_at ins number).place.after
 
--- why an input has no Ended: a read failed, 2^40 bytes were taken, or the run is full
-abbrev pub IsUnread : List InRun → ℕ → InRun → ℕ → List Entry → Type 0
-IsUnread ins number input taken journal = IsCutShort number input journal ⊎ (taken ≡ 2 ^ 40)
-    ⊎ SomeIsFull ins journal
+-- the course of a run: how often it tries in succession, what its journal is about, its inputs, and its journal
+pub record Course : Type 0 where
+  pub tries : ℕ
+  pub setup : Setup
+  pub ins : List InRun
+  pub journal : List Entry
+
+-- an input is held back to the end of a run
+abbrev pub StaysHeld : Course → ℕ → Type 0
+StaysHeld run number = IsHeldBack run.tries run.setup run.journal number
+
+-- why an input has no Ended: a read failed, 2^40 bytes were taken, the run is full, or the input is held back
+abbrev pub IsUnread : Course → ℕ → InRun → ℕ → Type 0
+IsUnread run number input taken = IsCutShort number input run.journal ⊎ (taken ≡ 2 ^ 40)
+    ⊎ SomeIsFull run.ins run.journal ⊎ StaysHeld run number
 
 -- what a journal says of an input, of which so many bytes were taken
-pub record IsReadFrom (ins : List InRun) (journal : List Entry) (number : ℕ) (input : InRun) (taken : ℕ)
-    : Type 0 where
+pub record IsReadFrom (run : Course) (number : ℕ) (input : InRun) (taken : ℕ) : Type 0 where
   -- the Gathers name the pieces of what was left at the input's place
-  pub gathered : Told input.place.before input.place.after (λ xs ys. AreGathered input.rule journal number xs)
+  pub gathered : Told input.place.before input.place.after (λ xs ys. AreGathered input.rule run.journal number xs)
   -- their moments are those of the input's clock
   pub clocked : IfSome input.moments
-      (λ moments. Clocked moments 0 moments.last (gather_moments number journal))
+      (λ moments. Clocked moments 0 moments.last (gather_moments number run.journal))
   -- so many bytes of the input were taken; it was read to its end, or there is a cause
   pub bytes_taken : Told input.place.before input.place.after (λ xs ys. length xs ≡ taken + length ys)
-  pub unread : has_ended number journal ≡ false → IsUnread ins number input taken journal
+  pub unread : has_ended number run.journal ≡ false → IsUnread run number input taken
 
 -- what a journal says of an output
 pub record IsSentTo (tries : ℕ) (setup : Setup) (journal : List Entry) (output : ℕ) (out : OutRun)
@@ -165,6 +176,11 @@ pub record IsSentTo (tries : ℕ) (setup : Setup) (journal : List Entry) (output
   pub left : buffered_at_end setup journal output ≢ 0
       → LastFailed tries (dones output (behind_stop journal))
 
+-- the course of a run of a job that began at a moment
+abbrev pub course_of : Job → ℤ → List InRun → List Entry → Course
+course_of job start ins journal = record
+    { tries = job.tries; setup = setup_of job start; ins = ins; journal = journal }
+
 -- A legal journal of a run that came to its end, given its job and the moment of its start, its inputs and its outputs.
 pub record HasRun (job : Job) (start : ℤ) (ins : List InRun) (outputs : List OutRun) (journal : List Entry)
     : Type 0 where
@@ -172,7 +188,7 @@ pub record HasRun (job : Job) (start : ℤ) (ins : List InRun) (outputs : List O
   -- what each input gave was gathered, so many bytes of it
   pub taken : ℕ → ℕ
   pub read_from : (number : ℕ) → number < length job.inputs →
-      IsReadFrom ins journal number (run_at ins number) (taken number)
+      IsReadFrom (course_of job start ins journal) number (run_at ins number) (taken number)
   -- each output was sent its batches
   pub sent_to : (output : ℕ) → output < length job.outputs →
       IsSentTo job.tries (setup_of job start) journal output (out_run_at outputs output)
@@ -198,21 +214,33 @@ pub record IsRun (job : Job) (start : ℤ) (x : RunChange) (journal : List Entry
 abbrev pub RunsFull : Bool → List InRun → List Entry → Type 0
 RunsFull limit ins journal = (limit ≡ true) × SomeIsFull ins journal
 
+-- a read of an input failed, and its Gathers name what was taken; or its count rose, and the input is held back
+abbrev pub IsBrokenOff : Course → ℕ → Type 0
+IsBrokenOff run number = IsCutShort number (run_at run.ins number) run.journal
+    ⊎ ((let place : Change = (run_at run.ins number).place in Rose place.faults_before place.faults_after)
+    × StaysHeld run number)
+
 -- whether an input was read to its end, or why not
-abbrev pub EndsSo : Bool → List InRun → ℕ → InState → ℕ → List Entry → Type 0
-EndsSo limit ins number states.Reading taken journal = RunsFull limit ins journal
-EndsSo limit ins number states.Ended taken journal = (taken < 2 ^ 40) × (has_ended number journal ≡ true)
-EndsSo limit ins number states.Faulted taken journal = (taken < 2 ^ 40) × (has_ended number journal ≡ false)
-    × (IsCutShort number (run_at ins number) journal ⊎ RunsFull limit ins journal)
-EndsSo limit ins number states.LimitReached taken journal = (has_ended number journal ≡ false)
-    × ((taken ≡ 2 ^ 40) ⊎ RunsFull limit ins journal)
+abbrev pub EndsSo : Bool → Course → ℕ → InState → ℕ → Type 0
+EndsSo limit run number states.Reading taken = (taken < 2 ^ 40) × (has_ended number run.journal ≡ false)
+    × (RunsFull limit run.ins run.journal ⊎ StaysHeld run number)
+EndsSo limit run number states.Ended taken = (taken < 2 ^ 40) × (has_ended number run.journal ≡ true)
+EndsSo limit run number states.Faulted taken = (taken < 2 ^ 40) × (has_ended number run.journal ≡ false)
+    × (IsBrokenOff run number ⊎ RunsFull limit run.ins run.journal)
+EndsSo limit run number states.LimitReached taken = (has_ended number run.journal ≡ false)
+    × ((taken ≡ 2 ^ 40) ⊎ RunsFull limit run.ins run.journal)
 
 -- whether a metric is left at an output
-abbrev pub IsLeft : Bool → Setup → List Entry → Type 0
-IsLeft false setup journal =
+abbrev pub SomeIsLeft : Bool → Setup → List Entry → Type 0
+SomeIsLeft false setup journal =
     (output : ℕ) → output < length setup.outputs → buffered_at_end setup journal output ≡ 0
-IsLeft true setup journal =
+SomeIsLeft true setup journal =
     (output : ℕ) × (output < length setup.outputs) × (buffered_at_end setup journal output ≢ 0)
+
+-- whether a metric is left at an output, or an input is read on still: one of so many, whose states are these
+abbrev pub IsLeft : Bool → Setup → List Entry → ℕ → (ℕ → InState) → Type 0
+IsLeft false setup journal count state = SomeIsLeft false setup journal × IsOneOf states.Reading count state false
+IsLeft true setup journal count state = SomeIsLeft true setup journal ⊎ IsOneOf states.Reading count state true
 
 -- what a run of a job leaves, before its account is reported
 pub record Ran (job : Job) (ending : Ending) (x : RunChange) : Type 0 where
@@ -222,9 +250,9 @@ pub record Ran (job : Job) (ending : Ending) (x : RunChange) : Type 0 where
   -- the states of the inputs; a limit was reached, or a read failed, exactly where one of them says so
   pub state : ℕ → InState
   pub ends : (number : ℕ) → number < length job.inputs →
-      EndsSo ending.limit x.ins number (state number) (run.has.taken number) journal
+      EndsSo ending.limit (course_of job start x.ins journal) number (state number) (run.has.taken number)
   pub limit : IsOneOf states.LimitReached (length job.inputs) state ending.limit
   pub read_fault : IsOneOf states.Faulted (length job.inputs) state ending.read_fault
-  pub left : IsLeft ending.left (setup_of job start) journal
+  pub left : IsLeft ending.left (setup_of job start) journal (length job.inputs) state
   pub account : ending.account.items ≡ account_of (setup_of job start) journal
   pub noted : IsPutSo ending.journal_fault x.journal (text_of (setup_of job start) journal)

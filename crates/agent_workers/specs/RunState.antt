@@ -5,7 +5,7 @@ use Rattle.account.specs.Setup.{Setup}
 use Rattle.account.specs.declared.entry.Entry.{Entry}
 use Rattle.agent_base.specs.Carried.{Carried, Timed}
 use Rattle.pipeline_core.specs.CoreState.{CoreState}
-use Rattle.agent_workers.specs.Inputs.{InPart, ins_of, AreInputs, AreSameInputs}
+use Rattle.agent_workers.specs.Inputs.{InPart, ins_of, AreInputs, AreSameInputs, HaveLimits}
 use Rattle.agent_workers.specs.Item.{IsSameProc, ProcPart, proc_of}
 use Rattle.agent_workers.specs.Job.{Job, setup_of}
 use Rattle.agent_workers.specs.Noted.{JournalPart, part_of}
@@ -14,7 +14,7 @@ use Rattle.agent_workers.specs.declared.parts.Parts.{Parts}
 
 -- what a run consists of: its core, its inputs, the input from which on none has a raw item, what routes the
 -- items, the outputs, the journal's part, the moments that were counted since the start, whether a tick has come since
--- items that were gathered were routed, and the timer
+-- items that were gathered were routed, how many batches failed at least since it last came on, and the timer
 pub record RunState : Type 0 where
   pub core : CoreState
   pub ins : List InPart
@@ -24,10 +24,11 @@ pub record RunState : Type 0 where
   pub journal : JournalPart
   pub counted_at : List ℤ
   pub ticked : Bool
+  pub still : ℕ
   pub timer : Timed
 
 -- a core and its parts, given what sources, sinks and clocks tell: no item is raw that isn't looked at, no moment was
--- counted, and a tick has come
+-- counted, a tick has come, and no batch failed
 abbrev pub state_of : {S K C : Type 0} → (S → Carried) → (K → Carried) → (C → Timed) → CoreState → Parts S K C
     → RunState
 state_of told put timed core parts = record {
@@ -39,6 +40,7 @@ state_of told put timed core parts = record {
   journal = part_of put parts.journal;
   counted_at = [];
   ticked = true;
+  still = 0;
   timer = timed parts.timer;
 }
 
@@ -47,14 +49,16 @@ pub record IsProcFit (core : CoreState) (proc : ProcPart) : Type 0 where
   pub aggs : length proc.aggs ≡ length core.setup.aggs
   pub outs : length proc.outs ≡ length core.setup.outputs
 
--- the parts fit the core: there is one input for each of its set-up and one output, the number of each is
--- its index, and a filter for each aggregator and each output
+-- the parts fit the core: there is one input for each of its set-up, with its limit, and one output, the number of each
+-- is its index, and a filter for each aggregator and each output
 pub record AreFit (now : RunState) : Type 0 where
   pub inputs : AreInputs (length now.core.setup.inputs) now.core.ended now.ins
+  pub limits : HaveLimits now.core.setup.inputs now.ins
   pub outputs : AreOutputs (length now.core.setup.outputs) now.outs
   pub filters : IsProcFit now.core now.proc
 
--- what a run is about is as before: its set-up, its inputs' numbers, rules and clocks, the steps, aggregators and outputs
+-- what a run is about is as before: its set-up, its inputs' numbers, rules and clocks, the steps, aggregators and
+-- outputs
 -- of what routes its items, and the timer's moments
 pub record IsAboutSame (old new : RunState) : Type 0 where
   pub setup : new.core.setup ≡ old.core.setup
@@ -64,7 +68,7 @@ pub record IsAboutSame (old new : RunState) : Type 0 where
 
 -- what a run began with: its job, the moment of its start, its inputs, its outputs, and the bytes held by
 -- the journal's place and its count of failed puts, when these were new; and the journal that the run
--- continues
+-- continues, and whether that is said of it which holds of one that began with nothing
 pub record Beginning : Type 0 where
   pub job : Job
   pub start : ℤ
@@ -73,6 +77,7 @@ pub record Beginning : Type 0 where
   pub noted : Option (List ℕ)
   pub note_faults : ℕ
   pub front : List Entry
+  pub first : Bool
 
 -- what its journal is about
 abbrev pub setup_at : Beginning → Setup

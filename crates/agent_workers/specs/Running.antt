@@ -1,10 +1,10 @@
 -- What a core keeps between the steps of a run.
 use Rattle.std.specs.Prelude.{◌≡◌, ◌≢◌, ◌<◌, ◌≤◌, ◌+◌, ◌-◌, ◌^◌, ◌⊎◌, ℕ, min, Bool, List, [], true}
 use Rattle.std.specs.Prelude.{false}
-use Rattle.std.specs.Prelude.{length, slice_get, IsSome, All}
+use Rattle.std.specs.Prelude.{length, slice_get, IfSome, IsSome, All}
 use Rattle.std.specs.List.{AllByRecursion}
 use Rattle.std.specs.declared.option.Option.{Option}
-use Rattle.std.specs.declared.option.Option.TheVariants.{None}
+use Rattle.std.specs.declared.option.Option.TheVariants.{None, Some}
 use Rattle.account.specs.Numbers.{output_numbers}
 use Rattle.account.specs.Setup.{Setup}
 use Rattle.out_lane.specs.Lane.{LaneState}
@@ -14,7 +14,10 @@ use Rattle.pipeline_core.specs.Stands.{Continues, HasJournal}
 use Rattle.pipeline_core.specs.Steps.{IsBatchOf, after_begin}
 use Rattle.pipeline_core.specs.declared.batches.Batch.{Batch}
 use Rattle.pipeline_core.specs.declared.output.Offer.{Offer}
-use Rattle.agent_workers.specs.Inputs.{InPart, IsFullOf, AreOut}
+use Rattle.track_groups.specs.Tracker.{live_of}
+use Rattle.agent_workers.specs.Inputs.{in_at, InPart, IsFullOf, IsOut}
+use Rattle.agent_workers.specs.declared.input.Offered.{Offered}
+use Rattle.agent_workers.specs.declared.input.Offered.TheVariants as offers
 use Rattle.agent_workers.specs.Output.{OutPart, out_at}
 use Rattle.agent_workers.specs.declared.output.Flush.{Flush}
 
@@ -23,16 +26,16 @@ pub record IsLaneReady (lane : LaneState Offer) : Type 0 where
   pub some : 1 ≤ lane.batch
   pub landed : lane.flight ≡ None
 
--- no input of a set-up is tracked
-abbrev pub IsUntracked : Setup → Type 0
-IsUntracked setup = All (λ (most : Option ℕ). most ≡ None) setup.inputs
+-- of each tracked input a group may be live
+abbrev pub HasLimits : Setup → Type 0
+HasLimits setup = All (λ (most : Option ℕ). IfSome most (λ n. 1 ≤ n)) setup.inputs
 
--- no item is in hand, at no output a batch is in flight, and no input is tracked
+-- no item is in hand, at no output a batch is in flight, and of each tracked input a group may be live
 pub record IsReady (core : CoreState) : Type 0 where
   pub lane_count : length core.lanes ≡ length core.setup.outputs
   pub each : (output : ℕ) → output < length core.lanes → IsLaneReady (lane_at core.lanes output)
   pub empty_handed : core.held ≡ None
-  pub untracked : IsUntracked core.setup
+  pub limits : HasLimits core.setup
 
 -- inputs were gathered or ended: the set-up, what is in hand and stopped, what waits at the outputs and their
 -- numbers are as before, and no entry that was stored and no raw item is lost
@@ -50,24 +53,47 @@ pub record IsGatheredAt (input : ℕ) (old new : CoreState) : Type 0 where
   pub kept : IsGathered old new
   pub others : (other : ℕ) → other ≢ input → slice_get new.ended other ≡ slice_get old.ended other
 
--- a gather was accepted, or items were raw
-abbrev pub HasMoved : CoreState → CoreState → Type 0
-HasMoved old new = (old.raw ≢ []) ⊎ (length old.stored < length new.stored)
+-- as many groups of an input are live as may be
+pub record IsAtLimit (core : CoreState) (input : ℕ) : Type 0 where
+  pub most : ℕ
+  pub tracked : slice_get core.setup.inputs input ≡ Some (Some most)
+  pub full : most ≤ live_of core.tracker input
 
--- what an input held was offered: where the run is full it is read no more; else it is read on as it was,
--- and what it held was accepted, or items were raw
-pub record HasOffered (full : Bool) (old new : CoreState) (part new_part : InPart) : Type 0 where
-  pub limit : full ≡ true → IsFullOf new.gathered new_part
-  pub room : full ≡ false → new_part.state ≡ part.state
-  pub moved : full ≡ false → (part.held ≢ None) → HasMoved old new
+-- what an input holds isn't accepted while items are raw, or as many of its groups are live as may be
+abbrev pub IsHeldIn : CoreState → ℕ → Type 0
+IsHeldIn core input = (core.raw ≢ []) ⊎ IsAtLimit core input
 
--- items are raw, or an entry was made
-abbrev pub HasGone : CoreState → CoreState → Type 0
-HasGone old new = (new.raw ≢ []) ⊎ (length old.stored < length new.stored)
+-- what came of an offer: where the run is full the input is read no more; else it is read on as it was; it holds
+-- nothing behind one that was accepted, and where it holds something still nothing changed
+pub record HasOffered (offered : Offered) (old new : CoreState) (part new_part : InPart) : Type 0 where
+  pub full : offered ≡ offers.Full → IsFullOf new.gathered new_part
+  pub room : (offered ≢ offers.Full) → new_part.state ≡ part.state
+  pub nothing : offered ≡ offers.Nothing → (new ≡ old) × (part.held ≡ None) × (new_part.held ≡ None)
+  pub accepted : offered ≡ offers.Accepted → new_part.held ≡ None
+  pub held : offered ≡ offers.Held → (new ≡ old) × IsHeldIn old part.input
 
--- the turns of a round that made no entry, and leave no raw item, leave each input out
-abbrev pub IdlesOut : CoreState → CoreState → List InPart → Type 0
-IdlesOut old new ins = new.raw ≡ [] → length new.stored ≡ length old.stored → AreOut ins
+-- the live groups and the raw items are as before
+pub record IsQuiet (old new : CoreState) : Type 0 where
+  pub tracker : new.tracker ≡ old.tracker
+  pub raw : new.raw ≡ old.raw
+
+-- an input is read no more and holds nothing, or what it holds isn't accepted
+abbrev pub IsOutOrHeld : CoreState → InPart → Type 0
+IsOutOrHeld core part = IsOut part ⊎ IsHeldIn core part.input
+
+-- a turn in which no gather was accepted: nothing else changed, and the input is out, or held back
+pub record IsQuietTurn (old new : CoreState) (part : InPart) : Type 0 where
+  pub quiet : IsQuiet old new
+  pub waits : IsOutOrHeld new part
+
+-- turns in which none was: so it is for each input
+pub record AreQuietTurns (old new : CoreState) (ins : List InPart) : Type 0 where
+  pub quiet : IsQuiet old new
+  pub each : (input : ℕ) → input < length ins → IsOutOrHeld new (in_at ins input)
+
+-- each input is read no more and holds nothing, or as many of its groups are live as may be
+abbrev pub AreOutOrFull : CoreState → List InPart → Type 0
+AreOutOrFull core ins = (input : ℕ) → input < length ins → IsOut (in_at ins input) ⊎ IsAtLimit core input
 
 -- a lane was offered an item at most: its batch size and its batch in flight are as before
 pub record IsLaneKept (old new : LaneState Offer) : Type 0 where
@@ -78,7 +104,8 @@ pub record IsLaneKept (old new : LaneState Offer) : Type 0 where
 abbrev pub AllMade : List Bool → Type 0
 AllMade marks = AllByRecursion (λ (mark : Bool). mark ≡ true) marks
 
--- items were routed, or made: the set-up, what ended and stopped, and the batches in flight are as before, and where all items
+-- items were routed, or made: the set-up, what ended and stopped, and the batches in flight are as before, and where
+-- all items
 -- had been made all are
 pub record IsRoutable (old new : CoreState) : Type 0 where
   pub setup : new.setup ≡ old.setup

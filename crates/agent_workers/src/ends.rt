@@ -60,6 +60,8 @@ pub struct InputEnd {
     pub limit: Option<Limit>,
     /// Whether a read of it failed.
     pub is_faulted: bool,
+    /// Whether what was read of it last wasn't gathered, since as many of its groups were undelivered as may be.
+    pub is_held: bool,
     /// Of how many of its samples that were passed over the number or the time was out of range.
     pub out_of_range: u64,
     /// The first of its pieces that was refused.
@@ -78,11 +80,19 @@ fn limit_of<S: Source + Drop, C: Clock + Drop>(job: &InJob<'_, S, C>) -> Option<
     }
 }
 
+/// Whether the run is full: an input holds more than it takes.
+fn is_full<S: Source + Drop, C: Clock + Drop>(inputs: &[InJob<'_, S, C>]) -> bool {
+    inputs
+        .iter()
+        .any(|job| limit_of(job) == Some(Limit::Metrics))
+}
+
 /// What is told of each input, in their order; of fewer where no memory was left.
 pub fn ends_of<S: Source + Drop, C: Clock + Drop>(
     alloc: Global,
     inputs: &[InJob<'_, S, C>],
 ) -> Vec<InputEnd> {
+    let full = is_full(inputs);
     let mut ends = Vec::new(alloc);
     for job in inputs {
         let first = match &job.notes.first {
@@ -92,6 +102,7 @@ pub fn ends_of<S: Source + Drop, C: Clock + Drop>(
         let end = InputEnd {
             limit: limit_of(job),
             is_faulted: job.state == InState::Faulted,
+            is_held: job.held.is_some() && !full,
             out_of_range: job.notes.out_of_range,
             first,
         };

@@ -1,15 +1,16 @@
 //! An input: what is read of it is offered to the core.
 ghost use Rattle.std.specs.Prelude.{◌≡◌, ◌≢◌, ◌<◌, ◌≤◌, ◌+◌, ◌^◌, ◌∷◌, ℤ, [], length, IfOk, OnOk, ◌⊎◌, Ok};
-ghost use Rattle.std.specs.Prelude.{Some, None, false, true, ◌-◌, All};
+ghost use Rattle.std.specs.Prelude.{Some, None, false, true, ◌-◌, All, IsTrue, ◌↔◌, ◌||◌};
 ghost use Rattle.metric.specs.Metric.{IsFilledTag};
 ghost use Rattle.pipeline_core.specs.CoreState.{CoreState};
 ghost use Rattle.agent_workers.specs.Inputs.{gathered_of, read_state};
 ghost use Rattle.agent_workers.specs.Inputs.{in_of, ins_of, is_ended, IsSameInput, AreSameInputs, HoldsOwn, HoldsNoEnd};
 ghost use Rattle.agent_workers.specs.Inputs.{FitsInput, AreInputs, IsCutBy, IsOut, AreOut, IsMoved, HasMetEnd};
-ghost use Rattle.agent_workers.specs.Inputs.{IsOffered, IsFullOf, IsReadable, OneIsFull, IsOneIn, rule_of};
-ghost use Rattle.agent_workers.specs.Running.{HasMoved, HasOffered};
+ghost use Rattle.agent_workers.specs.Inputs.{IsOffered, IsFullOf, IsReadable, OneIsFull, IsOneIn, rule_of, is_accepted};
+ghost use Rattle.agent_workers.specs.Running.{HasOffered};
 ghost use Rattle.agent_workers.specs.Progress.{ReadsAt, GathersAt, EndsAt, GathersOn};
-ghost use Rattle.agent_workers.specs.Running.{IsRunning, IsGathered, IsGatheredAt, IdlesOut};
+ghost use Rattle.agent_workers.specs.Running.{IsRunning, IsGathered, IsGatheredAt};
+ghost use Rattle.agent_workers.specs.Running.{AreQuietTurns, IsQuiet, IsQuietTurn};
 
 use crate::ends::PieceNotes;
 use agent_base::{Clock, Pieces, Source};
@@ -72,7 +73,7 @@ pub struct InJob<'a, S: Drop, C: Drop> {
     pub filter: &'a Filter,
     /// What gives the moments of its gathers.
     pub clock: C,
-    /// The most groups that it has undelivered; none, since no input is tracked.
+    /// The most groups that it has undelivered; none where it isn't tracked.
     pub limit: Option<u32>,
     /// What was read and isn't gathered yet.
     pub held: Option<Gathered>,
@@ -140,12 +141,25 @@ fn read_where_free<S: Source + Drop, C: Clock + Drop>(
     read_on(alloc, job)
 }
 
-/// Offers what an input holds to the core, and says whether the run is full. It holds it still, where it wasn't
-/// accepted; and where the run is full it is read no more.
+/// What came of an offer to the core.
+#[derive(Clone, Copy, Debug, PartialEq, Eq)]
+enum Offered {
+    /// The input held nothing.
+    Nothing,
+    /// What it held was gathered.
+    Accepted,
+    /// It holds it still: items are raw, or as many of its groups are live as may be.
+    Held,
+    /// The run is full.
+    Full,
+}
+
+/// Offers what an input holds to the core. It holds it still, where it wasn't accepted; and where the run is full it
+/// is read no more.
 fn offer<S: Source + Drop, C: Clock + Drop>(
     core: &mut Core,
     job: &mut InJob<'_, S, C>,
-) -> Result<bool, OutOfMemory>
+) -> Result<Offered, OutOfMemory>
     requires running { IsRunning core.old }
     requires fits { FitsInput job.old.input core.old.ended (in_of S.told C.told job.old) }
     ensures running { OnOk result (IsRunning core.new) }
@@ -153,31 +167,31 @@ fn offer<S: Source + Drop, C: Clock + Drop>(
     ensures ended { OnOk result (core.new.ended ≡ core.old.ended) }
     ensures part { OnOk result (IsOffered (in_of S.told C.told job.old) (in_of S.told C.told job.new)) }
     ensures fits { OnOk result (FitsInput job.old.input core.new.ended (in_of S.told C.told job.new)) }
-    ensures offered { IfOk result (λ full. HasOffered full core.old core.new (in_of S.told C.told job.old)
+    ensures offered { IfOk result (λ offered. HasOffered offered core.old core.new (in_of S.told C.told job.old)
         (in_of S.told C.told job.new)) }
-    ensures none { job.old.held ≡ None → job.new.held ≡ None }
     ensures same { IsSameInput (in_of S.told C.told job.old) (in_of S.told C.told job.new) }
-    ensures gathers { OnOk result (GathersAt core.old core.new (in_of S.told C.told job.old) (in_of S.told C.told job.new)) }
+    ensures gathers { IfOk result (λ offered. GathersAt (is_accepted offered) core.old core.new
+        (in_of S.told C.told job.old) (in_of S.told C.told job.new)) }
 {
     let gathered = match job.held.take() {
         Some(gathered) => gathered,
-        None => return Ok(false),
+        None => return Ok(Offered::Nothing),
     };
     match core.gather(gathered) {
-        Ok(()) => Ok(false),
+        Ok(()) => Ok(Offered::Accepted),
         Err(GatherRefused::OutOfMemory) => Err(OutOfMemory),
         Err(GatherRefused::RunFull(back)) => {
             job.held = Some(back);
             job.state = InState::LimitReached;
-            Ok(true)
+            Ok(Offered::Full)
         }
         Err(GatherRefused::HeldUndelivered(back)) => {
             job.held = Some(back);
-            Ok(false)
+            Ok(Offered::Held)
         }
         Err(GatherRefused::HeldRaw(back)) => {
             job.held = Some(back);
-            Ok(false)
+            Ok(Offered::Held)
         }
     }
 }
@@ -194,6 +208,7 @@ fn end_where_met<S: Source + Drop, C: Clock + Drop>(
     ensures kept { OnOk result (IsGatheredAt job.old.input core.old core.new) }
     ensures fits { OnOk result (FitsInput job.old.input core.new.ended (in_of S.told C.told job.new)) }
     ensures held { job.new.held ≡ job.old.held }
+    ensures quiet { OnOk result (IsQuiet core.old core.new) }
     ensures ends { OnOk result (EndsAt met core.old core.new (in_of S.told C.told job.old) (in_of S.told C.told job.new)) }
     ensures out { OnOk result (met ≡ true → job.old.held ≡ None → job.old.state ≡ InState.Reading
         → job.new.state ≡ InState.Ended) }
@@ -208,40 +223,76 @@ fn end_where_met<S: Source + Drop, C: Clock + Drop>(
     Ok(())
 }
 
+/// What came of turns of inputs.
+#[derive(Clone, Copy, Debug, PartialEq, Eq)]
+pub struct Turns {
+    /// Whether the run is full.
+    pub full: bool,
+    /// Whether a gather was accepted.
+    pub accepted: bool,
+}
+
+impl Turns {
+    /// What came of an input's turn, by what came of its offer.
+    fn of(offered: Offered) -> Turns
+        ensures full { IsTrue result.full ↔ (offered ≡ Offered.Full) }
+        ensures accepted { result.accepted ≡ is_accepted offered }
+    {
+        Turns {
+            full: offered == Offered::Full,
+            accepted: offered == Offered::Accepted,
+        }
+    }
+
+    /// What came of these turns and then of another one.
+    fn then(self, more: Turns) -> Turns
+        ensures full { result.full ≡ more.full }
+        ensures accepted { result.accepted ≡ (self.accepted || more.accepted) }
+    {
+        Turns {
+            full: more.full,
+            accepted: self.accepted || more.accepted,
+        }
+    }
+}
+
 /// The turn of an input in a round. Where it is read on and holds nothing, it is read; what it holds is offered;
-/// and where this turn met the end and nothing is held, the end is noted. Says whether the run is full.
+/// and where this turn met the end and nothing is held, the end is noted.
 fn turn<S: Source + Drop, C: Clock + Drop>(
     alloc: Global,
     core: &mut Core,
     job: &mut InJob<'_, S, C>,
-) -> Result<bool, OutOfMemory>
+) -> Result<Turns, OutOfMemory>
     requires running { IsRunning core.old }
     requires fits { FitsInput job.old.input core.old.ended (in_of S.told C.told job.old) }
     ensures running { OnOk result (IsRunning core.new) }
     ensures kept { OnOk result (IsGatheredAt job.old.input core.old core.new) }
     ensures fits { OnOk result (FitsInput job.old.input core.new.ended (in_of S.told C.told job.new)) }
-    ensures full { IfOk result (λ full. full ≡ true → IsFullOf core.new.gathered
+    ensures full { IfOk result (λ turn. turn.full ≡ true → IsFullOf core.new.gathered
         (in_of S.told C.told job.new)) }
-    ensures moved { IfOk result (λ full. full ≡ false
-        → IsOut (in_of S.told C.told job.new) ⊎ HasMoved core.old core.new) }
-    ensures gathers { OnOk result (GathersAt core.old core.new (in_of S.told C.told job.old) (in_of S.told C.told job.new)) }
+    ensures quiet { IfOk result (λ turn. turn.full ≡ false → turn.accepted ≡ false
+        → IsQuietTurn core.old core.new (in_of S.told C.told job.new)) }
+    ensures gathers { IfOk result (λ turn. GathersAt turn.accepted core.old core.new
+        (in_of S.told C.told job.old) (in_of S.told C.told job.new)) }
     ensures same { IsSameInput (in_of S.told C.told job.old) (in_of S.told C.told job.new) }
 {
     let met = read_where_free(alloc, job)?;
-    if offer(core, job)? {
-        return Ok(true);
+    let offered = offer(core, job)?;
+    let turn = Turns::of(offered);
+    if turn.full {
+        return Ok(turn);
     }
     end_where_met(core, job, met)?;
-    Ok(false)
+    Ok(turn)
 }
 
-/// One turn of each input in order, until the run is full; says whether it is. Turns that make no entry and leave
-/// no raw item leave each input out: so a round that gets nowhere is the last one.
+/// One turn of each input in order, until the run is full. Turns in which no gather was accepted leave each input out,
+/// or held back: items are raw, or as many of its groups are live as may be.
 pub fn gather_each<S: Source + Drop, C: Clock + Drop>(
     alloc: Global,
     core: &mut Core,
     inputs: &mut [InJob<'_, S, C>],
-) -> Result<bool, OutOfMemory>
+) -> Result<Turns, OutOfMemory>
     requires running { IsRunning core.old }
     requires inputs { AreInputs (length core.old.setup.inputs) core.old.ended
         (ins_of S.told C.told inputs.old) }
@@ -249,23 +300,29 @@ pub fn gather_each<S: Source + Drop, C: Clock + Drop>(
     ensures kept { OnOk result (IsGathered core.old core.new) }
     ensures inputs { OnOk result (AreInputs (length core.old.setup.inputs) core.new.ended
         (ins_of S.told C.told inputs.new)) }
-    ensures full { IfOk result (λ full. full ≡ true → OneIsFull core.new.gathered
+    ensures full { IfOk result (λ turns. turns.full ≡ true → OneIsFull core.new.gathered
         (ins_of S.told C.told inputs.new)) }
-    ensures gathers { OnOk result (GathersOn core.old core.new
+    ensures gathers { IfOk result (λ turns. GathersOn turns.accepted core.old core.new
         (ins_of S.told C.told inputs.old)
         (ins_of S.told C.told inputs.new)) }
-    ensures idle { IfOk result (λ full. full ≡ false → IdlesOut core.old core.new
-        (ins_of S.told C.told inputs.new)) }
+    ensures quiet { IfOk result (λ turns. turns.full ≡ false → turns.accepted ≡ false
+        → AreQuietTurns core.old core.new (ins_of S.told C.told inputs.new)) }
     ensures same { OnOk result (AreSameInputs (ins_of S.told C.told inputs.old)
         (ins_of S.told C.told inputs.new)) }
     ensures count { length inputs.new ≡ length inputs.old }
 {
+    let mut turns = Turns {
+        full: false,
+        accepted: false,
+    };
     for job in inputs.iter_mut() {
-        if turn(alloc, core, job)? {
-            return Ok(true);
+        let more = turn(alloc, core, job)?;
+        turns = turns.then(more);
+        if more.full {
+            return Ok(turns);
         }
     }
-    Ok(false)
+    Ok(turns)
 }
 
 /// Whether each input is read no more and holds nothing.

@@ -6,7 +6,7 @@ ghost use Rattle.std.specs.Option.{IfNone};
 ghost use Rattle.pipeline_core.specs.CoreState.{lane_at};
 ghost use Rattle.formats.specs.Batches.{batch_text};
 ghost use Rattle.agent_workers.specs.Output.{out_of, outs_of, after_put, anew, AreOutputs};
-ghost use Rattle.agent_workers.specs.Progress.{SendsAt, SendsOn};
+ghost use Rattle.agent_workers.specs.Progress.{SendsAt, SendsOn, still_flushed, still_sent};
 ghost use Rattle.agent_workers.specs.Run.{carried_change, IsPut};
 ghost use Rattle.agent_workers.specs.Running.{BeginsNext, IsAtRest, IsSentOn, IsSentAt};
 ghost use Rattle.agent_workers.specs.Running.{HasFlushed, HasNothing, HasSwept, AreLeft, waiting_at};
@@ -154,9 +154,10 @@ fn send_next<K: Sink + Drop, C: Drop>(
         → waiting_at core.new job.old.output < waiting_at core.old job.old.output }
     ensures failed { result ≡ Ok Sending.Failed → (waiting_at core.old job.old.output ≢ 0)
         × (job.new.failed_since ≡ min (job.old.failed_since + 1) (2 ^ 32 - 1)) }
+    ensures quiet { IfOk result (λ sending. (sending ≢ Sending.Accepted) → core.new.tracker ≡ core.old.tracker) }
     ensures number { job.new.output ≡ job.old.output }
-    ensures sends { OnOk result
-        (SendsAt core.old core.new (out_of K.told job.old) (out_of K.told job.new)) }
+    ensures sends { IfOk result (λ sending. SendsAt (still_sent sending) core.old core.new
+        (out_of K.told job.old) (out_of K.told job.new)) }
 {
     let Some(batch) = begin_next(core, job.output)? else {
         return Ok(Sending::Nothing);
@@ -185,9 +186,10 @@ pub fn send_all<K: Sink + Drop, C: Drop>(
     ensures kept { OnOk result (IsSentAt job.old.output core.old core.new) }
     ensures flushed { IfOk result (λ flush. HasFlushed flush job.old.output core.old core.new
         job.old.failed_since job.new.failed_since) }
+    ensures quiet { IfOk result (λ flush. flush.accepted ≡ false → core.new.tracker ≡ core.old.tracker) }
     ensures number { job.new.output ≡ job.old.output }
-    ensures sends { OnOk result
-        (SendsAt core.old core.new (out_of K.told job.old) (out_of K.told job.new)) }
+    ensures sends { IfOk result (λ flush. SendsAt (still_flushed flush) core.old core.new
+        (out_of K.told job.old) (out_of K.told job.new)) }
 {
     for batch in 0..u64::MAX {
         match send_next(alloc, core, text, job)? {
@@ -226,8 +228,9 @@ pub fn send_each<K: Sink + Drop, C: Drop>(
         (AreOutputs (length core.old.setup.outputs) (outs_of K.told outputs.new)) }
     ensures swept { IfOk result (λ sweep. HasSwept sweep core.old core.new
         (outs_of K.told outputs.old) (outs_of K.told outputs.new)) }
+    ensures quiet { IfOk result (λ sweep. sweep.accepted ≡ false → core.new.tracker ≡ core.old.tracker) }
     ensures count { length outputs.new ≡ length outputs.old }
-    ensures sends { OnOk result (SendsOn core.old core.new (outs_of K.told outputs.old)
+    ensures sends { IfOk result (λ sweep. SendsOn (still_flushed sweep) core.old core.new (outs_of K.told outputs.old)
         (outs_of K.told outputs.new)) }
 {
     let mut sweep = Flush {
@@ -241,14 +244,14 @@ pub fn send_each<K: Sink + Drop, C: Drop>(
     Ok(sweep)
 }
 
-/// How many repeats in succession had no batch accepted.
-fn tries_after(tries: u32, sweep: Flush, final_tries: u32) -> u32
+/// How many times in succession something didn't come on, once it did, or didn't, after so many times.
+pub fn tries_after(tries: u32, came_on: bool, final_tries: u32) -> u32
     requires { tries < final_tries }
-    ensures none { sweep.accepted ≡ false → result ≡ tries + 1 }
-    ensures some { sweep.accepted ≡ true → result ≡ 0 }
+    ensures none { came_on ≡ false → result ≡ tries + 1 }
+    ensures some { came_on ≡ true → result ≡ 0 }
     ensures few { result ≤ final_tries }
 {
-    if sweep.accepted { 0 } else { tries + 1 }
+    if came_on { 0 } else { tries + 1 }
 }
 
 /// Sends what is buffered at the end of a run: batches of each output until nothing waits there or a put
@@ -272,7 +275,7 @@ pub fn send_rest<K: Sink + Drop, C: Drop>(
     ensures rest { OnOk result
         (AreLeft final_tries core.new (outs_of K.told outputs.new)) }
     ensures count { length outputs.new ≡ length outputs.old }
-    ensures sends { OnOk result (SendsOn core.old core.new (outs_of K.told outputs.old)
+    ensures sends { OnOk result (SendsOn (λ still. 0) core.old core.new (outs_of K.told outputs.old)
         (outs_of K.told outputs.new)) }
 {
     let mut tries = 0;
@@ -281,7 +284,7 @@ pub fn send_rest<K: Sink + Drop, C: Drop>(
         if sweep.emptied {
             return Ok(());
         }
-        tries = tries_after(tries, sweep, final_tries);
+        tries = tries_after(tries, sweep.accepted, final_tries);
         if tries == final_tries {
             return Ok(());
         }

@@ -18,7 +18,7 @@ use crate::input::InJob;
 use crate::item::ProcJob;
 use crate::journal::JournalJob;
 use crate::output::OutJob;
-use crate::setup::{journal_setup, known_by, new_core};
+use crate::setup::{journal_setup, known_by, limit_by, new_core};
 use agent_base::{Clock, Pieces, Sink, Source};
 use agent_config::{Config, InputConf, OutputConf};
 use fixed_num::{Moment, OutOfMemory};
@@ -164,7 +164,7 @@ fn in_job<'a, S: Source + Drop, C: Clock + Drop>(
         gather_pieces: config.agent.gather_pieces,
         filter: &conf.filter,
         clock,
-        limit: None,
+        limit: limit_by(conf),
         held: None,
         state: InState::Reading,
         notes: PieceNotes::none(),

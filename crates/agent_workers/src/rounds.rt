@@ -1,23 +1,25 @@
 //! A run as it goes on: its rounds, its ticks, its stop and its end.
-ghost use Rattle.std.specs.Prelude.{◌≡◌, ◌≤◌, ◌⊎◌, [], length};
-ghost use Rattle.std.specs.Prelude.{IfOk, OnOk, false, true};
+ghost use Rattle.std.specs.Prelude.{◌≡◌, ◌<◌, ◌≤◌, ◌⊎◌, [], List, length};
+ghost use Rattle.std.specs.Prelude.{IfOk, IfSome, OnOk, false, not, true, ◌||◌};
 ghost use Rattle.account.specs.AccountText.{account_text};
+ghost use Rattle.account.specs.declared.entry.Entry.{Entry};
+ghost use Rattle.pipeline_core.specs.Stands.{Stands};
 ghost use Rattle.pipeline_core.specs.Steps.{after_cut};
 ghost use Rattle.agent_workers.specs.Finished.{FinishesSo};
-ghost use Rattle.agent_workers.specs.Inputs.{ins_of, AreOut, AreSameInputs};
+ghost use Rattle.agent_workers.specs.Inputs.{ins_of, AreInputs, AreOut, AreSameInputs};
 ghost use Rattle.agent_workers.specs.Item.{proc_of, IsSameProc};
 ghost use Rattle.agent_workers.specs.Job.{Job};
 ghost use Rattle.agent_workers.specs.Noted.{part_of, EndsOn};
-ghost use Rattle.agent_workers.specs.Progress.{RoutesOn, RunsOn, StopsAt, TicksOn};
-ghost use Rattle.agent_workers.specs.Rounds.{AreSameParts, HasSent, HasStopped, IsOver};
+ghost use Rattle.agent_workers.specs.Progress.{RoutesOn, RoutesWhere, RunsOn, StopsAt, TellsOn, TicksOn};
+ghost use Rattle.agent_workers.specs.Rounds.{still_behind, AreSameParts, HasRounded, HasSent, HasStopped, IsOver};
 ghost use Rattle.agent_workers.specs.RunState.{state_of, AreFit, IsAboutSame, IsProcFit};
-ghost use Rattle.agent_workers.specs.Running.{IsAtRest, SomeIsBuffered, IsRoutable, IsRunning};
+ghost use Rattle.agent_workers.specs.Running.{IsAtRest, SomeIsBuffered, IsQuiet, IsRoutable, IsRunning};
 
 use crate::ends::{InputEnd, ends_of};
-use crate::input::{InJob, are_out, gather_each, is_one_in};
+use crate::input::{InJob, Turns, are_out, gather_each, is_one_in};
 use crate::item::{ProcJob, ROUTED_AT_ONCE, route_all, route_some};
 use crate::journal::{JournalJob, last_entries, note};
-use crate::output::{begin_anew, send_each, send_rest};
+use crate::output::{Flush, begin_anew, send_each, send_rest, tries_after};
 use crate::parts::Parts;
 use agent_base::{Clock, Sink, Source};
 use fixed_num::{Moment, OutOfMemory};
@@ -36,21 +38,49 @@ pub struct Ending {
     pub journal_fault: bool,
     /// Whether a read of an input failed.
     pub read_fault: bool,
-    /// Whether a metric is still buffered at an output.
+    /// Whether a metric is still buffered at an output, or an input isn't read to its end since what it holds wasn't
+    /// accepted.
     pub left: bool,
     /// What is told of each input beside the account, in their order; of fewer where no memory was left for it.
     pub inputs: Vec<InputEnd>,
 }
 
+/// What a round came to.
+#[derive(Clone, Copy, Debug, PartialEq, Eq)]
+pub struct Round {
+    /// Whether the run is full.
+    pub full: bool,
+    /// Whether the run came on: a gather was accepted, an item was taken, or a batch was accepted.
+    pub moved: bool,
+    /// Whether a put failed at an output where metrics wait still.
+    pub left: bool,
+}
+
+impl Round {
+    /// What a round came to, by the turns of its inputs, whether items were taken before its tick and behind it, and how far
+    /// its batches were sent.
+    fn of(turns: Turns, routed: bool, made: bool, sweep: Flush) -> Round
+        ensures full { result.full ≡ turns.full }
+        ensures moved { result.moved ≡ (turns.accepted || routed || made || sweep.accepted) }
+        ensures left { result.left ≡ not sweep.emptied }
+    {
+        Round {
+            full: turns.full,
+            moved: turns.accepted || routed || made || sweep.accepted,
+            left: !sweep.emptied,
+        }
+    }
+}
+
 impl<'a, S: Source + Drop, K: Sink + Drop, C: Clock + Drop> Parts<'a, S, K, C> {
-    /// Rounds, until each input is read no more and holds nothing, or the run is full. Each closes windows once its items are
-    /// routed. What a failed put left is tried again in the next round. The last one, too, sends what is buffered.
-    fn rounds(
+    /// A round: it reads the inputs, routes, closes windows once its items are routed, sends what is buffered, and puts the
+    /// entries. What a failed put left is tried again in the next round.
+    fn round(
         &mut self,
         alloc: Global,
         core: &mut Core,
         text: &mut Vec<u8>,
-    ) -> Result<(), OutOfMemory>
+    ) -> Result<Round, OutOfMemory>
         requires running { IsRunning core.old }
         requires fit { AreFit (state_of S.told K.told C.told core.old self.old) }
         ensures parts { AreSameParts self.old self.new }
@@ -58,28 +88,62 @@ impl<'a, S: Source + Drop, K: Sink + Drop, C: Clock + Drop> Parts<'a, S, K, C> {
         ensures fit { OnOk result (AreFit (state_of S.told K.told C.told core.new self.new)) }
         ensures about { OnOk result
             (IsAboutSame (state_of S.told K.told C.told core.old self.old) (state_of S.told K.told C.told core.new self.new)) }
-        ensures over { OnOk result (IsOver (state_of S.told K.told C.told core.new self.new)) }
         ensures sent { OnOk result (HasSent (state_of S.told K.told C.told core.new self.new)) }
-        ensures runs { OnOk result
-            (RunsOn (state_of S.told K.told C.told core.old self.old) (state_of S.told K.told C.told core.new self.new)) }
+        ensures rounded { IfOk result (λ round. HasRounded round (state_of S.told K.told C.told core.new self.new)) }
+        ensures runs { IfOk result (λ round. RunsOn (still_behind round)
+            (state_of S.told K.told C.told core.old self.old) (state_of S.told K.told C.told core.new self.new)) }
     {
+        let turns = gather_each(alloc, core, &mut self.inputs)?;
+        begin_anew(&mut self.outputs);
+        let routed = route_where_raw(alloc, core, text, &mut self.proc, &mut self.journal)?;
+        let made = tick_noted(
+            alloc,
+            core,
+            text,
+            &mut self.timer,
+            &mut self.proc,
+            &mut self.journal,
+        )?;
+        let sweep = send_each(alloc, core, text, &mut self.outputs)?;
+        note(alloc, core, text, &mut self.journal)?;
+        let_reports_go(core, &self.inputs);
+        Ok(Round::of(turns, routed, made, sweep))
+    }
+
+    /// Rounds, until each input is read no more and holds nothing, the run is full, or as many in succession as are tried
+    /// didn't come on: then says how many. The timer is waited for behind one that didn't. The last one, too, sends what is
+    /// buffered.
+    fn rounds(
+        &mut self,
+        alloc: Global,
+        core: &mut Core,
+        text: &mut Vec<u8>,
+    ) -> Result<u32, OutOfMemory>
+        requires running { IsRunning core.old }
+        requires fit { AreFit (state_of S.told K.told C.told core.old self.old) }
+        requires some { 1 ≤ self.old.final_tries }
+        ensures parts { AreSameParts self.old self.new }
+        ensures running { OnOk result (IsRunning core.new) }
+        ensures fit { OnOk result (AreFit (state_of S.told K.told C.told core.new self.new)) }
+        ensures about { OnOk result
+            (IsAboutSame (state_of S.told K.told C.told core.old self.old) (state_of S.told K.told C.told core.new self.new)) }
+        ensures over { IfOk result (λ idle. IsOver self.old.final_tries idle
+            (state_of S.told K.told C.told core.new self.new)) }
+        ensures sent { OnOk result (HasSent (state_of S.told K.told C.told core.new self.new)) }
+        ensures runs { IfOk result (λ idle. RunsOn (λ still. idle)
+            (state_of S.told K.told C.told core.old self.old) (state_of S.told K.told C.told core.new self.new)) }
+    {
+        let mut idle = 0;
         for _round in 0..u64::MAX {
-            let full = gather_each(alloc, core, &mut self.inputs)?;
-            begin_anew(&mut self.outputs);
-            route_noted(alloc, core, text, &mut self.proc, &mut self.journal)?;
-            tick_noted(
-                alloc,
-                core,
-                text,
-                &mut self.timer,
-                &mut self.proc,
-                &mut self.journal,
-            )?;
-            send_each(alloc, core, text, &mut self.outputs)?;
-            note(alloc, core, text, &mut self.journal)?;
-            if is_over(full, &self.inputs) {
-                return Ok(());
+            let round = self.round(alloc, core, text)?;
+            if is_over(round.full, &self.inputs) {
+                return Ok(0);
             }
+            idle = tries_after(idle, round.moved, self.final_tries);
+            if idle == self.final_tries {
+                return Ok(idle);
+            }
+            wait_unless(round.moved, &mut self.timer);
         }
         Err(OutOfMemory)
     }
@@ -110,6 +174,7 @@ impl<'a, S: Source + Drop, K: Sink + Drop, C: Clock + Drop> Parts<'a, S, K, C> {
         core.stop(moment)?;
         route_all(alloc, core, &mut self.proc)?;
         send_rest(alloc, core, text, &mut self.outputs, self.final_tries)?;
+        let_reports_go(core, &self.inputs);
         Ok(())
     }
 
@@ -131,17 +196,18 @@ impl<'a, S: Source + Drop, K: Sink + Drop, C: Clock + Drop> Parts<'a, S, K, C> {
             → FinishesSo job ending (state_of S.told K.told C.told core.old self.old)
             (state_of S.told K.told C.told core.new self.new)) }
     {
-        self.rounds(alloc, core, text)?;
+        let _idle = self.rounds(alloc, core, text)?;
         let moment = self.timer.now();
         self.stop(alloc, core, text, moment)?;
         let outputs = self.outputs.len() as u32;
-        let (account, left) = end_journal(alloc, core, text, outputs, &mut self.journal)?;
+        let (account, buffered) = end_journal(alloc, core, text, outputs, &mut self.journal)?;
+        let reading = is_one_in(&self.inputs, InState::Reading);
         Ok(Ending {
             account,
             limit: is_one_in(&self.inputs, InState::LimitReached),
             journal_fault: self.journal.failed,
             read_fault: is_one_in(&self.inputs, InState::Faulted),
-            left,
+            left: is_one_of(buffered, reading),
             inputs: ends_of(alloc, &self.inputs),
         })
     }
@@ -173,7 +239,33 @@ fn route_noted<K: Sink + Drop, C: Drop>(
     Err(OutOfMemory)
 }
 
-/// Where there are aggregators, closes the windows that are due at a moment of the timer, and routes what they make.
+/// Routes all raw items, and puts the journal's entries, where an item is raw; and says whether one was.
+fn route_where_raw<K: Sink + Drop, C: Drop>(
+    alloc: Global,
+    core: &mut Core,
+    text: &mut Vec<u8>,
+    proc: &mut ProcJob<'_, C>,
+    journal: &mut JournalJob<K, C>,
+) -> Result<bool, OutOfMemory>
+    requires rests { IsAtRest core.old }
+    requires fit { IsProcFit core.old (proc_of proc.old) }
+    ensures rests { OnOk result (IsAtRest core.new) }
+    ensures kept { OnOk result (IsRoutable core.old core.new) }
+    ensures none { OnOk result (core.new.raw ≡ []) }
+    ensures quiet { IfOk result (λ routed. routed ≡ false → IsQuiet core.old core.new) }
+    ensures same { IsSameProc (proc_of proc.old) (proc_of proc.new) }
+    ensures routes { IfOk result (λ routed. RoutesWhere routed core.old core.new (proc_of proc.old) (proc_of proc.new)
+        (part_of K.told journal.old) (part_of K.told journal.new)) }
+{
+    if !core.has_raw() {
+        return Ok(false);
+    }
+    route_noted(alloc, core, text, proc, journal)?;
+    Ok(true)
+}
+
+/// Where there are aggregators, closes the windows that are due at a moment of the timer, and routes what they make; and
+/// says whether they made something.
 fn tick_noted<K: Sink + Drop, C: Clock + Drop>(
     alloc: Global,
     core: &mut Core,
@@ -181,7 +273,7 @@ fn tick_noted<K: Sink + Drop, C: Clock + Drop>(
     timer: &mut C,
     proc: &mut ProcJob<'_, C>,
     journal: &mut JournalJob<K, C>,
-) -> Result<(), OutOfMemory>
+) -> Result<bool, OutOfMemory>
     requires running { IsRunning core.old }
     requires fit { IsProcFit core.old (proc_of proc.old) }
     requires none { core.old.raw ≡ [] }
@@ -190,16 +282,53 @@ fn tick_noted<K: Sink + Drop, C: Clock + Drop>(
     ensures none { OnOk result (core.new.raw ≡ []) }
     ensures same { IsSameProc (proc_of proc.old) (proc_of proc.new) }
     ensures timer { (C.told timer.new).moments ≡ (C.told timer.old).moments }
-    ensures ticks { OnOk result (TicksOn core.old core.new (proc_of proc.old) (proc_of proc.new)
+    ensures quiet { IfOk result (λ made. made ≡ false → IsQuiet core.old core.new) }
+    ensures ticks { IfOk result (λ made. TicksOn made core.old core.new (proc_of proc.old) (proc_of proc.new)
         (part_of K.told journal.old) (part_of K.told journal.new) (C.told timer.old) (C.told timer.new)) }
 {
     if proc.aggs.is_empty() {
-        return Ok(());
+        return Ok(false);
     }
     let moment = timer.now();
     core.tick(moment)?;
-    route_noted(alloc, core, text, proc, journal)?;
-    Ok(())
+    let made = route_where_raw(alloc, core, text, proc, journal)?;
+    Ok(made)
+}
+
+/// Takes the reports of an input out of the core, and lets them go: nobody asks for them.
+fn let_reports_of(core: &mut Core, input: u32)
+    requires { input < length core.old.setup.inputs }
+    ensures same { core.new ≡ record core.old { told = core.new.told } }
+    ensures stands { (journal : List Entry) → Stands core.old journal → Stands core.new journal }
+{
+    for _report in 0..u64::MAX {
+        if core.next_report(input).is_none() {
+            return;
+        }
+    }
+}
+
+/// Takes the reports of all inputs out of the core, and lets them go.
+fn let_reports_go<S: Source + Drop, C: Clock + Drop>(core: &mut Core, inputs: &[InJob<'_, S, C>])
+    requires { AreInputs (length core.old.setup.inputs) core.old.ended (ins_of S.told C.told inputs.now) }
+    ensures same { core.new ≡ record core.old { told = core.new.told } }
+    ensures tells { TellsOn core.old core.new }
+    ensures stands { (journal : List Entry) → Stands core.old journal → Stands core.new journal }
+{
+    for job in inputs {
+        let_reports_of(core, job.input);
+    }
+}
+
+/// Waits for a clock where the run didn't come on. The moment that it gives isn't looked at.
+fn wait_unless<C: Clock>(moved: bool, clock: &mut C)
+    ensures list { (C.told clock.new).moments ≡ (C.told clock.old).moments }
+    ensures later { IfSome (C.told clock.old).moments
+        (λ moments. (C.told clock.old).next ≤ (C.told clock.new).next) }
+{
+    if !moved {
+        let _ = clock.wait();
+    }
 }
 
 /// Whether no round follows: the run is full, or each input is read no more and holds nothing.
@@ -208,6 +337,13 @@ fn is_over<S: Source + Drop, C: Clock + Drop>(full: bool, inputs: &[InJob<'_, S,
     ensures on { result ≡ false → (full ≡ true) ⊎ AreOut (ins_of S.told C.told inputs.now) → ⊥ }
 {
     full || are_out(inputs)
+}
+
+/// Whether one of two things is so.
+fn is_one_of(one: bool, other: bool) -> bool
+    ensures { result ≡ (one || other) }
+{
+    one || other
 }
 
 /// Whether a metric is buffered at one of so many outputs.

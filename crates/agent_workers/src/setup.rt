@@ -15,15 +15,26 @@ use journal_text::{JournalSetup, Known};
 use pipeline_core::{Core, CoreSetup, InSetup, OutSetup};
 use std::alloc::Global;
 
-/// How many groups of each input may be undelivered at most: none is tracked.
+/// How many groups of each input may be undelivered at most, where it is tracked.
 fn limits_of(alloc: Global, inputs: &[InputConf]) -> Result<Vec<Option<u32>>, OutOfMemory>
     ensures { IfOk result (λ limits. limits.items ≡ map limit_by inputs.now) }
 {
     let mut limits = Vec::with_capacity(alloc, inputs.len())?;
-    for _input in inputs {
-        limits.push(None)?;
+    for input in inputs {
+        limits.push(limit_by(input))?;
     }
     Ok(limits)
+}
+
+/// How many groups of an input may be undelivered at most, where it is tracked.
+pub fn limit_by(conf: &InputConf) -> Option<u32>
+    ensures { result ≡ limit_by conf.now }
+{
+    if conf.tracked {
+        Some(conf.max_undelivered)
+    } else {
+        None
+    }
 }
 
 /// The line of each aggregator.
@@ -48,15 +59,15 @@ fn output_sizes(alloc: Global, outputs: &[OutputConf]) -> Result<Vec<(u32, u32)>
     Ok(pairs)
 }
 
-/// With what the core is set up of each input: none is tracked.
+/// With what the core is set up of each input.
 fn in_setups(alloc: Global, inputs: &[InputConf]) -> Result<Vec<InSetup>, OutOfMemory>
     ensures { IfOk result (λ setups. setups.items ≡ map in_setup inputs.now) }
 {
     let mut setups = Vec::with_capacity(alloc, inputs.len())?;
-    for _input in inputs {
+    for input in inputs {
         setups.push(InSetup {
-            tracked: false,
-            max_undelivered: 0,
+            tracked: input.tracked,
+            max_undelivered: input.max_undelivered,
         })?;
     }
     Ok(setups)

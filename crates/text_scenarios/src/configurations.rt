@@ -78,12 +78,13 @@ fn append_agent(agent: &AgentConf, out: &mut Vec<u8>) -> Result<(), Fail> {
     put(out, format_args!("journal {}\n", agent.journal.as_str()))
 }
 
-/// Appends what an input is, with its format.
+/// Appends what an input is, with its format; that it is tracked, where it is.
 fn append_input(input: &InputConf, out: &mut Vec<u8>) -> Result<(), Fail> {
     let (place, groups) = (input.place.as_str(), input.max_undelivered);
+    let tracked = if input.tracked { "tracked, " } else { "" };
     put(
         out,
-        format_args!("input {place}: max_undelivered {groups}, "),
+        format_args!("input {place}: {tracked}max_undelivered {groups}, "),
     )?;
     match &input.format {
         InFormat::Influx => put(out, "influx\n"),

@@ -3,13 +3,13 @@ use Rattle.agent_run.proofs.NumberWords.{word_is, word_reads, word_fails}
 use Rattle.fixed_num.specs.Whole.{uint_read_as}
 use Rattle.agent_run.proofs.command.number_of.Goals as goal
 
-pub returns-then-n-le-MOST : goal.returns-then-n-le-MOST
-returns-then-n-le-MOST c =
+pub returns-then-n-from : goal.returns-then-n-from
+returns-then-n-from c =
     let read : uint_read_as c.args.word.now ≡ Ok c.in-Ok.n = cc in
-    (word_is c.args.word.now c.in-Ok.n (rw (← c.as_bytes-bytes.ensures.value) (cc)) read, c.if-n-le-MOST.true)
+    (word_is c.args.word.now c.in-Ok.n (rw (← c.as_bytes-bytes.ensures.value) (cc)) read, omega arith)
 
-pub returns-else-n-le-MOST : goal.returns-else-n-le-MOST
-returns-else-n-le-MOST c = λ m h.
+pub returns-else-n-from : goal.returns-else-n-from
+returns-else-n-from c = λ m h.
     let read : uint_read_as c.args.word.now ≡ Ok c.in-Ok.n = cc in
     let same = word_reads c.args.word.now c.in-Ok.n m read h in omega (arith, same)
 

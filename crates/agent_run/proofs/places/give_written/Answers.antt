@@ -1,10 +1,10 @@
-use Rattle.std.proofs.Common.{◌∙◌, List, ℕ, ap, subst, sym, arith, map}
+use Rattle.std.proofs.Common.{◌∙◌, ◌∷◌, List, ℕ, ap, subst, sym, arith, map}
 use Rattle.std.proofs.lemmas.Map.Keys.{IsDistinct-tail}
 use Rattle.std.specs.List.{IsDistinct}
 use Rattle.std.specs.Str.{bytes_eq}
 use Rattle.agent_base.specs.Places.{Place, TakesIn}
-use Rattle.agent_run.specs.PlaceLists.{PartsAreOut, places_out}
-use Rattle.agent_run.proofs.PartLemmas.{before_same, go_before, out_behind}
+use Rattle.agent_run.specs.PlaceLists.{PartsAreOut, out_places, places_out}
+use Rattle.agent_run.proofs.PartLemmas.{before_same, given_home, go_before, out_behind}
 use Rattle.agent_run.proofs.places.give_written.Goals as goal
 
 pub give_each-requires-clause-apart : goal.give_each-requires-clause-apart
@@ -36,3 +36,8 @@ returns-clause-given g c =
     (g.W.World.view c.give_each.new.world).outs (g.W.World.view c.give_out.new.self).outs
     (ap places_out c.as_slice.ensures) c.as_str.ensures c.requires.apart c.give_each.ensures.given
     c.give_out.ensures.given c.give_out.ensures.only.others
+
+pub returns-clause-home : goal.returns-clause-home
+returns-clause-home g c = given_home (out_places c.args.config.now) (g.W.Out.Sink.told c.args.journal
+    ∷ map g.W.Out.Sink.told c.args.outputs.items)
+    (g.W.World.view c.args.world.now).outs (g.W.World.view c.give_out.new.self).outs (returns-clause-given g c)

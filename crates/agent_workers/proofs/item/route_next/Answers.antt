@@ -1,5 +1,4 @@
 use Rattle.std.proofs.Common.{◌≡◌, ◌∙◌, ◌++◌, ap, subst, sym, rules}
-use Rattle.std.specs.Prelude.{Bool, true}
 use Rattle.std.specs.List.{AllByRecursion}
 use Rattle.std.specs.declared.option.Option.{Option}
 use Rattle.std.specs.declared.option.Option.TheVariants.{None}
@@ -10,10 +9,11 @@ use Rattle.pipeline_core.specs.CoreState.{CoreState}
 use Rattle.pipeline_core.specs.Stands.{Continues}
 use Rattle.pipeline_core.specs.Steps.{after_route, route_entry}
 use Rattle.pipeline_core.specs.declared.routing.Routed.{Routed}
-use Rattle.agent_workers.specs.Item.{TakesNext, proc_of, routed_by, seen_by}
+use Rattle.agent_workers.specs.Item.{TakesNext, proc_of, routed_by}
 use Rattle.agent_workers.specs.Running.{IsRoutable}
 use Rattle.agent_workers.proofs.OutLemmas.{has_views, item_fewer, item_routed, marked_first, ready_routed, sees_nothing}
-use Rattle.agent_workers.proofs.ProgressLemmas.{went_item}
+use Rattle.agent_workers.proofs.ProgressLemmas.{went_item, went_open}
+use Rattle.agent_workers.specs.Progress.{Progress}
 use Rattle.agent_workers.proofs.StandingLemmas.{continues}
 use Rattle.agent_workers.proofs.item.route_next.Given.{Over}
 use Rattle.agent_workers.proofs.item.route_next.Goals.{In_ok-route}
@@ -67,6 +67,15 @@ pub returns-clause-fewer : goal.returns-clause-fewer
 returns-clause-fewer g c = λ more.
     item_fewer c.args.core.now c.take_next.new.core c.route.new.self c.in-Some.item (proc_of c.args.proc.now)
     c.in_ok-routed.routed.whole (verdict g c) c.route.new.self.bank (takes g c) (routed g c)
+
+-- none was raw
+pub returns-in_default-clause-goes : goal.returns-in_default-clause-goes
+returns-in_default-clause-goes g c = λ start now ticked fresh stays w.
+    let same : c.take_next.new.core ≡ c.args.core.now = search rules in
+    subst (λ (core : CoreState). Progress start (record now
+    { core = core; proc = proc_of c.args.proc.now; ticked = ticked; still = 0 })) (sym same)
+    (went_open start (record now { core = c.args.core.now; proc = proc_of c.args.proc.now }) ticked
+    (λ t. (stays t).0) w)
 
 pub returns-clause-goes : goal.returns-clause-goes
 returns-clause-goes g c = λ start now ticked fresh stays w.

@@ -1,9 +1,9 @@
 use Rattle.std.proofs.Common.{refl}
 use Rattle.agent_workers.specs.Item.{proc_of}
-use Rattle.agent_workers.proofs.FinishSteps.{goes_more}
+use Rattle.agent_workers.proofs.RoundSteps.{goes_more}
 use Rattle.agent_workers.proofs.OutLemmas.{routable_same, routable_more}
 use Rattle.agent_workers.proofs.PartsLemmas.{proc_fits, proc_itself, same_proc}
-use Rattle.agent_workers.proofs.ProgressLemmas.{went_unticked}
+use Rattle.agent_workers.proofs.ProgressLemmas.{went_open}
 use Rattle.agent_workers.proofs.item.route_some.Goals as goal
 
 pub route_next-requires-clause-fit : goal.route_next-requires-clause-fit
@@ -16,7 +16,7 @@ loop-taken-init g c = record {
   kept = routable_same c.args.core.now c.args.core.now refl refl refl refl refl (λ all. all);
   same = proc_itself (proc_of c.args.proc.now);
   goes = λ start now ticked anew stays w.
-      went_unticked start (record now { core = c.args.core.now; proc = proc_of c.args.proc.now }) ticked
+      went_open start (record now { core = c.args.core.now; proc = proc_of c.args.proc.now }) ticked
       (λ t. (stays t).0) w;
 }
 

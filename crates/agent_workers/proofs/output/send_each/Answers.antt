@@ -2,9 +2,10 @@ use Rattle.std.proofs.Common.{◌≡◌, ◌<◌, ◌≤◌, ◌∙◌, ◌+◌,
 use Rattle.std.proofs.lemmas.List.{length-map, map-set}
 use Rattle.account.specs.Setup.{Setup}
 use Rattle.agent_workers.specs.Output.{OutPart, outs_of, out_of}
-use Rattle.agent_workers.specs.Progress.{SendsOn}
+use Rattle.agent_workers.specs.Progress.{still_flushed, SendsOn}
 use Rattle.agent_workers.proofs.OutLemmas.{part_here, part_number, part_set, sent_on}
-use Rattle.agent_workers.proofs.SendSteps.{sends_at, sends_then}
+use Rattle.agent_workers.proofs.SendSteps.{flushed_both, sends_at, sends_fewer, sends_then}
+use Rattle.agent_workers.proofs.InLemmas.{either_none}
 use Rattle.agent_workers.proofs.SweepLemmas.{Sweeping, sweeps_part, swept}
 use Rattle.agent_workers.proofs.output.send_each.Goals as goal
 
@@ -58,9 +59,15 @@ loop-job-preserved g c =
     c.send_all.new.core firsts (set outs i new)) (sym c.and-sweep.ensures.emptied) more in
     let swept_all = subst (λ (a : Bool). Sweeping (i + 1) c.and-sweep.result.emptied a c.args.core.now
     c.send_all.new.core firsts (set outs i new)) (sym c.and-sweep.ensures.accepted) counted in
-    let sends = sends_then c.args.core.now c.loop-job.core c.send_all.new.core firsts outs
-    (set outs i new) c.loop-job.invariant.sends (sends_at c.loop-job.core c.send_all.new.core i part new outs number l
-    at c.in_ok-flush.ensures.sends) in
+    let after = c.and-sweep.result in
+    let sends = sends_fewer (λ still. still_flushed flush (still_flushed c.loop-job.sweep still)) (still_flushed after)
+    c.args.core.now c.send_all.new.core firsts (set outs i new)
+    (λ still. flushed_both c.loop-job.sweep flush after.emptied after.accepted still c.and-sweep.ensures.emptied
+    c.and-sweep.ensures.accepted)
+    (sends_then (still_flushed c.loop-job.sweep) (still_flushed flush) c.args.core.now c.loop-job.core
+    c.send_all.new.core firsts outs (set outs i new) c.loop-job.invariant.sends
+    (sends_at (still_flushed flush) c.loop-job.core c.send_all.new.core i part new outs number l
+    at c.in_ok-flush.ensures.sends)) in
     record {
       rests = c.in_ok-flush.ensures.rests;
       kept = sent_on c.args.core.now c.loop-job.core c.send_all.new.core c.loop-job.invariant.kept sent.kept;
@@ -68,7 +75,10 @@ loop-job-preserved g c =
           (c.send_all.ensures.number ∙ number) c.loop-job.invariant.outputs;
       swept = subst (Sweeping (i + 1) c.and-sweep.result.emptied c.and-sweep.result.accepted c.args.core.now
           c.send_all.new.core firsts) (sym are) swept_all;
-      sends = subst (SendsOn c.args.core.now c.send_all.new.core firsts) (sym are) sends;
+      quiet = λ none.
+          let both = either_none c.loop-job.sweep.accepted flush.accepted (sym c.and-sweep.ensures.accepted ∙ none) in
+          c.in_ok-flush.ensures.quiet both.1 ∙ c.loop-job.invariant.quiet both.0;
+      sends = subst (SendsOn (still_flushed after) c.args.core.now c.send_all.new.core firsts) (sym are) sends;
     }
 
 pub returns-clause-swept : goal.returns-clause-swept

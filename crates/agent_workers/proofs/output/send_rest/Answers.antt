@@ -1,13 +1,14 @@
-use Rattle.std.proofs.Common.{◌≡◌, ◌<◌, ◌≤◌, ◌-◌, ◌^◌, ◌∙◌, ℕ, List, length, sym, ap, subst, arith}
+use Rattle.std.proofs.Common.{◌≡◌, ◌<◌, ◌≤◌, ◌-◌, ◌^◌, ◌∙◌, ℕ, List, length, refl, sym, ap, subst, arith}
 use Rattle.std.proofs.lemmas.List.{length-map}
 use Rattle.account.specs.Setup.{Setup}
 use Rattle.agent_workers.specs.Output.{OutPart, outs_of, out_of, AreOutputs}
-use Rattle.agent_workers.specs.Progress.{SendsOn}
+use Rattle.agent_workers.specs.Progress.{still_flushed, SendsOn}
 use Rattle.agent_workers.specs.Running.{AreLeft, HaveFailed}
 use Rattle.agent_workers.specs.declared.output.OutJob.{OutJob}
 use Rattle.agent_workers.proofs.OutLemmas.{sent_on}
-use Rattle.agent_workers.proofs.SendSteps.{sends_then}
-use Rattle.agent_workers.proofs.SweepLemmas.{failed_next, left_none}
+use Rattle.agent_workers.proofs.SendSteps.{sends_fewer, sends_then}
+use Rattle.agent_workers.proofs.SweepLemmas.{failed_next, failed_none as none_failed, left_none}
+use Rattle.agent_workers.proofs.ProgressLemmas.{went_fewer}
 use Rattle.agent_workers.proofs.output.send_rest.Given.{Over}
 use Rattle.agent_workers.proofs.output.send_rest.Goals.{In_ok-sweep, After-tries_after-tries}
 use Rattle.agent_workers.proofs.output.send_rest.Goals as goal
@@ -17,11 +18,14 @@ abbrev outs : (g : Over) → List (OutJob g.row.K.Denot g.row.C.Denot) → List 
 outs g = outs_of g.K.Sink.told
 
 -- each output had its turn once more
-sends : (g : Over) (c : In_ok-sweep g) → SendsOn c.args.core.now c.send_each.new.core (outs g c.args.outputs.now)
+sends : (g : Over) (c : In_ok-sweep g) → SendsOn (λ still. 0) c.args.core.now c.send_each.new.core
+    (outs g c.args.outputs.now)
     (outs g c.send_each.new.outputs)
-sends g c = sends_then c.args.core.now c.loop-repeat.core c.send_each.new.core (outs g c.args.outputs.now)
-    (outs g c.loop-repeat.outputs) (outs g c.send_each.new.outputs) c.loop-repeat.invariant.sends
-    c.in_ok-sweep.ensures.sends
+sends g c = sends_fewer (λ still. still_flushed c.in_ok-sweep.sweep 0) (λ still. 0) c.args.core.now
+    c.send_each.new.core (outs g c.args.outputs.now) (outs g c.send_each.new.outputs) (λ still. omega arith)
+    (sends_then (λ still. 0) (still_flushed c.in_ok-sweep.sweep) c.args.core.now c.loop-repeat.core
+    c.send_each.new.core (outs g c.args.outputs.now) (outs g c.loop-repeat.outputs)
+    (outs g c.send_each.new.outputs) c.loop-repeat.invariant.sends c.in_ok-sweep.ensures.sends)
 
 as_many : (g : Over) (c : In_ok-sweep g) → length (outs g c.send_each.new.outputs) ≡ length
     (outs g c.loop-repeat.outputs)
@@ -44,6 +48,19 @@ failed g c same =
     c.send_each.new.core (outs g c.loop-repeat.outputs) (outs g c.send_each.new.outputs) few same
     c.tries_after-tries.ensures.none c.tries_after-tries.ensures.some c.loop-repeat.invariant.failed
     c.in_ok-sweep.ensures.swept
+
+-- nothing was tried yet
+pub loop-repeat-init : goal.loop-repeat-init
+loop-repeat-init g c = record {
+  rests = c.requires.rests;
+  kept = record { setup = refl; raw = refl; held = refl; ended = refl; gathered = refl; stopped = refl };
+  outputs = c.requires.outputs;
+  count = refl;
+  few = omega (arith, c.requires.some);
+  failed = none_failed c.args.core.now (outs g c.args.outputs.now);
+  sends = λ start now w. went_fewer start
+      (record now { core = c.args.core.now; outs = outs g c.args.outputs.now }) 0 (omega arith) w;
+}
 
 pub loop-repeat-preserved : goal.loop-repeat-preserved
 loop-repeat-preserved g c =

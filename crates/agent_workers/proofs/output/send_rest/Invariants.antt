@@ -12,5 +12,5 @@ invariant-loop-repeat g l = record {
   count : length l.outputs ≡ length l.fn.outputs;
   few : l.tries < l.fn.final_tries;
   failed : HaveFailed l.tries l.core (outs_of g.K.Sink.told l.outputs);
-  sends : SendsOn l.fn.core l.core (outs_of g.K.Sink.told l.fn.outputs) (outs_of g.K.Sink.told l.outputs);
+  sends : SendsOn (λ still. 0) l.fn.core l.core (outs_of g.K.Sink.told l.fn.outputs) (outs_of g.K.Sink.told l.outputs);
 }

@@ -1,4 +1,4 @@
-use Rattle.std.proofs.Common.{◌≡◌, ◌≤◌, ◌+◌, length}
+use Rattle.std.proofs.Common.{◌≡◌, ◌≤◌, length}
 use Rattle.std.specs.Prelude.{map, vec_len, vec_capacity}
 use Rattle.agent_workers.specs.Opened.{out_carried}
 use Rattle.agent_workers.specs.Output.{outs_of}

@@ -97,6 +97,7 @@ returns-clause-made g c =
       entries = c.new.ensures.entries;
       put = c.new.ensures.going;
       counted = refl;
+      still = refl;
       held = search rules;
       faults = search rules;
       timer = refl;

@@ -1,12 +1,12 @@
-use Rattle.std.proofs.Common.{◌∙◌, ap, refl, subst, sym}
+use Rattle.std.proofs.Common.{ap, refl, subst, sym}
 use Rattle.pipeline_core.specs.CoreState.{CoreState}
 use Rattle.agent_workers.specs.Item.{proc_of}
 use Rattle.agent_workers.specs.Noted.{JournalPart, part_of}
 use Rattle.agent_workers.specs.declared.journal.JournalJob.{JournalJob}
-use Rattle.agent_workers.proofs.FinishSteps.{routes_more, routes_last}
+use Rattle.agent_workers.proofs.RoundSteps.{routes_more, routes_last}
 use Rattle.agent_workers.proofs.OutLemmas.{routable_same, routable_more}
 use Rattle.agent_workers.proofs.PartsLemmas.{proc_fits, proc_itself, same_proc}
-use Rattle.agent_workers.proofs.ProgressLemmas.{went_unticked}
+use Rattle.agent_workers.proofs.ProgressLemmas.{went_open}
 use Rattle.agent_workers.specs.Running.{AllMade}
 use Rattle.agent_workers.proofs.rounds.route_noted.Given.{Over}
 use Rattle.agent_workers.proofs.rounds.route_noted.Goals as goal
@@ -20,7 +20,7 @@ loop-part-init g c = record {
   kept = routable_same c.args.core.now c.args.core.now refl refl refl refl refl (λ all. all);
   same = proc_itself (proc_of c.args.proc.now);
   routes = λ start now ticked anew stays w.
-      went_unticked start (record now
+      went_open start (record now
       { core = c.args.core.now; proc = proc_of c.args.proc.now; journal = noted g c.args.journal.now }) ticked
       (λ t. (stays t).0) w;
 }

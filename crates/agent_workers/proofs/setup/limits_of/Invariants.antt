@@ -4,4 +4,4 @@ use Rattle.agent_workers.specs.Job.{limit_by}
 use Rattle.agent_workers.proofs.setup.limits_of.Given as goal
 
 abbrev pub invariant-loop-input : goal.invariant-loop-input
-invariant-loop-input l = l.limits.items ≡ map limit_by (take l._input-index l.inputs)
+invariant-loop-input l = l.limits.items ≡ map limit_by (take l.input-index l.inputs)

@@ -4,7 +4,7 @@ use Rattle.account.specs.AggLines.{IsLine}
 use Rattle.agent_workers.specs.Opened.{out_setup}
 use Rattle.agent_workers.proofs.OutLemmas.{ready_first}
 use Rattle.agent_workers.proofs.SetupLemmas.{are_lines, none_buffered_first, none_ended_first, sizes_fit, sizes_fit_all}
-use Rattle.agent_workers.proofs.SetupLemmas.{limits_fit, untracked_first}
+use Rattle.agent_workers.proofs.SetupLemmas.{limits_fit, limits_first}
 use Rattle.account.specs.declared.setup.AggLine.{AggLine}
 use Rattle.std.proofs.lemmas.List.{length-map}
 use Rattle.agent_workers.specs.Job.{line_of}
@@ -12,7 +12,7 @@ use Rattle.agent_workers.proofs.setup.new_core.Goals as goal
 
 pub new-requires-clause-limits : goal.new-requires-clause-limits
 new-requires-clause-limits c = limits_fit c.args.config.now.inputs c.in_ok-setup.setup.inputs
-    c.in_ok-setup.ensures.inputs
+    c.in_ok-setup.ensures.inputs c.requires.sound.undelivered
 
 pub new-requires-clause-sizes : goal.new-requires-clause-sizes
 new-requires-clause-sizes c = sizes_fit c.args.config.now.outputs c.in_ok-setup.setup.outputs
@@ -35,7 +35,8 @@ returns c = record {
   ready = ready_first c.in_ok-setup.setup (map out_setup c.args.config.now.outputs) c.in_ok-core.core
       c.in_ok-core.ensures.ok c.in_ok-setup.ensures.outputs
       (sizes_fit_all c.args.config.now.outputs c.requires.sound.sizes)
-      (untracked_first c.args.config.now.inputs c.in_ok-setup.setup.inputs c.in_ok-setup.ensures.inputs);
+      (limits_first c.args.config.now.inputs c.in_ok-setup.setup.inputs c.in_ok-setup.ensures.inputs
+      c.requires.sound.undelivered);
   reading = none_ended_first c.args.config.now.inputs c.in_ok-setup.setup c.in_ok-core.core c.in_ok-core.ensures.ok
       c.in_ok-setup.ensures.inputs;
   going = search rules;

@@ -5,14 +5,15 @@ use Rattle.std.proofs.lemmas.Int.{to_z-of_z}
 use Rattle.std.proofs.lemmas.List.{length-map}
 use mir.Syntax.{w64}
 use mir.Val.{of_z, to_z}
-use Rattle.std.specs.Prelude.{◌⊎◌}
+use Rattle.std.specs.Prelude.{◌⊎◌, ◌<◌, ◌≤◌}
 use Rattle.std.specs.Int.{int_max}
 use Rattle.account.specs.Setup.{Setup}
 use Rattle.agent_base.specs.Carried.{Timed}
 use Rattle.agent_base.specs.Clocked.{last_of}
 use Rattle.agent_base.specs.Moments.{Gives}
 use Rattle.pipeline_core.specs.CoreState.{CoreState}
-use Rattle.agent_workers.specs.Inputs.{ins_of, AreInputs, AreOut, IsOneIn, OneIsFull}
+use Rattle.agent_workers.specs.Held.{IsHeldBack}
+use Rattle.agent_workers.specs.Inputs.{in_at, ins_of, AreInputs, AreOut, IsOneIn, IsOut, OneIsFull}
 use Rattle.agent_workers.specs.declared.input.InJob.{InJob}
 use Rattle.formats.specs.declared.pieces.InState.TheVariants as states
 use Rattle.agent_workers.specs.Job.{Job, journal_setup_of, limit_of, output_sizes}
@@ -24,6 +25,7 @@ use Rattle.agent_workers.specs.Running.{AreLeft}
 use Rattle.agent_workers.specs.declared.parts.Parts.{Parts}
 use Rattle.agent_workers.proofs.InLemmas.{same_inputs}
 use Rattle.agent_workers.proofs.FinishSteps.{finished}
+use Rattle.agent_workers.proofs.RoundSteps.{all_held}
 use Rattle.agent_workers.proofs.ProgressLemmas.{stored_in_order, stored_known, went_timed}
 use Rattle.agent_workers.proofs.parts.Parts.«end».Given.{Over}
 use Rattle.agent_workers.proofs.parts.Parts.«end».Goals as goal
@@ -36,20 +38,23 @@ returns-clause-same g c =
     same_inputs (ins_of g.S.Source.told g.C.Clock.told c.args.self.now.inputs.items)
     (ins_of g.S.Source.told g.C.Clock.told c.rounds.new.self.inputs.items)
     (ins_of g.S.Source.told g.C.Clock.told c.stop.new.self.inputs.items)
-    c.in_ok-rounds.ensures.about.inputs c.in_ok-stop.ensures.about.inputs
+    c.in_ok-_idle.ensures.about.inputs c.in_ok-stop.ensures.about.inputs
 
 pub returns-clause-finished : goal.returns-clause-finished
 returns-clause-finished g c = λ job tries start counted is starts_count outs_count settled w.
     let moment = to_z w64 (of_z w64 c.now-moment.result) in
     let same_moment : moment ≡ c.now-moment.result = to_z-of_z w64 c.now-moment.result (search rules) in
     let first : RunState = record (state g c.args.core.now c.args.self.now) { counted_at = counted } in
-    let over_rounds = c.in_ok-rounds.ensures.runs start counted settled w in
+    let idle : ℕ = c.in_ok-_idle._idle in
+    let over_rounds = c.in_ok-_idle.ensures.runs start counted 0 settled w in
     let so_far : List ℤ = over_rounds.counted_now in
-    let rounded : RunState = record (state g c.rounds.new.core c.rounds.new.self) { counted_at = so_far } in
+    let rounded : RunState = record
+    (state g c.rounds.new.core c.rounds.new.self) { counted_at = so_far; still = idle } in
     let went = went_timed start rounded (g.C.Clock.told c.now-moment.new.self) over_rounds.progress in
     let counts : List ℤ = so_far ++ int_max moment (last_of start.start so_far) ∷ [] in
     let last : RunState = record (state g c.stop.new.core c.stop.new.self) { counted_at = counts } in
-    let stopped : Progress start last = c.in_ok-stop.ensures.stops start so_far went in
+    let stops = c.in_ok-stop.ensures.stops start so_far idle went in
+    let stopped : Progress start last = stops.progress in
     let put_so = c.in_ok-account.ensures.ends (journal_setup_of (setup_at start)) start.noted start.note_faults
     stopped.text.written stopped.text.notes (stored_in_order start c.stop.new.core last.journal stopped.journal
     stopped.text) (stored_known start c.stop.new.core last.journal stopped.journal stopped.text stopped.worked) in
@@ -59,15 +64,21 @@ returns-clause-finished g c = λ job tries start counted is starts_count outs_co
     ap (λ (s : Setup). length s.outputs) stopped.text.setup_is ∙ length-map start.job.outputs output_sizes in
     let tried : c.rounds.new.self.final_tries ≡ start.job.tries =
     c.rounds.ensures.parts.tries ∙ sym tries ∙ sym (ap (λ (j : Job). j.tries) is) in
-    let over : OneIsFull c.stop.new.core.gathered last.ins ⊎ AreOut last.ins = elim c.in_ok-rounds.ensures.over [
+    let tries_are : c.args.self.now.final_tries ≡ start.job.tries = sym c.rounds.ensures.parts.tries ∙ tried in
+    let over : OneIsFull c.stop.new.core.gathered last.ins ⊎ AreOut last.ins ⊎ ((k : ℕ) → k < length last.ins
+    → IsOut (in_at last.ins k) ⊎ IsHeldBack start.job.tries (setup_at start) stopped.journal k) =
+    elim c.in_ok-_idle.ensures.over [
       | inl full ↦ inl (subst (λ (k : ℕ). OneIsFull k last.ins) (sym c.in_ok-stop.ensures.stopped.gathered)
           (subst (OneIsFull c.rounds.new.core.gathered) (sym c.in_ok-stop.ensures.stopped.ins) full))
-      | inr out ↦ inr (subst AreOut (sym c.in_ok-stop.ensures.stopped.ins) out)
+      | inr (inl out) ↦ inr (inl (subst AreOut (sym c.in_ok-stop.ensures.stopped.ins) out))
+      | inr (inr held) ↦ inr (inr (all_held start rounded over_rounds.progress last.ins stopped.journal stops.moment
+          stops.made stops.behind (subst (λ (n : ℕ). n ≤ idle) tries_are held.tried) held.each
+          c.in_ok-stop.ensures.stopped.ins stops.stops))
     ] in
     let gives : Gives first.timer.moments (g.C.Clock.told c.rounds.new.self.timer).next
     (g.C.Clock.told c.stop.new.self.timer).next moment =
     subst (λ (all : Option Moments). Gives all (g.C.Clock.told c.rounds.new.self.timer).next
-    (g.C.Clock.told c.stop.new.self.timer).next moment) c.in_ok-rounds.ensures.about.timer
+    (g.C.Clock.told c.stop.new.self.timer).next moment) c.in_ok-_idle.ensures.about.timer
     (subst (λ (t : Timed). Gives (g.C.Clock.told c.rounds.new.self.timer).moments
     (g.C.Clock.told c.rounds.new.self.timer).next t.next moment) (sym c.in_ok-stop.ensures.stopped.timer)
     (rw same_moment c.now-moment.ensures.gives)) in
@@ -83,7 +94,11 @@ returns-clause-finished g c = λ job tries start counted is starts_count outs_co
     (g.C.Clock.told c.stop.new.self.timer) (g.C.Clock.told c.rounds.new.self.timer).next so_far moment
     c.in_ok-account.ensures.cut over_rounds.counts gives refl
     (subst (λ (jobs : List (InJob g.row.S.Denot g.row.C.Denot)). IsOneIn states.LimitReached
-    (ins_of g.S.Source.told g.C.Clock.told jobs) c.is_one_in.result) c.deref.ensures.value c.is_one_in.ensures)
+    (ins_of g.S.Source.told g.C.Clock.told jobs) c.is_one_in.result) c.deref-2.ensures.value c.is_one_in.ensures)
     (subst (λ (jobs : List (InJob g.row.S.Denot g.row.C.Denot)). IsOneIn states.Faulted
-    (ins_of g.S.Source.told g.C.Clock.told jobs) c.is_one_in-2.result) c.deref-2.ensures.value c.is_one_in-2.ensures)
-    c.in_ok-account.ensures.left c.in_ok-account.ensures.account put_so
+    (ins_of g.S.Source.told g.C.Clock.told jobs) c.is_one_in-2.result) c.deref-3.ensures.value c.is_one_in-2.ensures)
+    _ c.is_one_in-reading.result c.is_one_of.ensures c.in_ok-account.ensures.left
+    (subst (λ (jobs : List (InJob g.row.S.Denot g.row.C.Denot)). IsOneIn states.Reading
+    (ins_of g.S.Source.told g.C.Clock.told jobs) c.is_one_in-reading.result) c.deref.ensures.value
+    c.is_one_in-reading.ensures)
+    c.in_ok-account.ensures.account put_so

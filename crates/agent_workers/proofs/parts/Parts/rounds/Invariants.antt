@@ -1,3 +1,4 @@
+use Rattle.std.proofs.Common.{◌<◌}
 use Rattle.agent_workers.specs.Progress.{RunsOn}
 use Rattle.agent_workers.specs.Rounds.{AreSameParts}
 use Rattle.agent_workers.specs.RunState.{state_of, AreFit, IsAboutSame}
@@ -14,6 +15,7 @@ invariant-loop-round g l = record {
       (state_of g.S.Source.told g.K.Sink.told g.C.Clock.told l.core l.self);
   settled : AreSettled l.fn.core (outs_of g.K.Sink.told l.fn.self.outputs.items)
       → AreSettled l.core (outs_of g.K.Sink.told l.self.outputs.items);
-  runs : RunsOn (state_of g.S.Source.told g.K.Sink.told g.C.Clock.told l.fn.core l.fn.self)
+  few : l.idle < l.fn.self.final_tries;
+  runs : RunsOn (λ still. l.idle) (state_of g.S.Source.told g.K.Sink.told g.C.Clock.told l.fn.core l.fn.self)
       (state_of g.S.Source.told g.K.Sink.told g.C.Clock.told l.core l.self);
 }

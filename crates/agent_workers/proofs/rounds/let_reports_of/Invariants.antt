@@ -1,0 +1,10 @@
+use Rattle.std.proofs.Common.{◌≡◌, List}
+use Rattle.account.specs.declared.entry.Entry.{Entry}
+use Rattle.pipeline_core.specs.Stands.{Stands}
+use Rattle.agent_workers.proofs.rounds.let_reports_of.Given as goal
+
+abbrev pub invariant-loop-report : goal.invariant-loop-report
+invariant-loop-report l = record {
+  same : l.core ≡ record l.fn.core { told = l.core.told };
+  stands : (journal : List Entry) → Stands l.fn.core journal → Stands l.core journal;
+}

@@ -6,7 +6,8 @@ use std::test::Fail;
 /// The tables, each a file of the current folder.
 pub const TABLES: &str =
     "pipes clocks rounds commands faults single_faults last_tries journals reports checks failed_checks runs \
-    run_faults processors aggregators tracked generated tick_faults settings formats parts lines fault_lines";
+    run_faults processors aggregators example tracked tracked_faults generated generated_faults tick_faults \
+    settings formats parts lines fault_lines";
 
 /// The name of the row whose parts each row of its table begins with.
 const EACH: &str = "in each row";

@@ -77,8 +77,8 @@ IsCommand words (Check place) = IsCheck words place.now
 IsCommand words (Run place) = IsRunAt words place.now
 IsCommand words (Gen run) = IsGen words run.lines run.place.now
 
--- the configuration that a pipe is: one line protocol input and one line protocol output with these sizes, no processor,
--- no aggregator, no filter, no global tag, and what an agent has where nothing is said
+-- the configuration that a pipe is: one line protocol input and one line protocol output with these sizes, no
+-- processor, no aggregator, no filter, no global tag, and what an agent has where nothing is said
 abbrev pub pipe_config : List ℕ → List ℕ → ℕ → ℕ → Config
 pipe_config input output batch limit = record {
   agent = usual_agent;

@@ -7,12 +7,10 @@ ghost use Rattle.agent_run.specs.Generating.{clock_given, clocks_given, lines_gi
 ghost use Rattle.agent_run.specs.Headline.{NothingRose};
 ghost use Rattle.agent_run.specs.Running.{IsOpenedSame, OnlyWritten};
 
-use crate::checking::report_unread;
 use crate::generated::Generated;
 use crate::places::{Unopened, open_written};
-use crate::reading::config_at;
 use crate::reporting::report_open_fault;
-use crate::running::run_opened;
+use crate::running::{config_to_run, run_opened};
 use crate::status::Status;
 use crate::ticking::Ticking;
 use agent_base::{Clock, Source, World};
@@ -125,8 +123,8 @@ pub(crate) fn gen_call<W: World>(alloc: Global, world: &mut W, lines: u32, place
     ensures ins_home { AreHome (W.view world.new).ins }
     ensures outs_home { AreHome (W.view world.new).outs }
 {
-    match config_at(alloc, world, place) {
+    match config_to_run(alloc, world, place) {
         Ok(config) => gen_config(alloc, &config, lines, world),
-        Err(unread) => report_unread(alloc, world, place, unread),
+        Err(status) => status,
     }
 }

@@ -1,10 +1,10 @@
 //! Running a configuration over a world.
-ghost use Rattle.std.specs.Prelude.{◌≡◌, ◌≢◌, ◌⊎◌, All, IfOk, OnErr, length, map};
+ghost use Rattle.std.specs.Prelude.{◌≡◌, ◌≢◌, ◌⊎◌, All, IfErr, IfOk, OnErr, length, map};
 ghost use Rattle.agent_base.specs.Carried.{Timed};
 ghost use Rattle.agent_base.specs.Places.{AreHome};
 ghost use Rattle.agent_base.specs.Views.{OnlyReport};
 ghost use Rattle.agent_config.specs.Sound.{IsSound};
-ghost use Rattle.agent_run.specs.Configured.{SaysRun};
+ghost use Rattle.agent_run.specs.Configured.{IsReadAt, IsUnrun, SaysRun};
 ghost use Rattle.agent_run.specs.Headline.{Ends, NothingRose, report_change, world_change};
 ghost use Rattle.agent_run.specs.PlaceLists.{AreHomeBut, PartsAreOut, out_places};
 ghost use Rattle.agent_run.specs.Places.{AreOpensSame};
@@ -128,6 +128,27 @@ pub(crate) fn run_config<W: World>(alloc: Global, config: &Config, world: &mut W
     }
 }
 
+/// Reads the configuration at a place that is to be run, and gives its part back. Where it isn't read the report says why,
+/// as it does of a check, and the status is that of the check.
+pub(crate) fn config_to_run<W: World>(
+    alloc: Global,
+    world: &mut W,
+    place: &str,
+) -> Result<Config, Status>
+    requires ins { AreHome (W.view world.old).ins }
+    requires outs { AreHome (W.view world.old).outs }
+    ensures read { IfOk result (λ config. IsReadAt place.now config (W.view world.old) (W.view world.new)) }
+    ensures sound { IfOk result IsSound }
+    ensures unrun { IfErr result (λ status. IsUnrun status place.now (W.view world.old) (W.view world.new)) }
+    ensures ins_home { AreHome (W.view world.new).ins }
+    ensures outs_home { AreHome (W.view world.new).outs }
+{
+    match config_at(alloc, world, place) {
+        Ok(config) => Ok(config),
+        Err(unread) => Err(report_unread(alloc, world, place, unread)),
+    }
+}
+
 /// Runs the configuration at a place: reads it, gives its part back, and runs it. Where it isn't read the report
 /// says why, as it does of a check.
 pub(crate) fn run_call<W: World>(alloc: Global, world: &mut W, place: &str) -> Status
@@ -139,8 +160,8 @@ pub(crate) fn run_call<W: World>(alloc: Global, world: &mut W, place: &str) -> S
     ensures ins_home { AreHome (W.view world.new).ins }
     ensures outs_home { AreHome (W.view world.new).outs }
 {
-    match config_at(alloc, world, place) {
+    match config_to_run(alloc, world, place) {
         Ok(config) => run_config(alloc, &config, world),
-        Err(unread) => report_unread(alloc, world, place, unread),
+        Err(status) => status,
     }
 }

@@ -57,6 +57,7 @@ use Rattle.agent_workers.specs.Running.{buffered_at, AllMade, AreSettled}
 use Rattle.agent_config.specs.declared.config.AggConf.{AggConf}
 use Rattle.agent_workers.proofs.OutLemmas.{each_set, at_anew}
 use Rattle.agent_workers.proofs.FailedLemmas.{failed_same}
+use Rattle.agent_workers.specs.Held.{HasFailed}
 use Rattle.agent_workers.proofs.HeldLemmas.{failed_fewer, failed_none, failed_quiet}
 use Rattle.agent_workers.proofs.HeardLemmas.{IsNotOf, heard_push}
 use Rattle.std.proofs.lemmas.List.{length-map}
@@ -171,12 +172,18 @@ order-push start core next last ticked journal e no_tick still worked stands l o
     order_with start core next last ticked ticked journal e stands l orderly none
     (λ t f. ticked-push start.job.work journal (setup_at start) e no_tick still worked (h.has_ticked t f)) h
 
--- where no item is raw none is of an input
-pub went_next : (start : Beginning) (core : CoreState) (now : RunState) (next : ℕ) → core.raw ≡ []
-    → Progress start (record now { core = core }) → Progress start (record now { core = core; next = next })
-went_next start core now next none w = record {
+-- how far a run has come where its core, its next input, its timer and its count of failures are others, and where it
+-- goes
+-- on from another front: all else is as it was
+abbrev pub carried : (start : Beginning) (front : List Entry) (now : RunState) (core : CoreState) (next : ℕ)
+    (timer : Timed)
+    (still : ℕ) (w : Progress start now) → HasText (record start { front = front }) core now.journal w.journal
+    → HasOrder start next now.ticked w.journal → HasFailed still w.journal
+    → Progress (record start { front = front })
+    (record now { core = core; next = next; timer = timer; still = still })
+carried start front now core next timer still w text order failed = record {
   journal = w.journal;
-  text = w.text;
+  text = text;
   in_count = w.in_count;
   heard = w.heard;
   out_count = w.out_count;
@@ -184,130 +191,75 @@ went_next start core now next none w = record {
   work_is = w.work_is;
   worked = w.worked;
   pushed = w.pushed;
-  order = record {
-    in_order = w.order.in_order;
-    none_raw = λ f input b. raw_of-none input w.journal
-        (sym w.text.stands.raw ∙ none);
-    has_ticked = w.order.has_ticked;
-  };
+  order = record { in_order = order.in_order; none_raw = order.none_raw; has_ticked = order.has_ticked };
   counted_at = w.counted_at;
-  still = w.still;
+  still = failed;
 }
+
+-- where no item is raw none is of an input
+pub went_next : (start : Beginning) (core : CoreState) (now : RunState) (next : ℕ) → core.raw ≡ []
+    → Progress start (record now { core = core }) → Progress start (record now { core = core; next = next })
+went_next start core now next none w =
+    carried start start.front (record now { core = core }) core next now.timer now.still w w.text (record {
+      in_order = w.order.in_order;
+      none_raw = λ f input b. raw_of-none input w.journal (sym w.text.stands.raw ∙ none);
+      has_ticked = w.order.has_ticked;
+    }) w.still
 
 -- the timer says nothing of how far a run has come
 abbrev pub went_timed : (start : Beginning) (now : RunState) (timer : Timed) → Progress start now
     → Progress start (record now { timer = timer })
-went_timed start now timer w = record {
-  journal = w.journal;
-  text = w.text;
-  in_count = w.in_count;
-  heard = w.heard;
-  out_count = w.out_count;
-  said = w.said;
-  work_is = w.work_is;
-  worked = w.worked;
-  pushed = w.pushed;
-  order = w.order;
-  counted_at = w.counted_at;
-  still = w.still;
-}
+went_timed start now timer w =
+    carried start start.front now now.core now.next timer now.still w w.text w.order w.still
 
 -- and none is of an input behind those of which none is
 pub went_behind : (start : Beginning) (core : CoreState) (now : RunState) (next last : ℕ) → next ≤ last
     → Progress start (record now { core = core; next = next })
     → Progress start (record now { core = core; next = last })
-went_behind start core now next last l w = record {
-  journal = w.journal;
-  text = w.text;
-  in_count = w.in_count;
-  heard = w.heard;
-  out_count = w.out_count;
-  said = w.said;
-  work_is = w.work_is;
-  worked = w.worked;
-  pushed = w.pushed;
-  order = record {
-    in_order = w.order.in_order;
-    none_raw = λ f input b. w.order.none_raw f input
-        (omega (arith, l, b));
-    has_ticked = w.order.has_ticked;
-  };
-  counted_at = w.counted_at;
-  still = w.still;
-}
+went_behind start core now next last l w =
+    carried start start.front (record now { core = core; next = next }) core last now.timer now.still w w.text (record {
+      in_order = w.order.in_order;
+      none_raw = λ f input b. w.order.none_raw f input (omega (arith, l, b));
+      has_ticked = w.order.has_ticked;
+    }) w.still
 
 -- fewer batches may be said to have failed since the run last came on
 pub went_fewer : (start : Beginning) (now : RunState) (still : ℕ) → still ≤ now.still → Progress start now
     → Progress start (record now { still = still })
-went_fewer start now still few w = record {
-  journal = w.journal;
-  text = w.text;
-  in_count = w.in_count;
-  heard = w.heard;
-  out_count = w.out_count;
-  said = w.said;
-  work_is = w.work_is;
-  worked = w.worked;
-  pushed = w.pushed;
-  order = w.order;
-  counted_at = w.counted_at;
-  still = failed_fewer still now.still w.journal few w.still;
-}
+went_fewer start now still few w =
+    carried start start.front now now.core now.next now.timer still w w.text w.order
+    (failed_fewer still now.still w.journal few w.still)
 
 -- what has come so far is a front of whatever is to come
 pub went_front : (start : Beginning) (now : RunState) (w : Progress start now)
     → Progress (record start { front = w.journal }) now
-went_front start now w = record {
-  journal = w.journal;
-  text = record {
-    stands = w.text.stands;
-    setup_is = w.text.setup_is;
-    more = [];
-    goes_on = sym (append-nil w.journal);
-    written = w.text.written;
-    split = w.text.split;
-    notes = w.text.notes;
-    known = w.text.known;
-  };
-  in_count = w.in_count;
-  heard = w.heard;
-  out_count = w.out_count;
-  said = w.said;
-  work_is = w.work_is;
-  worked = w.worked;
-  pushed = w.pushed;
-  order = record { in_order = w.order.in_order; none_raw = w.order.none_raw; has_ticked = w.order.has_ticked };
-  counted_at = w.counted_at;
-  still = w.still;
-}
+went_front start now w =
+    carried start w.journal now now.core now.next now.timer now.still w (record {
+      stands = w.text.stands;
+      setup_is = w.text.setup_is;
+      more = [];
+      goes_on = sym (append-nil w.journal);
+      written = w.text.written;
+      split = w.text.split;
+      notes = w.text.notes;
+      known = w.text.known;
+    }) w.order w.still
 
 -- and that front goes on from the one before it
 abbrev pub went_back : (start : Beginning) (now last : RunState) (w : Progress start now)
     → Progress (record start { front = w.journal }) last → Progress start last
-went_back start now last w v = record {
-  journal = v.journal;
-  text = record {
-    stands = v.text.stands;
-    setup_is = v.text.setup_is;
-    more = w.text.more ++ v.text.more;
-    goes_on = v.text.goes_on ∙ ap (λ (es : List Entry). es ++ v.text.more) w.text.goes_on
-        ∙ append_assoc start.front w.text.more v.text.more;
-    written = v.text.written;
-    split = v.text.split;
-    notes = v.text.notes;
-    known = v.text.known;
-  };
-  in_count = v.in_count;
-  heard = v.heard;
-  out_count = v.out_count;
-  said = v.said;
-  work_is = v.work_is;
-  worked = v.worked;
-  pushed = v.pushed;
-  order = record { in_order = v.order.in_order; none_raw = v.order.none_raw; has_ticked = v.order.has_ticked };
-  counted_at = v.counted_at;
-  still = v.still;
-}
+went_back start now last w v =
+    carried (record start { front = w.journal }) start.front last last.core last.next last.timer last.still v (record {
+      stands = v.text.stands;
+      setup_is = v.text.setup_is;
+      more = w.text.more ++ v.text.more;
+      goes_on = v.text.goes_on ∙ ap (λ (es : List Entry). es ++ v.text.more) w.text.goes_on
+          ∙ append_assoc start.front w.text.more v.text.more;
+      written = v.text.written;
+      split = v.text.split;
+      notes = v.text.notes;
+      known = v.text.known;
+    }) (record { in_order = v.order.in_order; none_raw = v.order.none_raw; has_ticked = v.order.has_ticked }) v.still
 
 -- ---- steps
 

@@ -29,7 +29,7 @@ use Rattle.agent_workers.specs.Progress.{NotesRun}
 use Rattle.agent_workers.specs.Running.{IsReady, AreSettled, buffered_at}
 use Rattle.agent_workers.specs.Output.{OutPart, out_at, anew, AreAnew}
 use Rattle.agent_workers.proofs.OutLemmas.{are_anew}
-use Rattle.agent_workers.proofs.ProgressLemmas.{went_anew, went_next, went_timed}
+use Rattle.agent_workers.proofs.ProgressLemmas.{carried, went_anew, went_next, went_timed}
 use Rattle.agent_base.specs.Moments.{Waits}
 use Rattle.std.specs.Prelude.{◌||◌, ◌+◌, if◌then◌else◌}
 use Rattle.agent_workers.specs.Progress.{still_after, still_flushed, RoutesWhere, TellsOn}
@@ -301,29 +301,17 @@ settled_told core next outs same h = λ o l.
 -- reports were taken out: it says nothing of how far a run has come
 pub went_told : (core next : CoreState) → next ≡ record core { told = next.told }
     → ((journal : List Entry) → Stands core journal → Stands next journal) → TellsOn core next
-went_told core next same stands = λ start now w. record {
-  journal = w.journal;
-  text = record {
-    stands = stands w.journal w.text.stands;
-    setup_is = ap (λ (s : CoreState). s.setup) same ∙ w.text.setup_is;
-    more = w.text.more;
-    goes_on = w.text.goes_on;
-    written = w.text.written;
-    split = w.text.split ∙ ap (λ (s : CoreState). w.text.written ++ s.stored) (sym same);
-    notes = w.text.notes;
-    known = w.text.known;
-  };
-  in_count = w.in_count;
-  heard = w.heard;
-  out_count = w.out_count;
-  said = w.said;
-  work_is = w.work_is;
-  worked = w.worked;
-  pushed = w.pushed;
-  order = w.order;
-  counted_at = w.counted_at;
-  still = w.still;
-}
+went_told core next same stands = λ start now w.
+    carried start start.front (record now { core = core }) next now.next now.timer now.still w (record {
+      stands = stands w.journal w.text.stands;
+      setup_is = ap (λ (s : CoreState). s.setup) same ∙ w.text.setup_is;
+      more = w.text.more;
+      goes_on = w.text.goes_on;
+      written = w.text.written;
+      split = w.text.split ∙ ap (λ (s : CoreState). w.text.written ++ s.stored) (sym same);
+      notes = w.text.notes;
+      known = w.text.known;
+    }) w.order w.still
 
 -- reports were taken out twice
 pub told_then : (first old new : CoreState) → old ≡ record first { told = old.told } → new

@@ -36,6 +36,7 @@ pub struct ProcJob<'a, C: Drop> {
 }
 
 /// What the filter of each output gives for a metric. That of one output takes no memory but its own.
+#[inline(always)]
 fn views_of(
     alloc: Global,
     metric: &Metric,
@@ -94,6 +95,7 @@ fn no_agg_views(alloc: Global, confs: &[AggConf]) -> Result<Seq<Option<Metric>>,
 }
 
 /// What the aggregators see of an item: of one that was made nothing, so that no window takes what another made.
+#[inline(always)]
 fn seen(
     alloc: Global,
     confs: &[AggConf],
@@ -112,6 +114,7 @@ fn seen(
 }
 
 /// Takes the next raw item, where there is one.
+#[inline(always)]
 fn take_next(core: &mut Core) -> Result<Option<Item>, OutOfMemory>
     requires { core.old.held ≡ None }
     ensures none { IfOk result (λ next. IfNone next ((core.new ≡ core.old) × (core.old.raw ≡ []))) }

@@ -79,6 +79,7 @@ pub fn begin_anew<K: Sink + Drop, C: Drop>(outputs: &mut [OutJob<K, C>])
 }
 
 /// Begins the next batch of an output, where a metric waits there.
+#[inline(always)]
 fn begin_next(core: &mut Core, output: u32) -> Result<Option<Batch>, OutOfMemory>
     requires known { output < length core.old.setup.outputs }
     requires landed { (lane_at core.old.lanes output).flight ≡ None }

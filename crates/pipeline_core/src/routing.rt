@@ -18,7 +18,7 @@ ghost use Rattle.pipeline_core.specs.Steps.{consumed_more, late_more};
 
 use crate::output::{Offer, Output};
 use crate::room::{Views, make_room, view_copies};
-use crate::settling::{settle_routed, tell};
+use crate::settling::{listed, settle_routed, tell};
 use crate::state::Core;
 use account::{Account, Entry, Report, Verdict};
 use agg_bank::Bank;
@@ -41,6 +41,7 @@ pub struct Routed {
 impl Core {
     /// Routes the item in hand: it is offered to the aggregators, and where it passes each output takes its view, where
     /// it has one. The answer is what became of the item. Without memory all is as it was.
+    #[inline(always)]
     #[tactic(auto, unfolding(crate::specs::Steps::route_entry))]
     pub fn route(&mut self, r: Routed) -> Result<Verdict, OutOfMemory>
         requires held { self.old.held ≡ Some r.item }
@@ -76,7 +77,7 @@ impl Core {
             verdict,
             aggs: r.aggs,
             outs: r.outs,
-            reports: Seq::of(reports),
+            reports: listed(self.alloc, reports),
         });
         Ok(verdict)
     }
@@ -118,6 +119,7 @@ fn judge(
 }
 
 // Counts an item by its verdict, and offers each output its view where the item passes.
+#[inline(always)]
 fn hand_out(
     outputs: &mut Vec<Output>,
     account: &mut Account,

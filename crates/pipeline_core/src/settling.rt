@@ -15,6 +15,7 @@ ghost use Rattle.pipeline_core.specs.Letting.{LetsGo, HasCopies};
 use crate::marked::{Leaving, Marked};
 use crate::told::Told;
 use account::{Account, Report, Verdict};
+use fixed_num::Seq;
 use metric::Metric;
 use std::alloc::Global;
 use track_groups::{GroupRef, Tracker};
@@ -90,6 +91,7 @@ pub(crate) fn leave(marked: &mut Vec<Marked>, alloc: Global, output: usize, ok: 
 }
 
 /// Holds the new copies of a routed item, lets go what its views push out, and last the item itself.
+#[inline(always)]
 pub(crate) fn settle_routed(
     tracker: &mut Tracker,
     marked: &mut Vec<Marked>,
@@ -227,4 +229,14 @@ pub(crate) fn tell(account: &mut Account, told: &mut Vec<Told>, reports: &[Repor
         account.group_settled(report.input, report.delivered);
         told[report.input as usize].push(*report);
     }
+}
+
+/// The reports as a list. The room of none is let go at once, and not only with its entry.
+pub(crate) fn listed(alloc: Global, reports: Vec<Report>) -> Seq<Report>
+    ensures { result ≡ reports.items }
+{
+    if reports.is_empty() {
+        return Seq::of(Vec::new(alloc));
+    }
+    Seq::of(reports)
 }

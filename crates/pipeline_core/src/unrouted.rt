@@ -79,6 +79,7 @@ impl Unrouted {
     }
 
     /// Takes the first item out, and gives its group.
+    #[inline(always)]
     pub(crate) fn pop(&mut self) -> Option<GroupRef>
         requires { 0 < length self.old.made }
         ensures made { self.new.made ≡ drop 1 self.old.made }

@@ -236,9 +236,9 @@ returns-clause-ok c =
     (c.tell.ensures.account ∙ ap (with_reports c.hand_out.new.account) c.as_slice-4.ensures.value)
     (c.push_reserved.ensures.items
     ∙ ap (λ (stored : List Entry). stored ++ Route c.args.r.item c.args.r.whole verdict c.args.r.aggs c.args.r.outs
-    c.of.result ∷ []) c.in_ok-make_room.ensures.items
+    c.listed.result ∷ []) c.in_ok-make_room.ensures.items
     ∙ ap (λ (r : List Report). c.self.inside.stored.items ++ Route c.args.r.item c.args.r.whole verdict c.args.r.aggs
-    c.args.r.outs r ∷ []) c.of.ensures)
+    c.args.r.outs r ∷ []) c.listed.ensures)
     ∙ ap (λ (s : CoreState). after_route s c.args.r verdict c.judge.new.bank) c.self.view_is
 
 pub returns-clause-verdict : goal.returns-clause-verdict

@@ -420,6 +420,7 @@ impl Buffer {
     }
 
     // Gives the piece of so many bytes and its newline that is in hand.
+    #[inline(always)]
     fn give_in_hand(&mut self, i: usize) -> Result<Option<Piece>, PieceFault>
         requires { FirstEnd self.old.kind (bytes_of self.old) i }
         ensures pieces { (left : List ℕ)

@@ -113,6 +113,7 @@ impl Group {
     }
 
     /// Counts a piece, and keeps what is kept of what it says at the moment.
+    #[inline(always)]
     pub fn read(
         &mut self,
         alloc: Global,

@@ -316,6 +316,7 @@ pub fn write_entry(
 /// reports (`write_reports`), and so it is an entry. A Route is written beside its item, with what is known of it, which
 /// isn't looked for: where it is so this is the line that the entry has (`known_stays`). `OutOfMemory` leaves `out` as it
 /// was.
+#[inline(always)]
 pub fn write_head(
     alloc: Global,
     known: Known,

@@ -72,13 +72,10 @@ fn append_escaped(out: &mut Vec<u8>, bytes: &[u8]) -> Result<(), OutOfMemory>
 fn append_text(out: &mut Vec<u8>, text: &Text) -> Result<(), OutOfMemory>
     ensures { Adds result out.old.items out.new.items (escaped text.now) }
 {
-    let bytes = text.as_str().as_bytes();
     if text.is_known_plain() {
-        out.extend_from_slice(bytes)?;
-    } else {
-        append_escaped(out, bytes)?;
+        return text.append(out);
     }
-    Ok(())
+    append_escaped(out, text.as_str().as_bytes())
 }
 
 // Appends a value: a letter that tells its type, and what it is.

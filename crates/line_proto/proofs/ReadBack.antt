@@ -1,9 +1,12 @@
 -- The line of a plain metric is read as the metric.
 use Rattle.std.proofs.Common.{◌≡◌, ◌<◌, ◌-◌, ℕ, ℤ, true, false, Bool, cond, List, [], ◌∷◌, ◌++◌, length, map, reverse}
-use Rattle.std.proofs.Common.{Some}
+use Rattle.std.proofs.Common.{None, Some}
+use Rattle.std.specs.declared.option.Option.{Option}
 use Rattle.std.proofs.Common.{Ok, refl, sym, ap, subst, ◌∙◌, arith, append_assoc, inl, inr, get_or, ◌+◌}
 use Rattle.std.specs.Prelude.{codes, ◌==◌, ◌||◌, ◌⊎◌}
 use Rattle.std.specs.Fmt.{signed_decimal}
+use Rattle.std.specs.Int.{w64}
+use Rattle.std.specs.Prelude.{FitsSigned}
 use Rattle.std.specs.List.{AllByRecursion, flat_map, prefix_len, suffix_len}
 use Rattle.std.specs.Str.{IsUtf8}
 use Rattle.std.proofs.lemmas.Bool.{or_parts}
@@ -21,15 +24,15 @@ use Rattle.text_parts.specs.Pairs.{pair_text, pairs_text, AllAre}
 use Rattle.metric.specs.Draft.{Tag, Field}
 use Rattle.line_proto.specs.Kinds.{name_part, key_part, tag_value_part, text_part}
 use Rattle.line_proto.specs.Grammar.{NoHash, NoQuote, Written, line_spelling, IsTag, IsField}
-use Rattle.line_proto.specs.Grammar.{IsQuoted, IsUnquoted, IsLine}
+use Rattle.line_proto.specs.Grammar.{time_text, IsQuoted, IsTime, IsUnquoted, IsLine}
 use Rattle.line_proto.specs.LineText.{on_one_line, trimmed, name_text, key_text, value_text, tag_text, field_text}
 use Rattle.line_proto.specs.LineText.{name_escapes, key_escapes, text_escapes}
 use Rattle.text_parts.specs.Escaped.{escaped}
-use Rattle.line_proto.specs.LineText.{head_text, line_text}
+use Rattle.line_proto.specs.LineText.{head_text, line_text, untimed_text}
 use Rattle.line_proto.specs.Reading.{Line, content_of, reading}
 use Rattle.line_proto.specs.OneLine.{ends_line}
 use Rattle.text_parts.specs.Escaped.{Escapes, Suits, NoBackslashEnd}
-use Rattle.line_proto.specs.RoundTrip.{IsPlainWord, IsPlainValue, IsPlain}
+use Rattle.line_proto.specs.RoundTrip.{IsPlainWord, IsPlainValue, IsPlain, UntimedIsReadBack}
 use Rattle.text_parts.proofs.Utf8.{one_ascii}
 use Rattle.line_proto.proofs.EscapedParts.{ends_before, escaped-IsUtf8, suits_name, suits_key, suits_tag_value}
 use Rattle.line_proto.proofs.EscapedParts.{suits_text, name_low, key_low, text_low}
@@ -37,7 +40,7 @@ use Rattle.text_parts.proofs.Escaping.{escaped_is_part}
 use Rattle.metric.proofs.KeptPairs.{sorted_stay, distinct_stay, filled_stay, few}
 use Rattle.line_proto.proofs.NumberTexts.{plain_value, plain_time}
 use Rattle.line_proto.proofs.PlainBytes.{Clean, IsNoText}
-use Rattle.line_proto.proofs.SingleLines.{single}
+use Rattle.line_proto.proofs.SingleLines.{none_head, single}
 use Rattle.line_proto.proofs.Takes.{written_is_read}
 use Rattle.line_proto.proofs.WriteLemmas.{kept_key, kept_name}
 
@@ -265,8 +268,8 @@ fields_utf8 (field ∷ fields) is plain =
 abbrev made : List ℕ → List Tag → List Field → ℤ → Content
 made name tags fields time = record { name = name; tags = tags; fields = fields; time = time }
 
--- its line as it is written
-abbrev written : List ℕ → List Tag → Field → List Field → ℤ → Written
+-- its line as it is written, with a time behind its spaces or without one
+abbrev written : List ℕ → List Tag → Field → List Field → Option (ℕ × List ℕ) → Written
 written name tags field fields time = record {
   before = 0;
   name = name_text name;
@@ -274,9 +277,13 @@ written name tags field fields time = record {
   gap = 1;
   first = written_field field;
   others = map written_field fields;
-  time = Some (1, signed_decimal time);
+  time = time;
   after = 0;
 }
+
+-- its time behind one space
+abbrev spaced_time : ℤ → Option (ℕ × List ℕ)
+spaced_time time = Some (1, signed_decimal time)
 
 regroup : (name tags fields others time : List ℕ)
     → ((((name ++ tags) ++ 32 ∷ []) ++ (fields ++ others)) ++ 32 ∷ []) ++ time ≡ name
@@ -285,12 +292,24 @@ regroup name tags fields others time = simp (append_assoc, append-nil)
 
 line_is_spelled : (name : List ℕ) (tags : List Tag) (field : Field) (fields : List Field) (time : ℤ)
     → (head_text (made name tags (field ∷ fields) time) ++ codes " ")
-    ++ signed_decimal time ≡ line_spelling (written name tags field fields time)
+    ++ signed_decimal time ≡ line_spelling (written name tags field fields (spaced_time time))
 unfolding head_text
 line_is_spelled name tags field fields time =
     rw (tags_text tags, one_field field, fields_text fields)
     (regroup (name_text name) (pairs_text (map written_tag tags)) (pair_text (written_field field))
     (pairs_text (map written_field fields)) (signed_decimal time))
+
+regroup_untimed : (name tags fields others : List ℕ)
+    → ((name ++ tags) ++ 32 ∷ []) ++ (fields ++ others) ≡ name ++ (tags ++ (32 ∷ (fields ++ (others ++ []))))
+regroup_untimed name tags fields others = simp (append_assoc, append-nil)
+
+head_is_spelled : (name : List ℕ) (tags : List Tag) (field : Field) (fields : List Field) (time : ℤ)
+    → head_text (made name tags (field ∷ fields) time) ≡ line_spelling (written name tags field fields None)
+unfolding head_text
+head_is_spelled name tags field fields time =
+    rw (tags_text tags, one_field field, fields_text fields)
+    (regroup_untimed (name_text name) (pairs_text (map written_tag tags)) (pair_text (written_field field))
+    (pairs_text (map written_field fields)))
 
 name_no_hash : (e : Escapes) (text : List ℕ) → NoHash text → NoHash (escaped e text)
 unfolding escaped
@@ -299,36 +318,33 @@ name_no_hash e (b ∷ bs) h =
     elim (e.is_mark b) as (λ t. NoHash (cond t (92 ∷ e.written b ∷ []) (b ∷ []) ++ escaped e bs))
     [ true ↦ refl | false ↦ h ]
 
-line_is_line : (name : List ℕ) (tags : List Tag) (field : Field) (fields : List Field) (time moment : ℤ)
-    → IsMetric (made name tags (field ∷ fields) time)
-    → IsPlain (made name tags (field ∷ fields) time)
-    → IsLine (written name tags field fields time) (record {
+line_is_line : (name : List ℕ) (tags : List Tag) (field : Field) (fields : List Field) (time : ℤ)
+    (text : Option (ℕ × List ℕ)) (read moment : ℤ) → IsMetric (made name tags (field ∷ fields) time)
+    → IsPlain (made name tags (field ∷ fields) time) → IsTime text read moment
+    → IsLine (written name tags field fields text) (record {
       name = name;
       tags = tags;
       fields = field ∷ fields;
-      time = time;
+      time = read;
     }) moment
-line_is_line name tags field fields time moment is plain =
-    let t = plain_time time is.time in
-    let text = name_is name is.name.filled plain.no_comment plain.name in
+line_is_line name tags field fields time text read moment is plain says =
+    let spelled = name_is name is.name.filled plain.no_comment plain.name in
     record {
       name = name_written name _ is.name plain.name plain.no_comment (tags_end name_part refl refl tags _);
-      no_comment = subst NoHash (sym text) (name_no_hash name_escapes name plain.no_comment);
+      no_comment = subst NoHash (sym spelled) (name_no_hash name_escapes name plain.no_comment);
       tags = tags_are tags _ is.tags plain.tags;
       gap = omega arith;
       fields = fields_are (field ∷ fields) _ is.fields plain.fields;
-      time = (omega arith, t.none, t.is);
+      time = says;
     }
 
 line_utf8 : (name : List ℕ) (tags : List Tag) (field : Field) (fields : List Field) (time : ℤ)
-    → IsMetric (made name tags (field ∷ fields) time)
-    → IsPlain (made name tags (field ∷ fields) time) → IsUtf8 (line_spelling (written name tags field fields time))
-line_utf8 name tags field fields time is plain =
-    let spaced_time : IsUtf8 ((32 ∷ signed_decimal time) ++ []) =
-    IsUtf8-append (32 ∷ signed_decimal time) [] (IsUtf8-append (32 ∷ []) (signed_decimal time)
-    (one_ascii 32 (omega arith)) (plain_time time is.time).clean.utf8) utf8_none in
-    let others = IsUtf8-append (pairs_text (map written_field fields)) ((32 ∷ signed_decimal time) ++ [])
-    (fields_utf8 fields (is.fields).1 (plain.fields).1) spaced_time in
+    (text : Option (ℕ × List ℕ)) → IsMetric (made name tags (field ∷ fields) time)
+    → IsPlain (made name tags (field ∷ fields) time) → IsUtf8 (time_text text ++ [])
+    → IsUtf8 (line_spelling (written name tags field fields text))
+line_utf8 name tags field fields time text is plain timed =
+    let others = IsUtf8-append (pairs_text (map written_field fields)) (time_text text ++ [])
+    (fields_utf8 fields (is.fields).1 (plain.fields).1) timed in
     let first = IsUtf8-append (pair_text (written_field field)) _ (field_utf8 field (is.fields).0 (plain.fields).0)
     others in
     let behind_tags = IsUtf8-append (32 ∷ []) _ (one_ascii 32 (omega arith)) first in
@@ -338,20 +354,44 @@ line_utf8 name tags field fields time is plain =
     (escaped-IsUtf8 (codes ", ") name_low name is.name.utf8) in
     IsUtf8-append (name_text name) _ front behind_name
 
--- the line of a metric is the metric's
-content_is : (m : Content) → IsMetric m → content_of (record
-    { name = m.name; tags = m.tags; fields = m.fields; time = m.time }) ≡ m
-content_is m is =
+spaced_utf8 : (time : ℤ) → FitsSigned w64 time → IsUtf8 (time_text (spaced_time time) ++ [])
+spaced_utf8 time fits =
+    IsUtf8-append (32 ∷ signed_decimal time) [] (IsUtf8-append (32 ∷ []) (signed_decimal time)
+    (one_ascii 32 (omega arith)) (plain_time time fits).clean.utf8) utf8_none
+
+-- the line of a metric is the metric's, but for the time
+content_is : (m : Content) (time : ℤ) → IsMetric m → content_of (record
+    { name = m.name; tags = m.tags; fields = m.fields; time = time }) ≡ record m { time = time }
+content_is m time is =
     let tags : with_values (in_key_order m.tags) ≡ m.tags = ap with_values (sorted_stay m.tags is.sorted)
     ∙ filled_stay m.tags is.tags in
     let fields : in_first_order m.fields ≡ m.fields = distinct_stay m.fields is.distinct in
-    ap (λ (ts : List Tag). record { name = m.name; tags = ts; fields = in_first_order m.fields; time = m.time }) tags
-    ∙ ap (λ (fs : List Field). record { name = m.name; tags = m.tags; fields = fs; time = m.time }) fields
+    ap (λ (ts : List Tag). record { name = m.name; tags = ts; fields = in_first_order m.fields; time = time }) tags
+    ∙ ap (λ (fs : List Field). record { name = m.name; tags = m.tags; fields = fs; time = time }) fields
 
--- what is told of a metric's line
+-- a line is read as the metric of these parts, at the time that its text says
+read_so : (name : List ℕ) (tags : List Tag) (field : Field) (fields : List Field) (time : ℤ)
+    (text : Option (ℕ × List ℕ)) (read moment : ℤ) → IsMetric (made name tags (field ∷ fields) time)
+    → IsPlain (made name tags (field ∷ fields) time) → IsTime text read moment → IsUtf8 (time_text text ++ [])
+    → reading (line_spelling (written name tags field fields text)) moment
+    ≡ Ok (Some (made name tags (field ∷ fields) read))
+read_so name tags field fields time text read moment is plain says timed =
+    let line : Line = record { name = name; tags = tags; fields = field ∷ fields; time = read } in
+    let count = few tags (field ∷ fields) (sorted_stay tags is.sorted) (distinct_stay (field ∷ fields) is.distinct)
+    plain.few_tags plain.few_fields in
+    written_is_read (written name tags field fields text) line moment
+    (line_is_line name tags field fields time text read moment is plain says)
+    (line_utf8 name tags field fields time text is plain timed) count
+    ∙ ap (λ (content : Content). Ok (Some content)) (content_is (made name tags (field ∷ fields) time) read is)
+
+-- what is told of a metric's line, and of its line without a time
 abbrev Told : Content → ℤ → Type 0
 Told m moment = (line : List ℕ) × (line_text m ≡ line ++ codes "\n") × HasNone ends_line line
     × (reading line moment ≡ Ok (Some m))
+
+abbrev ToldUntimed : Content → ℤ → Type 0
+ToldUntimed m moment = (line : List ℕ) × (untimed_text m ≡ line ++ codes "\n") × HasNone ends_line line
+    × (reading line moment ≡ Ok (Some (record m { time = moment })))
 
 told : (name : List ℕ) (tags : List Tag) (fields : List Field) (time moment : ℤ) → IsMetric (made name tags fields time)
     → IsPlain (made name tags fields time)
@@ -360,22 +400,33 @@ unfolding line_text
 told name tags [] time moment is plain = absurd (omega (arith, is.some))
 told name tags (field ∷ fields) time moment is plain =
     let m = made name tags (field ∷ fields) time in
-    let line : Line = record { name = name; tags = tags; fields = field ∷ fields; time = time } in
-    let w = written name tags field fields time in
-    let count = few tags (field ∷ fields) (sorted_stay tags is.sorted) (distinct_stay (field ∷ fields) is.distinct)
-    plain.few_tags plain.few_fields in
-    let read = written_is_read w line moment (line_is_line name tags field fields time moment is plain)
-    (line_utf8 name tags field fields time is plain) count in
-    let same = line_is_spelled name tags field fields time in
-    let one = single m is in (
+    let t = plain_time time is.time in (
       (head_text m ++ codes " ") ++ signed_decimal time,
       refl,
-      one,
-      ap (λ (l : List ℕ). reading l moment) same ∙ read ∙ ap (λ (content : Content). Ok (Some content))
-          (content_is m is),
+      single m is,
+      ap (λ (l : List ℕ). reading l moment) (line_is_spelled name tags field fields time)
+          ∙ read_so name tags field fields time (spaced_time time) time moment is plain (omega arith, t.none, t.is)
+          (spaced_utf8 time is.time),
+    )
+
+told_untimed : (name : List ℕ) (tags : List Tag) (fields : List Field) (time moment : ℤ)
+    → IsMetric (made name tags fields time) → IsPlain (made name tags fields time)
+    → ToldUntimed (made name tags fields time) moment
+unfolding untimed_text
+told_untimed name tags [] time moment is plain = absurd (omega (arith, is.some))
+told_untimed name tags (field ∷ fields) time moment is plain =
+    let m = made name tags (field ∷ fields) time in (
+      head_text m,
+      refl,
+      none_head m is,
+      ap (λ (l : List ℕ). reading l moment) (head_is_spelled name tags field fields time)
+          ∙ read_so name tags field fields time None moment moment is plain refl utf8_none,
     )
 
 pub is_read_back : (m : Content) (moment : ℤ) → IsMetric m → IsPlain m
     → (line : List ℕ) × (line_text m ≡ line ++ codes "\n") × HasNone ends_line line
     × (reading line moment ≡ Ok (Some m))
 is_read_back m moment is plain = told m.name m.tags m.fields m.time moment is plain
+
+pub untimed_is_read_back : UntimedIsReadBack
+untimed_is_read_back m moment is plain = told_untimed m.name m.tags m.fields m.time moment is plain

@@ -120,7 +120,7 @@ none_fields (field ∷ fields) h = none_append ends_line (field_text field)
     (flat_map (λ (field : Field). codes "," ++ field_text field) fields) (none_field field (h.0).1)
     (none_others fields h.1)
 
-none_head : (m : Content) → IsMetric m → HasNone ends_line (head_text m)
+pub none_head : (m : Content) → IsMetric m → HasNone ends_line (head_text m)
 unfolding head_text
 none_head m h =
     none_append ends_line ((name_text m.name ++ flat_map tag_text m.tags) ++ 32 ∷ [])

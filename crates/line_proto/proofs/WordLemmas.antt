@@ -1,6 +1,8 @@
 -- Texts of plain bytes are written as they are.
 use Rattle.std.proofs.Common.{◌≡◌, ◌==◌, ◌-◌, ◌<◌, ℕ, zero, suc, true, false, List, [], ◌∷◌, length, take, get_or, refl}
-use Rattle.std.proofs.Common.{sym, ap, ◌∙◌}
+use Rattle.std.proofs.Common.{sym, ap, ◌∙◌, arith}
+use Rattle.std.proofs.lemmas.List.{take_all}
+use Rattle.std.proofs.lemmas.List.Sums.{suffix_len_is}
 use Rattle.std.specs.Prelude.{codes}
 use Rattle.std.specs.List.{list_all, suffix_len}
 use Rattle.std.proofs.lemmas.Bool.{and_parts, ne_eqb}
@@ -94,6 +96,22 @@ front_plain (suc n) (b ∷ bs) h =
 kept_plain : (text kept : List ℕ) → kept ≡ trimmed text → list_all is_plain text ≡ true → list_all is_plain kept ≡ true
 kept_plain text kept is h =
     ap (list_all is_plain) is ∙ front_plain (length text - suffix_len (λ b. b == 92) text) text h
+
+plain_at : (text : List ℕ) (n : ℕ) → list_all is_plain text ≡ true → n < length text
+    → is_plain (get_or text n 0) ≡ true
+plain_at [] n h b = absurd (omega (arith, b))
+plain_at (c ∷ cs) zero h b = (and_parts (is_plain c) (list_all is_plain cs) h).0
+plain_at (c ∷ cs) (suc n) h b = plain_at cs n (and_parts (is_plain c) (list_all is_plain cs) h).1 (omega (arith, b))
+
+-- a plain text has no backslash at its end
+pub plain_trimmed : (text : List ℕ) → list_all is_plain text ≡ true → trimmed text ≡ text
+plain_trimmed text h =
+    let none : suffix_len (λ b. b == 92) text ≡ length text - length text =
+    suffix_len_is (λ b. b == 92) text (length text) 0 (omega arith)
+    (λ k least below. absurd (omega (arith, least, below)))
+    (λ some. apart (get_or text (length text - 1) 0) 92
+    (plain_at text (length text - 1) h (omega (arith, some))) no_backslash) in
+    take_all (length text - suffix_len (λ b. b == 92) text) text (omega (arith, none))
 
 pub word_key : (key kept : List ℕ) → kept ≡ trimmed key → 0 < length kept → list_all is_plain key ≡ true
     → kept ≡ key_text key

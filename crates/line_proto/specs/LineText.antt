@@ -76,3 +76,7 @@ head_text m =
 -- a metric's line
 unfoldable pub line_text : Content → List ℕ
 line_text m = head_text m ++ codes " " ++ signed_decimal m.time ++ codes "\n"
+
+-- and its line without a time
+unfoldable pub untimed_text : Content → List ℕ
+untimed_text m = head_text m ++ codes "\n"

@@ -9,7 +9,7 @@ use Rattle.metric.specs.declared.metric.Content.{Content}
 use Rattle.text_parts.specs.Grammar.{HasNone}
 use Rattle.metric.specs.Draft.{Tag, Field}
 use Rattle.line_proto.specs.Grammar.{NoHash}
-use Rattle.line_proto.specs.LineText.{line_text}
+use Rattle.line_proto.specs.LineText.{line_text, untimed_text}
 use Rattle.line_proto.specs.OneLine.{ends_line}
 use Rattle.line_proto.specs.Reading.{reading}
 
@@ -41,6 +41,12 @@ abbrev pub MetricIsReadBack : Type 0
 MetricIsReadBack = (m : Content) (moment : ℤ) → IsMetric m → IsPlain m
     → (line : List ℕ) × (line_text m ≡ line ++ codes "\n") × HasNone ends_line line
     × (reading line moment ≡ Ok (Some m))
+
+-- so is its text without a time, which is read as the metric at the moment that is given
+abbrev pub UntimedIsReadBack : Type 0
+UntimedIsReadBack = (m : Content) (moment : ℤ) → IsMetric m → IsPlain m
+    → (line : List ℕ) × (untimed_text m ≡ line ++ codes "\n") × HasNone ends_line line
+    × (reading line moment ≡ Ok (Some (record m { time = moment })))
 
 -- what is read of a piece in one line is plain
 abbrev pub ReadIsPlain : Type 0

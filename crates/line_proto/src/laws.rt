@@ -2,7 +2,7 @@
 ghost use Rattle.line_proto.specs.Faults.{FaultIsWithin, FaultSays};
 ghost use Rattle.line_proto.specs.Grammar.{WrittenIsRead, ReadIsWritten, SaysAtMost};
 ghost use Rattle.line_proto.specs.OneLine.{MetricIsOneLine};
-ghost use Rattle.line_proto.specs.RoundTrip.{MetricIsReadBack, ReadIsPlain};
+ghost use Rattle.line_proto.specs.RoundTrip.{MetricIsReadBack, ReadIsPlain, UntimedIsReadBack};
 
 /// What is written as a line is read as its metric.
 pub fn written_is_read()
@@ -22,6 +22,11 @@ pub fn metric_is_one_line()
 /// The line of a plain metric is read as the metric.
 pub fn metric_is_read_back()
     ensures { MetricIsReadBack }
+{}
+
+/// The line of a plain metric without its time is read as the metric at the moment that is given.
+pub fn untimed_is_read_back()
+    ensures { UntimedIsReadBack }
 {}
 
 /// A fault's offset is in the piece, or its length.

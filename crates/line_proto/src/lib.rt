@@ -12,7 +12,7 @@ mod write;
 pub use fault::{LineFault, LineKind};
 pub use laws::{
     fault_is_within, fault_says, metric_is_one_line, metric_is_read_back, read_is_plain,
-    read_is_written, says_at_most, written_is_read,
+    read_is_written, says_at_most, untimed_is_read_back, written_is_read,
 };
 pub use read::read_line;
-pub use write::write_line;
+pub use write::{write_line, write_untimed};

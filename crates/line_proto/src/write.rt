@@ -4,7 +4,7 @@ ghost use Rattle.std.specs.List.{list_all, join_by};
 ghost use Rattle.metric.specs.Plain.{is_plain};
 ghost use Rattle.line_proto.specs.OneLine.{ends_line};
 ghost use Rattle.line_proto.specs.LineText.{spaced, on_one_line, trimmed, text_escapes, name_text, key_text};
-ghost use Rattle.line_proto.specs.LineText.{value_text, tag_text, field_text, head_text, line_text};
+ghost use Rattle.line_proto.specs.LineText.{value_text, tag_text, field_text, head_text, line_text, untimed_text};
 ghost use Rattle.text_parts.specs.Escaped.{escaped};
 ghost use Rattle.text_parts.specs.Marks.{escapes_of};
 ghost use Rattle.text_parts.specs.Adds.{Adds};
@@ -31,6 +31,17 @@ pub fn write_line(alloc: Global, metric: &Metric, out: &mut Vec<u8>) -> Result<(
     settle(out, before, written)
 }
 
+/// Appends a metric's line without its time: `measurement,key=value.. field=value,..` and a newline, each as `write_line`
+/// writes it. Who reads it gives it the moment at which it is read. After OutOfMemory `out` is as before.
+pub fn write_untimed(alloc: Global, metric: &Metric, out: &mut Vec<u8>) -> Result<(), OutOfMemory>
+    ensures ok { OnOk result (out.new.items ≡ out.old.items ++ untimed_text metric.now) }
+    ensures err { OnErr result (out.new.items ≡ out.old.items) }
+{
+    let before = out.len();
+    let written = append_untimed(alloc, metric, out);
+    settle(out, before, written)
+}
+
 /// Bytes for which room is made before a line is written, so that most lines grow the text once at most.
 const LIKELY: usize = 256;
 
@@ -41,6 +52,16 @@ fn append_metric(alloc: Global, metric: &Metric, out: &mut Vec<u8>) -> Result<()
     out.reserve(LIKELY)?;
     append_head(alloc, metric, out)?;
     append_signed(out, " ", &metric.time())?;
+    out.push(b'\n')?;
+    Ok(())
+}
+
+#[tactic(auto, unfolding(crate::specs::LineText::untimed_text))]
+fn append_untimed(alloc: Global, metric: &Metric, out: &mut Vec<u8>) -> Result<(), OutOfMemory>
+    ensures { Adds result out.old.items out.new.items (untimed_text metric.now) }
+{
+    out.reserve(LIKELY)?;
+    append_head(alloc, metric, out)?;
     out.push(b'\n')?;
     Ok(())
 }
@@ -252,7 +273,7 @@ fn append_in_line(out: &mut Vec<u8>, marks: &Marks, text: &[u8]) -> Result<(), O
     Ok(())
 }
 
-/// Appends a part of a text in one line with its marks escaped, of which a plain text has none.
+/// Appends a part of a text in one line with its marks escaped. Of a plain text the part is all, and has none of them.
 #[inline(always)]
 fn append_part(
     out: &mut Vec<u8>,
@@ -261,12 +282,12 @@ fn append_part(
     part: &[u8],
 ) -> Result<(), OutOfMemory>
     requires { list_all is_plain text.now ≡ true
-        → escaped (escapes_of marks.now) (on_one_line part.now) ≡ part.now }
+        → escaped (escapes_of marks.now) (on_one_line part.now) ≡ text.now }
     ensures { Adds result out.old.items out.new.items
         (escaped (escapes_of marks.now) (on_one_line part.now)) }
 {
     if text.is_known_plain() {
-        return Ok(out.extend_from_slice(part)?);
+        return text.append(out);
     }
     append_in_line(out, marks, part)
 }

@@ -1,6 +1,7 @@
 //! Short texts that stand in place.
-ghost use Rattle.std.specs.Prelude.{◌≡◌, ◌≤◌, true, length, take};
+ghost use Rattle.std.specs.Prelude.{◌≡◌, ◌≤◌, ◌++◌, true, length, take, OnErr, OnOk};
 
+use fixed_num::OutOfMemory;
 use std::marker::Model;
 use std::{fmt, str};
 
@@ -47,6 +48,19 @@ impl InPlace {
     {
         let (bytes, _) = self.cells.split_at(self.len as usize);
         unsafe { str::from_utf8_unchecked(bytes) }
+    }
+
+    /// Appends the text. All cells are copied, so that the copy has one size, and what stands behind the text is cut off.
+    /// `OutOfMemory` leaves `out` as it was.
+    #[inline(always)]
+    pub fn append(&self, out: &mut Vec<u8>) -> Result<(), OutOfMemory>
+        ensures ok { OnOk result (out.new.items ≡ out.old.items ++ self.now) }
+        ensures err { OnErr result (out.new.items ≡ out.old.items) }
+    {
+        let end = out.len() + self.len as usize;
+        out.extend_from_slice(&self.cells)?;
+        out.truncate(end);
+        Ok(())
     }
 
     /// An equal text.

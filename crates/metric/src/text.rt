@@ -1,5 +1,5 @@
 //! UTF-8 text that contracts see as its bytes.
-ghost use Rattle.std.specs.Prelude.{◌≡◌, true, IfOk, nat_eq};
+ghost use Rattle.std.specs.Prelude.{◌≡◌, ◌++◌, true, IfOk, OnErr, OnOk, nat_eq};
 ghost use Rattle.std.specs.List.{list_all};
 ghost use Rattle.metric.specs.Text.{kept_bytes, IsKept};
 ghost use Rattle.metric.specs.Plain.{is_plain};
@@ -125,6 +125,18 @@ impl Text {
         }
     }
 
+    /// Appends the text. `OutOfMemory` leaves `out` as it was.
+    #[inline(always)]
+    pub fn append(&self, out: &mut Vec<u8>) -> Result<(), OutOfMemory>
+        ensures ok { OnOk result (out.new.items ≡ out.old.items ++ self.now) }
+        ensures err { OnErr result (out.new.items ≡ out.old.items) }
+    {
+        match &self.kept {
+            Kept::PlainShort(text) | Kept::Short(text) => text.append(out),
+            Kept::Long(text) => append_long(text.text.as_str(), out),
+        }
+    }
+
     /// Whether the text is known to have plain bytes alone: letters, digits and `_ . - :`. A long one that was made of
     /// a string isn't looked at.
     pub fn is_known_plain(&self) -> bool
@@ -136,6 +148,16 @@ impl Text {
             Kept::Long(text) => text.plain,
         }
     }
+}
+
+/// Appends a long text, apart from the code of short ones.
+#[inline(never)]
+fn append_long(text: &str, out: &mut Vec<u8>) -> Result<(), OutOfMemory>
+    ensures ok { OnOk result (out.new.items ≡ out.old.items ++ text.now) }
+    ensures err { OnErr result (out.new.items ≡ out.old.items) }
+{
+    out.extend_from_slice(text.as_bytes())?;
+    Ok(())
 }
 
 /// A text that stands in place.

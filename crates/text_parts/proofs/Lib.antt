@@ -9,6 +9,7 @@ pub mod Escaping
 pub mod Splits
 pub mod Each
 pub mod WordTexts
+pub mod DigitLemmas
 pub mod Lacking
 pub mod Founds
 pub mod Stands

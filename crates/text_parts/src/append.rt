@@ -40,24 +40,31 @@ pub fn append_numbers(
     Ok(())
 }
 
-/// Appends a number in decimal digits.
+/// How many digits a number of 64 bits has at most.
+const MOST_DIGITS: usize = 20;
+
+/// Appends a number in decimal digits. As many bytes are copied whatever the number, so that the copy has one size, and
+/// what stands behind the digits is cut off.
 #[inline(never)]
 pub fn append_uint(out: &mut Vec<u8>, n: u64) -> Result<(), OutOfMemory>
     ensures { Adds result out.old.items out.new.items (decimal n) }
 {
-    let mut buffer = itoa::Buffer::new();
-    out.extend_from_slice(buffer.format(n).as_bytes())?;
+    let mut cells = [0; 2 * MOST_DIGITS];
+    let start = itoa::write_digits(n, &mut cells, MOST_DIGITS);
+    let end = out.len() + (MOST_DIGITS - start);
+    out.extend_from_slice(&cells[start..start + MOST_DIGITS])?;
+    out.truncate(end);
     Ok(())
 }
 
 /// Appends a number in decimal digits, with `-` before them where it is negative.
-#[inline(never)]
 pub fn append_int(out: &mut Vec<u8>, n: &i64) -> Result<(), OutOfMemory>
     ensures { Adds result out.old.items out.new.items (signed_decimal n.now) }
 {
-    let mut buffer = itoa::Buffer::new();
-    out.extend_from_slice(buffer.format(*n).as_bytes())?;
-    Ok(())
+    if *n < 0 {
+        out.push(b'-')?;
+    }
+    append_uint(out, n.unsigned_abs())
 }
 
 /// Appends words and a number.

@@ -10,7 +10,7 @@ pub append_part-requires : goal.append_part-requires
 append_part-requires c = λ plain.
     let same : c.as_bytes.result.now ≡ c.args.text.now = search rules in
     text_same (on_one_line c.as_bytes.result.now) ∙ ap (λ (text : List ℕ). escaped text_escapes (on_one_line text)) same
-    ∙ sym (word_quoted c.args.text.now plain) ∙ sym same
+    ∙ sym (word_quoted c.args.text.now plain)
 
 pub returns : goal.returns
 returns c =

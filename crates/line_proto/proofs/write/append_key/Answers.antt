@@ -5,7 +5,7 @@ use Rattle.line_proto.specs.LineText.{trimmed, on_one_line}
 use Rattle.text_parts.specs.Adds.{Adds}
 use Rattle.line_proto.proofs.WriteLemmas.{empty_key, kept_key}
 use Rattle.line_proto.proofs.EscapedParts.{key_same}
-use Rattle.line_proto.proofs.WordLemmas.{word_key}
+use Rattle.line_proto.proofs.WordLemmas.{plain_trimmed, word_key}
 use Rattle.line_proto.proofs.write.append_key.Goals as goal
 
 pub returns-then-is_empty : goal.returns-then-is_empty
@@ -21,6 +21,7 @@ append_part-requires c = λ plain.
     let some : length c.trim-kept.result.now ≡ 0 → ⊥ = eqb-false _ _ (sym c.is_empty.ensures ∙ c.if-is_empty.false) in
     key_same (on_one_line c.trim-kept.result.now) ∙ kept_key c.args.key.now c.trim-kept.result.now is (omega arith)
     ∙ sym (word_key c.args.key.now c.trim-kept.result.now is (omega arith) plain)
+    ∙ is ∙ plain_trimmed c.args.key.now plain
 
 pub returns : goal.returns
 returns c =

@@ -6,7 +6,7 @@ use Rattle.text_parts.specs.Escaped.{escaped}
 use Rattle.text_parts.specs.Adds.{Adds}
 use Rattle.line_proto.proofs.WriteLemmas.{empty_name, hashed_name, kept_name}
 use Rattle.line_proto.proofs.EscapedParts.{name_same}
-use Rattle.line_proto.proofs.WordLemmas.{word_name}
+use Rattle.line_proto.proofs.WordLemmas.{plain_trimmed, word_name}
 use Rattle.text_parts.proofs.Adding.{adds_after}
 use Rattle.line_proto.proofs.write.append_name.Goals as goal
 
@@ -39,6 +39,7 @@ append_part-requires c = λ plain.
     let no_hash = ne_eqb _ _ c.if-kept-eq35.false in
     name_same (on_one_line c.trim-kept.result.now) ∙ kept_name c.args.name.now c.trim-kept.result.now 0 is
     (omega arith) no_hash ∙ sym (word_name c.args.name.now c.trim-kept.result.now is (omega arith) no_hash plain)
+    ∙ is ∙ plain_trimmed c.args.name.now plain
 
 pub returns : goal.returns
 returns c =

@@ -17,7 +17,7 @@ use crate::parts::{
 use crate::processors::{
     append_converted, append_deduplicated, append_pattern, append_renamed, append_rewritten,
 };
-use crate::written::{append_batch, append_lines, append_made};
+use crate::written::{append_batch, append_lines, append_made, append_untimed};
 use fixed_num::{read_int, read_uint};
 use scenario_tables::Row;
 use std::alloc::Global;
@@ -58,6 +58,7 @@ fn answer_text(
     match key {
         "templates" => append_template(alloc, piece, out),
         "written" => append_made(alloc, row, piece, out),
+        "untimed" => append_untimed(alloc, piece, out),
         "graphite_written" => append_lines(alloc, piece, out),
         "openmetrics_written" => append_batch(alloc, piece, out),
         "metrics" => append_metric(alloc, row, piece, out),

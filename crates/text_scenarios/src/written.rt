@@ -1,6 +1,6 @@
 //! How metrics are written.
 use crate::metrics::built;
-use line_proto::{read_line, write_line};
+use line_proto::{read_line, write_line, write_untimed};
 use metric::Metric;
 use scenario_tables::Row;
 use std::alloc::Global;
@@ -38,6 +38,15 @@ fn append_new(text: &[u8], out: &mut Vec<u8>) -> Result<(), Fail> {
         None => out.extend_from_slice(b"the old text is gone\n")?,
     }
     Ok(())
+}
+
+/// Appends the lines of metrics without their times.
+pub fn append_untimed(alloc: Global, lines: &str, out: &mut Vec<u8>) -> Result<(), Fail> {
+    let mut text = Vec::from_slice(alloc, OLD)?;
+    for metric in &metrics_of(alloc, lines)? {
+        write_untimed(alloc, metric, &mut text)?;
+    }
+    append_new(text.as_slice(), out)
 }
 
 /// Appends the lines of Graphite of metrics.

@@ -7,9 +7,8 @@ use Rattle.metric.specs.Plain.{is_plain}
 use Rattle.journal_text.specs.MetricText.{byte_text, escaped}
 use Rattle.std.proofs.Common.{◌≤◌, length-take}
 use Rattle.std.proofs.lemmas.Grind.{common_steps}
-use Rattle.std.proofs.Math.Seq.{take-append_seam, take-length}
-use Rattle.std.specs.Prelude.{Result, Ok, Err, OnErr, OnOk}
-use Rattle.text_parts.specs.Adds.{Adds, Extends}
+use Rattle.std.proofs.Math.Seq.{take-append_seam}
+use Rattle.text_parts.specs.Adds.{Extends}
 
 -- what was appended leaves the old text at the front
 pub extends_by : (old new more : List ℕ) → new ≡ old ++ more → Extends old new
@@ -115,9 +114,3 @@ plain_text (b ∷ bs) all = elim (is_plain b) as (λ t. is_plain b ≡ t → esc
   | true ↦ λ plain. plain_more b bs plain (plain_text bs (rw plain at all))
   | false ↦ λ no. let none : false ≡ true = rw no at all in absurd (cc)
 ] refl
-
--- a text was appended, or nothing
-pub appended : {E : Type 0} (result : Result (Unit {0}) E) (old new text : List ℕ) → OnOk result (new ≡ old ++ text)
-    → OnErr result (new ≡ old) → Adds result old new text
-appended (Ok done) old new text ok err = ok
-appended (Err fault) old new text ok err = ap (take (length old)) err ∙ take-length old

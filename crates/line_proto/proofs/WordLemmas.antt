@@ -119,6 +119,12 @@ word_key key kept is some h =
     sym (bare_text (codes ",= ") kept (all_bare (codes ",= ") kept bare_key (kept_plain key kept is h)))
     ∙ kept_key key kept is some
 
+-- a plain key is written as it is
+pub plain_key : (key : List ℕ) → 0 < length key → list_all is_plain key ≡ true → key_text key ≡ key
+plain_key key some h =
+    let all = plain_trimmed key h in
+    sym (word_key key (trimmed key) refl (omega (arith, some, ap length all)) h) ∙ all
+
 pub word_name : (name kept : List ℕ) → kept ≡ trimmed name → 0 < length kept → (get_or kept 0 0 == 35) ≡ false
     → list_all is_plain name ≡ true
     → kept ≡ name_text name

@@ -200,15 +200,38 @@ fn append_name(name: &Text, out: &mut Vec<u8>) -> Result<(), OutOfMemory>
 }
 
 /// Appends a key or the value of a tag.
-#[tactic(auto, unfolding(crate::specs::LineText::key_text))]
 fn append_key(key: &Text, out: &mut Vec<u8>) -> Result<(), OutOfMemory>
+    ensures { Adds result out.old.items out.new.items (key_text key.now) }
+{
+    if key.is_known_plain() {
+        return append_plain_key(key, out);
+    }
+    append_any_key(key, out)
+}
+
+/// The same, of a plain text, in which nothing is escaped and left out.
+#[inline(always)]
+fn append_plain_key(key: &Text, out: &mut Vec<u8>) -> Result<(), OutOfMemory>
+    requires { list_all is_plain key.now ≡ true }
+    ensures { Adds result out.old.items out.new.items (key_text key.now) }
+{
+    if key.as_str().is_empty() {
+        return Ok(out.push(b'_')?);
+    }
+    key.append(out)
+}
+
+/// The same, of any text.
+#[inline(never)]
+#[tactic(auto, unfolding(crate::specs::LineText::key_text))]
+fn append_any_key(key: &Text, out: &mut Vec<u8>) -> Result<(), OutOfMemory>
     ensures { Adds result out.old.items out.new.items (key_text key.now) }
 {
     let kept = trim(key.as_str().as_bytes());
     if kept.is_empty() {
         return Ok(out.push(b'_')?);
     }
-    append_part(out, &KEY_MARKS, key, kept)
+    append_in_line(out, &KEY_MARKS, kept)
 }
 
 /// The text without the backslashes at its end.

@@ -2,8 +2,8 @@
 use Rattle.std.proofs.Common.{◌≡◌, ◌≤◌, ℕ, List, ◌++◌, length, take, sym, ap, ◌∙◌}
 use Rattle.std.proofs.Common.{arith, append_assoc, length-append, rules}
 use Rattle.std.proofs.lemmas.Grind.{common_steps}
-use Rattle.std.proofs.Math.Seq.{take-append_seam}
-use Rattle.std.specs.Prelude.{Result, Ok, Err, IsErr}
+use Rattle.std.proofs.Math.Seq.{take-append_seam, take-length}
+use Rattle.std.specs.Prelude.{Result, Ok, Err, IsErr, OnErr, OnOk}
 use Rattle.text_parts.specs.Adds.{Adds, Extends}
 
 -- what stood at the front of what stands at the front
@@ -19,6 +19,12 @@ pub fails : {E : Type 0} (result : Result (Unit {0}) E) (old new text : List ℕ
     → IsErr result → Extends old new → Adds result old new text
 fails (Ok done) old new text e h = search rules
 fails (Err fault) old new text e h = h
+
+-- a text was appended, or nothing
+pub appended : {E : Type 0} (result : Result (Unit {0}) E) (old new text : List ℕ) → OnOk result (new ≡ old ++ text)
+    → OnErr result (new ≡ old) → Adds result old new text
+appended (Ok done) old new text ok err = ok
+appended (Err fault) old new text ok err = ap (take (length old)) err ∙ take-length old
 
 -- one text after another
 pub after : (old mid new front back : List ℕ)

@@ -1,7 +1,8 @@
 use Rattle.std.proofs.Common.{◌≡◌, ◌++◌, List, ℕ, sym, subst}
 use Rattle.std.specs.Prelude.{OnOk}
 use Rattle.journal_text.specs.MetricText.{escaped}
-use Rattle.journal_text.proofs.MetricLemmas.{appended, plain_text}
+use Rattle.text_parts.proofs.Adding.{appended}
+use Rattle.journal_text.proofs.MetricLemmas.{plain_text}
 use Rattle.journal_text.proofs.metrics.append_text.Goals as goal
 
 pub returns-then-is_known_plain : goal.returns-then-is_known_plain

@@ -5,8 +5,7 @@ use Rattle.line_proto.specs.LineText.{trimmed, on_one_line}
 use Rattle.text_parts.specs.Adds.{Adds}
 use Rattle.line_proto.proofs.WriteLemmas.{empty_key, kept_key}
 use Rattle.line_proto.proofs.EscapedParts.{key_same}
-use Rattle.line_proto.proofs.WordLemmas.{plain_trimmed, word_key}
-use Rattle.line_proto.proofs.write.append_key.Goals as goal
+use Rattle.line_proto.proofs.write.append_any_key.Goals as goal
 
 pub returns-then-is_empty : goal.returns-then-is_empty
 returns-then-is_empty c =
@@ -15,18 +14,10 @@ returns-then-is_empty c =
     c.in_ok-push.ensures.items ∙ ap (λ text. c.args.out.now.items ++ text)
     (sym (empty_key c.args.key.now c.trim-kept.result.now is none))
 
-pub append_part-requires : goal.append_part-requires
-append_part-requires c = λ plain.
-    let is = c.trim-kept.ensures ∙ ap trimmed (c.as_bytes.ensures.value ∙ c.as_str.ensures) in
-    let some : length c.trim-kept.result.now ≡ 0 → ⊥ = eqb-false _ _ (sym c.is_empty.ensures ∙ c.if-is_empty.false) in
-    key_same (on_one_line c.trim-kept.result.now) ∙ kept_key c.args.key.now c.trim-kept.result.now is (omega arith)
-    ∙ sym (word_key c.args.key.now c.trim-kept.result.now is (omega arith) plain)
-    ∙ is ∙ plain_trimmed c.args.key.now plain
-
 pub returns : goal.returns
 returns c =
     let is = c.trim-kept.ensures ∙ ap trimmed (c.as_bytes.ensures.value ∙ c.as_str.ensures) in
     let some : length c.trim-kept.result.now ≡ 0 → ⊥ = eqb-false _ _ (sym c.is_empty.ensures ∙ c.if-is_empty.false) in
-    subst (λ (text : List ℕ). Adds c.append_part.result c.args.out.now.items c.append_part.new.out.items text)
+    subst (λ (text : List ℕ). Adds c.append_in_line.result c.args.out.now.items c.append_in_line.new.out.items text)
     (key_same (on_one_line c.trim-kept.result.now) ∙ kept_key c.args.key.now c.trim-kept.result.now is (omega arith))
-    c.append_part.ensures
+    c.append_in_line.ensures

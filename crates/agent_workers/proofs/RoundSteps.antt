@@ -32,7 +32,7 @@ use Rattle.agent_workers.proofs.OutLemmas.{are_anew}
 use Rattle.agent_workers.proofs.ProgressLemmas.{carried, went_anew, went_next, went_timed}
 use Rattle.agent_base.specs.Moments.{Waits}
 use Rattle.std.specs.Prelude.{◌||◌, ◌+◌, if◌then◌else◌}
-use Rattle.agent_workers.specs.Progress.{still_after, still_flushed, RoutesWhere, TellsOn}
+use Rattle.agent_workers.specs.Progress.{routing, still_after, still_flushed, RoutesWhere, TellsOn}
 use Rattle.agent_workers.specs.Rounds.{still_behind}
 use Rattle.agent_workers.specs.declared.output.Flush.{Flush}
 use Rattle.agent_workers.specs.declared.rounds.Round.{Round}
@@ -62,8 +62,8 @@ stays_then before after core next made h = λ t. (t, made (h t).1)
 -- more items were routed, and the entries spelled
 pub routes_more : (first old routed new : CoreState) (proc0 proc new_proc : ProcPart)
     (part0 part new_part : JournalPart) → (AllMade first.made → AllMade old.made)
-    → RoutesOn first old proc0 proc part0 part → GoesOn old routed proc new_proc
-    → NotesRun routed new part new_part → RoutesOn first new proc0 new_proc part0 new_part
+    → RoutesOn (routing first proc0 part0) (routing old proc part) → GoesOn old routed proc new_proc
+    → NotesRun routed new part new_part → RoutesOn (routing first proc0 part0) (routing new new_proc new_part)
 routes_more first old routed new proc0 proc new_proc part0 part new_part made routes goes notes =
     λ start now ticked anew stays w.
     notes start (record now { proc = new_proc; ticked = ticked; still = 0 })
@@ -72,8 +72,9 @@ routes_more first old routed new proc0 proc new_proc part0 part new_part made ro
 
 -- the last items were routed
 pub routes_last : (first old new : CoreState) (proc0 proc new_proc : ProcPart) (part0 part : JournalPart)
-    → (AllMade first.made → AllMade old.made) → RoutesOn first old proc0 proc part0 part → GoesOn old new proc new_proc
-    → RoutesOn first new proc0 new_proc part0 part
+    → (AllMade first.made → AllMade old.made) → RoutesOn (routing first proc0 part0) (routing old proc part)
+    → GoesOn old new proc new_proc
+    → RoutesOn (routing first proc0 part0) (routing new new_proc part)
 routes_last first old new proc0 proc new_proc part0 part made routes goes = λ start now ticked anew stays w.
     goes start (record now { journal = part; ticked = ticked; still = 0 }) ticked anew
     (stays_then now.ticked ticked first old made stays) (routes start now ticked anew stays w)
@@ -89,8 +90,9 @@ goes_more first old new proc0 proc new_proc made routes goes = λ start now tick
 -- windows were closed at a moment of the timer, and what they made was routed
 pub ticks_routed : (made : Bool) (core mid new : CoreState) (proc new_proc : ProcPart) (part new_part : JournalPart)
     (timer new_timer : Timed) (moment : ℤ) → IsTickedAt moment core mid → AllMade mid.made
-    → Gives timer.moments timer.next new_timer.next moment → RoutesWhere made mid new proc new_proc part new_part
-    → TicksOn made core new proc new_proc part new_part timer new_timer
+    → Gives timer.moments timer.next new_timer.next moment → RoutesWhere made (routing mid proc part)
+    (routing new new_proc new_part)
+    → TicksOn made (routing core proc part) (routing new new_proc new_part) timer new_timer
 ticks_routed made core mid new proc new_proc part new_part timer new_timer moment ticks all gives routes =
     λ start now anew w.
     let counts : List ℤ = now.counted_at ++ int_max moment (last_of start.start now.counted_at) ∷ [] in
@@ -103,7 +105,7 @@ ticks_routed made core mid new proc new_proc part new_part timer new_timer momen
 
 -- there are no aggregators, so no tick has to come
 pub ticks_none : (core : CoreState) (proc : ProcPart) (part : JournalPart) (timer : Timed) → HasNoAggs core.setup
-    → TicksOn false core core proc proc part part timer timer
+    → TicksOn false (routing core proc part) (routing core proc part) timer timer
 ticks_none core proc part timer none = λ start now anew w. record {
   counted_now = now.counted_at;
   counts = λ first h. h;
@@ -112,13 +114,14 @@ ticks_none core proc part timer none = λ start now anew w. record {
 
 -- items were routed where some were raw
 pub routes_some : (core new : CoreState) (proc new_proc : ProcPart) (part new_part : JournalPart)
-    → RoutesOn core new proc new_proc part new_part → RoutesWhere true core new proc new_proc part new_part
+    → RoutesOn (routing core proc part) (routing new new_proc new_part) → RoutesWhere true (routing core proc part)
+    (routing new new_proc new_part)
 routes_some core new proc new_proc part new_part routes = λ start now ticked anew stays w.
     routes start now ticked anew stays w
 
 -- and none was
 pub routes_none : (core : CoreState) (proc : ProcPart) (part : JournalPart)
-    → RoutesWhere false core core proc proc part part
+    → RoutesWhere false (routing core proc part) (routing core proc part)
 routes_none core proc part = λ start now ticked anew stays w.
     went_unticked start (record now { core = core; proc = proc; journal = part }) ticked (λ t. (stays t).0) w
 
@@ -155,8 +158,9 @@ pub round_runs : (old last : RunState) (accepted routed made : Bool) (sweep : Fl
     (mid_part tick_part : JournalPart) → round.moved ≡ (accepted || routed || made || sweep.accepted)
     → round.left ≡ not sweep.emptied → old.next ≡ 0 → old.ticked ≡ true → last.next ≡ 0 → last.ticked ≡ true
     → GathersOn accepted old.core gathered old.ins last.ins → fresh ≡ map anew old.outs
-    → RoutesWhere routed gathered worked old.proc mid_proc old.journal mid_part
-    → TicksOn made worked ticked mid_proc last.proc mid_part tick_part old.timer last.timer → ticked.raw ≡ []
+    → RoutesWhere routed (routing gathered old.proc old.journal) (routing worked mid_proc mid_part)
+    → TicksOn made (routing worked mid_proc mid_part) (routing ticked last.proc tick_part) old.timer last.timer
+    → ticked.raw ≡ []
     → SendsOn (still_flushed sweep) ticked sent fresh last.outs → NotesRun sent noted tick_part last.journal
     → TellsOn noted last.core → RunsOn (still_behind round) old last
 round_runs old last accepted routed made sweep round gathered worked ticked sent noted mid_proc fresh mid_part tick_part

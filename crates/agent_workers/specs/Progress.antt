@@ -174,25 +174,31 @@ GoesOn old new proc new_proc = (start : Beginning) (now : RunState) (ticked : Bo
     → Progress start (record now { core = old; proc = proc })
     → Progress start (record now { core = new; proc = new_proc; ticked = ticked; still = 0 })
 
+-- what routing moves on: the core, what routes, and the journal's part
+pub record Routing : Type 0 where
+  pub core : CoreState
+  pub proc : ProcPart
+  pub journal : JournalPart
+
+abbrev pub routing : CoreState → ProcPart → JournalPart → Routing
+routing core proc journal = record { core = core; proc = proc; journal = journal }
+
+-- what a run is with these
+abbrev pub with_routing : RunState → Routing → RunState
+with_routing now r = record now { core = r.core; proc = r.proc; journal = r.journal }
+
 -- a step that routes items and puts to the journal's place, while no batch failed
-abbrev pub RoutesOn : CoreState → CoreState → ProcPart → ProcPart → JournalPart → JournalPart → Type 0
-RoutesOn old new proc new_proc part new_part = (start : Beginning) (now : RunState) (ticked : Bool) → AreAnew now.outs
-    → StaysTicked now.ticked ticked old
-    → Progress start (record now { core = old; proc = proc; journal = part })
-    → Progress start (record now { core = new; proc = new_proc; journal = new_part; ticked = ticked; still = 0 })
+abbrev pub RoutesOn : Routing → Routing → Type 0
+RoutesOn old new = (start : Beginning) (now : RunState) (ticked : Bool) → AreAnew now.outs
+    → StaysTicked now.ticked ticked old.core → Progress start (with_routing now old)
+    → Progress start (with_routing (record now { ticked = ticked; still = 0 }) new)
 
 -- a step that routes items where some are raw, and says whether some were
-abbrev pub RoutesWhere : Bool → CoreState → CoreState → ProcPart → ProcPart → JournalPart → JournalPart → Type 0
-RoutesWhere routed old new proc new_proc part new_part = (start : Beginning) (now : RunState) (ticked : Bool)
-    → AreAnew now.outs → StaysTicked now.ticked ticked old
-    → Progress start (record now { core = old; proc = proc; journal = part })
-    → Progress start (record now {
-      core = new;
-      proc = new_proc;
-      journal = new_part;
-      ticked = ticked;
-      still = still_after routed now.still;
-    })
+abbrev pub RoutesWhere : Bool → Routing → Routing → Type 0
+RoutesWhere routed old new = (start : Beginning) (now : RunState) (ticked : Bool) → AreAnew now.outs
+    → StaysTicked now.ticked ticked old.core → Progress start (with_routing now old)
+    → Progress start
+    (with_routing (record now { ticked = ticked; still = still_after routed now.still }) new)
 
 -- moments that count came from an index of a clock's list to where the clock was; now they come to where it is
 abbrev pub CountsTo : Timed → ℕ → ℤ → List ℤ → List ℤ → Type 0
@@ -207,19 +213,12 @@ pub record Timely (start : Beginning) (timer new_timer : Timed) (counted : List 
   pub progress : Progress start (record now { counted_at = counted_now })
 
 -- a step that closes windows where there are aggregators, at a moment of the timer, routes what they make, and puts to
--- the
--- journal's place, while no batch failed: then a tick has come. It says whether some were made.
-abbrev pub TicksOn : Bool → CoreState → CoreState → ProcPart → ProcPart → JournalPart → JournalPart → Timed → Timed
-    → Type 0
-TicksOn made old new proc new_proc part new_part timer new_timer = (start : Beginning) (now : RunState)
-    → AreAnew now.outs → Progress start (record now { core = old; proc = proc; journal = part })
-    → Timely start timer new_timer now.counted_at (record now {
-      core = new;
-      proc = new_proc;
-      journal = new_part;
-      ticked = true;
-      still = still_after made now.still;
-    })
+-- the journal's place, while no batch failed: then a tick has come. It says whether some were made.
+abbrev pub TicksOn : Bool → Routing → Routing → Timed → Timed → Type 0
+TicksOn made old new timer new_timer = (start : Beginning) (now : RunState) → AreAnew now.outs
+    → Progress start (with_routing now old)
+    → Timely start timer new_timer now.counted_at
+    (with_routing (record now { ticked = true; still = still_after made now.still }) new)
 
 -- a step that puts to the outputs, behind which at least so many batches failed since the run last came on
 abbrev pub SendsOn : (ℕ → ℕ) → CoreState → CoreState → List OutPart → List OutPart → Type 0

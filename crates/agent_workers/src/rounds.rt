@@ -10,7 +10,7 @@ ghost use Rattle.agent_workers.specs.Inputs.{ins_of, AreInputs, AreOut, AreSameI
 ghost use Rattle.agent_workers.specs.Item.{proc_of, IsSameProc};
 ghost use Rattle.agent_workers.specs.Job.{Job};
 ghost use Rattle.agent_workers.specs.Noted.{part_of, EndsOn};
-ghost use Rattle.agent_workers.specs.Progress.{RoutesOn, RoutesWhere, RunsOn, StopsAt, TellsOn, TicksOn};
+ghost use Rattle.agent_workers.specs.Progress.{routing, RoutesOn, RoutesWhere, RunsOn, StopsAt, TellsOn, TicksOn};
 ghost use Rattle.agent_workers.specs.Rounds.{still_behind, AreSameParts, HasRounded, HasSent, HasStopped, IsOver};
 ghost use Rattle.agent_workers.specs.RunState.{state_of, AreFit, IsAboutSame, IsProcFit};
 ghost use Rattle.agent_workers.specs.Running.{IsAtRest, SomeIsBuffered, IsQuiet, IsRoutable, IsRunning};
@@ -227,8 +227,9 @@ fn route_noted<K: Sink + Drop, C: Drop>(
     ensures kept { OnOk result (IsRoutable core.old core.new) }
     ensures none { OnOk result (core.new.raw ≡ []) }
     ensures same { IsSameProc (proc_of proc.old) (proc_of proc.new) }
-    ensures routes { OnOk result (RoutesOn core.old core.new (proc_of proc.old) (proc_of proc.new)
-        (part_of K.told journal.old) (part_of K.told journal.new)) }
+    ensures routes { OnOk result (RoutesOn
+        (routing core.old (proc_of proc.old) (part_of K.told journal.old))
+        (routing core.new (proc_of proc.new) (part_of K.told journal.new))) }
 {
     for _part in 0..u64::MAX {
         if !route_some(alloc, core, proc, ROUTED_AT_ONCE)? {
@@ -254,8 +255,9 @@ fn route_where_raw<K: Sink + Drop, C: Drop>(
     ensures none { OnOk result (core.new.raw ≡ []) }
     ensures quiet { IfOk result (λ routed. routed ≡ false → IsQuiet core.old core.new) }
     ensures same { IsSameProc (proc_of proc.old) (proc_of proc.new) }
-    ensures routes { IfOk result (λ routed. RoutesWhere routed core.old core.new (proc_of proc.old) (proc_of proc.new)
-        (part_of K.told journal.old) (part_of K.told journal.new)) }
+    ensures routes { IfOk result (λ routed. RoutesWhere routed
+        (routing core.old (proc_of proc.old) (part_of K.told journal.old))
+        (routing core.new (proc_of proc.new) (part_of K.told journal.new))) }
 {
     if !core.has_raw() {
         return Ok(false);
@@ -283,8 +285,8 @@ fn tick_noted<K: Sink + Drop, C: Clock + Drop>(
     ensures same { IsSameProc (proc_of proc.old) (proc_of proc.new) }
     ensures timer { (C.told timer.new).moments ≡ (C.told timer.old).moments }
     ensures quiet { IfOk result (λ made. made ≡ false → IsQuiet core.old core.new) }
-    ensures ticks { IfOk result (λ made. TicksOn made core.old core.new (proc_of proc.old) (proc_of proc.new)
-        (part_of K.told journal.old) (part_of K.told journal.new) (C.told timer.old) (C.told timer.new)) }
+    ensures ticks { IfOk result (λ made. TicksOn made (routing core.old (proc_of proc.old) (part_of K.told journal.old))
+        (routing core.new (proc_of proc.new) (part_of K.told journal.new)) (C.told timer.old) (C.told timer.new)) }
 {
     if proc.aggs.is_empty() {
         return Ok(false);

@@ -15,7 +15,7 @@ use Rattle.metric.specs.Draft.{Field}
 use Rattle.metric.specs.Numbers.{billionths_of}
 use Rattle.metric.specs.declared.value.Value.{Value}
 use Rattle.agg_stats.specs.Kept.{empty_summary, most, with_number}
-use Rattle.agg_stats.specs.Summary.{greatest_of, is_int, is_uint, least_of, sum_of, summary_of, Summary}
+use Rattle.agg_stats.specs.Summary.{chosen_of, is_int, is_uint, sum_of, summary_of, Summary}
 
 -- ---- the numbers
 
@@ -31,23 +31,15 @@ and_true false = refl
 all-push : (p : Value → Bool) (vs : List Value) (v : Value) → list_all p (vs ++ v ∷ []) ≡ (list_all p vs && p v)
 all-push p vs v = list_all-append p vs (v ∷ []) ∙ ap (λ (t : Bool). list_all p vs && t) (and_true (p v))
 
-least-push : (vs : List Value) (v : Value) → least_of (map billionths_of (vs ++ v ∷ []))
-    ≡ cond (length vs == 0) (billionths_of v) (int_min (least_of (map billionths_of vs)) (billionths_of v))
-least-push [] v = refl
-least-push (w ∷ vs) v =
+chosen-push : (choice : ℤ → ℤ → ℤ) (vs : List Value) (v : Value)
+    → chosen_of choice (map billionths_of (vs ++ v ∷ []))
+    ≡ cond (length vs == 0) (billionths_of v) (choice (chosen_of choice (map billionths_of vs)) (billionths_of v))
+chosen-push choice [] v = refl
+chosen-push choice (w ∷ vs) v =
     let some : (length (w ∷ vs) == 0) ≡ false = ne_eqb (length (w ∷ vs)) 0 (λ e. absurd (omega arith)) in
     rw some
-    (ap (fold int_min (billionths_of w)) (map-append billionths_of vs (v ∷ []))
-    ∙ fold-append int_min (billionths_of w) (map billionths_of vs) (billionths_of v ∷ []))
-
-greatest-push : (vs : List Value) (v : Value) → greatest_of (map billionths_of (vs ++ v ∷ []))
-    ≡ cond (length vs == 0) (billionths_of v) (int_max (greatest_of (map billionths_of vs)) (billionths_of v))
-greatest-push [] v = refl
-greatest-push (w ∷ vs) v =
-    let some : (length (w ∷ vs) == 0) ≡ false = ne_eqb (length (w ∷ vs)) 0 (λ e. absurd (omega arith)) in
-    rw some
-    (ap (fold int_max (billionths_of w)) (map-append billionths_of vs (v ∷ []))
-    ∙ fold-append int_max (billionths_of w) (map billionths_of vs) (billionths_of v ∷ []))
+    (ap (fold choice (billionths_of w)) (map-append billionths_of vs (v ∷ []))
+    ∙ fold-append choice (billionths_of w) (map billionths_of vs) (billionths_of v ∷ []))
 
 pub summary-push : (vs : List Value) (v : Value) → length vs < most
     → with_number v (summary_of vs) ≡ summary_of (vs ++ v ∷ [])
@@ -57,8 +49,8 @@ summary-push vs v few =
     rw below (sym (λ i. record {
       count = length-append vs (v ∷ []) i;
       sum = (ap sum_of (map-append billionths_of vs (v ∷ [])) ∙ sum-push (map billionths_of vs) (billionths_of v)) i;
-      least = least-push vs v i;
-      greatest = greatest-push vs v i;
+      least = chosen-push int_min vs v i;
+      greatest = chosen-push int_max vs v i;
       ints = all-push is_int vs v i;
       uints = all-push is_uint vs v i;
     }))

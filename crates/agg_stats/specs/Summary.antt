@@ -29,14 +29,17 @@ unfoldable pub sum_of : List ℤ → ℤ
 sum_of [] = pos 0
 sum_of (n ∷ ns) = n +ℤ sum_of ns
 
+-- the one of a list that a choice between two leaves
+abbrev pub chosen_of : (ℤ → ℤ → ℤ) → List ℤ → ℤ
+chosen_of choice [] = pos 0
+chosen_of choice (n ∷ ns) = fold choice n ns
+
 -- the least of a list, and the greatest
 abbrev pub least_of : List ℤ → ℤ
-least_of [] = pos 0
-least_of (n ∷ ns) = fold int_min n ns
+least_of ns = chosen_of int_min ns
 
 abbrev pub greatest_of : List ℤ → ℤ
-greatest_of [] = pos 0
-greatest_of (n ∷ ns) = fold int_max n ns
+greatest_of ns = chosen_of int_max ns
 
 -- what is counted of a list of numbers: how many there are; their sum, the least and the greatest, in billionths;
 -- whether all are signed whole numbers, and whether all are unsigned ones

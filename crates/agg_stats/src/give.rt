@@ -81,34 +81,10 @@ fn give(
         ≡ out.old.items ++ given_of asked (record { 0 = key.now; 1 = summary.now })) }
     ensures valid { OnOk result (AllByRecursion IsField out.new.items) }
 {
-    give_one(
-        alloc,
-        key,
-        "_sum",
-        where_asked(asked.sum, summary.sum()),
-        out,
-    )?;
-    give_one(
-        alloc,
-        key,
-        "_count",
-        where_asked(asked.count, summary.count()),
-        out,
-    )?;
-    give_one(
-        alloc,
-        key,
-        "_min",
-        where_asked(asked.min, summary.least()),
-        out,
-    )?;
-    give_one(
-        alloc,
-        key,
-        "_max",
-        where_asked(asked.max, summary.greatest()),
-        out,
-    )?;
+    give_one(alloc, key, "_sum", asked.sum, summary.sum(), out)?;
+    give_one(alloc, key, "_count", asked.count, summary.count(), out)?;
+    give_one(alloc, key, "_min", asked.min, summary.least(), out)?;
+    give_one(alloc, key, "_max", asked.max, summary.greatest(), out)?;
     Ok(())
 }
 
@@ -121,22 +97,24 @@ fn where_asked(asked: bool, value: Option<Value>) -> Option<Value>
     if asked { value } else { None }
 }
 
-/// Appends a field with its statistic's name behind its key, where there is a value.
+/// Appends a field with its statistic's name behind its key, where it is asked for and there is a value.
 #[tactic(auto, unfolding(crate::specs::Asked::named))]
 fn give_one(
     alloc: Global,
     key: &Text,
     name: &str,
+    asked: bool,
     value: Option<Value>,
     out: &mut Vec<(Text, Value)>,
 ) -> Result<(), OutOfMemory>
     requires word { IsWord key.now }
     requires value { IfSome value IsValue }
     requires valid { AllByRecursion IsField out.old.items }
-    ensures given { OnOk result (out.new.items ≡ out.old.items ++ named key.now name.now value) }
+    ensures given { OnOk result (out.new.items
+        ≡ out.old.items ++ named key.now name.now (where_asked asked value)) }
     ensures valid { OnOk result (AllByRecursion IsField out.new.items) }
 {
-    match value {
+    match where_asked(asked, value) {
         None => Ok(()),
         Some(value) => push_field(out, joined(alloc, key, name)?, value),
     }

@@ -27,18 +27,13 @@ pub struct Stats {
 }
 
 impl Model for Stats {
-    ghost use Rattle.std.specs.Prelude.{vec_capacity};
     ghost use Rattle.agg_stats.specs.Kept.{Memory};
 
     ghost Value = { Memory };
 
-    ghost view = { λ s. record {
-      asked = s.asked;
-      kept = s.kept.entries;
-      rows = s.rows.items;
-      room = vec_capacity s.rows;
-      ready = s.ready;
-    } };
+    ghost use Rattle.agg_stats.specs.StatsView.{memory_of};
+
+    ghost view = { memory_of };
 }
 
 impl Stats {

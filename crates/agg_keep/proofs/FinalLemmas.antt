@@ -8,14 +8,12 @@ use Rattle.std.proofs.lemmas.List.{at_drop_all, at_drop_more, reverse-append}
 use Rattle.metric.specs.Series.{series_cmp, series_eq, series_ties, Series}
 use Rattle.metric.specs.declared.metric.Content.{Content}
 use Rattle.agg_keep.specs.Final.{finals_of, given, gives, is_given, last_of, left_of, members_of, series_in}
-use Rattle.agg_keep.specs.FinalKept.{entry_of, given_at, held, left_held, FinalMemory, FinalStandsFor, IsFinalReady}
-use Rattle.agg_keep.specs.Keyed.{firsts}
-use Rattle.agg_keep.specs.Spot.{series_of}
+use Rattle.agg_keep.specs.FinalKept.{given_at, held, left_held, FinalMemory, FinalStandsFor, IsFinalReady}
+use Rattle.agg_keep.specs.Keyed.{entry_by, firsts}
+use Rattle.agg_keep.specs.Spot.{series_of, series_same}
 use Rattle.agg_keep.specs.declared.closing.Closing.{Closing}
 use Rattle.agg_keep.proofs.KeyLemmas.{all_have, any_first, filter_each, firsts-filter, firsts-push, has}
-use Rattle.agg_keep.proofs.KeyLemmas.{other_elements, own_elements, some_same, turned, turned_cond, value_put}
-use Rattle.agg_keep.proofs.KeyLemmas.{with_key-filter}
-use Rattle.agg_keep.proofs.SpotLemmas.{series_same}
+use Rattle.agg_keep.proofs.KeyLemmas.{other_elements, own_elements, some_same, turned, turned_cond, with_key-filter}
 
 abbrev Entries : Type 0
 Entries = List (Series × Option Content)
@@ -58,6 +56,16 @@ none_held timeout memory same kept order = record {
   same = same;
   ordered = order;
   each = λ series. ap (λ (kept : Entries). held kept series) kept;
+}
+
+-- where room was made, and nothing else
+pub still_stands : (timeout : ℤ) (ms : List Content) (old new : FinalMemory) → FinalStandsFor timeout ms old
+    → new.timeout ≡ old.timeout → ((q : Series) → held new.kept q ≡ held old.kept q) → new.order ≡ old.order
+    → FinalStandsFor timeout ms new
+still_stands timeout ms old new h same kept order = record {
+  same = same ∙ h.same;
+  ordered = order ∙ h.ordered;
+  each = λ q. kept q ∙ h.each q;
 }
 
 added : (timeout : ℤ) (ms : List Content) (m : Content) (old new : FinalMemory) → FinalStandsFor timeout ms old
@@ -212,20 +220,10 @@ module _ (timeout : ℤ) (closing : Closing) where
 
 -- ---- what stands in the map
 
-abbrev pub Parts : Type 0
-Parts = Series × Series × Content
-
-pub parts_put : (old new : Entries) (parts : Parts) (m : Content) → parts ≡ (series_of m, series_of m, m)
-    → ((q : Series) → entry_of new q ≡ cond (is_eq (series_cmp parts.0 q)) (Some (Some parts.2)) (entry_of old q))
-    → (q : Series) → held new q ≡ cond (series_eq (series_of m) q) (Some m) (held old q)
-parts_put old new parts m e put =
-    value_put series_eq series_cmp series_same series_ties old new (series_of m) m
-    (λ q. put q ∙ ap (λ (p : Parts). cond (is_eq (series_cmp p.0 q)) (Some (Some p.2)) (entry_of old q)) e)
-
 -- a series that is given is dropped
 pub dropped : (timeout : ℤ) (closing : Closing) (old new : Entries) (k : Series)
     → gives timeout closing (held old k) ≡ true
-    → ((q : Series) → entry_of new q ≡ cond (is_eq (series_cmp k q)) None (entry_of old q))
+    → ((q : Series) → entry_by series_cmp new q ≡ cond (is_eq (series_cmp k q)) None (entry_by series_cmp old q))
     → (q : Series) → held new q ≡ cond (series_eq k q && gives timeout closing (held old q)) None (held old q)
 dropped timeout closing old new k due put q =
     elim (series_eq k q) as (λ t. series_eq k q ≡ t

@@ -1,6 +1,6 @@
 -- Elements by their keys, and maps with room for keys.
 use Rattle.std.proofs.Common.{◌≡◌, ◌||◌, true, false, cond, not, Bool, List, [], ◌∷◌, ◌++◌, filter, refl, sym, ap}
-use Rattle.std.proofs.Common.{◌∙◌, append-nil, Some, None}
+use Rattle.std.proofs.Common.{◌∙◌, append-nil, subst, Some, None}
 use Rattle.std.specs.Prelude.{is_some, Option, Result, Ok, Err, OnOk, OnErr, IsSome, option_and_then}
 use Rattle.std.specs.Bool.{Decides}
 use Rattle.std.specs.Borrow.{Bor}
@@ -10,7 +10,7 @@ use Rattle.std.specs.Ordering.{is_eq}
 use Rattle.std.specs.declared.cmp.Ordering.{Ordering}
 use Rattle.std.proofs.lemmas.List.Elements.{filter-append}
 use Rattle.std.proofs.lemmas.List.Folds.{list_any-append}
-use Rattle.agg_keep.specs.Keyed.{entry_by, firsts, held_by, with_key}
+use Rattle.agg_keep.specs.Keyed.{entry_by, firsts, held_by, with_key, HasRoom}
 
 true_false : true ≡ false → ⊥
 true_false e = absurd cc
@@ -247,8 +247,7 @@ module _ {K V : Type 0} (same : K → K → Bool) (cmp : K → K → Ordering)
             rw (put q, at) refl
       ] refl
 
-  -- a value that is put
-  pub value_put : (old new : Entries K V) (k : K) (value : V)
+  value_put : (old new : Entries K V) (k : K) (value : V)
       → ((q : K) → entry_by cmp new q ≡ cond (is_eq (cmp k q)) (Some (Some value)) (entry_by cmp old q))
       → (q : K) → held_by cmp new q ≡ cond (same k q) (Some value) (held_by cmp old q)
   value_put old new k value put q =
@@ -256,6 +255,19 @@ module _ {K V : Type 0} (same : K → K → Bool) (cmp : K → K → Ordering)
       (elim (is_eq (cmp k q)) as (λ t. option_and_then (λ (entry : Option V). entry)
       (cond t (Some (Some value)) (entry_by cmp old q)) ≡ cond t (Some value) (held_by cmp old q))
       [ true ↦ refl | false ↦ refl ])
+
+  -- a key, the same one and a value: there is room for the first as for the key
+  pub parts_room : (old : Entries K V) (parts : K × K × V) (k : K) (value : V) → parts ≡ (k, k, value)
+      → HasRoom cmp old k → HasRoom cmp old parts.0
+  parts_room old parts k value e room = subst (HasRoom cmp old) (sym (ap (λ (p : K × K × V). p.0) e)) room
+
+  -- and the value is put under it
+  pub parts_put : (old new : Entries K V) (parts : K × K × V) (k : K) (value : V) → parts ≡ (k, k, value)
+      → ((q : K) → entry_by cmp new q ≡ cond (is_eq (cmp parts.0 q)) (Some (Some parts.2)) (entry_by cmp old q))
+      → (q : K) → held_by cmp new q ≡ cond (same k q) (Some value) (held_by cmp old q)
+  parts_put old new parts k value e put =
+      value_put old new k value
+      (λ q. put q ∙ ap (λ (p : K × K × V). cond (is_eq (cmp p.0 q)) (Some (Some p.2)) (entry_by cmp old q)) e)
 
 pub succeeds : {A E X U : Type 0} (result : Result A E) (entry : Option X) → OnOk result U → OnErr result (entry ≡ None)
     → IsSome entry → U

@@ -4,4 +4,3 @@ pub mod FinalLemmas
 pub mod KeyLemmas
 pub mod MergeLawLemmas
 pub mod MergeLemmas
-pub mod SpotLemmas

@@ -6,7 +6,6 @@ use Rattle.std.specs.Cmp.Lexicographic.{pointwise}
 use Rattle.std.specs.List.{flat_map, AllByRecursion, IsDistinct}
 use Rattle.std.specs.Map.{keys_of}
 use Rattle.std.specs.Option.{option_to_list}
-use Rattle.std.specs.Ordering.{is_eq}
 use Rattle.std.specs.Str.{bytes_eq}
 use Rattle.std.proofs.lemmas.Grind.{flat_map-append}
 use Rattle.metric.specs.Draft.{Field}
@@ -19,12 +18,11 @@ use Rattle.metric.proofs.MetricLemmas.{each_pair}
 use Rattle.metric.proofs.PairLemmas.{with_pair-distinct}
 use Rattle.agg_keep.specs.Keyed.{firsts}
 use Rattle.agg_keep.specs.Merge.{fields_in, members_at, merged_at, merge_of, spots_in}
-use Rattle.agg_keep.specs.MergeKept.{entry_at, fields_with, held_at, made_at, merged_with, one_at}
+use Rattle.agg_keep.specs.MergeKept.{fields_with, held_at, made_at, merged_with, one_at}
 use Rattle.agg_keep.specs.MergeKept.{IsMergeReady, MergeMemory, MergeStandsFor}
-use Rattle.agg_keep.specs.Spot.{spot_cmp, spot_eq, spot_of, spot_ties, Spot}
+use Rattle.agg_keep.specs.Spot.{spot_eq, spot_of, spot_same, Spot}
 use Rattle.agg_keep.proofs.KeyLemmas.{all_have, any_other, any_own, firsts-push, has, no_elements}
-use Rattle.agg_keep.proofs.KeyLemmas.{other_elements, own_elements, some_same, turned, turned_cond, value_put}
-use Rattle.agg_keep.proofs.SpotLemmas.{spot_same}
+use Rattle.agg_keep.proofs.KeyLemmas.{other_elements, own_elements, some_same, turned, turned_cond}
 
 abbrev Entries : Type 0
 Entries = List (Spot × Option Content)
@@ -153,18 +151,6 @@ pub made_is : (ms : List Content) (memory : MergeMemory) → MergeStandsFor ms m
 made_is ms memory h =
     ap (flat_map (made_at memory.kept)) h.ordered
     ∙ all_made memory.kept ms h.each (spots_in ms) (all_have spot_eq spot_of spot_same ms)
-
--- ---- what stands in the map
-
-abbrev pub Parts : Type 0
-Parts = Spot × Spot × Content
-
-pub parts_put : (old new : Entries) (parts : Parts) (m : Content) → parts ≡ (spot_of m, spot_of m, m)
-    → ((q : Spot) → entry_at new q ≡ cond (is_eq (spot_cmp parts.0 q)) (Some (Some parts.2)) (entry_at old q))
-    → (q : Spot) → held_at new q ≡ cond (spot_eq (spot_of m) q) (Some m) (held_at old q)
-parts_put old new parts m e put =
-    value_put spot_eq spot_cmp spot_same spot_ties old new (spot_of m) m
-    (λ q. put q ∙ ap (λ (p : Parts). cond (is_eq (spot_cmp p.0 q)) (Some (Some p.2)) (entry_at old q)) e)
 
 -- ---- what is merged is a metric
 

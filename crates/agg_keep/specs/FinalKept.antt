@@ -1,9 +1,9 @@
 -- What final keeps of a list of members.
-use Rattle.std.specs.Prelude.{◌≡◌, ◌<◌, ◌&&◌, ℕ, ℤ, List, [], ◌∷◌, Option, Some, None, IsSome, length, if◌then◌else◌}
+use Rattle.std.specs.Prelude.{◌≡◌, ◌<◌, ◌&&◌, ℕ, ℤ, List, [], ◌∷◌, Option, Some, None, length, if◌then◌else◌}
 use Rattle.metric.specs.Series.{series_cmp, series_eq, Series}
 use Rattle.metric.specs.declared.metric.Content.{Content}
 use Rattle.agg_keep.specs.Final.{given, gives, last_of, members_of, series_in}
-use Rattle.agg_keep.specs.Keyed.{entry_by, held_by}
+use Rattle.agg_keep.specs.Keyed.{held_by, HasRoom}
 use Rattle.agg_keep.specs.Spot.{series_of}
 use Rattle.agg_keep.specs.declared.closing.Closing.{Closing}
 
@@ -17,14 +17,8 @@ pub record FinalMemory : Type 0 where
   -- what is prepared
   pub ready : Option Content
 
-abbrev pub entry_of : List (Series × Option Content) → Series → Option (Option Content)
-entry_of kept series = entry_by series_cmp kept series
-
 abbrev pub held : List (Series × Option Content) → Series → Option Content
 held kept series = held_by series_cmp kept series
-
-abbrev pub HasRoom : List (Series × Option Content) → Series → Type 0
-HasRoom kept series = IsSome (entry_of kept series)
 
 -- what is given of a series
 abbrev pub given_at : ℤ → Closing → List (Series × Option Content) → Series → List Content
@@ -39,7 +33,7 @@ left_held timeout closing (one ∷ order) series last =
 -- what is prepared can be added without more memory
 abbrev pub CanAdd : FinalMemory → Option Content → Type 0
 CanAdd memory None = Unit {0}
-CanAdd memory (Some m) = HasRoom memory.kept (series_of m) × (length memory.order < memory.room)
+CanAdd memory (Some m) = HasRoom series_cmp memory.kept (series_of m) × (length memory.order < memory.room)
 
 -- it is prepared for a metric
 pub record IsFinalReady (m : Content) (memory : FinalMemory) : Type 0 where

@@ -1,5 +1,5 @@
 -- Elements by their keys.
-use Rattle.std.specs.Prelude.{Bool, not, List, [], ◌∷◌, filter, Option, option_and_then}
+use Rattle.std.specs.Prelude.{Bool, not, List, [], ◌∷◌, filter, Option, IsSome, option_and_then}
 use Rattle.std.specs.Map.{lookup}
 use Rattle.std.specs.Ordering.{is_eq}
 use Rattle.std.specs.declared.cmp.Ordering.{Ordering}
@@ -20,3 +20,7 @@ entry_by cmp kept k = lookup (λ other. is_eq (cmp k other)) kept
 -- and what is held there; a key with room alone holds nothing
 abbrev pub held_by : {K V : Type 0} → (K → K → Ordering) → List (K × Option V) → K → Option V
 held_by cmp kept k = option_and_then (λ entry. entry) (entry_by cmp kept k)
+
+-- there is room for a key
+abbrev pub HasRoom : {K V : Type 0} → (K → K → Ordering) → List (K × Option V) → K → Type 0
+HasRoom cmp kept k = IsSome (entry_by cmp kept k)

@@ -1,8 +1,10 @@
 pub mod Final
 pub mod FinalKept
 pub mod FinalLaws
+pub mod FinalView
 pub mod Keyed
 pub mod Merge
 pub mod MergeKept
 pub mod MergeLaws
+pub mod MergeView
 pub mod Spot

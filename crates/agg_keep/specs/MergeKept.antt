@@ -1,12 +1,12 @@
 -- What merge keeps of a list of members.
-use Rattle.std.specs.Prelude.{◌≡◌, ◌<◌, ℕ, List, Option, Some, None, IsSome, length, if◌then◌else◌}
+use Rattle.std.specs.Prelude.{◌≡◌, ◌<◌, ℕ, List, Option, Some, None, length, if◌then◌else◌}
 use Rattle.std.specs.List.{list_any}
 use Rattle.std.specs.Option.{option_to_list}
 use Rattle.metric.specs.Draft.{Field}
 use Rattle.metric.specs.Metric.{IsMetric}
 use Rattle.metric.specs.Pairs.{in_first_order_on}
 use Rattle.metric.specs.declared.metric.Content.{Content}
-use Rattle.agg_keep.specs.Keyed.{entry_by, held_by}
+use Rattle.agg_keep.specs.Keyed.{held_by, HasRoom}
 use Rattle.agg_keep.specs.Merge.{merged_at, spots_in}
 use Rattle.agg_keep.specs.Spot.{spot_cmp, spot_eq, spot_of, Spot}
 
@@ -19,14 +19,8 @@ pub record MergeMemory : Type 0 where
   -- what is prepared
   pub ready : Option Content
 
-abbrev pub entry_at : List (Spot × Option Content) → Spot → Option (Option Content)
-entry_at kept spot = entry_by spot_cmp kept spot
-
 abbrev pub held_at : List (Spot × Option Content) → Spot → Option Content
 held_at kept spot = held_by spot_cmp kept spot
-
-abbrev pub HasRoomAt : List (Spot × Option Content) → Spot → Type 0
-HasRoomAt kept spot = IsSome (entry_at kept spot)
 
 -- what is given of what is held
 abbrev pub made_at : List (Spot × Option Content) → Spot → List Content
@@ -44,7 +38,7 @@ merged_with held m = record m { fields = fields_with held m }
 -- what is prepared can be added without more memory
 abbrev pub CanMerge : MergeMemory → Option Content → Type 0
 CanMerge memory None = Unit {0}
-CanMerge memory (Some merged) = HasRoomAt memory.kept (spot_of merged) × (length memory.order < memory.room)
+CanMerge memory (Some merged) = HasRoom spot_cmp memory.kept (spot_of merged) × (length memory.order < memory.room)
 
 -- it is prepared for a metric
 pub record IsMergeReady (m : Content) (memory : MergeMemory) : Type 0 where

@@ -5,7 +5,8 @@ ghost use Rattle.agg_keep.specs.Final.{finals_of, left_of};
 ghost use Rattle.agg_keep.specs.FinalKept.{CanAdd, FinalStandsFor, IsFinalReady};
 
 use crate::closing::Closing;
-use crate::final_map::{Kept, Ready, drop_given, keep_held, made, make_room, put};
+use crate::final_map::{drop_given, keep_held, made};
+use crate::keyed::{Kept, Ready, make_room, put};
 use fixed_num::{Moment, OutOfMemory};
 use metric::{Metric, Series};
 use std::alloc::Global;
@@ -17,24 +18,19 @@ use std::marker::Model;
 pub struct Final {
     alloc: Global,
     timeout: i64,
-    kept: Kept,
+    kept: Kept<Series>,
     order: Vec<Series>,
-    ready: Option<Ready>,
+    ready: Option<Ready<Series>>,
 }
 
 impl Model for Final {
-    ghost use Rattle.std.specs.Prelude.{vec_capacity};
     ghost use Rattle.agg_keep.specs.FinalKept.{FinalMemory};
 
     ghost Value = { FinalMemory };
 
-    ghost view = { λ f. record {
-      timeout = f.timeout;
-      kept = f.kept.entries;
-      order = f.order.items;
-      room = vec_capacity f.order;
-      ready = f.ready;
-    } };
+    ghost use Rattle.agg_keep.specs.FinalView.{final_memory};
+
+    ghost view = { final_memory };
 }
 
 impl Final {
@@ -72,7 +68,7 @@ impl Final {
         self.ready = None;
         make_room(&mut self.kept, m)?;
         self.order.reserve(1)?;
-        self.ready = Some(Ready::of(m)?);
+        self.ready = Some(Ready::of(m.copy()?)?);
         Ok(())
     }
 

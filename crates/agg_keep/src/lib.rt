@@ -6,6 +6,7 @@ mod due;
 mod fields;
 mod final_map;
 mod finals;
+mod keyed;
 mod laws;
 mod merge;
 mod merge_map;

@@ -4,7 +4,8 @@ ghost use Rattle.metric.specs.declared.metric.Content.{Content};
 ghost use Rattle.agg_keep.specs.Merge.{merge_of};
 ghost use Rattle.agg_keep.specs.MergeKept.{CanMerge, IsMergeReady, MergeStandsFor};
 
-use crate::merge_map::{Kept, Ready, made, make_room, put};
+use crate::keyed::{Kept, Ready, make_room, put};
+use crate::merge_map::{made, merged};
 use crate::spot::Spot;
 use fixed_num::OutOfMemory;
 use metric::Metric;
@@ -16,23 +17,19 @@ use std::marker::Model;
 #[derive(Drop)]
 pub struct Merge {
     alloc: Global,
-    kept: Kept,
+    kept: Kept<Spot>,
     order: Vec<Spot>,
-    ready: Option<Ready>,
+    ready: Option<Ready<Spot>>,
 }
 
 impl Model for Merge {
-    ghost use Rattle.std.specs.Prelude.{vec_capacity};
     ghost use Rattle.agg_keep.specs.MergeKept.{MergeMemory};
 
     ghost Value = { MergeMemory };
 
-    ghost view = { λ m. record {
-      kept = m.kept.entries;
-      order = m.order.items;
-      room = vec_capacity m.order;
-      ready = m.ready;
-    } };
+    ghost use Rattle.agg_keep.specs.MergeView.{merge_memory};
+
+    ghost view = { merge_memory };
 }
 
 impl Merge {
@@ -70,7 +67,7 @@ impl Merge {
         self.ready = None;
         make_room(&mut self.kept, m)?;
         self.order.reserve(1)?;
-        self.ready = Some(Ready::of(self.alloc, &self.kept, m)?);
+        self.ready = Some(Ready::of(merged(self.alloc, &self.kept, m)?)?);
         Ok(())
     }
 

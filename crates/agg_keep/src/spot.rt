@@ -1,12 +1,13 @@
 //! A series and a time.
-ghost use Rattle.std.specs.Prelude.{◌≡◌, IfOk};
 ghost use Rattle.std.proofs.Common.{rules};
 ghost use Rattle.std.specs.Cmp.{partial_equiv_from_equiv, partial_order_from_own_ties};
 ghost use Rattle.std.specs.Cmp.{partial_order_from_total};
 ghost use Rattle.std.specs.Cmp.Rules.{comparing};
 ghost use Rattle.std.specs.Ordering.{as_partial_cmp};
-ghost use Rattle.agg_keep.specs.Spot.{spot_cmp, spot_eq, spot_equiv, spot_of, spot_ties, spot_total};
+ghost use Rattle.agg_keep.specs.Spot.{spot_cmp, spot_eq, spot_equiv, spot_of, spot_same, spot_ties};
+ghost use Rattle.agg_keep.specs.Spot.{spot_total};
 
+use crate::keyed::Key;
 use fixed_num::{Moment, OutOfMemory};
 use metric::{Metric, Series};
 use std::cmp::Ordering;
@@ -27,11 +28,12 @@ impl Model for Spot {
     ghost view = { λ s. (s.series, s.time) };
 }
 
-impl Spot {
-    /// The series and the time of a metric.
-    pub(crate) fn of(m: &Metric) -> Result<Spot, OutOfMemory>
-        ensures { IfOk result (λ spot. spot ≡ spot_of m.now) }
-    {
+impl Key for Spot {
+    ghost key_of = { spot_of };
+
+    ghost decides = { spot_same };
+
+    fn of(m: &Metric) -> Result<Spot, OutOfMemory> {
         Ok(Spot {
             series: m.series()?,
             time: m.time(),

@@ -1,20 +1,23 @@
 -- The aggregators of a bank and one event more.
-use Rattle.std.proofs.Common.{◌≡◌, ◌<◌, ◌+◌, ◌++◌, ◌||◌, ◌^◌, ℕ, ℤ, Bool, true, false, List, [], ◌∷◌, length, get_or}
-use Rattle.std.proofs.Common.{Some, Option, drop, take, refl, sym, ap, ap₂, ◌∙◌, subst, zero, suc, append_assoc}
+use Rattle.std.proofs.Common.{◌≡◌, ◌<◌, ◌+◌, ◌++◌, ◌||◌, ◌^◌, ℕ, ℤ, Bool, false, List, [], ◌∷◌, length, get_or}
+use Rattle.std.proofs.Common.{Some, Option, drop, take, refl, sym, ap, ap₂, ◌∙◌, subst, zero, suc, append_assoc, of_z}
+use Rattle.std.proofs.Common.{to_z}
+use Rattle.std.proofs.lemmas.Int.{to_z-of_z}
+use Rattle.std.specs.Int.{w64}
 use Rattle.std.proofs.lemmas.List.{append-nil, drop_all, drop_more, map-append, take_more}
 use Rattle.std.specs.List.{list_any}
-use Rattle.std.specs.Prelude.{◌&&◌, ◌≤◌, if◌then◌else◌, slice_get, zip}
+use Rattle.std.specs.Prelude.{◌&&◌, ◌≤◌, if◌then◌else◌, slice_get, zip, FitsSigned}
 use Rattle.account.specs.declared.entry.Verdict.TheVariants.{Consumed, Late, Passes}
 use Rattle.account.specs.declared.setup.AggLine.{AggLine}
 use Rattle.metric.specs.declared.metric.Content.{Content}
 use Rattle.agg_bank.specs.Bank.{AggMemory, AggStands, BankMemory, BankStands}
-use Rattle.agg_bank.specs.Events.{closing_event, has_stopped, offered, BankEvent, Offer, Stop, Tick}
+use Rattle.agg_bank.specs.Events.{closing_event, has_stopped, offered, BankEvent, Offer}
 use Rattle.agg_bank.specs.Made.{made_at, made_by, made_from}
 use Rattle.agg_bank.specs.Ready.{consumes_at, lines_in, sees_at, verdict_at, Adds, AllStand, AreReady, Closes}
 use Rattle.agg_bank.specs.Ready.{EachIs, Keeps, Prepares}
 use Rattle.agg_bank.specs.Verdicts.{consumes, sees, verdict_on}
 use Rattle.agg_bank.proofs.AggLemmas.{stands_kept, takes_is}
-use Rattle.agg_bank.proofs.EventLemmas.{stopped-same, stopped-stop}
+use Rattle.agg_bank.proofs.EventLemmas.{stopped-closing, stopped-same}
 
 -- ---- what each does
 
@@ -79,25 +82,35 @@ module _ (lines : List AggLine) (start : ℤ) (events : List BankEvent) (olds : 
         (kept start events olds mids (keeps_of stopped views olds mids prepared) s.each);
   }
 
-  pub bank_ticked : (moment : ℤ) (news : List AggMemory) → EachIs (Closes stopped (Tick moment)) olds news
-      → BankStands lines start (events ++ Tick moment ∷ []) (bank_of news stopped)
-  bank_ticked moment news each = record {
+  pub bank_closed : (all : Bool) (moment : ℤ) (news : List AggMemory)
+      → EachIs (Closes stopped (closing_event all moment)) olds news
+      → BankStands lines start (events ++ closing_event all moment ∷ []) (bank_of news (stopped || all))
+  bank_closed all moment news each = record {
     same = each.lines ∙ s.same;
-    stopped = s.stopped ∙ sym (stopped-same events (Tick moment) refl);
-    each = closed stopped (Tick moment) start events olds news each s.stopped s.each;
-  }
-
-  pub bank_stopped : (moment : ℤ) (news : List AggMemory) → EachIs (Closes stopped (Stop moment)) olds news
-      → BankStands lines start (events ++ Stop moment ∷ []) (bank_of news true)
-  bank_stopped moment news each = record {
-    same = each.lines ∙ s.same;
-    stopped = sym (stopped-stop events moment);
-    each = closed stopped (Stop moment) start events olds news each s.stopped s.each;
+    stopped = ap (λ t. t || all) s.stopped ∙ sym (stopped-closing events all moment);
+    each = closed stopped (closing_event all moment) start events olds news each s.stopped s.each;
   }
 
   pub made_all : (all : Bool) (moment : ℤ) → made_from 0 (lines_in olds) start events (closing_event all moment)
       ≡ made_at lines start events (closing_event all moment)
   made_all all moment = ap (λ ls. made_from 0 ls start events (closing_event all moment)) s.same
+
+-- ---- a moment, as it is read where it is passed on
+
+module _ (lines : List AggLine) (start : ℤ) (events : List BankEvent) (all : Bool) (moment : ℤ)
+    (fits : FitsSigned w64 moment) where
+  abbrev read : ℤ
+  read = to_z w64 (of_z w64 moment)
+
+  pub made_read : made_at lines start events (closing_event all read)
+      ≡ made_at lines start events (closing_event all moment)
+  made_read = ap (λ (at : ℤ). made_at lines start events (closing_event all at)) (to_z-of_z w64 moment fits)
+
+  pub closed_read : (bank : BankMemory) → BankStands lines start (events ++ closing_event all read ∷ []) bank
+      → BankStands lines start (events ++ closing_event all moment ∷ []) bank
+  closed_read bank stands =
+      subst (λ (at : ℤ). BankStands lines start (events ++ closing_event all at ∷ []) bank)
+      (to_z-of_z w64 moment fits) stands
 
 -- ---- the verdict
 

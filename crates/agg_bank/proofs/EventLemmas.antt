@@ -12,9 +12,9 @@ use Rattle.account.specs.declared.setup.AggLine.{AggLine}
 use Rattle.account.specs.declared.setup.AggWord.{AggWord}
 use Rattle.account.specs.declared.setup.AggWord.TheVariants.{MinMax, Basic, Merge, Final}
 use Rattle.metric.specs.declared.metric.Content.{Content}
-use Rattle.agg_bank.specs.Closing.{Closing}
-use Rattle.agg_bank.specs.Events.{has_stopped, has_view, is_stop, offered, tick_in, ticks_of, view_at, BankEvent}
-use Rattle.agg_bank.specs.Events.{Offer, Stop, Tick}
+use Rattle.agg_keep.specs.declared.closing.Closing.{Closing}
+use Rattle.agg_bank.specs.Events.{closing_event, has_stopped, has_view, is_stop, offered, tick_in, ticks_of, view_at}
+use Rattle.agg_bank.specs.Events.{BankEvent, Offer, Stop, Tick}
 use Rattle.agg_bank.specs.Members.{left, members, members_from, members_with, taken_of}
 use Rattle.agg_bank.specs.Windows.{closing_at, takes, window_at, window_number}
 
@@ -42,18 +42,16 @@ or_false : (t : Bool) → (t || false) ≡ t
 or_false true = refl
 or_false false = refl
 
-or_true : (t : Bool) → (t || true) ≡ true
-or_true true = refl
-or_true false = refl
-
 pub stopped-same : (events : List BankEvent) (e : BankEvent) → is_stop e ≡ false
     → has_stopped (events ++ e ∷ []) ≡ has_stopped events
 stopped-same events e goes =
     list_any-append is_stop events (e ∷ []) ∙ ap (λ t. has_stopped events || (t || false)) goes
     ∙ or_false (has_stopped events)
 
-pub stopped-stop : (events : List BankEvent) (moment : ℤ) → has_stopped (events ++ Stop moment ∷ []) ≡ true
-stopped-stop events moment = list_any-append is_stop events (Stop moment ∷ []) ∙ or_true (has_stopped events)
+pub stopped-closing : (events : List BankEvent) (all : Bool) (moment : ℤ)
+    → has_stopped (events ++ closing_event all moment ∷ []) ≡ (has_stopped events || all)
+stopped-closing events true moment = list_any-append is_stop events (Stop moment ∷ [])
+stopped-closing events false moment = list_any-append is_stop events (Tick moment ∷ [])
 
 -- ---- the members
 

@@ -1,5 +1,5 @@
 -- What is kept of members, by the kind of the aggregator.
-use Rattle.std.proofs.Common.{ℤ, Bool, List, []}
+use Rattle.std.proofs.Common.{ℤ, List, []}
 use Rattle.account.specs.declared.setup.AggWord.{AggWord}
 use Rattle.account.specs.declared.setup.AggWord.TheVariants.{MinMax, Basic, Merge, Final}
 use Rattle.metric.specs.declared.metric.Content.{Content}
@@ -12,7 +12,7 @@ use Rattle.agg_stats.specs.Kept.{Memory, StandsFor}
 use Rattle.agg_stats.specs.declared.kind.StatsKind.{StatsKind}
 use Rattle.agg_stats.specs.declared.kind.StatsKind.TheVariants as kind
 use Rattle.agg_bank.specs.Bank.{FoldMemory, FoldStands, OfFinal, OfMerge, OfStats}
-use Rattle.agg_bank.specs.Closing.{Closing}
+use Rattle.agg_keep.specs.declared.closing.Closing.{Closing}
 use Rattle.agg_bank.specs.Made.{folded}
 use Rattle.agg_bank.specs.Members.{left_by}
 use Rattle.agg_bank.specs.Ready.{FoldCanAdd, FoldIsReady}
@@ -82,25 +82,21 @@ module _ (old : FinalMemory) where
   final_goes new ms news h Merge s = s
   final_goes new ms news h (Final timeout) s = h timeout s
 
-  pub final_forget : (new : FinalMemory) (moment : ℤ) (all : Bool) (ms : List Content)
-      → ((timeout : ℤ) → FinalStandsFor timeout ms old
-      → FinalStandsFor timeout (left_of timeout (record { moment = moment; all = all }) ms) new)
-      → (word : AggWord) → FoldStands word ms (OfFinal old)
-      → FoldStands word (left_by word (record { moment = moment; all = all }) ms) (OfFinal new)
-  final_forget new moment all ms h MinMax s = absurd s
-  final_forget new moment all ms h (Basic sum count min max) s = absurd s
-  final_forget new moment all ms h Merge s = absurd s
-  final_forget new moment all ms h (Final timeout) s = h timeout s
+  pub final_forget : (new : FinalMemory) (closing : Closing) (ms : List Content)
+      → ((timeout : ℤ) → FinalStandsFor timeout ms old → FinalStandsFor timeout (left_of timeout closing ms) new)
+      → (word : AggWord) → FoldStands word ms (OfFinal old) → FoldStands word (left_by word closing ms) (OfFinal new)
+  final_forget new closing ms h MinMax s = absurd s
+  final_forget new closing ms h (Basic sum count min max) s = absurd s
+  final_forget new closing ms h Merge s = absurd s
+  final_forget new closing ms h (Final timeout) s = h timeout s
 
-  pub final_made : (Q : List Content → Type 0) (time moment : ℤ) (all : Bool) (ms : List Content)
-      → ((timeout : ℤ) → FinalStandsFor timeout ms old
-      → Q (finals_of timeout (record { moment = moment; all = all }) ms))
-      → (word : AggWord) → FoldStands word ms (OfFinal old)
-      → Q (folded word time (record { moment = moment; all = all }) ms)
-  final_made Q time moment all ms h MinMax s = absurd s
-  final_made Q time moment all ms h (Basic sum count min max) s = absurd s
-  final_made Q time moment all ms h Merge s = absurd s
-  final_made Q time moment all ms h (Final timeout) s = h timeout s
+  pub final_made : (Q : List Content → Type 0) (time : ℤ) (closing : Closing) (ms : List Content)
+      → ((timeout : ℤ) → FinalStandsFor timeout ms old → Q (finals_of timeout closing ms))
+      → (word : AggWord) → FoldStands word ms (OfFinal old) → Q (folded word time closing ms)
+  final_made Q time closing ms h MinMax s = absurd s
+  final_made Q time closing ms h (Basic sum count min max) s = absurd s
+  final_made Q time closing ms h Merge s = absurd s
+  final_made Q time closing ms h (Final timeout) s = h timeout s
 
 -- ---- what is prepared
 

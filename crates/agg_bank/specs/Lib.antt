@@ -1,5 +1,4 @@
 pub mod Bank
-pub mod Closing
 pub mod Events
 pub mod Fold
 pub mod Laws

@@ -8,7 +8,7 @@ use Rattle.agg_keep.specs.Final.{finals_of}
 use Rattle.agg_keep.specs.Merge.{merge_of}
 use Rattle.agg_stats.specs.Folds.{stats_of}
 use Rattle.agg_stats.specs.declared.kind.StatsKind.TheVariants as stats
-use Rattle.agg_bank.specs.Closing.{Closing}
+use Rattle.agg_keep.specs.declared.closing.Closing.{Closing}
 use Rattle.agg_bank.specs.Events.{BankEvent}
 use Rattle.agg_bank.specs.Members.{members}
 use Rattle.agg_bank.specs.Windows.{closing_at, time_of}
@@ -18,8 +18,7 @@ abbrev pub folded : AggWord → ℤ → Closing → List Content → List Conten
 folded MinMax time closing members = stats_of stats.MinMax time members
 folded (Basic sum count min max) time closing members = stats_of (stats.Basic sum count min max) time members
 folded Merge time closing members = merge_of members
-folded (Final timeout) time closing members =
-    finals_of timeout (record { moment = closing.moment; all = closing.all }) members
+folded (Final timeout) time closing members = finals_of timeout closing members
 
 -- nothing without a closing
 abbrev pub folded_at : AggWord → ℤ → Option Closing → List Content → List Content

@@ -5,7 +5,7 @@ use Rattle.account.specs.declared.setup.AggWord.{AggWord}
 use Rattle.account.specs.declared.setup.AggWord.TheVariants.{MinMax, Basic, Merge, Final}
 use Rattle.metric.specs.declared.metric.Content.{Content}
 use Rattle.agg_keep.specs.Final.{left_of}
-use Rattle.agg_bank.specs.Closing.{Closing}
+use Rattle.agg_keep.specs.declared.closing.Closing.{Closing}
 use Rattle.agg_bank.specs.Events.{BankEvent, view_at}
 use Rattle.agg_bank.specs.Windows.{closing_at, takes}
 
@@ -14,8 +14,7 @@ abbrev pub left_by : AggWord → Closing → List Content → List Content
 left_by MinMax closing members = []
 left_by (Basic sum count min max) closing members = []
 left_by Merge closing members = []
-left_by (Final timeout) closing members =
-    left_of timeout (record { moment = closing.moment; all = closing.all }) members
+left_by (Final timeout) closing members = left_of timeout closing members
 
 -- without a closing all are left
 abbrev pub left : AggWord → Option Closing → List Content → List Content

@@ -11,7 +11,7 @@ use Rattle.agg_keep.specs.FinalKept as final
 use Rattle.agg_keep.specs.MergeKept as merge
 use Rattle.agg_stats.specs.Kept as stats
 use Rattle.agg_bank.specs.Bank.{AggMemory, AggStands, FoldMemory, FoldStands, OfFinal, OfMerge, OfStats}
-use Rattle.agg_bank.specs.Closing.{Closing}
+use Rattle.agg_keep.specs.declared.closing.Closing.{Closing}
 use Rattle.agg_bank.specs.Events.{has_stopped, offered, BankEvent, Offer}
 use Rattle.agg_bank.specs.Open.{begin_at, is_open_to}
 

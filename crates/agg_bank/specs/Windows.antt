@@ -5,7 +5,7 @@ use Rattle.std.specs.Int.{int_div_euclid, int_max, int_min}
 use Rattle.std.specs.List.{fold}
 use Rattle.account.specs.declared.setup.AggLine.{AggLine}
 use Rattle.metric.specs.declared.metric.Content.{Content}
-use Rattle.agg_bank.specs.Closing.{Closing}
+use Rattle.agg_keep.specs.declared.closing.Closing.{Closing}
 use Rattle.agg_bank.specs.Events.{has_stopped, ticks_of, BankEvent, Offer, Tick, Stop}
 
 -- the window in which a moment is: the moment by the period, rounded down

@@ -10,6 +10,7 @@ ghost use Rattle.agg_bank.specs.Ready.{closes_at, takes_at, IsReadyFor, Keeps};
 use crate::fold::Fold;
 use crate::window::{begin_after, begin_at_start, begin_at_tick, end_time, is_open_to};
 use account::AggLine;
+use agg_keep::Closing;
 use fixed_num::{Moment, OutOfMemory};
 use metric::Metric;
 use std::alloc::Global;
@@ -117,51 +118,49 @@ impl Aggregator {
         self.fold.add_prepared();
     }
 
-    /// Is a tick or the stop at a moment a closing to it?
-    fn closes(&self, stopped: bool, moment: Moment, all: bool) -> bool
-        ensures { result ≡ closes_at stopped self.now moment all }
+    /// Is a tick or the stop a closing to it?
+    fn closes(&self, stopped: bool, closing: Closing) -> bool
+        ensures { result ≡ closes_at stopped self.now closing.moment closing.all }
     {
         if stopped {
             return false;
         }
-        if all {
+        if closing.all {
             return true;
         }
-        self.begin < begin_at_tick(self.line, moment)
+        self.begin < begin_at_tick(self.line, closing.moment)
     }
 
-    /// Appends what it makes at a tick, or at the stop, at a moment. Nothing else changes.
+    /// Appends what it makes at a tick, or at the stop. Nothing else changes.
     pub(crate) fn append_made(
         &self,
         stopped: bool,
-        moment: Moment,
-        all: bool,
+        closing: Closing,
         made: &mut Vec<Metric>,
     ) -> Result<(), OutOfMemory>
         ensures { (aggregator : ℕ) (start : ℤ) (events : List BankEvent) → stopped ≡ has_stopped events
             → AggStands aggregator start events self.now
-            → OnOk result (made.new.items
-            ≡ made.old.items ++ made_by aggregator self.now.line start events (closing_event all moment)) }
+            → OnOk result (made.new.items ≡ made.old.items
+            ++ made_by aggregator self.now.line start events (closing_event closing.all closing.moment)) }
     {
         let time = end_time(self.line, self.begin);
-        if !self.closes(stopped, moment, all) {
+        if !self.closes(stopped, closing) {
             return Ok(());
         }
-        let mut more = self.fold.made(time, moment, all)?;
+        let mut more = self.fold.made(time, closing)?;
         made.append(&mut more)?;
         Ok(())
     }
 
-    /// A tick, or the stop, at a moment: its members are forgotten where that is a closing, and a tick moves its window
-    /// on.
-    pub(crate) fn close(&mut self, stopped: bool, moment: Moment, all: bool)
+    /// A tick, or the stop: its members are forgotten where that is a closing, and a tick moves its window on.
+    pub(crate) fn close(&mut self, stopped: bool, closing: Closing)
         ensures line { self.new.line ≡ self.old.line }
         ensures stands { (aggregator : ℕ) (start : ℤ) (events : List BankEvent) → stopped ≡ has_stopped events
             → AggStands aggregator start events self.old
-            → AggStands aggregator start (events ++ closing_event all moment ∷ []) self.new }
+            → AggStands aggregator start (events ++ closing_event closing.all closing.moment ∷ []) self.new }
     {
-        let closes = self.closes(stopped, moment, all);
-        self.fold.forget_where(closes, moment, all);
-        self.begin = begin_after(self.line, self.begin, moment, all);
+        let closes = self.closes(stopped, closing);
+        self.fold.forget_where(closes, closing);
+        self.begin = begin_after(self.line, self.begin, closing);
     }
 }

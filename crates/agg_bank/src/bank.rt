@@ -12,6 +12,7 @@ ghost use Rattle.agg_bank.specs.Verdicts.{verdict_on};
 
 use crate::aggregator::Aggregator;
 use account::{AggLine, Verdict};
+use agg_keep::Closing;
 use fixed_num::{Moment, OutOfMemory};
 use metric::Metric;
 use std::alloc::Global;
@@ -77,13 +78,7 @@ impl Bank {
             → BankStands lines start events self.now
             → IfOk result (λ made. made.items ≡ made_at lines start events (Tick moment)) }
     {
-        made_by_all(
-            self.alloc,
-            self.aggregators.as_slice(),
-            self.stopped,
-            moment,
-            false,
-        )
+        Ok(self.made_by(Closing { moment, all: false })?)
     }
 
     /// A tick at a moment: a window closes whose end and delay are at or before it, and the one opens in which the moment
@@ -94,7 +89,7 @@ impl Bank {
             → BankStands lines start (events ++ Tick moment ∷ []) self.new }
         ensures lines { lines_of self.new ≡ lines_of self.old }
     {
-        close_each(&mut self.aggregators, self.stopped, moment, false);
+        self.close_by(Closing { moment, all: false });
     }
 
     /// What the stop at a moment would make. Nothing changes.
@@ -103,13 +98,7 @@ impl Bank {
             → BankStands lines start events self.now
             → IfOk result (λ made. made.items ≡ made_at lines start events (Stop moment)) }
     {
-        made_by_all(
-            self.alloc,
-            self.aggregators.as_slice(),
-            self.stopped,
-            moment,
-            true,
-        )
+        Ok(self.made_by(Closing { moment, all: true })?)
     }
 
     /// The stop at a moment: all windows close, and from then on nothing is taken. It takes no memory.
@@ -119,8 +108,7 @@ impl Bank {
             → BankStands lines start (events ++ Stop moment ∷ []) self.new }
         ensures lines { lines_of self.new ≡ lines_of self.old }
     {
-        close_each(&mut self.aggregators, self.stopped, moment, true);
-        self.stopped = true;
+        self.close_by(Closing { moment, all: true });
     }
 
     /// A tick at a moment, and what it makes. After an error the bank is as before.
@@ -153,6 +141,28 @@ impl Bank {
         let made = self.due_at_stop(moment)?;
         self.close_all(moment);
         Ok(made)
+    }
+
+    // What a tick, or the stop, would make, the aggregators in order. Nothing changes.
+    fn made_by(&self, closing: Closing) -> Result<Vec<Metric>, OutOfMemory>
+        ensures { (lines : List AggLine) (start : ℤ) (events : List BankEvent)
+            → BankStands lines start events self.now
+            → IfOk result
+            (λ made. made.items ≡ made_at lines start events (closing_event closing.all closing.moment)) }
+    {
+        let aggregators = self.aggregators.as_slice();
+        made_by_all(self.alloc, aggregators, self.stopped, closing)
+    }
+
+    // A tick, or the stop. It takes no memory.
+    fn close_by(&mut self, closing: Closing)
+        ensures stands { (lines : List AggLine) (start : ℤ) (events : List BankEvent)
+            → BankStands lines start events self.old
+            → BankStands lines start (events ++ closing_event closing.all closing.moment ∷ []) self.new }
+        ensures lines { lines_of self.new ≡ lines_of self.old }
+    {
+        close_each(&mut self.aggregators, self.stopped, closing);
+        self.stopped |= closing.all;
     }
 }
 
@@ -216,31 +226,31 @@ fn add_all(aggregators: &mut Vec<Aggregator>, stopped: bool, views: &[Option<Met
     }
 }
 
-/// What a tick, or the stop, at a moment makes, the aggregators in order.
+/// What a tick, or the stop, makes, the aggregators in order.
 fn made_by_all(
     alloc: Global,
     aggregators: &[Aggregator],
     stopped: bool,
-    moment: Moment,
-    all: bool,
+    closing: Closing,
 ) -> Result<Vec<Metric>, OutOfMemory>
     ensures { (start : ℤ) (events : List BankEvent) → stopped ≡ has_stopped events
         → AllStand start events aggregators.now
-        → IfOk result
-        (λ made. made.items ≡ made_from 0 (lines_in aggregators.now) start events (closing_event all moment)) }
+        → IfOk result (λ made. made.items
+        ≡ made_from 0 (lines_in aggregators.now) start events (closing_event closing.all closing.moment)) }
 {
     let mut made = Vec::new(alloc);
     for aggregator in aggregators {
-        aggregator.append_made(stopped, moment, all, &mut made)?;
+        aggregator.append_made(stopped, closing, &mut made)?;
     }
     Ok(made)
 }
 
-/// A tick, or the stop, at a moment, for each aggregator.
-fn close_each(aggregators: &mut Vec<Aggregator>, stopped: bool, moment: Moment, all: bool)
-    ensures { EachIs (Closes stopped (closing_event all moment)) aggregators.old.items aggregators.new.items }
+/// A tick, or the stop, for each aggregator.
+fn close_each(aggregators: &mut Vec<Aggregator>, stopped: bool, closing: Closing)
+    ensures { EachIs (Closes stopped (closing_event closing.all closing.moment))
+        aggregators.old.items aggregators.new.items }
 {
     'aggregators: for at in 0..aggregators.len() {
-        aggregators[at].close(stopped, moment, all);
+        aggregators[at].close(stopped, closing);
     }
 }

@@ -9,7 +9,7 @@ ghost use Rattle.agg_bank.specs.Members.{left, left_by};
 ghost use Rattle.agg_bank.specs.Ready.{closing_if, FoldCanAdd, FoldIsReady};
 
 use account::AggWord;
-use agg_keep::{Final, Merge};
+use agg_keep::{Closing, Final, Merge};
 use agg_stats::{Stats, StatsKind};
 use fixed_num::{Moment, OutOfMemory};
 use metric::Metric;
@@ -80,43 +80,37 @@ impl Fold {
     }
 
     /// The metrics that the members make at a closing: minmax and basicstats give them a time. Nothing changes.
-    pub(crate) fn made(
-        &self,
-        time: Moment,
-        moment: Moment,
-        all: bool,
-    ) -> Result<Vec<Metric>, OutOfMemory>
+    pub(crate) fn made(&self, time: Moment, closing: Closing) -> Result<Vec<Metric>, OutOfMemory>
         ensures { (kind : Word) (members : List Content) → FoldStands kind members (memory_of self.now)
-            → IfOk result
-            (λ made. made.items ≡ folded kind time (record { moment = moment; all = all }) members) }
+            → IfOk result (λ made. made.items ≡ folded kind time closing members) }
     {
         match self {
             Fold::Stats(stats) => stats.made(time),
             Fold::Merge(merge) => merge.made(),
-            Fold::Final(last) => last.made(moment, all),
+            Fold::Final(last) => last.made(closing.moment, closing.all),
         }
     }
 
     /// Forgets the members that a closing gives, where there is one. It takes no memory.
-    pub(crate) fn forget_where(&mut self, closes: bool, moment: Moment, all: bool)
+    pub(crate) fn forget_where(&mut self, closes: bool, closing: Closing)
         ensures { (kind : Word) (members : List Content) → FoldStands kind members (memory_of self.old)
-            → FoldStands kind (left kind (closing_if closes moment all) members) (memory_of self.new) }
+            → FoldStands kind (left kind (closing_if closes closing.moment closing.all) members) (memory_of self.new) }
     {
         if !closes {
             return;
         }
-        self.forget(moment, all);
+        self.forget(closing);
     }
 
     /// Forgets the members that a closing gives. It takes no memory.
-    fn forget(&mut self, moment: Moment, all: bool)
+    fn forget(&mut self, closing: Closing)
         ensures { (kind : Word) (members : List Content) → FoldStands kind members (memory_of self.old)
-            → FoldStands kind (left_by kind (record { moment = moment; all = all }) members) (memory_of self.new) }
+            → FoldStands kind (left_by kind closing members) (memory_of self.new) }
     {
         match self {
             Fold::Stats(stats) => stats.forget(),
             Fold::Merge(merge) => merge.forget(),
-            Fold::Final(last) => last.forget(moment, all),
+            Fold::Final(last) => last.forget(closing.moment, closing.all),
         }
     }
 }

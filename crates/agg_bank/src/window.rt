@@ -6,6 +6,7 @@ ghost use Rattle.agg_bank.specs.Open.{begin_after, begin_at, is_open_to, IsBegin
 ghost use Rattle.agg_bank.specs.Windows.{last_moment};
 
 use account::AggLine;
+use agg_keep::Closing;
 use fixed_num::Moment;
 
 /// Where the window of a line begins in which a moment is: at the last multiple of the period that isn't behind it.
@@ -29,17 +30,17 @@ pub(crate) fn begin_at_start(line: AggLine, start: Moment) -> i128
     begin_at(line, start as i128)
 }
 
-/// Where the window of a line begins behind a tick, or behind the stop, at a moment, which began here before.
-pub(crate) fn begin_after(line: AggLine, begin: i128, moment: Moment, all: bool) -> i128
+/// Where the window of a line begins behind a tick, or behind the stop, which began here before.
+pub(crate) fn begin_after(line: AggLine, begin: i128, closing: Closing) -> i128
     requires line { IsLine line }
     requires begin { IsBegin line begin }
-    ensures value { result ≡ begin_after line begin moment all }
+    ensures value { result ≡ begin_after line begin closing.moment closing.all }
     ensures fits { IsBegin line result }
 {
-    if all {
+    if closing.all {
         return begin;
     }
-    begin.max(begin_at_tick(line, moment))
+    begin.max(begin_at_tick(line, closing.moment))
 }
 
 /// Where the window of a line begins in which a moment less the delay is.

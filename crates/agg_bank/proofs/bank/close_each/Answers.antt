@@ -1,14 +1,12 @@
-use Rattle.std.proofs.Common.{◌<◌, ℤ, length, of_z, to_z, subst, arith}
-use Rattle.std.proofs.lemmas.Int.{to_z-of_z}
-use Rattle.std.specs.Int.{w64}
+use Rattle.std.proofs.Common.{◌<◌, length, arith}
 use Rattle.agg_bank.specs.Events.{closing_event}
-use Rattle.agg_bank.specs.Ready.{Closes, EachIs}
+use Rattle.agg_bank.specs.Ready.{Closes}
 use Rattle.agg_bank.proofs.SweepLemmas.{all_swept, long_as, more_swept, none_swept}
 use Rattle.agg_bank.proofs.bank.close_each.Goals as goal
 
 pub aggregators-init : goal.aggregators-init
 aggregators-init c =
-    none_swept (Closes c.args.stopped (closing_event c.args.all (to_z w64 (of_z w64 c.args.moment))))
+    none_swept (Closes c.args.stopped (closing_event c.args.closing.all c.args.closing.moment))
     c.args.aggregators.now.items
 
 pub index_mut-requires : goal.index_mut-requires
@@ -30,7 +28,7 @@ aggregators-preserved c =
     let within : l.at < length news =
     omega (arith, c.len-at-end.ensures, c.args.aggregators.now.ok.0, long_as olds news l.invariant.lines) in
     let closed = c.close.ensures in
-    more_swept (Closes c.args.stopped (closing_event c.args.all (to_z w64 (of_z w64 c.args.moment)))) l.at olds news
+    more_swept (Closes c.args.stopped (closing_event c.args.closing.all c.args.closing.moment)) l.at olds news
     l.invariant c.index_mut.result.now c.close.new.self within c.index_mut.ensures.value closed.line
     (record {
       line = closed.line;
@@ -40,8 +38,6 @@ aggregators-preserved c =
 pub returns : goal.returns
 returns c =
     let l = c.aggregators in
-    let olds = c.args.aggregators.now.items in
-    subst (λ (moment : ℤ). EachIs (Closes c.args.stopped (closing_event c.args.all moment)) olds l.aggregators.items)
-    (to_z-of_z w64 c.args.moment c.ranges.moment)
-    (all_swept (Closes c.args.stopped (closing_event c.args.all (to_z w64 (of_z w64 c.args.moment)))) l.at olds
-    l.aggregators.items l.invariant (omega (arith, c.len-at-end.ensures, c.args.aggregators.now.ok.0)))
+    all_swept (Closes c.args.stopped (closing_event c.args.closing.all c.args.closing.moment)) l.at
+    c.args.aggregators.now.items l.aggregators.items l.invariant
+    (omega (arith, c.len-at-end.ensures, c.args.aggregators.now.ok.0))

@@ -5,4 +5,5 @@ use Rattle.agg_bank.proofs.bank.close_each.Given as goal
 
 abbrev pub invariant-aggregators : goal.invariant-aggregators
 invariant-aggregators l =
-    Swept (Closes l.stopped (closing_event l.all l.moment)) l.at l.fn.aggregators.items l.aggregators.items
+    Swept (Closes l.stopped (closing_event l.closing.all l.closing.moment)) l.at l.fn.aggregators.items
+    l.aggregators.items

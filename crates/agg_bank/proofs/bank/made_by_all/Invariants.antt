@@ -8,5 +8,5 @@ abbrev pub invariant-loop-aggregator : goal.invariant-loop-aggregator
 invariant-loop-aggregator l =
     (start : ℤ) (events : List BankEvent) → l.stopped ≡ has_stopped events → AllStand start events l.aggregators
     → l.made.items ++ made_from l.aggregator-index (lines_in (drop l.aggregator-index l.aggregators)) start events
-    (closing_event l.all l.moment)
-    ≡ made_from 0 (lines_in l.aggregators) start events (closing_event l.all l.moment)
+    (closing_event l.closing.all l.closing.moment)
+    ≡ made_from 0 (lines_in l.aggregators) start events (closing_event l.closing.all l.closing.moment)

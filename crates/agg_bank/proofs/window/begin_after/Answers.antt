@@ -10,13 +10,14 @@ pub returns-clause-value : goal.returns-clause-value
 returns-clause-value c =
     let opened_fits : FitsSigned w128 c.begin_at_tick.result = search rules in
     let max_fits : FitsSigned w128 c.max.result = search rules in
-    let is : c.max.result ≡ int_max c.args.begin (begin_at c.args.line (c.args.moment -ℤ c.args.line.delay)) =
+    let moment_fits : FitsSigned w64 c.args.closing.moment = search rules in
+    let is : c.max.result ≡ int_max c.args.begin (begin_at c.args.line (c.args.closing.moment -ℤ c.args.line.delay)) =
     c.max.ensures.value ∙ ap₂ int_max (to_z-of_z w128 c.args.begin c.ranges.begin)
     (to_z-of_z w128 c.begin_at_tick.result opened_fits ∙ c.begin_at_tick.ensures.value
     ∙ ap (λ (moment : ℤ). begin_at c.args.line (moment -ℤ c.args.line.delay))
-    (to_z-of_z w64 c.args.moment c.ranges.moment)) in
+    (to_z-of_z w64 c.args.closing.moment moment_fits)) in
     to_z-of_z w128 c.max.result max_fits ∙ is
-    ∙ after_tick c.args.line c.args.begin c.args.moment c.args.all c.if-all.false
+    ∙ after_tick c.args.line c.args.begin c.args.closing.moment c.args.closing.all c.if-closing.false
 
 pub returns-clause-fits : goal.returns-clause-fits
 returns-clause-fits c =

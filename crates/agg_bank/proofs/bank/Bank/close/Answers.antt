@@ -1,19 +1,8 @@
-use Rattle.std.proofs.Common.{◌∙◌, ℤ, ap, subst, sym}
-use Rattle.std.proofs.lemmas.Int.{to_z-of_z}
-use Rattle.std.specs.Int.{w64}
-use Rattle.agg_bank.specs.Bank.{lines_of, BankMemory, BankStands}
-use Rattle.agg_bank.specs.Events.{Tick}
-use Rattle.agg_bank.specs.Ready.{Closes, EachIs}
-use Rattle.agg_bank.proofs.BankLemmas.{bank_ticked}
+use Rattle.std.proofs.Common.{false}
+use Rattle.agg_bank.proofs.BankLemmas.{closed_read}
 use Rattle.agg_bank.proofs.bank.Bank.close.Goals as goal
 
 pub returns-clause-stands : goal.returns-clause-stands
 returns-clause-stands c = λ lines start events stands.
-    let i = c.self.inside in
-    bank_ticked lines start events i.aggregators.items i.stopped
-    (subst (BankStands lines start events) (sym c.self.view_is) stands) c.args.moment c.close_each.new.aggregators.items
-    (subst (λ (moment : ℤ). EachIs (Closes i.stopped (Tick moment)) i.aggregators.items
-    c.close_each.new.aggregators.items) (to_z-of_z w64 c.args.moment c.ranges.moment) c.close_each.ensures)
-
-pub returns-clause-lines : goal.returns-clause-lines
-returns-clause-lines c = c.close_each.ensures.lines ∙ ap (λ (b : BankMemory). lines_of b) c.self.view_is
+    closed_read lines start events false c.args.moment c.ranges.moment _
+    (c.close_by.ensures.stands lines start events stands)

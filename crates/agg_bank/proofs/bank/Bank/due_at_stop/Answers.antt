@@ -1,22 +1,8 @@
-use Rattle.std.proofs.Common.{◌≡◌, ◌∙◌, ℤ, true, List, ap₂, subst, sym, IfOk}
-use Rattle.std.proofs.lemmas.Int.{to_z-of_z}
-use Rattle.std.specs.Int.{w64}
-use Rattle.metric.specs.declared.metric.Content.{Content}
-use Rattle.agg_bank.specs.Bank.{AggMemory, BankStands}
-use Rattle.agg_bank.specs.Events.{closing_event}
-use Rattle.agg_bank.specs.Made.{made_from}
-use Rattle.agg_bank.specs.Ready.{lines_in, AllStand}
-use Rattle.agg_bank.proofs.BankLemmas.{bank_of, made_all}
+use Rattle.std.proofs.Common.{◌∙◌, true}
+use Rattle.agg_bank.proofs.BankLemmas.{made_read}
 use Rattle.agg_bank.proofs.bank.Bank.due_at_stop.Goals as goal
 
 pub returns : goal.returns
 returns c = λ lines start events stands.
-    let i = c.self.inside in
-    let s : BankStands lines start events (bank_of i.aggregators.items i.stopped) =
-    subst (BankStands lines start events) (sym c.self.view_is) stands in
-    subst (λ (whole : List Content). IfOk c.made_by_all.result (λ made. made.items ≡ whole))
-    (ap₂ (λ (aggregators : List AggMemory) (moment : ℤ).
-    made_from 0 (lines_in aggregators) start events (closing_event true moment))
-    c.as_slice.ensures.value (to_z-of_z w64 c.args.moment c.ranges.moment)
-    ∙ made_all lines start events i.aggregators.items i.stopped s true c.args.moment)
-    (c.made_by_all.ensures start events s.stopped (subst (AllStand start events) (sym c.as_slice.ensures.value) s.each))
+    c.in_ok-made_by.ensures lines start events stands
+    ∙ made_read lines start events true c.args.moment c.ranges.moment

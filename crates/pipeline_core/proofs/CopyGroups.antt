@@ -190,7 +190,7 @@ IsQuiet (Tick moment all) = Unit {0}
 IsQuiet (Stop moment all) = Unit {0}
 IsQuiet _ = ⊥
 
-quiet_plain : (e : Entry) → IsQuiet e → IsPlain e
+pub quiet_plain : (e : Entry) → IsQuiet e → IsPlain e
 quiet_plain (Gather input moment pieces refused passed filtered metrics group reports) is = absurd is
 quiet_plain (Ended input) is = tt
 quiet_plain (Take item) is = tt

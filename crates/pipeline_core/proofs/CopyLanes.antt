@@ -107,12 +107,12 @@ IsPlainAt o (Begin output from to) = o ≢ output
 IsPlainAt o (Done output ok reports) = o ≢ output
 IsPlainAt o _ = Unit {0}
 
-record Nothing (o : ℕ) (e : Entry) : Type 0 where
-  events : lane_events_by o e ≡ []
-  offers : offered_by o e ≡ []
-  kept : (t : Fate → Bool) (q : ℕ → Bool) → kept_of t q o e ≡ 0
+pub record Nothing (o : ℕ) (e : Entry) : Type 0 where
+  pub events : lane_events_by o e ≡ []
+  pub offers : offered_by o e ≡ []
+  pub kept : (t : Fate → Bool) (q : ℕ → Bool) → kept_of t q o e ≡ 0
 
-nothing : (o : ℕ) (e : Entry) → IsPlainAt o e → Nothing o e
+pub nothing : (o : ℕ) (e : Entry) → IsPlainAt o e → Nothing o e
 nothing o (Gather input moment pieces refused passed filtered metrics group reports) is =
     record { events = refl; offers = refl; kept = λ t q. refl }
 nothing o (Ended input) is = record { events = refl; offers = refl; kept = λ t q. refl }

@@ -19,7 +19,7 @@ use Rattle.out_lane.specs.LaneCounts.{ones}
 use Rattle.out_lane.specs.LaneEvents as lane
 use Rattle.out_lane.specs.LaneLaws.{IsLaneOf, Pushes}
 use Rattle.out_lane.proofs.LaneLemmas.{push_meets}
-use Rattle.track_groups.specs.Settling.{Copy, drops, times}
+use Rattle.track_groups.specs.Settling.{drops, times}
 use Rattle.pipeline_core.specs.Offers.{lane_events, offer_of, offered, pushes, view_at}
 use Rattle.pipeline_core.specs.Fates.{Fate, is_buffered, is_dropped}
 use Rattle.pipeline_core.specs.Legal.{IsLegal, MeetsLine}
@@ -33,23 +33,13 @@ use Rattle.pipeline_core.proofs.CopyLanes.{drops_in, times_in}
 
 -- ---- an item that is routed
 
--- the copies that a routed item's view pushes out at an output
-abbrev pub gone_at : Verdict → Option Content → LaneState (Option ℕ) → List Copy
-gone_at verdicts.Passes view x = gone_for view x
-gone_at _ view x = []
-
--- whether it comes to the output
-abbrev pub comes_at : Verdict → Option Content → Bool
-comes_at verdicts.Passes view = is_some view
-comes_at _ view = false
-
 -- a lane of groups, once an item of a group was routed
 abbrev pub marks_routed : Verdict → Option Content → Option ℕ → LaneState (Option ℕ) → LaneState (Option ℕ)
 marks_routed verdicts.Passes view grp x = marked_with grp view x
 marks_routed _ view grp x = x
 
 -- an item that comes to no lane
-stays_out : (setup : Setup) (t : Fate → Bool) (l o : ℕ) (es : List Entry) (item : ℕ) (whole : Option Content)
+pub stays_out : (setup : Setup) (t : Fate → Bool) (l o : ℕ) (es : List Entry) (item : ℕ) (whole : Option Content)
     (verdict : Verdict) (aggs outs : List (Option Content)) (reports : List Report) (g : ℕ) →
     let e : Entry = Route item whole verdict aggs outs reports in
     IsLegal setup es → MeetsLine setup es e → IsLaneTest t → offered item verdict (view_at o outs) ≡ []
@@ -83,7 +73,8 @@ ones_if : (b : Bool) → ones b ≡ one_if b
 ones_if true = refl
 ones_if false = refl
 
-view_buffered : (view : Option Content) (setup : Setup) (b l o : ℕ) (es : List Entry) (item : ℕ)
+-- what is buffered, with a view more
+pub view_buffered : (view : Option Content) (setup : Setup) (b l o : ℕ) (es : List Entry) (item : ℕ)
     (whole : Option Content) (aggs outs : List (Option Content)) (reports : List Report) (g : ℕ)
     (x : LaneState (Option ℕ)) →
     let e : Entry = Route item whole verdicts.Passes aggs outs reports in
@@ -104,7 +95,8 @@ view_buffered (Some view) setup b l o es item whole aggs outs reports g x h m v 
       ones_if (is_number g (origin_at es item).group),
     )
 
-view_dropped : (view : Option Content) (setup : Setup) (b l o : ℕ) (es : List Entry) (item : ℕ)
+-- and what is dropped
+pub view_dropped : (view : Option Content) (setup : Setup) (b l o : ℕ) (es : List Entry) (item : ℕ)
     (whole : Option Content) (aggs outs : List (Option Content)) (reports : List Report) (g : ℕ)
     (x : LaneState (Option ℕ)) →
     let e : Entry = Route item whole verdicts.Passes aggs outs reports in
@@ -121,59 +113,6 @@ view_dropped (Some view) setup b l o es item whole aggs outs reports g x h m v a
       arith,
       comes_in setup is_dropped b l o es item whole aggs outs reports g view x h m dropped-of_lane v at,
       drops_in g true (option_to_list (pushed_out x)),
-    )
-
--- what is buffered, with a Route more
-pub route_buffered : (verdict : Verdict) (setup : Setup) (b l o : ℕ) (es : List Entry) (item : ℕ)
-    (whole : Option Content) (aggs outs : List (Option Content)) (reports : List Report) (g : ℕ)
-    (x : LaneState (Option ℕ)) →
-    let e : Entry = Route item whole verdict aggs outs reports in
-    IsLegal setup es → MeetsLine setup es e → IsLaneOf b l (lane_events o es) (marks o es) x
-    → fate_count is_buffered l o (es ++ e ∷ []) g + times g (gone_at verdict (view_at o outs) x)
-    ≡ fate_count is_buffered l o es g + one_if
-    (comes_at verdict (view_at o outs) && is_number g (origin_at es item).group)
-route_buffered verdicts.Passes setup b l o es item whole aggs outs reports g x h m at =
-    view_buffered (view_at o outs) setup b l o es item whole aggs outs reports g x h m refl at
-route_buffered verdicts.Consumed setup b l o es item whole aggs outs reports g x h m at =
-    omega (
-      arith,
-      stays_out setup is_buffered l o es item whole verdicts.Consumed aggs outs reports g h m buffered-of_lane refl,
-    )
-route_buffered verdicts.Late setup b l o es item whole aggs outs reports g x h m at =
-    omega (
-      arith,
-      stays_out setup is_buffered l o es item whole verdicts.Late aggs outs reports g h m buffered-of_lane refl,
-    )
-route_buffered verdicts.Removed setup b l o es item whole aggs outs reports g x h m at =
-    omega (
-      arith,
-      stays_out setup is_buffered l o es item whole verdicts.Removed aggs outs reports g h m buffered-of_lane refl,
-    )
-
--- and what is dropped
-pub route_dropped : (verdict : Verdict) (setup : Setup) (b l o : ℕ) (es : List Entry) (item : ℕ)
-    (whole : Option Content) (aggs outs : List (Option Content)) (reports : List Report) (g : ℕ)
-    (x : LaneState (Option ℕ)) →
-    let e : Entry = Route item whole verdict aggs outs reports in
-    IsLegal setup es → MeetsLine setup es e → IsLaneOf b l (lane_events o es) (marks o es) x
-    → fate_count is_dropped l o (es ++ e ∷ []) g
-    ≡ fate_count is_dropped l o es g + drops g (gone_at verdict (view_at o outs) x)
-route_dropped verdicts.Passes setup b l o es item whole aggs outs reports g x h m at =
-    view_dropped (view_at o outs) setup b l o es item whole aggs outs reports g x h m refl at
-route_dropped verdicts.Consumed setup b l o es item whole aggs outs reports g x h m at =
-    omega (
-      arith,
-      stays_out setup is_dropped l o es item whole verdicts.Consumed aggs outs reports g h m dropped-of_lane refl,
-    )
-route_dropped verdicts.Late setup b l o es item whole aggs outs reports g x h m at =
-    omega (
-      arith,
-      stays_out setup is_dropped l o es item whole verdicts.Late aggs outs reports g h m dropped-of_lane refl,
-    )
-route_dropped verdicts.Removed setup b l o es item whole aggs outs reports g x h m at =
-    omega (
-      arith,
-      stays_out setup is_dropped l o es item whole verdicts.Removed aggs outs reports g h m dropped-of_lane refl,
     )
 
 view_lane : (view : Option Content) (setup : Setup) (b l o : ℕ) (es : List Entry) (item : ℕ) (whole : Option Content)

@@ -20,7 +20,7 @@ use Rattle.out_lane.specs.Lane.{LaneState}
 use Rattle.out_lane.specs.LaneLaws.{IsLaneOf}
 use Rattle.track_groups.specs.Settling.{Copy, drops, is_copy_of, is_dropped_of, times}
 use Rattle.pipeline_core.specs.CoreState.{sizes_at}
-use Rattle.pipeline_core.specs.Offers.{lane_events, view_at}
+use Rattle.pipeline_core.specs.Offers.{lane_events, offered, view_at}
 use Rattle.pipeline_core.specs.Fates.{Fate, is_buffered, is_dropped}
 use Rattle.pipeline_core.specs.Groups.{count_of_fate}
 use Rattle.pipeline_core.specs.Legal.{IsLegal, MeetsLine}
@@ -29,8 +29,8 @@ use Rattle.pipeline_core.proofs.CopyCounts.{count-append, count-cons, none_or}
 use Rattle.pipeline_core.specs.CoreState.{marked_at}
 use Rattle.pipeline_core.proofs.CopyLanes.{begin_count, done_buffered, done_dropped, IsPlain, plain_anywhere}
 use Rattle.pipeline_core.proofs.CopyLanes.{and_false, plain_count}
-use Rattle.pipeline_core.proofs.CopyRoutes.{comes_at, gone_at, route_buffered, route_dropped}
-use Rattle.pipeline_core.proofs.CopySteps.{fate_count, one_if}
+use Rattle.pipeline_core.proofs.CopyRoutes.{stays_out, view_buffered, view_dropped}
+use Rattle.pipeline_core.proofs.CopySteps.{buffered-of_lane, dropped-of_lane, fate_count, IsLaneTest, one_if}
 
 -- each output has a lane of groups
 pub record AreMarked (setup : Setup) (es : List Entry) (all : List (LaneState (Option ℕ))) : Type 0 where
@@ -233,35 +233,34 @@ none_counted {X} (x ∷ xs) = omega (arith, count-cons (λ (y : X). false) x xs,
 
 -- a verdict by which an item comes to no output
 record StaysOut (verdict : Verdict) : Type 0 where
-  gone : (view : Option Content) (x : LaneState (Option ℕ)) → gone_at verdict view x ≡ []
-  come : (view : Option Content) → comes_at verdict view ≡ false
+  offers : (item : ℕ) (view : Option Content) → offered item verdict view ≡ []
   copies : (outs : List (Option Content)) (all : List (LaneState (Option ℕ))) → routed_copies verdict outs all ≡ []
   comes : (outs : List (Option Content)) → comers verdict outs ≡ 0
 
 -- one that isn't counted then
+out_same : (t : Fate → Bool) (verdict : Verdict) (setup : Setup) (es : List Entry) (item : ℕ) (whole : Option Content)
+    (aggs outs : List (Option Content)) (reports : List Report) (g : ℕ) →
+    let e : Entry = Route item whole verdict aggs outs reports in
+    IsLegal setup es → MeetsLine setup es e → IsLaneTest t → StaysOut verdict
+    → count_of_fate t setup (es ++ e ∷ []) g ≡ count_of_fate t setup es g
+out_same t verdict setup es item whole aggs outs reports g h m is out =
+    let e : Entry = Route item whole verdict aggs outs reports in
+    sum_same (at_output t (es ++ e ∷ []) g) (at_output t es g) 0 setup.outputs
+    (λ i n q l. stays_out setup t (sizes_at setup i).1 n es item whole verdict aggs outs reports g h m is
+    (out.offers item (view_at n outs)))
+
 out_buffered : (verdict : Verdict) (setup : Setup) (es : List Entry) (item : ℕ) (whole : Option Content)
     (aggs outs : List (Option Content)) (reports : List Report) (g : ℕ) (all : List (LaneState (Option ℕ))) →
     let e : Entry = Route item whole verdict aggs outs reports in
-    IsLegal setup es → MeetsLine setup es e → AreMarked setup es all → StaysOut verdict
+    IsLegal setup es → MeetsLine setup es e → StaysOut verdict
     → count_of_fate is_buffered setup (es ++ e ∷ []) g + times g (routed_copies verdict outs all)
     ≡ count_of_fate is_buffered setup es g
     + (if is_number g (origin_at es item).group then comers verdict outs else 0)
-out_buffered verdict setup es item whole aggs outs reports g all h m are out =
-    let e : Entry = Route item whole verdict aggs outs reports in
+out_buffered verdict setup es item whole aggs outs reports g all h m out =
     let more : Bool = is_number g (origin_at es item).group in
-    let same : count_of_fate is_buffered setup (es ++ e ∷ []) g ≡ count_of_fate is_buffered setup es g =
-    sum_same (at_output is_buffered (es ++ e ∷ []) g) (at_output is_buffered es g) 0 setup.outputs
-    (λ i n q l. subst (λ (k : ℕ). fate_count is_buffered (sizes_at setup i).1 k (es ++ e ∷ []) g
-    ≡ fate_count is_buffered (sizes_at setup i).1 k es g) (plain_number i n q)
-    (omega (
-      arith,
-      route_buffered verdict setup (sizes_at setup i).0 (sizes_at setup i).1 i es item whole aggs outs reports g
-          (marked_at all i) h m (are.each i l),
-      ap (times g) (out.gone (view_at i outs) (marked_at all i)),
-      ap (λ (b : Bool). one_if (b && more)) (out.come (view_at i outs)),
-    ))) in
     omega (
       arith,
+      out_same is_buffered verdict setup es item whole aggs outs reports g h m buffered-of_lane out,
       ap (times g) (out.copies outs all),
       ap (λ (n : ℕ). if more then n else 0) (out.comes outs),
       none_or more 0,
@@ -270,31 +269,24 @@ out_buffered verdict setup es item whole aggs outs reports g all h m are out =
 out_dropped : (verdict : Verdict) (setup : Setup) (es : List Entry) (item : ℕ) (whole : Option Content)
     (aggs outs : List (Option Content)) (reports : List Report) (g : ℕ) (all : List (LaneState (Option ℕ))) →
     let e : Entry = Route item whole verdict aggs outs reports in
-    IsLegal setup es → MeetsLine setup es e → AreMarked setup es all → StaysOut verdict
+    IsLegal setup es → MeetsLine setup es e → StaysOut verdict
     → count_of_fate is_dropped setup (es ++ e ∷ []) g
     ≡ count_of_fate is_dropped setup es g + drops g (routed_copies verdict outs all)
-out_dropped verdict setup es item whole aggs outs reports g all h m are out =
-    let e : Entry = Route item whole verdict aggs outs reports in
-    let same : count_of_fate is_dropped setup (es ++ e ∷ []) g ≡ count_of_fate is_dropped setup es g =
-    sum_same (at_output is_dropped (es ++ e ∷ []) g) (at_output is_dropped es g) 0 setup.outputs
-    (λ i n q l. subst (λ (k : ℕ). fate_count is_dropped (sizes_at setup i).1 k (es ++ e ∷ []) g
-    ≡ fate_count is_dropped (sizes_at setup i).1 k es g) (plain_number i n q)
-    (omega (
+out_dropped verdict setup es item whole aggs outs reports g all h m out =
+    omega (
       arith,
-      route_dropped verdict setup (sizes_at setup i).0 (sizes_at setup i).1 i es item whole aggs outs reports g
-          (marked_at all i) h m (are.each i l),
-      ap (drops g) (out.gone (view_at i outs) (marked_at all i)),
-    ))) in
-    omega (arith, ap (drops g) (out.copies outs all))
+      out_same is_dropped verdict setup es item whole aggs outs reports g h m dropped-of_lane out,
+      ap (drops g) (out.copies outs all),
+    )
 
 consumed_out : StaysOut verdicts.Consumed
-consumed_out = record { gone = λ v x. refl; come = λ v. refl; copies = λ o a. refl; comes = λ o. refl }
+consumed_out = record { offers = λ i v. refl; copies = λ o a. refl; comes = λ o. refl }
 
 late_out : StaysOut verdicts.Late
-late_out = record { gone = λ v x. refl; come = λ v. refl; copies = λ o a. refl; comes = λ o. refl }
+late_out = record { offers = λ i v. refl; copies = λ o a. refl; comes = λ o. refl }
 
 removed_out : StaysOut verdicts.Removed
-removed_out = record { gone = λ v x. refl; come = λ v. refl; copies = λ o a. refl; comes = λ o. refl }
+removed_out = record { offers = λ i v. refl; copies = λ o a. refl; comes = λ o. refl }
 
 pub route_buffered_all : (verdict : Verdict) (setup : Setup) (es : List Entry) (item : ℕ) (whole : Option Content)
     (aggs outs : List (Option Content)) (reports : List Report) (g : ℕ) (all : List (LaneState (Option ℕ))) →
@@ -317,17 +309,17 @@ route_buffered_all verdicts.Passes setup es item whole aggs outs reports g all h
     (plain_number i n q)
     (omega (
       arith,
-      route_buffered verdicts.Passes setup (sizes_at setup i).0 (sizes_at setup i).1 i es item whole aggs outs
-          reports g (marked_at all i) h m (are.each i l),
+      view_buffered (view_at i outs) setup (sizes_at setup i).0 (sizes_at setup i).1 i es item whole aggs outs
+          reports g (marked_at all i) h m refl (are.each i l),
       none_counted (gone_for (view_at i outs) (marked_at all i)),
     ))) in
     omega (arith, none_counted (pushed_copies outs all))
 route_buffered_all verdicts.Consumed setup es item whole aggs outs reports g all h m are =
-    out_buffered verdicts.Consumed setup es item whole aggs outs reports g all h m are consumed_out
+    out_buffered verdicts.Consumed setup es item whole aggs outs reports g all h m consumed_out
 route_buffered_all verdicts.Late setup es item whole aggs outs reports g all h m are =
-    out_buffered verdicts.Late setup es item whole aggs outs reports g all h m are late_out
+    out_buffered verdicts.Late setup es item whole aggs outs reports g all h m late_out
 route_buffered_all verdicts.Removed setup es item whole aggs outs reports g all h m are =
-    out_buffered verdicts.Removed setup es item whole aggs outs reports g all h m are removed_out
+    out_buffered verdicts.Removed setup es item whole aggs outs reports g all h m removed_out
 
 pub route_dropped_all : (verdict : Verdict) (setup : Setup) (es : List Entry) (item : ℕ) (whole : Option Content)
     (aggs outs : List (Option Content)) (reports : List Report) (g : ℕ) (all : List (LaneState (Option ℕ))) →
@@ -350,15 +342,15 @@ route_dropped_all verdicts.Passes setup es item whole aggs outs reports g all h 
     (plain_number i n q)
     (omega (
       arith,
-      route_dropped verdicts.Passes setup (sizes_at setup i).0 (sizes_at setup i).1 i es item whole aggs outs
-          reports g (marked_at all i) h m (are.each i l),
+      view_dropped (view_at i outs) setup (sizes_at setup i).0 (sizes_at setup i).1 i es item whole aggs outs
+          reports g (marked_at all i) h m refl (are.each i l),
       none_counted (gone_for (view_at i outs) (marked_at all i)),
       ap one_if (and_false (is_some (view_at i outs))),
     ))) in
     omega (arith, none_counted (pushed_copies outs all))
 route_dropped_all verdicts.Consumed setup es item whole aggs outs reports g all h m are =
-    out_dropped verdicts.Consumed setup es item whole aggs outs reports g all h m are consumed_out
+    out_dropped verdicts.Consumed setup es item whole aggs outs reports g all h m consumed_out
 route_dropped_all verdicts.Late setup es item whole aggs outs reports g all h m are =
-    out_dropped verdicts.Late setup es item whole aggs outs reports g all h m are late_out
+    out_dropped verdicts.Late setup es item whole aggs outs reports g all h m late_out
 route_dropped_all verdicts.Removed setup es item whole aggs outs reports g all h m are =
-    out_dropped verdicts.Removed setup es item whole aggs outs reports g all h m are removed_out
+    out_dropped verdicts.Removed setup es item whole aggs outs reports g all h m removed_out

@@ -34,10 +34,9 @@ use Rattle.pipeline_core.proofs.CopyBounds.{no_copies, no_fates}
 use Rattle.pipeline_core.proofs.CopyGroups.{gather_copies}
 use Rattle.pipeline_core.proofs.CopySums.{plain_all}
 use Rattle.pipeline_core.proofs.GroupStanding.{Lets, begins_none, stays_silent, stays_tracker}
-use Rattle.pipeline_core.proofs.Keeping.{differs, full, reported_rest, same_number}
-use Rattle.pipeline_core.proofs.OutputPush.{totals-push}
-use Rattle.pipeline_core.proofs.ReportTotals.{inputs_told}
-use Rattle.pipeline_core.proofs.Standing.{bank_stays, ended_stays, lanes_stay, marks_stay, stands_grows}
+use Rattle.pipeline_core.proofs.Keeping.{differs, full, same_number}
+use Rattle.pipeline_core.proofs.ReportTotals.{numbers_told}
+use Rattle.pipeline_core.proofs.Standing.{stands_grows, ended_stays, bank_stays, outputs_stand}
 use Rattle.pipeline_core.proofs.StandsSteps.{by_step, groups_of, marks_of, outputs_stay, placed_raw, some_same}
 use Rattle.pipeline_core.proofs.TellingLemmas.{told_with-at}
 use Rattle.pipeline_core.proofs.TrackerLemmas.{live_of_tracker, reports_start, tracker_starts}
@@ -156,11 +155,12 @@ module _ (s : CoreState) (g : Gathered) (agree : GroupsAgree s) (journal : List 
             (sym (differs g.input k d))
       ]
 
-pub stands_gather : (s : CoreState) (g : Gathered) → IsCore s → GroupsAgree s →
+pub gather_stands : (s n : CoreState) (g : Gathered) → n ≡ after_gather s g → IsCore s → GroupsAgree s →
     slice_get s.ended g.input ≡ Some false → s.stopped ≡ false → HasNumbers s g → HasGroup s g.input →
-    HasRawRoom s g → Continues s (after_gather s g) (gather_entry s g)
+    HasRawRoom s g → Continues s n (gather_entry s g)
 unfolding gather_entry
-stands_gather s g core agree reading going few has place journal h =
+gather_stands s n g q core agree reading going few has place =
+    by_step s n (after_gather s g) (gather_entry s g) q (λ journal h.
     let group : Option ℕ = group_for s g.input in
     let reports : List Report = gather_reports s g in
     let e : Entry = entry_with s g agree journal h group reports in
@@ -184,43 +184,35 @@ stands_gather s g core agree reading going few has place journal h =
     } in
     let more : Numbers = with_input s.numbers g.input
     (gathered_too (input_numbers s.numbers g.input) g (is_some (most_of s g.input))) in
-    let rest = reported_rest more reports in
     stands_grows s (after_gather s g) journal e h
     (record {
       meets = record { line = line; reports = (starts s g agree journal h (most_of s g.input) reports line).1 };
-      raw = refl;
-      taken_is = omega arith;
+      items = record {
+        raw_is = refl;
+        taken_is = omega arith;
+        made_is = ap (λ (marks : List Bool). s.made ++ marks) (marks_of (length g.metrics)
+            (record { input = Some g.input; group = group }));
+        groups_are = ap (λ (groups : List (Option ℕ)). s.groups ++ groups) (groups_of (length g.metrics)
+            (record { input = Some g.input; group = group }));
+      };
       held = refl;
-      made = ap (λ (marks : List Bool). s.made ++ marks) (marks_of (length g.metrics)
-          (record { input = Some g.input; group = group }));
-      groups = ap (λ (groups : List (Option ℕ)). s.groups ++ groups) (groups_of (length g.metrics)
-          (record { input = Some g.input; group = group }));
       tracker = (starts s g agree journal h (most_of s g.input) reports line).0;
       bank = bank_stays s journal h;
-      lanes = lanes_stay s journal h;
-      lane_count = refl;
-      marked = marks_stay s journal e h line tt;
-      mark_count = refl;
+      outputs = outputs_stand s journal e h line tt;
       told = λ i b. told_with-at s.told reports i (omega (arith, b, agree.told_count));
-      numbers = totals-push s.setup journal e s.numbers (after_gather s g).numbers h.numbers
-          (inputs_told s.setup journal e more reports refl
+      numbers = numbers_told s.setup journal e s.numbers more reports h.numbers refl
           (length-set s.numbers.inputs g.input _ ∙ core.inputs.number_count)
           (λ k b. numbers_said s g agree journal h (most_of s g.input) group reports k core.inputs.number_count
-          (counted_group (most_of s g.input) s.tracker.started) n b))
-          (omega (arith, ap (λ (m : Numbers). m.made) rest)) (omega (arith, ap (λ (m : Numbers). m.removed) rest))
-          (omega (arith, ap (λ (m : Numbers). m.routed) rest))
-          (ap (λ (m : Numbers). m.outputs) rest ∙ ap (λ (m : Numbers). m.outputs) h.numbers
+          (counted_group (most_of s g.input) s.tracker.started) n b)
+          (omega arith) (omega arith) (omega arith)
+          (ap (λ (m : Numbers). m.outputs) h.numbers
           ∙ sym (outputs_stay s.setup journal e (λ o. refl) (λ o. refl) (λ o t. refl)));
       stored = refl;
-      gathered = refl;
-      counted = refl;
-      ended = ended_stays s journal h;
-      ended_count = refl;
-      stopped = sym (or-false s.stopped);
-    })
-
-pub gather_stands : (s n : CoreState) (g : Gathered) → n ≡ after_gather s g → IsCore s → GroupsAgree s →
-    slice_get s.ended g.input ≡ Some false → s.stopped ≡ false → HasNumbers s g → HasGroup s g.input →
-    HasRawRoom s g → Continues s n (gather_entry s g)
-gather_stands s n g q core agree reading going few has place =
-    by_step s n (after_gather s g) (gather_entry s g) q (stands_gather s g core agree reading going few has place)
+      inputs = record {
+        gathered_is = refl;
+        counted_is = refl;
+        each_ended = ended_stays s journal h;
+        ended_count = refl;
+        stopped_is = sym (or-false s.stopped);
+      };
+    }))

@@ -1,6 +1,6 @@
 -- A journal with a tracked input and two outputs: what settles when, by the definitions. What is expected is written
 -- from the meanings: the reports stand in the entries, and the fates and numbers below.
-use Rattle.std.proofs.Common.{◌≡◌, ◌<◌, ◌≤◌, ℕ, ◌+◌, Bool, true, false, List, [], ◌∷◌, ◌++◌, map, refl, inr, arith}
+use Rattle.std.proofs.Common.{◌≡◌, ℕ, Bool, true, false, List, [], ◌∷◌, ◌++◌, map, refl}
 use Rattle.std.specs.Prelude.{pos}
 use Rattle.std.specs.declared.option.Option.TheVariants.{Some, None}
 use Rattle.metric.specs.declared.metric.Content.{Content}
@@ -18,10 +18,10 @@ use Rattle.pipeline_core.specs.Offers.{offers, lane_events}
 use Rattle.pipeline_core.specs.Fates.{Fate, ItemFate, item_fates, fates_from}
 use Rattle.pipeline_core.specs.Fates as fate
 use Rattle.pipeline_core.specs.Groups.{reports_at}
-use Rattle.pipeline_core.specs.Legal.{AreLegal, IsLegal, has_stop, has_ended, gathered_count}
+use Rattle.pipeline_core.specs.Legal.{IsLegal, has_stop, has_ended, gathered_count}
 use Rattle.pipeline_core.specs.Windows.{judged}
 use Rattle.pipeline_core.specs.Totals.{input_total, input_total_from, reported_with}
-use Rattle.pipeline_core.proofs.JournalPush.{IsLegal-push}
+use Rattle.pipeline_core.proofs.LegalSteps.{next, none_legal}
 
 -- an input that may have five live groups; an output with batches of two and room for two, and one with batches
 -- of one and room for three
@@ -150,87 +150,18 @@ pair a b =
     ∷ group 1 [] (told 1 true ∷ [])
     ∷ []
 
--- what stands in facts of legal journals: numbers are compared, and nothing happened at first
-pub below : (a more : ℕ) → a < a + 1 + more
-below a more = omega arith
-
-pub at_most : (a more : ℕ) → a ≤ a + more
-at_most a more = omega arith
-
-pub none_legal : (setup : Setup) → IsLegal setup []
-unfolding AreLegal
-none_legal _ = tt
-
 -- the journal is legal, with the groups and the reports as they are written
 pub pair_legal : (a b : Content) → IsLegal pair_setup (pair a b)
 unfolding reports_at origins items taken routes in_hand_from group_inputs offers lane_events fates_from ranges_from
     accepted_from has_stop has_ended gathered_count judged
 pair_legal a b =
-    let l1 = IsLegal-push pair_setup [] (group 0 (a ∷ b ∷ []) []) (none_legal pair_setup) (record {
-      line = record {
-        most = Some 1;
-        known = refl;
-        going = refl;
-        reading = refl;
-        fits = below 2 4294967293;
-        room = inr (at_most 2 9998);
-        few = below 0 0;
-        group = refl;
-      };
-      reports = refl;
-    }) in
-    let l2 = IsLegal-push pair_setup _ (Take 0) l1 (record {
-      line = record { empty_handed = refl; first = refl; raw = below 0 1 };
-      reports = refl;
-    }) in
-    let l3 = IsLegal-push pair_setup _ (both a 0 []) l2 (record {
-      line = record { held = refl; aggregators = refl; outputs = refl; views = tt; made = λ e. tt; verdict_is = refl };
-      reports = refl;
-    }) in
-    let l4 = IsLegal-push pair_setup _ (Take 1) l3 (record {
-      line = record { empty_handed = refl; first = refl; raw = below 1 0 };
-      reports = refl;
-    }) in
-    let l5 = IsLegal-push pair_setup _ (second b 1 []) l4 (record {
-      line = record { held = refl; aggregators = refl; outputs = refl; views = tt; made = λ e. tt; verdict_is = refl };
-      reports = refl;
-    }) in
-    let l6 = IsLegal-push pair_setup _ (Begin 0 0 1) l5 (record {
-      line = record {
-        batch = 1;
-        limit = 1;
-        known = refl;
-        next = record { closed = refl; first = refl; end = refl; some = below 0 0 };
-      };
-      reports = refl;
-    }) in
-    let l7 = IsLegal-push pair_setup _ (Done 0 true []) l6 (record {
-      line = record { known = below 0 1; begun = tt };
-      reports = refl;
-    }) in
-    let l8 = IsLegal-push pair_setup _ (Begin 1 1 2) l7 (record {
-      line = record {
-        batch = 1;
-        limit = 1;
-        known = refl;
-        next = record { closed = refl; first = refl; end = refl; some = below 1 0 };
-      };
-      reports = refl;
-    }) in
-    let l9 = IsLegal-push pair_setup _ (Done 1 true (told 0 false ∷ [])) l8 (record {
-      line = record { known = below 1 0; begun = tt };
-      reports = refl;
-    }) in
-    IsLegal-push pair_setup _ (group 1 [] (told 1 true ∷ [])) l9 (record {
-      line = record {
-        most = Some 1;
-        known = refl;
-        going = refl;
-        reading = refl;
-        fits = below 2 4294967293;
-        room = inr (at_most 0 10000);
-        few = below 0 0;
-        group = refl;
-      };
-      reports = refl;
-    })
+    let l1 = next pair_setup [] (none_legal pair_setup) (group 0 (a ∷ b ∷ []) []) refl refl in
+    let l2 = next pair_setup _ l1 (Take 0) refl refl in
+    let l3 = next pair_setup _ l2 (both a 0 []) (refl, tt, tt) refl in
+    let l4 = next pair_setup _ l3 (Take 1) refl refl in
+    let l5 = next pair_setup _ l4 (second b 1 []) (refl, tt, tt) refl in
+    let l6 = next pair_setup _ l5 (Begin 0 0 1) refl refl in
+    let l7 = next pair_setup _ l6 (Done 0 true []) (refl, tt) refl in
+    let l8 = next pair_setup _ l7 (Begin 1 1 2) refl refl in
+    let l9 = next pair_setup _ l8 (Done 1 true (told 0 false ∷ [])) (refl, tt) refl in
+    next pair_setup _ l9 (group 1 [] (told 1 true ∷ [])) refl refl

@@ -130,58 +130,57 @@ places_gone t copies old new tracks h told places i b =
       places i c,
     )
 
+-- reports may be told: their inputs are known, have places for them, and as many undelivered groups
+pub record MayTell (n : Numbers) (old : List ToldState) (reports : List Report) : Type 0 where
+  pub known : (i : ℕ) → 0 < count_by (is_report_of i) reports → (i < length old) × (i < length n.inputs)
+  pub places : (i : ℕ) → i < length old →
+      length (told_in old i).reports + count_by (is_report_of i) reports ≤ (told_in old i).places
+  pub some : (i : ℕ) → i < length n.inputs →
+      count_by (is_report_of i) reports ≤ (input_numbers n i).undelivered
+  pub few : (i : ℕ) → i < length n.inputs → groups_in (input_numbers n i) < 2 ^ 64
+
 -- the same core with other numbers of outputs
 module _ (s : CoreState) (core : IsCore s) (agree : GroupsAgree s) (told : HasJournal s) (t : TrackerState)
     (copies : List Copy) (tracks : IsTracker t) (limits : t.limits ≡ s.tracker.limits)
     (live : (i : ℕ) → live_of t i ≡ live_of s.tracker i) (n : Numbers) (inputs : n.inputs ≡ s.numbers.inputs)
     (old : List ToldState) (reports : map reports_in old ≡ s.told) (reports₀ : List Report)
     (are : reports₀ ≡ reports_with t copies) where
-  pub tell_known : (i : ℕ) → 0 < count_by (is_report_of i) reports₀ → (i < length old) × (i < length n.inputs)
-  tell_known i some =
-      let known : i < length t.limits = told_known t copies i tracks
-      (subst (λ (xs : List Report). 0 < count_by (is_report_of i) xs) are some) in
-      let b : i < length s.setup.inputs = omega (
-        arith,
-        known,
-        ap length limits,
-        ap length agree.limits,
-        length-map s.setup.inputs most_live,
-      ) in (
-        omega (arith, b, agree.told_count, ap length reports, length-map old reports_in),
-        omega (arith, b, ap length inputs, core.inputs.number_count),
-      )
-
-  pub tell_places : HasPlaces s.tracker old → (i : ℕ) → i < length old →
-      length (told_in old i).reports + count_by (is_report_of i) reports₀ ≤ (told_in old i).places
-  tell_places h i b =
-      omega (
-        arith,
-        ap (λ (xs : List Report). count_by (is_report_of i) xs) are,
-        told_live t copies i tracks,
-        live i,
-        h i b,
-      )
-
-  pub tell_some : (i : ℕ) → i < length n.inputs →
-      count_by (is_report_of i) reports₀ ≤ (input_numbers n i).undelivered
-  tell_some i b =
-      omega (
-        arith,
-        ap (λ (xs : List Report). count_by (is_report_of i) xs) are,
-        told_live t copies i tracks,
-        live i,
-        undelivered_is s core told i (omega (arith, b, ap length inputs, core.inputs.number_count)),
-        ap (λ (xs : List InputNumbers). (get_or xs i (unread_input false)).undelivered) inputs,
-      )
-
-  pub tell_few : (i : ℕ) → i < length n.inputs → groups_in (input_numbers n i) < 2 ^ 64
-  tell_few i b =
-      omega (
-        arith,
-        few_groups s core told i (omega (arith, b, ap length inputs, core.inputs.number_count)),
-        agree.few,
-        ap (λ (xs : List InputNumbers). groups_in (get_or xs i (unread_input false))) inputs,
-      )
+  pub may_tell : HasPlaces s.tracker old → MayTell n old reports₀
+  may_tell has = record {
+    known = λ i some. (let low : i < length t.limits = told_known t copies i tracks
+        (subst (λ (xs : List Report). 0 < count_by (is_report_of i) xs) are some) in
+        let b : i < length s.setup.inputs = omega (
+          arith,
+          low,
+          ap length limits,
+          ap length agree.limits,
+          length-map s.setup.inputs most_live,
+        ) in (
+          omega (arith, b, agree.told_count, ap length reports, length-map old reports_in),
+          omega (arith, b, ap length inputs, core.inputs.number_count),
+        ));
+    places = λ i b. omega (
+      arith,
+      ap (λ (xs : List Report). count_by (is_report_of i) xs) are,
+      told_live t copies i tracks,
+      live i,
+      has i b,
+    );
+    some = λ i b. omega (
+      arith,
+      ap (λ (xs : List Report). count_by (is_report_of i) xs) are,
+      told_live t copies i tracks,
+      live i,
+      undelivered_is s core told i (omega (arith, b, ap length inputs, core.inputs.number_count)),
+      ap (λ (xs : List InputNumbers). (get_or xs i (unread_input false)).undelivered) inputs,
+    );
+    few = λ i b. omega (
+      arith,
+      few_groups s core told i (omega (arith, b, ap length inputs, core.inputs.number_count)),
+      agree.few,
+      ap (λ (xs : List InputNumbers). groups_in (get_or xs i (unread_input false))) inputs,
+    );
+  }
 
 -- what a core keeps agrees once a batch is done
 pub core_done : (s : CoreState) (o : ℕ) (ok : Bool) → IsCore s → o < length s.setup.outputs → IsCore (after_done s o ok)

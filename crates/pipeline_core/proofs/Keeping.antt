@@ -18,7 +18,7 @@ use Rattle.account.specs.declared.entry.Entry.{Entry}
 use Rattle.account.specs.declared.entry.Report.{Report}
 use Rattle.account.specs.declared.entry.Verdict.{Verdict}
 use Rattle.account.specs.declared.entry.Verdict.TheVariants as verdicts
-use Rattle.account.specs.Numbers.{Numbers, output_numbers, unread_input, no_numbers, unreached_output}
+use Rattle.account.specs.Numbers.{Numbers, output_numbers, unread_input, unreached_output}
 use Rattle.account.specs.Numbers.{with_output, sum_of_fates, input_numbers, settled_more, with_input}
 use Rattle.track_groups.specs.Tracker.{TrackerState}
 use Rattle.account.specs.declared.numbers.OutputNumbers.{OutputNumbers}
@@ -32,12 +32,12 @@ use Rattle.pipeline_core.proofs.Offering.{length-outputs_with}
 use Rattle.pipeline_core.specs.declared.setup.CoreSetup.{CoreSetup}
 use Rattle.pipeline_core.specs.declared.setup.InSetup.{InSetup}
 use Rattle.pipeline_core.specs.declared.setup.OutSetup.{OutSetup}
-use Rattle.pipeline_core.specs.CoreState.{setup_of, lane_of, sizes, most_undelivered, is_tracked, CoreState}
+use Rattle.pipeline_core.specs.CoreState.{first_state, lane_of, sizes, most_undelivered, is_tracked, CoreState}
 use Rattle.pipeline_core.specs.CoreState.{IsCore, IsOutput, OutputsAgree, ItemsAgree, sizes_at, flights}
 use Rattle.pipeline_core.specs.CoreState.{in_flight}
 use Rattle.pipeline_core.specs.CoreState.{held_count, lane_at}
 use Rattle.pipeline_core.specs.Steps.{with_reports, after_ended, after_take, lanes_routed, numbers_routed}
-use Rattle.pipeline_core.specs.Steps.{HasFew, lane_with, numbers_with, buffered_more, lane_done, count_done}
+use Rattle.pipeline_core.specs.Steps.{HasFew, lane_with, numbers_with, lane_done, count_done}
 use Rattle.pipeline_core.specs.Steps.{counted_done, late_more, consumed_more}
 
 in_flight-le : (x : LaneState Offer) → in_flight x ≤ 1
@@ -145,26 +145,6 @@ kept_made s metrics h few =
       marks = more_marks s.made (length metrics) true (omega (arith, length-append s.raw metrics, h.marks));
     }
 
--- windows closed, and what they made is raw
-pub kept_moment : (s : CoreState) (metrics raw : List Content) (marks : List Bool) (numbers : Numbers)
-    (bank : BankMemory)
-    (stored : List Entry) (counted : ℤ) (stopped : Bool) → IsCore s → s.taken + length raw < 2 ^ 63
-    → raw ≡ s.raw ++ metrics → marks ≡ s.made ++ replicate (length metrics) true
-    → numbers ≡ record s.numbers { made = s.numbers.made + length metrics } → lines_of bank ≡ lines_of s.bank
-    → IsCore (record s {
-      raw =
-          raw;
-      made = marks;
-      numbers = numbers;
-      bank = bank;
-      stored = stored;
-      counted = counted;
-      stopped = stopped;
-    })
-kept_moment s metrics raw marks numbers bank stored counted stopped h few r m n same =
-    rw (r, m, n) (kept_entries _ stored counted stopped (kept_bank _ bank same (kept_made s metrics h
-    (omega (arith, few, ap (λ (xs : List Content). length xs) r, length-append s.raw metrics)))))
-
 -- what was gathered is raw
 pub kept_gather : (s : CoreState) (metrics : List Content) → IsCore s → s.gathered + length metrics < 2 ^ 32 →
     s.taken + length s.raw + length metrics < 2 ^ 63 → IsCore (record s {
@@ -239,49 +219,28 @@ full m n h = grind (arith, nat_tests)
 pub same_number : (n : ℕ) → (n == n) ≡ true
 same_number n = full n n refl
 
--- one more waits
-output_pushed : (size : ℕ × ℕ) (routed : ℕ) (x : OutputNumbers) (at : LaneState Offer) (view : Offer) →
-    IsOutput size routed x at → length at.waiting < at.limit →
-    IsOutput size (routed + 1) (buffered_more at x) (lane.after_push at view)
-output_pushed size routed x at view h b =
+pushed_waits : (at : LaneState Offer) (view : Offer) → length (lane.after_push at view).waiting
+    ≡ length at.waiting + 1 - (length at.waiting + 1 - at.limit)
+pushed_waits at view =
     let all = at.waiting ++ view ∷ [] in
-    let whole : length all ≡ length at.waiting + 1 = length-append at.waiting (view ∷ []) in
-    let kept : length (drop (length all - at.limit) all) ≡ length all - (length all - at.limit) =
-    length-drop (length all - at.limit) all in
-    rw (not_full (length at.waiting) at.limit b)
-    (record {
-      batch = h.batch;
-      limit = h.limit;
-      some = h.some;
-      fits = h.fits;
-      waits = omega (arith, kept);
-      flies = h.flies;
-      buffered = omega (arith, kept, whole, h.buffered);
-      all = omega (arith, h.all);
-      pushed = omega (arith, h.pushed);
-    })
+    omega (arith, length-drop (length all - at.limit) all, length-append at.waiting (view ∷ []))
 
--- one more waits, and the oldest doesn't
-output_pushed_full : (size : ℕ × ℕ) (routed : ℕ) (x : OutputNumbers) (at : LaneState Offer) (view : Offer)
-    → IsOutput size routed x at → length at.waiting ≡ at.limit
-    → IsOutput size (routed + 1) (buffered_more at x) (lane.after_push at view)
-output_pushed_full size routed x at view h e =
-    let all = at.waiting ++ view ∷ [] in
-    let whole : length all ≡ length at.waiting + 1 = length-append at.waiting (view ∷ []) in
-    let kept : length (drop (length all - at.limit) all) ≡ length all - (length all - at.limit) =
-    length-drop (length all - at.limit) all in
-    rw (full (length at.waiting) at.limit e)
-    (record {
+-- one more waits, and where there are too many the oldest doesn't
+output_pushed : (size : ℕ × ℕ) (routed : ℕ) (x now : OutputNumbers) (at : LaneState Offer) (view : Offer) →
+    IsOutput size routed x at → now.buffered ≡ length (lane.flying at) + length (lane.after_push at view).waiting →
+    sum_of_fates now ≡ sum_of_fates x + 1 → IsOutput size (routed + 1) now (lane.after_push at view)
+output_pushed size routed x now at view h many more =
+    record {
       batch = h.batch;
       limit = h.limit;
       some = h.some;
       fits = h.fits;
-      waits = omega (arith, kept);
+      waits = omega (arith, pushed_waits at view);
       flies = h.flies;
-      buffered = omega (arith, kept, whole, e, h.buffered);
-      all = omega (arith, h.all);
+      buffered = many;
+      all = omega (arith, h.all, more);
       pushed = omega (arith, h.pushed);
-    })
+    }
 
 -- an output agrees once a metric was kept from it
 output_kept : (size : ℕ × ℕ) (routed : ℕ) (x y : OutputNumbers) (at : LaneState Offer) → y.buffered ≡ x.buffered
@@ -306,9 +265,12 @@ pub output_offered : (size : ℕ × ℕ) (routed : ℕ) (x : OutputNumbers) (at 
     (lane_with item view at)
 output_offered size routed x at item None h = output_kept size routed x (numbers_with None at x) at refl (omega arith) h
 output_offered size routed x at item (Some view) h =
+    let offer : Offer = record { item = item; view = view } in
     elim (eq-or-lt_of_le h.waits) [
-      | inl e ↦ output_pushed_full size routed x at (record { item = item; view = view }) h e
-      | inr b ↦ output_pushed size routed x at (record { item = item; view = view }) h b
+      | inl e ↦ rw (full (length at.waiting) at.limit e)
+          (output_pushed size routed x _ at offer h (omega (arith, pushed_waits at offer, e, h.buffered)) (omega arith))
+      | inr b ↦ rw (not_full (length at.waiting) at.limit b)
+          (output_pushed size routed x _ at offer h (omega (arith, pushed_waits at offer, h.buffered)) (omega arith))
     ]
 
 -- an output agrees once its batch was begun
@@ -640,36 +602,11 @@ each_at_first outputs h k b =
     (empty_output (get_or outputs k no_output) (h k no_output b).0 (h k no_output b).1)
 
 -- a core in which nothing happened
-pub kept_first : (setup : CoreSetup) (raw : List Content) (made : List Bool) (bank : BankMemory)
-    (lanes : List (LaneState Offer)) (numbers : Numbers) (stored : List Entry) (counted : ℤ) (ended : List Bool)
-    (groups : List (Option ℕ)) (tracker : TrackerState) (marked : List (LaneState (Option ℕ)))
-    (told : List (List Report)) → length setup.outputs ≤ 16 → All (λ (x : OutSetup). (1 ≤ x.batch) ×
-    (x.batch ≤ x.limit)) setup.outputs →
-    raw ≡ [] → made ≡ [] → lines_of bank ≡ setup.aggs → lanes ≡ map lane_of setup.outputs → numbers ≡ no_numbers
-    (map is_tracked setup.inputs)
-    (length setup.outputs) → ended ≡ replicate (length setup.inputs) false →
-    IsCore (record {
-      setup = setup_of setup;
-      raw = raw;
-      taken = 0;
-      held = None;
-      made = made;
-      groups = groups;
-      tracker = tracker;
-      bank = bank;
-      lanes = lanes;
-      marked = marked;
-      told = told;
-      numbers = numbers;
-      stored = stored;
-      gathered = 0;
-      counted = counted;
-      ended = ended;
-      stopped = false;
-    })
-kept_first setup raw made bank lanes numbers stored counted ended groups tracker marked told few sized r m same l n e =
-    rw (r, m, l, n, e)
-    (record {
+pub kept_first : (setup : CoreSetup) (bank : BankMemory) → length setup.outputs ≤ 16 →
+    All (λ (x : OutSetup). (1 ≤ x.batch) × (x.batch ≤ x.limit)) setup.outputs → lines_of bank ≡ setup.aggs →
+    IsCore (first_state setup bank)
+kept_first setup bank few sized same =
+    record {
       outputs = record {
         lane_count = length-map setup.outputs lane_of ∙ sym (length-map setup.outputs sizes);
         number_count = length-replicate (length setup.outputs) unreached_output ∙ sym (length-map setup.outputs sizes);
@@ -684,7 +621,7 @@ kept_first setup raw made bank lanes numbers stored counted ended groups tracker
       items = record { come = refl; few = omega arith; few_gathered = omega arith; gone = refl };
       lines = same;
       marks = refl;
-    })
+    }
 
 -- a batch that is begun is in flight
 pub flies : (s : CoreState) (o : ℕ) (at : LaneState Offer) → IsCore s → o < length s.setup.outputs →

@@ -31,9 +31,11 @@ pub mod StandsLanes
 pub mod StandsCuts
 pub mod JournalKept
 pub mod GatherKept
+pub mod WindowsKept
 pub mod InStep
 pub mod GroupsKept
 pub mod RouteKept
+pub mod LegalSteps
 pub mod GroupExamples
 pub mod TrackedExamples
 pub mod LiveExamples

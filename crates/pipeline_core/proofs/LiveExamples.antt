@@ -1,10 +1,9 @@
 -- Journals in which the limit of an input is asked. The first one has two tracked inputs and one between them that
 -- isn't tracked; in the second one an aggregator takes an item, and another one comes late. What is expected is written
 -- from the meanings: the groups and the reports stand in the entries, and the numbers below.
-use Rattle.std.proofs.Common.{◌≡◌, ◌<◌, ℕ, Bool, true, false, List, [], ◌∷◌, ◌++◌, map, refl, sym, subst, inr, arith}
-use Rattle.std.proofs.lemmas.Bool.{false≢true}
+use Rattle.std.proofs.Common.{◌≡◌, ℕ, Bool, true, false, List, [], ◌∷◌, ◌++◌, map, refl, arith}
 use Rattle.std.proofs.lemmas.Int.{ints}
-use Rattle.std.specs.Prelude.{ℤ, pos, ◌≤ℤ◌, IfSome}
+use Rattle.std.specs.Prelude.{ℤ, pos, ◌≤ℤ◌}
 use Rattle.std.specs.declared.option.Option.{Option}
 use Rattle.std.specs.declared.option.Option.TheVariants.{Some, None}
 use Rattle.metric.specs.declared.metric.Content.{Content}
@@ -27,12 +26,9 @@ use Rattle.pipeline_core.specs.Groups.{copies, live_count, reports_at}
 use Rattle.pipeline_core.specs.Legal.{Meets, IsLegal, has_stop, has_ended, gathered_count, counted_from}
 use Rattle.pipeline_core.specs.Totals.{totals, input_total_from, reported_with}
 use Rattle.pipeline_core.specs.Windows.{judged, made_by_tick}
-use Rattle.pipeline_core.proofs.JournalPush.{IsLegal-push}
-use Rattle.pipeline_core.proofs.GroupExamples.{both, first, second, below, at_most, none_legal}
+use Rattle.pipeline_core.proofs.GroupExamples.{both, first, second}
+use Rattle.pipeline_core.proofs.LegalSteps.{held, meets, next, none_legal}
 use Rattle.pipeline_core.proofs.TrackedExamples.{tracked}
-
-most_is : (most : Option ℕ) → Some (Some 1) ≡ Some most → Some 1 ≡ most
-most_is most h = cc
 
 -- Two tracked inputs, which may have two live groups and one, and one between them that isn't tracked; two outputs with
 -- batches of one and room for one.
@@ -80,108 +76,21 @@ pub legal : (a d b : Content) → IsLegal setup (journal a d b)
 unfolding reports_at origins items taken routes in_hand_from group_inputs offers lane_events fates_from ranges_from
     accepted_from has_stop has_ended gathered_count judged
 legal a d b =
-    let l1 = IsLegal-push setup [] (pieces 0 (Some 0) (a ∷ []) []) (none_legal setup) (record {
-      line = record {
-        most = Some 2;
-        known = refl;
-        going = refl;
-        reading = refl;
-        fits = below 1 4294967294;
-        room = inr (at_most 1 9999);
-        few = below 0 1;
-        group = refl;
-      };
-      reports = refl;
-    }) in
-    let l2 = IsLegal-push setup _ (pieces 1 None (d ∷ []) []) l1 (record {
-      line = record {
-        most = None;
-        known = refl;
-        going = refl;
-        reading = refl;
-        fits = below 2 4294967293;
-        room = inr (at_most 2 9998);
-        few = tt;
-        group = refl;
-      };
-      reports = refl;
-    }) in
-    let l3 = IsLegal-push setup _ (pieces 2 (Some 1) (b ∷ []) []) l2 (record {
-      line = record {
-        most = Some 1;
-        known = refl;
-        going = refl;
-        reading = refl;
-        fits = below 3 4294967292;
-        room = inr (at_most 3 9997);
-        few = below 0 0;
-        group = refl;
-      };
-      reports = refl;
-    }) in
-    let l4 = IsLegal-push setup _ (Take 0) l3 (record {
-      line = record { empty_handed = refl; first = refl; raw = below 0 2 };
-      reports = refl;
-    }) in
-    let l5 = IsLegal-push setup _ (first a 0 []) l4 (record {
-      line = record { held = refl; aggregators = refl; outputs = refl; views = tt; made = λ e. tt; verdict_is = refl };
-      reports = refl;
-    }) in
-    let l6 = IsLegal-push setup _ (Take 1) l5 (record {
-      line = record { empty_handed = refl; first = refl; raw = below 1 1 };
-      reports = refl;
-    }) in
-    let l7 = IsLegal-push setup _ (second d 1 []) l6 (record {
-      line = record { held = refl; aggregators = refl; outputs = refl; views = tt; made = λ e. tt; verdict_is = refl };
-      reports = refl;
-    }) in
-    let l8 = IsLegal-push setup _ (Take 2) l7 (record {
-      line = record { empty_handed = refl; first = refl; raw = below 2 0 };
-      reports = refl;
-    }) in
-    let l9 = IsLegal-push setup _ (both b 2 (told 0 0 false)) l8 (record {
-      line = record { held = refl; aggregators = refl; outputs = refl; views = tt; made = λ e. tt; verdict_is = refl };
-      reports = refl;
-    }) in
-    let l10 = IsLegal-push setup _ (Begin 0 1 2) l9 (record {
-      line = record {
-        batch = 1;
-        limit = 1;
-        known = refl;
-        next = record { closed = refl; first = refl; end = refl; some = below 1 0 };
-      };
-      reports = refl;
-    }) in
-    let l11 = IsLegal-push setup _ (Done 0 false []) l10 (record {
-      line = record { known = below 0 1; begun = tt };
-      reports = refl;
-    }) in
-    let l12 = IsLegal-push setup _ (Begin 1 1 2) l11 (record {
-      line = record {
-        batch = 1;
-        limit = 1;
-        known = refl;
-        next = record { closed = refl; first = refl; end = refl; some = below 1 0 };
-      };
-      reports = refl;
-    }) in
-    let l13 = IsLegal-push setup _ (Done 1 true []) l12 (record {
-      line = record { known = below 1 0; begun = tt };
-      reports = refl;
-    }) in
-    let l14 = IsLegal-push setup _ (Begin 0 1 2) l13 (record {
-      line = record {
-        batch = 1;
-        limit = 1;
-        known = refl;
-        next = record { closed = refl; first = refl; end = refl; some = below 1 0 };
-      };
-      reports = refl;
-    }) in
-    IsLegal-push setup _ (Done 0 true (told 1 2 true)) l14 (record {
-      line = record { known = below 0 1; begun = tt };
-      reports = refl;
-    })
+    let l1 = next setup [] (none_legal setup) (pieces 0 (Some 0) (a ∷ []) []) refl refl in
+    let l2 = next setup _ l1 (pieces 1 None (d ∷ []) []) refl refl in
+    let l3 = next setup _ l2 (pieces 2 (Some 1) (b ∷ []) []) refl refl in
+    let l4 = next setup _ l3 (Take 0) refl refl in
+    let l5 = next setup _ l4 (first a 0 []) (refl, tt, tt) refl in
+    let l6 = next setup _ l5 (Take 1) refl refl in
+    let l7 = next setup _ l6 (second d 1 []) (refl, tt, tt) refl in
+    let l8 = next setup _ l7 (Take 2) refl refl in
+    let l9 = next setup _ l8 (both b 2 (told 0 0 false)) (refl, tt, tt) refl in
+    let l10 = next setup _ l9 (Begin 0 1 2) refl refl in
+    let l11 = next setup _ l10 (Done 0 false []) (refl, tt) refl in
+    let l12 = next setup _ l11 (Begin 1 1 2) refl refl in
+    let l13 = next setup _ l12 (Done 1 true []) (refl, tt) refl in
+    let l14 = next setup _ l13 (Begin 0 1 2) refl refl in
+    next setup _ l14 (Done 0 true (told 1 2 true)) (refl, tt) refl
 
 -- how many groups of the three inputs are live
 abbrev pub live : List Entry → List ℕ
@@ -201,48 +110,21 @@ live_last a d b = refl
 pub last_is_held : (a d b : Content) (number : Option ℕ) (reports : List Report) →
     ¬ Meets setup (gathered a d b) (pieces 2 number [] reports)
 unfolding origins items taken routes group_inputs offers lane_events fates_from ranges_from accepted_from
-last_is_held a d b number reports h =
-    let one : 1 < 1 = subst (λ (most : Option ℕ). IfSome most (λ (n : ℕ). 1 < n))
-    (sym (most_is h.line.most h.line.known)) h.line.few in
-    omega (arith, one)
+last_is_held a d b number reports h = held setup (gathered a d b) _ refl h.line
 
 -- those of the first input may, which has one live group as well
 pub first_may_come : (a d b : Content) →
     Meets setup (gathered a d b) (pieces 0 (Some 2) [] (told 2 0 true))
 unfolding reports_at origins items taken routes group_inputs offers lane_events fates_from ranges_from accepted_from
     has_stop has_ended gathered_count
-first_may_come a d b = record {
-  line = record {
-    most = Some 2;
-    known = refl;
-    going = refl;
-    reading = refl;
-    fits = below 3 4294967292;
-    room = inr (at_most 3 9997);
-    few = below 1 0;
-    group = refl;
-  };
-  reports = refl;
-}
+first_may_come a d b = meets setup _ (pieces 0 (Some 2) [] (told 2 0 true)) refl refl
 
 -- and those of the last one may come behind the last entry
 pub last_may_come : (a d b : Content) →
     Meets setup (journal a d b) (pieces 2 (Some 2) [] (told 2 2 true))
 unfolding reports_at origins items taken routes group_inputs offers lane_events fates_from ranges_from accepted_from
     has_stop has_ended gathered_count
-last_may_come a d b = record {
-  line = record {
-    most = Some 1;
-    known = refl;
-    going = refl;
-    reading = refl;
-    fits = below 3 4294967292;
-    room = inr (at_most 0 10000);
-    few = below 0 0;
-    group = refl;
-  };
-  reports = refl;
-}
+last_may_come a d b = meets setup _ (pieces 2 (Some 2) [] (told 2 2 true)) refl refl
 
 -- the numbers of the input that isn't tracked
 abbrev pub plain : InputNumbers
@@ -304,67 +186,13 @@ pub windows_legal : (m : Content) → IsLegal windows_setup (windows m)
 unfolding reports_at origins items taken routes in_hand_from group_inputs offers lane_events fates_from ranges_from
     accepted_from has_stop has_ended gathered_count counted_from judged made_by_tick made_from
 windows_legal m =
-    let l1 = IsLegal-push windows_setup [] (pieces 0 (Some 0) (at (pos 10) m ∷ []) []) (none_legal windows_setup)
-    (record {
-      line = record {
-        most = Some 1;
-        known = refl;
-        going = refl;
-        reading = refl;
-        fits = below 1 4294967294;
-        room = inr (at_most 1 9999);
-        few = below 0 0;
-        group = refl;
-      };
-      reports = refl;
-    }) in
-    let l2 = IsLegal-push windows_setup _ (Take 0) l1 (record {
-      line = record { empty_handed = refl; first = refl; raw = below 0 0 };
-      reports = refl;
-    }) in
-    let l3 = IsLegal-push windows_setup _ (judge (pos 10) m 0 Late (told 0 0 true)) l2 (record {
-      line = record {
-        held = refl;
-        aggregators = refl;
-        outputs = refl;
-        views = tt;
-        made = λ e. absurd (false≢true e);
-        verdict_is = refl;
-      };
-      reports = refl;
-    }) in
-    let l4 = IsLegal-push windows_setup _ (pieces 0 (Some 1) (at (pos 70) m ∷ []) []) l3 (record {
-      line = record {
-        most = Some 1;
-        known = refl;
-        going = refl;
-        reading = refl;
-        fits = below 2 4294967293;
-        room = inr (at_most 1 9999);
-        few = below 0 0;
-        group = refl;
-      };
-      reports = refl;
-    }) in
-    let l5 = IsLegal-push windows_setup _ (Tick (pos 110) []) l4 (record {
-      line = record { going = refl; later = at_tick; all_made = refl };
-      reports = refl;
-    }) in
-    let l6 = IsLegal-push windows_setup _ (Take 1) l5 (record {
-      line = record { empty_handed = refl; first = refl; raw = below 1 0 };
-      reports = refl;
-    }) in
-    IsLegal-push windows_setup _ (judge (pos 70) m 1 Consumed (told 1 0 true)) l6 (record {
-      line = record {
-        held = refl;
-        aggregators = refl;
-        outputs = refl;
-        views = tt;
-        made = λ e. absurd (false≢true e);
-        verdict_is = refl;
-      };
-      reports = refl;
-    })
+    let l1 = next windows_setup [] (none_legal windows_setup) (pieces 0 (Some 0) (at (pos 10) m ∷ []) []) refl refl in
+    let l2 = next windows_setup _ l1 (Take 0) refl refl in
+    let l3 = next windows_setup _ l2 (judge (pos 10) m 0 Late (told 0 0 true)) (refl, tt, tt) refl in
+    let l4 = next windows_setup _ l3 (pieces 0 (Some 1) (at (pos 70) m ∷ []) []) refl refl in
+    let l5 = next windows_setup _ l4 (Tick (pos 110) []) (refl, refl, at_tick) refl in
+    let l6 = next windows_setup _ l5 (Take 1) refl refl in
+    next windows_setup _ l6 (judge (pos 70) m 1 Consumed (told 1 0 true)) (refl, tt, tt) refl
 
 -- a Tick names a metric while group 0 is live
 abbrev pub ticked : Content → Content → List Entry

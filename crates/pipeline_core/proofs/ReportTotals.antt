@@ -1,6 +1,6 @@
 -- The numbers of inputs with reports are those of a journal with the entry that has these.
 use Rattle.std.proofs.Common.{◌≡◌, ◌<◌, ℕ, ◌==◌, Bool, false, List, [], ◌∷◌, ◌++◌, length, refl, sym, ap}
-use Rattle.std.proofs.Common.{◌∙◌, subst, inl, inr, arith, get_or, set, if◌then◌else◌}
+use Rattle.std.proofs.Common.{◌+◌, ◌∙◌, subst, inl, inr, arith, get_or, set, if◌then◌else◌}
 use Rattle.std.proofs.lemmas.Bool.{cases_eq}
 use Rattle.std.proofs.lemmas.List.{get_or-set_same, get_or-set_other, ext_get_or, length-set, set-set}
 use Rattle.account.specs.Setup.{Setup}
@@ -10,8 +10,9 @@ use Rattle.account.specs.declared.numbers.InputNumbers.{InputNumbers}
 use Rattle.account.specs.declared.entry.Entry.{Entry}
 use Rattle.account.specs.declared.entry.Report.{Report}
 use Rattle.pipeline_core.specs.Steps.{with_reports}
-use Rattle.pipeline_core.specs.Totals.{reported_with, said_with, totals}
-use Rattle.pipeline_core.proofs.Keeping.{differs, reported_length, same_number}
+use Rattle.pipeline_core.specs.Totals.{made_by, removed_by, reported_with, routed_by, said_with, totals}
+use Rattle.pipeline_core.proofs.OutputPush.{totals-push}
+use Rattle.pipeline_core.proofs.Keeping.{differs, reported_length, reported_rest, same_number}
 use Rattle.pipeline_core.proofs.TotalPush.{inputs-push, length-inputs}
 
 -- an input's numbers were counted, and then a group of it
@@ -68,3 +69,16 @@ inputs_told setup journal e n reports are many said =
     ∙ ap (λ (x : InputNumbers). reported_with k x reports) (said k c)
     ∙ ap (reported_with k (said_with k (get_or (totals setup journal).inputs k (unread_input false)) e)) (sym are)
     ∙ sym (inputs-push setup journal e k c)))
+
+-- so it is of all numbers, where the others are those of the journal with what the entry counts
+pub numbers_told : (setup : Setup) (journal : List Entry) (e : Entry) (old n : Numbers) (reports : List Report) →
+    old ≡ totals setup journal → reports_of e ≡ reports → length n.inputs ≡ length setup.inputs →
+    ((k : ℕ) → k < length setup.inputs → get_or n.inputs k (unread_input false) ≡ said_with k
+    (get_or (totals setup journal).inputs k (unread_input false)) e) → n.made ≡ old.made + made_by e →
+    n.removed ≡ old.removed + removed_by e → n.routed ≡ old.routed + routed_by e →
+    n.outputs ≡ (totals setup (journal ++ e ∷ [])).outputs → with_reports n reports ≡ totals setup (journal ++ e ∷ [])
+numbers_told setup journal e old n reports is are many said made removed routed outputs =
+    let rest = reported_rest n reports in
+    totals-push setup journal e old (with_reports n reports) is (inputs_told setup journal e n reports are many said)
+    (ap (λ (m : Numbers). m.made) rest ∙ made) (ap (λ (m : Numbers). m.removed) rest ∙ removed)
+    (ap (λ (m : Numbers). m.routed) rest ∙ routed) (ap (λ (m : Numbers). m.outputs) rest ∙ outputs)

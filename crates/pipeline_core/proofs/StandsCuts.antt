@@ -40,37 +40,14 @@ use Rattle.pipeline_core.specs.declared.setup.OutSetup.{OutSetup}
 use Rattle.pipeline_core.proofs.TotalPush.{inputs-at, outputs-at, length-inputs, length-outputs}
 use Rattle.pipeline_core.proofs.OutputPush.{same_totals}
 use Rattle.pipeline_core.proofs.Keeping.{no_output, no_input}
+use Rattle.pipeline_core.proofs.Standing.{stands_changed}
 
 -- once the entries are cut off, they are part of the front
-pub stands_cut : (s : CoreState) (journal : List Entry) → Stands s journal → Stands (after_cut s) journal
-stands_cut s journal h =
-    record {
-      legal = h.legal;
-      raw = h.raw;
-      taken_is = h.taken_is;
-      held = h.held;
-      made = h.made;
-      groups = h.groups;
-      tracker = h.tracker;
-      bank = h.bank;
-      lanes = h.lanes;
-      lane_count = h.lane_count;
-      marked = h.marked;
-      mark_count = h.mark_count;
-      told = h.told;
-      numbers = h.numbers;
-      front = journal;
-      stored = sym (append-nil journal);
-      gathered = h.gathered;
-      counted = h.counted;
-      ended = h.ended;
-      ended_count = h.ended_count;
-      stopped = h.stopped;
-    }
-
 pub cut_stands : (s n : CoreState) → n ≡ after_cut s → (journal : List Entry) → Stands s journal →
     Stands n journal
-cut_stands s n q journal h = subst (λ (m : CoreState). Stands m journal) (sym q) (stands_cut s journal h)
+cut_stands s n q journal h =
+    subst (λ (m : CoreState). Stands m journal) (sym q)
+    (stands_changed s s.bank s.told [] journal journal h h.bank h.told (sym (append-nil journal)))
 
 -- a report was handed out
 told_again : (told : List (List Report)) (input i : ℕ) (journal : List Entry) → input < length told →
@@ -90,37 +67,12 @@ told_again told input i journal b h = elim (cases_eq i input) [
           ∙ sym (append_assoc h.handed_out (take 1 reports) (drop 1 reports));
     }
 
-pub stands_told : (s : CoreState) (input : ℕ) (journal : List Entry) → input < length s.told → Stands s journal →
-    Stands (after_told s input) journal
-stands_told s input journal b h =
-    record {
-      legal = h.legal;
-      raw = h.raw;
-      taken_is = h.taken_is;
-      held = h.held;
-      made = h.made;
-      groups = h.groups;
-      tracker = h.tracker;
-      bank = h.bank;
-      lanes = h.lanes;
-      lane_count = h.lane_count;
-      marked = h.marked;
-      mark_count = h.mark_count;
-      told = λ i c. told_again s.told input i journal b (h.told i c);
-      numbers = h.numbers;
-      front = h.front;
-      stored = h.stored;
-      gathered = h.gathered;
-      counted = h.counted;
-      ended = h.ended;
-      ended_count = h.ended_count;
-      stopped = h.stopped;
-    }
-
 pub told_stands : (s n : CoreState) (input : ℕ) → n ≡ after_told s input → input < length s.told →
     (journal : List Entry) → Stands s journal → Stands n journal
 told_stands s n input q b journal h =
-    subst (λ (m : CoreState). Stands m journal) (sym q) (stands_told s input journal b h)
+    subst (λ (m : CoreState). Stands m journal) (sym q)
+    (stands_changed s s.bank (set s.told input (drop 1 (told_at s.told input))) s.stored h.front journal h h.bank
+    (λ i c. told_again s.told input i journal b (h.told i c)) h.stored)
 
 lanes_at_first : (outputs : List OutSetup) →
     All (λ (x : OutSetup). (1 ≤ x.batch) × (x.batch ≤ x.limit)) outputs → (o : ℕ) → o < length outputs →

@@ -2,7 +2,6 @@
 use Rattle.std.proofs.Common.{◌≡◌, ◌≢◌, ◌<◌, ◌≤◌, ℕ, ◌+◌, Bool, true, false, List, [], ◌∷◌, ◌++◌, length, drop, min}
 use Rattle.std.proofs.Common.{inl, inr, refl, sym, ap, ◌∙◌, subst, arith, append-nil, set, get_or, map, IsSome}
 use Rattle.std.proofs.Common.{if◌then◌else◌}
-use Rattle.std.proofs.Math.Bool.{or-false}
 use Rattle.std.proofs.Math.Nat.{eq-or-lt_of_le}
 use Rattle.std.proofs.lemmas.Bool.{cases_lt}
 use Rattle.std.proofs.lemmas.Option.{slice_get-get_or}
@@ -33,7 +32,7 @@ use Rattle.pipeline_core.specs.Offers.{offers, offer_of, offered_by, lane_events
 use Rattle.pipeline_core.specs.Offers.{pushes}
 use Rattle.pipeline_core.specs.declared.output.Offer.{Offer}
 use Rattle.account.specs.Views.{HasViews}
-use Rattle.agg_bank.specs.Bank.{BankMemory, BankStands}
+use Rattle.agg_bank.specs.Bank.{BankStands}
 use Rattle.pipeline_core.specs.Windows.{bank_events, judged, offered_to}
 use Rattle.pipeline_core.specs.Totals.{totals, output_total}
 use Rattle.pipeline_core.specs.CoreState.{CoreState, GroupsAgree, IsCore, lane_at, marked_at, sizes_at}
@@ -50,7 +49,7 @@ use Rattle.pipeline_core.proofs.FateCounts.{kept_out_by}
 use Rattle.pipeline_core.proofs.Offering.{lanes_with-at, outputs_with-at}
 use Rattle.pipeline_core.proofs.Offering.{length-outputs_with}
 use Rattle.pipeline_core.proofs.TotalPush.{outputs-same, outputs-set, outputs-as, outputs-at}
-use Rattle.pipeline_core.proofs.Keeping.{differs, length-lanes_routed, reported_rest, same_number}
+use Rattle.pipeline_core.proofs.Keeping.{differs, length-lanes_routed, same_number}
 use Rattle.pipeline_core.proofs.CopyRoutes.{marks_routed}
 use Rattle.pipeline_core.proofs.CopySums.{comers}
 use Rattle.pipeline_core.proofs.GroupStanding.{begin_lets, done_lets, hand_group, held_so, known_marks, lets_reports}
@@ -59,13 +58,13 @@ use Rattle.pipeline_core.proofs.GroupStanding.{stays_tracker}
 use Rattle.pipeline_core.proofs.GroupSteps.{core_has_sizes}
 use Rattle.pipeline_core.proofs.MarkedLanes.{done_marked, marked_begin, marked_route}
 use Rattle.pipeline_core.proofs.MarkingLemmas.{length-marked, marked_routed-at}
-use Rattle.pipeline_core.proofs.ReportTotals.{inputs_told}
+use Rattle.pipeline_core.proofs.ReportTotals.{numbers_told}
 use Rattle.pipeline_core.proofs.TellingLemmas.{told_with-at}
 use Rattle.pipeline_core.proofs.BankLemmas.{mark_in_hand}
 use Rattle.pipeline_core.proofs.OutputPush.{output_stays, output_filters, output_lates, output_consumes, output_begins}
 use Rattle.pipeline_core.proofs.OutputPush.{output_pushes, fate_done, views_done, output_ends, totals-push}
-use Rattle.pipeline_core.proofs.Standing.{stands_grows, lanes_stay, ended_stays, bank_stays, groups_stay, told_stays}
-use Rattle.pipeline_core.proofs.StandsSteps.{inputs_stay, nothing_reported, outputs_stay}
+use Rattle.pipeline_core.proofs.Standing.{stands_grows, inputs_stand, items_stand, lanes_stay, bank_stays, told_stays}
+use Rattle.pipeline_core.proofs.StandsSteps.{by_step, inputs_stay, nothing_reported, outputs_stay}
 
 -- a batch that is done, at its output's lane
 lane_is_done : (ok : Bool) (b l : ℕ) (es : List LaneEvent) (offs : List Offer) (x : LaneState Offer) →
@@ -141,11 +140,12 @@ done_marks s journal o ok reports h line k b =
       | inr none ↦ absurd (omega (arith, b, long, ap length none.0))
     ]
 
-pub stands_begin : (s : CoreState) (o from to : ℕ) → IsCore s → GroupsAgree s → o < length s.setup.outputs →
-    (lane_at s.lanes o).flight ≡ None → 0 < length (lane_at s.lanes o).waiting →
+pub begin_stands : (s n : CoreState) (o from to : ℕ) → n ≡ after_begin s o from to → IsCore s → GroupsAgree s →
+    o < length s.setup.outputs → (lane_at s.lanes o).flight ≡ None → 0 < length (lane_at s.lanes o).waiting →
     from ≡ waiting_from (lane_at s.lanes o) → to ≡ waiting_from (lane_at s.lanes o) + min (lane_at s.lanes o).batch
-    (length (lane_at s.lanes o).waiting) → Continues s (after_begin s o from to) (Begin o from to)
-stands_begin s o from to core agree b none some f t journal h =
+    (length (lane_at s.lanes o).waiting) → Continues s n (Begin o from to)
+begin_stands s n o from to q core agree b none some f t =
+    by_step s n (after_begin s o from to) (Begin o from to) q (λ journal h.
     let e : Entry = Begin o from to in
     let x : LaneState Offer = lane_at s.lanes o in
     let es : List LaneEvent = lane_events o journal in
@@ -183,29 +183,30 @@ stands_begin s o from to core agree b none some f t journal h =
     stands_grows s (after_begin s o from to) journal e h
     (record {
       meets = record { line = line; reports = stays_silent s journal e agree h lets };
-      raw = sym (append-nil s.raw);
-      taken_is = omega arith;
+      items = items_stand s;
       held = refl;
-      made = sym (append-nil s.made);
-      groups = groups_stay s.groups;
       tracker = stays_tracker s journal e agree h lets;
       bank = bank_stays s journal h;
-      lanes = lanes_one s journal e o (lane.after_begin x) (events.Begin from to) h b here others (λ k. refl) got.state;
-      lane_count = length-set s.lanes o (lane.after_begin x);
-      marked = begun_marks s journal o from to h line;
-      mark_count = length-set s.marked o (lane.after_begin (marked_at s.marked o));
+      outputs = record {
+        each = lanes_one s journal e o (lane.after_begin x) (events.Begin from to) h b here others (λ k. refl)
+            got.state;
+        count = length-set s.lanes o (lane.after_begin x);
+        each_marked = begun_marks s journal o from to h line;
+        mark_count = length-set s.marked o (lane.after_begin (marked_at s.marked o));
+      };
       told = λ i b. told_stays s i;
       numbers =
           totals-push s.setup journal e s.numbers s.numbers h.numbers
           (inputs_stay s journal e h (λ i y. nothing_reported i y)) (omega arith) (omega arith) (omega arith)
           (ap (λ (n : Numbers). n.outputs) h.numbers ∙ sym (outputs-same s.setup journal e totals_stay));
       stored = refl;
-      gathered = omega arith;
-      counted = refl;
-      ended = ended_stays s journal h;
-      ended_count = refl;
-      stopped = sym (or-false s.stopped);
-    })
+      inputs = inputs_stand s journal h;
+    }))
+
+-- the numbers of the inputs are those of the journal
+inputs_are : (s : CoreState) (journal : List Entry) → Stands s journal → (k : ℕ) → k < length s.setup.inputs →
+    get_or s.numbers.inputs k (unread_input false) ≡ get_or (totals s.setup journal).inputs k (unread_input false)
+inputs_are s journal h k b = ap (λ (m : Numbers). get_or m.inputs k (unread_input false)) h.numbers
 
 -- what becomes of the views of a batch that is done
 views_end : (ok : Bool) (b l : ℕ) (es : List LaneEvent) (offs : List Offer) (x : LaneState Offer) → IsSome x.flight →
@@ -223,10 +224,11 @@ done_line s journal o ok reports h b some = record {
       (lane_at s.lanes o) (h.lanes o b) some).meets;
 }
 
-pub stands_done : (s : CoreState) (o : ℕ) (ok : Bool) → IsCore s → GroupsAgree s → o < length s.setup.outputs →
-    IsSome (lane_at s.lanes o).flight → Continues s (after_done s o ok) (done_entry s o ok)
+pub done_stands : (s n : CoreState) (o : ℕ) (ok : Bool) → n ≡ after_done s o ok → IsCore s → GroupsAgree s →
+    o < length s.setup.outputs → IsSome (lane_at s.lanes o).flight → Continues s n (done_entry s o ok)
 unfolding done_entry
-stands_done s o ok core agree b some journal h =
+done_stands s n o ok q core agree b some =
+    by_step s n (after_done s o ok) (done_entry s o ok) q (λ journal h.
     let reports : List Report = done_reports s o ok in
     let e : Entry = Done o ok reports in
     let x : LaneState Offer = lane_at s.lanes o in
@@ -240,7 +242,6 @@ stands_done s o ok core agree b some journal h =
     let line : MeetsLine s.setup journal e = done_line s journal o ok reports h b some in
     let lets = done_lets s journal o ok reports core h line in
     let more : Numbers = with_output s.numbers o (counted_done ok (count_done ok x) (output_numbers s.numbers o)) in
-    let rest = reported_rest more reports in
     stands_grows s (after_done s o ok) journal e h
     (record {
       meets = record {
@@ -248,28 +249,23 @@ stands_done s o ok core agree b some journal h =
         reports = ap (λ (t : TrackerState). reports_with t (copies_done s o ok)) h.tracker
             ∙ sym (lets_reports s.setup journal e None 0 (copies_done s o ok) lets);
       };
-      raw = sym (append-nil s.raw);
-      taken_is = omega arith;
+      items = items_stand s;
       held = refl;
-      made = sym (append-nil s.made);
-      groups = groups_stay s.groups;
       tracker = ap (λ (t : TrackerState). after_copies t (copies_done s o ok)) h.tracker
           ∙ sym (lets_tracker s.setup journal e None 0 (copies_done s o ok) lets);
       bank = bank_stays s journal h;
-      lanes = lanes_one s journal e o (lane_done ok x) (events.Done ok) h b here others (λ k. refl)
-          (lane_is_done ok batch limit (lane_events o journal) (offers o journal) x some (h.lanes o b));
-      lane_count = length-set s.lanes o (lane_done ok x);
-      marked = done_marks s journal o ok reports h line;
-      mark_count = length-set s.marked o (marked_done ok (marked_at s.marked o));
+      outputs = record {
+        each = lanes_one s journal e o (lane_done ok x) (events.Done ok) h b here others (λ k. refl)
+            (lane_is_done ok batch limit (lane_events o journal) (offers o journal) x some (h.lanes o b));
+        count = length-set s.lanes o (lane_done ok x);
+        each_marked = done_marks s journal o ok reports h line;
+        mark_count = length-set s.marked o (marked_done ok (marked_at s.marked o));
+      };
       told = λ i b. told_with-at s.told reports i (omega (arith, b, agree.told_count));
       numbers =
-          totals-push s.setup journal e s.numbers (after_done s o ok).numbers h.numbers
-          (inputs_told s.setup journal e more reports refl core.inputs.number_count
-          (λ k b. ap (λ (m : Numbers). get_or m.inputs k (unread_input false)) h.numbers))
-          (omega (arith, ap (λ (m : Numbers). m.made) rest)) (omega (arith, ap (λ (m : Numbers). m.removed) rest))
-          (omega (arith, ap (λ (m : Numbers). m.routed) rest))
-          (ap (λ (m : Numbers). m.outputs) rest ∙ ap (λ (n : Numbers). set n.outputs o (counted_done ok
-          (count_done ok x)
+          numbers_told s.setup journal e s.numbers more reports h.numbers refl core.inputs.number_count
+          (inputs_are s journal h) (omega arith) (omega arith) (omega arith)
+          (ap (λ (n : Numbers). set n.outputs o (counted_done ok (count_done ok x)
           (get_or n.outputs o unreached_output))) h.numbers
           ∙ sym (outputs-set s.setup journal e o (counted_done ok (count_done ok x) old) b
           (λ k c d. output_stays (sizes_at s.setup k).1 k journal e (others k d) refl (λ t. refl))
@@ -277,12 +273,8 @@ stands_done s o ok core agree b some journal h =
           (views_end ok batch limit (lane_events o journal) (offers o journal) x some (h.lanes o b))
           ∙ ap (counted_done ok (count_done ok x)) (sym (outputs-at s.setup journal o b)))));
       stored = refl;
-      gathered = omega arith;
-      counted = refl;
-      ended = ended_stays s journal h;
-      ended_count = refl;
-      stopped = sym (or-false s.stopped);
-    })
+      inputs = inputs_stand s journal h;
+    }))
 
 -- a made item has no views at aggregators: the mark of the item in hand stands first
 no_views : (s : CoreState) (journal : List Entry) (item : ℕ) (aggs : List (Option Content)) → Stands s journal
@@ -362,15 +354,9 @@ numbers_grow : (verdict : Verdict) (s : CoreState) (journal : List Entry) (item 
     with_reports (numbers_routed verdict outs s.lanes s.numbers) reports ≡ totals s.setup (journal ++ e ∷ [])
 numbers_grow verdicts.Passes s journal item whole aggs outs reports core h =
     let e : Entry = Route item whole verdicts.Passes aggs outs reports in
-    let more : Numbers = numbers_routed verdicts.Passes outs s.lanes s.numbers in
-    let rest = reported_rest more reports in
-    totals-push s.setup journal e s.numbers (with_reports more reports) h.numbers
-    (inputs_told s.setup journal e more reports refl core.inputs.number_count
-    (λ k b. ap (λ (m : Numbers). get_or m.inputs k (unread_input false)) h.numbers))
-    (omega (arith, ap (λ (m : Numbers). m.made) rest)) (omega (arith, ap (λ (m : Numbers). m.removed) rest))
-    (omega (arith, ap (λ (m : Numbers). m.routed) rest))
-    (ap (λ (m : Numbers). m.outputs) rest ∙ sym (outputs-as s.setup journal e
-    (outputs_with outs s.lanes s.numbers.outputs)
+    numbers_told s.setup journal e s.numbers (numbers_routed verdicts.Passes outs s.lanes s.numbers) reports h.numbers
+    refl core.inputs.number_count (inputs_are s journal h) (omega arith) (omega arith) (omega arith)
+    (sym (outputs-as s.setup journal e (outputs_with outs s.lanes s.numbers.outputs)
     (length-outputs_with outs s.lanes s.numbers.outputs ∙ core.outputs.number_count)
     (λ o b. total_is_offered (view_at o outs) (sizes_at s.setup o).0 (sizes_at s.setup o).1 o journal item whole aggs
     outs reports (lane_at s.lanes o) refl (omega (arith, (core.outputs.each o b).some, (core.outputs.each o b).fits))
@@ -380,38 +366,20 @@ numbers_grow verdicts.Passes s journal item whole aggs outs reports core h =
     ∙ sym (outputs_with-at outs s.lanes s.numbers.outputs o (omega (arith, core.outputs.number_count))))))
 numbers_grow verdicts.Consumed s journal item whole aggs outs reports core h =
     let e : Entry = Route item whole verdicts.Consumed aggs outs reports in
-    let more : Numbers = numbers_routed verdicts.Consumed outs s.lanes s.numbers in
-    let rest = reported_rest more reports in
-    totals-push s.setup journal e s.numbers (with_reports more reports) h.numbers
-    (inputs_told s.setup journal e more reports refl core.inputs.number_count
-    (λ k b. ap (λ (m : Numbers). get_or m.inputs k (unread_input false)) h.numbers))
-    (omega (arith, ap (λ (m : Numbers). m.made) rest)) (omega (arith, ap (λ (m : Numbers). m.removed) rest))
-    (omega (arith, ap (λ (m : Numbers). m.routed) rest))
-    (ap (λ (m : Numbers). m.outputs) rest ∙ counted_at_each consumed_more s journal e core h
-    (λ l o. output_consumes l o journal e refl refl (λ t. refl)))
+    numbers_told s.setup journal e s.numbers (numbers_routed verdicts.Consumed outs s.lanes s.numbers) reports h.numbers
+    refl core.inputs.number_count (inputs_are s journal h) (omega arith) (omega arith) (omega arith)
+    (counted_at_each consumed_more s journal e core h (λ l o. output_consumes l o journal e refl refl (λ t. refl)))
 numbers_grow verdicts.Late s journal item whole aggs outs reports core h =
     let e : Entry = Route item whole verdicts.Late aggs outs reports in
-    let more : Numbers = numbers_routed verdicts.Late outs s.lanes s.numbers in
-    let rest = reported_rest more reports in
-    totals-push s.setup journal e s.numbers (with_reports more reports) h.numbers
-    (inputs_told s.setup journal e more reports refl core.inputs.number_count
-    (λ k b. ap (λ (m : Numbers). get_or m.inputs k (unread_input false)) h.numbers))
-    (omega (arith, ap (λ (m : Numbers). m.made) rest)) (omega (arith, ap (λ (m : Numbers). m.removed) rest))
-    (omega (arith, ap (λ (m : Numbers). m.routed) rest))
-    (ap (λ (m : Numbers). m.outputs) rest ∙ counted_at_each late_more s journal e core h
-    (λ l o. output_lates l o journal e refl refl (λ t. refl)))
+    numbers_told s.setup journal e s.numbers (numbers_routed verdicts.Late outs s.lanes s.numbers) reports h.numbers
+    refl core.inputs.number_count (inputs_are s journal h) (omega arith) (omega arith) (omega arith)
+    (counted_at_each late_more s journal e core h (λ l o. output_lates l o journal e refl refl (λ t. refl)))
 numbers_grow verdicts.Removed s journal item whole aggs outs reports core h =
     let e : Entry = Route item whole verdicts.Removed aggs outs reports in
-    let more : Numbers = numbers_routed verdicts.Removed outs s.lanes s.numbers in
-    let rest = reported_rest more reports in
-    totals-push s.setup journal e s.numbers (with_reports more reports) h.numbers
-    (inputs_told s.setup journal e more reports refl core.inputs.number_count
-    (λ k b. ap (λ (m : Numbers). get_or m.inputs k (unread_input false)) h.numbers))
-    (omega (arith, ap (λ (m : Numbers). m.made) rest)) (omega (arith, ap (λ (m : Numbers). m.removed) rest))
-    (omega (arith, ap (λ (m : Numbers). m.routed) rest))
-    (ap (λ (m : Numbers). m.outputs) rest ∙ ap (λ (n : Numbers). n.outputs) h.numbers ∙ sym
-    (outputs_stay s.setup journal e (λ o. refl) (λ o. refl)
-    (λ o t. refl)))
+    numbers_told s.setup journal e s.numbers (numbers_routed verdicts.Removed outs s.lanes s.numbers) reports h.numbers
+    refl core.inputs.number_count (inputs_are s journal h) (omega arith) (omega arith) (omega arith)
+    (ap (λ (n : Numbers). n.outputs) h.numbers
+    ∙ sym (outputs_stay s.setup journal e (λ o. refl) (λ o. refl) (λ o t. refl)))
 
 -- an item is routed with the verdict of the windows
 pub length-marked_routed : (verdict : Verdict) (grp : Option ℕ) (outs : List (Option Content))
@@ -466,58 +434,6 @@ route_line s r verdict reports journal h held number count views none is = recor
   verdict_is = is;
 }
 
-pub stands_route : (s : CoreState) (r : Routed) (verdict : Verdict) (bank : BankMemory) → IsCore s
-    → GroupsAgree s → s.held ≡ Some r.item → length r.aggs ≡ length s.setup.aggs → length r.outs
-    ≡ length s.setup.outputs
-    → HasViews r.whole (r.aggs ++ r.outs)
-    → (slice_get s.made 0 ≡ Some true → AllByRecursion (λ (view : Option Content). view ≡ None) r.aggs)
-    → ((journal : List Entry) → Stands s journal → verdict ≡ judged s.setup journal r.whole r.aggs)
-    → ((journal : List Entry) → Stands s journal → BankStands s.setup.aggs s.setup.start
-    (bank_events journal ++ offered_to r.whole r.aggs) bank)
-    → Continues s (after_route s r verdict bank) (route_entry s r verdict)
-unfolding route_entry
-stands_route s r verdict bank core agree held number count views none is keeps journal h =
-    let reports : List Report = route_reports s r verdict in
-    let e : Entry = Route r.item r.whole verdict r.aggs r.outs reports in
-    let line : MeetsLine s.setup journal e = route_line s r verdict reports journal h held number count views none
-    (is journal h) in
-    let lets = route_lets s journal r.item r.whole verdict r.aggs r.outs reports core h line held in
-    let holds : route_tracker s r verdict ≡ hold_more (tracker_after s.setup journal)
-    (shown_group verdict (held_group s)) (comers verdict r.outs) =
-    ap (λ (t : TrackerState). held_routed t (held_group s) verdict r.outs) h.tracker
-    ∙ sym (held_so verdict (tracker_after s.setup journal) (held_group s) r.outs) in
-    stands_grows s (after_route s r verdict bank) journal e h
-    (record {
-      meets = record {
-        line = line;
-        reports = ap (λ (t : TrackerState). reports_with t (route_copies s r verdict)) holds
-            ∙ sym (lets_reports s.setup journal e (shown_group verdict (held_group s)) (comers verdict r.outs)
-            (route_copies s r verdict) lets);
-      };
-      raw = sym (append-nil s.raw);
-      taken_is = omega arith;
-      held = refl;
-      made = ap (drop 1) (sym (append-nil s.made));
-      groups = ap (drop 1) (sym (append-nil s.groups));
-      tracker = ap (λ (t : TrackerState). after_copies t (route_copies s r verdict)) holds
-          ∙ sym (lets_tracker s.setup journal e (shown_group verdict (held_group s)) (comers verdict r.outs)
-          (route_copies s r verdict) lets);
-      bank = keeps journal h;
-      lanes = lanes_grow verdict s journal r.item r.whole r.aggs r.outs reports h;
-      lane_count = length-lanes_routed r.item verdict r.outs s.lanes;
-      marked = routed_marks s journal r.item r.whole verdict r.aggs r.outs reports h line held;
-      mark_count = length-marked_routed verdict (held_group s) r.outs s.marked;
-      told = λ i b. told_with-at s.told reports i (omega (arith, b, agree.told_count));
-      numbers = numbers_grow verdict s journal r.item r.whole r.aggs r.outs reports core h;
-      stored = refl;
-      gathered = omega arith;
-      counted = refl;
-      ended = ended_stays s journal h;
-      ended_count = refl;
-      stopped = sym (or-false s.stopped);
-    })
-
--- the same of a core that is what the call makes of the old one
 pub route_stands : (s n : CoreState) (r : Routed) (verdict : Verdict) → n ≡ after_route s r verdict n.bank → IsCore s
     → GroupsAgree s → s.held ≡ Some r.item → length r.aggs ≡ length s.setup.aggs → length r.outs
     ≡ length s.setup.outputs
@@ -527,19 +443,45 @@ pub route_stands : (s n : CoreState) (r : Routed) (verdict : Verdict) → n ≡ 
     → ((journal : List Entry) → Stands s journal → BankStands s.setup.aggs s.setup.start
     (bank_events journal ++ offered_to r.whole r.aggs) n.bank)
     → Continues s n (route_entry s r verdict)
+unfolding route_entry
 route_stands s n r verdict q core agree held number count views none is keeps =
-    subst (λ (m : CoreState). Continues s m (route_entry s r verdict)) (sym q)
-    (stands_route s r verdict n.bank core agree held number count views none is keeps)
-
-pub begin_stands : (s n : CoreState) (o from to : ℕ) → n ≡ after_begin s o from to → IsCore s → GroupsAgree s →
-    o < length s.setup.outputs → (lane_at s.lanes o).flight ≡ None → 0 < length (lane_at s.lanes o).waiting →
-    from ≡ waiting_from (lane_at s.lanes o) → to ≡ waiting_from (lane_at s.lanes o) + min (lane_at s.lanes o).batch
-    (length (lane_at s.lanes o).waiting) → Continues s n (Begin o from to)
-begin_stands s n o from to q core agree b none some f t =
-    subst (λ (m : CoreState). Continues s m (Begin o from to)) (sym q)
-    (stands_begin s o from to core agree b none some f t)
-
-pub done_stands : (s n : CoreState) (o : ℕ) (ok : Bool) → n ≡ after_done s o ok → IsCore s → GroupsAgree s →
-    o < length s.setup.outputs → IsSome (lane_at s.lanes o).flight → Continues s n (done_entry s o ok)
-done_stands s n o ok q core agree b some =
-    subst (λ (m : CoreState). Continues s m (done_entry s o ok)) (sym q) (stands_done s o ok core agree b some)
+    by_step s n (after_route s r verdict n.bank) (route_entry s r verdict) q (λ journal h.
+    let reports : List Report = route_reports s r verdict in
+    let e : Entry = Route r.item r.whole verdict r.aggs r.outs reports in
+    let line : MeetsLine s.setup journal e = route_line s r verdict reports journal h held number count views none
+    (is journal h) in
+    let lets = route_lets s journal r.item r.whole verdict r.aggs r.outs reports core h line held in
+    let holds : route_tracker s r verdict ≡ hold_more (tracker_after s.setup journal)
+    (shown_group verdict (held_group s)) (comers verdict r.outs) =
+    ap (λ (t : TrackerState). held_routed t (held_group s) verdict r.outs) h.tracker
+    ∙ sym (held_so verdict (tracker_after s.setup journal) (held_group s) r.outs) in
+    stands_grows s (after_route s r verdict n.bank) journal e h
+    (record {
+      meets = record {
+        line = line;
+        reports = ap (λ (t : TrackerState). reports_with t (route_copies s r verdict)) holds
+            ∙ sym (lets_reports s.setup journal e (shown_group verdict (held_group s)) (comers verdict r.outs)
+            (route_copies s r verdict) lets);
+      };
+      items = record {
+        raw_is = sym (append-nil s.raw);
+        taken_is = omega arith;
+        made_is = ap (drop 1) (sym (append-nil s.made));
+        groups_are = ap (drop 1) (sym (append-nil s.groups));
+      };
+      held = refl;
+      tracker = ap (λ (t : TrackerState). after_copies t (route_copies s r verdict)) holds
+          ∙ sym (lets_tracker s.setup journal e (shown_group verdict (held_group s)) (comers verdict r.outs)
+          (route_copies s r verdict) lets);
+      bank = keeps journal h;
+      outputs = record {
+        each = lanes_grow verdict s journal r.item r.whole r.aggs r.outs reports h;
+        count = length-lanes_routed r.item verdict r.outs s.lanes;
+        each_marked = routed_marks s journal r.item r.whole verdict r.aggs r.outs reports h line held;
+        mark_count = length-marked_routed verdict (held_group s) r.outs s.marked;
+      };
+      told = λ i b. told_with-at s.told reports i (omega (arith, b, agree.told_count));
+      numbers = numbers_grow verdict s journal r.item r.whole r.aggs r.outs reports core h;
+      stored = refl;
+      inputs = inputs_stand s journal h;
+    }))

@@ -13,8 +13,9 @@ use Rattle.std.specs.declared.option.Option.{Option}
 use Rattle.std.specs.declared.option.Option.TheVariants.{Some, None}
 use Rattle.metric.specs.declared.metric.Content.{Content}
 use Rattle.account.specs.Setup.{Setup}
-use Rattle.account.specs.Items.{items, taken}
-use Rattle.account.specs.Origins.{made, Origin}
+use Rattle.account.specs.Items.{held_after, items, named_by, routes_by, taken, takes_by}
+use Rattle.account.specs.Origins.{group_inputs_said, made, Origin, origins_by}
+use Rattle.account.specs.Says.{gather_of, reports_of}
 use Rattle.agg_bank.specs.Bank.{BankMemory, BankStands}
 use Rattle.agg_bank.specs.Events as events
 use Rattle.account.specs.Numbers.{Numbers, unread_input}
@@ -23,10 +24,11 @@ use Rattle.account.specs.declared.entry.Entry.{Entry}
 use Rattle.account.specs.declared.entry.Entry.TheVariants.{Ended, Take, Tick, Stop}
 use Rattle.pipeline_core.specs.Fates.{Fate}
 use Rattle.pipeline_core.specs.Offers.{offered_by, lane_events_by}
-use Rattle.pipeline_core.specs.Legal.{counted_from, has_ended, MeetsLine}
+use Rattle.pipeline_core.specs.Legal.{counted_from, gathered_by, has_ended, is_ended_of, is_stop, moment_after}
+use Rattle.pipeline_core.specs.Legal.{MeetsLine, MeetsMoment}
 use Rattle.pipeline_core.specs.Totals.{totals, reported_with, input_with}
 use Rattle.pipeline_core.specs.Totals.{made_by, removed_by, routed_by}
-use Rattle.pipeline_core.specs.Windows.{bank_events, made_by_stop, made_by_tick}
+use Rattle.pipeline_core.specs.Windows.{bank_events, bank_events_by, made_by_stop, made_by_tick}
 use Rattle.pipeline_core.specs.CoreState.{CoreState, GroupsAgree, sizes_at}
 use Rattle.pipeline_core.specs.Stands.{group_in, was_made, Stands, Continues}
 use Rattle.pipeline_core.specs.Steps.{after_ended, after_take, after_tick, after_stop}
@@ -37,8 +39,9 @@ use Rattle.pipeline_core.proofs.Keeping.{differs, same_number}
 use Rattle.pipeline_core.proofs.FateCounts.{kept_out}
 use Rattle.pipeline_core.proofs.TotalPush.{inputs-same, inputs-set, outputs-same}
 use Rattle.pipeline_core.proofs.OutputPush.{output_stays, totals-push}
-use Rattle.pipeline_core.proofs.Standing.{stands_grows, lanes_stay, ended_stays, bank_stays, groups_stay, marks_stay}
-use Rattle.pipeline_core.proofs.Standing.{told_stays}
+use Rattle.pipeline_core.proofs.CopyGroups.{IsQuiet, quiet_plain}
+use Rattle.pipeline_core.proofs.Standing.{InputsGrow, ItemsGrow, stands_grows, bank_stays, told_stays}
+use Rattle.pipeline_core.proofs.Standing.{inputs_at, inputs_stand, items_stand, outputs_stand}
 
 pub nil_of_length : {X : Type 0} (xs : List X) → length xs ≡ 0 → xs ≡ []
 nil_of_length [] h = refl
@@ -88,40 +91,76 @@ totals_stay s journal e more h none l v k made removed routed =
     (inputs_stay s journal e h none) made (omega (arith, removed)) (omega (arith, routed))
     (ap (λ (n : Numbers). n.outputs) h.numbers ∙ sym (outputs_stay s.setup journal e l v k))
 
-pub stands_take : (s : CoreState) → GroupsAgree s → s.held ≡ None → 0 < length s.raw →
-    Continues s (after_take s) (Take s.taken)
-stands_take s agree none some journal h =
-    let e : Entry = Take s.taken in
-    let line : MeetsLine s.setup journal e = record {
-      empty_handed = sym h.held ∙ none;
-      first = h.taken_is;
-      raw = omega (arith, ap length h.raw, length-drop (taken journal) (items journal), h.taken_is);
-    } in
-    let lets = quiet_lets s.setup journal e h.legal line tt refl in
-    stands_grows s (after_take s) journal e h
+-- what a quiet entry makes of a core that stands for a journal
+record QuietGrows (s t : CoreState) (journal : List Entry) (e : Entry) : Type 0 where
+  line : MeetsLine s.setup journal e
+  items : ItemsGrow s (named_by e) (takes_by e) (routes_by e) (origins_by e) t.raw t.taken t.made t.groups
+  held : t.held ≡ held_after s.held e
+  bank : BankStands s.setup.aggs s.setup.start (bank_events journal ++ bank_events_by e) t.bank
+  numbers : t.numbers ≡ totals s.setup (journal ++ e ∷ [])
+  inputs : InputsGrow s journal (gathered_by e) (moment_after s.counted e) (λ (i : ℕ). is_ended_of i e) (is_stop e)
+      t.gathered t.counted t.ended t.stopped
+
+-- an entry by which no group begins or settles, and nothing happens at the outputs
+quiet_stands : (s t : CoreState) (e : Entry) → GroupsAgree s → IsQuiet e → group_inputs_said (gather_of e) ≡ [] →
+    reports_of e ≡ [] → ((journal : List Entry) → Stands s journal → QuietGrows s t journal e) →
+    Continues s (record t {
+      setup = s.setup;
+      tracker = s.tracker;
+      lanes = s.lanes;
+      marked = s.marked;
+      told = s.told;
+      stored = s.stored ++ e ∷ [];
+    }) e
+quiet_stands s t e agree quiet none silent grows journal h =
+    let g = grows journal h in
+    let lets = quiet_lets s.setup journal e h.legal g.line quiet none in
+    stands_grows s (record t {
+      tracker = s.tracker;
+      lanes = s.lanes;
+      marked = s.marked;
+      told = s.told;
+      stored = s.stored ++ e ∷ [];
+    }) journal e h
     (record {
-      meets = record { line = line; reports = stays_silent s journal e agree h lets };
-      raw = ap (drop 1) (sym (append-nil s.raw));
-      taken_is = refl;
-      held = refl;
-      made = sym (append-nil s.made);
-      groups = groups_stay s.groups;
+      meets = record { line = g.line; reports = silent ∙ stays_silent s journal e agree h lets };
+      items = g.items;
+      held = g.held;
       tracker = stays_tracker s journal e agree h lets;
-      bank = bank_stays s journal h;
-      lanes = lanes_stay s journal h;
-      lane_count = refl;
-      marked = marks_stay s journal e h line tt;
-      mark_count = refl;
-      told = λ i b. told_stays s i;
-      numbers = totals_stay s journal e s.numbers.made h (λ i x. nothing_reported i x) (λ o. refl) (λ o. refl)
-          (λ o t. refl) (omega arith) refl refl;
+      bank = g.bank;
+      outputs = outputs_stand s journal e h g.line (quiet_plain e quiet);
+      told = λ i b. rw silent (told_stays s i);
+      numbers = g.numbers;
       stored = refl;
-      gathered = omega arith;
-      counted = refl;
-      ended = ended_stays s journal h;
-      ended_count = refl;
-      stopped = sym (or-false s.stopped);
+      inputs = g.inputs;
     })
+
+-- the same of a core that is what the call makes of the old one
+pub by_step : (s n t : CoreState) (e : Entry) → n ≡ t → Continues s t e → Continues s n e
+by_step s n t e q h = subst (λ (m : CoreState). Continues s m e) (sym q) h
+
+pub take_stands : (s n : CoreState) → n ≡ after_take s → GroupsAgree s → s.held ≡ None → 0 < length s.raw →
+    Continues s n (Take s.taken)
+take_stands s n q agree none some =
+    by_step s n (after_take s) (Take s.taken) q
+    (quiet_stands s (after_take s) (Take s.taken) agree tt refl refl (λ journal h. record {
+      line = record {
+        empty_handed = sym h.held ∙ none;
+        first = h.taken_is;
+        raw = omega (arith, ap length h.raw, length-drop (taken journal) (items journal), h.taken_is);
+      };
+      items = record {
+        raw_is = ap (drop 1) (sym (append-nil s.raw));
+        taken_is = refl;
+        made_is = sym (append-nil s.made);
+        groups_are = sym (append-nil s.groups);
+      };
+      held = refl;
+      bank = bank_stays s journal h;
+      numbers = totals_stay s journal (Take s.taken) s.numbers.made h (λ i x. nothing_reported i x) (λ o. refl)
+          (λ o. refl) (λ o t. refl) (omega arith) refl refl;
+      inputs = inputs_stand s journal h;
+    }))
 
 -- the marks of items of one origin
 pub marks_of : (n : ℕ) (origin : Origin) → replicate n (was_made origin) ≡ map was_made (replicate n origin)
@@ -132,89 +171,63 @@ pub groups_of : (n : ℕ) (origin : Origin) → replicate n (group_in origin) �
 groups_of zero origin = refl
 groups_of (suc n) origin = ap (λ (groups : List (Option ℕ)). group_in origin ∷ groups) (groups_of n origin)
 
-module _ (s : CoreState) (moment : ℤ) (metrics : List Content) (bank : BankMemory) (agree : GroupsAgree s)
-    (going : s.stopped ≡ false) where
+module _ (s n : CoreState) (moment : ℤ) (metrics : List Content) (bank : BankMemory) where
   -- the moment isn't below the last one counted
   later : (journal : List Entry) → Stands s journal → counted_from s.setup.start journal ≤ℤ moment_at s moment
   later journal h = subst (λ (m : ℤ). m ≤ℤ moment_at s moment) h.counted (below_max moment s.counted)
 
-  pub stands_tick : ((journal : List Entry) → Stands s journal
-      → metrics ≡ made_by_tick s.setup journal (moment_at s moment))
-      → ((journal : List Entry) → Stands s journal → BankStands s.setup.aggs s.setup.start
-      (bank_events journal ++ events.Tick (moment_at s moment) ∷ []) bank)
-      → Continues s (after_tick s moment metrics bank) (tick_entry s moment metrics)
-  unfolding tick_entry
-  stands_tick is keeps journal h =
-      let e : Entry = Tick (moment_at s moment) metrics in
-      let line : MeetsLine s.setup journal e = record {
-        going = sym h.stopped ∙ going;
-        later = later journal h;
-        all_made = is journal h;
-      } in
-      let lets = quiet_lets s.setup journal e h.legal line tt refl in
-      stands_grows s (after_tick s moment metrics bank) journal e h
-      (record {
-        meets = record { line = line; reports = stays_silent s journal e agree h lets };
-        raw = refl;
-        taken_is = omega arith;
-        held = refl;
-        made = ap (λ (marks : List Bool). s.made ++ marks) (marks_of (length metrics) made);
-        groups = ap (λ (groups : List (Option ℕ)). s.groups ++ groups) (groups_of (length metrics) made);
-        tracker = stays_tracker s journal e agree h lets;
-        bank = keeps journal h;
-        lanes = lanes_stay s journal h;
-        lane_count = refl;
-        marked = marks_stay s journal e h line tt;
-        mark_count = refl;
-        told = λ i b. told_stays s i;
-        numbers = totals_stay s journal e (s.numbers.made + length metrics) h (λ i x. nothing_reported i x)
-            (λ o. refl) (λ o. refl) (λ o t. refl) refl refl refl;
-        stored = refl;
-        gathered = omega arith;
-        counted = refl;
-        ended = ended_stays s journal h;
-        ended_count = refl;
-        stopped = sym (or-false s.stopped);
-      })
+  -- the windows may close
+  closes : (all : List Content) (journal : List Entry) → s.stopped ≡ false → Stands s journal → metrics ≡ all →
+      MeetsMoment s.setup journal (moment_at s moment) metrics all
+  closes all journal going h is = record { going = sym h.stopped ∙ going; later = later journal h; all_made = is }
 
-  pub stands_stop : ((journal : List Entry) → Stands s journal
-      → metrics ≡ made_by_stop s.setup journal (moment_at s moment))
-      → ((journal : List Entry) → Stands s journal → BankStands s.setup.aggs s.setup.start
-      (bank_events journal ++ events.Stop (moment_at s moment) ∷ []) bank)
-      → Continues s (after_stop s moment metrics bank) (stop_entry s moment metrics)
-  unfolding stop_entry
-  stands_stop is keeps journal h =
-      let e : Entry = Stop (moment_at s moment) metrics in
-      let line : MeetsLine s.setup journal e = record {
-        going = sym h.stopped ∙ going;
-        later = later journal h;
-        all_made = is journal h;
-      } in
-      let lets = quiet_lets s.setup journal e h.legal line tt refl in
-      stands_grows s (after_stop s moment metrics bank) journal e h
-      (record {
-        meets = record { line = line; reports = stays_silent s journal e agree h lets };
-        raw = refl;
-        taken_is = omega arith;
+  -- what they made becomes raw items
+  items_made : ItemsGrow s metrics 0 0 (replicate (length metrics) made) (s.raw ++ metrics) s.taken
+      (s.made ++ replicate (length metrics) true) (s.groups ++ replicate (length metrics) None)
+  items_made = record {
+    raw_is = refl;
+    taken_is = omega arith;
+    made_is = ap (λ (marks : List Bool). s.made ++ marks) (marks_of (length metrics) made);
+    groups_are = ap (λ (groups : List (Option ℕ)). s.groups ++ groups) (groups_of (length metrics) made);
+  }
+
+  pub tick_stands : n ≡ after_tick s moment metrics bank → GroupsAgree s → s.stopped ≡ false
+      → ((journal : List Entry) → Stands s journal →
+      (metrics ≡ made_by_tick s.setup journal (moment_at s moment)) × BankStands s.setup.aggs s.setup.start
+      (bank_events journal ++ events.Tick (moment_at s moment) ∷ []) bank)
+      → Continues s n (tick_entry s moment metrics)
+  unfolding tick_entry
+  tick_stands q agree going closed =
+      let e : Entry = Tick (moment_at s moment) metrics in
+      by_step s n (after_tick s moment metrics bank) e q
+      (quiet_stands s (after_tick s moment metrics bank) e agree tt refl refl (λ journal h. record {
+        line = closes (made_by_tick s.setup journal (moment_at s moment)) journal going h (closed journal h).0;
+        items = items_made;
         held = refl;
-        made = ap (λ (marks : List Bool). s.made ++ marks) (marks_of (length metrics) made);
-        groups = ap (λ (groups : List (Option ℕ)). s.groups ++ groups) (groups_of (length metrics) made);
-        tracker = stays_tracker s journal e agree h lets;
-        bank = keeps journal h;
-        lanes = lanes_stay s journal h;
-        lane_count = refl;
-        marked = marks_stay s journal e h line tt;
-        mark_count = refl;
-        told = λ i b. told_stays s i;
+        bank = (closed journal h).1;
         numbers = totals_stay s journal e (s.numbers.made + length metrics) h (λ i x. nothing_reported i x)
             (λ o. refl) (λ o. refl) (λ o t. refl) refl refl refl;
-        stored = refl;
-        gathered = omega arith;
-        counted = refl;
-        ended = ended_stays s journal h;
-        ended_count = refl;
-        stopped = ap (λ (b : Bool). b || true) (sym going);
-      })
+        inputs = inputs_at s journal (moment_at s moment) false s.stopped h (sym (or-false s.stopped));
+      }))
+
+  pub stop_stands : n ≡ after_stop s moment metrics bank → GroupsAgree s → s.stopped ≡ false
+      → ((journal : List Entry) → Stands s journal →
+      (metrics ≡ made_by_stop s.setup journal (moment_at s moment)) × BankStands s.setup.aggs s.setup.start
+      (bank_events journal ++ events.Stop (moment_at s moment) ∷ []) bank)
+      → Continues s n (stop_entry s moment metrics)
+  unfolding stop_entry
+  stop_stands q agree going closed =
+      let e : Entry = Stop (moment_at s moment) metrics in
+      by_step s n (after_stop s moment metrics bank) e q
+      (quiet_stands s (after_stop s moment metrics bank) e agree tt refl refl (λ journal h. record {
+        line = closes (made_by_stop s.setup journal (moment_at s moment)) journal going h (closed journal h).0;
+        items = items_made;
+        held = refl;
+        bank = (closed journal h).1;
+        numbers = totals_stay s journal e (s.numbers.made + length metrics) h (λ i x. nothing_reported i x)
+            (λ o. refl) (λ o. refl) (λ o t. refl) refl refl refl;
+        inputs = inputs_at s journal (moment_at s moment) true true h (ap (λ (b : Bool). b || true) (sym going));
+      }))
 
 -- which inputs have ended with one more
 ended_more : (s : CoreState) (journal : List Entry) (input : ℕ) → slice_get s.ended input ≡ Some false →
@@ -242,89 +255,43 @@ ended_more s journal input reading h i b =
       ]
     ]
 
-pub stands_ended : (s : CoreState) (input : ℕ) → GroupsAgree s → slice_get s.ended input ≡ Some false →
-    s.stopped ≡ false → Continues s (after_ended s input) (Ended input)
-stands_ended s input agree reading going journal h =
+pub ended_stands : (s n : CoreState) (input : ℕ) → n ≡ after_ended s input → GroupsAgree s →
+    slice_get s.ended input ≡ Some false → s.stopped ≡ false → Continues s n (Ended input)
+ended_stands s n input q agree reading going =
     let e : Entry = Ended input in
-    let n : input < length s.setup.inputs = omega (
+    by_step s n (after_ended s input) e q
+    (quiet_stands s (after_ended s input) e agree tt refl refl (λ journal h.
+    let known : input < length s.setup.inputs = omega (
       arith,
       slice_get_within s.ended input false reading,
       h.ended_count,
     ) in
-    let line : MeetsLine s.setup journal e = record {
-      known = n;
-      going = sym h.stopped ∙ going;
-      reading = some_same (has_ended input journal) false (sym (h.ended input n) ∙ reading);
-    } in
-    let lets = quiet_lets s.setup journal e h.legal line tt refl in
-    stands_grows s (after_ended s input) journal e h
-    (record {
-      meets = record { line = line; reports = stays_silent s journal e agree h lets };
-      raw = sym (append-nil s.raw);
-      taken_is = omega arith;
+    let old : InputNumbers = get_or (totals s.setup journal).inputs input (unread_input false) in
+    record {
+      line = record {
+        known = known;
+        going = sym h.stopped ∙ going;
+        reading = some_same (has_ended input journal) false (sym (h.ended input known) ∙ reading);
+      };
+      items = items_stand s;
       held = refl;
-      made = sym (append-nil s.made);
-      groups = groups_stay s.groups;
-      tracker = stays_tracker s journal e agree h lets;
       bank = bank_stays s journal h;
-      lanes = lanes_stay s journal h;
-      lane_count = refl;
-      marked = marks_stay s journal e h line tt;
-      mark_count = refl;
-      told = λ i b. told_stays s i;
       numbers = totals-push s.setup journal e s.numbers (after_ended s input).numbers h.numbers
           (ap (λ (m : Numbers). set m.inputs input (record (get_or m.inputs input (unread_input false))
           { has_ended = true })) h.numbers
-          ∙ sym (inputs-set s.setup journal e input (record (get_or (totals s.setup journal).inputs input
-          (unread_input false)) { has_ended = true }) n (λ k x d. nothing_reported k
-          (if input == k then record x { has_ended = true } else x)
+          ∙ sym (inputs-set s.setup journal e input (record old { has_ended = true }) known
+          (λ k x d. nothing_reported k (if input == k then record x { has_ended = true } else x)
           ∙ ap (λ (t : Bool). if t then record x { has_ended = true } else x) (differs input k (omega (arith, d))))
-          (nothing_reported input (if input == input then record
-          (get_or (totals s.setup journal).inputs input (unread_input false)) { has_ended = true } else get_or
-          (totals s.setup journal).inputs input (unread_input false))
-          ∙ ap (λ (t : Bool). if t then record (get_or (totals s.setup journal).inputs input (unread_input false))
-          { has_ended = true } else get_or (totals s.setup journal).inputs input (unread_input false))
-          (same_number input))))
+          (nothing_reported input (if input == input then record old { has_ended = true } else old)
+          ∙ ap (λ (t : Bool). if t then record old { has_ended = true } else old) (same_number input))))
           (omega arith) (omega arith) (omega arith)
           (ap (λ (m : Numbers). m.outputs) h.numbers ∙ sym (outputs_stay s.setup journal e (λ o. refl) (λ o. refl)
           (λ o t. refl)));
-      stored = refl;
-      gathered = omega arith;
-      counted = refl;
-      ended = ended_more s journal input reading h;
-      ended_count = length-set s.ended input true;
-      stopped = sym (or-false s.stopped);
-    })
-
--- the same of a core that is what the call makes of the old one
-pub by_step : (s n t : CoreState) (e : Entry) → n ≡ t → Continues s t e → Continues s n e
-by_step s n t e q h = subst (λ (m : CoreState). Continues s m e) (sym q) h
-
-pub take_stands : (s n : CoreState) → n ≡ after_take s → GroupsAgree s → s.held ≡ None → 0 < length s.raw →
-    Continues s n (Take s.taken)
-take_stands s n q agree none some = by_step s n (after_take s) (Take s.taken) q (stands_take s agree none some)
-
-pub ended_stands : (s n : CoreState) (input : ℕ) → n ≡ after_ended s input → GroupsAgree s →
-    slice_get s.ended input ≡ Some false → s.stopped ≡ false → Continues s n (Ended input)
-ended_stands s n input q agree reading going =
-    by_step s n (after_ended s input) (Ended input) q (stands_ended s input agree reading going)
-
-pub tick_stands : (s n : CoreState) (moment : ℤ) (metrics : List Content) → n ≡ after_tick s moment metrics n.bank
-    → GroupsAgree s → s.stopped ≡ false
-    → ((journal : List Entry) → Stands s journal → metrics ≡ made_by_tick s.setup journal (moment_at s moment))
-    → ((journal : List Entry) → Stands s journal → BankStands s.setup.aggs s.setup.start
-    (bank_events journal ++ events.Tick (moment_at s moment) ∷ []) n.bank)
-    → Continues s n (tick_entry s moment metrics)
-tick_stands s n moment metrics q agree going is keeps =
-    by_step s n (after_tick s moment metrics n.bank) (tick_entry s moment metrics) q
-    (stands_tick s moment metrics n.bank agree going is keeps)
-
-pub stop_stands : (s n : CoreState) (moment : ℤ) (metrics : List Content) → n ≡ after_stop s moment metrics n.bank
-    → GroupsAgree s → s.stopped ≡ false
-    → ((journal : List Entry) → Stands s journal → metrics ≡ made_by_stop s.setup journal (moment_at s moment))
-    → ((journal : List Entry) → Stands s journal → BankStands s.setup.aggs s.setup.start
-    (bank_events journal ++ events.Stop (moment_at s moment) ∷ []) n.bank)
-    → Continues s n (stop_entry s moment metrics)
-stop_stands s n moment metrics q agree going is keeps =
-    by_step s n (after_stop s moment metrics n.bank) (stop_entry s moment metrics) q
-    (stands_stop s moment metrics n.bank agree going is keeps)
+      inputs = record {
+        gathered_is = omega arith;
+        counted_is = refl;
+        each_ended = ended_more s journal input reading h;
+        ended_count = length-set s.ended input true;
+        stopped_is = sym (or-false s.stopped);
+      };
+    }))

@@ -154,61 +154,10 @@ outputs-set setup journal e o y b others here =
 pub same_numbers : (x y : OutputNumbers) → x.filtered ≡ y.filtered → x.late ≡ y.late →
     x.consumed ≡ y.consumed → x.written ≡ y.written → x.buffered ≡ y.buffered → x.dropped ≡ y.dropped → x ≡ y
 same_numbers x y a b c d e f =
-    let F : ℕ → OutputNumbers = λ n. record {
-      filtered = n;
-      late = x.late;
-      consumed = x.consumed;
-      written =
-          x.written;
-      buffered = x.buffered;
-      dropped = x.dropped;
-    } in
-    let G : ℕ → OutputNumbers = λ n. record {
-      filtered = y.filtered;
-      late = n;
-      consumed = x.consumed;
-      written =
-          x.written;
-      buffered = x.buffered;
-      dropped = x.dropped;
-    } in
-    let H : ℕ → OutputNumbers = λ n. record {
-      filtered = y.filtered;
-      late = y.late;
-      consumed = n;
-      written =
-          x.written;
-      buffered = x.buffered;
-      dropped = x.dropped;
-    } in
-    let I : ℕ → OutputNumbers = λ n. record {
-      filtered = y.filtered;
-      late = y.late;
-      consumed = y.consumed;
-      written =
-          n;
-      buffered = x.buffered;
-      dropped = x.dropped;
-    } in
-    let J : ℕ → OutputNumbers = λ n. record {
-      filtered = y.filtered;
-      late = y.late;
-      consumed = y.consumed;
-      written =
-          y.written;
-      buffered = n;
-      dropped = x.dropped;
-    } in
-    let K : ℕ → OutputNumbers = λ n. record {
-      filtered = y.filtered;
-      late = y.late;
-      consumed = y.consumed;
-      written =
-          y.written;
-      buffered = y.buffered;
-      dropped = n;
-    } in
-    ap F a ∙ ap G b ∙ ap H c ∙ ap I d ∙ ap J e ∙ ap K f
+    ap (λ (n : ℕ). record x { filtered = n }) a ∙ ap (λ (n : ℕ). record x { filtered = y.filtered; late = n }) b
+    ∙ ap (λ (n : ℕ). record x { filtered = y.filtered; late = y.late; consumed = n }) c
+    ∙ ap (λ (n : ℕ). record y { written = n; buffered = x.buffered; dropped = x.dropped }) d
+    ∙ ap (λ (n : ℕ). record y { buffered = n; dropped = x.dropped }) e ∙ ap (λ (n : ℕ). record y { dropped = n }) f
 
 -- a test of fates, at the fate of a view that came to the output
 abbrev pub tested : (Fate → Bool) → LaneFate → Bool
@@ -231,17 +180,28 @@ count-push t limit o es e events views l v =
     ∙ ap (λ (x : List Offer). fates_counted (tested t) limit (lane_events o es ++ events) (length x)) b in
     omega (arith, fates-counted t limit o (es ++ e ∷ []), total_by-push (kept_out t o) es e)
 
+-- no view comes
+no_more : (t : Fate → Bool) (limit o : ℕ) (es : List Entry) (events : List LaneEvent) →
+    fates_counted (tested t) limit events (length (offers o es ++ []))
+    ≡ fates_counted (tested t) limit events (length (offers o es))
+no_more t limit o es events =
+    ap (λ (x : List Offer). fates_counted (tested t) limit events (length x)) (append-nil (offers o es))
+
 -- an entry that does nothing at the output's lane
 pub count-plain : (t : Fate → Bool) (limit o : ℕ) (es : List Entry) (e : Entry) → lane_events_by o e ≡ [] →
     offered_by o e ≡ [] →
     count_by t (fates limit o (es ++ e ∷ [])) ≡ count_by t (fates limit o es) + kept_out t o e
 count-plain t limit o es e l v =
-    let a : fates_counted (tested t) limit (lane_events o es ++ []) (length (offers o es ++ [])) ≡ fates_counted
+    let a : fates_counted (tested t) limit (lane_events o es ++ []) (length (offers o es)) ≡ fates_counted
     (tested t) limit (lane_events o es) (length (offers o es)) =
-    ap (λ (x : List LaneEvent). fates_counted (tested t) limit x (length (offers o es ++ [])))
-    (append-nil (lane_events o es)) ∙ ap (λ (x : List Offer). fates_counted (tested t) limit (lane_events o es)
-    (length x)) (append-nil (offers o es)) in
-    omega (arith, count-push t limit o es e [] [] l v, fates-counted t limit o es)
+    ap (λ (x : List LaneEvent). fates_counted (tested t) limit x (length (offers o es)))
+    (append-nil (lane_events o es)) in
+    omega (
+      arith,
+      no_more t limit o es (lane_events o es ++ []),
+      count-push t limit o es e [] [] l v,
+      fates-counted t limit o es,
+    )
 
 -- an entry that begins a batch of the output
 pub count-keep : (t : Fate → Bool) (limit o : ℕ) (es : List Entry) (e : Entry) (event : LaneEvent) →
@@ -249,12 +209,9 @@ pub count-keep : (t : Fate → Bool) (limit o : ℕ) (es : List Entry) (e : Entr
     KeepsFates limit (lane_events o es) (lane_events o es ++ event ∷ []) (offers o es) →
     count_by t (fates limit o (es ++ e ∷ [])) ≡ count_by t (fates limit o es)
 count-keep t limit o es e event l v z k =
-    let a : fates_counted (tested t) limit (lane_events o es ++ event ∷ []) (length (offers o es ++ [])) ≡ fates_counted
-    (tested t) limit (lane_events o es ++ event ∷ []) (length (offers o es)) =
-    ap (λ (x : List Offer). fates_counted (tested t) limit (lane_events o es ++ event ∷ []) (length x))
-    (append-nil (offers o es)) in
     omega (
       arith,
+      no_more t limit o es (lane_events o es ++ event ∷ []),
       count-push t limit o es e (event ∷ []) [] l v,
       fates-counted t limit o es,
       keeps_counted (tested t) limit (lane_events o es) (lane_events o es ++ event ∷ []) (offers o es) k,
@@ -267,12 +224,9 @@ pub count-become : (t : Fate → Bool) (limit o : ℕ) (es : List Entry) (e : En
     count_by t (fates limit o (es ++ e ∷ [])) + ones (tested t lane.Buffered) * length views ≡ count_by t
     (fates limit o es) + ones (tested t fate) * length views
 count-become t limit o es e event fate views l v z k =
-    let a : fates_counted (tested t) limit (lane_events o es ++ event ∷ []) (length (offers o es ++ [])) ≡ fates_counted
-    (tested t) limit (lane_events o es ++ event ∷ []) (length (offers o es)) =
-    ap (λ (x : List Offer). fates_counted (tested t) limit (lane_events o es ++ event ∷ []) (length x))
-    (append-nil (offers o es)) in
     omega (
       arith,
+      no_more t limit o es (lane_events o es ++ event ∷ []),
       count-push t limit o es e (event ∷ []) [] l v,
       fates-counted t limit o es,
       becomes_counted (tested t) limit (lane_events o es) (lane_events o es ++ event ∷ []) (offers o es) fate views k,

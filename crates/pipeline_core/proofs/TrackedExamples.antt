@@ -1,11 +1,10 @@
 -- A journal of an input that isn't tracked and of one that is, with two outputs: that it is legal, what was counted
 -- behind each of its entries, and that a group more than the input may have is held. What is expected is written from
 -- the meanings: the reports stand in the entries, and the numbers below.
-use Rattle.std.proofs.Common.{◌≡◌, ◌<◌, ℕ, Bool, true, false, List, [], ◌∷◌, ◌++◌, refl, sym, subst, inr}
+use Rattle.std.proofs.Common.{◌≡◌, ℕ, Bool, true, false, List, [], ◌∷◌, ◌++◌, refl}
 use Rattle.std.proofs.Common.{arith}
 use Rattle.std.proofs.lemmas.Int.{ints}
-use Rattle.std.specs.Prelude.{pos, ◌≤ℤ◌, IfSome}
-use Rattle.std.specs.declared.option.Option.{Option}
+use Rattle.std.specs.Prelude.{pos, ◌≤ℤ◌}
 use Rattle.std.specs.declared.option.Option.TheVariants.{Some, None}
 use Rattle.metric.specs.declared.metric.Content.{Content}
 use Rattle.account.specs.Setup.{Setup}
@@ -25,8 +24,8 @@ use Rattle.pipeline_core.specs.Legal.{Meets, IsLegal, has_stop, has_ended, gathe
 use Rattle.pipeline_core.specs.Totals.{totals, total_by, input_total_from, reported_with}
 use Rattle.agg_bank.specs.Made.{made_from}
 use Rattle.pipeline_core.specs.Windows.{judged, made_by_stop}
-use Rattle.pipeline_core.proofs.JournalPush.{IsLegal-push}
-use Rattle.pipeline_core.proofs.GroupExamples.{both, first, second, each, below, at_most, none_legal}
+use Rattle.pipeline_core.proofs.GroupExamples.{both, first, second, each}
+use Rattle.pipeline_core.proofs.LegalSteps.{held, next, none_legal}
 
 -- an input that isn't tracked, and one that may have two live groups; an output with batches of one and room for one,
 -- and one with batches of two and room for two
@@ -84,187 +83,34 @@ pub legal : (m : Content) → IsLegal setup (journal m)
 unfolding reports_at origins items taken routes in_hand_from group_inputs offers lane_events fates_from ranges_from
     accepted_from has_stop has_ended gathered_count counted_from judged made_by_stop made_from
 legal m =
-    let l1 = IsLegal-push setup [] (Gather 0 (pos 0) 5 1 2 3 (m ∷ []) None []) (none_legal setup)
-    (record {
-      line = record {
-        most = None;
-        known = refl;
-        going = refl;
-        reading = refl;
-        fits = below 1 4294967294;
-        room = inr (at_most 1 9999);
-        few = tt;
-        group = refl;
-      };
-      reports = refl;
-    }) in
-    let l2 = IsLegal-push setup _ (group 0 (m ∷ [])) l1 (record {
-      line =
-          record {
-            most = Some 2;
-            known = refl;
-            going = refl;
-            reading = refl;
-            fits = below 2 4294967293;
-            room = inr (at_most 2 9998);
-            few = below 0 1;
-            group = refl;
-          };
-      reports = refl;
-    }) in
-    let l3 = IsLegal-push setup _ (group 1 (m ∷ m ∷ [])) l2 (record {
-      line =
-          record {
-            most = Some 2;
-            known = refl;
-            going = refl;
-            reading = refl;
-            fits = below 4 4294967291;
-            room = inr (at_most 4 9996);
-            few = below 1 0;
-            group = refl;
-          };
-      reports = refl;
-    }) in
-    let l4 = IsLegal-push setup _ (Take 0) l3 (record {
-      line =
-          record { empty_handed = refl; first = refl; raw = below 0 3 };
-      reports = refl;
-    }) in
-    let l5 = IsLegal-push setup _ (both m 0 []) l4 (record {
-      line =
-          record { held = refl; aggregators = refl; outputs = refl; views = tt; made = λ e. tt; verdict_is = refl };
-      reports = refl;
-    }) in
-    let l6 = IsLegal-push setup _ (Take 1) l5 (record {
-      line =
-          record { empty_handed = refl; first = refl; raw = below 1 2 };
-      reports = refl;
-    }) in
-    let l7 = IsLegal-push setup _ (second m 1 []) l6 (record {
-      line =
-          record { held = refl; aggregators = refl; outputs = refl; views = tt; made = λ e. tt; verdict_is = refl };
-      reports = refl;
-    }) in
-    let l8 = IsLegal-push setup _ (Take 2) l7 (record {
-      line =
-          record { empty_handed = refl; first = refl; raw = below 2 1 };
-      reports = refl;
-    }) in
-    let l9 = IsLegal-push setup _ (second m 2 []) l8 (record {
-      line =
-          record { held = refl; aggregators = refl; outputs = refl; views = tt; made = λ e. tt; verdict_is = refl };
-      reports = refl;
-    }) in
-    let l10 = IsLegal-push setup _ (Take 3) l9 (record {
-      line =
-          record { empty_handed = refl; first = refl; raw = below 3 0 };
-      reports = refl;
-    }) in
-    let l11 = IsLegal-push setup _ (second m 3 (told 0 false)) l10
-    (record {
-      line = record {
-        held = refl;
-        aggregators = refl;
-        outputs = refl;
-        views = tt;
-        made = λ e. tt;
-        verdict_is = refl;
-      };
-      reports = refl;
-    }) in
-    let l12 = IsLegal-push setup _ (group 2 (m ∷ [])) l11 (record {
-      line =
-          record {
-            most = Some 2;
-            known = refl;
-            going = refl;
-            reading = refl;
-            fits = below 5 4294967290;
-            room = inr (at_most 1 9999);
-            few = below 1 0;
-            group = refl;
-          };
-      reports = refl;
-    }) in
-    let l13 = IsLegal-push setup _ (Begin 1 2 4) l12 (record {
-      line =
-          record {
-            batch = 2;
-            limit = 2;
-            known = refl;
-            next =
-                record { closed = refl; first = refl; end = refl; some = below 2 1 };
-          };
-      reports = refl;
-    }) in
-    let l14 = IsLegal-push setup _ (Done 1 true (told 1 true)) l13
-    (record { line = record { known = below 1 0; begun = tt }; reports = refl }) in
-    let l15 = IsLegal-push setup _ (Take 4) l14 (record {
-      line =
-          record { empty_handed = refl; first = refl; raw = below 4 0 };
-      reports = refl;
-    }) in
-    let l16 = IsLegal-push setup _ (first m 4 []) l15 (record {
-      line =
-          record { held = refl; aggregators = refl; outputs = refl; views = tt; made = λ e. tt; verdict_is = refl };
-      reports = refl;
-    }) in
-    let l17 = IsLegal-push setup _ (Begin 0 1 2) l16 (record {
-      line =
-          record {
-            batch = 1;
-            limit = 1;
-            known = refl;
-            next =
-                record { closed = refl; first = refl; end = refl; some = below 1 0 };
-          };
-      reports = refl;
-    }) in
-    let l18 = IsLegal-push setup _ (Done 0 false []) l17 (record {
-      line =
-          record { known = below 0 1; begun = tt };
-      reports = refl;
-    }) in
-    let l19 = IsLegal-push setup _ (Begin 0 1 2) l18 (record {
-      line =
-          record {
-            batch = 1;
-            limit = 1;
-            known = refl;
-            next =
-                record { closed = refl; first = refl; end = refl; some = below 1 0 };
-          };
-      reports = refl;
-    }) in
-    let l20 = IsLegal-push setup _ (Done 0 true (told 2 true)) l19
-    (record { line = record { known = below 0 1; begun = tt }; reports = refl }) in
-    let l21 = IsLegal-push setup _ (Ended 1) l20 (record {
-      line =
-          record { known = below 1 0; going = refl; reading = refl };
-      reports = refl;
-    }) in
-    let l22 = IsLegal-push setup _ (Ended 0) l21 (record {
-      line =
-          record { known = below 0 1; going = refl; reading = refl };
-      reports = refl;
-    }) in
-    IsLegal-push setup _ (Stop (pos 7) []) l22 (record {
-      line =
-          record { going = refl; later = at_last; all_made = refl };
-      reports = refl;
-    })
-
-most_is : (most : Option ℕ) → Some (Some 2) ≡ Some most → Some 2 ≡ most
-most_is most h = cc
+    let l1 = next setup [] (none_legal setup) (Gather 0 (pos 0) 5 1 2 3 (m ∷ []) None []) refl refl in
+    let l2 = next setup _ l1 (group 0 (m ∷ [])) refl refl in
+    let l3 = next setup _ l2 (group 1 (m ∷ m ∷ [])) refl refl in
+    let l4 = next setup _ l3 (Take 0) refl refl in
+    let l5 = next setup _ l4 (both m 0 []) (refl, tt, tt) refl in
+    let l6 = next setup _ l5 (Take 1) refl refl in
+    let l7 = next setup _ l6 (second m 1 []) (refl, tt, tt) refl in
+    let l8 = next setup _ l7 (Take 2) refl refl in
+    let l9 = next setup _ l8 (second m 2 []) (refl, tt, tt) refl in
+    let l10 = next setup _ l9 (Take 3) refl refl in
+    let l11 = next setup _ l10 (second m 3 (told 0 false)) (refl, tt, tt) refl in
+    let l12 = next setup _ l11 (group 2 (m ∷ [])) refl refl in
+    let l13 = next setup _ l12 (Begin 1 2 4) refl refl in
+    let l14 = next setup _ l13 (Done 1 true (told 1 true)) (refl, tt) refl in
+    let l15 = next setup _ l14 (Take 4) refl refl in
+    let l16 = next setup _ l15 (first m 4 []) (refl, tt, tt) refl in
+    let l17 = next setup _ l16 (Begin 0 1 2) refl refl in
+    let l18 = next setup _ l17 (Done 0 false []) (refl, tt) refl in
+    let l19 = next setup _ l18 (Begin 0 1 2) refl refl in
+    let l20 = next setup _ l19 (Done 0 true (told 2 true)) (refl, tt) refl in
+    let l21 = next setup _ l20 (Ended 1) refl refl in
+    let l22 = next setup _ l21 (Ended 0) refl refl in
+    next setup _ l22 (Stop (pos 7) []) (refl, refl, at_last) refl
 
 -- a third group may not come while two are live
 pub third_is_held : (m : Content) → ¬ Meets setup (front m) (group 2 (m ∷ []))
 unfolding origins items taken routes group_inputs offers lane_events fates_from ranges_from accepted_from
-third_is_held m h =
-    let two : 2 < 2 = subst (λ (most : Option ℕ). IfSome most (λ (n : ℕ). 2 < n))
-    (sym (most_is h.line.most h.line.known)) h.line.few in
-    omega (arith, two)
+third_is_held m h = held setup (front m) _ refl h.line
 
 -- how many groups of two inputs are live behind an entry
 abbrev pub live_behind : Setup → List Entry → Entry → ℕ × ℕ

@@ -10,7 +10,7 @@ use Rattle.account.specs.declared.entry.Entry.{Entry}
 use Rattle.account.specs.declared.entry.Entry.TheVariants.{Begin}
 use Rattle.pipeline_core.specs.Steps as steps
 use Rattle.pipeline_core.specs.Stands.{HasJournal}
-use Rattle.pipeline_core.proofs.JournalKept.{agree_same, has_next, has_same, kept_same}
+use Rattle.pipeline_core.proofs.JournalKept.{has_next, kept_as_before}
 use Rattle.pipeline_core.proofs.StandsLanes.{begin_stands}
 use Rattle.pipeline_core.proofs.InStep.{begun_is, marked_in_step, not_begun}
 use Rattle.pipeline_core.proofs.Keeping.{kept_begin, kept_groups, flights-le, some_begun}
@@ -54,19 +54,15 @@ invariant_of-self-in_default-begin c =
     let at = (goal.at.invariant_of-self-in_default-begin c).After-begin in
     let same = not_begun (core_state c.self.inside) c.args.output c.begin.new.self c.make_room.new.stored.items
     (c.in_default-begin.ensures.err ∙ sym (place at)) c.in-Ok.ensures.items in
-    record {
-      core = kept_same (core_state c.self.inside) _ same c.self.invariant.core;
-      groups = agree_same (core_state c.self.inside) _ same c.self.invariant.groups;
-      told = has_same (core_state c.self.inside) _ same c.self.invariant.told;
-      spare = omega (
-        arith,
-        flights-le (slice_set c.self.inside.outputs.items c.args.output c.begin.new.self),
-        length-set c.self.inside.outputs.items c.args.output c.begin.new.self,
-        c.self.invariant.core.outputs.lane_count,
-        c.in-Ok.ensures.room,
-      );
-      places = c.self.invariant.places;
-    }
+    kept_as_before c.self.inside _ same
+    (omega (
+      arith,
+      flights-le (slice_set c.self.inside.outputs.items c.args.output c.begin.new.self),
+      length-set c.self.inside.outputs.items c.args.output c.begin.new.self,
+      c.self.invariant.core.outputs.lane_count,
+      c.in-Ok.ensures.room,
+    ))
+    c.self.invariant.places c.self.invariant
 
 pub returns-clause-some : goal.returns-clause-some
 returns-clause-some c =

@@ -17,8 +17,7 @@ use Rattle.pipeline_core.specs.Steps.{lane_done, told_with, with_reports}
 use Rattle.pipeline_core.specs.ToldView.{reports_in}
 use Rattle.pipeline_core.specs.Tracked.{copies_in}
 use Rattle.pipeline_core.proofs.GatherKept.{HasPlaces}
-use Rattle.pipeline_core.proofs.GroupsKept.{core_done, done_has, done_is, places_gone, tell_few, tell_known}
-use Rattle.pipeline_core.proofs.GroupsKept.{tell_places, tell_some}
+use Rattle.pipeline_core.proofs.GroupsKept.{core_done, done_has, done_is, may_tell, MayTell, places_gone}
 use Rattle.pipeline_core.proofs.JournalKept.{has_next, kept_same}
 use Rattle.pipeline_core.proofs.Keeping.{flights_done, none_left}
 use Rattle.pipeline_core.proofs.LettingLemmas.{lets_all}
@@ -83,37 +82,25 @@ told_are : (c : After-as_slice-2) → c.as_slice-2.result.now ≡ done_reports (
     c.args.ok
 told_are c = c.as_slice-2.ensures.value ∙ (settled c).1
 
-pub tell-requires-clause-known : goal.tell-requires-clause-known
-tell-requires-clause-known c =
-    tell_known (core_state c.self.inside) c.self.invariant.core c.self.invariant.groups c.self.invariant.told
-    c.self.inside.tracker (copies_done (core_state c.self.inside) c.args.output c.args.ok)
-    c.self.invariant.groups.tracks refl (λ i. refl) c.count_done.new.account
-    (ap (λ (n : Numbers). n.inputs) c.count_done.ensures) c.self.inside.told.items refl c.as_slice-2.result.now
-    (told_are c)
-
-pub tell-requires-clause-places : goal.tell-requires-clause-places
-tell-requires-clause-places c =
-    tell_places (core_state c.self.inside) c.self.invariant.core c.self.invariant.groups c.self.invariant.told
+tells : (c : After-as_slice-2) → MayTell c.count_done.new.account c.self.inside.told.items c.as_slice-2.result.now
+tells c =
+    may_tell (core_state c.self.inside) c.self.invariant.core c.self.invariant.groups c.self.invariant.told
     c.self.inside.tracker (copies_done (core_state c.self.inside) c.args.output c.args.ok)
     c.self.invariant.groups.tracks refl (λ i. refl) c.count_done.new.account
     (ap (λ (n : Numbers). n.inputs) c.count_done.ensures) c.self.inside.told.items refl c.as_slice-2.result.now
     (told_are c) c.self.invariant.places
 
+pub tell-requires-clause-known : goal.tell-requires-clause-known
+tell-requires-clause-known c = (tells c).known
+
+pub tell-requires-clause-places : goal.tell-requires-clause-places
+tell-requires-clause-places c = (tells c).places
+
 pub tell-requires-clause-some : goal.tell-requires-clause-some
-tell-requires-clause-some c =
-    tell_some (core_state c.self.inside) c.self.invariant.core c.self.invariant.groups c.self.invariant.told
-    c.self.inside.tracker (copies_done (core_state c.self.inside) c.args.output c.args.ok)
-    c.self.invariant.groups.tracks refl (λ i. refl) c.count_done.new.account
-    (ap (λ (n : Numbers). n.inputs) c.count_done.ensures) c.self.inside.told.items refl c.as_slice-2.result.now
-    (told_are c)
+tell-requires-clause-some c = (tells c).some
 
 pub tell-requires-clause-few : goal.tell-requires-clause-few
-tell-requires-clause-few c =
-    tell_few (core_state c.self.inside) c.self.invariant.core c.self.invariant.groups c.self.invariant.told
-    c.self.inside.tracker (copies_done (core_state c.self.inside) c.args.output c.args.ok)
-    c.self.invariant.groups.tracks refl (λ i. refl) c.count_done.new.account
-    (ap (λ (n : Numbers). n.inputs) c.count_done.ensures) c.self.inside.told.items refl c.as_slice-2.result.now
-    (told_are c)
+tell-requires-clause-few c = (tells c).few
 
 pub returns-clause-after : goal.returns-clause-after
 returns-clause-after c =

@@ -19,7 +19,7 @@ use Rattle.pipeline_core.proofs.GatherKept.{HasPlaces, agree_gathered, core_gath
 use Rattle.pipeline_core.proofs.GatherKept.{places_kept}
 use Rattle.pipeline_core.proofs.GatherKept.{places_to_tell, places_told, started_own}
 use Rattle.pipeline_core.proofs.GatherStanding.{gather_stands}
-use Rattle.pipeline_core.proofs.JournalKept.{agree_same, has_next, has_same, kept_same}
+use Rattle.pipeline_core.proofs.JournalKept.{agree_same, has_next, kept_as_before, kept_same}
 use Rattle.pipeline_core.proofs.TellingLemmas.{told_in}
 use Rattle.pipeline_core.proofs.Keeping.{flights-le}
 use Rattle.pipeline_core.proofs.state.Core.gather.Goals.{After-as_slice-2, After-push_reserved}
@@ -27,25 +27,17 @@ use Rattle.pipeline_core.proofs.state.Core.gather.Goals as goal
 
 pub invariant_of-self-in_err-make_place : goal.invariant_of-self-in_err-make_place
 invariant_of-self-in_err-make_place c =
-    record {
-      core = kept_same (core_state c.self.inside) _ (search rules) c.self.invariant.core;
-      groups = agree_same (core_state c.self.inside) _ (search rules) c.self.invariant.groups;
-      told = has_same (core_state c.self.inside) _ (search rules) c.self.invariant.told;
-      spare = omega (arith, flights-le c.self.inside.outputs.items, c.in_ok-make_room_for.ensures.room);
-      places = places_kept c.self.inside.tracker c.self.inside.told.items c.make_place.new.told.items
-          c.make_place.ensures.reports c.make_place.ensures.kept c.self.invariant.places;
-    }
+    kept_as_before c.self.inside _ (search rules)
+    (omega (arith, flights-le c.self.inside.outputs.items, c.in_ok-make_room_for.ensures.room))
+    (places_kept c.self.inside.tracker c.self.inside.told.items c.make_place.new.told.items
+    c.make_place.ensures.reports c.make_place.ensures.kept c.self.invariant.places) c.self.invariant
 
 pub invariant_of-self-in_err-line_up : goal.invariant_of-self-in_err-line_up
 invariant_of-self-in_err-line_up c =
-    record {
-      core = kept_same (core_state c.self.inside) _ (search rules) c.self.invariant.core;
-      groups = agree_same (core_state c.self.inside) _ (search rules) c.self.invariant.groups;
-      told = has_same (core_state c.self.inside) _ (search rules) c.self.invariant.told;
-      spare = omega (arith, flights-le c.self.inside.outputs.items, c.in_ok-make_room_for.ensures.room);
-      places = places_kept c.self.inside.tracker c.self.inside.told.items c.make_place.new.told.items
-          c.make_place.ensures.reports c.make_place.ensures.kept c.self.invariant.places;
-    }
+    kept_as_before c.self.inside _ (search rules)
+    (omega (arith, flights-le c.self.inside.outputs.items, c.in_ok-make_room_for.ensures.room))
+    (places_kept c.self.inside.tracker c.self.inside.told.items c.make_place.new.told.items
+    c.make_place.ensures.reports c.make_place.ensures.kept c.self.invariant.places) c.self.invariant
 
 pub start-group-requires-clause-limit : goal.start-group-requires-clause-limit
 start-group-requires-clause-limit c =

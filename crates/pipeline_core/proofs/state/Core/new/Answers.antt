@@ -15,6 +15,7 @@ use Rattle.pipeline_core.specs.CoreState.{most_undelivered, setup_of}
 use Rattle.std.specs.declared.option.Option.TheVariants.{None}
 use Rattle.pipeline_core.specs.ToldView.{no_reports, reports_in}
 use Rattle.pipeline_core.specs.Tracked.{is_tracking}
+use Rattle.pipeline_core.proofs.JournalKept.{kept_same}
 use Rattle.pipeline_core.proofs.StandsCuts.{first_is, first_stands, limits_at_first, tracking_at_first}
 use Rattle.pipeline_core.proofs.Keeping.{kept_first, spare_at_first}
 use Rattle.pipeline_core.proofs.state.Core.new.Goals.{After-new-6}
@@ -116,13 +117,9 @@ new_bank c =
 pub invariant_of-result : goal.invariant_of-result
 invariant_of-result c =
     record {
-      core =
-          kept_first c.args.setup c.new-4.result.items c.new-5.result.made c.in_ok-bank.bank
-          c.in_ok-outputs.outputs.items c.in_ok-account.account _ _ c.in_ok-ended.ended.items c.new-5.result.groups
-          c.in_ok-tracker.tracker c.in_ok-marked.marked.items (map reports_in c.in_ok-told.told.items)
-          c.requires.outputs c.requires.sizes c.new-4.ensures.items
-          c.new-5.ensures.made (c.in_ok-bank.ensures.same ∙ c.as_slice-7.ensures) (lanes_are c) (numbers_are c)
-          (flags_are c);
+      core = kept_same (first_state c.args.setup c.in_ok-bank.bank) _ (state_is c)
+          (kept_first c.args.setup c.in_ok-bank.bank c.requires.outputs c.requires.sizes
+          (c.in_ok-bank.ensures.same ∙ c.as_slice-7.ensures));
       groups = record {
         known = ap length c.new-5.ensures.groups ∙ sym (ap length c.new-5.ensures.made);
         tracks = c.in_ok-tracker.ensures.stands;

@@ -23,7 +23,7 @@ use Rattle.track_groups.specs.Settling.{Copy, after_copies}
 use Rattle.track_groups.specs.Tracker.{IsLive, IsTracker, TrackerState, copies_of}
 use Rattle.pipeline_core.specs.Windows.{bank_events, judged, offered_to, BankIs}
 use Rattle.pipeline_core.proofs.StandsLanes.{route_line, route_stands}
-use Rattle.pipeline_core.proofs.GroupsKept.{places_gone, tell_few, tell_known, tell_places, tell_some}
+use Rattle.pipeline_core.proofs.GroupsKept.{may_tell, MayTell, places_gone}
 use Rattle.pipeline_core.proofs.GatherKept.{HasPlaces}
 use Rattle.pipeline_core.proofs.InStep.{marked_in_step, marked_within}
 use Rattle.pipeline_core.proofs.JournalKept.{has_next, has_still, kept_same, known_fewer}
@@ -178,18 +178,9 @@ inputs c =
     ap (λ (n : Numbers). n.inputs) (numbers c)
     ∙ same_inputs c.in_ok-verdict.verdict c.args.r.outs c.self.inside.outputs.items c.self.inside.account
 
-pub tell-requires-clause-known : goal.tell-requires-clause-known
-tell-requires-clause-known c =
-    tell_known (core_state c.self.inside) c.self.invariant.core c.self.invariant.groups c.self.invariant.told
-    (route_tracker (core_state c.self.inside) c.args.r c.in_ok-verdict.verdict)
-    (route_copies (core_state c.self.inside) c.args.r c.in_ok-verdict.verdict) (tracks c)
-    (held_limits c.in_ok-verdict.verdict c.self.inside.tracker (held_group (core_state c.self.inside)) c.args.r.outs)
-    (held_live c.in_ok-verdict.verdict c.self.inside.tracker (held_group (core_state c.self.inside)) c.args.r.outs)
-    c.hand_out.new.account (inputs c) c.self.inside.told.items refl c.as_slice-4.result.now (told_are c)
-
-pub tell-requires-clause-places : goal.tell-requires-clause-places
-tell-requires-clause-places c =
-    tell_places (core_state c.self.inside) c.self.invariant.core c.self.invariant.groups c.self.invariant.told
+tells : (c : After-as_slice-4) → MayTell c.hand_out.new.account c.self.inside.told.items c.as_slice-4.result.now
+tells c =
+    may_tell (core_state c.self.inside) c.self.invariant.core c.self.invariant.groups c.self.invariant.told
     (route_tracker (core_state c.self.inside) c.args.r c.in_ok-verdict.verdict)
     (route_copies (core_state c.self.inside) c.args.r c.in_ok-verdict.verdict) (tracks c)
     (held_limits c.in_ok-verdict.verdict c.self.inside.tracker (held_group (core_state c.self.inside)) c.args.r.outs)
@@ -197,23 +188,17 @@ tell-requires-clause-places c =
     c.hand_out.new.account (inputs c) c.self.inside.told.items refl c.as_slice-4.result.now (told_are c)
     c.self.invariant.places
 
+pub tell-requires-clause-known : goal.tell-requires-clause-known
+tell-requires-clause-known c = (tells c).known
+
+pub tell-requires-clause-places : goal.tell-requires-clause-places
+tell-requires-clause-places c = (tells c).places
+
 pub tell-requires-clause-some : goal.tell-requires-clause-some
-tell-requires-clause-some c =
-    tell_some (core_state c.self.inside) c.self.invariant.core c.self.invariant.groups c.self.invariant.told
-    (route_tracker (core_state c.self.inside) c.args.r c.in_ok-verdict.verdict)
-    (route_copies (core_state c.self.inside) c.args.r c.in_ok-verdict.verdict) (tracks c)
-    (held_limits c.in_ok-verdict.verdict c.self.inside.tracker (held_group (core_state c.self.inside)) c.args.r.outs)
-    (held_live c.in_ok-verdict.verdict c.self.inside.tracker (held_group (core_state c.self.inside)) c.args.r.outs)
-    c.hand_out.new.account (inputs c) c.self.inside.told.items refl c.as_slice-4.result.now (told_are c)
+tell-requires-clause-some c = (tells c).some
 
 pub tell-requires-clause-few : goal.tell-requires-clause-few
-tell-requires-clause-few c =
-    tell_few (core_state c.self.inside) c.self.invariant.core c.self.invariant.groups c.self.invariant.told
-    (route_tracker (core_state c.self.inside) c.args.r c.in_ok-verdict.verdict)
-    (route_copies (core_state c.self.inside) c.args.r c.in_ok-verdict.verdict) (tracks c)
-    (held_limits c.in_ok-verdict.verdict c.self.inside.tracker (held_group (core_state c.self.inside)) c.args.r.outs)
-    (held_live c.in_ok-verdict.verdict c.self.inside.tracker (held_group (core_state c.self.inside)) c.args.r.outs)
-    c.hand_out.new.account (inputs c) c.self.inside.told.items refl c.as_slice-4.result.now (told_are c)
+tell-requires-clause-few c = (tells c).few
 
 pub returns-clause-ok : goal.returns-clause-ok
 returns-clause-ok c =

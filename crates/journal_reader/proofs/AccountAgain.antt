@@ -22,17 +22,17 @@ use Rattle.journal_reader.specs.declared.account_lines.Form.TheVariants.{Input, 
 use Rattle.journal_reader.specs.declared.entry.Sizes.{Sizes}
 use Rattle.journal_reader.specs.declared.state.State.{State}
 use Rattle.journal_reader.specs.declared.state.Stage.TheVariants.{Counting, Over}
-use Rattle.journal_reader.specs.Words.{◌>>=◌, where_true, Parts, behind, words_of}
+use Rattle.journal_reader.specs.Words.{◌>>=◌, where_true, Parts, behind, words_of, taken, either_of}
 use Rattle.journal_reader.specs.SetupReading.{numbered_in, tracking_in, tracking_behind, input_in, agg_in, output_in}
 use Rattle.journal_reader.specs.EntryReading.{event_in, entry_in, report_in}
-use Rattle.journal_reader.specs.AccountReading.{behind_count, behind_counts}
-use Rattle.journal_reader.specs.AccountReading.{behind_ending, input_counts, groups_counts, items_counts, output_counts}
+use Rattle.journal_reader.specs.AccountReading.{behind_count, behind_counts, items_labels, ended_counts, line_counts}
+use Rattle.journal_reader.specs.AccountReading.{items_counts}
 use Rattle.journal_reader.specs.AccountReading.{counts_in, input_forms, groups_forms, output_forms, forms_of, end_in}
 use Rattle.journal_reader.specs.States.{beginning}
 use Rattle.journal_reader.specs.Steps.{told_entry, counted_line, first_counted, ending, counting, going_on, after}
 use Rattle.journal_reader.specs.Spellable.{IsAccount}
 use Rattle.journal_reader.proofs.LeadLemmas.{Leads, leads_nothing, leads_line, leads_then}
-use Rattle.journal_reader.proofs.WordLemmas.{number_read}
+use Rattle.journal_reader.proofs.WordLemmas.{number_read, either_text}
 use Rattle.journal_reader.proofs.LineWords.{Quiet, literal, index_quiet, line_of, behind_is, join_end}
 use Rattle.journal_reader.proofs.SetupAgain.{numbered_again}
 use Rattle.journal_reader.proofs.TellAgain.{Place, AtSetup, AtEntry, set, tell, state_at, entries_at, known_at}
@@ -57,40 +57,57 @@ unfoldable pub row_text : Row → List ℕ
 row_text row = row_line row ++ newline ∷ []
 
 unfoldable pub ending_word : Bool → List ℕ
-ending_word true = codes "ended"
-ending_word false = codes "unread"
+ending_word ended = either_text (codes "ended") (codes "unread") ended
+
+-- labels, each with a number, before other words
+abbrev pub counts_words : List (List ℕ × ℕ) → Parts → Parts
+counts_words [] others = others
+counts_words (c ∷ cs) others = c.0 ∷ decimal c.1 ∷ counts_words cs others
+
+-- what each kind of line counts, with its labels
+abbrev of_input : InputNumbers → List (List ℕ × ℕ)
+of_input x =
+    (codes "pieces", x.pieces) ∷ (codes "refused", x.refused) ∷ (codes "passed", x.passed)
+    ∷ (codes "filtered", x.filtered) ∷ (codes "gathered", x.gathered) ∷ []
+
+abbrev of_groups : InputNumbers → List (List ℕ × ℕ)
+of_groups x =
+    (codes "delivered", x.delivered) ∷ (codes "rejected", x.rejected) ∷ (codes "undelivered", x.undelivered) ∷ []
+
+abbrev of_items : ℕ → ℕ → ℕ → List (List ℕ × ℕ)
+of_items made removed routed = (codes "made", made) ∷ (codes "removed", removed) ∷ (codes "routed", routed) ∷ []
+
+abbrev of_output : OutputNumbers → List (List ℕ × ℕ)
+of_output x =
+    (codes "filtered", x.filtered) ∷ (codes "late", x.late) ∷ (codes "consumed", x.consumed)
+    ∷ (codes "written", x.written) ∷ (codes "buffered", x.buffered) ∷ (codes "dropped", x.dropped) ∷ []
 
 unfoldable pub input_row : ℕ → InputNumbers → Row
 input_row index x = record {
   form = Input index;
   first = codes "input";
-  others = decimal index ∷ codes "pieces" ∷ decimal x.pieces ∷ codes "refused" ∷ decimal x.refused
-      ∷ codes "passed" ∷ decimal x.passed ∷ codes "filtered" ∷ decimal x.filtered
-      ∷ codes "gathered" ∷ decimal x.gathered ∷ ending_word x.has_ended ∷ [];
+  others = decimal index ∷ counts_words (of_input x) (ending_word x.has_ended ∷ []);
 }
 
 unfoldable pub groups_row : ℕ → InputNumbers → Row
 groups_row index x = record {
   form = Groups index;
   first = codes "groups";
-  others = decimal index ∷ codes "delivered" ∷ decimal x.delivered ∷ codes "rejected" ∷ decimal x.rejected
-      ∷ codes "undelivered" ∷ decimal x.undelivered ∷ [];
+  others = decimal index ∷ counts_words (of_groups x) [];
 }
 
 unfoldable pub items_row : ℕ → ℕ → ℕ → Row
 items_row made removed routed = record {
   form = Items;
   first = codes "items";
-  others = codes "made" ∷ decimal made ∷ codes "removed" ∷ decimal removed ∷ codes "routed" ∷ decimal routed ∷ [];
+  others = counts_words (of_items made removed routed) [];
 }
 
 unfoldable pub output_row : ℕ → OutputNumbers → Row
 output_row index x = record {
   form = Output index;
   first = codes "output";
-  others = decimal index ∷ codes "filtered" ∷ decimal x.filtered ∷ codes "late" ∷ decimal x.late
-      ∷ codes "consumed" ∷ decimal x.consumed ∷ codes "written" ∷ decimal x.written
-      ∷ codes "buffered" ∷ decimal x.buffered ∷ codes "dropped" ∷ decimal x.dropped ∷ [];
+  others = decimal index ∷ counts_words (of_output x) [];
 }
 
 -- a line of such a form, of quiet words
@@ -103,19 +120,15 @@ unfolding ending_word
 ending_quiet true = literal (codes "ended") refl refl
 ending_quiet false = literal (codes "unread") refl refl
 
-ending_again : (ended : Bool) → behind_ending (ending_word ended ∷ []) ≡ Some []
-unfolding ending_word behind_ending
+ending_again : (ended : Bool)
+    → taken (either_of (codes "ended") (codes "unread")) (ending_word ended ∷ []) ≡ Some (ended, [])
+unfolding ending_word either_of
 ending_again true = refl
 ending_again false = refl
 
 -- neither a space nor a newline stands in a label
 abbrev is_plain : List ℕ → Bool
 is_plain label = list_all (λ b. not (b == space)) label && list_all (λ b. not (b == newline)) label
-
--- labels, each with a number, before other words
-abbrev counts_words : List (List ℕ × ℕ) → Parts → Parts
-counts_words [] others = others
-counts_words (c ∷ cs) others = c.0 ∷ decimal c.1 ∷ counts_words cs others
 
 counts_quiet : (counts : List (List ℕ × ℕ)) (others : Parts)
     → list_all (λ (c : List ℕ × ℕ). is_plain c.0) counts ≡ true → AllByRecursion Quiet others
@@ -126,114 +139,72 @@ counts_quiet (c ∷ cs) others e h =
     let one = and_parts (list_all (λ b. not (b == space)) c.0) (list_all (λ b. not (b == newline)) c.0) parts.0 in
     (literal c.0 one.0 one.1, (index_quiet c.1, counts_quiet cs others parts.1 h))
 
-input_again : (index : ℕ) (x : InputNumbers) → IsInputBelow (2 ^ 64) x
-    → input_counts index (words_in (input_row index x)) ≡ Some tt
-unfolding input_row words_in input_counts behind_counts behind_count
-input_again index x h =
-    rw (
-      numbered_again (codes "input") index (codes "pieces" ∷ decimal x.pieces ∷ codes "refused" ∷ decimal x.refused
-          ∷ codes "passed" ∷ decimal x.passed ∷ codes "filtered" ∷ decimal x.filtered
-          ∷ codes "gathered" ∷ decimal x.gathered ∷ ending_word x.has_ended ∷ []),
-      behind_is (codes "pieces") _,
-      number_read x.pieces h.pieces,
-      behind_is (codes "refused") _,
-      number_read x.refused h.refused,
-      behind_is (codes "passed") _,
-      number_read x.passed h.passed,
-      behind_is (codes "filtered") _,
-      number_read x.filtered h.filtered,
-      behind_is (codes "gathered") _,
-      number_read x.gathered h.gathered,
-      ending_again x.has_ended,
-    ) refl
+abbrev AreBelow : List (List ℕ × ℕ) → Type 0
+AreBelow counts = AllByRecursion (λ (c : List ℕ × ℕ). c.1 < 2 ^ 64) counts
+
+counts_again : (counts : List (List ℕ × ℕ)) (others : Parts) → AreBelow counts
+    → behind_counts (map (λ (c : List ℕ × ℕ). c.0) counts) (counts_words counts others) ≡ Some others
+unfolding behind_counts behind_count
+counts_again [] others h = refl
+counts_again (c ∷ cs) others h =
+    rw (behind_is c.0 (decimal c.1 ∷ counts_words cs others), number_read c.1 h.0) (counts_again cs others h.1)
+
+-- a line that only counts
+line_again : (name : List ℕ) (index : ℕ) (counts : List (List ℕ × ℕ)) → AreBelow counts
+    → line_counts name index (map (λ (c : List ℕ × ℕ). c.0) counts) (name ∷ decimal index ∷ counts_words counts [])
+    ≡ Some tt
+unfolding line_counts
+line_again name index counts h =
+    rw (numbered_again name index (counts_words counts []), counts_again counts [] h) refl
+
+-- and one that says at its end whether an input was read to its end
+ended_again : (name : List ℕ) (index : ℕ) (counts : List (List ℕ × ℕ)) (ended : Bool) → AreBelow counts
+    → ended_counts name index (map (λ (c : List ℕ × ℕ). c.0) counts)
+    (name ∷ decimal index ∷ counts_words counts (ending_word ended ∷ []))
+    ≡ Some tt
+unfolding ended_counts
+ended_again name index counts ended h =
+    let last : Parts = ending_word ended ∷ [] in
+    rw (numbered_again name index (counts_words counts last), counts_again counts last h, ending_again ended) refl
 
 pub input_is : (index : ℕ) (x : InputNumbers) → IsInputBelow (2 ^ 64) x → IsRow (input_row index x)
-unfolding input_row words_in
+unfolding input_row
 input_is index x h = record {
-  counts = input_again index x h;
-  quiet = counts_quiet ((codes "input", index) ∷ (codes "pieces", x.pieces) ∷ (codes "refused", x.refused)
-      ∷ (codes "passed", x.passed) ∷ (codes "filtered", x.filtered) ∷ (codes "gathered", x.gathered) ∷ [])
-      (ending_word x.has_ended ∷ []) refl (ending_quiet x.has_ended, tt);
+  counts = ended_again (codes "input") index (of_input x) x.has_ended
+      (h.pieces, (h.refused, (h.passed, (h.filtered, (h.gathered, tt)))));
+  quiet = counts_quiet ((codes "input", index) ∷ of_input x) (ending_word x.has_ended ∷ []) refl
+      (ending_quiet x.has_ended, tt);
 }
 
-groups_again : (index : ℕ) (x : InputNumbers) → IsInputBelow (2 ^ 64) x
-    → groups_counts index (words_in (groups_row index x)) ≡ Some tt
-unfolding groups_row words_in groups_counts behind_counts behind_count
-groups_again index x h =
-    rw (
-      numbered_again (codes "groups") index (codes "delivered" ∷ decimal x.delivered ∷ codes "rejected"
-          ∷ decimal x.rejected ∷ codes "undelivered" ∷ decimal x.undelivered ∷ []),
-      behind_is (codes "delivered") _,
-      number_read x.delivered h.delivered,
-      behind_is (codes "rejected") _,
-      number_read x.rejected h.rejected,
-      behind_is (codes "undelivered") _,
-      number_read x.undelivered h.undelivered,
-    ) refl
-
 pub groups_is : (index : ℕ) (x : InputNumbers) → IsInputBelow (2 ^ 64) x → IsRow (groups_row index x)
-unfolding groups_row words_in
+unfolding groups_row
 groups_is index x h = record {
-  counts = groups_again index x h;
-  quiet = counts_quiet ((codes "groups", index) ∷ (codes "delivered", x.delivered) ∷ (codes "rejected", x.rejected)
-      ∷ (codes "undelivered", x.undelivered) ∷ []) [] refl tt;
+  counts = line_again (codes "groups") index (of_groups x) (h.delivered, (h.rejected, (h.undelivered, tt)));
+  quiet = counts_quiet ((codes "groups", index) ∷ of_groups x) [] refl tt;
 }
 
 items_again : (made removed routed : ℕ) → made < 2 ^ 64 → removed < 2 ^ 64 → routed < 2 ^ 64
     → items_counts (words_in (items_row made removed routed)) ≡ Some tt
-unfolding items_row words_in items_counts behind_counts behind_count
+unfolding items_row words_in items_counts
 items_again made removed routed h k l =
-    rw (
-      behind_is (codes "items") (codes "made" ∷ decimal made ∷ codes "removed" ∷ decimal removed ∷ codes "routed"
-          ∷ decimal routed ∷ []),
-      behind_is (codes "made") _,
-      number_read made h,
-      behind_is (codes "removed") _,
-      number_read removed k,
-      behind_is (codes "routed") _,
-      number_read routed l,
-    ) refl
+    let all = of_items made removed routed in
+    let counts : behind_counts items_labels (counts_words all []) ≡ Some [] = counts_again all [] (h, (k, (l, tt))) in
+    rw (behind_is (codes "items") (counts_words all []), counts) refl
 
 pub items_is : (made removed routed : ℕ) → made < 2 ^ 64 → removed < 2 ^ 64 → routed < 2 ^ 64
     → IsRow (items_row made removed routed)
 unfolding items_row words_in
 items_is made removed routed h k l = record {
   counts = items_again made removed routed h k l;
-  quiet = (
-    literal (codes "items") refl refl,
-    counts_quiet ((codes "made", made) ∷ (codes "removed", removed) ∷ (codes "routed", routed) ∷ []) [] refl tt,
-  );
+  quiet = (literal (codes "items") refl refl, counts_quiet (of_items made removed routed) [] refl tt);
 }
 
-output_again : (index : ℕ) (x : OutputNumbers) → IsOutputBelow (2 ^ 64) x
-    → output_counts index (words_in (output_row index x)) ≡ Some tt
-unfolding output_row words_in output_counts behind_counts behind_count
-output_again index x h =
-    rw (
-      numbered_again (codes "output") index (codes "filtered" ∷ decimal x.filtered ∷ codes "late" ∷ decimal x.late
-          ∷ codes "consumed" ∷ decimal x.consumed ∷ codes "written" ∷ decimal x.written
-          ∷ codes "buffered" ∷ decimal x.buffered ∷ codes "dropped" ∷ decimal x.dropped ∷ []),
-      behind_is (codes "filtered") _,
-      number_read x.filtered h.filtered,
-      behind_is (codes "late") _,
-      number_read x.late h.late,
-      behind_is (codes "consumed") _,
-      number_read x.consumed h.consumed,
-      behind_is (codes "written") _,
-      number_read x.written h.written,
-      behind_is (codes "buffered") _,
-      number_read x.buffered h.buffered,
-      behind_is (codes "dropped") _,
-      number_read x.dropped h.dropped,
-    ) refl
-
 pub output_is : (index : ℕ) (x : OutputNumbers) → IsOutputBelow (2 ^ 64) x → IsRow (output_row index x)
-unfolding output_row words_in
+unfolding output_row
 output_is index x h = record {
-  counts = output_again index x h;
-  quiet = counts_quiet ((codes "output", index) ∷ (codes "filtered", x.filtered) ∷ (codes "late", x.late)
-      ∷ (codes "consumed", x.consumed) ∷ (codes "written", x.written) ∷ (codes "buffered", x.buffered)
-      ∷ (codes "dropped", x.dropped) ∷ []) [] refl tt;
+  counts = line_again (codes "output") index (of_output x)
+      (h.filtered, (h.late, (h.consumed, (h.written, (h.buffered, (h.dropped, tt))))));
+  quiet = counts_quiet ((codes "output", index) ∷ of_output x) [] refl tt;
 }
 
 -- ---- all lines of an account
@@ -285,43 +256,36 @@ counted_end (c ∷ cs) last =
     ∙ append_assoc c.0 (decimal c.1) (counted cs ++ last)
     ∙ ap (λ (t : List ℕ). c.0 ++ (decimal c.1 ++ t)) (counted_end cs last)
 
+-- the same labels with a space before and behind each, as a line has them
+abbrev spaced : List (List ℕ × ℕ) → List (List ℕ × ℕ)
+spaced counts = map (λ (c : List ℕ × ℕ). (space ∷ c.0 ++ space ∷ [], c.1)) counts
+
 pub input_text : (index : ℕ) (x : InputNumbers) → input_line index x ≡ row_text (input_row index x)
 unfolding input_line row_text row_line input_row each_end
 input_text index x =
-    let labels : List (List ℕ × ℕ) = (codes "input ", index) ∷ (codes " pieces ", x.pieces)
-    ∷ (codes " refused ", x.refused) ∷ (codes " passed ", x.passed) ∷ (codes " filtered ", x.filtered)
-    ∷ (codes " gathered ", x.gathered) ∷ [] in
+    let labels : List (List ℕ × ℕ) = (codes "input ", index) ∷ spaced (of_input x) in
     counted_end labels (if x.has_ended then codes " ended\n" else codes " unread\n")
     ∙ ap (λ (t : List ℕ). each_end labels t) (ended_text x.has_ended)
-    ∙ sym (join_end (codes "input") (decimal index ∷ codes "pieces" ∷ decimal x.pieces ∷ codes "refused"
-    ∷ decimal x.refused ∷ codes "passed" ∷ decimal x.passed ∷ codes "filtered" ∷ decimal x.filtered
-    ∷ codes "gathered" ∷ decimal x.gathered ∷ ending_word x.has_ended ∷ []))
+    ∙ sym (join_end (codes "input") (decimal index ∷ counts_words (of_input x) (ending_word x.has_ended ∷ [])))
 
 pub groups_text : (index : ℕ) (x : InputNumbers) → groups_line index x ≡ row_text (groups_row index x)
 unfolding groups_line row_text row_line groups_row each_end
 groups_text index x =
-    counted_end ((codes "groups ", index) ∷ (codes " delivered ", x.delivered) ∷ (codes " rejected ", x.rejected)
-    ∷ (codes " undelivered ", x.undelivered) ∷ []) (codes "\n")
-    ∙ sym (join_end (codes "groups") (decimal index ∷ codes "delivered" ∷ decimal x.delivered ∷ codes "rejected"
-    ∷ decimal x.rejected ∷ codes "undelivered" ∷ decimal x.undelivered ∷ []))
+    counted_end ((codes "groups ", index) ∷ spaced (of_groups x)) (codes "\n")
+    ∙ sym (join_end (codes "groups") (decimal index ∷ counts_words (of_groups x) []))
 
 pub items_text : (made removed routed : ℕ) → items_line made removed routed ≡ row_text (items_row made removed routed)
 unfolding items_line row_text row_line items_row each_end
 items_text made removed routed =
-    counted_end ((codes "items made ", made) ∷ (codes " removed ", removed) ∷ (codes " routed ", routed) ∷ [])
+    counted_end ((codes "items made ", made) ∷ spaced ((codes "removed", removed) ∷ (codes "routed", routed) ∷ []))
     (codes "\n")
-    ∙ sym (join_end (codes "items") (codes "made" ∷ decimal made ∷ codes "removed" ∷ decimal removed ∷ codes "routed"
-    ∷ decimal routed ∷ []))
+    ∙ sym (join_end (codes "items") (counts_words (of_items made removed routed) []))
 
 pub output_text : (index : ℕ) (x : OutputNumbers) → output_line index x ≡ row_text (output_row index x)
 unfolding output_line row_text row_line output_row each_end
 output_text index x =
-    counted_end ((codes "output ", index) ∷ (codes " filtered ", x.filtered) ∷ (codes " late ", x.late)
-    ∷ (codes " consumed ", x.consumed) ∷ (codes " written ", x.written) ∷ (codes " buffered ", x.buffered)
-    ∷ (codes " dropped ", x.dropped) ∷ []) (codes "\n")
-    ∙ sym (join_end (codes "output") (decimal index ∷ codes "filtered" ∷ decimal x.filtered ∷ codes "late"
-    ∷ decimal x.late ∷ codes "consumed" ∷ decimal x.consumed ∷ codes "written" ∷ decimal x.written
-    ∷ codes "buffered" ∷ decimal x.buffered ∷ codes "dropped" ∷ decimal x.dropped ∷ []))
+    counted_end ((codes "output ", index) ∷ spaced (of_output x)) (codes "\n")
+    ∙ sym (join_end (codes "output") (decimal index ∷ counts_words (of_output x) []))
 
 inputs_text : (index : ℕ) (xs : List InputNumbers) → numbered input_line index xs ≡ rows_text (input_rows index xs)
 unfolding numbered rows_text input_rows

@@ -5,10 +5,9 @@ use Rattle.std.proofs.Common.{refl, sym, ap, subst, ◌∙◌, arith, append_ass
 use Rattle.std.specs.Prelude.{map, is_some, codes}
 use Rattle.std.specs.Fmt.{decimal}
 use Rattle.std.specs.List.{AllByRecursion, join_with_byte}
-use Rattle.std.specs.Str.{bytes_eq}
 use Rattle.std.proofs.lemmas.List.{append-nil}
 use Rattle.text_parts.specs.Bytes.{space, newline}
-use Rattle.account.specs.AccountText.{input_line, groups_line, tracked_groups, items_line, output_line, numbered}
+use Rattle.account.specs.AccountText.{input_line, tracked_groups, items_line, output_line, numbered}
 use Rattle.account.specs.AccountText.{account_text}
 use Rattle.account.specs.Numbers.{IsInputBelow, IsOutputBelow}
 use Rattle.account.specs.declared.numbers.InputNumbers.{InputNumbers}
@@ -16,26 +15,28 @@ use Rattle.account.specs.declared.numbers.OutputNumbers.{OutputNumbers}
 use Rattle.journal_text.specs.declared.setup.JournalSetup.{JournalSetup}
 use Rattle.journal_reader.specs.declared.account_lines.Form.{Form}
 use Rattle.journal_reader.specs.declared.account_lines.Form.TheVariants.{Items}
-use Rattle.journal_reader.specs.Words.{◌>>=◌, Parts, taken, behind, at_end, words_of, number}
+use Rattle.journal_reader.specs.Words.{◌>>=◌, Parts, taken, behind, at_end, words_of, number, either_of}
 use Rattle.journal_reader.specs.SetupReading.{numbered_in}
 use Rattle.journal_reader.specs.AccountReading.{behind_count, behind_counts, input_labels, groups_labels, items_labels}
-use Rattle.journal_reader.specs.AccountReading.{output_labels, is_ending, behind_ending, Nothing, input_counts}
-use Rattle.journal_reader.specs.AccountReading.{groups_counts, items_counts, output_counts, counts_in, input_forms}
-use Rattle.journal_reader.specs.AccountReading.{groups_forms, output_forms, forms_of}
+use Rattle.journal_reader.specs.AccountReading.{output_labels, Nothing, ended_counts, line_counts, items_counts}
+use Rattle.journal_reader.specs.AccountReading.{counts_in, input_forms, groups_forms, output_forms, forms_of}
 use Rattle.journal_reader.specs.Spellable.{IsAccount}
-use Rattle.journal_reader.proofs.WordLemmas.{bind_some, held, are_bytes, same_some}
-use Rattle.journal_reader.proofs.AccountAgain.{ending_word, input_row, groups_row, items_row, output_row, row_text}
-use Rattle.journal_reader.proofs.AccountAgain.{row_line}
-use Rattle.journal_reader.proofs.AccountAgain.{input_text, groups_text, items_text, output_text}
-use Rattle.journal_reader.proofs.WordsBack.{more, same_first, line_is, behind_some, numbered_some, took_number}
+use Rattle.journal_reader.proofs.WordLemmas.{bind_some, same_some}
+use Rattle.journal_reader.proofs.AccountAgain.{counts_words, ending_word, input_row, groups_row, items_row, output_row}
+use Rattle.journal_reader.proofs.AccountAgain.{row_text, row_line, input_text, groups_text, items_text, output_text}
+use Rattle.journal_reader.proofs.WordsBack.{more, line_is, behind_some, numbered_some, took_number, took_either}
 
 -- ---- words
 
+-- a number below 2^64
+record Count : Type 0 where
+  number : ℕ
+  fits : number < 2 ^ 64
+
 -- a label and its number
 record HasCount (label : List ℕ) (words rest : Parts) : Type 0 where
-  count : ℕ
-  is : words ≡ label ∷ decimal count ∷ rest
-  fits : count < 2 ^ 64
+  count : Count
+  is : words ≡ label ∷ decimal count.number ∷ rest
 
 count_back : (label : List ℕ) (words rest : Parts) → behind_count label words ≡ Some rest → HasCount label words rest
 unfolding behind_count
@@ -44,243 +45,111 @@ count_back label words rest e =
     let t = bind_some (taken number b.0) (λ (count : ℕ × Parts). Some count.1) rest b.2 in
     let n = took_number b.0 t.0 t.1 in
     record {
-      count = t.0.0;
+      count = record { number = t.0.0; fits = n.1 };
       is =
           behind_some label words b.0 b.1
           ∙ more label b.0 (decimal t.0.0 ∷ rest) (n.0 ∙ more (decimal t.0.0) t.0.1 rest (same_some t.0.1 rest t.2));
-      fits = n.1;
     }
 
--- the first of labels, and the others
-record HasFirst (label : List ℕ) (labels : List (List ℕ)) (words rest : Parts) : Type 0 where
-  count : ℕ
-  behind_it : Parts
-  is : words ≡ label ∷ decimal count ∷ behind_it
-  fits : count < 2 ^ 64
-  others : behind_counts labels behind_it ≡ Some rest
+-- a number for each of these labels
+abbrev CountsOf : List (List ℕ) → Type 0
+CountsOf [] = Unit {0}
+CountsOf (label ∷ labels) = Count × CountsOf labels
 
-first_back : (label : List ℕ) (labels : List (List ℕ)) (words rest : Parts)
-    → behind_counts (label ∷ labels) words ≡ Some rest → HasFirst label labels words rest
+-- the labels with these numbers
+abbrev labelled : (labels : List (List ℕ)) → CountsOf labels → List (List ℕ × ℕ)
+labelled [] counts = []
+labelled (label ∷ labels) counts = (label, counts.0.number) ∷ labelled labels counts.1
+
+record HasCounts (labels : List (List ℕ)) (words rest : Parts) : Type 0 where
+  counts : CountsOf labels
+  is : words ≡ counts_words (labelled labels counts) rest
+
+counts_back : (labels : List (List ℕ)) (words rest : Parts) → behind_counts labels words ≡ Some rest
+    → HasCounts labels words rest
 unfolding behind_counts
-first_back label labels words rest e =
+counts_back [] words rest e = record { counts = tt; is = same_some words rest e }
+counts_back (label ∷ labels) words rest e =
     let b = bind_some (behind_count label words) (λ (ws : Parts). behind_counts labels ws) rest e in
-    let h = count_back label words b.0 b.1 in
-    record { count = h.count; behind_it = b.0; is = h.is; fits = h.fits; others = b.2 }
-
-counts_none : (words rest : Parts) → behind_counts [] words ≡ Some rest → words ≡ rest
-unfolding behind_counts
-counts_none words rest e = same_some words rest e
+    let first = count_back label words b.0 b.1 in
+    let others = counts_back labels b.0 rest b.2 in
+    record {
+      counts = (first.count, others.counts);
+      is = first.is ∙ ap (λ (ws : Parts). label ∷ decimal first.count.number ∷ ws) others.is;
+    }
 
 end_some : (x y : Nothing) (words : Parts) → at_end x words ≡ Some y → words ≡ []
 end_some x y [] e = refl
 end_some x y (word ∷ words) e = absurd cc
 
-record HasEnding (words rest : Parts) : Type 0 where
-  ended : Bool
-  is : words ≡ ending_word ended ∷ rest
-
-ending_back : (words rest : Parts) → behind_ending words ≡ Some rest → HasEnding words rest
-unfolding behind_ending ending_word
-ending_back [] rest e = absurd cc
-ending_back (word ∷ words) rest e =
-    let parts = held (is_ending word) (Some words) rest e in
-    at (bytes_eq word (codes "ended")) refl (bytes_eq word (codes "unread")) refl parts.0 (same_some words rest parts.1)
-  where
-    at : (ended : Bool) → bytes_eq word (codes "ended") ≡ ended → (unread : Bool)
-        → bytes_eq word (codes "unread") ≡ unread → is_ending word ≡ true → words ≡ rest → HasEnding (word ∷ words) rest
-    at true e unread f t same = record {
-      ended = true;
-      is = same_first word (codes "ended") words (are_bytes word (codes "ended") e)
-          ∙ more (codes "ended") words rest same;
-    }
-    at false e true f t same = record {
-      ended = false;
-      is = same_first word (codes "unread") words (are_bytes word (codes "unread") f)
-          ∙ more (codes "unread") words rest same;
-    }
-    at false e false f t same =
-        let no_ending : is_ending word ≡ false = rw (e, f) refl in
-        let clash : false ≡ true = sym no_ending ∙ t in
-        absurd cc
+-- where nothing stands behind them
+only_counts_back : (labels : List (List ℕ)) (words : Parts) (done : Nothing)
+    → (behind_counts labels words >>= λ ws. at_end tt ws) ≡ Some done → HasCounts labels words []
+only_counts_back labels words done e =
+    let c = bind_some (behind_counts labels words) (λ (ws : Parts). at_end tt ws) done e in
+    counts_back labels words [] (c.1 ∙ ap Some (end_some tt done c.0 c.2))
 
 -- ---- lines
 
 -- the line of an input, with its numbers but for those of groups
 record InputLine (index : ℕ) (line : List ℕ) : Type 0 where
-  pieces : ℕ
-  refused : ℕ
-  passed : ℕ
-  filtered : ℕ
-  gathered : ℕ
+  counts : CountsOf input_labels
   has_ended : Bool
-  pieces_fit : pieces < 2 ^ 64
-  refused_fit : refused < 2 ^ 64
-  passed_fit : passed < 2 ^ 64
-  filtered_fit : filtered < 2 ^ 64
-  gathered_fit : gathered < 2 ^ 64
-  is : line ≡ join_with_byte space (codes "input" ∷ decimal index ∷ codes "pieces" ∷ decimal pieces
-      ∷ codes "refused" ∷ decimal refused ∷ codes "passed" ∷ decimal passed ∷ codes "filtered" ∷ decimal filtered
-      ∷ codes "gathered" ∷ decimal gathered ∷ ending_word has_ended ∷ [])
+  is : line ≡ join_with_byte space (codes "input" ∷ decimal index
+      ∷ counts_words (labelled input_labels counts) (ending_word has_ended ∷ []))
 
-input_back : (index : ℕ) (line : List ℕ) (done : Nothing) → input_counts index (words_of line) ≡ Some done
-    → InputLine index line
-unfolding input_counts
+input_back : (index : ℕ) (line : List ℕ) (done : Nothing)
+    → ended_counts (codes "input") index input_labels (words_of line) ≡ Some done → InputLine index line
+unfolding ended_counts ending_word
 input_back index line done e =
+    let ending_in = taken (either_of (codes "ended") (codes "unread")) in
     let n = bind_some (numbered_in (codes "input") index (words_of line))
-    (λ (ws : Parts). behind_counts input_labels ws >>= λ ws. behind_ending ws >>= λ ws. at_end tt ws) done e in
-    let c = bind_some (behind_counts input_labels n.0) (λ (ws : Parts). behind_ending ws >>= λ ws. at_end tt ws) done
-    n.2 in
-    let d = bind_some (behind_ending c.0) (λ (ws : Parts). at_end tt ws) done c.2 in
-    let p = first_back (codes "pieces") _ n.0 c.0 c.1 in
-    let r = first_back (codes "refused") _ p.behind_it c.0 p.others in
-    let s = first_back (codes "passed") _ r.behind_it c.0 r.others in
-    let f = first_back (codes "filtered") _ s.behind_it c.0 s.others in
-    let g = first_back (codes "gathered") _ f.behind_it c.0 f.others in
-    let none = counts_none g.behind_it c.0 g.others in
-    let t = ending_back c.0 d.0 d.1 in
-    let last : d.0 ≡ [] = end_some tt done d.0 d.2 in
-    let behind_g : g.behind_it ≡ ending_word t.ended ∷ [] = none ∙ t.is ∙ more (ending_word t.ended) d.0 [] last in
-    let behind_f : f.behind_it ≡ codes "gathered" ∷ decimal g.count ∷ ending_word t.ended ∷ [] =
-    g.is ∙ ap (λ (ws : Parts). codes "gathered" ∷ decimal g.count ∷ ws) behind_g in
-    let behind_s : s.behind_it ≡ codes "filtered" ∷ decimal f.count ∷ codes "gathered" ∷ decimal g.count
-    ∷ ending_word t.ended ∷ [] = f.is ∙ ap (λ (ws : Parts). codes "filtered" ∷ decimal f.count ∷ ws) behind_f in
+    (λ (ws : Parts). behind_counts input_labels ws >>= λ ws. ending_in ws >>= λ x. at_end tt x.1) done e in
+    let c = bind_some (behind_counts input_labels n.0) (λ (ws : Parts). ending_in ws >>= λ x. at_end tt x.1) done n.2 in
+    let t = bind_some (ending_in c.0) (λ (x : Bool × Parts). at_end tt x.1) done c.2 in
+    let last : c.0 ≡ ending_word t.0.0 ∷ [] =
+    took_either (codes "ended") (codes "unread") c.0 t.0 t.1
+    ∙ more (ending_word t.0.0) t.0.1 [] (end_some tt done t.0.1 t.2) in
+    let h = counts_back input_labels n.0 (ending_word t.0.0 ∷ []) (c.1 ∙ ap Some last) in
     record {
-      pieces = p.count;
-      refused = r.count;
-      passed = s.count;
-      filtered = f.count;
-      gathered = g.count;
-      has_ended = t.ended;
-      pieces_fit = p.fits;
-      refused_fit = r.fits;
-      passed_fit = s.fits;
-      filtered_fit = f.fits;
-      gathered_fit = g.fits;
+      counts = h.counts;
+      has_ended = t.0.0;
       is = line_is line _ (
           numbered_some (codes "input") index (words_of line) n.0 n.1
-          ∙ ap (λ (ws : Parts). codes "input" ∷ decimal index ∷ ws) (p.is
-          ∙ ap (λ (ws : Parts). codes "pieces" ∷ decimal p.count ∷ ws) (r.is
-          ∙ ap (λ (ws : Parts). codes "refused" ∷ decimal r.count ∷ ws) (s.is
-          ∙ ap (λ (ws : Parts). codes "passed" ∷ decimal s.count ∷ ws) behind_s))));
+          ∙ ap (λ (ws : Parts). codes "input" ∷ decimal index ∷ ws) h.is);
     }
 
-record GroupsLine (index : ℕ) (line : List ℕ) : Type 0 where
-  delivered : ℕ
-  rejected : ℕ
-  undelivered : ℕ
-  delivered_fit : delivered < 2 ^ 64
-  rejected_fit : rejected < 2 ^ 64
-  undelivered_fit : undelivered < 2 ^ 64
-  is : line ≡ join_with_byte space (codes "groups" ∷ decimal index ∷ codes "delivered" ∷ decimal delivered
-      ∷ codes "rejected" ∷ decimal rejected ∷ codes "undelivered" ∷ decimal undelivered ∷ [])
+-- a line that only counts
+record CountsLine (name : List ℕ) (index : ℕ) (labels : List (List ℕ)) (line : List ℕ) : Type 0 where
+  counts : CountsOf labels
+  is : line ≡ join_with_byte space (name ∷ decimal index ∷ counts_words (labelled labels counts) [])
 
-groups_back : (index : ℕ) (line : List ℕ) (done : Nothing) → groups_counts index (words_of line) ≡ Some done
-    → GroupsLine index line
-unfolding groups_counts
-groups_back index line done e =
-    let n = bind_some (numbered_in (codes "groups") index (words_of line))
-    (λ (ws : Parts). behind_counts groups_labels ws >>= λ ws. at_end tt ws) done e in
-    let c = bind_some (behind_counts groups_labels n.0) (λ (ws : Parts). at_end tt ws) done n.2 in
-    let p = first_back (codes "delivered") _ n.0 c.0 c.1 in
-    let r = first_back (codes "rejected") _ p.behind_it c.0 p.others in
-    let s = first_back (codes "undelivered") _ r.behind_it c.0 r.others in
-    let none : s.behind_it ≡ [] = counts_none s.behind_it c.0 s.others ∙ end_some tt done c.0 c.2 in
+line_back : (name : List ℕ) (index : ℕ) (labels : List (List ℕ)) (line : List ℕ) (done : Nothing)
+    → line_counts name index labels (words_of line) ≡ Some done → CountsLine name index labels line
+unfolding line_counts
+line_back name index labels line done e =
+    let n = bind_some (numbered_in name index (words_of line))
+    (λ (ws : Parts). behind_counts labels ws >>= λ ws. at_end tt ws) done e in
+    let h = only_counts_back labels n.0 done n.2 in
     record {
-      delivered = p.count;
-      rejected = r.count;
-      undelivered = s.count;
-      delivered_fit = p.fits;
-      rejected_fit = r.fits;
-      undelivered_fit = s.fits;
+      counts = h.counts;
       is = line_is line _ (
-          numbered_some (codes "groups") index (words_of line) n.0 n.1
-          ∙ ap (λ (ws : Parts). codes "groups" ∷ decimal index ∷ ws) (p.is
-          ∙ ap (λ (ws : Parts). codes "delivered" ∷ decimal p.count ∷ ws) (r.is
-          ∙ ap (λ (ws : Parts). codes "rejected" ∷ decimal r.count ∷ ws) (s.is
-          ∙ ap (λ (ws : Parts). codes "undelivered" ∷ decimal s.count ∷ ws) none))));
+          numbered_some name index (words_of line) n.0 n.1 ∙ ap (λ (ws : Parts). name ∷ decimal index ∷ ws) h.is);
     }
 
 record ItemsLine (line : List ℕ) : Type 0 where
-  made : ℕ
-  removed : ℕ
-  routed : ℕ
-  made_fit : made < 2 ^ 64
-  removed_fit : removed < 2 ^ 64
-  routed_fit : routed < 2 ^ 64
-  is : line ≡ join_with_byte space (codes "items" ∷ codes "made" ∷ decimal made ∷ codes "removed" ∷ decimal removed
-      ∷ codes "routed" ∷ decimal routed ∷ [])
+  counts : CountsOf items_labels
+  is : line ≡ join_with_byte space (codes "items" ∷ counts_words (labelled items_labels counts) [])
 
 items_back : (line : List ℕ) (done : Nothing) → items_counts (words_of line) ≡ Some done → ItemsLine line
 unfolding items_counts
 items_back line done e =
     let n = bind_some (behind (codes "items") (words_of line))
     (λ (ws : Parts). behind_counts items_labels ws >>= λ ws. at_end tt ws) done e in
-    let c = bind_some (behind_counts items_labels n.0) (λ (ws : Parts). at_end tt ws) done n.2 in
-    let p = first_back (codes "made") _ n.0 c.0 c.1 in
-    let r = first_back (codes "removed") _ p.behind_it c.0 p.others in
-    let s = first_back (codes "routed") _ r.behind_it c.0 r.others in
-    let none : s.behind_it ≡ [] = counts_none s.behind_it c.0 s.others ∙ end_some tt done c.0 c.2 in
+    let h = only_counts_back items_labels n.0 done n.2 in
     record {
-      made = p.count;
-      removed = r.count;
-      routed = s.count;
-      made_fit = p.fits;
-      removed_fit = r.fits;
-      routed_fit = s.fits;
-      is = line_is line _ (
-          behind_some (codes "items") (words_of line) n.0 n.1
-          ∙ more (codes "items") n.0 _ (p.is
-          ∙ ap (λ (ws : Parts). codes "made" ∷ decimal p.count ∷ ws) (r.is
-          ∙ ap (λ (ws : Parts). codes "removed" ∷ decimal r.count ∷ ws) (s.is
-          ∙ ap (λ (ws : Parts). codes "routed" ∷ decimal s.count ∷ ws) none))));
-    }
-
-record OutputLine (index : ℕ) (line : List ℕ) : Type 0 where
-  numbers : OutputNumbers
-  fits : IsOutputBelow (2 ^ 64) numbers
-  is : line ≡ row_line (output_row index numbers)
-
-output_back : (index : ℕ) (line : List ℕ) (done : Nothing) → output_counts index (words_of line) ≡ Some done
-    → OutputLine index line
-unfolding output_counts row_line output_row
-output_back index line done e =
-    let n = bind_some (numbered_in (codes "output") index (words_of line))
-    (λ (ws : Parts). behind_counts output_labels ws >>= λ ws. at_end tt ws) done e in
-    let c = bind_some (behind_counts output_labels n.0) (λ (ws : Parts). at_end tt ws) done n.2 in
-    let f = first_back (codes "filtered") _ n.0 c.0 c.1 in
-    let l = first_back (codes "late") _ f.behind_it c.0 f.others in
-    let o = first_back (codes "consumed") _ l.behind_it c.0 l.others in
-    let w = first_back (codes "written") _ o.behind_it c.0 o.others in
-    let b = first_back (codes "buffered") _ w.behind_it c.0 w.others in
-    let d = first_back (codes "dropped") _ b.behind_it c.0 b.others in
-    let none : d.behind_it ≡ [] = counts_none d.behind_it c.0 d.others ∙ end_some tt done c.0 c.2 in
-    let behind_w : w.behind_it ≡ codes "buffered" ∷ decimal b.count ∷ codes "dropped" ∷ decimal d.count ∷ [] =
-    b.is ∙ ap (λ (ws : Parts). codes "buffered" ∷ decimal b.count ∷ ws) (d.is
-    ∙ ap (λ (ws : Parts). codes "dropped" ∷ decimal d.count ∷ ws) none) in
-    record {
-      numbers = record {
-        filtered = f.count;
-        late = l.count;
-        consumed = o.count;
-        written = w.count;
-        buffered = b.count;
-        dropped = d.count;
-      };
-      fits = record {
-        filtered = f.fits;
-        late = l.fits;
-        consumed = o.fits;
-        written = w.fits;
-        buffered = b.fits;
-        dropped = d.fits;
-      };
-      is = line_is line _ (
-          numbered_some (codes "output") index (words_of line) n.0 n.1
-          ∙ ap (λ (ws : Parts). codes "output" ∷ decimal index ∷ ws) (f.is
-          ∙ ap (λ (ws : Parts). codes "filtered" ∷ decimal f.count ∷ ws) (l.is
-          ∙ ap (λ (ws : Parts). codes "late" ∷ decimal l.count ∷ ws) (o.is
-          ∙ ap (λ (ws : Parts). codes "consumed" ∷ decimal o.count ∷ ws) (w.is
-          ∙ ap (λ (ws : Parts). codes "written" ∷ decimal w.count ∷ ws) behind_w)))));
+      counts = h.counts;
+      is = line_is line _ (behind_some (codes "items") (words_of line) n.0 n.1 ∙ more (codes "items") n.0 _ h.is);
     }
 
 -- ---- one line after the other
@@ -357,34 +226,65 @@ record InputsRead (index : ℕ) (inputs : List (Option ℕ)) (lines groups : Lis
   lines_are : lines ≡ numbered input_line index numbers
   groups_are : groups ≡ numbered tracked_groups index numbers
 
-untracked : (index : ℕ) (line : List ℕ) → InputLine index line → InputNumbers
-untracked index line l = record {
+-- the numbers of an input that isn't tracked
+untracked : CountsOf input_labels → Bool → InputNumbers
+untracked counts has_ended = record {
   tracked = false;
-  pieces = l.pieces;
-  refused = l.refused;
-  passed = l.passed;
-  filtered = l.filtered;
-  gathered = l.gathered;
-  has_ended = l.has_ended;
+  pieces = counts.0.number;
+  refused = counts.1.0.number;
+  passed = counts.1.1.0.number;
+  filtered = counts.1.1.1.0.number;
+  gathered = counts.1.1.1.1.0.number;
+  has_ended = has_ended;
   delivered = 0;
   rejected = 0;
   undelivered = 0;
 }
 
-with_groups : (index : ℕ) (line : List ℕ) → InputLine index line → (groups : List ℕ) → GroupsLine index groups
-    → InputNumbers
-with_groups index line l groups g = record {
-  tracked = true;
-  pieces = l.pieces;
-  refused = l.refused;
-  passed = l.passed;
-  filtered = l.filtered;
-  gathered = l.gathered;
-  has_ended = l.has_ended;
-  delivered = g.delivered;
-  rejected = g.rejected;
-  undelivered = g.undelivered;
+untracked_below : (counts : CountsOf input_labels) (has_ended : Bool)
+    → IsInputBelow (2 ^ 64) (untracked counts has_ended)
+unfolding untracked
+untracked_below counts has_ended = record {
+  pieces = counts.0.fits;
+  refused = counts.1.0.fits;
+  passed = counts.1.1.0.fits;
+  filtered = counts.1.1.1.0.fits;
+  gathered = counts.1.1.1.1.0.fits;
+  delivered = omega arith;
+  rejected = omega arith;
+  undelivered = omega arith;
 }
+
+-- those of one that is
+with_groups : InputNumbers → CountsOf groups_labels → InputNumbers
+with_groups x groups =
+    record x {
+      tracked = true;
+      delivered = groups.0.number;
+      rejected = groups.1.0.number;
+      undelivered = groups.1.1.0.number;
+    }
+
+groups_below : (x : InputNumbers) (groups : CountsOf groups_labels) → IsInputBelow (2 ^ 64) x
+    → IsInputBelow (2 ^ 64) (with_groups x groups)
+unfolding with_groups
+groups_below x groups h = record {
+  pieces = h.pieces;
+  refused = h.refused;
+  passed = h.passed;
+  filtered = h.filtered;
+  gathered = h.gathered;
+  delivered = groups.0.fits;
+  rejected = groups.1.0.fits;
+  undelivered = groups.1.1.0.fits;
+}
+
+-- a line, and what stands behind it
+line_first : {form : Form} {rest text line first others : List ℕ} (h : OneLine form rest text) → h.line ≡ line
+    → first ≡ line ++ newline ∷ [] → rest ≡ others → text ≡ first ++ others
+line_first {form} {rest} {text} {line} {first} {others} h is first_is others_are =
+    let same : h.line ++ newline ∷ [] ≡ first = ap (λ (t : List ℕ). t ++ newline ∷ []) is ∙ sym first_is in
+    h.is ∙ ap (λ (t : List ℕ). t ++ rest) same ∙ ap (λ (t : List ℕ). first ++ t) others_are
 
 inputs_read : (index : ℕ) (inputs : List (Option ℕ)) (lines groups : List ℕ) → AreLines (input_forms index inputs) lines
     → AreLines (groups_forms index inputs) groups → InputsRead index inputs lines groups
@@ -393,66 +293,49 @@ inputs_read index [] lines groups h k =
     record { numbers = []; tracked = refl; below = tt; lines_are = h; groups_are = k }
 inputs_read index (None ∷ inputs) lines groups h k =
     let l = input_back index h.1.line h.1.counts.done h.1.counts.is in
-    let x = untracked index h.1.line l in
+    let x = untracked l.counts l.has_ended in
     let others = inputs_read (index + 1) inputs h.0 groups h.2 k in
-    let line : h.1.line ++ newline ∷ [] ≡ input_line index x =
-    ap (λ (t : List ℕ). t ++ newline ∷ []) l.is ∙ sym (input_text index x) in
     record {
       numbers = x ∷ others.numbers;
       tracked = ap (λ (bs : List Bool). false ∷ bs) others.tracked;
-      below = (
-        record {
-          pieces = l.pieces_fit;
-          refused = l.refused_fit;
-          passed = l.passed_fit;
-          filtered = l.filtered_fit;
-          gathered = l.gathered_fit;
-          delivered = omega arith;
-          rejected = omega arith;
-          undelivered = omega arith;
-        },
-        others.below,
-      );
-      lines_are =
-          h.1.is
-          ∙ ap (λ (t : List ℕ). t ++ h.0) line
-          ∙ ap (λ (t : List ℕ). input_line index x ++ t) others.lines_are;
+      below = (untracked_below l.counts l.has_ended, others.below);
+      lines_are = line_first h.1 l.is (input_text index x) others.lines_are;
       groups_are = others.groups_are;
     }
 inputs_read index (Some most ∷ inputs) lines groups h k =
     let l = input_back index h.1.line h.1.counts.done h.1.counts.is in
-    let g = groups_back index k.1.line k.1.counts.done k.1.counts.is in
-    let x = with_groups index h.1.line l k.1.line g in
+    let g = line_back (codes "groups") index groups_labels k.1.line k.1.counts.done k.1.counts.is in
+    let plain = untracked l.counts l.has_ended in
+    let x = with_groups plain g.counts in
     let others = inputs_read (index + 1) inputs h.0 k.0 h.2 k.2 in
-    let line : h.1.line ++ newline ∷ [] ≡ input_line index x =
-    ap (λ (t : List ℕ). t ++ newline ∷ []) l.is ∙ sym (input_text index x) in
-    let groups_text : k.1.line ++ newline ∷ [] ≡ groups_line index x =
-    ap (λ (t : List ℕ). t ++ newline ∷ []) g.is ∙ sym (groups_text index x) in
     record {
       numbers = x ∷ others.numbers;
       tracked = ap (λ (bs : List Bool). true ∷ bs) others.tracked;
-      below = (
-        record {
-          pieces = l.pieces_fit;
-          refused = l.refused_fit;
-          passed = l.passed_fit;
-          filtered = l.filtered_fit;
-          gathered = l.gathered_fit;
-          delivered = g.delivered_fit;
-          rejected = g.rejected_fit;
-          undelivered = g.undelivered_fit;
-        },
-        others.below,
-      );
-      lines_are =
-          h.1.is
-          ∙ ap (λ (t : List ℕ). t ++ h.0) line
-          ∙ ap (λ (t : List ℕ). input_line index x ++ t) others.lines_are;
-      groups_are =
-          k.1.is
-          ∙ ap (λ (t : List ℕ). t ++ k.0) groups_text
-          ∙ ap (λ (t : List ℕ). groups_line index x ++ t) others.groups_are;
+      below = (groups_below plain g.counts (untracked_below l.counts l.has_ended), others.below);
+      lines_are = line_first h.1 l.is (input_text index x) others.lines_are;
+      groups_are = line_first k.1 g.is (groups_text index x) others.groups_are;
     }
+
+output_of : CountsOf output_labels → OutputNumbers
+output_of counts = record {
+  filtered = counts.0.number;
+  late = counts.1.0.number;
+  consumed = counts.1.1.0.number;
+  written = counts.1.1.1.0.number;
+  buffered = counts.1.1.1.1.0.number;
+  dropped = counts.1.1.1.1.1.0.number;
+}
+
+output_below : (counts : CountsOf output_labels) → IsOutputBelow (2 ^ 64) (output_of counts)
+unfolding output_of
+output_below counts = record {
+  filtered = counts.0.fits;
+  late = counts.1.0.fits;
+  consumed = counts.1.1.0.fits;
+  written = counts.1.1.1.0.fits;
+  buffered = counts.1.1.1.1.0.fits;
+  dropped = counts.1.1.1.1.1.0.fits;
+}
 
 record OutputsRead (index : ℕ) (outputs : List (ℕ × ℕ)) (lines : List ℕ) : Type 0 where
   numbers : List OutputNumbers
@@ -462,21 +345,17 @@ record OutputsRead (index : ℕ) (outputs : List (ℕ × ℕ)) (lines : List ℕ
 
 outputs_read : (index : ℕ) (outputs : List (ℕ × ℕ)) (lines : List ℕ) → AreLines (output_forms index outputs) lines
     → OutputsRead index outputs lines
-unfolding AreLines numbered row_text
+unfolding AreLines numbered row_text row_line output_row output_of
 outputs_read index [] lines h = record { numbers = []; count = refl; below = tt; is = h }
 outputs_read index (sizes ∷ outputs) lines h =
-    let o = output_back index h.1.line h.1.counts.done h.1.counts.is in
+    let o = line_back (codes "output") index output_labels h.1.line h.1.counts.done h.1.counts.is in
+    let x = output_of o.counts in
     let others = outputs_read (index + 1) outputs h.0 h.2 in
-    let line : h.1.line ++ newline ∷ [] ≡ output_line index o.numbers =
-    ap (λ (t : List ℕ). t ++ newline ∷ []) o.is ∙ sym (output_text index o.numbers) in
     record {
-      numbers = o.numbers ∷ others.numbers;
+      numbers = x ∷ others.numbers;
       count = ap (λ (n : ℕ). suc n) others.count;
-      below = (o.fits, others.below);
-      is =
-          h.1.is
-          ∙ ap (λ (t : List ℕ). t ++ h.0) line
-          ∙ ap (λ (t : List ℕ). output_line index o.numbers ++ t) others.is;
+      below = (output_below o.counts, others.below);
+      is = line_first h.1 o.is (output_text index x) others.is;
     }
 
 four : (a b d e : List ℕ) → a ++ (b ++ (d ++ e)) ≡ a ++ b ++ d ++ e
@@ -497,28 +376,27 @@ account_back setup account h =
     let last = groups.back_lines in
     let items = items_back last.1.line last.1.counts.done last.1.counts.is in
     let outputs = outputs_read 0 setup.outputs last.0 last.2 in
-    let items_are : last.1.line ++ newline ∷ [] ≡ items_line items.made items.removed items.routed =
-    ap (λ (t : List ℕ). t ++ newline ∷ []) items.is ∙ sym (items_text items.made items.removed items.routed) in
-    let behind : groups.back ≡ items_line items.made items.removed items.routed
+    let made = items.counts.0 in
+    let removed = items.counts.1.0 in
+    let routed = items.counts.1.1.0 in
+    let behind : groups.back ≡ items_line made.number removed.number routed.number
     ++ numbered output_line 0 outputs.numbers =
-    last.1.is
-    ∙ ap (λ (t : List ℕ). t ++ last.0) items_are
-    ∙ ap (λ (t : List ℕ). items_line items.made items.removed items.routed ++ t) outputs.is in
+    line_first last.1 items.is (items_text made.number removed.number routed.number) outputs.is in
     record {
       numbers = record {
         inputs = read.numbers;
-        made = items.made;
-        removed = items.removed;
-        routed = items.routed;
+        made = made.number;
+        removed = removed.number;
+        routed = routed.number;
         outputs = outputs.numbers;
       };
       inputs = read.tracked;
       outputs = outputs.count;
       inputs_below = read.below;
       outputs_below = outputs.below;
-      made = items.made_fit;
-      removed = items.removed_fit;
-      routed = items.routed_fit;
+      made = made.fits;
+      removed = removed.fits;
+      routed = routed.fits;
       is =
           inputs.is
           ∙ ap (λ (t : List ℕ). t ++ inputs.back) read.lines_are
@@ -526,5 +404,5 @@ account_back setup account h =
           ∙ ap (λ (t : List ℕ). t ++ groups.back) read.groups_are
           ∙ ap (λ (t : List ℕ). numbered tracked_groups 0 read.numbers ++ t) behind)
           ∙ four (numbered input_line 0 read.numbers) (numbered tracked_groups 0 read.numbers)
-          (items_line items.made items.removed items.routed) (numbered output_line 0 outputs.numbers);
+          (items_line made.number removed.number routed.number) (numbered output_line 0 outputs.numbers);
     }

@@ -22,12 +22,12 @@ use Rattle.journal_text.specs.MetricText.{metric_text}
 use Rattle.journal_text.specs.JournalText.{are_equal, beside_text, whole_text, view_text, views_text, verdict_text}
 use Rattle.journal_text.specs.JournalText.{routed_text, group_text, gather_line, gather_head, head_text, item_of}
 use Rattle.journal_text.proofs.JournalLemmas.{equal_are_same}
-use Rattle.journal_reader.specs.Words.{Parts, taken, behind, each, number}
+use Rattle.journal_reader.specs.Words.{Parts, taken, behind, each, number, either_of}
 use Rattle.journal_reader.specs.EntryReading.{group_of, counts_of, gather_in, ended_in, take_in, made_in, begin_in}
-use Rattle.journal_reader.specs.EntryReading.{outcome_of, done_in, event_in, beside_of, view_of, verdict_of}
+use Rattle.journal_reader.specs.EntryReading.{done_in, event_in, beside_of, view_of, verdict_of}
 use Rattle.journal_reader.specs.EntryReading.{agg_views, whole_in, removed_in, route_in, entry_in}
 use Rattle.journal_reader.specs.Spellable.{FitsGroup, FitsView, FitsRoute, FitsEntry}
-use Rattle.journal_reader.proofs.WordLemmas.{are_bytes, number_read, small_read, signed_read}
+use Rattle.journal_reader.proofs.WordLemmas.{are_bytes, number_read, small_read, signed_read, either_text}
 use Rattle.journal_reader.proofs.LineWords.{Quiet, literal, index_quiet, signed_quiet, metric_quiet}
 use Rattle.journal_reader.proofs.LineWords.{spaced_end, join_end}
 use Rattle.journal_reader.proofs.MetricAgain.{metric_again, metric_has_bar}
@@ -183,8 +183,7 @@ group_again None h = refl
 group_again (Some group) h = rw (number_apart_minus group h, number_read group h) refl
 
 unfoldable pub outcome_text : Bool → List ℕ
-outcome_text true = codes "ok"
-outcome_text false = codes "failed"
+outcome_text ok = either_text (codes "ok") (codes "failed") ok
 
 -- the words behind the first one, and that one
 unfoldable pub route_words : List Content → Option Content → Verdict → List (Option Content) → List (Option Content)
@@ -248,7 +247,7 @@ pub entry_again : (known : List Content) (setup : JournalSetup) (e : Entry) → 
     → entry_in known (record { aggs = length setup.aggs; outs = length setup.outputs })
     (first_word e ∷ other_words (item_of known e) e)
     ≡ Some (record { entry = begun_of e; owed = length (named_by e) })
-unfolding entry_in event_in gather_in counts_of ended_in take_in made_in begin_in done_in outcome_of first_word
+unfolding entry_in event_in gather_in counts_of ended_in take_in made_in begin_in done_in either_of first_word
     other_words
     begun_of outcome_text
 entry_again known setup (Gather input moment pieces refused passed filtered metrics group reports) h =

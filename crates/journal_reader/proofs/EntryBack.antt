@@ -24,13 +24,13 @@ use Rattle.journal_text.proofs.JournalLemmas.{equal_are_same}
 use Rattle.journal_reader.specs.declared.entry.Begun.{Begun}
 use Rattle.journal_reader.specs.declared.entry.Counts.{Counts}
 use Rattle.journal_reader.specs.Words.{Parts, taken, behind, each, number, small_number}
-use Rattle.journal_reader.specs.Words.{signed_number}
+use Rattle.journal_reader.specs.Words.{signed_number, either_of}
 use Rattle.journal_reader.specs.MetricReading.{content_of, is_metric, metric_of}
 use Rattle.journal_reader.specs.EntryReading.{alone, group_of, counts_of, gather_in, ended_in, take_in, made_in}
-use Rattle.journal_reader.specs.EntryReading.{tick_of, stop_of, begin_in, outcome_of, done_in, event_in}
+use Rattle.journal_reader.specs.EntryReading.{tick_of, stop_of, begin_in, done_in, event_in}
 use Rattle.journal_reader.specs.EntryReading.{beside_of, view_of, verdict_of, agg_views, whole_in, removed_in}
 use Rattle.journal_reader.specs.EntryReading.{routed_in}
-use Rattle.journal_reader.specs.EntryReading.{route_in, entry_in, metric_in, delivered_of, report_in}
+use Rattle.journal_reader.specs.EntryReading.{route_in, entry_in, metric_in, report_in}
 use Rattle.journal_reader.specs.Spellable.{FitsGroup, FitsView, FitsEntry}
 use Rattle.journal_reader.proofs.WordLemmas.{are_bytes, number_is}
 use Rattle.journal_reader.proofs.MetricFacts.{metric_fits}
@@ -39,7 +39,7 @@ use Rattle.journal_reader.proofs.Holding.{map_answer}
 use Rattle.journal_reader.proofs.EntryAgain.{view_texts, views_words, outcome_text, route_words, first_word}
 use Rattle.journal_reader.proofs.TellAgain.{sizes_of, delivered_text}
 use Rattle.journal_reader.proofs.WordsBack.{more, same_first, taken_some, behind_some, end_answer}
-use Rattle.journal_reader.proofs.WordsBack.{took_number, took_small, took_signed}
+use Rattle.journal_reader.proofs.WordsBack.{took_number, took_small, took_signed, took_either}
 
 -- ---- metrics beside others
 
@@ -336,29 +336,16 @@ begin_back known setup words =
       waits = refl;
     }))))
 
-abbrev IsOutcome : List ℕ → Bool → Type 0
-IsOutcome word ok = word ≡ outcome_text ok
-
-outcome_back : (word : List ℕ) → Holds (IsOutcome word) (outcome_of word)
-unfolding outcome_of outcome_text
-outcome_back word =
-    test_answer (IsOutcome word) (bytes_eq word (codes "ok")) _ _
-    (λ e. one_answer (IsOutcome word) true (are_bytes word (codes "ok") e))
-    (λ no_ok. test_answer (IsOutcome word) (bytes_eq word (codes "failed")) _ _
-    (λ e. one_answer (IsOutcome word) false (are_bytes word (codes "failed") e))
-    (λ no_failed. no_answer (IsOutcome word)))
-
 done_back : (known : List Content) (setup : JournalSetup) (words : Parts)
     → Holds (IsBegun known setup (codes "done" ∷ words)) (done_in words)
-unfolding done_in first_word words_with Waits
+unfolding done_in first_word words_with Waits outcome_text
 done_back known setup words =
     let P = IsBegun known setup (codes "done" ∷ words) in
     next_answer P (taken small_number words) _ (λ output a.
-    next_answer P (taken outcome_of output.1) _ (λ outcome b.
+    next_answer P (taken (either_of (codes "ok") (codes "failed")) output.1) _ (λ outcome b.
     let o = took_small words output a in
-    let t = taken_some outcome_of output.1 outcome b in
     let last : output.1 ≡ outcome_text outcome.0 ∷ outcome.1 =
-    t.is ∙ same_first t.word (outcome_text outcome.0) outcome.1 ((outcome_back t.word).at outcome.0 t.said) in
+    took_either (codes "ok") (codes "failed") output.1 outcome b in
     end_answer P _ outcome.1 (λ none. record {
       words_are =
           more (codes "done") words _ (o.0
@@ -554,30 +541,19 @@ metric_line_back words =
       is.1,
     ))))
 
-delivered_back : (word : List ℕ) → Holds (λ (delivered : Bool). word ≡ delivered_text delivered) (delivered_of word)
-unfolding delivered_of delivered_text
-delivered_back word =
-    let P = λ (delivered : Bool). word ≡ delivered_text delivered in
-    test_answer P (bytes_eq word (codes "delivered")) _ _
-    (λ e. one_answer P true (are_bytes word (codes "delivered") e))
-    (λ no_delivered. test_answer P (bytes_eq word (codes "rejected")) _ _
-    (λ e. one_answer P false (are_bytes word (codes "rejected") e))
-    (λ no_rejected. no_answer P))
-
 pub report_back : (words : Parts)
     → Holds (λ (said : ℕ × Bool). (words ≡ codes "report" ∷ decimal said.0 ∷ delivered_text said.1 ∷ [])
     × (said.0 < 2 ^ 64)) (report_in words)
-unfolding report_in
+unfolding report_in delivered_text
 report_back words =
     let P = λ (said : ℕ × Bool). (words ≡ codes "report" ∷ decimal said.0 ∷ delivered_text said.1 ∷ [])
     × (said.0 < 2 ^ 64) in
     next_answer P (behind (codes "report") words) _ (λ rest e.
     next_answer P (taken number rest) _ (λ group f.
-    next_answer P (taken delivered_of group.1) _ (λ delivered g.
+    next_answer P (taken (either_of (codes "delivered") (codes "rejected")) group.1) _ (λ delivered g.
     let n = took_number rest group f in
-    let t = taken_some delivered_of group.1 delivered g in
     let last : group.1 ≡ delivered_text delivered.0 ∷ delivered.1 =
-    t.is ∙ same_first t.word (delivered_text delivered.0) delivered.1 ((delivered_back t.word).at delivered.0 t.said) in
+    took_either (codes "delivered") (codes "rejected") group.1 delivered g in
     end_answer P (group.0, delivered.0) delivered.1 (λ none. (
       behind_some (codes "report") words rest e
           ∙ more (codes "report") rest _ (n.0 ∙ more (decimal group.0) group.1 _ (last

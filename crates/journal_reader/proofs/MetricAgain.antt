@@ -31,7 +31,7 @@ use Rattle.metric.specs.Plain.{is_plain}
 use Rattle.journal_text.specs.MetricText.{escaped, value_text, tag_text, field_text, fields_text, metric_text}
 use Rattle.journal_reader.specs.Words.{each, cut, none_behind}
 use Rattle.journal_reader.specs.MetricReading.{semicolon, plain_value_of, value_of, tag_of}
-use Rattle.journal_reader.specs.MetricReading.{field_of, series_of, content_of, is_filled, are_tags}
+use Rattle.journal_reader.specs.MetricReading.{pair_of, field_of, series_of, content_of, is_filled, are_tags}
 use Rattle.journal_reader.specs.MetricReading.{is_metric, metric_of}
 use Rattle.journal_reader.proofs.KeyLemmas.{all_filled, fields_pass}
 use Rattle.journal_reader.proofs.WordLemmas.{same_bytes}
@@ -158,7 +158,7 @@ field_none field h =
     (refl, value_none semicolon field.1 semicolons_separate h.1)
 
 tag_again : (tag : Tag) → IsTag tag → tag_of (tag_body tag) ≡ Some tag
-unfolding tag_of tag_body
+unfolding tag_of pair_of tag_body
 tag_again tag h =
     rw (
       cut_at equals_sign (escaped tag.0) (escaped tag.1) (word_none equals_sign equals_separate tag.0 h.0.utf8),
@@ -176,7 +176,7 @@ value_again (value.«Bool» false) h = refl
 value_again (value.Text text) h = rw (text_again text h (utf8_bytes text h)) refl
 
 field_again : (field : Field) → IsField field → field_of (field_body field) ≡ Some field
-unfolding field_of field_body
+unfolding field_of pair_of field_body
 field_again field h =
     rw (
       cut_at equals_sign (escaped field.0) (value_text field.1)

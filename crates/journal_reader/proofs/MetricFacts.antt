@@ -25,9 +25,9 @@ use Rattle.metric.specs.declared.value.Value.{Value}
 use Rattle.metric.specs.declared.value.Value.TheVariants as value
 use Rattle.metric.specs.Metric.{IsMetric, IsFilled, IsValue, IsTag, IsField}
 use Rattle.journal_reader.specs.Words.{◌>>=◌, Parts, each, cut}
-use Rattle.journal_reader.specs.MetricReading.{unescaped, text_of, said, plain_value_of, value_of, tag_of, field_of}
-use Rattle.journal_reader.specs.MetricReading.{series_of, content_of, is_filled, are_tags, are_fields, is_metric}
-use Rattle.journal_reader.specs.MetricReading.{semicolon}
+use Rattle.journal_reader.specs.MetricReading.{unescaped, text_of, said, plain_value_of, value_of, pair_of, tag_of}
+use Rattle.journal_reader.specs.MetricReading.{field_of, series_of, content_of, is_filled, are_tags, are_fields}
+use Rattle.journal_reader.specs.MetricReading.{is_metric, semicolon}
 use Rattle.journal_reader.proofs.KeyLemmas.{all_filled, fields_differ}
 use Rattle.journal_reader.proofs.WordLemmas.{bind_some, held, same_some, int_fits, uint_fits, fixed_fits}
 
@@ -92,31 +92,31 @@ value_fits (b ∷ rest) v e = at (b == 115) (text_of rest) refl e
     at true None is e = absurd cc
     at false text is e = plain_value_fits (b ∷ rest) v e
 
+pair_fits : {A : Type 0} (says : List ℕ → Option A) (P : A → Type 0) (written : List ℕ) (pair : List ℕ × A)
+    → ((word : List ℕ) (x : A) → says word ≡ Some x → P x) → pair_of says written ≡ Some pair
+    → IsUtf8 pair.0 × P pair.1
+unfolding pair_of
+pair_fits {A} says P written pair fits e =
+    let parts = bind_some (cut equals_sign written)
+    (λ parts. text_of parts.0 >>= λ key. says parts.1 >>= λ said. Some (key, said)) pair e in
+    let key = bind_some (text_of parts.0.0) (λ key. says parts.0.1 >>= λ said. Some (key, said)) pair parts.2 in
+    let said = bind_some (says parts.0.1) (λ (x : A). Some (key.0, x)) pair key.2 in
+    subst (λ (p : List ℕ × A). IsUtf8 p.0 × P p.1) (same_some (key.0, said.0) pair said.2)
+    (text_utf8 parts.0.0 key.0 key.1, fits parts.0.1 said.0 said.1)
+
 abbrev AreUtf8 : Tag → Type 0
 AreUtf8 tag = IsUtf8 tag.0 × IsUtf8 tag.1
 
 tag_fits : (written : List ℕ) (tag : Tag) → tag_of written ≡ Some tag → AreUtf8 tag
 unfolding tag_of
-tag_fits written tag e =
-    let parts = bind_some (cut equals_sign written)
-    (λ parts. text_of parts.0 >>= λ key. text_of parts.1 >>= λ text. Some (key, text)) tag e in
-    let key = bind_some (text_of parts.0.0) (λ key. text_of parts.0.1 >>= λ text. Some (key, text)) tag parts.2 in
-    let text = bind_some (text_of parts.0.1) (λ (text : List ℕ). Some (key.0, text)) tag key.2 in
-    subst AreUtf8 (same_some (key.0, text.0) tag text.2)
-    (text_utf8 parts.0.0 key.0 key.1, text_utf8 parts.0.1 text.0 text.1)
+tag_fits written tag e = pair_fits text_of IsUtf8 written tag text_utf8 e
 
 abbrev FitsField : Field → Type 0
 FitsField field = IsUtf8 field.0 × IsValue field.1
 
 field_fits : (written : List ℕ) (field : Field) → field_of written ≡ Some field → FitsField field
 unfolding field_of
-field_fits written field e =
-    let parts = bind_some (cut equals_sign written)
-    (λ parts. text_of parts.0 >>= λ key. value_of parts.1 >>= λ v. Some (key, v)) field e in
-    let key = bind_some (text_of parts.0.0) (λ key. value_of parts.0.1 >>= λ v. Some (key, v)) field parts.2 in
-    let v = bind_some (value_of parts.0.1) (λ (v : Value). Some (key.0, v)) field key.2 in
-    subst FitsField (same_some (key.0, v.0) field v.2)
-    (text_utf8 parts.0.0 key.0 key.1, value_fits parts.0.1 v.0 v.1)
+field_fits written field e = pair_fits value_of IsValue written field value_fits e
 
 -- what is so of each content that was read
 pub record FitsContent (m : Content) : Type 0 where

@@ -17,15 +17,15 @@ use Rattle.journal_text.specs.declared.setup.JournalSetup.{JournalSetup}
 use Rattle.journal_text.specs.SetupText.{input_line, letters_text, kind_text, times_text, agg_line, output_line}
 use Rattle.journal_reader.specs.declared.state.State.{State}
 use Rattle.journal_reader.specs.declared.state.Stage.TheVariants.{Setting}
-use Rattle.journal_reader.specs.Words.{where_true, Parts, behind, words_of, cut}
+use Rattle.journal_reader.specs.Words.{where_true, Parts, behind, words_of, cut, either_of}
 use Rattle.journal_reader.specs.SetupReading.{start_in, numbered_in, tracking_behind, input_in, output_in}
-use Rattle.journal_reader.specs.SetupReading.{letter_of, statistics_of, kind_behind, kind_of, dropping_of, times_in}
+use Rattle.journal_reader.specs.SetupReading.{letter_of, statistics_of, kind_behind, kind_of, times_in}
 use Rattle.journal_reader.specs.SetupReading.{agg_in}
 use Rattle.journal_reader.specs.States.{beginning}
 use Rattle.journal_reader.specs.Steps.{starting, set_input, set_agg, set_output, setting, after}
 use Rattle.journal_reader.specs.Spellable.{FitsInput, FitsOutput, FitsKind, FitsAgg, FitsSetup}
 use Rattle.journal_reader.proofs.LeadLemmas.{Leads, leads_nothing, leads_line, leads_then}
-use Rattle.journal_reader.proofs.WordLemmas.{small_read, signed_read}
+use Rattle.journal_reader.proofs.WordLemmas.{small_read, signed_read, either_text}
 use Rattle.journal_reader.proofs.LineWords.{Quiet, literal, decimal_quiet, index_quiet, signed_quiet, IsLine, line_of}
 use Rattle.journal_reader.proofs.LineWords.{behind_is, lacks, join_end}
 use Rattle.journal_reader.proofs.MetricAgain.{cut_at}
@@ -200,16 +200,15 @@ kind_again Merge h = refl
 kind_again (Final timeout) h = final_again timeout h
 
 unfoldable pub dropping_text : Bool → List ℕ
-dropping_text true = codes "drop"
-dropping_text false = codes "keep"
+dropping_text dropping = either_text (codes "drop") (codes "keep") dropping
 
 dropping_quiet : (dropping : Bool) → Quiet (dropping_text dropping)
 unfolding dropping_text
 dropping_quiet true = literal (codes "drop") refl refl
 dropping_quiet false = literal (codes "keep") refl refl
 
-dropping_again : (dropping : Bool) → dropping_of (dropping_text dropping) ≡ Some dropping
-unfolding dropping_text dropping_of
+dropping_again : (dropping : Bool) → either_of (codes "drop") (codes "keep") (dropping_text dropping) ≡ Some dropping
+unfolding dropping_text either_of
 dropping_again true = refl
 dropping_again false = refl
 

@@ -15,9 +15,9 @@ use Rattle.account.specs.declared.setup.AggWord.TheVariants.{MinMax, Basic, Merg
 use Rattle.account.specs.declared.setup.AggLine.{AggLine}
 use Rattle.journal_text.specs.SetupText.{letter, letters_text, kind_text}
 use Rattle.journal_reader.specs.Words.{Parts, taken, behind, cut, none_behind, small_number}
-use Rattle.journal_reader.specs.Words.{signed_number}
+use Rattle.journal_reader.specs.Words.{signed_number, either_of}
 use Rattle.journal_reader.specs.SetupReading.{start_in, numbered_in, tracking_behind, tracking_in, input_in, letter_of}
-use Rattle.journal_reader.specs.SetupReading.{is_nothing, statistics_of, kind_behind, kind_cut, kind_of, dropping_of}
+use Rattle.journal_reader.specs.SetupReading.{is_nothing, statistics_of, kind_behind, kind_cut, kind_of}
 use Rattle.journal_reader.specs.SetupReading.{times_in, agg_in, output_in}
 use Rattle.journal_reader.specs.Spellable.{FitsInput, FitsOutput, FitsKind, FitsAgg}
 use Rattle.journal_reader.proofs.WordLemmas.{same_some, are_bytes, signed_is}
@@ -25,7 +25,7 @@ use Rattle.journal_reader.proofs.Holding.{Holds, no_answer, one_answer, next_ans
 use Rattle.journal_reader.proofs.Holding.{map_answer}
 use Rattle.journal_reader.proofs.SetupAgain.{input_words, dropping_text, times_words}
 use Rattle.journal_reader.proofs.WordsBack.{more, same_first, taken_some, behind_some, end_answer, numbered_some}
-use Rattle.journal_reader.proofs.WordsBack.{took_small, took_signed}
+use Rattle.journal_reader.proofs.WordsBack.{took_small, took_signed, took_either}
 
 abbrev pub IsStart : Parts → ℤ → Type 0
 IsStart words moment = (words ≡ codes "start" ∷ signed_decimal moment ∷ []) × FitsSigned w64 moment
@@ -177,18 +177,6 @@ kind_back word =
     (λ e. one_answer (IsKind word) Merge (are_bytes word (codes "merge") e, tt))
     (λ no_merge. cut_kind word (cut colon word) refl))
 
-abbrev IsDropping : List ℕ → Bool → Type 0
-IsDropping word dropping = word ≡ dropping_text dropping
-
-dropping_back : (word : List ℕ) → Holds (IsDropping word) (dropping_of word)
-unfolding dropping_of dropping_text
-dropping_back word =
-    test_answer (IsDropping word) (bytes_eq word (codes "drop")) _ _
-    (λ e. one_answer (IsDropping word) true (are_bytes word (codes "drop") e))
-    (λ no_drop. test_answer (IsDropping word) (bytes_eq word (codes "keep")) _ _
-    (λ e. one_answer (IsDropping word) false (are_bytes word (codes "keep") e))
-    (λ no_keep. no_answer (IsDropping word)))
-
 record IsTimes (kind : AggWord) (words : Parts) (line : AggLine) : Type 0 where
   is : words ≡ times_words line
   same : line.kind ≡ kind
@@ -197,18 +185,17 @@ record IsTimes (kind : AggWord) (words : Parts) (line : AggLine) : Type 0 where
   grace : FitsSigned w64 line.grace
 
 times_back : (kind : AggWord) (words : Parts) → Holds (IsTimes kind words) (times_in kind words)
-unfolding times_in times_words
+unfolding times_in times_words dropping_text
 times_back kind words =
     next_answer (IsTimes kind words) (taken signed_number words) _ (λ period a.
     next_answer (IsTimes kind words) (taken signed_number period.1) _ (λ delay b.
     next_answer (IsTimes kind words) (taken signed_number delay.1) _ (λ grace d.
-    next_answer (IsTimes kind words) (taken dropping_of grace.1) _ (λ dropping e.
+    next_answer (IsTimes kind words) (taken (either_of (codes "drop") (codes "keep")) grace.1) _ (λ dropping e.
     let p = took_signed words period a in
     let q = took_signed period.1 delay b in
     let r = took_signed delay.1 grace d in
-    let t = taken_some dropping_of grace.1 dropping e in
     let last : grace.1 ≡ dropping_text dropping.0 ∷ dropping.1 =
-    t.is ∙ same_first t.word (dropping_text dropping.0) dropping.1 ((dropping_back t.word).at dropping.0 t.said) in
+    took_either (codes "drop") (codes "keep") grace.1 dropping e in
     end_answer (IsTimes kind words) _ dropping.1 (λ none. record {
       is =
           p.0

@@ -27,9 +27,9 @@ use Rattle.journal_text.specs.JournalText.{item_of, entries_text}
 use Rattle.journal_reader.specs.declared.entry.Sizes.{Sizes}
 use Rattle.journal_reader.specs.declared.state.State.{State}
 use Rattle.journal_reader.specs.declared.state.Stage.TheVariants.{Setting, Telling}
-use Rattle.journal_reader.specs.Words.{◌>>=◌, Parts, taken, behind, at_end, words_of}
+use Rattle.journal_reader.specs.Words.{◌>>=◌, Parts, taken, behind, at_end, words_of, either_of}
 use Rattle.journal_reader.specs.SetupReading.{numbered_in, input_in, agg_in, output_in}
-use Rattle.journal_reader.specs.EntryReading.{metric_in, delivered_of, report_in}
+use Rattle.journal_reader.specs.EntryReading.{metric_in, report_in}
 use Rattle.journal_reader.specs.States.{beginning, with_metric, is_above, risen, reported, last_reported}
 use Rattle.journal_reader.specs.States.{with_group, input_of}
 use Rattle.journal_reader.specs.Steps.{set_input, set_agg, set_output, told_metric, told_report}
@@ -37,7 +37,7 @@ use Rattle.journal_reader.specs.Steps.{told_entry, going_on, telling, setting, a
 use Rattle.journal_reader.specs.Spellable.{FitsEntry, input_here, last_input, IsReport, AreReports}
 use Rattle.journal_reader.specs.Spellable.{HaveReports}
 use Rattle.journal_reader.proofs.LeadLemmas.{Leads, leads_nothing, leads_line, leads_then}
-use Rattle.journal_reader.proofs.WordLemmas.{number_read}
+use Rattle.journal_reader.proofs.WordLemmas.{number_read, either_text}
 use Rattle.journal_reader.proofs.LineWords.{Quiet, literal, index_quiet, metric_quiet, IsLine, line_of, behind_is}
 use Rattle.journal_reader.proofs.MetricAgain.{metric_again}
 use Rattle.journal_reader.proofs.SetupAgain.{where_none}
@@ -268,15 +268,14 @@ Rises groups before (report ∷ reports) =
     × (input_of groups report.group ≡ Some report.input) × Rises groups (before ++ report ∷ []) reports
 
 unfoldable pub delivered_text : Bool → List ℕ
-delivered_text true = codes "delivered"
-delivered_text false = codes "rejected"
+delivered_text delivered = either_text (codes "delivered") (codes "rejected") delivered
 
 unfoldable pub report_words : Report → Parts
 report_words report = decimal report.group ∷ delivered_text report.delivered ∷ []
 
 report_again : (report : Report) → report.group < 2 ^ 64
     → report_in (codes "report" ∷ report_words report) ≡ Some (report.group, report.delivered)
-unfolding report_in report_words delivered_of delivered_text
+unfolding report_in report_words either_of delivered_text
 report_again report h =
     rw (
       behind_is (codes "report") (decimal report.group ∷ delivered_text report.delivered ∷ []),
@@ -285,7 +284,7 @@ report_again report h =
   where
     at : (delivered : Bool)
         → (let next : Bool × Parts → Option (ℕ × Bool) = λ d. at_end (report.group, d.0) d.1 in
-        taken delivered_of (delivered_text delivered ∷ []) >>= next)
+        taken (either_of (codes "delivered") (codes "rejected")) (delivered_text delivered ∷ []) >>= next)
         ≡ Some (report.group, delivered)
     at true = refl
     at false = refl

@@ -24,7 +24,8 @@ use Rattle.journal_text.specs.JournalText.{item_of, entries_text}
 use Rattle.journal_text.proofs.JournalLemmas.{text_grows}
 use Rattle.journal_reader.specs.States.{with_metric, is_above, risen, reported, last_reported, input_of}
 use Rattle.journal_reader.specs.Words.{Parts}
-use Rattle.journal_reader.specs.Spellable.{FitsEntry, input_here, last_input, IsReport, AreReports, HaveReports}
+use Rattle.journal_reader.specs.Spellable.{FitMetrics, FitsEntry, input_here, last_input, IsReport, AreReports}
+use Rattle.journal_reader.specs.Spellable.{HaveReports}
 use Rattle.journal_reader.proofs.Holding.{Holds, no_answer, one_answer, next_answer, where_answer, map_answer}
 use Rattle.journal_reader.proofs.EntryAgain.{first_word, other_words, head_is}
 use Rattle.journal_reader.proofs.EntryBack.{words_with, Waits}
@@ -84,9 +85,12 @@ pub record MetricPut (setup : JournalSetup) (e : Entry) (owed : ℕ) (m : Conten
   pub fits : IsMetric m → length (named_by e) + 1 < 2 ^ 64 → FitsEntry setup e → FitsEntry setup (with_metric e m)
   pub waits : (left : ℕ) → Waits (with_metric e m) left
 
-all_more : (metrics : List Content) (m : Content) → AllByRecursion IsMetric metrics → IsMetric m
-    → AllByRecursion IsMetric (metrics ++ m ∷ [])
-all_more metrics m h one = all_append IsMetric metrics (m ∷ []) h (one, tt)
+fit_more : (metrics : List Content) (m : Content) → FitMetrics metrics → IsMetric m → length metrics + 1 < 2 ^ 64
+    → FitMetrics (metrics ++ m ∷ [])
+fit_more metrics m h is small = record {
+  metrics_are = all_append IsMetric metrics (m ∷ []) h.metrics_are (is, tt);
+  count = omega (arith, small, length-append metrics (m ∷ []));
+}
 
 pub metric_put : (setup : JournalSetup) (e : Entry) (owed : ℕ) (m : Content) → Waits e owed → ((owed ≡ 0) → ⊥)
     → MetricPut setup e owed m
@@ -104,10 +108,7 @@ metric_put setup (Gather input moment pieces refused passed filtered metrics gro
     refused = h.refused;
     passed = h.passed;
     filtered = h.filtered;
-    metrics = record {
-      metrics_are = all_more metrics m h.metrics.metrics_are is;
-      count = omega (arith, small, length-append metrics (m ∷ []));
-    };
+    metrics = fit_more metrics m h.metrics is small;
     group = h.group;
   };
   waits = λ left owes. waits some;
@@ -121,13 +122,7 @@ metric_put setup (Tick moment made) owed m waits some = record {
   reports = refl;
   line = λ known n. refl;
   here = λ asked found. refl;
-  fits = λ is small h. (
-    h.0,
-    record {
-      metrics_are = all_more made m h.1.metrics_are is;
-      count = omega (arith, small, length-append made (m ∷ []));
-    },
-  );
+  fits = λ is small h. (h.0, fit_more made m h.1 is small);
   waits = λ left. tt;
 }
 metric_put setup (Stop moment made) owed m waits some = record {
@@ -136,13 +131,7 @@ metric_put setup (Stop moment made) owed m waits some = record {
   reports = refl;
   line = λ known n. refl;
   here = λ asked found. refl;
-  fits = λ is small h. (
-    h.0,
-    record {
-      metrics_are = all_more made m h.1.metrics_are is;
-      count = omega (arith, small, length-append made (m ∷ []));
-    },
-  );
+  fits = λ is small h. (h.0, fit_more made m h.1 is small);
   waits = λ left. tt;
 }
 metric_put setup (Begin output from to) owed m waits some = absurd (some waits)

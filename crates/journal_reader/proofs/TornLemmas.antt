@@ -19,9 +19,7 @@ use Rattle.metric.specs.declared.metric.Content.{Content}
 use Rattle.metric.specs.declared.value.Value.TheVariants as value
 use Rattle.metric.specs.Metric.{IsMetric}
 use Rattle.account.specs.declared.entry.Entry.{Entry}
-use Rattle.account.specs.declared.numbers.InputNumbers.{InputNumbers}
-use Rattle.account.specs.declared.numbers.OutputNumbers.{OutputNumbers}
-use Rattle.account.specs.Numbers.{IsInputBelow, IsOutputBelow}
+use Rattle.account.specs.Numbers.{unread_input, unreached_output, IsInputBelow, IsOutputBelow}
 use Rattle.journal_text.specs.declared.setup.JournalSetup.{JournalSetup}
 use Rattle.journal_text.specs.SetupText.{setup_text}
 use Rattle.journal_text.specs.JournalText.{metric_line, entries_text, end_text, journal_text}
@@ -64,22 +62,7 @@ goes_less front rest h = record {
 
 -- ---- an account of zeros
 
-no_input : InputNumbers
-no_input = record {
-  tracked = false;
-  pieces = 0;
-  refused = 0;
-  passed = 0;
-  filtered = 0;
-  gathered = 0;
-  has_ended = false;
-  delivered = 0;
-  rejected = 0;
-  undelivered = 0;
-}
-
-no_input_below : IsInputBelow (2 ^ 64) no_input
-unfolding no_input
+no_input_below : IsInputBelow (2 ^ 64) (unread_input false)
 no_input_below = record {
   pieces = omega arith;
   refused = omega arith;
@@ -91,11 +74,7 @@ no_input_below = record {
   undelivered = omega arith;
 }
 
-no_output : OutputNumbers
-no_output = record { filtered = 0; late = 0; consumed = 0; written = 0; buffered = 0; dropped = 0 }
-
-no_output_below : IsOutputBelow (2 ^ 64) no_output
-unfolding no_output
+no_output_below : IsOutputBelow (2 ^ 64) unreached_output
 no_output_below = record {
   filtered = omega arith;
   late = omega arith;
@@ -106,10 +85,10 @@ no_output_below = record {
 }
 
 zero_line : Form → List ℕ
-zero_line (Input index) = row_line (input_row index no_input)
-zero_line (Groups index) = row_line (groups_row index no_input)
+zero_line (Input index) = row_line (input_row index (unread_input false))
+zero_line (Groups index) = row_line (groups_row index (unread_input false))
 zero_line Items = row_line (items_row 0 0 0)
-zero_line (Output index) = row_line (output_row index no_output)
+zero_line (Output index) = row_line (output_row index unreached_output)
 
 row_counts : (form : Form) (row : Row) → row.form ≡ form → IsRow row → IsCounts form (row_line row)
 unfolding row_line
@@ -121,13 +100,13 @@ row_counts form row same h =
 zero_counts : (form : Form) → IsCounts form (zero_line form)
 unfolding zero_line input_row groups_row items_row output_row
 zero_counts (Input index) =
-    row_counts (Input index) (input_row index no_input) refl (input_is index no_input no_input_below)
+    row_counts (Input index) _ refl (input_is index (unread_input false) no_input_below)
 zero_counts (Groups index) =
-    row_counts (Groups index) (groups_row index no_input) refl (groups_is index no_input no_input_below)
+    row_counts (Groups index) _ refl (groups_is index (unread_input false) no_input_below)
 zero_counts Items =
-    row_counts Items (items_row 0 0 0) refl (items_is 0 0 0 (omega arith) (omega arith) (omega arith))
+    row_counts Items _ refl (items_is 0 0 0 (omega arith) (omega arith) (omega arith))
 zero_counts (Output index) =
-    row_counts (Output index) (output_row index no_output) refl (output_is index no_output no_output_below)
+    row_counts (Output index) _ refl (output_is index unreached_output no_output_below)
 
 -- a line of zeros for each of these forms
 zero_lines : List Form → List ℕ

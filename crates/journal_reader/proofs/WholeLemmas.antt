@@ -1,7 +1,7 @@
 -- Each Route that was read has no whole exactly where its item was removed, and then no views.
-use Rattle.std.proofs.Common.{◌≡◌, ℕ, Bool, true, false, List, [], ◌∷◌, ◌++◌, Option, Some, None, refl, sym, ap, subst}
+use Rattle.std.proofs.Common.{◌≡◌, ℕ, List, [], ◌∷◌, ◌++◌, Option, Some, None, refl, subst}
 use Rattle.account.specs.declared.setup.AggLine.{AggLine}
-use Rattle.std.specs.Prelude.{◌↔◌, ◌&&◌, length, replicate, zero, suc, option_map, slice_get, codes}
+use Rattle.std.specs.Prelude.{◌&&◌, length, replicate, zero, suc, slice_get, codes}
 use Rattle.std.specs.Option.{option_to_list}
 use Rattle.std.specs.List.{AllByRecursion}
 use Rattle.std.specs.Str.{bytes_eq}
@@ -12,18 +12,17 @@ use Rattle.account.specs.declared.entry.Verdict.TheVariants.{Passes, Consumed, L
 use Rattle.account.specs.declared.entry.Report.{Report}
 use Rattle.account.specs.declared.entry.Entry.{Entry}
 use Rattle.account.specs.declared.entry.Entry.TheVariants.{Gather, Ended, Take, Route, Tick, Stop, Begin, Done}
-use Rattle.account.specs.Views.{HasViews}
 use Rattle.journal_text.specs.JournalText.{IsWholeOrRemoved}
 use Rattle.journal_reader.specs.declared.entry.Begun.{Begun}
 use Rattle.journal_reader.specs.declared.entry.Sizes.{Sizes}
 use Rattle.journal_reader.specs.declared.state.State.{State}
 use Rattle.journal_reader.specs.declared.state.Stage.{Stage}
 use Rattle.journal_reader.specs.declared.state.Stage.TheVariants.{Starting, Setting, Telling, Counting, Over}
-use Rattle.journal_reader.specs.Words.{◌>>=◌, first_of, where_true, Parts, taken, at_end, each, words_of}
-use Rattle.journal_reader.specs.Words.{is_none_left, number, small_number, signed_number, behind}
-use Rattle.journal_reader.specs.EntryReading.{alone, group_of, counts_of, gather_of, gather_in, ended_in, take_in}
+use Rattle.journal_reader.specs.Words.{◌>>=◌, Parts, taken, at_end, each, words_of}
+use Rattle.journal_reader.specs.Words.{is_none_left, number, small_number, signed_number, behind, either_of}
+use Rattle.journal_reader.specs.EntryReading.{alone, group_of, counts_of, gather_in, ended_in, take_in}
 use Rattle.journal_reader.specs.EntryReading.{made_in}
-use Rattle.journal_reader.specs.EntryReading.{tick_of, stop_of, begin_in, outcome_of, done_in, event_in, view_of}
+use Rattle.journal_reader.specs.EntryReading.{tick_of, stop_of, begin_in, done_in, event_in, view_of}
 use Rattle.journal_reader.specs.EntryReading.{verdict_of, agg_views, whole_in, removed_in, routed_in, route_in}
 use Rattle.journal_reader.specs.EntryReading.{entry_in}
 use Rattle.journal_reader.specs.EntryReading.{metric_in, report_in}
@@ -72,7 +71,8 @@ done_whole : (words : Parts) → Holds Whole (done_in words)
 unfolding done_in
 done_whole words =
     next_answer Whole (taken small_number words) _ (λ output e.
-    next_answer Whole (taken outcome_of output.1) _ (λ outcome e. end_holds Whole _ outcome.1 tt))
+    next_answer Whole (taken (either_of (codes "ok") (codes "failed")) output.1) _ (λ outcome e.
+    end_holds Whole _ outcome.1 tt))
 
 event_whole : (word : List ℕ) (words : Parts) → Holds Whole (event_in word words)
 unfolding event_in

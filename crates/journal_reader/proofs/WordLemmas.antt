@@ -14,7 +14,7 @@ use Rattle.fixed_num.specs.Decimal.{Decimal, decimal_of, billionths}
 use Rattle.fixed_num.specs.Range.{InRange}
 use Rattle.fixed_num.specs.Whole.{is_numeral, behind_sign, as_uint, numeral_read_as, uint_read_as, as_int, int_read_as}
 use Rattle.fixed_num.proofs.NumberTexts.{int_read, uint_read}
-use Rattle.journal_reader.specs.Words.{◌>>=◌, where_true, spelled_uint, spelled_int, number, small_number}
+use Rattle.journal_reader.specs.Words.{◌>>=◌, where_true, either_of, spelled, number, small_number}
 use Rattle.journal_reader.specs.Words.{signed_number}
 
 -- ---- what is there
@@ -115,6 +115,19 @@ fixed_fits text z e = fixed_fits_at (decimal_of text) z e
 
 -- ---- each number has one spelling
 
+record IsSpelled {A : Type 0} (spelling : A → List ℕ) (word : List ℕ) (read : Result A NumFault) (n : A)
+    : Type 0 where
+  is : word ≡ spelling n
+  was_read : read ≡ Ok n
+
+spelled_is : {A : Type 0} (spelling : A → List ℕ) (word : List ℕ) (read : Result A NumFault) (n : A)
+    → spelled spelling word read ≡ Some n → IsSpelled spelling word read n
+spelled_is spelling word (Err fault) n e = absurd cc
+spelled_is spelling word (Ok m) n e =
+    let parts = held (bytes_eq (spelling m) word) (Some m) n e in
+    let same : m ≡ n = same_some m n parts.1 in
+    record { is = sym (are_bytes (spelling m) word parts.0) ∙ ap spelling same; was_read = ap Ok same }
+
 pub number_read : (n : ℕ) → n < 2 ^ 64 → number (decimal n) ≡ Some n
 unfolding number
 number_read n h = rw (uint_read n h, same_bytes (decimal n)) refl
@@ -125,17 +138,9 @@ pub record IsNumber (word : List ℕ) (n : ℕ) : Type 0 where
 
 pub number_is : (word : List ℕ) (n : ℕ) → number word ≡ Some n → IsNumber word n
 unfolding number
-number_is word n = at (uint_read_as word) refl
-  where
-    at : (r : Result ℕ NumFault) → uint_read_as word ≡ r → spelled_uint word r ≡ Some n → IsNumber word n
-    at (Err fault) is e = absurd cc
-    at (Ok m) is e =
-        let parts = held (bytes_eq (decimal m) word) (Some m) n e in
-        let same : m ≡ n = same_some m n parts.1 in
-        record {
-          is = sym (are_bytes (decimal m) word parts.0) ∙ ap decimal same;
-          fits = subst (λ (k : ℕ). k < 2 ^ 64) same (uint_fits word m is);
-        }
+number_is word n e =
+    let s = spelled_is decimal word (uint_read_as word) n e in
+    record { is = s.is; fits = uint_fits word n s.was_read }
 
 pub small_read : (n : ℕ) → n < 2 ^ 32 → small_number (decimal n) ≡ Some n
 unfolding small_number
@@ -169,14 +174,23 @@ pub record IsSigned (word : List ℕ) (z : ℤ) : Type 0 where
 
 pub signed_is : (word : List ℕ) (z : ℤ) → signed_number word ≡ Some z → IsSigned word z
 unfolding signed_number
-signed_is word z = at (int_read_as word) refl
+signed_is word z e =
+    let s = spelled_is signed_decimal word (int_read_as word) z e in
+    record { is = s.is; fits = int_fits word z s.was_read }
+
+-- ---- one of two words
+
+abbrev pub either_text : List ℕ → List ℕ → Bool → List ℕ
+either_text first second true = first
+either_text first second false = second
+
+pub either_is : (first second word : List ℕ) (t : Bool) → either_of first second word ≡ Some t
+    → word ≡ either_text first second t
+unfolding either_of
+either_is first second word t = at (bytes_eq word first) refl (bytes_eq word second) refl
   where
-    at : (r : Result ℤ NumFault) → int_read_as word ≡ r → spelled_int word r ≡ Some z → IsSigned word z
-    at (Err fault) is e = absurd cc
-    at (Ok m) is e =
-        let parts = held (bytes_eq (signed_decimal m) word) (Some m) z e in
-        let same : m ≡ z = same_some m z parts.1 in
-        record {
-          is = sym (are_bytes (signed_decimal m) word parts.0) ∙ ap signed_decimal same;
-          fits = subst (FitsSigned w64) same (int_fits word m is);
-        }
+    at : (a : Bool) → bytes_eq word first ≡ a → (b : Bool) → bytes_eq word second ≡ b
+        → cond a (Some true) (cond b (Some false) None) ≡ Some t → word ≡ either_text first second t
+    at true is b other e = are_bytes word first is ∙ ap (either_text first second) (same_some true t e)
+    at false is true other e = are_bytes word second other ∙ ap (either_text first second) (same_some false t e)
+    at false is false other e = absurd cc

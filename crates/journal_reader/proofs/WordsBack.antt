@@ -1,5 +1,5 @@
 -- What stands in a line, by what it was read as.
-use Rattle.std.proofs.Common.{◌≡◌, ℕ, ℤ, ◌<◌, ◌^◌, true, List, [], ◌∷◌, Option, Some, refl, sym, ap, ◌∙◌}
+use Rattle.std.proofs.Common.{◌≡◌, ℕ, ℤ, ◌<◌, ◌^◌, Bool, true, List, [], ◌∷◌, Option, Some, refl, sym, ap, ◌∙◌}
 use Rattle.std.specs.Prelude.{FitsSigned}
 use Rattle.std.specs.Int.{w64}
 use Rattle.std.specs.Fmt.{decimal, signed_decimal}
@@ -8,9 +8,10 @@ use Rattle.std.specs.Str.{bytes_eq}
 use Rattle.text_parts.specs.Bytes.{space}
 use Rattle.text_parts.proofs.Splits.{split_are_joined}
 use Rattle.journal_reader.specs.Words.{Parts, taken, behind, is_none_left, at_end, number, small_number}
-use Rattle.journal_reader.specs.Words.{signed_number, words_of}
+use Rattle.journal_reader.specs.Words.{signed_number, either_of, words_of}
 use Rattle.journal_reader.specs.SetupReading.{numbered_in}
 use Rattle.journal_reader.proofs.WordLemmas.{bind_some, held, same_some, are_bytes, number_is, small_is, signed_is}
+use Rattle.journal_reader.proofs.WordLemmas.{either_text, either_is}
 use Rattle.journal_reader.proofs.Holding.{Holds, one_answer, where_answer}
 
 -- the same word before the same words
@@ -87,3 +88,9 @@ took_signed words x e =
     let t = taken_some signed_number words x e in
     let n = signed_is t.word x.0 t.said in
     (t.is ∙ same_first t.word (signed_decimal x.0) x.1 n.is, n.fits)
+
+pub took_either : (first second : List ℕ) (words : Parts) (x : Bool × Parts)
+    → taken (either_of first second) words ≡ Some x → words ≡ either_text first second x.0 ∷ x.1
+took_either first second words x e =
+    let t = taken_some (either_of first second) words x e in
+    t.is ∙ same_first t.word (either_text first second x.0) x.1 (either_is first second t.word x.0 t.said)

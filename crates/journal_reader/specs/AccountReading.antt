@@ -1,8 +1,7 @@
 -- The lines of an account, by their words.
-use Rattle.std.specs.Prelude.{ℕ, ◌+◌, ◌||◌, Bool, List, [], ◌∷◌, ◌++◌, codes, Option, Some, None}
-use Rattle.std.specs.Str.{bytes_eq}
+use Rattle.std.specs.Prelude.{ℕ, ◌+◌, List, [], ◌∷◌, ◌++◌, codes, Option, Some, None}
 use Rattle.journal_text.specs.declared.setup.JournalSetup.{JournalSetup}
-use Rattle.journal_reader.specs.Words.{◌>>=◌, where_true, Parts, taken, behind, at_end, number}
+use Rattle.journal_reader.specs.Words.{◌>>=◌, Parts, taken, behind, either_of, at_end, number}
 use Rattle.journal_reader.specs.SetupReading.{numbered_in}
 use Rattle.journal_reader.specs.declared.account_lines.Form.{Form}
 use Rattle.journal_reader.specs.declared.account_lines.Form.TheVariants.{Input, Groups, Items, Output}
@@ -35,30 +34,23 @@ abbrev pub output_labels : List (List ℕ)
 output_labels =
     codes "filtered" ∷ codes "late" ∷ codes "consumed" ∷ codes "written" ∷ codes "buffered" ∷ codes "dropped" ∷ []
 
--- the word says whether an input was read to its end
-abbrev pub is_ending : List ℕ → Bool
-is_ending word = bytes_eq word (codes "ended") || bytes_eq word (codes "unread")
-
--- the words behind the first one, where that says so
-unfoldable pub behind_ending : Parts → Option Parts
-behind_ending [] = None
-behind_ending (word ∷ words) = where_true (is_ending word) (Some words)
-
 abbrev pub Nothing : Type 0
 Nothing = Unit {0}
 
-unfoldable pub input_counts : ℕ → Parts → Option Nothing
-input_counts index words = do
-  words ← numbered_in (codes "input") index words
-  words ← behind_counts input_labels words
-  words ← behind_ending words
+-- the line of a name and a number that only counts: labels, each with such a number
+unfoldable pub line_counts : List ℕ → ℕ → List (List ℕ) → Parts → Option Nothing
+line_counts name index labels words = do
+  words ← numbered_in name index words
+  words ← behind_counts labels words
   at_end tt words
 
-unfoldable pub groups_counts : ℕ → Parts → Option Nothing
-groups_counts index words = do
-  words ← numbered_in (codes "groups") index words
-  words ← behind_counts groups_labels words
-  at_end tt words
+-- one that counts, and then says whether an input was read to its end
+unfoldable pub ended_counts : List ℕ → ℕ → List (List ℕ) → Parts → Option Nothing
+ended_counts name index labels words = do
+  words ← numbered_in name index words
+  words ← behind_counts labels words
+  ending ← taken (either_of (codes "ended") (codes "unread")) words
+  at_end tt ending.1
 
 unfoldable pub items_counts : Parts → Option Nothing
 items_counts words = do
@@ -66,18 +58,12 @@ items_counts words = do
   words ← behind_counts items_labels words
   at_end tt words
 
-unfoldable pub output_counts : ℕ → Parts → Option Nothing
-output_counts index words = do
-  words ← numbered_in (codes "output") index words
-  words ← behind_counts output_labels words
-  at_end tt words
-
 -- the words are a line of this form, with any numbers below 2^64
 abbrev pub counts_in : Form → Parts → Option Nothing
-counts_in (Input index) words = input_counts index words
-counts_in (Groups index) words = groups_counts index words
+counts_in (Input index) words = ended_counts (codes "input") index input_labels words
+counts_in (Groups index) words = line_counts (codes "groups") index groups_labels words
 counts_in Items words = items_counts words
-counts_in (Output index) words = output_counts index words
+counts_in (Output index) words = line_counts (codes "output") index output_labels words
 
 -- ---- which lines there are
 

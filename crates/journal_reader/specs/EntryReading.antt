@@ -1,5 +1,5 @@
 -- The lines of entries, by their words.
-use Rattle.std.specs.Prelude.{ℕ, ℤ, not, Bool, true, false, List, [], ◌∷◌, replicate, codes, slice_get}
+use Rattle.std.specs.Prelude.{ℕ, ℤ, not, Bool, List, [], ◌∷◌, replicate, codes, slice_get}
 use Rattle.std.specs.Prelude.{Option, Some, None, option_map, if◌then◌else◌}
 use Rattle.std.specs.Str.{bytes_eq}
 use Rattle.metric.specs.declared.metric.Content.{Content}
@@ -9,7 +9,7 @@ use Rattle.account.specs.declared.entry.Entry.{Entry}
 use Rattle.account.specs.declared.entry.Entry.TheVariants.{Gather, Ended, Take, Route, Tick, Stop, Begin, Done}
 use Rattle.journal_text.specs.JournalText.{are_equal}
 use Rattle.journal_reader.specs.Words.{◌>>=◌, where_true, Parts, taken, behind, at_end, each, number}
-use Rattle.journal_reader.specs.Words.{small_number, signed_number}
+use Rattle.journal_reader.specs.Words.{small_number, signed_number, either_of}
 use Rattle.journal_reader.specs.MetricReading.{metric_of}
 use Rattle.journal_reader.specs.declared.entry.Begun.{Begun}
 use Rattle.journal_reader.specs.declared.entry.Counts.{Counts}
@@ -80,18 +80,11 @@ begin_in words = do
   to ← taken number from.1
   at_end (alone (Begin output.0 from.0 to.0)) to.1
 
--- how a batch ended
-unfoldable pub outcome_of : List ℕ → Option Bool
-outcome_of word =
-    if bytes_eq word (codes "ok") then Some true
-    else if bytes_eq word (codes "failed") then Some false
-    else None
-
 -- `O ok` or `O failed`
 unfoldable pub done_in : Parts → Option Begun
 done_in words = do
   output ← taken small_number words
-  outcome ← taken outcome_of output.1
+  outcome ← taken (either_of (codes "ok") (codes "failed")) output.1
   at_end (alone (Done output.0 outcome.0 [])) outcome.1
 
 -- an entry that is no Route, by its first word and what stands behind it
@@ -182,17 +175,10 @@ metric_in words = do
   m ← taken metric_of words
   at_end m.0 m.1
 
--- whether a group was delivered
-unfoldable pub delivered_of : List ℕ → Option Bool
-delivered_of word =
-    if bytes_eq word (codes "delivered") then Some true
-    else if bytes_eq word (codes "rejected") then Some false
-    else None
-
 -- `report G delivered` or `report G rejected`
 unfoldable pub report_in : Parts → Option (ℕ × Bool)
 report_in words = do
   words ← behind (codes "report") words
   group ← taken number words
-  delivered ← taken delivered_of group.1
+  delivered ← taken (either_of (codes "delivered") (codes "rejected")) group.1
   at_end (group.0, delivered.0) delivered.1

@@ -66,21 +66,21 @@ value_of [] = None
 value_of (b ∷ rest) =
     if b == 115 then option_map value.Text (text_of rest) else plain_value_of (b ∷ rest)
 
--- a tag: a key and its value
-unfoldable pub tag_of : List ℕ → Option (List ℕ × List ℕ)
-tag_of written = do
+-- a key, and what stands behind its equals sign
+unfoldable pub pair_of : {A : Type 0} → (List ℕ → Option A) → List ℕ → Option (List ℕ × A)
+pair_of says written = do
   parts ← cut equals_sign written
   key ← text_of parts.0
-  text ← text_of parts.1
-  Some (key, text)
+  said ← says parts.1
+  Some (key, said)
+
+-- a tag: a key and its value
+unfoldable pub tag_of : List ℕ → Option (List ℕ × List ℕ)
+tag_of written = pair_of text_of written
 
 -- a field: a key and its value
 unfoldable pub field_of : List ℕ → Option (List ℕ × Value)
-field_of written = do
-  parts ← cut equals_sign written
-  key ← text_of parts.0
-  said ← value_of parts.1
-  Some (key, said)
+field_of written = pair_of value_of written
 
 -- a name with tags behind it
 unfoldable pub series_of : Parts → Option (List ℕ × List (List ℕ × List ℕ))

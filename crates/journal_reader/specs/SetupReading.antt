@@ -8,7 +8,7 @@ use Rattle.account.specs.declared.setup.AggWord.{AggWord}
 use Rattle.account.specs.declared.setup.AggWord.TheVariants.{MinMax, Basic, Merge, Final}
 use Rattle.account.specs.declared.setup.AggLine.{AggLine}
 use Rattle.journal_reader.specs.Words.{◌>>=◌, where_true, Parts, taken, behind, at_end, small_number, signed_number}
-use Rattle.journal_reader.specs.Words.{cut}
+use Rattle.journal_reader.specs.Words.{cut, either_of}
 
 -- `start MOMENT`
 unfoldable pub start_in : Parts → Option ℤ
@@ -78,20 +78,13 @@ kind_of word =
     else if bytes_eq word (codes "merge") then Some Merge
     else kind_cut (cut colon word)
 
--- whether it drops the metrics that it takes
-unfoldable pub dropping_of : List ℕ → Option Bool
-dropping_of word =
-    if bytes_eq word (codes "drop") then Some true
-    else if bytes_eq word (codes "keep") then Some false
-    else None
-
 -- `PERIOD DELAY GRACE keep` or `drop`
 unfoldable pub times_in : AggWord → Parts → Option AggLine
 times_in kind words = do
   period ← taken signed_number words
   delay ← taken signed_number period.1
   grace ← taken signed_number delay.1
-  dropping ← taken dropping_of grace.1
+  dropping ← taken (either_of (codes "drop") (codes "keep")) grace.1
   at_end (record {
     kind = kind;
     period = period.0;

@@ -11,7 +11,7 @@ use Rattle.account.specs.declared.entry.Verdict.{Verdict}
 use Rattle.account.specs.declared.entry.Verdict.TheVariants.{Removed}
 use Rattle.account.specs.declared.entry.Report.{Report}
 use Rattle.account.specs.declared.entry.Entry.{Entry}
-use Rattle.account.specs.declared.entry.Entry.TheVariants.{Gather, Ended, Take, Route, Tick, Stop, Begin, Done}
+use Rattle.account.specs.declared.entry.Entry.TheVariants.{Ended, Take, Route, Tick, Stop, Begin, Done}
 use Rattle.account.specs.declared.numbers.InputNumbers.{InputNumbers}
 use Rattle.account.specs.declared.setup.AggWord.{AggWord}
 use Rattle.account.specs.declared.setup.AggWord.TheVariants.{MinMax, Basic, Merge, Final}
@@ -70,6 +70,11 @@ pub record FitsGather (says : GatherSays) : Type 0 where
   pub metrics : FitMetrics says.metrics
   pub group : FitsGroup says.group
 
+-- what an entry says where it is a Gather
+abbrev pub FitsGathered : Option GatherSays → Type 0
+FitsGathered None = Unit {0}
+FitsGathered (Some says) = FitsGather says
+
 abbrev pub FitsView : Option Content → Type 0
 FitsView None = Unit {0}
 FitsView (Some view) = IsMetric view
@@ -85,17 +90,6 @@ FitsRoute setup (Some whole) verdict aggs outs =
 
 -- numbers fit, metrics are metrics, and a Route is one of this set-up
 abbrev pub FitsEntry : JournalSetup → Entry → Type 0
-FitsEntry setup (Gather input moment pieces refused passed filtered metrics group reports) = FitsGather (record {
-  input = input;
-  moment = moment;
-  pieces = pieces;
-  refused = refused;
-  passed = passed;
-  filtered = filtered;
-  metrics = metrics;
-  group = group;
-  reports = reports;
-})
 FitsEntry setup (Ended input) = input < 2 ^ 32
 FitsEntry setup (Take item) = item < 2 ^ 64
 FitsEntry setup (Route item whole verdict aggs outs reports) =
@@ -104,6 +98,7 @@ FitsEntry setup (Tick moment made) = FitsSigned w64 moment × FitMetrics made
 FitsEntry setup (Stop moment made) = FitsSigned w64 moment × FitMetrics made
 FitsEntry setup (Begin output from to) = (output < 2 ^ 32) × (from < 2 ^ 64) × (to < 2 ^ 64)
 FitsEntry setup (Done output ok reports) = output < 2 ^ 32
+FitsEntry setup e = FitsGathered (gather_of e)
 
 -- ---- reports
 

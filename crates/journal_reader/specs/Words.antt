@@ -44,6 +44,13 @@ unfoldable pub behind : List ℕ → Parts → Option Parts
 behind text [] = None
 behind text (word ∷ words) = where_true (bytes_eq word text) (Some words)
 
+-- whether a word is the first of two texts, where it is one of them
+unfoldable pub either_of : List ℕ → List ℕ → List ℕ → Option Bool
+either_of first second word =
+    if bytes_eq word first then Some true
+    else if bytes_eq word second then Some false
+    else None
+
 abbrev pub is_none_left : Parts → Bool
 is_none_left [] = true
 is_none_left (word ∷ words) = false
@@ -70,17 +77,14 @@ cut byte text = none_behind (first_part byte text).0 (first_part byte text).1
 
 -- ---- numbers, each in its one spelling
 
-abbrev pub spelled_uint : List ℕ → Result ℕ NumFault → Option ℕ
-spelled_uint word (Ok n) = where_true (bytes_eq (decimal n) word) (Some n)
-spelled_uint word (Err fault) = None
-
-abbrev pub spelled_int : List ℕ → Result ℤ NumFault → Option ℤ
-spelled_int word (Ok n) = where_true (bytes_eq (signed_decimal n) word) (Some n)
-spelled_int word (Err fault) = None
+-- the number that was read of a word, where the word is its spelling
+abbrev pub spelled : {A : Type 0} → (A → List ℕ) → List ℕ → Result A NumFault → Option A
+spelled spelling word (Ok n) = where_true (bytes_eq (spelling n) word) (Some n)
+spelled spelling word (Err fault) = None
 
 -- the number below 2^64 whose decimal the word is
 unfoldable pub number : List ℕ → Option ℕ
-number word = spelled_uint word (uint_read_as word)
+number word = spelled decimal word (uint_read_as word)
 
 -- the number below 2^32 whose decimal the word is
 unfoldable pub small_number : List ℕ → Option ℕ
@@ -90,7 +94,7 @@ small_number word = do
 
 -- the number from -2^63 on and below 2^63 whose decimal the word is
 unfoldable pub signed_number : List ℕ → Option ℤ
-signed_number word = spelled_int word (int_read_as word)
+signed_number word = spelled signed_decimal word (int_read_as word)
 
 -- the parts of what is left of a text; where nothing is left there are none
 abbrev pub parts_left : ℕ → Option (List ℕ) → Parts

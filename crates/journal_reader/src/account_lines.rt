@@ -2,13 +2,12 @@
 ghost use Rattle.std.specs.Prelude.{◌≡◌, ◌++◌, ◌∷◌, ℕ, List, option_map, map, is_some, Some, None, OnOk, IfOk};
 ghost use Rattle.std.specs.Prelude.{if◌then◌else◌};
 ghost use Rattle.journal_reader.specs.Words.{taken};
-ghost use Rattle.journal_reader.specs.AccountReading.{behind_count, behind_counts, input_counts, groups_counts};
-ghost use Rattle.journal_reader.specs.AccountReading.{items_counts};
-ghost use Rattle.journal_reader.specs.AccountReading.{output_counts, is_ending, behind_ending, counts_in};
+ghost use Rattle.journal_reader.specs.AccountReading.{behind_count, behind_counts, line_counts, ended_counts};
+ghost use Rattle.journal_reader.specs.AccountReading.{items_counts, counts_in};
 ghost use Rattle.journal_reader.specs.AccountReading.{input_forms, groups_forms, output_forms, forms_of, end_in};
 
 use crate::setup::take_numbered;
-use crate::words::{Words, is, is_end, take_number, take_word};
+use crate::words::{Words, is_end, take_either, take_number, take_word};
 use fixed_num::{OutOfMemory, Seq};
 use journal_text::JournalSetup;
 use std::alloc::Global;
@@ -67,50 +66,32 @@ fn take_counts(words: &mut Words<'_>, labels: &[&str]) -> bool
     true
 }
 
-/// Whether a word is `ended` or `unread`.
-fn is_ending(word: &[u8]) -> bool
-    ensures { result ≡ is_ending word.now }
+/// Whether the words are a name and a number, labels, each with a number, and `ended` or `unread`.
+#[tactic(auto, unfolding(crate::specs::AccountReading::ended_counts))]
+fn are_ended_counts(name: &str, index: u64, labels: &[&str], words: &mut Words<'_>) -> bool
+    ensures { result ≡ is_some (ended_counts name.now index (map (λ label. label.now) labels.now) words.old) }
 {
-    is(word, "ended") || is(word, "unread")
-}
-
-/// Takes the first word, and says whether it is `ended` or `unread`.
-#[tactic(auto, unfolding(crate::specs::AccountReading::behind_ending))]
-fn take_ending(words: &mut Words<'_>) -> bool
-    ensures { behind_ending words.old ≡ (if result then Some words.new else None) }
-{
-    match words.next() {
-        Some(word) => is_ending(word),
-        None => false,
-    }
-}
-
-/// Whether the words are the line of an input.
-#[tactic(auto, unfolding(crate::specs::AccountReading::input_counts))]
-fn is_input(index: u64, words: &mut Words<'_>) -> bool
-    ensures { result ≡ is_some (input_counts index words.old) }
-{
-    if !take_numbered(words, "input", index) {
+    if !take_numbered(words, name, index) {
         return false;
     }
-    if !take_counts(words, &INPUT_LABELS) {
+    if !take_counts(words, labels) {
         return false;
     }
-    if !take_ending(words) {
+    if take_either(words, "ended", "unread").is_none() {
         return false;
     }
     is_end(words)
 }
 
-/// Whether the words are the line of an input's groups.
-#[tactic(auto, unfolding(crate::specs::AccountReading::groups_counts))]
-fn is_groups(index: u64, words: &mut Words<'_>) -> bool
-    ensures { result ≡ is_some (groups_counts index words.old) }
+/// Whether the words are a name and a number, and labels, each with a number.
+#[tactic(auto, unfolding(crate::specs::AccountReading::line_counts))]
+fn are_counts(name: &str, index: u64, labels: &[&str], words: &mut Words<'_>) -> bool
+    ensures { result ≡ is_some (line_counts name.now index (map (λ label. label.now) labels.now) words.old) }
 {
-    if !take_numbered(words, "groups", index) {
+    if !take_numbered(words, name, index) {
         return false;
     }
-    if !take_counts(words, &GROUPS_LABELS) {
+    if !take_counts(words, labels) {
         return false;
     }
     is_end(words)
@@ -130,29 +111,15 @@ fn is_items(words: &mut Words<'_>) -> bool
     is_end(words)
 }
 
-/// Whether the words are the line of an output.
-#[tactic(auto, unfolding(crate::specs::AccountReading::output_counts))]
-fn is_output(index: u64, words: &mut Words<'_>) -> bool
-    ensures { result ≡ is_some (output_counts index words.old) }
-{
-    if !take_numbered(words, "output", index) {
-        return false;
-    }
-    if !take_counts(words, &OUTPUT_LABELS) {
-        return false;
-    }
-    is_end(words)
-}
-
 /// Whether the words are a line of a form, with any numbers.
 pub(crate) fn is_of(form: &Form, words: &mut Words<'_>) -> bool
     ensures { result ≡ is_some (counts_in form.now words.old) }
 {
     match form {
-        Form::Input(index) => is_input(*index, words),
-        Form::Groups(index) => is_groups(*index, words),
+        Form::Input(index) => are_ended_counts("input", *index, &INPUT_LABELS, words),
+        Form::Groups(index) => are_counts("groups", *index, &GROUPS_LABELS, words),
         Form::Items => is_items(words),
-        Form::Output(index) => is_output(*index, words),
+        Form::Output(index) => are_counts("output", *index, &OUTPUT_LABELS, words),
     }
 }
 

@@ -2,11 +2,12 @@
 ghost use Rattle.std.specs.Prelude.{◌≡◌, ℤ, ℕ, option_map, Some, None, [], IfOk, if◌then◌else◌};
 ghost use Rattle.journal_reader.specs.Words.{taken};
 ghost use Rattle.journal_reader.specs.EntryReading.{alone, group_of, gather_in, counts_of, ended_in, take_in, made_in};
-ghost use Rattle.journal_reader.specs.EntryReading.{tick_of, stop_of, begin_in, outcome_of, done_in, event_in};
-ghost use Rattle.journal_reader.specs.EntryReading.{delivered_of, report_in};
+ghost use Rattle.journal_reader.specs.EntryReading.{tick_of, stop_of, begin_in, done_in, event_in, report_in};
 ghost use Rattle.account.specs.declared.entry.Entry.TheVariants as entries;
 
-use crate::words::{Words, is, is_end, number, take_number, take_signed, take_small, take_word};
+use crate::words::{
+    Words, is, is_end, number, take_either, take_number, take_signed, take_small, take_word,
+};
 use account::Entry;
 use fixed_num::{Moment, Seq};
 use std::alloc::Global;
@@ -65,10 +66,7 @@ fn group_of(word: &[u8]) -> Option<Option<u64>>
 fn take_group(words: &mut Words<'_>) -> Option<Option<u64>>
     ensures { taken group_of words.old ≡ option_map (λ group. (group, words.new)) result }
 {
-    match words.next() {
-        Some(word) => group_of(word),
-        None => None,
-    }
+    group_of(words.next()?)
 }
 
 /// Takes what the line of a Gather counts.
@@ -191,37 +189,13 @@ fn begin_in(words: &mut Words<'_>) -> Option<Begun>
     Some(alone(Entry::Begin { output, from, to }))
 }
 
-/// How a batch ended.
-#[tactic(auto, unfolding(crate::specs::EntryReading::outcome_of))]
-fn outcome_of(word: &[u8]) -> Option<bool>
-    ensures { result ≡ outcome_of word.now }
-{
-    if is(word, "ok") {
-        return Some(true);
-    }
-    if is(word, "failed") {
-        return Some(false);
-    }
-    None
-}
-
-/// Takes the first word, and says how a batch ended.
-fn take_outcome(words: &mut Words<'_>) -> Option<bool>
-    ensures { taken outcome_of words.old ≡ option_map (λ ok. (ok, words.new)) result }
-{
-    match words.next() {
-        Some(word) => outcome_of(word),
-        None => None,
-    }
-}
-
 /// `O ok` or `O failed`.
 #[tactic(auto, unfolding(crate::specs::EntryReading::done_in))]
 fn done_in(alloc: Global, words: &mut Words<'_>) -> Option<Begun>
     ensures { result ≡ done_in words.old }
 {
     let output = take_small(words)?;
-    let ok = take_outcome(words)?;
+    let ok = take_either(words, "ok", "failed")?;
     if !is_end(words) {
         return None;
     }
@@ -262,30 +236,6 @@ pub(crate) fn event_in(alloc: Global, word: &[u8], words: &mut Words<'_>) -> Opt
     None
 }
 
-/// Whether a group was delivered.
-#[tactic(auto, unfolding(crate::specs::EntryReading::delivered_of))]
-fn delivered_of(word: &[u8]) -> Option<bool>
-    ensures { result ≡ delivered_of word.now }
-{
-    if is(word, "delivered") {
-        return Some(true);
-    }
-    if is(word, "rejected") {
-        return Some(false);
-    }
-    None
-}
-
-/// Takes the first word, and says whether a group was delivered.
-fn take_delivered(words: &mut Words<'_>) -> Option<bool>
-    ensures { taken delivered_of words.old ≡ option_map (λ delivered. (delivered, words.new)) result }
-{
-    match words.next() {
-        Some(word) => delivered_of(word),
-        None => None,
-    }
-}
-
 /// `report G delivered` or `report G rejected`.
 #[tactic(auto, unfolding(crate::specs::EntryReading::report_in))]
 pub(crate) fn report_in(words: &mut Words<'_>) -> Option<(u64, bool)>
@@ -295,7 +245,7 @@ pub(crate) fn report_in(words: &mut Words<'_>) -> Option<(u64, bool)>
         return None;
     }
     let group = take_number(words)?;
-    let delivered = take_delivered(words)?;
+    let delivered = take_either(words, "delivered", "rejected")?;
     if is_end(words) {
         Some((group, delivered))
     } else {

@@ -111,7 +111,7 @@ fn value_of(alloc: Global, written: &[u8]) -> Result<Option<Value>, OutOfMemory>
 }
 
 /// A tag: a key and its value.
-#[tactic(auto, unfolding(crate::specs::MetricReading::tag_of))]
+#[tactic(auto, unfolding(crate::specs::MetricReading::tag_of, crate::specs::MetricReading::pair_of))]
 fn tag_of(alloc: Global, written: &[u8]) -> Result<Option<(Text, Text)>, OutOfMemory>
     ensures { IfOk result (λ tag. tag ≡ tag_of written.now) }
 {
@@ -128,7 +128,7 @@ fn tag_of(alloc: Global, written: &[u8]) -> Result<Option<(Text, Text)>, OutOfMe
 }
 
 /// A field: a key and its value.
-#[tactic(auto, unfolding(crate::specs::MetricReading::field_of))]
+#[tactic(auto, unfolding(crate::specs::MetricReading::field_of, crate::specs::MetricReading::pair_of))]
 fn field_of(alloc: Global, written: &[u8]) -> Result<Option<(Text, Value)>, OutOfMemory>
     ensures { IfOk result (λ field. field ≡ field_of written.now) }
 {

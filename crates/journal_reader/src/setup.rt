@@ -2,12 +2,12 @@
 ghost use Rattle.std.specs.Prelude.{◌≡◌, option_map, Some, None, if◌then◌else◌};
 ghost use Rattle.journal_reader.specs.Words.{taken, words_of};
 ghost use Rattle.journal_reader.specs.SetupReading.{start_in, numbered_in, tracking_in, tracking_behind, input_in};
-ghost use Rattle.journal_reader.specs.SetupReading.{letter_of, statistics_of, kind_behind, kind_of, dropping_of};
+ghost use Rattle.journal_reader.specs.SetupReading.{letter_of, statistics_of, kind_behind, kind_of};
 ghost use Rattle.journal_reader.specs.SetupReading.{times_in, agg_in, output_in};
 
 use crate::parts::{Parts, cut};
 use crate::words::{
-    Words, is, is_end, signed_number, take_decimal, take_signed, take_small, take_word,
+    Words, is, is_end, signed_number, take_decimal, take_either, take_signed, take_small, take_word,
 };
 use account::{AggLine, AggWord};
 use fixed_num::Moment;
@@ -47,10 +47,8 @@ pub(crate) fn take_numbered(words: &mut Words<'_>, word: &str, index: u64) -> bo
 fn tracking_in(words: &mut Words<'_>) -> Option<Option<u32>>
     ensures { result ≡ tracking_in words.old }
 {
-    match words.next() {
-        None => None,
-        Some(word) => tracking_behind(word, words),
-    }
+    let word = words.next()?;
+    tracking_behind(word, words)
 }
 
 #[tactic(auto, unfolding(crate::specs::SetupReading::tracking_behind))]
@@ -145,38 +143,11 @@ fn kind_behind(kind: &[u8], rest: &[u8]) -> Option<AggWord>
     None
 }
 
-/// Whether an aggregator drops the metrics that it takes.
-#[tactic(auto, unfolding(crate::specs::SetupReading::dropping_of))]
-fn dropping_of(word: &[u8]) -> Option<bool>
-    ensures { result ≡ dropping_of word.now }
-{
-    if is(word, "drop") {
-        return Some(true);
-    }
-    if is(word, "keep") {
-        return Some(false);
-    }
-    None
-}
-
 /// Takes the first word, and gives the kind of an aggregator that it is.
 fn take_kind(words: &mut Words<'_>) -> Option<AggWord>
     ensures { taken kind_of words.old ≡ option_map (λ kind. (kind, words.new)) result }
 {
-    match words.next() {
-        Some(word) => kind_of(word),
-        None => None,
-    }
-}
-
-/// Takes the first word, and says whether an aggregator drops the metrics that it takes.
-fn take_dropping(words: &mut Words<'_>) -> Option<bool>
-    ensures { taken dropping_of words.old ≡ option_map (λ dropping. (dropping, words.new)) result }
-{
-    match words.next() {
-        Some(word) => dropping_of(word),
-        None => None,
-    }
+    kind_of(words.next()?)
 }
 
 /// What stands behind the number of an aggregator.
@@ -187,7 +158,7 @@ fn times_in(kind: AggWord, words: &mut Words<'_>) -> Option<AggLine>
     let period = take_signed(words)?;
     let delay = take_signed(words)?;
     let grace = take_signed(words)?;
-    let dropping = take_dropping(words)?;
+    let dropping = take_either(words, "drop", "keep")?;
     if !is_end(words) {
         return None;
     }

@@ -100,10 +100,7 @@ fn verdict_of(word: &[u8]) -> Option<Verdict>
 fn take_verdict(words: &mut Words<'_>) -> Option<Verdict>
     ensures { taken verdict_of words.old ≡ option_map (λ verdict. (verdict, words.new)) result }
 {
-    match words.next() {
-        Some(word) => verdict_of(word),
-        None => None,
-    }
+    verdict_of(words.next()?)
 }
 
 /// Takes the views before `/`, and that.

@@ -2,7 +2,7 @@
 ghost use Rattle.std.specs.Prelude.{◌≡◌, decimal, option_map, Some, None, if◌then◌else◌};
 ghost use Rattle.std.specs.Str.{bytes_eq};
 ghost use Rattle.journal_reader.specs.Words.{taken, behind, is_none_left, number, small_number};
-ghost use Rattle.journal_reader.specs.Words.{signed_number};
+ghost use Rattle.journal_reader.specs.Words.{signed_number, either_of};
 
 use crate::parts::Parts;
 use fixed_num::{read_int, read_uint};
@@ -89,10 +89,7 @@ pub(crate) fn take_decimal(words: &mut Words<'_>, n: u64) -> bool
 pub(crate) fn take_number(words: &mut Words<'_>) -> Option<u64>
     ensures { taken number words.old ≡ option_map (λ n. (n, words.new)) result }
 {
-    match words.next() {
-        Some(word) => number(word),
-        None => None,
-    }
+    number(words.next()?)
 }
 
 /// Takes the first word, and gives the number below 2^32 that it is.
@@ -100,10 +97,7 @@ pub(crate) fn take_number(words: &mut Words<'_>) -> Option<u64>
 pub(crate) fn take_small(words: &mut Words<'_>) -> Option<u32>
     ensures { taken small_number words.old ≡ option_map (λ n. (n, words.new)) result }
 {
-    match words.next() {
-        Some(word) => small_number(word),
-        None => None,
-    }
+    small_number(words.next()?)
 }
 
 /// Takes the first word, and gives the number that it is, which may be negative.
@@ -111,10 +105,28 @@ pub(crate) fn take_small(words: &mut Words<'_>) -> Option<u32>
 pub(crate) fn take_signed(words: &mut Words<'_>) -> Option<i64>
     ensures { taken signed_number words.old ≡ option_map (λ n. (n, words.new)) result }
 {
-    match words.next() {
-        Some(word) => signed_number(word),
-        None => None,
+    signed_number(words.next()?)
+}
+
+/// Whether a word is the first of two texts, where it is one of them.
+#[tactic(auto, unfolding(crate::specs::Words::either_of))]
+fn either_of(word: &[u8], first: &str, second: &str) -> Option<bool>
+    ensures { result ≡ either_of first.now second.now word.now }
+{
+    if is(word, first) {
+        return Some(true);
     }
+    if is(word, second) {
+        return Some(false);
+    }
+    None
+}
+
+/// Takes the first word, and says whether it is the first of two texts, where it is one of them.
+pub(crate) fn take_either(words: &mut Words<'_>, first: &str, second: &str) -> Option<bool>
+    ensures { taken (either_of first.now second.now) words.old ≡ option_map (λ t. (t, words.new)) result }
+{
+    either_of(words.next()?, first, second)
 }
 
 /// Whether no word is left.

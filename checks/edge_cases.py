@@ -1,5 +1,5 @@
 """Runs the program in a temporary folder of files, links and devices, and compares what it left: pipes here,
-configurations by edge_configurations.py, what a case is by edge_kit.py.
+configurations by edge_configurations.py, servers by edge_servers.py, what a case is by edge_kit.py.
 """
 
 import os
@@ -49,6 +49,7 @@ from edge_kit import (
     unopened,
     wait_for_input,
 )
+from edge_servers import SERVERS, SERVERS_RUNS
 
 WHOLE = {"out": LINES, "agent.journal": JOURNAL}
 OLD_OUT = {"in": LINES, "out": OLD}
@@ -521,8 +522,8 @@ RUNS = [
 
 def main(program):
     """Runs each case in a folder of its own, and prints a line for each and one for all."""
-    runs = [(case.name, partial(run_case, case)) for case in CASES + CHECKS + FAULTS + CONFIGURED + HANDS]
-    runs += CONFIGURED_RUNS + RUNS + HANDS_RUNS + BUILD_RUNS
+    runs = [(case.name, partial(run_case, case)) for case in CASES + CHECKS + FAULTS + CONFIGURED + HANDS + SERVERS]
+    runs += CONFIGURED_RUNS + RUNS + HANDS_RUNS + SERVERS_RUNS + BUILD_RUNS
     failed = 0
     for name, run in runs:
         with tempfile.TemporaryDirectory() as folder:

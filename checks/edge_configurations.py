@@ -1,7 +1,6 @@
 """Cases of edge_cases.py in which a configuration is checked, or run, over real files, links and devices."""
 
 import os
-import re
 import shutil
 import subprocess
 
@@ -25,6 +24,7 @@ from edge_kit import (
     differences,
     open_fault,
     refused,
+    without_times,
 )
 
 SOUND = b"[[inputs.file]]\nfiles = [\"a\"]\n[[outputs.file]]\nfiles = [\"b\"]\n"
@@ -494,7 +494,7 @@ def formats_of_the_page(folder, program):
     written = {}
     for name in FORMATS_WRITTEN:
         with open(os.path.join(folder, name), "rb") as file:
-            written[name] = re.sub(rb"\b1[1-9][0-9]{8}(\.[0-9]+|[0-9]{9})?$", b"NOW", file.read(), flags=re.M)
+            written[name] = without_times(file.read())
     return differences(
         ("status", ran.returncode, 0),
         ("standard output", ran.stdout, FORMATS_ACCOUNT),

@@ -10,7 +10,7 @@ INPUT = '[[inputs.file]]\nfiles = ["a"]\n'
 OUTPUT = '[[outputs.file]]\nfiles = ["b"]\n'
 BOTH = INPUT + OUTPUT
 PAGE = os.path.join(os.path.dirname(os.path.realpath(__file__)), "..", "docs", "users", "from-telegraf.md")
-NO_INPUT = "there are no such inputs; there is `file`"
+NO_INPUT = "there are no such inputs; there are `file` and `statsd`"
 NO_OUTPUT = "there are no such outputs; there is `file`"
 SIZE = "takes a whole number, 1 to 10000, without quotes"
 READ_FORMATS = 'takes "influx", "statsd", "graphite" or "openmetrics" (Telegraf\'s prometheus)'
@@ -37,7 +37,16 @@ FRAGMENTS = [
     said("inputs.tail", BOTH + '[[inputs.tail]]\n  files = ["/var/mymetrics.out"]\n  from_beginning = false\n  pipe = false\n'
          '  data_format = "influx"\n', "UnknownKind inputs 1", f"[[inputs.tail]]: {NO_INPUT}"),
     said("inputs.statsd", BOTH + '[[inputs.statsd]]\n  protocol = "udp"\n  service_address = ":8125"\n  delete_gauges = true\n',
-         "UnknownKind inputs 1", f"[[inputs.statsd]]: {NO_INPUT}"),
+         "UnknownKey inputs 1", "[[inputs.statsd]]: delete_gauges: there is no such key", "[[inputs.statsd]]: protocol: there is no "
+         "such key"),
+    said("inputs.statsd without an address", BOTH + "[[inputs.statsd]]\n  packets = 100001\n", "OutOfRange inputs 1",
+         "[[inputs.statsd]]: packets: takes a whole number, 1 to 100000, without quotes",
+         "[[inputs.statsd]]: service_address: is missing, and takes a text that isn't empty"),
+    said("two servers at one address", OUTPUT + 2 * '[[inputs.statsd]]\n  service_address = ":8125"\n', "SamePlace inputs 1",
+         "[[inputs.statsd]], the 2nd of 2: service_address: [[inputs.statsd]], the 1st of 2, has this place already"),
+    said("a file at the place of a server", OUTPUT + '[[inputs.statsd]]\n  service_address = ":8125"\n[[inputs.file]]\n'
+         '  files = ["udp :8125 1000 100"]\n', "SamePlace inputs 1",
+         "[[inputs.statsd]]: service_address: [[inputs.file]], has this place already"),
     said("inputs.socket_listener", BOTH + '[[inputs.socket_listener]]\n  service_address = "tcp://:8094"\n',
          "UnknownKind inputs 1", f"[[inputs.socket_listener]]: {NO_INPUT}"),
     said("inputs.http_listener_v2", BOTH + '[[inputs.http_listener_v2]]\n  service_address = ":8080"\n  paths = ["/telegraf"]\n'

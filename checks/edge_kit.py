@@ -91,6 +91,17 @@ class Holding:
         return self.part in text
 
 
+@dataclass(frozen=True)
+class Unopened:
+    """The line on standard error of a start that is refused for a reason that the system says in its own words."""
+
+    place: str
+
+    def __eq__(self, text):
+        reason = b"(?!; no line)[^\n]+"
+        return re.fullmatch(re.escape(unopened(self.place, b"WHY")).replace(b"WHY", reason), text) is not None
+
+
 @dataclass
 class Case:
     """A shell line, what lies in its folder before, and what is expected of it."""
@@ -139,6 +150,11 @@ def lay(folder, files):
 def without_moments(text):
     """A text in which the moments of a journal count as 0."""
     return re.sub(rb"^(start|stop|gather \d+) \d+", rb"\1 0", text, flags=re.M)
+
+
+def without_times(text):
+    """A text in which NOW stands for the time of a run at the end of a line, in seconds or nanoseconds since 1970."""
+    return re.sub(rb"\b1[1-9][0-9]{8}(\.[0-9]+|[0-9]{9})?$", b"NOW", text, flags=re.M)
 
 
 def found_in(folder):

@@ -31,7 +31,9 @@ FORMATS = ['"influx"', '"influx"', '"graphite"', '"openmetrics"', '"statsd"', '"
 TEMPLATES = ["1"] + [json.dumps(it.decode(), ensure_ascii=False) for it in format_graphite.TEMPLATES]
 GOOD_TEMPLATES = [json.dumps(it.decode(), ensure_ascii=False) for it in format_graphite.TEMPLATES
                   if format_graphite.is_template(it)]
-PLACES = ['"a"', '"b"', '"c"', '"agent.journal"', '""', "1", '"stdin"']
+PLACES = ['"a"', '"b"', '"c"', '"agent.journal"', '""', "1", '"stdin"', '"udp a 1000 100"']
+PACKETS = ["1000", "1", "100000", "100001", "0", "-1", "1.0", '"1"', "true"]
+QUIETS = ["100", "1", "1000000", "1000001", "0", "-1", "1.0", '"1"', "true"]
 
 
 def a_list(chance, of):
@@ -70,8 +72,25 @@ def key_of_input(chance):
     return chance.choice(("type_tag", "pass_out_of_range")), chance.choice(["true", "false", "true", "false", '"true"'])
 
 
+def server(chance):
+    """The lines of an input that is a server."""
+    keys = {}
+    if chance.random() < 0.97:
+        keys["service_address"] = chance.choice(PLACES[:2] if chance.random() < 0.9 else PLACES)
+    for key, values in (("packets", PACKETS), ("quiet_limit", QUIETS)):
+        if chance.random() < 0.3:
+            keys[key] = chance.choice(values[:3] if chance.random() < 0.8 else values)
+    if chance.random() < 0.3:
+        key, value = key_of(chance, False)
+        keys[key] = value
+    head = "[[inputs.statsd]]" if chance.random() < 0.9 else "[inputs.statsd]"
+    return [head] + ["%s = %s" % it for it in keys.items()]
+
+
 def plugin(chance, word):
     """The lines of a plugin."""
+    if word == "inputs" and chance.random() < 0.2:
+        return server(chance)
     kind = chance.choices(["file", "files", "cpu"], [30, 1, 1])[0]
     head = "[[%s.%s]]" % (word, kind) if chance.random() < 0.9 else "[%s.%s]" % (word, kind)
     keys = {}

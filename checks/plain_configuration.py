@@ -233,14 +233,18 @@ PLUGIN = {
     "tagpass": tag_globs,
     "tagdrop": tag_globs,
 } | {key: globs for key in LISTS}
-INPUT = PLUGIN | {
+TRACKING = {"tracked": truth, "max_undelivered_messages": count(100_000)}
+INPUT = PLUGIN | TRACKING | {
     "data_format": format_name(IN_FORMATS),
     "templates": templates,
     "separator": any_text,
     "type_tag": truth,
     "pass_out_of_range": truth,
-    "tracked": truth,
-    "max_undelivered_messages": count(100_000),
+}
+SERVER = {key: fault for key, fault in PLUGIN.items() if key != "files"} | TRACKING | {
+    "service_address": place,
+    "packets": count(100_000),
+    "quiet_limit": count(1_000_000),
 }
 OUTPUT = PLUGIN | {
     "data_format": format_name(OUT_FORMATS),
@@ -285,11 +289,12 @@ AGGREGATORS = {
     "minmax": AGGREGATOR,
 }
 KINDS = {
-    "inputs": {"file": INPUT},
+    "inputs": {"file": INPUT, "statsd": SERVER},
     "processors": PROCESSORS,
     "aggregators": AGGREGATORS,
     "outputs": {"file": OUTPUT},
 }
+NEEDED = {"file": "files", "statsd": "service_address"}
 
 
 def key_fault(keys, table):
@@ -330,7 +335,7 @@ def plugin_fault(word, kind, value, limits):
     fault = key_fault(KINDS[word][kind], value)
     if fault:
         return fault
-    if word in ("inputs", "outputs") and "files" not in value:
+    if word in ("inputs", "outputs") and NEEDED[kind] not in value:
         return "Missing"
     if word == "outputs":
         batch, limit = limits_of(value, *limits)
@@ -351,6 +356,13 @@ def class_fault(word, plugins, limits):
         if fault:
             return fault, number
     return None
+
+
+def place_of(kind, value):
+    """The place of an input or output without a fault."""
+    if kind == "file":
+        return value["files"][0]
+    return "udp %s %d %d" % (value["service_address"], value.get("packets", 1_000), value.get("quiet_limit", 100))
 
 
 def fault_of(root):
@@ -379,10 +391,10 @@ def fault_of(root):
         if not plugins[word]:
             return kind, "root", 0
     for word, taken in (("inputs", []), ("outputs", [agent.get("journal", "agent.journal")])):
-        for number, (_, value) in enumerate(plugins[word]):
-            if value["files"][0] in taken:
+        for number, (kind, value) in enumerate(plugins[word]):
+            if place_of(kind, value) in taken:
                 return "SamePlace", word, number
-            taken.append(value["files"][0])
+            taken.append(place_of(kind, value))
     return None
 
 

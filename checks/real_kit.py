@@ -11,9 +11,12 @@ from collections import namedtuple
 from decimal import ROUND_HALF_EVEN, Context, Decimal
 
 import format_influx
+import loopback
 
 # No wait, and no run of a program that ends by itself, takes longer.
 SECONDS = 60
+# A server ends after so many quiets, three seconds: until then a client must have begun.
+QUIETS = 300
 BILLION = 10**9
 ACCOUNT = re.compile(r"input 0 pieces (\d+) refused (\d+) passed (\d+) filtered 0 gathered (\d+) ended\n")
 GATHER = re.compile(r"gather 0 \d+ (\d+) (\d+) ")
@@ -120,25 +123,50 @@ class Agent:
     def __init__(self, program):
         self.program = program
 
-    def run(self, folder, text, read, write="influx", more="", at_once=1000):
-        """Runs a configuration over a text: formats, further lines of the input, and how many pieces are gathered at
-        once. Metrics are told where line protocol is written, else bytes."""
-        place, out = write_file(folder, "in", text), os.path.join(folder, "out")
-        journal = os.path.join(folder, "journal")
+    def configuration(self, folder, inputs, write="influx", at_once=1000):
+        """Writes a configuration of these inputs, one output and the journal, and gives the words that run it."""
+        out, journal = os.path.join(folder, "out"), os.path.join(folder, "journal")
         config = write_file(folder, "run.toml", (
-            f'[agent]\ngather_pieces = {at_once}\nmetric_batch_size = 10000\njournal = "{journal}"\n'
-            f'[[inputs.file]]\nfiles = ["{place}"]\ndata_format = "{read}"\n{more}\n'
+            f'[agent]\ngather_pieces = {at_once}\nmetric_batch_size = 10000\njournal = "{journal}"\n{inputs}'
             f'[[outputs.file]]\nfiles = ["{out}"]\ndata_format = "{write}"\n'))
-        ran = subprocess.run(
-            [self.program, "run", config], cwd=folder, stdin=subprocess.DEVNULL, capture_output=True, timeout=SECONDS,
-            check=False)
-        account = ACCOUNT.match(ran.stdout.decode())
-        if ran.returncode != 0 or not account or b" dropped 0\n" not in ran.stdout:
-            raise Differs(f"the agent ended with status {ran.returncode}: {ran.stdout!r}, {ran.stderr!r}")
-        written = read_file(out)
+        return [self.program, "run", config]
+
+    def ran(self, folder, status, report, told, write="influx"):
+        """What a run told that must have ended well: metrics where line protocol is written, else bytes."""
+        account = ACCOUNT.match(report.decode())
+        if status != 0 or not account or b" dropped 0\n" not in report:
+            raise Differs(f"the agent ended with status {status}: {report!r}, {told!r}")
+        written = read_file(os.path.join(folder, "out"))
         if write == "influx":
             written = [format_influx.read(line, None) for line in written.splitlines()]
-        return Ran(*(int(it) for it in account.groups()), written, read_file(journal).decode())
+        return Ran(*(int(it) for it in account.groups()), written, read_file(os.path.join(folder, "journal")).decode())
+
+    def run(self, folder, text, read, write="influx", more="", at_once=1000):
+        """Runs a configuration over a text: formats, further lines of the input, and how many pieces are gathered at
+        once."""
+        place = write_file(folder, "in", text)
+        words = self.configuration(
+            folder, f'[[inputs.file]]\nfiles = ["{place}"]\ndata_format = "{read}"\n{more}\n', write, at_once)
+        ran = subprocess.run(
+            words, cwd=folder, stdin=subprocess.DEVNULL, capture_output=True, timeout=SECONDS, check=False)
+        return self.ran(folder, ran.returncode, ran.stdout, ran.stderr, write)
+
+    def serve(self, folder, send):
+        """Runs a configuration with a StatsD server while something is sent to its port of the loopback, and gives the
+        run and what the sender gave. The run ends some seconds later."""
+        port = loopback.free_port()
+        words = self.configuration(
+            folder, f'[[inputs.statsd]]\nservice_address = "127.0.0.1:{port}"\nquiet_limit = {QUIETS}\n')
+        pipes = {"stdin": subprocess.DEVNULL, "stdout": subprocess.PIPE, "stderr": subprocess.PIPE}
+        with subprocess.Popen(words, cwd=folder, **pipes) as server:
+            try:
+                sent = None
+                if loopback.wait_for_server(port, lambda: server.poll() is not None, SECONDS):
+                    sent = send(port)
+                report, told = server.communicate(timeout=SECONDS)
+            finally:
+                server.kill()
+        return self.ran(folder, server.returncode, report, told), sent
 
     def one_by_one(self, folder, pieces, read, more=""):
         """Runs it over texts that are a piece each, and gives the run and the places of those that were refused."""

@@ -11,6 +11,7 @@ import tempfile
 
 import real_receivers
 import real_senders
+import real_services
 from real_kit import Agent, Differs, LeftOut
 
 # The checks together take no longer.
@@ -23,6 +24,9 @@ CHECKS = [
     ("Prometheus to an OpenMetrics input", real_senders.check_prometheus),
     ("Prometheus's push gateway to an OpenMetrics input", real_senders.check_pushgateway),
     ("a StatsD client to a StatsD input", real_senders.check_statsd),
+    ("the StatsD client of Python to a StatsD server", real_services.check_python),
+    ("lynx of node to a StatsD server", real_services.check_node),
+    ("Net::Statsd of Perl to a StatsD server", real_services.check_perl),
     ("a Graphite output to carbon-cache", real_receivers.check_carbon),
     ("an OpenMetrics output to promtool", real_receivers.check_promtool),
     ("an OpenMetrics output to the Python client of Prometheus", real_receivers.check_client),

@@ -240,6 +240,10 @@ def taken_packets(server, send):
     return packets
 
 
+# Members that are sent in one packet, one of them twice.
+MEMBERS = ["user 7", "user 8", "user 7"]
+
+
 def send_statsd(statsd, host, port):
     """Sends what the client has calls for; the metrics of it, as (name, type, key of the field, value)."""
     client = statsd.StatsClient(host, port, prefix="shop")
@@ -255,6 +259,9 @@ def send_statsd(statsd, host, port):
     client.gauge("queue", -2.5, delta=True)
     client.set("visitors", "user 7")
     with client.pipeline() as pipe:
+        for member in MEMBERS:
+            pipe.set("buyers", member)
+    with client.pipeline() as pipe:
         for at in range(40):
             pipe.incr(f"page.{at}", at)
     client.close()
@@ -265,16 +272,22 @@ def send_statsd(statsd, host, port):
         ("queue", "gauge", "delta", "-4"), ("queue", "gauge", "delta", "3"), ("queue", "gauge", "delta", "-2.5"),
         ("visitors", "set", "member", "user 7"),
     ]
+    right += [("buyers", "set", "member", member) for member in MEMBERS]
     return right + [(f"page.{at}", "counter", "value", str(at)) for at in range(40)]
 
 
-def check_statsd(agent, folder):
-    """A StatsD client sends to a socket, whose packets go to a file line by line: all are read."""
+def statsd_client():
+    """The module of the StatsD client."""
     try:
         import statsd
     except ImportError:
         raise LeftOut("there is no statsd (Debian's package python3-statsd)") from None
-    right = []
+    return statsd
+
+
+def check_statsd(agent, folder):
+    """A StatsD client sends to a socket, whose packets go to a file line by line: all are read."""
+    statsd, right = statsd_client(), []
     with socket.socket(socket.AF_INET, socket.SOCK_DGRAM) as server:
         server.bind(("127.0.0.1", 0))
         server.settimeout(10)

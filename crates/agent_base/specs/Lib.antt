@@ -1,8 +1,10 @@
 pub mod Counts
 pub mod Puts
+pub mod Reads
 pub mod Moments
 pub mod Carried
 pub mod Clocked
+pub mod Parts
 pub mod Places
 pub mod Memory
 pub mod Failing

@@ -1,5 +1,5 @@
 -- What is said of the next piece of a source's bytes.
-use Rattle.std.specs.Prelude.{◌≡◌, ℕ, ◌+◌, ◌≤◌, List, length, Option, Result}
+use Rattle.std.specs.Prelude.{◌≡◌, ◌+◌, ◌≤◌, length, Option, Result}
 use Rattle.agent_base.specs.Carried.{Carried}
 use Rattle.agent_base.specs.declared.piece.Piece.{Piece}
 use Rattle.agent_base.specs.declared.piece.PieceFault.{PieceFault}

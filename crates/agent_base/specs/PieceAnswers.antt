@@ -1,10 +1,12 @@
 -- What an answer says of the pieces to come, and why it comes.
-use Rattle.std.specs.Prelude.{◌≡◌, ◌<◌, ◌≤◌, ℕ, ◌^◌, List, [], ◌∷◌, length, Option, Some, None, Result, Ok, Err, ⊤}
+use Rattle.std.specs.Prelude.{◌≡◌, ◌<◌, ◌≤◌, ◌⊎◌, ℕ, ◌^◌, List, [], ◌∷◌, length, Option, Some, None, Result, Ok, Err, ⊤}
 use Rattle.std.specs.Io.KnownBytes.{IsAtEnd}
 use Rattle.agent_base.specs.declared.piece.Piece.{Piece}
 use Rattle.agent_base.specs.declared.piece.PieceFault.{PieceFault}
 use Rattle.agent_base.specs.declared.piece.PieceFault.TheVariants as faults
 use Rattle.agent_base.specs.Counts.{Rose}
+use Rattle.agent_base.specs.declared.outside.ReadRefused.{ReadRefused}
+use Rattle.agent_base.specs.declared.outside.ReadRefused.TheVariants as refusals
 use Rattle.agent_base.specs.declared.piece.CutKind.{CutKind}
 use Rattle.agent_base.specs.Cut.{Cut, TooLong, Whole, NoEnd, most_bytes}
 use Rattle.agent_base.specs.Hand.{Hand}
@@ -34,14 +36,20 @@ IsLimited (Err faults.ReadFault) taken = taken < 2 ^ 40
 IsLimited (Ok piece) taken = taken < 2 ^ 40
 
 -- None: no byte is in hand, and none is left; a read fault: a read failed, and no end of a piece is in
--- hand; out of memory: all is as before
+-- hand; out of memory: no read failed, and all in hand is as before or no end of a piece is in hand
 abbrev pub HasReason : Result (Option Piece) PieceFault → Hand → Hand → Option (List ℕ) → ℕ → ℕ → Type 0
 HasReason (Ok None) old new left before now = (new.bytes ≡ []) × IsAtEnd left
 HasReason (Ok (Some p)) old new left before now = ⊤
 HasReason (Err faults.ReadFault) old new left before now = Rose before now × NoEnd new.kind new.bytes
-HasReason (Err faults.OutOfMemory) old new left before now = new ≡ old
+HasReason (Err faults.OutOfMemory) old new left before now =
+    (now ≡ before) × ((new ≡ old) ⊎ NoEnd new.kind new.bytes)
 HasReason (Err faults.TooLong) old new left before now = ⊤
 HasReason (Err faults.ByteLimit) old new left before now = ⊤
+
+-- why no piece is given where a read was refused
+abbrev pub fault_of : ReadRefused → PieceFault
+fault_of refusals.OutOfMemory = faults.OutOfMemory
+fault_of refusals.Failed = faults.ReadFault
 
 -- a piece, or one that is too long
 abbrev pub IsGiven : Result (Option Piece) PieceFault → Type 0

@@ -1,21 +1,22 @@
 //! Bytes that were taken of a source and not given yet.
 ghost use Rattle.std.specs.Prelude.{◌≡◌, ℕ, ◌+◌, ◌-◌, ◌<◌, ◌≤◌, List, [], length, take, MatchOption, None};
 ghost use Rattle.std.specs.Prelude.{true, ◌⊎◌};
-ghost use Rattle.std.specs.Prelude.{IfOk, OnErr, IsErrOf, vec_len, vec_capacity, min};
+ghost use Rattle.std.specs.Prelude.{IfOk, OnErr, vec_len, vec_capacity, min};
 ghost use Rattle.std.specs.Io.{ReadsAtMost};
 ghost use Rattle.std.specs.Io.KnownBytes.{ReadConsumes, IsAtEnd};
 ghost use Rattle.std.specs.List.{between};
-ghost use Rattle.agent_base.specs.Counts.{HasCause};
 ghost use Rattle.agent_base.specs.Cut.{HasEnd, NoEnd, FirstEnd, NoNewline, FirstNewline, without_return};
 ghost use Rattle.agent_base.specs.Cut.{content, ends_piece, last_line, most_before, most_bytes};
 ghost use Rattle.agent_base.specs.Hand.{empty_hand, to_come, IsSameToCome, Steps};
 ghost use Rattle.agent_base.specs.Room.{room_of};
 ghost use Rattle.agent_base.specs.Next.{GivesNext};
+ghost use Rattle.agent_base.specs.PieceAnswers.{fault_of};
+ghost use Rattle.agent_base.specs.Reads.{ReadHasCause};
 ghost use Rattle.agent_base.specs.Taken.{Takes};
 ghost use Rattle.agent_base.specs.declared.buffer.TheConstants.{MAX_TAKEN_BYTES};
 ghost use Rattle.agent_base.specs.Cut.{Scanned};
 
-use crate::{CutKind, Failed, Piece, PieceFault, Source};
+use crate::{CutKind, Piece, PieceFault, ReadRefused, Source};
 use fixed_num::OutOfMemory;
 use memchr::memchr;
 use std::alloc::Global;
@@ -65,6 +66,16 @@ fn filled(mut room: Vec<u8>, content: &[u8]) -> Vec<u8>
     room
 }
 
+// Why no piece is given where a read was refused.
+fn fault_of(refused: ReadRefused) -> PieceFault
+    ensures { result ≡ fault_of refused }
+{
+    match refused {
+        ReadRefused::OutOfMemory => PieceFault::OutOfMemory,
+        ReadRefused::Failed => PieceFault::ReadFault,
+    }
+}
+
 // Reads into so many places of a buffer, from one on, and counts the bytes that are taken.
 fn read_into<S: Source>(
     buf: &mut Vec<u8>,
@@ -72,7 +83,7 @@ fn read_into<S: Source>(
     most: usize,
     taken: &mut u64,
     src: &mut S,
-) -> Result<usize, Failed>
+) -> Result<usize, ReadRefused>
     requires room { at + most ≤ vec_len buf.old }
     requires least { min LEAST (MAX_TAKEN_BYTES - taken.old) ≤ most }
     requires limit { taken.old + most ≤ MAX_TAKEN_BYTES }
@@ -81,7 +92,7 @@ fn read_into<S: Source>(
     ensures before { take at buf.new.items ≡ take at buf.old.items }
     ensures bytes { ReadConsumes (S.told src.old).bytes (S.told src.new).bytes result
         (between at (at + most) buf.new.items) }
-    ensures cause { HasCause (S.told src.old).faults (S.told src.new).faults result }
+    ensures cause { ReadHasCause (S.told src.old).faults (S.told src.new).faults result }
     ensures counted { IfOk result (λ n. taken.new ≡ taken.old + n) }
     ensures kept { OnErr result (taken.new ≡ taken.old) }
 {
@@ -345,7 +356,7 @@ impl Buffer {
     }
 
     // Reads more bytes behind those in hand.
-    fn read_more<S: Source>(&mut self, src: &mut S) -> Result<usize, Failed>
+    fn read_more<S: Source>(&mut self, src: &mut S) -> Result<usize, ReadRefused>
         requires room { self.old.end + READ ≤ room_of self.old.kind }
         requires most { self.old.taken < MAX_TAKEN_BYTES }
         ensures steps { Steps (S.told src.old).bytes (S.told src.new).bytes (hand_of self.old) (hand_of self.new) }
@@ -354,7 +365,7 @@ impl Buffer {
         ensures failed { OnErr result (hand_of self.new ≡ hand_of self.old) }
         ensures kind { self.new.kind ≡ self.old.kind }
         ensures counted { IfOk result (λ n. self.new.taken ≡ self.old.taken + n) }
-        ensures cause { HasCause (S.told src.old).faults (S.told src.new).faults result }
+        ensures cause { ReadHasCause (S.told src.old).faults (S.told src.new).faults result }
     {
         let most = self.lent();
         let n = read_into(&mut self.buf, self.end, most, &mut self.taken, src)?;
@@ -438,12 +449,11 @@ impl Buffer {
     }
 
     // Reads until a piece is in hand, and gives it. All room is taken before the first read; after a read that
-    // failed it is spare.
+    // was refused it is spare.
     fn read_piece<S: Source>(&mut self, src: &mut S) -> Result<Option<Piece>, PieceFault>
         requires all { self.old.searched ≡ self.old.end }
         requires most { self.old.taken < MAX_TAKEN_BYTES }
         ensures gives { GivesNext result (hand_of self.old) (hand_of self.new) (S.told src.old) (S.told src.new) }
-        ensures memory { IsErrOf result PieceFault.OutOfMemory → src.new ≡ src.old }
     {
         let most = self.kind.most_bytes();
         let Ok(room) = self.room_for(most) else {
@@ -452,9 +462,9 @@ impl Buffer {
         'reads: loop {
             self.make_room();
             match self.read_more(src) {
-                Err(Failed) => {
+                Err(refused) => {
                     self.spare = room;
-                    return Err(PieceFault::ReadFault);
+                    return Err(fault_of(refused));
                 }
                 Ok(0) => return self.finish(room),
                 Ok(_) => {}
@@ -471,7 +481,6 @@ impl Buffer {
     /// The next piece of the bytes in hand and those that the source has left.
     pub(crate) fn next<S: Source>(&mut self, src: &mut S) -> Result<Option<Piece>, PieceFault>
         ensures gives { GivesNext result (hand_of self.old) (hand_of self.new) (S.told src.old) (S.told src.new) }
-        ensures memory { IsErrOf result PieceFault.OutOfMemory → src.new ≡ src.old }
         ensures in_hand { HasEnd self.old.kind (bytes_of self.old) → src.new ≡ src.old }
         ensures whole { HasEnd self.old.kind (bytes_of self.old) → (left : List ℕ)
             → Answers result (to_come (hand_of self.old) left) (to_come (hand_of self.new) left) }

@@ -3,6 +3,7 @@
 
 mod buffer;
 mod clocks;
+mod either;
 mod fresh;
 mod laws;
 mod mem_world;
@@ -14,10 +15,11 @@ mod slots;
 mod standard;
 mod world;
 
+pub use either::Either;
 pub use laws::{clocked_joins, counted_joins};
 pub use mem_world::MemWorld;
 pub use memory::{MemClock, MemSink, MemSource};
-pub use outside::{Clock, Failed, PutFault, Sink, Source};
+pub use outside::{Clock, Failed, PutFault, ReadRefused, Sink, Source};
 pub use piece::{CutKind, Piece, PieceFault};
 pub use pieces::{Pieces, cuts_expositions, cuts_lines, has_expositions};
 pub use slots::Slots;

@@ -4,7 +4,7 @@ ghost use Rattle.std.specs.Prelude.{IfOk, OnErr};
 ghost use Rattle.std.specs.List.{position};
 ghost use Rattle.agent_base.specs.Failing.{failing_count, is_numbered};
 
-use crate::{Clock, Failed, PutFault, Sink, Source};
+use crate::{Clock, Failed, PutFault, ReadRefused, Sink, Source};
 use fixed_num::Moment;
 use std::alloc::Global;
 use std::marker::Model;
@@ -96,8 +96,11 @@ fn copy_front(bytes: &[u8], buf: &mut [u8], most: usize) -> usize
 impl Source for MemSource {
     ghost told = { λ s. record { bytes = Some s.left; faults = s.faults } };
 
-    fn read(&mut self, buf: &mut [u8]) -> Result<usize, Failed> {
-        self.read_next(buf)
+    fn read(&mut self, buf: &mut [u8]) -> Result<usize, ReadRefused> {
+        match self.read_next(buf) {
+            Ok(count) => Ok(count),
+            Err(Failed) => Err(ReadRefused::Failed),
+        }
     }
 }
 

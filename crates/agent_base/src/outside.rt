@@ -3,15 +3,24 @@ ghost use Rattle.std.specs.Prelude.{◌≡◌, ℕ, Bool};
 ghost use Rattle.std.specs.Io.{ReadsAtMost};
 ghost use Rattle.std.specs.Io.KnownBytes.{ReadConsumes};
 ghost use Rattle.agent_base.specs.Carried.{Carried, Timed};
-ghost use Rattle.agent_base.specs.Counts.{HasCause};
 ghost use Rattle.agent_base.specs.Moments.{Gives, Waits};
 ghost use Rattle.agent_base.specs.Puts.{PutAppends, PutHasCause};
+ghost use Rattle.agent_base.specs.Reads.{ReadHasCause};
 
 use fixed_num::Moment;
 
 /// The outside didn't do what it was asked for.
 #[derive(Clone, Copy, Debug, PartialEq, Eq)]
 pub struct Failed;
+
+/// Why a read gave nothing.
+#[derive(Clone, Copy, Debug, PartialEq, Eq)]
+pub enum ReadRefused {
+    /// No memory was left.
+    OutOfMemory,
+    /// The outside failed.
+    Failed,
+}
 
 /// Why a put didn't append all bytes.
 #[derive(Clone, Copy, Debug, PartialEq, Eq)]
@@ -24,17 +33,17 @@ pub enum PutFault {
 
 /// Bytes that are read from the outside.
 pub trait Source {
-    /// The bytes that are left, where they are told; and how often a read has failed, which never falls, and stops at
-    /// 2^64 - 1.
+    /// The bytes that are left, where they are told; and how often a read has failed: it rises with a failed read
+    /// alone, and stops at 2^64 - 1.
     ghost told: { Self → Carried };
 
     /// Moves the next bytes to the front of the buffer, and says how many they are.
     ///
-    /// It answers 0 for a buffer that isn't empty exactly where nothing is left. A failed read takes nothing.
-    fn read(&mut self, buf: &mut [u8]) -> Result<usize, Failed>
+    /// It answers 0 for a buffer that isn't empty exactly where nothing is left. A read that is refused takes nothing.
+    fn read(&mut self, buf: &mut [u8]) -> Result<usize, ReadRefused>
         ensures bound { ReadsAtMost result buf.new }
         ensures bytes { ReadConsumes (told self.old).bytes (told self.new).bytes result buf.new }
-        ensures cause { HasCause (told self.old).faults (told self.new).faults result };
+        ensures cause { ReadHasCause (told self.old).faults (told self.new).faults result };
 }
 
 /// Bytes that are written to the outside.

@@ -65,7 +65,7 @@ impl CutKind {
 /// Why no piece is given.
 #[derive(Clone, Copy, Debug, PartialEq, Eq)]
 pub enum PieceFault {
-    /// No memory was left; all is as before.
+    /// No memory was left, for a piece or for a read; the bytes that were taken are kept.
     OutOfMemory,
     /// A read failed; the bytes that were taken are kept.
     ReadFault,

@@ -1,5 +1,5 @@
 //! A source's bytes, cut into pieces.
-ghost use Rattle.std.specs.Prelude.{◌≡◌, ◌+◌, ◌≤◌, ℕ, List, length, IfOk, IsErrOf};
+ghost use Rattle.std.specs.Prelude.{◌≡◌, ◌+◌, ◌≤◌, ℕ, List, length, IfOk};
 ghost use Rattle.agent_base.specs.Cut.{HasEnd};
 ghost use Rattle.agent_base.specs.Hand.{empty_hand, to_come};
 ghost use Rattle.agent_base.specs.Lines.{CutsLines, CutsExpositions, EachHasExpositions};
@@ -44,7 +44,7 @@ impl Pieces {
 
     /// The next piece of the bytes in hand and those that the source has left; None at the end of the source.
     ///
-    /// A piece that is too long is passed over to its end. After a failed read the bytes that were taken are
+    /// A piece that is too long is passed over to its end. After a read that was refused the bytes that were taken are
     /// kept. Once 2^40 bytes were taken the answer is `ByteLimit`, whatever is in hand.
     pub fn next<S: Source>(&mut self, src: &mut S) -> Result<Option<Piece>, PieceFault>
         ensures pieces { Told (S.told src.old).bytes (S.told src.new).bytes
@@ -61,11 +61,10 @@ impl Pieces {
         ensures kind { self.new.kind ≡ self.old.kind }
         ensures faults { (S.told src.old).faults ≤ (S.told src.new).faults }
 
-        // A piece that is in hand is given without a read, and all room is taken before the first read.
+        // A piece that is in hand is given without a read.
         ensures whole { HasEnd self.old.kind self.old.bytes → (left : List ℕ)
             → Answers result (to_come self.old left) (to_come self.new left) }
         ensures in_hand { HasEnd self.old.kind self.old.bytes → src.new ≡ src.old }
-        ensures memory { IsErrOf result PieceFault.OutOfMemory → src.new ≡ src.old }
 
         // What is given of the bytes that were taken stands whatever follows them, but at the end of the
         // source.

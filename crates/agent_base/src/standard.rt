@@ -1,7 +1,7 @@
 //! Sources and sinks over std's readers and writers.
 ghost use Rattle.std.specs.Prelude.{◌≡◌, None};
 
-use crate::{Failed, PutFault, Sink, Source};
+use crate::{PutFault, ReadRefused, Sink, Source};
 use std::io::{ErrorKind, Read, Write};
 
 /// A source over a reader; nothing is told of its bytes.
@@ -32,7 +32,7 @@ impl<R: Read + Drop> StdSource<R> {
 impl<R: Read + Drop> Source for StdSource<R> {
     ghost told = { λ s. record { bytes = None; faults = s.faults } };
 
-    fn read(&mut self, buf: &mut [u8]) -> Result<usize, Failed> {
+    fn read(&mut self, buf: &mut [u8]) -> Result<usize, ReadRefused> {
         for _ in 0..u64::MAX {
             match self.reader.read(buf) {
                 Ok(count) => return Ok(count),
@@ -44,7 +44,7 @@ impl<R: Read + Drop> Source for StdSource<R> {
             }
         }
         self.faults = self.faults.saturating_add(1);
-        Err(Failed)
+        Err(ReadRefused::Failed)
     }
 }
 

@@ -127,14 +127,12 @@ faultless root e =
     (map (place_of class.Outputs) (few outs)) in
     let behind = rest_none no_input (no_output ++ (same_ins ++ same_outs)) others in
     let same = rest_none no_output (same_ins ++ same_outs) behind in
-    let root_keys = at class.Root 0 (root_key_faults root) in
-    let root_values = at class.Root 0 (root_value_faults root) in
+    let in_root = at class.Root 0 (root_key_faults root ++ root_value_faults root) in
     let in_agent = at class.Agent 0 (agent_faults agent) in
     let in_tags = at class.GlobalTags 0 (global_faults tags) in
     let behind_processors = rest_none processors (aggregators ++ out_faults) (rest_none in_faults
     (processors ++ (aggregators ++ out_faults)) in_classes) in
-    let both = rest_none root_values (in_agent ++ in_tags) (rest_none root_keys
-    (root_values ++ (in_agent ++ in_tags)) tables) in
+    let both = rest_none in_root (in_agent ++ in_tags) tables in
     record {
       agent = none_at class.Agent 0 (agent_faults agent) (front_none in_agent in_tags both);
       tags = none_at class.GlobalTags 0 (global_faults tags) (rest_none in_agent in_tags both);

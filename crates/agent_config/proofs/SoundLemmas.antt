@@ -112,18 +112,23 @@ counted most other (Some (negsuc n)) h = h
 -- ---- inputs
 
 -- of the kinds of inputs, and of an unknown one
-kind_undelivered : (file : Bool) (members : Members)
-    → IsCounted 100000 (number_at (kind_keys (if file then Some kind.FileInput else None))
-    (codes "max_undelivered_messages") usual_undelivered members)
+kind_undelivered : (file statsd : Bool) (members : Members)
+    → IsCounted 100000 (number_at (kind_keys (if file then Some kind.FileInput
+    else if statsd then Some kind.StatsdInput else None)) (codes "max_undelivered_messages") usual_undelivered members)
 unfolding number_at
-kind_undelivered true members =
+kind_undelivered true statsd members =
     counted 100000 usual_undelivered (option_and_then as_integer (get_member (codes "max_undelivered_messages")
     members)) (omega arith, omega arith)
-kind_undelivered false _ = (omega arith, omega arith)
+kind_undelivered false true members =
+    counted 100000 usual_undelivered (option_and_then as_integer (get_member (codes "max_undelivered_messages")
+    members)) (omega arith, omega arith)
+kind_undelivered false false _ = (omega arith, omega arith)
 
 undelivered : (plugin : Plugin) → HasUndelivered (input_of plugin)
 unfolding kind_of
-undelivered plugin = kind_undelivered (bytes_eq plugin.name (codes "file")) (plugin_members plugin)
+undelivered plugin =
+    kind_undelivered (bytes_eq plugin.name (codes "file")) (bytes_eq plugin.name (codes "statsd"))
+    (plugin_members plugin)
 
 -- ---- outputs
 

@@ -1,7 +1,8 @@
 -- What is written in a text without faults counts.
-use Rattle.std.proofs.Common.{◌≡◌, ◌+◌, ℕ, ℤ, pos, negsuc, Bool, true, false, List, [], ◌∷◌, map, Option, Some, None}
-use Rattle.std.proofs.Common.{IfSome}
+use Rattle.std.proofs.Common.{◌≡◌, ◌==◌, ◌+◌, ◌++◌, ℕ, ℤ, pos, negsuc, Bool, true, false, List, [], ◌∷◌, map}
+use Rattle.std.proofs.Common.{Option, Some, None, IfSome, arith, length, option_map}
 use Rattle.std.proofs.Common.{refl, sym, ap, ◌∙◌, subst}
+use Rattle.std.proofs.lemmas.Bool.{eqb-false}
 use Rattle.std.proofs.lemmas.Map.Text.{is_eq-slice_cmp}
 use Rattle.std.proofs.lemmas.Slice.Eq.{bytes_eq-Decides}
 use Rattle.std.specs.List.{AllZip}
@@ -9,23 +10,25 @@ use Rattle.std.specs.declared.cmp.Ordering.{Ordering}
 use Rattle.std.specs.declared.cmp.Ordering.TheVariants.{Less, Equal, Greater}
 use Rattle.std.specs.Ordering.{is_eq, match_ordering, nat_cmp}
 use Rattle.std.specs.Cmp.Lexicographic.{slice_cmp}
-use Rattle.std.specs.Prelude.{◌||◌, codes, if◌then◌else◌, is_some, option_and_then}
+use Rattle.std.specs.Prelude.{◌||◌, codes, if◌then◌else◌, is_some, option_and_then, unwrap_or}
 use Rattle.std.specs.Str.{bytes_eq}
 use Rattle.toml.specs.Data.{Data, Members, no_members, member, get_member, as_integer, as_str, as_table}
 use Rattle.agent_config.specs.Faults.{Plugin, agent_faults, entry_faults, faults_by, faults_in, faults_of}
-use Rattle.agent_config.specs.Faults.{key_faults, keys_faults, number_faults, numbered}
-use Rattle.agent_config.specs.Faults.{plugin_faults, plugins_at}
+use Rattle.agent_config.specs.Faults.{key_faults, keys_faults, range_faults, numbered}
+use Rattle.agent_config.specs.Faults.{is_filled, missing_faults, place_by, plugin_faults, plugins_at}
+use Rattle.agent_config.specs.Faults.{listening_place, server_place, udp_place}
 use Rattle.agent_config.specs.Faults.{unknown_faults}
+use Rattle.agent_config.specs.Filters.{plugin_members}
 use Rattle.agent_config.specs.Found.{at, wrong}
 use Rattle.agent_config.specs.Kinds.{agent_limits, agent_number, input_kind, kind_keys, kind_of, limits_faults}
-use Rattle.agent_config.specs.Kinds.{number_at, output_kind, own_limits, row_of, time_at}
+use Rattle.agent_config.specs.Kinds.{needs, number_at, output_kind, own_limits, row_of, text_at, time_at}
 use Rattle.agent_config.specs.Rows.{count_row, counted_or, is_counted, is_long_enough, members_in, number_by}
 use Rattle.agent_config.specs.Rows.{table_at, time_in, timed_or}
 use Rattle.agent_config.specs.Unless.{unless}
-use Rattle.agent_config.specs.Usual.{usual_undelivered}
+use Rattle.agent_config.specs.Usual.{usual_packets, usual_quiet_limit, usual_undelivered}
 use Rattle.agent_config.specs.Values.{agent_of, config_of, input_of, output_of}
 use Rattle.agent_config.specs.Written.{AgentIsWritten, InputIsWritten, IsAsWritten, IsWritten, OutputIsWritten}
-use Rattle.agent_config.specs.Written.{SizeIsWritten, WrittenCounts, number_in}
+use Rattle.agent_config.specs.Written.{ServerIsWritten, SizeIsWritten, WrittenCounts, number_in}
 use Rattle.agent_config.specs.declared.fault.Class.{Class}
 use Rattle.agent_config.specs.declared.fault.Class.TheVariants as class
 use Rattle.agent_config.specs.declared.fault.FaultKind.TheVariants as kinds
@@ -34,10 +37,11 @@ use Rattle.agent_config.specs.declared.shapes.Shape.TheVariants.{Count, Time}
 use Rattle.agent_config.specs.declared.shapes.TimeRow.{TimeRow}
 use Rattle.agent_config.specs.declared.table.Keys.{Keys}
 use Rattle.agent_config.specs.declared.table.Keys.TheVariants as keys
+use Rattle.agent_config.specs.declared.table.Kind.{Kind}
 use Rattle.agent_config.specs.declared.table.Kind.TheVariants as kind
 use Rattle.agent_config.specs.declared.tables.Limits.{Limits}
 use Rattle.agent_config.proofs.FaultlessLemmas.{IsFaultless, faultless, front_none, holds, none_at, none_told}
-use Rattle.agent_config.proofs.FaultlessLemmas.{rest_none}
+use Rattle.agent_config.proofs.FaultlessLemmas.{not_true, rest_none}
 
 -- ---- a key of a table without faults
 
@@ -63,7 +67,8 @@ faultless_at keys key (member l d members) value none e =
 
 -- ---- numbers
 
-number_kept : (key : List ℕ) (most other : ℕ) (number : Option ℤ) → number_faults key most number ≡ []
+number_kept : (key : List ℕ) (most other : ℕ) (number : Option ℤ)
+    → range_faults key (option_map (is_counted most) number) ≡ []
     → IfSome number (λ written. written ≡ pos (counted_or most other number))
 number_kept key most other None e = tt
 number_kept key most other (Some (pos n)) e =
@@ -154,26 +159,113 @@ UndeliveredIsWritten keys members =
     IsWritten (codes "max_undelivered_messages") members
     (number_at keys (codes "max_undelivered_messages") usual_undelivered members)
 
-file_undelivered : (limits : Limits) (value : Option Members) → faults_by (Some kind.FileInput) limits value ≡ []
-    → UndeliveredIsWritten (keys.Plugin kind.FileInput) (members_in value)
-file_undelivered limits None e = cc
-file_undelivered limits (Some members) e =
-    number_written (keys.Plugin kind.FileInput) (codes "max_undelivered_messages") members usual_undelivered _ refl
-    (front_none (keys_faults (keys.Plugin kind.FileInput) members) _ e)
+known_undelivered : (k : Kind) (row : CountRow)
+    → row_of (keys.Plugin k) (codes "max_undelivered_messages") ≡ Some (Count row) → (limits : Limits)
+    (value : Option Members) → faults_by (Some k) limits value ≡ []
+    → UndeliveredIsWritten (keys.Plugin k) (members_in value)
+known_undelivered k row is limits None e = cc
+known_undelivered k row is limits (Some members) e =
+    number_written (keys.Plugin k) (codes "max_undelivered_messages") members usual_undelivered row is
+    (front_none (keys_faults (keys.Plugin k) members) _ e)
 
-kind_undelivered : (limits : Limits) (file : Bool) (value : Option Members)
-    → is_some (if file then Some kind.FileInput else None) ≡ true
-    → faults_by (if file then Some kind.FileInput else None) limits value ≡ []
-    → UndeliveredIsWritten (kind_keys (if file then Some kind.FileInput else None)) (members_in value)
-kind_undelivered limits true value known e = file_undelivered limits value e
-kind_undelivered limits false value known e = cc
+kind_undelivered : (limits : Limits) (file statsd : Bool) (value : Option Members)
+    → is_some (if file then Some kind.FileInput else if statsd then Some kind.StatsdInput else None) ≡ true
+    → faults_by (if file then Some kind.FileInput else if statsd then Some kind.StatsdInput else None) limits value ≡ []
+    → UndeliveredIsWritten (kind_keys (if file then Some kind.FileInput
+    else if statsd then Some kind.StatsdInput else None)) (members_in value)
+kind_undelivered limits true statsd value known e = known_undelivered kind.FileInput _ refl limits value e
+kind_undelivered limits false true value known e = known_undelivered kind.StatsdInput _ refl limits value e
+kind_undelivered limits false false value known e = cc
+
+-- the address of a server, and that it isn't empty
+record HasAddress (members : Members) : Type 0 where
+  address : List ℕ
+  is : option_and_then as_str (get_member (codes "service_address") members) ≡ Some address
+  filled : (length address == 0) ≡ false
+
+address_in : (server : Members) (text : Option (List ℕ))
+    → option_and_then as_str (get_member (codes "service_address") server) ≡ text
+    → range_faults (codes "service_address") (option_map is_filled text) ≡ [] → HasAddress server
+address_in server None is e = cc
+address_in server (Some text) is e = record {
+  address = text;
+  is = is;
+  filled = not_true (length text == 0) (holds (is_filled text) (wrong kinds.OutOfRange (codes "service_address")) e);
+}
+
+address_at : (server : Members) (found : Option Data) → get_member (codes "service_address") server ≡ found
+    → is_some found ≡ true → keys_faults (keys.Plugin kind.StatsdInput) server ≡ [] → HasAddress server
+unfolding entry_faults
+address_at server None is known none = cc
+address_at server (Some value) is known none =
+    address_in server (as_str value) (ap (option_and_then as_str) is)
+    (faultless_at (keys.Plugin kind.StatsdInput) (codes "service_address") server value none is)
+
+-- the key that it needs is there
+needed : (key : List ℕ) (members : Members) → missing_faults (key ∷ []) members ≡ []
+    → is_some (get_member key members) ≡ true
+needed key members e =
+    holds (is_some (get_member key members)) (wrong kinds.Missing key)
+    (front_none (unless (is_some (get_member key members)) (wrong kinds.Missing key)) [] e)
+
+server_place_is : (members : Members) (address : List ℕ)
+    → option_and_then as_str (get_member (codes "service_address") members) ≡ Some address
+    → (length address == 0) ≡ false → server_place members ≡ udp_place address
+    (number_at (keys.Plugin kind.StatsdInput) (codes "packets") usual_packets members)
+    (number_at (keys.Plugin kind.StatsdInput) (codes "quiet_limit") usual_quiet_limit members)
+unfolding text_at
+server_place_is members address is filled =
+    let packets = number_at (keys.Plugin kind.StatsdInput) (codes "packets") usual_packets members in
+    let quiet_limit = number_at (keys.Plugin kind.StatsdInput) (codes "quiet_limit") usual_quiet_limit members in
+    ap (λ said. listening_place (unwrap_or said []) packets quiet_limit) is
+    ∙ ap (λ empty. if empty then [] else udp_place address packets quiet_limit) filled
+
+server_written : (limits : Limits) (value : Option Members) → faults_by (Some kind.StatsdInput) limits value ≡ []
+    → ServerIsWritten (members_in value) (place_by (Some kind.StatsdInput) (members_in value))
+server_written limits None e = cc
+server_written limits (Some members) e =
+    let none = front_none (keys_faults (keys.Plugin kind.StatsdInput) members)
+    (missing_faults (needs kind.StatsdInput) members ++ []) e in
+    let lacks = front_none (missing_faults (needs kind.StatsdInput) members) []
+    (rest_none (keys_faults (keys.Plugin kind.StatsdInput) members)
+    (missing_faults (needs kind.StatsdInput) members ++ []) e) in
+    let there = address_at members (get_member (codes "service_address") members) refl
+    (needed (codes "service_address") members lacks) none in
+    let differs = eqb-false (length there.address) 0 there.filled in record {
+      address = there.address;
+      packets = number_at (keys.Plugin kind.StatsdInput) (codes "packets") usual_packets members;
+      quiet_limit = number_at (keys.Plugin kind.StatsdInput) (codes "quiet_limit") usual_quiet_limit members;
+      is = server_place_is members there.address there.is there.filled;
+      some = omega (arith, differs);
+      said = there.is;
+      packets_said = number_written (keys.Plugin kind.StatsdInput) (codes "packets") members usual_packets _ refl none;
+      quiet_limit_said = number_written (keys.Plugin kind.StatsdInput) (codes "quiet_limit") members usual_quiet_limit
+          _ refl none;
+    }
+
+kind_server : (limits : Limits) (k : Option Kind) (value : Option Members) → k ≡ Some kind.StatsdInput
+    → faults_by k limits value ≡ [] → ServerIsWritten (members_in value) (place_by k (members_in value))
+kind_server limits k value is e =
+    subst (λ it. ServerIsWritten (members_in value) (place_by it (members_in value))) (sym is)
+    (server_written limits value (sym (ap (λ it. faults_by it limits value) is) ∙ e))
+
+-- how many of its groups may be undelivered
+groups_written : (limits : Limits) (plugin : Plugin) → unknown_faults class.Inputs plugin ≡ []
+    → plugin_faults class.Inputs limits plugin ≡ []
+    → IsWritten (codes "max_undelivered_messages") (plugin_members plugin) (input_of plugin).max_undelivered
+unfolding kind_of plugin_faults
+groups_written limits plugin known e =
+    kind_undelivered limits (bytes_eq plugin.name (codes "file")) (bytes_eq plugin.name (codes "statsd"))
+    (as_table plugin.value)
+    (holds (is_some (input_kind plugin.name)) (wrong kinds.UnknownKind plugin.name) known) e
 
 input_written : (limits : Limits) (plugin : Plugin) → unknown_faults class.Inputs plugin ≡ []
     → plugin_faults class.Inputs limits plugin ≡ [] → InputIsWritten plugin (input_of plugin)
-unfolding kind_of plugin_faults
-input_written limits plugin known e =
-    kind_undelivered limits (bytes_eq plugin.name (codes "file")) (as_table plugin.value)
-    (holds (is_some (input_kind plugin.name)) (wrong kinds.UnknownKind plugin.name) known) e
+unfolding plugin_faults
+input_written limits plugin known e = record {
+  undelivered = groups_written limits plugin known e;
+  server = λ is. kind_server limits (kind_of class.Inputs plugin.name) (as_table plugin.value) is e;
+}
 
 -- ---- outputs
 

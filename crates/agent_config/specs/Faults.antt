@@ -1,5 +1,5 @@
 -- What is wrong with a configuration: a list, of which the first counts.
-use Rattle.std.specs.Prelude.{◌==◌, ◌&&◌, ◌||◌, ◌+◌, ℕ, ℤ, Bool, false, not, take, drop}
+use Rattle.std.specs.Prelude.{◌==◌, ◌&&◌, ◌||◌, ◌+◌, ℕ, ℤ, Bool, false, not, take, drop, decimal}
 use Rattle.std.specs.Prelude.{List, [], ◌∷◌, ◌++◌, length, map, chars, codes, nat_le}
 use Rattle.std.specs.Prelude.{Option, Some, None, is_some, option_and_then, option_map, unwrap_or}
 use Rattle.std.specs.Prelude.{if◌then◌else◌}
@@ -16,9 +16,10 @@ use Rattle.format_words.specs.Template.{Shape as Template}
 use Rattle.agent_config.specs.Found.{Found, Wrong, at, fault_of, whole, wrong, wrong_text}
 use Rattle.agent_config.specs.Keys.{is_one_of, is_root_key, names_of, statistics}
 use Rattle.agent_config.specs.Kinds.{agent_limits, kind_of, limits_faults, needs, own_faults, place_key, row_of}
-use Rattle.agent_config.specs.Kinds.{text_at}
+use Rattle.agent_config.specs.Kinds.{number_at, text_at}
 use Rattle.agent_config.specs.Rows.{is_counted, is_long_enough, is_no_text, members_in, table_at, time_in}
 use Rattle.agent_config.specs.Unless.{unless}
+use Rattle.agent_config.specs.Usual.{usual_packets, usual_quiet_limit}
 use Rattle.agent_config.specs.declared.shapes.Shape.{Shape}
 use Rattle.agent_config.specs.declared.shapes.Shape.TheVariants.{Anything, Count, Truth, Place, AnyText, Files}
 use Rattle.agent_config.specs.declared.shapes.Shape.TheVariants.{OneOf, Templates, Time, Globs, TagGlobs}
@@ -30,9 +31,12 @@ use Rattle.agent_config.specs.declared.inner.InnerShape.{InnerShape}
 use Rattle.agent_config.specs.declared.inner.InnerShape.TheVariants.{FilledText, Pattern}
 use Rattle.agent_config.specs.declared.inner.InnerShape.TheVariants.{AnyText as InnerText, Globs as InnerGlobs}
 use Rattle.proc_regex.specs.Pattern.{is_pattern}
+use Rattle.agent_config.specs.declared.spelled.Spelled.{Spelled}
+use Rattle.agent_config.specs.declared.spelled.Spelled.TheVariants as spells
 use Rattle.agent_config.specs.declared.table.Keys.{Keys}
 use Rattle.agent_config.specs.declared.table.Keys.TheVariants as tables
 use Rattle.agent_config.specs.declared.table.Kind.{Kind}
+use Rattle.agent_config.specs.declared.table.Kind.TheVariants.{StatsdInput}
 use Rattle.agent_config.specs.Told.{fault_told}
 use Rattle.agent_config.specs.declared.fault.ConfigFault.{ConfigFault}
 use Rattle.agent_config.specs.declared.fault.Fault.{Fault}
@@ -69,26 +73,20 @@ texts_of items = all_of as_str items
 abbrev pub texts_in : Data → Option (List (List ℕ))
 texts_in value = option_and_then texts_of (as_array value)
 
--- a whole number from 1 to a greatest one
-abbrev pub number_faults : List ℕ → ℕ → Option ℤ → List Wrong
-number_faults key most None = wrong WrongType key ∷ []
-number_faults key most (Some n) = unless (is_counted most n) (wrong OutOfRange key)
+-- a value of a key, by whether what it is read as is right: WrongType where it is of another type than the key takes,
+-- OutOfRange where it isn't right
+abbrev pub range_faults : List ℕ → Option Bool → List Wrong
+range_faults key None = wrong WrongType key ∷ []
+range_faults key (Some right) = unless right (wrong OutOfRange key)
 
--- a text that isn't empty
-abbrev pub place_faults : List ℕ → Option (List ℕ) → List Wrong
-place_faults key None = wrong WrongType key ∷ []
-place_faults key (Some text) = unless (not (length text == 0)) (wrong OutOfRange key)
+-- is a text not empty
+abbrev pub is_filled : List ℕ → Bool
+is_filled text = not (length text == 0)
 
--- a text that is one of some names
-abbrev pub name_faults : List ℕ → List (List ℕ) → Option (List ℕ) → List Wrong
-name_faults key names None = wrong WrongType key ∷ []
-name_faults key names (Some text) = unless (is_one_of names text) (wrong OutOfRange key)
-
--- a list of exactly one text, which isn't empty
-abbrev pub file_faults : List ℕ → Option (List (List ℕ)) → List Wrong
-file_faults key None = wrong WrongType key ∷ []
-file_faults key (Some (text ∷ [])) = unless (not (length text == 0)) (wrong OutOfRange key)
-file_faults key (Some texts) = wrong OutOfRange key ∷ []
+-- are texts exactly one, which isn't empty
+abbrev pub is_one_place : List (List ℕ) → Bool
+is_one_place (text ∷ []) = is_filled text
+is_one_place texts = false
 
 -- a time that is no shorter than the least
 abbrev pub time_faults : List ℕ → ℤ → Data → List Wrong
@@ -101,27 +99,6 @@ time_faults key least value =
 abbrev pub is_glob : List ℕ → Bool
 is_glob text = is_some (glob_of (chars text))
 
--- the texts at a key that are no globs, each BadGlob
-abbrev pub glob_faults : List ℕ → List (List ℕ) → List Wrong
-glob_faults key [] = []
-glob_faults key (text ∷ texts) = unless (is_glob text) (wrong_text BadGlob key text) ++ glob_faults key texts
-
--- the faults of a list of globs: WrongType where it is no list of texts, before all else in it
-abbrev pub list_faults : List ℕ → Option (List (List ℕ)) → List Wrong
-list_faults key None = wrong WrongType key ∷ []
-list_faults key (Some texts) = glob_faults key texts
-
--- the texts at a key that are no names of statistics, each OutOfRange
-abbrev pub statistic_faults : List ℕ → List (List ℕ) → List Wrong
-statistic_faults key [] = []
-statistic_faults key (text ∷ texts) =
-    unless (is_one_of statistics text) (wrong_text OutOfRange key text) ++ statistic_faults key texts
-
--- the faults of a list of names of statistics: WrongType where it is no list of texts
-abbrev pub statistics_faults : List ℕ → Option (List (List ℕ)) → List Wrong
-statistics_faults key None = wrong WrongType key ∷ []
-statistics_faults key (Some texts) = statistic_faults key texts
-
 -- the template that a text spells; None where it spells none
 unfoldable pub template_in : List ℕ → Option Template
 template_in text = result_ok (template_of text)
@@ -130,21 +107,34 @@ template_in text = result_ok (template_of text)
 abbrev pub is_template : List ℕ → Bool
 is_template text = is_some (template_in text)
 
--- the texts at a key that are no templates, each BadTemplate
-abbrev pub template_faults : List ℕ → List (List ℕ) → List Wrong
-template_faults key [] = []
-template_faults key (text ∷ texts) =
-    unless (is_template text) (wrong_text BadTemplate key text) ++ template_faults key texts
+-- does a text spell what the texts of its list have to
+abbrev pub is_spelled : Spelled → List ℕ → Bool
+is_spelled spells.Glob text = is_glob text
+is_spelled spells.Template text = is_template text
+is_spelled spells.Statistic text = is_one_of statistics text
 
--- the faults of a list of templates: WrongType where it is no list of texts, before all else in it
-abbrev pub templates_faults : List ℕ → Option (List (List ℕ)) → List Wrong
-templates_faults key None = wrong WrongType key ∷ []
-templates_faults key (Some texts) = template_faults key texts
+-- what is wrong with one that doesn't
+abbrev pub misspelled : Spelled → FaultKind
+misspelled spells.Glob = BadGlob
+misspelled spells.Template = BadTemplate
+misspelled spells.Statistic = OutOfRange
+
+-- the texts at a key that don't spell it
+abbrev pub spelling_faults : List ℕ → Spelled → List (List ℕ) → List Wrong
+spelling_faults key spelled [] = []
+spelling_faults key spelled (text ∷ texts) =
+    unless (is_spelled spelled text) (wrong_text (misspelled spelled) key text) ++ spelling_faults key spelled texts
+
+-- the faults of a list of texts: WrongType where it is none, before all else in it
+abbrev pub texts_faults : List ℕ → Spelled → Option (List (List ℕ)) → List Wrong
+texts_faults key spelled None = wrong WrongType key ∷ []
+texts_faults key spelled (Some texts) = spelling_faults key spelled texts
 
 -- the faults of a tag with a list of globs, at a key of tables of them
 abbrev pub listed_faults : List ℕ → List ℕ → Option (List (List ℕ)) → List Wrong
 listed_faults key tag None = wrong WrongType key ∷ []
-listed_faults key tag (Some texts) = unless (not (length tag == 0)) (wrong OutOfRange key) ++ glob_faults key texts
+listed_faults key tag (Some texts) =
+    unless (is_filled tag) (wrong OutOfRange key) ++ spelling_faults key spells.Glob texts
 
 -- the faults of tags with lists of globs, in order
 abbrev pub tag_faults : List ℕ → Members → List Wrong
@@ -160,7 +150,7 @@ tagged_faults key (Some members) = tag_faults key members
 -- a text that isn't empty, at a key of an inner table
 abbrev pub filled_faults : List ℕ → List ℕ → Option (List ℕ) → List Wrong
 filled_faults key inner None = wrong_text WrongType key inner ∷ []
-filled_faults key inner (Some text) = unless (not (length text == 0)) (wrong_text OutOfRange key inner)
+filled_faults key inner (Some text) = unless (is_filled text) (wrong_text OutOfRange key inner)
 
 -- a pattern; of another text the fault has the text itself
 abbrev pub pattern_faults : List ℕ → List ℕ → Option (List ℕ) → List Wrong
@@ -170,7 +160,7 @@ pattern_faults key inner (Some text) = unless (is_pattern text) (wrong_text BadP
 -- a list of globs
 abbrev pub inner_glob_faults : List ℕ → List ℕ → Option (List (List ℕ)) → List Wrong
 inner_glob_faults key inner None = wrong_text WrongType key inner ∷ []
-inner_glob_faults key inner (Some texts) = glob_faults key texts
+inner_glob_faults key inner (Some texts) = spelling_faults key spells.Glob texts
 
 -- what is wrong with one key of an inner table: it isn't known, or its value is wrong
 abbrev pub inner_value_faults : List ℕ → List ℕ → Option InnerShape → Data → List Wrong
@@ -231,20 +221,20 @@ tables_faults key kind (Some tables) = each_table_faults key kind tables
 -- what is wrong with the value of a key
 abbrev pub value_faults : List ℕ → Shape → Data → List Wrong
 value_faults key Anything value = []
-value_faults key (Count row) value = number_faults key row.most (as_integer value)
+value_faults key (Count row) value = range_faults key (option_map (is_counted row.most) (as_integer value))
 value_faults key (Truth usual) value = unless (is_some (as_bool value)) (wrong WrongType key)
-value_faults key (Place usual) value = place_faults key (as_str value)
+value_faults key (Place usual) value = range_faults key (option_map is_filled (as_str value))
 value_faults key (AnyText usual) value = unless (is_some (as_str value)) (wrong WrongType key)
-value_faults key (OneOf names) value = name_faults key (names_of names) (as_str value)
-value_faults key Templates value = templates_faults key (texts_in value)
-value_faults key Files value = file_faults key (texts_in value)
+value_faults key (OneOf names) value = range_faults key (option_map (is_one_of (names_of names)) (as_str value))
+value_faults key Templates value = texts_faults key spells.Template (texts_in value)
+value_faults key Files value = range_faults key (option_map is_one_place (texts_in value))
 value_faults key (Time row) value = time_faults key row.least value
-value_faults key Globs value = list_faults key (texts_in value)
+value_faults key Globs value = texts_faults key spells.Glob (texts_in value)
 value_faults key TagGlobs value = tagged_faults key (as_table value)
 value_faults key WholeNumber value = unless (is_some (as_integer value)) (wrong WrongType key)
 value_faults key (Table kind) value = table_value_faults key kind (as_table value)
 value_faults key (Tables kind) value = tables_faults key kind (tables_in value)
-value_faults key Statistics value = statistics_faults key (texts_in value)
+value_faults key Statistics value = texts_faults key spells.Statistic (texts_in value)
 
 -- ---- tables
 
@@ -264,8 +254,7 @@ keys_faults keys (member key value members) = entry_faults keys key value ++ key
 
 -- a global tag: a text under a key that isn't empty
 abbrev pub global_tag_faults : List ℕ → Option (List ℕ) → List Wrong
-global_tag_faults key None = wrong WrongType key ∷ []
-global_tag_faults key (Some text) = unless (not (length key == 0)) (wrong OutOfRange key)
+global_tag_faults key value = range_faults key (option_map (λ text. is_filled key) value)
 
 abbrev pub global_faults : Members → List Wrong
 global_faults no_members = []
@@ -359,10 +348,33 @@ abbrev pub place_at : Option (List ℕ) → Members → List ℕ
 place_at None _ = []
 place_at (Some key) members = only_text_at key members
 
+-- the place of a server: that it listens on UDP, its address, how many packets a group has, and after how many quiets
+-- in succession it is at its end
+abbrev pub udp_place : List ℕ → ℕ → ℕ → List ℕ
+udp_place address packets quiet_limit =
+    codes "udp " ++ (address ++ (codes " " ++ (decimal packets ++ (codes " " ++ decimal quiet_limit))))
+
+-- no text where the server has no address
+abbrev pub listening_place : List ℕ → ℕ → ℕ → List ℕ
+listening_place address packets quiet_limit =
+    if length address == 0 then [] else udp_place address packets quiet_limit
+
+-- the place of a StatsD server: a number that is faulty, or isn't said, is the usual one there
+abbrev pub server_place : Members → List ℕ
+server_place members =
+    listening_place (text_at (tables.Plugin StatsdInput) (codes "service_address") members)
+    (number_at (tables.Plugin StatsdInput) (codes "packets") usual_packets members)
+    (number_at (tables.Plugin StatsdInput) (codes "quiet_limit") usual_quiet_limit members)
+
+-- the place of a plugin of a kind
+abbrev pub place_in : Kind → Members → List ℕ
+place_in StatsdInput members = server_place members
+place_in kind members = place_at (place_key kind) members
+
 -- the place of a plugin, where its kind is known
 abbrev pub place_by : Option Kind → Members → List ℕ
 place_by None _ = []
-place_by (Some kind) members = place_at (place_key kind) members
+place_by (Some kind) members = place_in kind members
 
 abbrev pub place_of : Class → Plugin → List ℕ
 place_of class plugin = place_by (kind_of class plugin.name) (members_in (as_table plugin.value))
@@ -425,10 +437,9 @@ root_value_faults (member key value root) =
 -- the faults of the root and of the tables that aren't classes of plugins
 abbrev pub table_faults : Members → List Found
 table_faults root =
-    at Root 0 (root_key_faults root)
-    ++ (at Root 0 (root_value_faults root)
+    at Root 0 (root_key_faults root ++ root_value_faults root)
     ++ (at Agent 0 (agent_faults (table_at (codes "agent") root))
-    ++ at GlobalTags 0 (global_faults (table_at (codes "global_tags") root))))
+    ++ at GlobalTags 0 (global_faults (table_at (codes "global_tags") root)))
 
 -- the faults of the classes of plugins
 abbrev pub classes_faults : Limits → Classes → List Found

@@ -6,12 +6,12 @@ use Rattle.agent_config.specs.declared.shapes.Names.{Names}
 use Rattle.agent_config.specs.declared.shapes.Names.TheVariants.{ReadFormats, WrittenFormats}
 use Rattle.agent_config.specs.declared.shapes.Shape.{Shape}
 use Rattle.agent_config.specs.declared.shapes.UsualText.{UsualText}
-use Rattle.agent_config.specs.declared.shapes.UsualText.TheVariants.{Journal, Point}
+use Rattle.agent_config.specs.declared.shapes.UsualText.TheVariants.{Journal, Nothing, Point}
 use Rattle.agent_config.specs.declared.shapes.Shape.TheVariants.{Anything, Count, Truth, Place, AnyText, Files}
 use Rattle.agent_config.specs.declared.inner.Inner.TheVariants.{Replacement, FieldTargets, TagTargets, Rewriting}
 use Rattle.agent_config.specs.declared.shapes.Shape.TheVariants.{OneOf, Templates, Time, Globs, TagGlobs}
 use Rattle.agent_config.specs.declared.shapes.Shape.TheVariants.{WholeNumber, Table, Tables, Statistics}
-use Rattle.agent_config.specs.Usual.{usual_undelivered}
+use Rattle.agent_config.specs.Usual.{usual_packets, usual_quiet_limit, usual_undelivered}
 
 -- is the key one of these
 abbrev pub is_one_of : List (List ℕ) → List ℕ → Bool
@@ -35,6 +35,7 @@ usual_name WrittenFormats = codes "influx"
 abbrev pub text_of : UsualText → List ℕ
 text_of Journal = codes "agent.journal"
 text_of Point = codes "."
+text_of Nothing = []
 
 -- the tables of the root
 abbrev pub is_root_key : List ℕ → Bool
@@ -90,6 +91,13 @@ plugin_key key =
     else if is_one_of (codes "tagpass" ∷ codes "tagdrop" ∷ []) key then Some TagGlobs
     else None
 
+-- what a key takes that each input has
+abbrev pub input_key : List ℕ → Option Shape
+input_key key =
+    if bytes_eq key (codes "tracked") then Some (Truth false)
+    else if bytes_eq key (codes "max_undelivered_messages") then count_to 100000 usual_undelivered
+    else plugin_key key
+
 -- what a key takes that says how an input reads its format
 abbrev pub read_format_key : List ℕ → Option Shape
 read_format_key key =
@@ -97,15 +105,19 @@ read_format_key key =
     else if bytes_eq key (codes "templates") then Some Templates
     else if bytes_eq key (codes "separator") then Some (AnyText Point)
     else if is_one_of (codes "type_tag" ∷ codes "pass_out_of_range" ∷ []) key then Some (Truth false)
-    else plugin_key key
+    else input_key key
 
 -- what a key of an input of a file takes
 abbrev pub file_input_key : List ℕ → Option Shape
-file_input_key key =
-    if bytes_eq key (codes "files") then Some Files
-    else if bytes_eq key (codes "tracked") then Some (Truth false)
-    else if bytes_eq key (codes "max_undelivered_messages") then count_to 100000 usual_undelivered
-    else read_format_key key
+file_input_key key = if bytes_eq key (codes "files") then Some Files else read_format_key key
+
+-- what a key of an input takes that is a StatsD server: it needs an address, and has no name of a format
+abbrev pub statsd_input_key : List ℕ → Option Shape
+statsd_input_key key =
+    if bytes_eq key (codes "service_address") then Some (Place Nothing)
+    else if bytes_eq key (codes "packets") then count_to 100000 usual_packets
+    else if bytes_eq key (codes "quiet_limit") then count_to 1000000 usual_quiet_limit
+    else input_key key
 
 -- what a key of an output of a file takes: its sizes what those of the agent take
 abbrev pub file_output_key : List ℕ → Option Shape

@@ -6,7 +6,7 @@ use Rattle.std.specs.Str.{bytes_eq}
 use Rattle.toml.specs.Data.{Members, as_integer, get_member}
 use Rattle.agent_config.specs.Found.{Wrong, whole}
 use Rattle.agent_config.specs.Keys.{agent_key, converter_key, dedup_key, file_input_key, file_output_key, regex_key}
-use Rattle.agent_config.specs.Keys.{aggregator_key, basicstats_key, final_key, rename_key}
+use Rattle.agent_config.specs.Keys.{aggregator_key, basicstats_key, final_key, rename_key, statsd_input_key}
 use Rattle.agent_config.specs.Rows.{count_row, faulty_by, row_number, row_text, row_time, row_truth, usual_of}
 use Rattle.agent_config.specs.Unless.{unless}
 use Rattle.agent_config.specs.declared.fault.Class.{Class}
@@ -17,12 +17,15 @@ use Rattle.agent_config.specs.declared.table.Keys.{Keys}
 use Rattle.agent_config.specs.declared.table.Keys.TheVariants.{Agent, Plugin, Unknown}
 use Rattle.agent_config.specs.declared.table.Kind.{Kind}
 use Rattle.agent_config.specs.declared.table.Kind.TheVariants.{FileInput, FileOutput, Converter, Dedup, Regex, Rename}
-use Rattle.agent_config.specs.declared.table.Kind.TheVariants.{BasicStats, Final, Merge, MinMax}
+use Rattle.agent_config.specs.declared.table.Kind.TheVariants.{BasicStats, Final, Merge, MinMax, StatsdInput}
 use Rattle.agent_config.specs.declared.tables.Limits.{Limits}
 
 -- the kind of inputs, that of outputs, that of processors, and that of aggregators, of a name
 abbrev pub input_kind : List ℕ → Option Kind
-input_kind name = if bytes_eq name (codes "file") then Some FileInput else None
+input_kind name =
+    if bytes_eq name (codes "file") then Some FileInput
+    else if bytes_eq name (codes "statsd") then Some StatsdInput
+    else None
 
 abbrev pub output_kind : List ℕ → Option Kind
 output_kind name = if bytes_eq name (codes "file") then Some FileOutput else None
@@ -54,6 +57,7 @@ kind_of class name = None
 -- what a key of a plugin of a kind takes
 abbrev pub kind_key : Kind → List ℕ → Option Shape
 kind_key FileInput key = file_input_key key
+kind_key StatsdInput key = statsd_input_key key
 kind_key FileOutput key = file_output_key key
 kind_key Converter key = converter_key key
 kind_key Dedup key = dedup_key key
@@ -67,10 +71,11 @@ kind_key MinMax key = aggregator_key key
 -- the keys that a plugin of a kind needs
 abbrev pub needs : Kind → List (List ℕ)
 needs FileInput = codes "files" ∷ []
+needs StatsdInput = codes "service_address" ∷ []
 needs FileOutput = codes "files" ∷ []
 needs kind = []
 
--- the key at which its place stands, where it has one
+-- the key of the list whose only text is its place, where it has such a key
 abbrev pub place_key : Kind → Option (List ℕ)
 place_key FileInput = Some (codes "files")
 place_key FileOutput = Some (codes "files")

@@ -16,3 +16,11 @@ usual_agent = record {
 -- at most so many groups of an input are undelivered at once
 abbrev pub usual_undelivered : ℕ
 usual_undelivered = 1000
+
+-- so many packets of a StatsD server are one group
+abbrev pub usual_packets : ℕ
+usual_packets = 1000
+
+-- after so many quiets in succession a StatsD server is at its end
+abbrev pub usual_quiet_limit : ℕ
+usual_quiet_limit = 100

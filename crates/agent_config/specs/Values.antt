@@ -76,7 +76,7 @@ abbrev pub openmetrics_at : Keys → Members → InFormat
 openmetrics_at keys members =
     read.Openmetrics (truth_at keys (codes "type_tag") members) (truth_at keys (codes "pass_out_of_range") members)
 
--- the format of this name that is read; Influx where no other has the name
+-- the format of this name that is read; Influx where no other has the name, as at a kind that takes no name of a format
 unfoldable pub in_format : Keys → List ℕ → Members → InFormat
 in_format keys name members =
     if bytes_eq name (codes "statsd") then read.Statsd

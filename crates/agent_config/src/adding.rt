@@ -1,5 +1,6 @@
 //! Adding what is wrong with a table to a list.
 ghost use Rattle.std.specs.Prelude.{◌≡◌, ◌∷◌, [], IfOk};
+ghost use Rattle.agent_config.specs.Faults.{range_faults};
 ghost use Rattle.agent_config.specs.Found.{Adds, AddsFound, at, whole, wrong, wrong_text, wrongs_view};
 ghost use Rattle.agent_config.specs.Unless.{unless};
 
@@ -37,6 +38,21 @@ pub(crate) fn add_unless<'a>(
     }
     add_wrong(wrongs, kind, key)?;
     Ok(())
+}
+
+/// Adds the fault of a value, by whether what it is read as is right; None where it is of another type than its key
+/// takes.
+pub(crate) fn add_range_fault<'a>(
+    wrongs: &mut Vec<Wrong<'a>>,
+    key: &'a str,
+    right: Option<bool>,
+) -> Result<(), OutOfMemory>
+    ensures { IfOk result (λ _. Adds wrongs.old.items wrongs.new.items (range_faults key.now right)) }
+{
+    match right {
+        Some(right) => add_unless(wrongs, right, FaultKind::OutOfRange, key),
+        None => add_wrong(wrongs, FaultKind::WrongType, key),
+    }
 }
 
 /// Adds a fault of a text in the value of a key, unless something holds.

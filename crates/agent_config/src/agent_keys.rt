@@ -2,7 +2,7 @@
 ghost use Rattle.std.specs.Prelude.{◌≡◌};
 ghost use Rattle.agent_config.specs.Keys.{agent_key, agent_number_key, is_root_key, is_unused};
 
-use crate::shapes::{Shape, TimeRow, UsualText, count_to};
+use crate::shapes::{Shape, UsualText, count_to, time_from};
 
 /// The nanoseconds between two flushes where nothing is said.
 const USUAL_INTERVAL: i64 = 10_000_000_000;
@@ -22,10 +22,7 @@ pub(crate) fn agent_key(key: &str) -> Option<Shape>
     ensures { result ≡ agent_key key.now }
 {
     match key {
-        "flush_interval" => Some(Shape::Time(TimeRow {
-            least: 1,
-            usual: USUAL_INTERVAL,
-        })),
+        "flush_interval" => time_from(1, USUAL_INTERVAL),
         "workers" => Some(Shape::Truth(true)),
         "skip_processors_after_aggregators" => Some(Shape::Truth(false)),
         "journal" => Some(Shape::Place(UsualText::Journal)),

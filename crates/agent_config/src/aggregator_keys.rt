@@ -3,7 +3,7 @@ ghost use Rattle.std.specs.Prelude.{◌≡◌};
 ghost use Rattle.agent_config.specs.Keys.{aggregator_key, basicstats_key, final_key};
 
 use crate::plugin_keys::plugin_key;
-use crate::shapes::{Shape, TimeRow};
+use crate::shapes::{Shape, time_from};
 
 /// The nanoseconds of a period where nothing is said: 30 seconds.
 const USUAL_PERIOD: i64 = 30_000_000_000;
@@ -19,15 +19,9 @@ pub(crate) fn aggregator_key(key: &str) -> Option<Shape>
     ensures { result ≡ aggregator_key key.now }
 {
     match key {
-        "period" => Some(Shape::Time(TimeRow {
-            least: 1,
-            usual: USUAL_PERIOD,
-        })),
-        "delay" => Some(Shape::Time(TimeRow {
-            least: 0,
-            usual: USUAL_DELAY,
-        })),
-        "grace" => Some(Shape::Time(TimeRow { least: 0, usual: 0 })),
+        "period" => time_from(1, USUAL_PERIOD),
+        "delay" => time_from(0, USUAL_DELAY),
+        "grace" => time_from(0, 0),
         "drop_original" => Some(Shape::Truth(false)),
         _ => plugin_key(key),
     }
@@ -48,10 +42,7 @@ pub(crate) fn final_key(key: &str) -> Option<Shape>
     ensures { result ≡ final_key key.now }
 {
     match key {
-        "series_timeout" => Some(Shape::Time(TimeRow {
-            least: 0,
-            usual: USUAL_TIMEOUT,
-        })),
+        "series_timeout" => time_from(0, USUAL_TIMEOUT),
         _ => aggregator_key(key),
     }
 }

@@ -3,8 +3,7 @@ ghost use Rattle.std.specs.Prelude.{◌≡◌};
 ghost use Rattle.agent_config.specs.Keys.{file_input_key};
 
 use crate::plugin_keys::read_format_key;
-use crate::shapes::{Shape, count_to};
-use crate::usual::USUAL_UNDELIVERED;
+use crate::shapes::Shape;
 
 /// What a key takes; None where it isn't known.
 pub(crate) fn file_input_key(key: &str) -> Option<Shape>
@@ -12,8 +11,6 @@ pub(crate) fn file_input_key(key: &str) -> Option<Shape>
 {
     match key {
         "files" => Some(Shape::Files),
-        "tracked" => Some(Shape::Truth(false)),
-        "max_undelivered_messages" => count_to(100_000, USUAL_UNDELIVERED),
         _ => read_format_key(key),
     }
 }

@@ -2,9 +2,9 @@
 ghost use Rattle.std.specs.Prelude.{◌≡◌, IfOk, codes};
 ghost use Rattle.toml.specs.Data.{no_members};
 ghost use Rattle.toml.specs.View.{table_view};
-ghost use Rattle.agent_config.specs.Faults.{agent_faults, beside_faults, classes_faults, faults_of, global_faults};
-ghost use Rattle.agent_config.specs.Faults.{none_faults, root_key_faults, root_value_faults, table_faults};
-ghost use Rattle.agent_config.specs.Found.{AddsFound, at, founds_view};
+ghost use Rattle.agent_config.specs.Faults.{beside_faults, classes_faults, faults_of};
+ghost use Rattle.agent_config.specs.Faults.{none_faults, table_faults};
+ghost use Rattle.agent_config.specs.Found.{AddsFound, founds_view};
 ghost use Rattle.agent_config.specs.Plugins.{classes_view, plugins_view};
 
 use crate::adding::{add_at, add_whole_at};
@@ -48,70 +48,16 @@ fn add_table_faults<'a>(
     requires { table_view empty.now ≡ no_members }
     ensures { IfOk result (λ _. AddsFound founds.old.items founds.new.items (table_faults (table_view root.now))) }
 {
-    add_root_keys(alloc, founds, root)?;
-    add_root_values(alloc, founds, root)?;
-    add_agent(alloc, founds, table_at(root, "agent", empty))?;
-    add_globals(alloc, founds, table_at(root, "global_tags", empty))?;
-    Ok(())
-}
-
-/// Adds the keys of the root that aren't known, at their place.
-fn add_root_keys<'a>(
-    alloc: Global,
-    founds: &mut Vec<Found<'a>>,
-    root: &'a Table,
-) -> Result<(), OutOfMemory>
-    ensures { IfOk result (λ _. AddsFound founds.old.items founds.new.items
-        (at Class.Root 0 (root_key_faults (table_view root.now)))) }
-{
-    let mut wrongs = Vec::new(alloc);
-    add_root_key_faults(&mut wrongs, root)?;
-    add_at(founds, &Class::Root, 0, wrongs.as_slice())?;
-    Ok(())
-}
-
-/// Adds the values of the root that are no tables, at their place.
-fn add_root_values<'a>(
-    alloc: Global,
-    founds: &mut Vec<Found<'a>>,
-    root: &'a Table,
-) -> Result<(), OutOfMemory>
-    ensures { IfOk result (λ _. AddsFound founds.old.items founds.new.items
-        (at Class.Root 0 (root_value_faults (table_view root.now)))) }
-{
-    let mut wrongs = Vec::new(alloc);
-    add_root_value_faults(&mut wrongs, root)?;
-    add_at(founds, &Class::Root, 0, wrongs.as_slice())?;
-    Ok(())
-}
-
-/// Adds the faults of the table `agent`, at their place.
-fn add_agent<'a>(
-    alloc: Global,
-    founds: &mut Vec<Found<'a>>,
-    agent: &'a Table,
-) -> Result<(), OutOfMemory>
-    ensures { IfOk result (λ _. AddsFound founds.old.items founds.new.items
-        (at Class.Agent 0 (agent_faults (table_view agent.now)))) }
-{
-    let mut wrongs = Vec::new(alloc);
-    add_agent_faults(alloc, &mut wrongs, agent)?;
-    add_at(founds, &Class::Agent, 0, wrongs.as_slice())?;
-    Ok(())
-}
-
-/// Adds the faults of the global tags, at their place.
-fn add_globals<'a>(
-    alloc: Global,
-    founds: &mut Vec<Found<'a>>,
-    tags: &'a Table,
-) -> Result<(), OutOfMemory>
-    ensures { IfOk result (λ _. AddsFound founds.old.items founds.new.items
-        (at Class.GlobalTags 0 (global_faults (table_view tags.now)))) }
-{
-    let mut wrongs = Vec::new(alloc);
-    add_global_faults(&mut wrongs, tags)?;
-    add_at(founds, &Class::GlobalTags, 0, wrongs.as_slice())?;
+    let mut of_root = Vec::new(alloc);
+    add_root_key_faults(&mut of_root, root)?;
+    add_root_value_faults(&mut of_root, root)?;
+    add_at(founds, &Class::Root, 0, of_root.as_slice())?;
+    let mut of_agent = Vec::new(alloc);
+    add_agent_faults(alloc, &mut of_agent, table_at(root, "agent", empty))?;
+    add_at(founds, &Class::Agent, 0, of_agent.as_slice())?;
+    let mut of_tags = Vec::new(alloc);
+    add_global_faults(&mut of_tags, table_at(root, "global_tags", empty))?;
+    add_at(founds, &Class::GlobalTags, 0, of_tags.as_slice())?;
     Ok(())
 }
 

@@ -1,9 +1,9 @@
 //! What is wrong with tables inside values.
-ghost use Rattle.std.specs.Prelude.{◌≡◌, ◌∷◌, [], IfOk, codes, option_map};
+ghost use Rattle.std.specs.Prelude.{◌≡◌, ◌++◌, ◌∷◌, [], IfOk, codes, option_map};
 ghost use Rattle.toml.specs.Data.{as_str, as_table};
 ghost use Rattle.toml.specs.View.{items_view, table_view, view};
-ghost use Rattle.agent_config.specs.Faults.{each_table_faults, filled_faults, inner_faults, inner_glob_faults};
-ghost use Rattle.agent_config.specs.Faults.{inner_keys_faults, inner_missing_faults, inner_value_faults};
+ghost use Rattle.agent_config.specs.Faults.{filled_faults, inner_faults, inner_glob_faults};
+ghost use Rattle.agent_config.specs.Faults.{inner_missing_faults, inner_value_faults};
 ghost use Rattle.agent_config.specs.Faults.{pattern_faults, source_faults, table_value_faults, tables_faults};
 ghost use Rattle.agent_config.specs.Faults.{tables_in, tables_of, texts_in};
 ghost use Rattle.agent_config.specs.Found.{Adds};
@@ -13,8 +13,9 @@ ghost use Rattle.agent_config.specs.Seen.{tables_view};
 use crate::adding::{add_text_unless, add_unless, add_wrong};
 use crate::fault::{FaultKind, Wrong};
 use crate::inner::{Inner, InnerShape};
+use crate::spelled::{Spelled, add_spelling_faults};
 use crate::tables::value_at;
-use crate::texts::{add_glob_faults, texts_in};
+use crate::texts::texts_in;
 use fixed_num::OutOfMemory;
 use proc_regex::is_pattern;
 use std::alloc::Global;
@@ -48,10 +49,15 @@ pub(crate) fn add_tables_faults<'a>(
     ensures { IfOk result (λ _. Adds wrongs.old.items wrongs.new.items
         (tables_faults key.now inner.now (tables_in (view value.now)))) }
 {
-    match tables_in(alloc, value)? {
-        Some(tables) => add_each_table_faults(alloc, wrongs, key, inner, tables.as_slice()),
-        None => add_wrong(wrongs, FaultKind::WrongType, key),
+    let Some(tables) = tables_in(alloc, value)? else {
+        add_wrong(wrongs, FaultKind::WrongType, key)?;
+        return Ok(());
+    };
+    let tables = tables.as_slice();
+    for table in tables {
+        add_inner_faults(alloc, wrongs, key, inner, table)?;
     }
+    Ok(())
 }
 
 /// The tables of a value that is a list of tables; None where it is none.
@@ -82,23 +88,6 @@ fn tables_of<'a>(alloc: Global, values: &'a [Value]) -> Result<Option<Vec<&'a Ta
     Ok(Some(tables))
 }
 
-/// Adds the faults of each of some tables, from the first on.
-fn add_each_table_faults<'a>(
-    alloc: Global,
-    wrongs: &mut Vec<Wrong<'a>>,
-    key: &'a str,
-    inner: &Inner,
-    tables: &[&'a Table],
-) -> Result<(), OutOfMemory>
-    ensures { IfOk result (λ _. Adds wrongs.old.items wrongs.new.items
-        (each_table_faults key.now inner.now (tables_view tables.now))) }
-{
-    for table in tables {
-        add_inner_faults(alloc, wrongs, key, inner, table)?;
-    }
-    Ok(())
-}
-
 /// Adds the faults of a table: of its keys in order, then those that it lacks.
 fn add_inner_faults<'a>(
     alloc: Global,
@@ -110,27 +99,11 @@ fn add_inner_faults<'a>(
     ensures { IfOk result (λ _. Adds wrongs.old.items wrongs.new.items
         (inner_faults key.now inner.now (table_view table.now))) }
 {
-    add_inner_keys_faults(alloc, wrongs, key, inner, table)?;
-    add_source_faults(wrongs, key, inner, table)?;
-    add_needs_faults(wrongs, key, inner, table)?;
-    Ok(())
-}
-
-/// Adds the faults of the keys of a table, in order.
-fn add_inner_keys_faults<'a>(
-    alloc: Global,
-    wrongs: &mut Vec<Wrong<'a>>,
-    key: &'a str,
-    inner: &Inner,
-    table: &'a Table,
-) -> Result<(), OutOfMemory>
-    ensures { IfOk result (λ _. Adds wrongs.old.items wrongs.new.items
-        (inner_keys_faults key.now inner.now (table_view table.now))) }
-{
     for (name, value) in table.iter() {
         let name = name.as_str();
         add_inner_value_faults(alloc, wrongs, (key, name), inner.row_of(name), value)?;
     }
+    add_needs_faults(wrongs, key, inner, table)?;
     Ok(())
 }
 
@@ -207,7 +180,7 @@ fn add_inner_glob_faults<'a>(
         (inner_glob_faults key.now name.now (texts_in (view value.now)))) }
 {
     match texts_in(alloc, value)? {
-        Some(texts) => add_glob_faults(alloc, wrongs, key, texts.as_slice()),
+        Some(texts) => add_spelling_faults(alloc, wrongs, key, &Spelled::Glob, texts.as_slice()),
         None => add_text_unless(wrongs, false, FaultKind::WrongType, key, name),
     }
 }
@@ -219,22 +192,6 @@ fn count_at(table: &Table, key: &str) -> u32
     u32::from(value_at(table, key).is_some())
 }
 
-/// Adds the fault of a table that doesn't say at just one key what is renamed.
-fn add_source_faults<'a>(
-    wrongs: &mut Vec<Wrong<'a>>,
-    key: &'a str,
-    inner: &Inner,
-    table: &'a Table,
-) -> Result<(), OutOfMemory>
-    ensures { IfOk result (λ _. Adds wrongs.old.items wrongs.new.items
-        (source_faults key.now inner.now (table_view table.now))) }
-{
-    match inner {
-        Inner::Replacement => add_unless(wrongs, source_count(table) == 1, FaultKind::Missing, key),
-        _ => Ok(()),
-    }
-}
-
 /// How many keys a table has that say what is renamed.
 fn source_count(table: &Table) -> u32
     ensures { result ≡ count_of sources (table_view table.now) }
@@ -242,7 +199,7 @@ fn source_count(table: &Table) -> u32
     count_at(table, "measurement") + count_at(table, "tag") + count_at(table, "field")
 }
 
-/// Adds the faults of a table that lacks keys which it needs.
+/// Adds the faults of a table that doesn't say at just one key what is renamed, or lacks keys which it needs.
 fn add_needs_faults<'a>(
     wrongs: &mut Vec<Wrong<'a>>,
     key: &'a str,
@@ -250,10 +207,15 @@ fn add_needs_faults<'a>(
     table: &'a Table,
 ) -> Result<(), OutOfMemory>
     ensures { IfOk result (λ _. Adds wrongs.old.items wrongs.new.items
-        (inner_missing_faults key.now (inner_needs inner.now) (table_view table.now))) }
+        (source_faults key.now inner.now (table_view table.now)
+        ++ inner_missing_faults key.now (inner_needs inner.now) (table_view table.now))) }
 {
     match inner {
-        Inner::Replacement => add_inner_missing(wrongs, key, table, "dest"),
+        Inner::Replacement => {
+            add_unless(wrongs, source_count(table) == 1, FaultKind::Missing, key)?;
+            add_inner_missing(wrongs, key, table, "dest")?;
+            Ok(())
+        }
         Inner::Rewriting => {
             add_inner_missing(wrongs, key, table, "key")?;
             add_inner_missing(wrongs, key, table, "pattern")?;

@@ -30,6 +30,8 @@ mod rows;
 mod rules;
 mod settings;
 mod shapes;
+mod spelled;
+mod statsd_input;
 mod steps;
 mod sums;
 mod table;

@@ -243,7 +243,7 @@ fn other_name<'a>(
     ensures { IfOk result (λ name. name ≡ other_name class.now (table_view table.now) number) }
 {
     let plugins = plugins_of(alloc, table)?;
-    match same_before(class, plugins.as_slice(), number as usize, empty) {
+    match same_before(alloc, class, plugins.as_slice(), number as usize, empty)? {
         Some(other) => plugin_name(alloc, table, other),
         None => Ok(None),
     }
@@ -251,35 +251,39 @@ fn other_name<'a>(
 
 /// The number of the first plugin that has the place of the one with a number.
 fn same_before<'a>(
+    alloc: Global,
     class: &Class,
     plugins: &[Plugin<'a>],
     number: usize,
     empty: &'a Table,
-) -> Option<usize>
+) -> Result<Option<usize>, OutOfMemory>
     requires { table_view empty.now ≡ no_members }
-    ensures { result ≡ same_before class.now (plugins_view plugins.now) number }
+    ensures { IfOk result (λ other. other ≡ same_before class.now (plugins_view plugins.now) number) }
 {
     if number >= plugins.len() {
-        return None;
+        return Ok(None);
     }
-    let place = place_of(class, &plugins[number], empty);
-    first_at(class, &plugins[..number], place, empty)
+    let place = place_of(alloc, class, &plugins[number], empty)?;
+    let first = first_at(alloc, class, &plugins[..number], &place, empty)?;
+    Ok(first)
 }
 
 /// The number of the first plugin that has a place.
 fn first_at<'a>(
+    alloc: Global,
     class: &Class,
     plugins: &[Plugin<'a>],
-    place: &str,
+    place: &Text,
     empty: &'a Table,
-) -> Option<usize>
+) -> Result<Option<usize>, OutOfMemory>
     requires { table_view empty.now ≡ no_members }
-    ensures { result ≡ first_at class.now place.now (plugins_view plugins.now) }
+    ensures { IfOk result (λ first. first ≡ first_at class.now place.now (plugins_view plugins.now)) }
 {
     for number in 0..plugins.len() {
-        if place_of(class, &plugins[number], empty) == place {
-            return Some(number);
+        let other = place_of(alloc, class, &plugins[number], empty)?;
+        if other.as_str() == place.as_str() {
+            return Ok(Some(number));
         }
     }
-    None
+    Ok(None)
 }

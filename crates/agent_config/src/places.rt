@@ -2,20 +2,21 @@
 ghost use Rattle.std.specs.Prelude.{◌≡◌, ◌≤◌, ◌∷◌, ◌++◌, [], IfOk, drop, false, length, map, not, take};
 ghost use Rattle.toml.specs.Data.{no_members};
 ghost use Rattle.toml.specs.View.{table_view};
-ghost use Rattle.agent_config.specs.Faults.{is_journal_faulty, journal_of, only_follows, place_at, place_of};
-ghost use Rattle.agent_config.specs.Faults.{same_faults, stands_in};
+ghost use Rattle.agent_config.specs.Faults.{is_journal_faulty, journal_of, only_follows, place_at, place_in};
+ghost use Rattle.agent_config.specs.Faults.{place_of, same_faults, stands_in};
 ghost use Rattle.agent_config.specs.Found.{AddsFound, at, whole};
 ghost use Rattle.agent_config.specs.Kinds.{place_key};
 ghost use Rattle.agent_config.specs.Plugins.{plugin_view, plugins_view};
-ghost use Rattle.agent_config.specs.Seen.{now_of};
 ghost use Rattle.agent_config.specs.Unless.{unless};
 
 use crate::adding::add_whole_at;
 use crate::fault::{Class, FaultKind, Found};
 use crate::plugins::Plugin;
+use crate::statsd_input::server_place;
 use crate::table::{Kind, kind_of};
 use crate::tables::{is_journal_faulty, journal_of, members_in, only_text_at};
 use fixed_num::OutOfMemory;
+use metric::Text;
 use std::alloc::Global;
 use toml::Table;
 
@@ -32,7 +33,7 @@ pub(crate) fn add_same_inputs<'a>(
         (same_faults Class.Inputs 0 false [] (map (place_of Class.Inputs) (plugins_view inputs.now)))) }
 {
     let mut places = Vec::new(alloc);
-    add_places(&mut places, &Class::Inputs, inputs, empty)?;
+    add_places(alloc, &mut places, &Class::Inputs, inputs, empty)?;
     add_same(founds, &Class::Inputs, false, places.as_slice(), 0)?;
     Ok(())
 }
@@ -52,8 +53,8 @@ pub(crate) fn add_same_outputs<'a>(
         (map (place_of Class.Outputs) (plugins_view outputs.now)))) }
 {
     let mut places = Vec::new(alloc);
-    places.push(journal_of(agent))?;
-    add_places(&mut places, &Class::Outputs, outputs, empty)?;
+    places.push(Text::of(alloc, journal_of(agent))?)?;
+    add_places(alloc, &mut places, &Class::Outputs, outputs, empty)?;
     add_same(
         founds,
         &Class::Outputs,
@@ -65,17 +66,32 @@ pub(crate) fn add_same_outputs<'a>(
 }
 
 /// The place of a plugin of a class; no text where its kind isn't known.
-pub(crate) fn place_of<'a>(class: &Class, plugin: &Plugin<'a>, empty: &'a Table) -> &'a str
+pub(crate) fn place_of<'a>(
+    alloc: Global,
+    class: &Class,
+    plugin: &Plugin<'a>,
+    empty: &'a Table,
+) -> Result<Text, OutOfMemory>
     requires { table_view empty.now ≡ no_members }
-    ensures { result.now ≡ place_of class.now (plugin_view plugin.now) }
+    ensures { IfOk result (λ place. place ≡ place_of class.now (plugin_view plugin.now)) }
 {
     match kind_of(class, plugin.name) {
-        Some(kind) => place_at(kind, members_in(plugin.value, empty)),
-        None => "",
+        Some(kind) => place_in(alloc, kind, members_in(plugin.value, empty)),
+        None => Text::of(alloc, ""),
     }
 }
 
 /// The place of a plugin of a kind; no text where it has none.
+fn place_in(alloc: Global, kind: Kind, table: &Table) -> Result<Text, OutOfMemory>
+    ensures { IfOk result (λ place. place ≡ place_in kind (table_view table.now)) }
+{
+    match kind {
+        Kind::StatsdInput => server_place(alloc, table),
+        _ => Text::of(alloc, place_at(kind, table)),
+    }
+}
+
+/// The only text of the list that a plugin of a kind has as its place; no text where it has none.
 fn place_at(kind: Kind, table: &Table) -> &str
     ensures { result.now ≡ place_at (place_key kind) (table_view table.now) }
 {
@@ -87,17 +103,18 @@ fn place_at(kind: Kind, table: &Table) -> &str
 
 /// Adds the places of plugins of a class.
 fn add_places<'a>(
-    places: &mut Vec<&'a str>,
+    alloc: Global,
+    places: &mut Vec<Text>,
     class: &Class,
     plugins: &[Plugin<'a>],
     empty: &'a Table,
 ) -> Result<(), OutOfMemory>
     requires { table_view empty.now ≡ no_members }
-    ensures { IfOk result (λ _. now_of places.new.items
-        ≡ now_of places.old.items ++ map (place_of class.now) (plugins_view plugins.now)) }
+    ensures { IfOk result (λ _. places.new.items
+        ≡ places.old.items ++ map (place_of class.now) (plugins_view plugins.now)) }
 {
     for plugin in plugins {
-        places.push(place_of(class, plugin, empty))?;
+        places.push(place_of(alloc, class, plugin, empty)?)?;
     }
     Ok(())
 }
@@ -107,17 +124,17 @@ fn add_same<'a>(
     founds: &mut Vec<Found<'a>>,
     class: &Class,
     faulty: bool,
-    places: &[&str],
+    places: &[Text],
     from: usize,
 ) -> Result<(), OutOfMemory>
     requires within { from ≤ length places.now }
     requires few { length places.now ≤ 17 }
     ensures { IfOk result (λ _. AddsFound founds.old.items founds.new.items
-        (same_faults class.now 0 faulty (now_of (take from places.now)) (now_of (drop from places.now)))) }
+        (same_faults class.now 0 faulty (take from places.now) (drop from places.now))) }
 {
     let mut number: u32 = 0;
     for at in from..places.len() {
-        add_same_at(founds, (class, number), faulty, &places[..at], places[at])?;
+        add_same_at(founds, (class, number), faulty, &places[..at], &places[at])?;
         number += 1;
     }
     Ok(())
@@ -128,12 +145,12 @@ fn add_same_at<'a>(
     founds: &mut Vec<Found<'a>>,
     plugin: (&Class, u32),
     faulty: bool,
-    before: &[&str],
-    place: &str,
+    before: &[Text],
+    place: &Text,
 ) -> Result<(), OutOfMemory>
     ensures { IfOk result (λ _. AddsFound founds.old.items founds.new.items
-        (at plugin.entry.0.now plugin.entry.1 (unless (not (stands_in (now_of before.now) place.now))
-        (whole FaultKind.SamePlace (only_follows faulty (now_of before.now) place.now))))) }
+        (at plugin.entry.0.now plugin.entry.1 (unless (not (stands_in before.now place.now))
+        (whole FaultKind.SamePlace (only_follows faulty before.now place.now))))) }
 {
     let (class, number) = plugin;
     let is_new = !stands_in(before, place);
@@ -143,15 +160,15 @@ fn add_same_at<'a>(
 }
 
 /// Does that a place stands among those before it only follow from another fault?
-fn only_follows(faulty: bool, before: &[&str], place: &str) -> bool
-    ensures { result ≡ only_follows faulty (now_of before.now) place.now }
+fn only_follows(faulty: bool, before: &[Text], place: &Text) -> bool
+    ensures { result ≡ only_follows faulty before.now place.now }
 {
-    place.is_empty() || (faulty && !stands_in(behind_first(before), place))
+    place.as_str().is_empty() || (faulty && !stands_in(behind_first(before), place))
 }
 
 /// All places but the first.
-fn behind_first<'p, 'a>(places: &'p [&'a str]) -> &'p [&'a str]
-    ensures { now_of result.now ≡ drop 1 (now_of places.now) }
+fn behind_first(places: &[Text]) -> &[Text]
+    ensures { result.now ≡ drop 1 places.now }
 {
     match places {
         [_first, rest @ ..] => rest,
@@ -160,11 +177,11 @@ fn behind_first<'p, 'a>(places: &'p [&'a str]) -> &'p [&'a str]
 }
 
 /// Is a place one of these?
-fn stands_in(places: &[&str], place: &str) -> bool
-    ensures { result ≡ stands_in (now_of places.now) place.now }
+fn stands_in(places: &[Text], place: &Text) -> bool
+    ensures { result ≡ stands_in places.now place.now }
 {
     for other in places {
-        if *other == place {
+        if other.as_str() == place.as_str() {
             return true;
         }
     }

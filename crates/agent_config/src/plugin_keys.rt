@@ -1,8 +1,9 @@
 //! The keys that plugins share.
 ghost use Rattle.std.specs.Prelude.{◌≡◌};
-ghost use Rattle.agent_config.specs.Keys.{plugin_key, read_format_key};
+ghost use Rattle.agent_config.specs.Keys.{input_key, plugin_key, read_format_key};
 
-use crate::shapes::{Names, Shape, UsualText};
+use crate::shapes::{Names, Shape, UsualText, count_to};
+use crate::usual::USUAL_UNDELIVERED;
 
 /// What a key takes that each plugin has; None where not each has it.
 pub(crate) fn plugin_key(key: &str) -> Option<Shape>
@@ -17,7 +18,18 @@ pub(crate) fn plugin_key(key: &str) -> Option<Shape>
     }
 }
 
-/// What a key takes that says how an input reads its format, or that each plugin has; None where it is neither.
+/// What a key takes that each input has; None where not each has it.
+pub(crate) fn input_key(key: &str) -> Option<Shape>
+    ensures { result ≡ input_key key.now }
+{
+    match key {
+        "tracked" => Some(Shape::Truth(false)),
+        "max_undelivered_messages" => count_to(100_000, USUAL_UNDELIVERED),
+        _ => plugin_key(key),
+    }
+}
+
+/// What a key takes that says how an input reads its format, or that each input has; None where it is neither.
 pub(crate) fn read_format_key(key: &str) -> Option<Shape>
     ensures { result ≡ read_format_key key.now }
 {
@@ -26,6 +38,6 @@ pub(crate) fn read_format_key(key: &str) -> Option<Shape>
         "templates" => Some(Shape::Templates),
         "separator" => Some(Shape::AnyText(UsualText::Point)),
         "type_tag" | "pass_out_of_range" => Some(Shape::Truth(false)),
-        _ => plugin_key(key),
+        _ => input_key(key),
     }
 }

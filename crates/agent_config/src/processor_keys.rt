@@ -4,7 +4,7 @@ ghost use Rattle.agent_config.specs.Keys.{converter_key, dedup_key, processor_ke
 
 use crate::inner::Inner;
 use crate::plugin_keys::plugin_key;
-use crate::shapes::{Shape, TimeRow};
+use crate::shapes::{Shape, time_from};
 
 /// The nanoseconds within which a metric is repeated where nothing is said: ten minutes.
 const USUAL_DEDUP_INTERVAL: i64 = 600_000_000_000;
@@ -35,10 +35,7 @@ pub(crate) fn dedup_key(key: &str) -> Option<Shape>
     ensures { result ≡ dedup_key key.now }
 {
     match key {
-        "dedup_interval" => Some(Shape::Time(TimeRow {
-            least: 0,
-            usual: USUAL_DEDUP_INTERVAL,
-        })),
+        "dedup_interval" => time_from(0, USUAL_DEDUP_INTERVAL),
         _ => processor_key(key),
     }
 }

@@ -117,7 +117,7 @@ fn input_of<'a>(
     let keys = keys_of(&Class::Inputs, plugin.name);
     let table = members_in(plugin.value, empty);
     Ok(InputConf {
-        place: Text::of(alloc, place_of(&Class::Inputs, plugin, empty))?,
+        place: place_of(alloc, &Class::Inputs, plugin, empty)?,
         format: in_format_at(alloc, &keys, table)?,
         tracked: truth_at(&keys, table, "tracked"),
         max_undelivered: number_at(&keys, table, "max_undelivered_messages", USUAL_UNDELIVERED),
@@ -156,7 +156,7 @@ fn output_of<'a>(
     let keys = keys_of(&Class::Outputs, plugin.name);
     let limits = own_limits(&keys, limits, table);
     Ok(OutputConf {
-        place: Text::of(alloc, place_of(&Class::Outputs, plugin, empty))?,
+        place: place_of(alloc, &Class::Outputs, plugin, empty)?,
         format: out_format_at(&keys, table),
         batch: limits.batch,
         limit: limits.limit,

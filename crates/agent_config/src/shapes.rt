@@ -1,5 +1,5 @@
 //! What keys take.
-ghost use Rattle.std.specs.Prelude.{◌≡◌};
+ghost use Rattle.std.specs.Prelude.{◌≡◌, Some};
 ghost use Rattle.agent_config.specs.Keys.{count_to, is_one_of, names_of, statistics, text_of, usual_name};
 
 use crate::inner::Inner;
@@ -81,6 +81,8 @@ pub(crate) enum UsualText {
     Journal,
     /// A point.
     Point,
+    /// No text, as at a key that is needed.
+    Nothing,
 }
 
 impl UsualText {
@@ -91,6 +93,7 @@ impl UsualText {
         match self {
             UsualText::Journal => "agent.journal",
             UsualText::Point => ".",
+            UsualText::Nothing => "",
         }
     }
 }
@@ -135,4 +138,11 @@ pub(crate) fn count_to(most: u32, usual: u32) -> Option<Shape>
     ensures { result ≡ count_to most usual }
 {
     Some(Shape::Count(CountRow { most, usual }))
+}
+
+/// The row of a time of so many nanoseconds or more.
+pub(crate) fn time_from(least: i64, usual: i64) -> Option<Shape>
+    ensures { result ≡ Some (Shape.Time (record { least = least; usual = usual })) }
+{
+    Some(Shape::Time(TimeRow { least, usual }))
 }

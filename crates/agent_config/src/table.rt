@@ -14,6 +14,7 @@ use crate::file_input::file_input_key;
 use crate::file_output::{add_file_output_faults, file_output_key};
 use crate::processor_keys::{converter_key, dedup_key, regex_key, rename_key};
 use crate::shapes::Shape;
+use crate::statsd_input::statsd_input_key;
 use crate::tables::{Limits, value_at};
 use fixed_num::OutOfMemory;
 use toml::Table;
@@ -23,6 +24,8 @@ use toml::Table;
 pub(crate) enum Kind {
     /// An input that reads a file.
     FileInput,
+    /// An input that is a StatsD server.
+    StatsdInput,
     /// An output that writes a file.
     FileOutput,
     /// A processor that converts tags and fields.
@@ -63,6 +66,7 @@ fn input_kind(name: &str) -> Option<Kind>
 {
     match name {
         "file" => Some(Kind::FileInput),
+        "statsd" => Some(Kind::StatsdInput),
         _ => None,
     }
 }
@@ -110,6 +114,7 @@ impl Kind {
     {
         match self {
             Kind::FileInput => file_input_key(key),
+            Kind::StatsdInput => statsd_input_key(key),
             Kind::FileOutput => file_output_key(key),
             Kind::Converter => converter_key(key),
             Kind::Dedup => dedup_key(key),
@@ -132,6 +137,7 @@ impl Kind {
     {
         match self {
             Kind::FileInput => add_missing(wrongs, table, "files"),
+            Kind::StatsdInput => add_missing(wrongs, table, "service_address"),
             Kind::FileOutput => add_missing(wrongs, table, "files"),
             _ => Ok(()),
         }
@@ -153,7 +159,7 @@ impl Kind {
         }
     }
 
-    /// The key at which the place of a plugin of this kind stands; None where it has no place.
+    /// The key of the list whose only text is the place of a plugin of this kind; None where it has no such key.
     pub(crate) fn place_key(&self) -> Option<&'static str>
         ensures { option_map (λ key. key.now) result ≡ place_key self.now }
     {

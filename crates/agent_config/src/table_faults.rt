@@ -8,7 +8,7 @@ ghost use Rattle.agent_config.specs.Faults.{root_value_faults};
 ghost use Rattle.agent_config.specs.Found.{Adds};
 ghost use Rattle.agent_config.specs.Kinds.{limits_faults};
 
-use crate::adding::{add_unless, add_whole_unless, add_wrong};
+use crate::adding::{add_range_fault, add_unless, add_whole_unless, add_wrong};
 use crate::agent_keys::is_root_key;
 use crate::fault::{FaultKind, Wrong};
 use crate::table::Keys;
@@ -100,10 +100,8 @@ pub(crate) fn add_global_tag_faults<'a>(
     ensures { IfOk result (λ _. Adds wrongs.old.items wrongs.new.items
         (global_tag_faults key.now (as_str (view value.now)))) }
 {
-    match value.as_str() {
-        Some(_) => add_unless(wrongs, !key.is_empty(), FaultKind::OutOfRange, key),
-        None => add_wrong(wrongs, FaultKind::WrongType, key),
-    }
+    add_range_fault(wrongs, key, value.as_str().map(|_text| !key.is_empty()))?;
+    Ok(())
 }
 
 /// Adds the keys of the root that aren't known, as faults.

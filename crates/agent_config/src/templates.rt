@@ -1,13 +1,10 @@
 //! The templates that texts spell.
 ghost use Rattle.std.specs.Prelude.{◌≡◌, ◌++◌, IfOk, option_to_list};
 ghost use Rattle.toml.specs.View.{table_view, view};
-ghost use Rattle.agent_config.specs.Faults.{template_faults, template_in, texts_in};
-ghost use Rattle.agent_config.specs.Found.{Adds};
+ghost use Rattle.agent_config.specs.Faults.{template_in, texts_in};
 ghost use Rattle.agent_config.specs.Seen.{now_of};
 ghost use Rattle.agent_config.specs.Values.{templates_at, templates_in, templates_of};
 
-use crate::adding::add_text_unless;
-use crate::fault::{FaultKind, Wrong};
 use crate::tables::value_at;
 use crate::texts::texts_in;
 use fixed_num::{OutOfMemory, Seq};
@@ -17,7 +14,7 @@ use toml::{Table, Value};
 
 /// The template that a text spells; None where it spells none.
 #[tactic(auto, unfolding(crate::specs::Faults::template_in))]
-fn read_template(alloc: Global, text: &str) -> Result<Option<Template>, OutOfMemory>
+pub(crate) fn read_template(alloc: Global, text: &str) -> Result<Option<Template>, OutOfMemory>
     ensures { IfOk result (λ template. template ≡ template_in text.now) }
 {
     match Template::read(alloc, text) {
@@ -25,22 +22,6 @@ fn read_template(alloc: Global, text: &str) -> Result<Option<Template>, OutOfMem
         Err(TemplateFault::BadTemplate) => Ok(None),
         Err(TemplateFault::OutOfMemory) => Err(OutOfMemory),
     }
-}
-
-/// Adds the faults of a list of templates.
-pub(crate) fn add_template_faults<'a>(
-    alloc: Global,
-    wrongs: &mut Vec<Wrong<'a>>,
-    key: &'a str,
-    texts: &[&'a str],
-) -> Result<(), OutOfMemory>
-    ensures { IfOk result (λ _. Adds wrongs.old.items wrongs.new.items (template_faults key.now (now_of texts.now))) }
-{
-    for text in texts {
-        let is_template = read_template(alloc, text)?.is_some();
-        add_text_unless(wrongs, is_template, FaultKind::BadTemplate, key, text)?;
-    }
-    Ok(())
 }
 
 /// The templates of an input, in order.

@@ -2,13 +2,9 @@
 ghost use Rattle.std.specs.Prelude.{◌≡◌, IfOk, option_map, chars};
 ghost use Rattle.toml.specs.View.{items_view, view};
 ghost use Rattle.metric.specs.Glob.{glob_of};
-ghost use Rattle.agent_config.specs.Faults.{glob_faults, statistic_faults, texts_in, texts_of};
-ghost use Rattle.agent_config.specs.Found.{Adds};
+ghost use Rattle.agent_config.specs.Faults.{texts_in, texts_of};
 ghost use Rattle.agent_config.specs.Seen.{now_of};
 
-use crate::adding::add_text_unless;
-use crate::fault::{FaultKind, Wrong};
-use crate::shapes::is_statistic;
 use fixed_num::OutOfMemory;
 use metric::{Glob, GlobFault};
 use std::alloc::Global;
@@ -51,34 +47,4 @@ pub(crate) fn read_glob(alloc: Global, text: &str) -> Result<Option<Glob>, OutOf
         Err(GlobFault::BadGlob) => Ok(None),
         Err(GlobFault::OutOfMemory) => Err(OutOfMemory),
     }
-}
-
-/// Adds the faults of a list of globs.
-pub(crate) fn add_glob_faults<'a>(
-    alloc: Global,
-    wrongs: &mut Vec<Wrong<'a>>,
-    key: &'a str,
-    texts: &[&'a str],
-) -> Result<(), OutOfMemory>
-    ensures { IfOk result (λ _. Adds wrongs.old.items wrongs.new.items (glob_faults key.now (now_of texts.now))) }
-{
-    for text in texts {
-        let is_glob = read_glob(alloc, text)?.is_some();
-        add_text_unless(wrongs, is_glob, FaultKind::BadGlob, key, text)?;
-    }
-    Ok(())
-}
-
-/// Adds the faults of a list of names of statistics.
-pub(crate) fn add_statistic_faults<'a>(
-    wrongs: &mut Vec<Wrong<'a>>,
-    key: &'a str,
-    texts: &[&'a str],
-) -> Result<(), OutOfMemory>
-    ensures { IfOk result (λ _. Adds wrongs.old.items wrongs.new.items (statistic_faults key.now (now_of texts.now))) }
-{
-    for text in texts {
-        add_text_unless(wrongs, is_statistic(text), FaultKind::OutOfRange, key, text)?;
-    }
-    Ok(())
 }

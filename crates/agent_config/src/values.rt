@@ -1,25 +1,24 @@
 //! What is wrong with values.
-ghost use Rattle.std.specs.Prelude.{◌≡◌, IfOk};
-ghost use Rattle.toml.specs.Data.{as_str, as_table};
-ghost use Rattle.toml.specs.View.{table_view, view};
-ghost use Rattle.agent_config.specs.Faults.{file_faults, list_faults, listed_faults, name_faults};
-ghost use Rattle.agent_config.specs.Faults.{number_faults, place_faults, tag_faults, tagged_faults};
-ghost use Rattle.agent_config.specs.Faults.{statistics_faults, templates_faults, texts_in, time_faults, value_faults};
+ghost use Rattle.std.specs.Prelude.{◌≡◌, IfOk, option_map};
+ghost use Rattle.toml.specs.Data.{as_table};
+ghost use Rattle.toml.specs.View.{view};
+ghost use Rattle.agent_config.specs.Faults.{is_one_place, listed_faults, range_faults, tagged_faults};
+ghost use Rattle.agent_config.specs.Faults.{texts_in, time_faults, value_faults};
 ghost use Rattle.agent_config.specs.Found.{Adds};
-ghost use Rattle.agent_config.specs.Keys.{names_of};
 ghost use Rattle.agent_config.specs.Rows.{is_long_enough};
+ghost use Rattle.agent_config.specs.Seen.{now_of};
 
-use crate::adding::{add_unless, add_wrong};
+use crate::adding::{add_range_fault, add_unless, add_wrong};
 use crate::fault::{FaultKind, Wrong};
 use crate::inner_faults::{add_table_faults, add_tables_faults};
 use crate::rows::is_counted;
-use crate::shapes::{Names, Shape, TimeRow};
-use crate::templates::add_template_faults;
-use crate::texts::{add_glob_faults, add_statistic_faults, texts_in};
+use crate::shapes::{Shape, TimeRow};
+use crate::spelled::{Spelled, add_spelling_faults, add_texts_faults};
+use crate::texts::texts_in;
 use crate::times::time_in;
 use fixed_num::OutOfMemory;
 use std::alloc::Global;
-use toml::{Table, Value};
+use toml::Value;
 
 /// Adds the faults of the value of a key.
 pub(crate) fn add_value_faults<'a>(
@@ -34,87 +33,56 @@ pub(crate) fn add_value_faults<'a>(
 {
     match shape {
         Shape::Anything => Ok(()),
-        Shape::Count(row) => add_number_faults(wrongs, key, row.most, value.as_integer()),
+        Shape::Count(row) => {
+            let right = value.as_integer().map(|n| is_counted(row.most, n));
+            add_range_fault(wrongs, key, right)
+        }
         Shape::Truth(_) => add_unless(wrongs, value.is_bool(), FaultKind::WrongType, key),
-        Shape::Place(_) => add_place_faults(wrongs, key, value),
+        Shape::Place(_) => {
+            let right = value.as_str().map(|text| !text.is_empty());
+            add_range_fault(wrongs, key, right)
+        }
         Shape::AnyText(_) => add_unless(wrongs, value.is_str(), FaultKind::WrongType, key),
-        Shape::OneOf(names) => add_name_faults(wrongs, key, names, value),
-        Shape::Templates => add_templates_faults(alloc, wrongs, key, value),
-        Shape::Files => add_file_faults(alloc, wrongs, key, value),
+        Shape::OneOf(names) => {
+            let right = value.as_str().map(|name| names.have(name));
+            add_range_fault(wrongs, key, right)
+        }
+        Shape::Templates => add_texts_faults(alloc, wrongs, key, &Spelled::Template, value),
+        Shape::Files => add_files_faults(alloc, wrongs, key, value),
         Shape::Time(row) => add_time_faults(alloc, wrongs, key, row, value),
-        Shape::Globs => add_list_faults(alloc, wrongs, key, value),
+        Shape::Globs => add_texts_faults(alloc, wrongs, key, &Spelled::Glob, value),
         Shape::TagGlobs => add_tagged_faults(alloc, wrongs, key, value),
         Shape::WholeNumber => add_unless(wrongs, value.is_integer(), FaultKind::WrongType, key),
         Shape::Table(inner) => add_table_faults(alloc, wrongs, key, inner, value),
         Shape::Tables(inner) => add_tables_faults(alloc, wrongs, key, inner, value),
-        Shape::Statistics => add_statistics_faults(alloc, wrongs, key, value),
+        Shape::Statistics => add_texts_faults(alloc, wrongs, key, &Spelled::Statistic, value),
     }
 }
 
-/// Adds the faults of a number that goes from 1 to a greatest one.
-fn add_number_faults<'a>(
-    wrongs: &mut Vec<Wrong<'a>>,
-    key: &'a str,
-    most: u32,
-    number: Option<i64>,
-) -> Result<(), OutOfMemory>
-    ensures { IfOk result (λ _. Adds wrongs.old.items wrongs.new.items (number_faults key.now most number)) }
+/// Are the texts of a list exactly one, which isn't empty?
+fn is_one_place(texts: &[&str]) -> bool
+    ensures { result ≡ is_one_place (now_of texts.now) }
 {
-    match number {
-        Some(n) => add_unless(wrongs, is_counted(most, n), FaultKind::OutOfRange, key),
-        None => add_wrong(wrongs, FaultKind::WrongType, key),
-    }
-}
-
-/// Adds the faults of a place.
-fn add_place_faults<'a>(
-    wrongs: &mut Vec<Wrong<'a>>,
-    key: &'a str,
-    value: &'a Value,
-) -> Result<(), OutOfMemory>
-    ensures { IfOk result (λ _. Adds wrongs.old.items wrongs.new.items
-        (place_faults key.now (as_str (view value.now)))) }
-{
-    match value.as_str() {
-        Some(text) => add_unless(wrongs, !text.is_empty(), FaultKind::OutOfRange, key),
-        None => add_wrong(wrongs, FaultKind::WrongType, key),
-    }
-}
-
-/// Adds the faults of a text that is one of some names.
-fn add_name_faults<'a>(
-    wrongs: &mut Vec<Wrong<'a>>,
-    key: &'a str,
-    names: &Names,
-    value: &'a Value,
-) -> Result<(), OutOfMemory>
-    ensures { IfOk result (λ _. Adds wrongs.old.items wrongs.new.items
-        (name_faults key.now (names_of names.now) (as_str (view value.now)))) }
-{
-    match value.as_str() {
-        Some(name) => add_unless(wrongs, names.have(name), FaultKind::OutOfRange, key),
-        None => add_wrong(wrongs, FaultKind::WrongType, key),
+    match texts {
+        [text] => !text.is_empty(),
+        _ => false,
     }
 }
 
 /// Adds the faults of a list of one place.
-fn add_file_faults<'a>(
+fn add_files_faults<'a>(
     alloc: Global,
     wrongs: &mut Vec<Wrong<'a>>,
     key: &'a str,
     value: &'a Value,
 ) -> Result<(), OutOfMemory>
     ensures { IfOk result (λ _. Adds wrongs.old.items wrongs.new.items
-        (file_faults key.now (texts_in (view value.now)))) }
+        (range_faults key.now (option_map is_one_place (texts_in (view value.now))))) }
 {
-    let Some(texts) = texts_in(alloc, value)? else {
-        add_wrong(wrongs, FaultKind::WrongType, key)?;
-        return Ok(());
-    };
-    match texts.as_slice() {
-        [text] => add_unless(wrongs, !text.is_empty(), FaultKind::OutOfRange, key),
-        _ => add_wrong(wrongs, FaultKind::OutOfRange, key),
-    }
+    let texts = texts_in(alloc, value)?;
+    let right = texts.map(|texts| is_one_place(texts.as_slice()));
+    add_range_fault(wrongs, key, right)?;
+    Ok(())
 }
 
 /// Adds the faults of a time, which is no shorter than the least.
@@ -152,54 +120,6 @@ fn is_long_enough(row: &TimeRow, time: Option<i64>) -> bool
     }
 }
 
-/// Adds the faults of a list of globs.
-fn add_list_faults<'a>(
-    alloc: Global,
-    wrongs: &mut Vec<Wrong<'a>>,
-    key: &'a str,
-    value: &'a Value,
-) -> Result<(), OutOfMemory>
-    ensures { IfOk result (λ _. Adds wrongs.old.items wrongs.new.items
-        (list_faults key.now (texts_in (view value.now)))) }
-{
-    match texts_in(alloc, value)? {
-        Some(texts) => add_glob_faults(alloc, wrongs, key, texts.as_slice()),
-        None => add_wrong(wrongs, FaultKind::WrongType, key),
-    }
-}
-
-/// Adds the faults of a list of names of statistics.
-fn add_statistics_faults<'a>(
-    alloc: Global,
-    wrongs: &mut Vec<Wrong<'a>>,
-    key: &'a str,
-    value: &'a Value,
-) -> Result<(), OutOfMemory>
-    ensures { IfOk result (λ _. Adds wrongs.old.items wrongs.new.items
-        (statistics_faults key.now (texts_in (view value.now)))) }
-{
-    match texts_in(alloc, value)? {
-        Some(texts) => add_statistic_faults(wrongs, key, texts.as_slice()),
-        None => add_wrong(wrongs, FaultKind::WrongType, key),
-    }
-}
-
-/// Adds the faults of a list of templates.
-fn add_templates_faults<'a>(
-    alloc: Global,
-    wrongs: &mut Vec<Wrong<'a>>,
-    key: &'a str,
-    value: &'a Value,
-) -> Result<(), OutOfMemory>
-    ensures { IfOk result (λ _. Adds wrongs.old.items wrongs.new.items
-        (templates_faults key.now (texts_in (view value.now)))) }
-{
-    match texts_in(alloc, value)? {
-        Some(texts) => add_template_faults(alloc, wrongs, key, texts.as_slice()),
-        None => add_wrong(wrongs, FaultKind::WrongType, key),
-    }
-}
-
 /// Adds the faults of a table of lists of globs.
 fn add_tagged_faults<'a>(
     alloc: Global,
@@ -210,23 +130,12 @@ fn add_tagged_faults<'a>(
     ensures { IfOk result (λ _. Adds wrongs.old.items wrongs.new.items
         (tagged_faults key.now (as_table (view value.now)))) }
 {
-    match value.as_table() {
-        Some(table) => add_tag_faults(alloc, wrongs, key, table),
-        None => add_wrong(wrongs, FaultKind::WrongType, key),
-    }
-}
-
-/// Adds the faults of the tags of a table of lists of globs.
-fn add_tag_faults<'a>(
-    alloc: Global,
-    wrongs: &mut Vec<Wrong<'a>>,
-    key: &'a str,
-    table: &'a Table,
-) -> Result<(), OutOfMemory>
-    ensures { IfOk result (λ _. Adds wrongs.old.items wrongs.new.items (tag_faults key.now (table_view table.now))) }
-{
-    for (tag, value) in table.iter() {
-        add_listed_faults(alloc, wrongs, key, tag.as_str(), value)?;
+    let Some(table) = value.as_table() else {
+        add_wrong(wrongs, FaultKind::WrongType, key)?;
+        return Ok(());
+    };
+    for (tag, globs) in table.iter() {
+        add_listed_faults(alloc, wrongs, key, tag.as_str(), globs)?;
     }
     Ok(())
 }
@@ -245,7 +154,7 @@ fn add_listed_faults<'a>(
     match texts_in(alloc, value)? {
         Some(texts) => {
             add_unless(wrongs, !tag.is_empty(), FaultKind::OutOfRange, key)?;
-            add_glob_faults(alloc, wrongs, key, texts.as_slice())?;
+            add_spelling_faults(alloc, wrongs, key, &Spelled::Glob, texts.as_slice())?;
             Ok(())
         }
         None => add_wrong(wrongs, FaultKind::WrongType, key),

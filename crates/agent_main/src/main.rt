@@ -13,6 +13,7 @@ use std::alloc::Global;
 use std::env;
 use std::fs::File;
 use std::io::ErrorKind;
+use std::net::Net;
 use std::process::ExitCode;
 use std::rt::{Clock, Files};
 use std::thread::Threads;
@@ -123,7 +124,7 @@ fn words_of(rt: &HostRuntime, alloc: Global) -> Result<Vec<String>, OutOfMemory>
 
 /// Runs the words in the real world, given what stands behind the standard streams, and tells standard error
 /// of an end of which the run itself told people nothing.
-fn run_words<R: Files<File = File> + Clock + Eprint + Threads + Sync>(
+fn run_words<R: Files<File = File> + Clock + Eprint + Net + Threads + Sync>(
     rt: &R,
     alloc: Global,
     words: &[String],

@@ -3,6 +3,7 @@ ghost use Rattle.std.specs.Prelude.{◌≡◌, None};
 
 mod clock;
 mod opening;
+mod serving;
 mod streams;
 
 use crate::shown::Shown;
@@ -10,12 +11,14 @@ use agent_base::{OpenFault, PutFault, Sink, Slots, Source, World};
 use clock::RealClock;
 pub use opening::{Refusal, StandardStreams, open_standard};
 use opening::{FileIdentity, in_plain_words};
+use serving::Input;
 use std::alloc::Global;
 use std::fs::File;
-use std::io::{Stderr, Stdin, Stdout, Write};
+use std::io::{ErrorKind, Stderr, Stdin, Stdout, Write};
+use std::net::Net;
 use std::rt::{Clock, Files};
 use std::thread::Threads;
-use streams::{Reader, Writer};
+use streams::Writer;
 
 /// The runtime's handles of the standard streams.
 #[derive(Clone, Copy)]
@@ -25,8 +28,8 @@ pub struct StreamHandles {
     pub error: Stderr,
 }
 
-/// The real world. The place `stdin` is standard input and `stdout` standard output; every other place is a
-/// file. The report goes to standard output. A part that was given back is handed out again where its place
+/// The real world. The place `stdin` is standard input and `stdout` standard output; an input's place that begins with
+/// `udp ` is a StatsD server; every other place is a file. The report goes to standard output. A part that was given back is handed out again where its place
 /// is opened once more.
 ///
 /// The file of an output place is made empty at the first put, or as its part is given back; but where the
@@ -35,11 +38,12 @@ pub struct StreamHandles {
 #[derive(Drop)]
 pub struct RealWorld<'r, R> {
     rt: &'r R,
+    alloc: Global,
     streams: StreamHandles,
     standard: StandardStreams,
     /// The regular files of the places that were opened.
     places: Vec<FileIdentity>,
-    ins: Slots<Reader>,
+    ins: Slots<Input>,
     outs: Slots<Writer>,
     /// A clock was asked for, which a run does once all its places are open, and a start that is refused
     /// never does.
@@ -49,7 +53,7 @@ pub struct RealWorld<'r, R> {
     reported: Vec<u8>,
 }
 
-impl<'r, R: Files<File = File> + Clock + Threads + Sync> RealWorld<'r, R> {
+impl<'r, R: Files<File = File> + Clock + Net + Threads + Sync> RealWorld<'r, R> {
     ghost use Rattle.agent_base.specs.Places.{AreHome};
 
     /// The world in which nothing is opened yet but the standard streams.
@@ -64,6 +68,7 @@ impl<'r, R: Files<File = File> + Clock + Threads + Sync> RealWorld<'r, R> {
     {
         RealWorld {
             rt,
+            alloc,
             streams,
             standard,
             places: Vec::new(alloc),
@@ -98,29 +103,32 @@ fn emptied(mut part: Writer, stderr: Stderr, place: &str) -> Writer
     part
 }
 
-impl<'r, R: Files<File = File> + Clock + Threads + Sync> World for RealWorld<'r, R> {
+impl<'r, R: Files<File = File> + Clock + Net + Threads + Sync> World for RealWorld<'r, R> {
     ghost use Rattle.agent_base.specs.Slots.{places_of};
 
-    type In = Reader;
+    type In = Input;
 
     type Out = Writer;
 
     type Clk = RealClock<'r, R>;
 
     ghost view = { λ w. record {
-      ins = places_of (⟦<Reader as Source>⟧.told) w.ins;
+      ins = places_of (⟦<Input as Source>⟧.told) w.ins;
       outs = places_of (⟦<Writer as Sink>⟧.told) w.outs;
       clocks = λ who. None;
       report = record { reported = None; report_faults = w.report.faults };
     } };
 
-    fn open_in(&mut self, place: &str) -> Result<Reader, OpenFault> {
+    fn open_in(&mut self, place: &str) -> Result<Input, OpenFault> {
         if !self.ins.has(place) {
-            match self.reader_at(place) {
+            match self.input_at(place) {
                 Ok((part, file)) => {
                     if self.places.push(file).is_err() || self.ins.add(place, part).is_err() {
                         return Err(OpenFault::OutOfMemory);
                     }
+                }
+                Err(refusal) if refusal.kind() == ErrorKind::OutOfMemory => {
+                    return Err(OpenFault::OutOfMemory);
                 }
                 Err(refusal) => self.refused = Some(refusal),
             }
@@ -142,7 +150,7 @@ impl<'r, R: Files<File = File> + Clock + Threads + Sync> World for RealWorld<'r,
         self.outs.open(place)
     }
 
-    fn give_in(&mut self, place: &str, part: Reader) {
+    fn give_in(&mut self, place: &str, part: Input) {
         self.ins.give(place, part);
     }
 

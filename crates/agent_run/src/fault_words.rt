@@ -131,7 +131,7 @@ fn right_words(
 /// Which kinds a class has.
 fn kinds_words(class: &Class) -> &'static str {
     match class {
-        Class::Inputs => "there are no such inputs; there is `file`",
+        Class::Inputs => "there are no such inputs; there are `file` and `statsd`",
         Class::Outputs => "there are no such outputs; there is `file`",
         Class::Processors => {
             "there are no such processors; there are `converter`, `dedup`, `regex` and `rename`"
@@ -201,22 +201,31 @@ fn whole_words(
     String::from_str(alloc, words)
 }
 
+/// The key at which the place of a plugin stands.
+fn place_key(plugin: Option<&PluginName>) -> &'static str {
+    match plugin {
+        Some(plugin) if plugin.kind.as_str() == "statsd" => "service_address",
+        _ => "files",
+    }
+}
+
 /// Which other plugin has a place, or the journal.
 fn same_words(
     alloc: Global,
     listed: &ListedFault,
     names: Option<&FaultNames>,
 ) -> Result<String, AllocError> {
-    let other = match names {
-        Some(names) => names.other.as_ref(),
-        None => None,
+    let (plugin, other) = match names {
+        Some(names) => (names.plugin.as_ref(), names.other.as_ref()),
+        None => (None, None),
     };
+    let key = place_key(plugin);
     match other {
         Some(plugin) => {
             let other = plugin_words(alloc, &listed.fault.class, plugin)?;
-            format!(in alloc; "files: {other}, has this place already")
+            format!(in alloc; "{key}: {other}, has this place already")
         }
-        None => String::from_str(alloc, "files: the journal has this place"),
+        None => format!(in alloc; "{key}: the journal has this place"),
     }
 }
 

@@ -3,7 +3,7 @@ ghost use Rattle.std.specs.Prelude.{◌≡◌, ◌≤◌, ◌+◌, ◌++◌, ◌
 ghost use Rattle.std.specs.Prelude.{IfOk, Some, decimal};
 ghost use Rattle.agent_run.specs.Generated.{generated_line, generated_text};
 
-use agent_base::{Failed, Source};
+use agent_base::{ReadRefused, Source};
 use fixed_num::OutOfMemory;
 use std::alloc::Global;
 use std::marker::Model;
@@ -92,7 +92,7 @@ impl Generated {
 impl Source for Generated {
     ghost told = { λ left. record { bytes = Some left; faults = 0 } };
 
-    fn read(&mut self, buf: &mut [u8]) -> Result<usize, Failed> {
+    fn read(&mut self, buf: &mut [u8]) -> Result<usize, ReadRefused> {
         Ok(self.fill(buf))
     }
 }

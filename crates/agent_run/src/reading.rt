@@ -1,29 +1,21 @@
 //! Reading the configuration of a place.
-ghost use Rattle.std.specs.Prelude.{◌≡◌, ◌≢◌, ◌≤◌, ◌+◌, IfOk, IfErr, OnErr, length, take, drop, vec_len};
+ghost use Rattle.std.specs.Prelude.{◌≡◌, ◌≢◌, ◌≤◌, ◌+◌, IfOk, IfErr, length, take, drop, vec_len};
 ghost use Rattle.std.specs.Io.KnownBytes.{ReadConsumes};
-ghost use Rattle.agent_base.specs.Counts.{HasCause, Rose};
+ghost use Rattle.agent_base.specs.Counts.{Rose};
 ghost use Rattle.agent_base.specs.Places.{AreHome};
+ghost use Rattle.agent_base.specs.Reads.{ReadHasCause};
 ghost use Rattle.agent_base.specs.Views.{OnlyIn};
 ghost use Rattle.agent_config.specs.Sound.{IsSound};
 ghost use Rattle.agent_run.specs.Checking.{Fills, IsUnread, TakesAtMost, TakesText, most_taken};
 ghost use Rattle.agent_run.specs.Configured.{IsReadAt, IsUnready, IsUnsaid, SaysConfig};
 
 use crate::faults::say_faults;
-use agent_base::{Failed, OpenFault, Source, World};
+use agent_base::{OpenFault, ReadRefused, Source, World};
 use agent_config::{Config, ConfigFault, ConfigKind, read_config};
 use std::alloc::{AllocError, Global};
 
 /// The most bytes that are taken of a configuration: one above the longest that is read.
 const MOST_TAKEN: usize = 1_048_577;
-
-/// Why a text wasn't read.
-#[derive(Clone, Copy, Debug, PartialEq, Eq)]
-enum TextFault {
-    /// A read failed.
-    Failed,
-    /// No memory was left, and nothing was read.
-    OutOfMemory,
-}
 
 /// Why the configuration at a place wasn't read.
 #[derive(Clone, Copy, Debug, PartialEq, Eq)]
@@ -39,23 +31,23 @@ pub(crate) enum Unread {
 }
 
 /// Reads into a buffer, from a place on.
-fn read_from<S: Source>(buf: &mut [u8], at: usize, src: &mut S) -> Result<usize, Failed>
+fn read_from<S: Source>(buf: &mut [u8], at: usize, src: &mut S) -> Result<usize, ReadRefused>
     requires { at ≤ length buf.old }
     ensures len { length buf.new ≡ length buf.old }
     ensures before { take at buf.new ≡ take at buf.old }
     ensures bound { IfOk result (λ n. at + n ≤ length buf.new) }
     ensures bytes { ReadConsumes (S.told src.old).bytes (S.told src.new).bytes result (drop at buf.new) }
-    ensures cause { HasCause (S.told src.old).faults (S.told src.new).faults result }
+    ensures cause { ReadHasCause (S.told src.old).faults (S.told src.new).faults result }
 {
     src.read(&mut buf[at..])
 }
 
 /// Reads until a buffer is full, or the source at its end, and says how many bytes that were.
-fn fill<S: Source>(buf: &mut [u8], src: &mut S) -> Result<usize, Failed>
+fn fill<S: Source>(buf: &mut [u8], src: &mut S) -> Result<usize, ReadRefused>
     ensures len { length buf.new ≡ length buf.old }
     ensures filled { IfOk result (Fills (S.told src.old).bytes (S.told src.new).bytes buf.new) }
     ensures taken { TakesAtMost (length buf.old) (S.told src.old).bytes (S.told src.new).bytes }
-    ensures failed { OnErr result (Rose (S.told src.old).faults (S.told src.new).faults) }
+    ensures failed { result ≡ Err ReadRefused.Failed → Rose (S.told src.old).faults (S.told src.new).faults }
     ensures later { (S.told src.old).faults ≤ (S.told src.new).faults }
 {
     let mut len = 0;
@@ -63,18 +55,18 @@ fn fill<S: Source>(buf: &mut [u8], src: &mut S) -> Result<usize, Failed>
         match read_from(buf, len, src) {
             Ok(0) => return Ok(len),
             Ok(n) => len += n,
-            Err(fault) => return Err(fault),
+            Err(refused) => return Err(refused),
         }
     }
     Ok(len)
 }
 
 /// The same, of a vector.
-fn fill_text<S: Source>(text: &mut Vec<u8>, src: &mut S) -> Result<usize, Failed>
+fn fill_text<S: Source>(text: &mut Vec<u8>, src: &mut S) -> Result<usize, ReadRefused>
     ensures len { length text.new.items ≡ vec_len text.old }
     ensures filled { IfOk result (Fills (S.told src.old).bytes (S.told src.new).bytes text.new.items) }
     ensures taken { TakesAtMost (vec_len text.old) (S.told src.old).bytes (S.told src.new).bytes }
-    ensures failed { OnErr result (Rose (S.told src.old).faults (S.told src.new).faults) }
+    ensures failed { result ≡ Err ReadRefused.Failed → Rose (S.told src.old).faults (S.told src.new).faults }
     ensures later { (S.told src.old).faults ≤ (S.told src.new).faults }
 {
     fill(text, src)
@@ -88,21 +80,21 @@ fn room(alloc: Global) -> Result<Vec<u8>, AllocError>
 }
 
 /// The bytes that a source has left, or the first of them where there are more than `MOST_TAKEN`.
-fn read_text<S: Source>(alloc: Global, src: &mut S) -> Result<Vec<u8>, TextFault>
+fn read_text<S: Source>(alloc: Global, src: &mut S) -> Result<Vec<u8>, ReadRefused>
     ensures text { IfOk result (λ text. TakesText (S.told src.old).bytes (S.told src.new).bytes text.items) }
     ensures taken { TakesAtMost most_taken (S.told src.old).bytes (S.told src.new).bytes }
-    ensures failed { result ≡ Err TextFault.Failed → Rose (S.told src.old).faults (S.told src.new).faults }
+    ensures failed { result ≡ Err ReadRefused.Failed → Rose (S.told src.old).faults (S.told src.new).faults }
     ensures later { (S.told src.old).faults ≤ (S.told src.new).faults }
 {
     let Ok(mut text) = room(alloc) else {
-        return Err(TextFault::OutOfMemory);
+        return Err(ReadRefused::OutOfMemory);
     };
     match fill_text(&mut text, src) {
         Ok(len) => {
             text.truncate(len);
             Ok(text)
         }
-        Err(Failed) => Err(TextFault::Failed),
+        Err(refused) => Err(refused),
     }
 }
 
@@ -131,8 +123,8 @@ fn read_place<W: World>(alloc: Global, world: &mut W, place: &str) -> Result<Vec
     world.give_in(place, source);
     match read {
         Ok(text) => Ok(text),
-        Err(TextFault::Failed) => Err(Unread::Failed),
-        Err(TextFault::OutOfMemory) => Err(Unread::OutOfMemory),
+        Err(ReadRefused::Failed) => Err(Unread::Failed),
+        Err(ReadRefused::OutOfMemory) => Err(Unread::OutOfMemory),
     }
 }
 

@@ -1,5 +1,6 @@
 //! What a run left beside what is wanted of it.
 use crate::laid::{Places, places_laid};
+use crate::serving::Input;
 use crate::told::ToldWorld;
 use crate::wanted::{Start, Wanted, WantedText, end_wanted, texts_wanted};
 use agent_base::MemWorld;
@@ -34,7 +35,7 @@ fn append_named(out: &mut Vec<u8>, name: &str, text: &[u8]) -> Result<(), AllocE
 }
 
 /// What stands at a place that is written, or that there is no part.
-fn held<'a>(world: &'a MemWorld, place: &str) -> &'a [u8] {
+fn held<'a>(world: &'a MemWorld<Input>, place: &str) -> &'a [u8] {
     match world.out(place) {
         Some(sink) => sink.bytes(),
         None => b"(no part is here)",
@@ -51,7 +52,7 @@ fn reported(world: &ToldWorld) -> &[u8] {
 }
 
 /// The lines that were said to people, each with a newline.
-fn said(alloc: Global, world: &MemWorld) -> Result<Vec<u8>, AllocError> {
+fn said(alloc: Global, world: &MemWorld<Input>) -> Result<Vec<u8>, AllocError> {
     let mut all = Vec::new(alloc);
     for line in world.said() {
         all.extend_from_slice(line.as_bytes())?;
@@ -99,7 +100,7 @@ fn compare_text(
 /// Compares whether each part is back at its place.
 fn compare_home(
     places: &Places<'_>,
-    world: &MemWorld,
+    world: &MemWorld<Input>,
     differences: &mut Differences,
 ) -> Result<(), AllocError> {
     for place in &places.ins {

@@ -3,7 +3,8 @@ ghost use Rattle.std.specs.Prelude.{◌≡◌, IfOk, false};
 ghost use Rattle.agent_base.specs.Places.{AreHome};
 
 use crate::marks::{failing, mark_of, text_about, unread};
-use crate::told::ToldWorld;
+use crate::serving::input_at;
+use crate::told::{TellingWorld, ToldWorld};
 use agent_base::{Clock, MemClock, MemSink, MemSource, MemWorld, World};
 use scenario_tables::Part;
 use std::alloc::Global;
@@ -20,15 +21,21 @@ pub struct Scene {
 /// The source at a place: what it gives, its reads that fail, and how many bytes a read gives at most.
 pub fn source_at(alloc: Global, parts: &[Part<'_>], place: &str) -> Result<MemSource, Fail> {
     let bytes = text_about(alloc, parts, "in", place)?;
-    let mut reads = Vec::new(alloc);
-    for (number, _bytes) in failing(alloc, parts, "reads", place)?.as_slice() {
-        reads.push(*number)?;
-    }
+    let reads = failing_reads(alloc, parts, place)?;
     let most = match parts.iter().find(|part| part.key == "chunks") {
         Some(part) => part.value.parse::<usize>()?,
         None => 1 << 20,
     };
     Ok(MemSource::new(alloc, bytes, reads, usize::max(most, 1)))
+}
+
+/// The numbers of the reads at a place that fail; of a server, those of the calls by which it receives.
+pub fn failing_reads(alloc: Global, parts: &[Part<'_>], place: &str) -> Result<Vec<u64>, Fail> {
+    let mut reads = Vec::new(alloc);
+    for (number, _bytes) in failing(alloc, parts, "reads", place)?.as_slice() {
+        reads.push(*number)?;
+    }
+    Ok(reads)
 }
 
 /// The empty sink at a place, with its puts that fail.
@@ -85,7 +92,7 @@ fn clock_of(alloc: Global, moments: &str) -> Result<MemClock, Fail>
     Ok(MemClock::new(alloc, list))
 }
 
-/// Lays the source at a place.
+/// Lays what is read at a place.
 fn lay_in(alloc: Global, parts: &[Part<'_>], place: &str, scene: &mut Scene) -> Result<(), Fail> {
     if is_gone(parts, place) {
         return Ok(());
@@ -93,7 +100,7 @@ fn lay_in(alloc: Global, parts: &[Part<'_>], place: &str, scene: &mut Scene) -> 
     scene
         .world
         .parts
-        .add_in(place, source_at(alloc, parts, place)?)?;
+        .add_in(place, input_at(alloc, parts, place)?)?;
     Ok(())
 }
 
@@ -141,7 +148,7 @@ fn lay_part(
 
 /// The world that a row lays.
 pub fn lay(alloc: Global, parts: &[Part<'_>]) -> Result<Scene, Fail> {
-    let world = ToldWorld {
+    let world = TellingWorld {
         parts: MemWorld::new(alloc),
         report: sink_at(alloc, parts, "report")?,
     };

@@ -8,6 +8,7 @@ mod laid;
 mod marks;
 mod rows;
 mod run;
+mod serving;
 mod to_run;
 mod told;
 mod wanted;

@@ -7,7 +7,7 @@ use std::test::Fail;
 pub const TABLES: &str =
     "pipes clocks rounds commands faults single_faults last_tries journals reports checks failed_checks runs \
     run_faults processors aggregators example tracked tracked_faults generated generated_faults tick_faults \
-    settings formats parts lines fault_lines";
+    settings formats parts lines fault_lines servers";
 
 /// The name of the row whose parts each row of its table begins with.
 const EACH: &str = "in each row";

@@ -2,9 +2,10 @@
 ghost use Rattle.std.specs.Prelude.{IfOk};
 ghost use Rattle.agent_config.specs.Sound.{IsSound};
 
-use crate::laid::{sink_at, source_at};
+use crate::laid::sink_at;
 use crate::marks::{failing, text_about};
-use agent_base::{MemSink, MemSource};
+use crate::serving::{Input, input_at};
+use agent_base::MemSink;
 use agent_config::{Config, read_config};
 use agent_workers::Opened;
 use scenario_tables::Part;
@@ -42,10 +43,10 @@ pub fn opened_by(
     alloc: Global,
     parts: &[Part<'_>],
     config: &Config,
-) -> Result<Opened<MemSource, MemSink>, Fail> {
+) -> Result<Opened<Input, MemSink>, Fail> {
     let mut inputs = Vec::new(alloc);
     for input in config.inputs.as_slice() {
-        inputs.push(source_at(alloc, parts, input.place.as_str())?)?;
+        inputs.push(input_at(alloc, parts, input.place.as_str())?)?;
     }
     let mut outputs = Vec::new(alloc);
     for output in config.outputs.as_slice() {

@@ -1,30 +1,34 @@
 //! A world in memory whose report may fail.
-use agent_base::{MemClock, MemSink, MemSource, MemWorld, OpenFault, PutFault, Sink, World};
+use crate::serving::Input;
+use agent_base::{MemClock, MemSink, MemWorld, OpenFault, PutFault, Sink, Source, World};
 use std::alloc::Global;
 
 /// A world in memory, with a sink that is told the report.
 #[derive(Drop)]
-pub struct ToldWorld {
-    pub parts: MemWorld,
+pub struct TellingWorld<S> {
+    pub parts: MemWorld<S>,
     pub report: MemSink,
 }
 
-impl World for ToldWorld {
-    type In = MemSource;
+/// Such a world, of what these tables read.
+pub type ToldWorld = TellingWorld<Input>;
+
+impl<S: Source + Send + Drop> World for TellingWorld<S> {
+    type In = S;
 
     type Out = MemSink;
 
     type Clk = MemClock;
 
     ghost view = { λ w. record {
-      ins = (⟦<MemWorld as World>⟧.view w.parts).ins;
-      outs = (⟦<MemWorld as World>⟧.view w.parts).outs;
-      clocks = (⟦<MemWorld as World>⟧.view w.parts).clocks;
+      ins = (⟦<MemWorld<S> as World>⟧.view w.parts).ins;
+      outs = (⟦<MemWorld<S> as World>⟧.view w.parts).outs;
+      clocks = (⟦<MemWorld<S> as World>⟧.view w.parts).clocks;
       report = record
           { reported = (⟦<MemSink as Sink>⟧.told w.report).bytes; report_faults = (⟦<MemSink as Sink>⟧.told w.report).faults };
     } };
 
-    fn open_in(&mut self, place: &str) -> Result<MemSource, OpenFault> {
+    fn open_in(&mut self, place: &str) -> Result<S, OpenFault> {
         self.parts.open_in(place)
     }
 
@@ -32,7 +36,7 @@ impl World for ToldWorld {
         self.parts.open_out(place)
     }
 
-    fn give_in(&mut self, place: &str, part: MemSource) {
+    fn give_in(&mut self, place: &str, part: S) {
         self.parts.give_in(place, part);
     }
 

@@ -211,6 +211,16 @@ pub job_here : {S C : Type 0} (told : S → Carried) (timed : C → Timed) (jobs
     → in_at (ins_of told timed jobs) i ≡ in_of told timed job
 job_here told timed jobs i job b is = input_here told timed jobs i job b ∙ ap (in_of told timed) (sym is)
 
+-- and it has the number of its place
+pub job_number : {S C : Type 0} (told : S → Carried) (timed : C → Timed) (jobs : List (InJob S C)) (count : ℕ)
+    (ended : List Bool) (i : ℕ) (job : InJob S C) → AreInputs count ended (ins_of told timed jobs) → i < length jobs
+    → job ≡ get_or jobs i job → (job.input ≡ i) × (i < count)
+job_number told timed jobs count ended i job are b is =
+    let within : i < count = omega (arith, b, are.count_is, length-map jobs (in_of told timed)) in (
+      ap (λ (part : InPart). part.input) (sym (job_here told timed jobs i job b is)) ∙ (are.each i within).number,
+      within,
+    )
+
 -- the first so many jobs are in no such state
 abbrev pub AreNone : {S C : Type 0} → (S → Carried) → (C → Timed) → InState → List (InJob S C) → ℕ → Type 0
 AreNone told timed state jobs i = (k : ℕ) → k < i → (in_at (ins_of told timed jobs) k).state ≢ state

@@ -22,3 +22,4 @@ pub mod SweepLemmas
 pub mod TakenSteps
 pub mod TickLemmas
 pub mod SetupLemmas
+pub mod QueueLemmas

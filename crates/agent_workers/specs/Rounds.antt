@@ -1,5 +1,6 @@
 -- What the rounds and the stop of a run leave.
 use Rattle.std.specs.Prelude.{◌≡◌, ◌⊎◌, ◌<◌, ◌≤◌, ◌+◌, ℕ, true, false, [], length, vec_len, if◌then◌else◌}
+use Rattle.pipeline_core.specs.CoreState.{told_at, CoreState}
 use Rattle.agent_workers.specs.Inputs.{AreOut, OneIsFull}
 use Rattle.agent_workers.specs.RunState.{RunState}
 use Rattle.agent_workers.specs.Running.{buffered_at, AreLeft, AreOutOrFull, AreSettled}
@@ -24,13 +25,19 @@ pub record IsHeldUp (tries still : ℕ) (now : RunState) : Type 0 where
 abbrev pub IsOver : ℕ → ℕ → RunState → Type 0
 IsOver tries still now = OneIsFull now.core.gathered now.ins ⊎ AreOut now.ins ⊎ IsHeldUp tries still now
 
+-- no report of any input waits to be asked for
+abbrev pub HasNoReports : CoreState → Type 0
+HasNoReports core = (input : ℕ) → input < length core.setup.inputs → told_at core.told input ≡ []
+
 -- What a round left: whether the run is full; where nothing came on each input is out, or as many of its groups are
 -- live
--- as may be; and where no batch is left nothing is buffered.
+-- as may be; and where no batch is left nothing is buffered. No report
+-- waits.
 pub record HasRounded (round : Round) (new : RunState) : Type 0 where
   pub full : round.full ≡ true → OneIsFull new.core.gathered new.ins
   pub idle : round.full ≡ false → round.moved ≡ false → AreOutOrFull new.core new.ins
   pub emptied : round.left ≡ false → (output : ℕ) → output < length new.outs → buffered_at new.core output ≡ 0
+  pub heard : HasNoReports new.core
 
 -- how many batches failed since the run last came on, behind a round, at least: one more where some are left
 abbrev pub still_behind : Round → ℕ → ℕ
@@ -55,3 +62,4 @@ pub record HasStopped (tries : ℕ) (old new : RunState) : Type 0 where
   pub ins : new.ins ≡ old.ins
   pub timer : new.timer ≡ old.timer
   pub rest : AreLeft tries new.core new.outs
+  pub heard : HasNoReports new.core

@@ -1,8 +1,10 @@
 //! A run as it goes on: its rounds, its ticks, its stop and its end.
-ghost use Rattle.std.specs.Prelude.{◌≡◌, ◌<◌, ◌≤◌, ◌⊎◌, [], List, length};
+ghost use Rattle.std.specs.Prelude.{◌≡◌, ◌≢◌, ◌<◌, ◌≤◌, ◌⊎◌, ℕ, ℤ, [], List, Option, length};
 ghost use Rattle.std.specs.Prelude.{IfOk, IfSome, OnOk, false, not, true, ◌||◌};
 ghost use Rattle.account.specs.AccountText.{account_text};
 ghost use Rattle.account.specs.declared.entry.Entry.{Entry};
+ghost use Rattle.agent_base.specs.Moments.{Waits};
+ghost use Rattle.pipeline_core.specs.CoreState.{told_at};
 ghost use Rattle.pipeline_core.specs.Stands.{Stands};
 ghost use Rattle.pipeline_core.specs.Steps.{after_cut};
 ghost use Rattle.agent_workers.specs.Finished.{FinishesSo};
@@ -11,7 +13,8 @@ ghost use Rattle.agent_workers.specs.Item.{proc_of, IsSameProc};
 ghost use Rattle.agent_workers.specs.Job.{Job};
 ghost use Rattle.agent_workers.specs.Noted.{part_of, EndsOn};
 ghost use Rattle.agent_workers.specs.Progress.{routing, RoutesOn, RoutesWhere, RunsOn, StopsAt, TellsOn, TicksOn};
-ghost use Rattle.agent_workers.specs.Rounds.{still_behind, AreSameParts, HasRounded, HasSent, HasStopped, IsOver};
+ghost use Rattle.agent_workers.specs.Rounds.{still_behind, AreSameParts, HasNoReports, HasRounded, HasSent, HasStopped};
+ghost use Rattle.agent_workers.specs.Rounds.{IsOver};
 ghost use Rattle.agent_workers.specs.RunState.{state_of, AreFit, IsAboutSame, IsProcFit};
 ghost use Rattle.agent_workers.specs.Running.{IsAtRest, SomeIsBuffered, IsQuiet, IsRoutable, IsRunning};
 
@@ -300,19 +303,18 @@ fn tick_noted<K: Sink + Drop, C: Clock + Drop>(
 /// Takes the reports of an input out of the core, and lets them go: nobody asks for them.
 fn let_reports_of(core: &mut Core, input: u32)
     requires { input < length core.old.setup.inputs }
+    ensures gone { told_at core.new.told input ≡ [] }
+    ensures others { (k : ℕ) → k ≢ input → told_at core.new.told k ≡ told_at core.old.told k }
     ensures same { core.new ≡ record core.old { told = core.new.told } }
     ensures stands { (journal : List Entry) → Stands core.old journal → Stands core.new journal }
 {
-    for _report in 0..u64::MAX {
-        if core.next_report(input).is_none() {
-            return;
-        }
-    }
+    while core.next_report(input).is_some() {}
 }
 
 /// Takes the reports of all inputs out of the core, and lets them go.
 fn let_reports_go<S: Source + Drop, C: Clock + Drop>(core: &mut Core, inputs: &[InJob<'_, S, C>])
     requires { AreInputs (length core.old.setup.inputs) core.old.ended (ins_of S.told C.told inputs.now) }
+    ensures gone { HasNoReports core.new }
     ensures same { core.new ≡ record core.old { told = core.new.told } }
     ensures tells { TellsOn core.old core.new }
     ensures stands { (journal : List Entry) → Stands core.old journal → Stands core.new journal }
@@ -327,6 +329,10 @@ fn wait_unless<C: Clock>(moved: bool, clock: &mut C)
     ensures list { (C.told clock.new).moments ≡ (C.told clock.old).moments }
     ensures later { IfSome (C.told clock.old).moments
         (λ moments. (C.told clock.old).next ≤ (C.told clock.new).next) }
+    ensures waits { moved ≡ false → (given : Option ℤ)
+        × Waits (C.told clock.old).moments (C.told clock.old).next (C.told clock.new).next (C.stopped clock.old)
+        (C.stopped clock.new) (C.waits clock.old) (C.waits clock.new) given }
+    ensures stays { moved ≡ true → clock.new ≡ clock.old }
 {
     if !moved {
         let _ = clock.wait();

@@ -10,7 +10,9 @@ mod journals;
 mod lanes;
 mod pieces;
 mod readings;
+mod servers;
 mod singles;
+mod sources;
 
 use aggregators::{FinalCalls, MergeCalls, StatsCalls};
 use banks::BankCalls;
@@ -23,7 +25,9 @@ use metric::Metric;
 use pieces::PieceCalls;
 use readings::ReadCalls;
 use scenario_tables::{Row, Table, Tally};
+use servers::ServerCalls;
 use singles::SingleCalls;
+use sources::SourceCalls;
 use std::alloc::Global;
 use std::str::{FromStr, SplitWhitespace};
 use std::test::Fail;
@@ -96,6 +100,8 @@ fn main(rt: HostRuntime) -> Result<(), Fail> {
     all &= table::<MergeCalls>(&rt, asked, "merges")?;
     all &= table::<FinalCalls>(&rt, asked, "finals")?;
     all &= table::<BankCalls>(&rt, asked, "banks")?;
+    all &= table::<ServerCalls>(&rt, asked, "servers")?;
+    all &= table::<SourceCalls>(&rt, asked, "sources")?;
     if all {
         Ok(())
     } else {

@@ -72,7 +72,7 @@ pub fn in_plain_words(refusal: Refusal) -> Refusal {
 }
 
 impl<'r, R: Files<File = File> + Threads> RealWorld<'r, R> {
-    /// What is read at a place, where it can be opened and is no folder.
+    /// The file at a place, or standard input, where it can be opened and is no folder.
     pub fn reader_at(&self, place: &str) -> Result<(Reader, FileIdentity), Refusal>
         ensures closed { place.now ≡ codes "stdin" → self.now.standard.input ≡ None → IsErr result }
         ensures told { IfOk result (λ opened. opened.0.faults ≡ 0) }

@@ -3,7 +3,7 @@ ghost use Rattle.std.specs.Prelude.{◌≡◌, ◌≤◌, None, take, length};
 ghost use Rattle.std.specs.Io.KnownBytes.{Appends};
 
 use super::opening::{FileIdentity, OUTPUT};
-use agent_base::{Failed, PutFault, Sink, Source};
+use agent_base::{PutFault, ReadRefused, Sink, Source};
 use either::{Either, Left, Right};
 use std::fs::{File, OpenOptions};
 use std::io::{self, ErrorKind, Read, Stdin, Stdout, Write};
@@ -43,7 +43,7 @@ pub struct Reader {
 impl Source for Reader {
     ghost told = { λ r. record { bytes = None; faults = r.faults } };
 
-    fn read(&mut self, buf: &mut [u8]) -> Result<usize, Failed> {
+    fn read(&mut self, buf: &mut [u8]) -> Result<usize, ReadRefused> {
         let descriptor = descriptor_of(&self.stream);
         for _ in 0..u64::MAX {
             match self.stream.read(buf) {
@@ -56,7 +56,7 @@ impl Source for Reader {
             }
         }
         self.faults = self.faults.saturating_add(1);
-        Err(Failed)
+        Err(ReadRefused::Failed)
     }
 }
 

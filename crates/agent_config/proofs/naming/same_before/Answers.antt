@@ -10,7 +10,7 @@ returns c =
     let class = c.args.class.now in
     let plugins = c.args.plugins.now in
     let n = c.args.number in
-    c.first_at.ensures
+    c.in_ok-first.ensures
     ∙ ap (λ place. first_at class place (plugins_view (take n plugins)))
-    (c.place_of-place.ensures ∙ ap (λ plugin. place_of class (plugin_view plugin)) c.index-plugins-number.is)
+    (c.in_ok-place.ensures ∙ ap (λ plugin. place_of class (plugin_view plugin)) c.index-plugins-number.is)
     ∙ sym (same-view class plugins n c.index-plugins-number.result c.if-number-plugins.false)

@@ -26,37 +26,41 @@ reads-preserved g c = record {
   all = search rules;
 }
 
-pub returns-then-self-eq-MAX_TAKEN_BYTES-clause-gives : goal.returns-then-self-eq-MAX_TAKEN_BYTES-clause-gives
-returns-then-self-eq-MAX_TAKEN_BYTES-clause-gives g c =
-    let takes = taken g (goal.at.returns-then-self-eq-MAX_TAKEN_BYTES-clause-gives g c).After-read_more in
+pub returns-then-self-eq-MAX_TAKEN_BYTES : goal.returns-then-self-eq-MAX_TAKEN_BYTES
+returns-then-self-eq-MAX_TAKEN_BYTES g c =
+    let takes = taken g (goal.at.returns-then-self-eq-MAX_TAKEN_BYTES g c).After-read_more in
     record {
-      pieces = search rules;
-      whatever_follows = takes_byte_limit (g.S.Source.told c.args.src.now).bytes
-          (g.S.Source.told c.read_more.new.src).bytes (hand_of c.args.self.now) (hand_of c.read_more.new.self) takes;
-      counted = search rules;
-      grows = search rules;
-      kind = search rules;
-      short = search rules;
-      limited = search rules;
-      reason = search rules;
-      faults = search rules;
+      gives = record {
+        pieces = search rules;
+        whatever_follows = takes_byte_limit (g.S.Source.told c.args.src.now).bytes
+            (g.S.Source.told c.read_more.new.src).bytes (hand_of c.args.self.now) (hand_of c.read_more.new.self) takes;
+        counted = search rules;
+        grows = search rules;
+        kind = search rules;
+        short = search rules;
+        limited = search rules;
+        reason = search rules;
+        faults = search rules;
+      };
     }
 
-pub returns-in-Some-clause-gives : goal.returns-in-Some-clause-gives
-returns-in-Some-clause-gives g c =
-    let takes = taken g (goal.at.returns-in-Some-clause-gives g c).After-read_more in
+pub returns-in-Some : goal.returns-in-Some
+returns-in-Some g c =
+    let takes = taken g (goal.at.returns-in-Some g c).After-read_more in
     let found : Takes (g.S.Source.told c.args.src.now).bytes (g.S.Source.told c.read_more.new.src).bytes
     (hand_of c.args.self.now) (hand_of c.find_end.new.self) = rw c.find_end.ensures.same takes in
     record {
-      pieces = search rules;
-      whatever_follows = takes_piece (g.S.Source.told c.args.src.now).bytes (g.S.Source.told c.read_more.new.src).bytes
-          (hand_of c.args.self.now) (hand_of c.find_end.new.self) (hand_of c.give.new.self) c.give.result found
-          c.give.ensures.pieces c.give.ensures.given;
-      counted = search rules;
-      grows = search rules;
-      kind = search rules;
-      short = search rules;
-      limited = search rules;
-      reason = search rules;
-      faults = search rules;
+      gives = record {
+        pieces = search rules;
+        whatever_follows = takes_piece (g.S.Source.told c.args.src.now).bytes (g.S.Source.told c.read_more.new.src).bytes
+            (hand_of c.args.self.now) (hand_of c.find_end.new.self) (hand_of c.give.new.self) c.give.result found
+            c.give.ensures.pieces c.give.ensures.given;
+        counted = search rules;
+        grows = search rules;
+        kind = search rules;
+        short = search rules;
+        limited = search rules;
+        reason = search rules;
+        faults = search rules;
+      };
     }

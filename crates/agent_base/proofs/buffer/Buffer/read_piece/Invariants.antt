@@ -9,7 +9,7 @@ abbrev pub invariant-reads : goal.invariant-reads
 invariant-reads g l = record {
   steps : Steps (g.S.Source.told l.fn.src).bytes (g.S.Source.told l.src).bytes (hand_of l.fn.self) (hand_of l.self);
   takes : Takes (g.S.Source.told l.fn.src).bytes (g.S.Source.told l.src).bytes (hand_of l.fn.self) (hand_of l.self);
-  faults : (g.S.Source.told l.fn.src).faults ≤ (g.S.Source.told l.src).faults;
+  faults : (g.S.Source.told l.src).faults ≡ (g.S.Source.told l.fn.src).faults;
   grows : l.fn.self.taken ≤ l.self.taken;
   most : l.self.taken < MAX_TAKEN_BYTES;
   kind : l.self.kind ≡ l.fn.self.kind;

@@ -211,6 +211,7 @@ module _ (g : Over) (c : After-let_reports_go g) (round : Round)
           length-map c.send_each.new.outputs (λ (job : OutJob g.row.K.Denot g.row.C.Denot). out_of g.K.Sink.told job),
           c.send_each.ensures.count,
         ));
+    heard = c.let_reports_go.ensures.gone;
   }
 
 -- where the round was sent nothing is raw, and the outputs are settled

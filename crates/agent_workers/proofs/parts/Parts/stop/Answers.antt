@@ -132,6 +132,7 @@ stopped g c = record {
       ≤ (out_at (outs g c.send_rest.new.outputs) o).failed_since))
       (sym (ap (λ (s : CoreState). buffered_at s o) c.let_reports_go.ensures.same))
       (c.in_ok-send_rest.ensures.rest o l);
+  heard = c.let_reports_go.ensures.gone;
 }
 
 -- what the stop made is all that is raw

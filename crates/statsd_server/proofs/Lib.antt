@@ -1,0 +1,13 @@
+pub mod Examples
+pub mod FoldLemmas
+pub mod GroupExamples
+pub mod GroupLemmas
+pub mod KeepLemmas
+pub mod LawLemmas
+pub mod LineLemmas
+pub mod NextLemmas
+pub mod OutgoingLemmas
+pub mod ServedLemmas
+pub mod ServerLemmas
+pub mod StandingLemmas
+pub mod StepLemmas

@@ -1,0 +1,6 @@
+use Rattle.std.proofs.Common.{refl}
+use Rattle.statsd_server.proofs.ServerLemmas.{stands_new}
+use Rattle.statsd_server.proofs.server.Server.new.Goals as goal
+
+pub returns : goal.returns
+returns c = stands_new _ refl c.new.ensures.keeps c.new.ensures.counted c.new.ensures.refused

@@ -1,0 +1,49 @@
+-- A member of a set, with the set's series.
+use Rattle.std.specs.Prelude.{ℕ, ◌≡◌, ◌&&◌, Bool, List, Option, Some, None}
+use Rattle.std.proofs.Common.{ap, sym}
+use Rattle.std.proofs.lemmas.Bool.Decides.{Decides-and}
+use Rattle.std.proofs.lemmas.Map.Text.{is_eq-slice_cmp}
+use Rattle.std.proofs.lemmas.Slice.Eq.{bytes_eq-Decides}
+use Rattle.std.specs.Bool.{Decides}
+use Rattle.std.specs.Str.{bytes_eq}
+use Rattle.std.specs.Cmp.{IsEquivalence, IsTotalOrder, and_equiv, both_tied, on_equiv, on_total, then_total}
+use Rattle.std.specs.Cmp.Lexicographic.{slice_cmp, nat_list_cmp_total, nat_list_eq_equiv}
+use Rattle.std.specs.Ordering.{is_eq, nat_cmp, ordering_then}
+use Rattle.std.specs.declared.cmp.Ordering.{Ordering}
+use Rattle.metric.specs.Series.{series_cmp, series_eq, series_equiv, series_ties, series_total, Series}
+use Rattle.agg_keep.specs.Spot.{series_same}
+use Rattle.statsd_server.specs.declared.change.Change.{Change}
+use Rattle.statsd_server.specs.declared.change.Change.TheVariants.{Names}
+
+abbrev pub Member : Type 0
+Member = Series × List ℕ
+
+abbrev pub member_eq : Member → Member → Bool
+member_eq a b = series_eq a.0 b.0 && bytes_eq a.1 b.1
+
+-- they are ordered by series, and those of one series by their texts
+abbrev pub member_cmp : Member → Member → Ordering
+member_cmp a b = ordering_then (series_cmp a.0 b.0) (slice_cmp nat_cmp a.1 b.1)
+
+pub member_equiv : IsEquivalence member_eq
+member_equiv =
+    and_equiv (on_equiv (λ (m : Member). m.0) series_equiv) (on_equiv (λ (m : Member). m.1) nat_list_eq_equiv)
+
+pub member_total : IsTotalOrder member_cmp
+member_total =
+    then_total (on_total (λ (m : Member). m.0) series_total) (on_total (λ (m : Member). m.1) nat_list_cmp_total)
+
+pub member_ties : (a b : Member) → member_eq a b ≡ is_eq (member_cmp a b)
+member_ties a b = both_tied _ _ (series_cmp a.0 b.0) (slice_cmp nat_cmp a.1 b.1) (series_ties a.0 b.0)
+    (sym (is_eq-slice_cmp a.1 b.1))
+
+-- equal ones are the same
+pub member_same : (a b : Member) → Decides (member_eq a b) (a ≡ b)
+member_same a b =
+    let both = Decides-and _ _ (series_same a.0 b.0) (bytes_eq-Decides a.1 b.1) in
+    (λ e. let h = both.0 e in λ i. (h.0 i, h.1 i), λ e. both.1 (ap (λ (m : Member). m.0) e, ap (λ (m : Member). m.1) e))
+
+-- the member that a change of a series names
+abbrev pub member_named : Series → Change → Option Member
+member_named series (Names member) = Some (series, member)
+member_named series change = None

@@ -59,7 +59,8 @@ pub record IsAsWritten (root : Members) (config : Config) : Type 0 where
   pub outputs : AllZip (OutputIsWritten (table_at (codes "agent") root)) (plugins_at (codes "outputs") root)
       config.outputs
 
--- where a text has no fault, a number or a time that is written is that of the configuration, as is what is written of a
+-- where a text has no fault, a number or a time that is written is that of the configuration, as is what is written of
+-- a
 -- server that of its place
 abbrev pub WrittenCounts : Type 0
 WrittenCounts =

@@ -26,7 +26,7 @@ pub struct AgentConf {
 /// An input.
 #[derive(Debug, Drop)]
 pub struct InputConf {
-    /// What is read.
+    /// What is read: the place of a file, or `udp ADDRESS PACKETS QUIET` of a server that listens on UDP.
     pub place: Text,
     /// Its format.
     pub format: InFormat,

@@ -1,6 +1,7 @@
 -- What is kept of a list of members with one more.
 use Rattle.std.proofs.Common.{◌≡◌, ◌<◌, ◌≤◌, ◌||◌, ◌++◌, ◌∙◌, ℕ, ℤ, true, false, zero, suc, cond, not, Bool, List, []}
-use Rattle.std.proofs.Common.{◌∷◌, length, filter, map, set, refl, sym, ap, subst, arith, append-nil, length-append, Some}
+use Rattle.std.proofs.Common.{◌∷◌, length, filter, map, set, refl, sym, ap, subst, arith, append-nil, length-append}
+use Rattle.std.proofs.Common.{Some}
 use Rattle.std.proofs.Common.{None}
 use Rattle.std.specs.Prelude.{nat_eq, Option, option_and_then, option_map, slice_get}
 use Rattle.std.specs.Bool.{Decides}
@@ -25,7 +26,8 @@ use Rattle.metric.proofs.GroupLemmas.{not_same}
 use Rattle.metric.proofs.PairLemmas.{AllKeys}
 use Rattle.agg_stats.specs.Asked.{asked_of, Asked}
 use Rattle.agg_stats.specs.Folds.{made_of, members_of, numbers_in, series_in, series_of, stats_of, summed}
-use Rattle.agg_stats.specs.Kept.{entry_of, fields_in, made_at, place_at, place_if, place_of, row_of, rows_of, seen, with_field}
+use Rattle.agg_stats.specs.Kept.{entry_of, fields_in, made_at, place_at, place_if, place_of, row_of, rows_of, seen}
+use Rattle.agg_stats.specs.Kept.{with_field}
 use Rattle.agg_stats.specs.Kept.{with_fields, IsIndexed, IsPlace, IsReady, Memory, ReadyMemory, RowMemory, SeriesSums}
 use Rattle.agg_stats.specs.Kept.{StandsFor, Sums}
 use Rattle.agg_stats.specs.Summary.{is_number}
@@ -211,7 +213,8 @@ abbrev pub Entries : Type 0
 Entries = List (Series × ℕ)
 
 -- the row of a series stands at its entry alone
-own_entry : (kept : Entries) (rows : List SeriesSums) (series : Series) (at : ℕ) (row : SeriesSums) → IsIndexed kept rows
+own_entry : (kept : Entries) (rows : List SeriesSums) (series : Series) (at : ℕ) (row : SeriesSums)
+    → IsIndexed kept rows
     → slice_get rows at ≡ Some row → series_eq series row.0 ≡ true → entry_of kept series ≡ Some at
 own_entry kept rows series at row h is e =
     ap (entry_of kept) ((series_same series row.0).0 e) ∙ h at row is
@@ -290,7 +293,8 @@ abbrev pub IsSet : Entries → Series → ℕ → Entries → Type 0
 IsSet old series at new = (q : Series) → entry_of new q ≡ cond (is_eq (series_cmp series q)) (Some at) (entry_of old q)
 
 -- a series with a row has its place
-has_place : (kept : Entries) (rows : List SeriesSums) (series : Series) (at : ℕ) (row : SeriesSums) → IsIndexed kept rows
+has_place : (kept : Entries) (rows : List SeriesSums) (series : Series) (at : ℕ) (row : SeriesSums)
+    → IsIndexed kept rows
     → slice_get rows at ≡ Some row → series_eq series row.0 ≡ true → place_of kept rows series ≡ Some at
 has_place kept rows series at row h is e =
     rw (own_entry kept rows series at row h is e, is, turned series row.0 true e) refl
@@ -421,7 +425,8 @@ unfolding series_in
 none_stand kind memory same rows = record {
   same = same;
   rows = ap seen rows;
-  indexed = λ at row is. absurd (let x : None ≡ Some row = sym (ap (λ (rs : List RowMemory). slice_get (seen rs) at) rows)
+  indexed = λ at row is. absurd (let x : None ≡ Some row = sym (ap (λ (rs : List RowMemory). slice_get
+      (seen rs) at) rows)
       ∙ is in cc);
   few = omega arith;
   metrics = tt;
@@ -453,7 +458,8 @@ module _ (kind : StatsKind) (ms : List Content) (m : Content) (old : Memory) (h 
 
   only : OnlyAt m olds at
   only other row is so =
-      same_some other at (sym (own_entry old.kept olds own other row h.indexed is (turned row.0 own true so)) ∙ place.entry)
+      same_some other at (sym (own_entry old.kept olds own other row h.indexed is (turned row.0 own true so))
+      ∙ place.entry)
 
   -- the row of the series was there
   known_rows : (row : SeriesSums) → slice_get olds at ≡ Some row
@@ -468,7 +474,8 @@ module _ (kind : StatsKind) (ms : List Content) (m : Content) (old : Memory) (h 
       → IsIndexed old.kept (set olds at (row.0, with_fields row.1 m.fields))
   known_indexed row is =
       let same : series_eq row.0 own ≡ true = (series_same row.0 own).1 (place.own row is) in
-      subst (IsIndexed old.kept) (sym (one_changed m olds at row is same only)) (still_indexed old.kept m olds h.indexed)
+      subst (IsIndexed old.kept) (sym (one_changed m olds at row is same only))
+      (still_indexed old.kept m olds h.indexed)
 
   -- it wasn't
   no_row : slice_get olds at ≡ None → has own ms ≡ false
@@ -571,7 +578,8 @@ module _ (time : ℤ) (asked : Asked) (ms : List Content) where
       λ i. first i ++ rest i
 
 seen_made : (time : ℤ) (asked : Asked) (rows : List RowMemory)
-    → flat_map (made_at asked time) rows ≡ flat_map (λ (row : SeriesSums). option_to_list (made_of asked time row)) (seen rows)
+    → flat_map (made_at asked time) rows ≡ flat_map (λ (row : SeriesSums). option_to_list (made_of asked time row))
+    (seen rows)
 seen_made time asked [] = refl
 seen_made time asked (memory ∷ rows) =
     ap (λ (rest : List Content). made_at asked time memory ++ rest) (seen_made time asked rows)

@@ -1,5 +1,6 @@
 -- The keys of the numbers of a series.
-use Rattle.std.proofs.Common.{◌≡◌, ◌+◌, ◌≤◌, ◌<◌, ◌||◌, ◌&&◌, ◌++◌, ◌∙◌, ℕ, zero, suc, Bool, true, false, not, cond, List, []}
+use Rattle.std.proofs.Common.{◌≡◌, ◌+◌, ◌≤◌, ◌<◌, ◌||◌, ◌&&◌, ◌++◌, ◌∙◌, ℕ, zero, suc, Bool, true, false, not, cond}
+use Rattle.std.proofs.Common.{List, []}
 use Rattle.std.proofs.Common.{◌∷◌, length, get_or, set, refl, sym, ap, subst, arith, append-nil, Some, None}
 use Rattle.std.specs.Prelude.{nat_eq, is_ok, Option, Result, Ok, Err, IsOk}
 use Rattle.std.specs.Cmp.Lexicographic.{pointwise}
@@ -89,7 +90,8 @@ first_changed : (sums rest : Sums) (field : Field)
 first_changed sums rest field =
     let new = with_number field.1 (summary_at sums field.0) in
     elim (is_number field.1) as (λ n.
-    cond n (change_at field.1 (sums ++ (cond (n && not (has_key sums field.0)) ((field.0, empty_summary) ∷ []) [] ++ rest))
+    cond n (change_at field.1 (sums ++ (cond (n && not (has_key sums field.0)) ((field.0, empty_summary) ∷ []) []
+    ++ rest))
     field.0) (sums ++ (cond (n && not (has_key sums field.0)) ((field.0, empty_summary) ∷ []) [] ++ rest))
     ≡ cond n (with_pair sums field.0 new) sums ++ rest) [
       | true ↦ elim (has_key sums field.0) as (λ t. has_key sums field.0 ≡ t
@@ -268,7 +270,8 @@ change_none value sums key e = change_other value sums key (all_other sums key e
 -- ---- what a search found
 
 pub changed_some : (sums listed : Sums) (field : Field) (found : Option ℕ) (i : ℕ) (read kept : List ℕ × Summary)
-    (new : Summary) → is_number field.1 ≡ true → listed ≡ sums → found ≡ position (λ pair. bytes_eq pair.0 field.0) listed
+    (new : Summary) → is_number field.1 ≡ true → listed ≡ sums → found ≡ position
+    (λ pair. bytes_eq pair.0 field.0) listed
     → found ≡ Some i → read ≡ get_or sums i read → kept ≡ get_or sums i kept → new ≡ with_number field.1 read.1
     → set sums i (kept.0, new) ≡ changed sums field
 changed_some sums listed field found i read kept new number same e is read_is kept_is new_is =
@@ -305,7 +308,8 @@ took (Ok x) old more new ok e = e
 took (Err x) old more new ok e = absurd (true_false (sym ok))
 
 -- a row with room took the new keys of a metric
-pub grown : {A E : Type 0} (result : Result A E) (row : RowMemory) (series : Series) (sums more new : Sums) (m : Content)
+pub grown : {A E : Type 0} (result : Result A E) (row : RowMemory) (series : Series) (sums more new : Sums)
+    (m : Content)
     (room : ℕ) → record { row = (series, sums); room = room } ≡ row → more ≡ all_fresh row.row.1 m.fields
     → length row.row.1 + length more ≤ row.room → (length sums + length more ≤ room → IsOk result)
     → new ≡ cond (is_ok result) (sums ++ more) sums → new ≡ sums ++ all_fresh sums m.fields

@@ -1,5 +1,6 @@
 -- What is kept of a list of members.
-use Rattle.std.specs.Prelude.{◌≡◌, ◌<◌, ◌≤◌, ◌+◌, ◌+ℤ◌, ◌==◌, ◌&&◌, ℕ, ℤ, Bool, true, false, zero, suc, nat_lt, nat_eq, length, if◌then◌else◌}
+use Rattle.std.specs.Prelude.{◌≡◌, ◌<◌, ◌≤◌, ◌+◌, ◌+ℤ◌, ◌==◌, ◌&&◌, ℕ, ℤ, Bool, true, false, zero, suc, nat_lt, nat_eq}
+use Rattle.std.specs.Prelude.{length, if◌then◌else◌}
 use Rattle.std.specs.Prelude.{pos, map, List, [], ◌∷◌, Option, Some, None, not, option_and_then, slice_get}
 use Rattle.std.specs.Cmp.Lexicographic.{pointwise}
 use Rattle.std.specs.Int.{int_max, int_min}
@@ -122,7 +123,8 @@ pub record RowMemory : Type 0 where
   pub row : SeriesSums
   pub room : ℕ
 
--- a metric that can be added without more memory: where the row of its series stands or will stand, and the keys that are
+-- a metric that can be added without more memory: where the row of its series stands or will stand, and the keys that
+-- are
 -- new to it
 pub record ReadyMemory : Type 0 where
   pub metric : Content

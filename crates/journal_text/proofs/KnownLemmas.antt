@@ -92,7 +92,8 @@ pub entry_added : (known : Known) (item named : List Content) (reports : List Re
     → t2 ≡ t1 ++ metric_lines named → t3 ≡ t2 ++ report_lines reports → t3 ≡ t0 ++ entry_text item e
 unfolding entry_text
 entry_added known item named reports e t0 t1 t2 t3 none names settled h1 h2 h3 =
-    let head : head_as known item e ≡ head_text item e = ap (λ (k : Known). head_as k item e) none ∙ nothing_stays item e in
+    let head : head_as known item e ≡ head_text item e = ap (λ (k : Known). head_as k item e) none
+    ∙ nothing_stays item e in
     let ms : List ℕ = metric_lines named in
     let rs : List ℕ = report_lines reports in
     h3 ∙ ap (λ (t : List ℕ). t ++ rs) (h2 ∙ ap (λ (t : List ℕ). t ++ ms) h1 ∙ append_assoc t0 (head_as known item e) ms)

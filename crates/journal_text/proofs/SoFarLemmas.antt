@@ -87,7 +87,8 @@ entry_stays : (known : Known) (item : List Content) (e : Entry) → IsKnown know
     → entry_as known item e ≡ entry_text item e
 unfolding entry_as entry_text
 entry_stays known item e h =
-    ap (λ (head : List ℕ). head ++ metric_lines (named_by e) ++ report_lines (reports_of e)) (known_stays known item e h)
+    ap (λ (head : List ℕ). head ++ metric_lines (named_by e) ++ report_lines (reports_of e))
+    (known_stays known item e h)
 
 -- one entry, where its item is at hand
 pub spells_entry : (known : Known) (e : Entry) (item kept left : List Content) (text new_text : List ℕ) → HasItem item e
@@ -174,7 +175,8 @@ spells_more known n entries e kept mid left text mid_text new_text l is first on
       subst (λ (p : List Entry). RouteOnInOrder p (drop (n + 1) entries)) grown
           (order_after front e (drop (n + 1) entries) next.1),
       subst (λ (p : List Entry). AreKnown known (items p) (drop (n + 1) entries)) grown
-          (subst (λ (named : List Content). AreKnown known named (drop (n + 1) entries)) (sym (items-push front e)) its.1),
+          (subst (λ (named : List Content). AreKnown known named (drop (n + 1) entries)) (sym
+          (items-push front e)) its.1),
     )
 
 pub spells_all : (known : Known) (n : ℕ) (entries : List Entry) (kept left : List Content) (text new_text : List ℕ)

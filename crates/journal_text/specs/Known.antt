@@ -22,10 +22,12 @@ nothing_known = record { whole = false; aggs = false; outs = false }
 -- each of these views that stands is the whole
 abbrev pub AreWhole : Option Content → List (Option Content) → Type 0
 AreWhole whole views =
-    IfSome whole (λ (w : Content). AllByRecursion (λ (view : Option Content). IfSome view (λ (v : Content). v ≡ w)) views)
+    IfSome whole (λ (w : Content). AllByRecursion (λ (view : Option Content). IfSome view (λ (v : Content). v
+    ≡ w)) views)
 
 -- what is known of a Route: that its whole is its item, and that its views are its whole
-pub record IsKnownRoute (known : Known) (item : List Content) (whole : Option Content) (aggs outs : List (Option Content))
+pub record IsKnownRoute (known : Known) (item : List Content) (whole : Option Content) (aggs outs : List
+    (Option Content))
     : Type 0 where
   pub is_item : known.whole ≡ true → IfSome whole (λ (w : Content). item ≡ w ∷ [])
   pub seen : known.aggs ≡ true → AreWhole whole aggs

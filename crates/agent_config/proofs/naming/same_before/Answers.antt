@@ -2,7 +2,7 @@ use Rattle.std.proofs.Common.{ap, sym, take, ◌∙◌}
 use Rattle.agent_config.specs.Faults.{place_of}
 use Rattle.agent_config.specs.Naming.{first_at}
 use Rattle.agent_config.specs.Plugins.{plugin_view, plugins_view}
-use Rattle.agent_config.proofs.OrderLemmas.{none-view, same-view}
+use Rattle.agent_config.proofs.OrderLemmas.{same-view}
 use Rattle.agent_config.proofs.naming.same_before.Goals as goal
 
 pub returns : goal.returns

@@ -52,7 +52,8 @@ returns-in-Some g c =
     record {
       gives = record {
         pieces = search rules;
-        whatever_follows = takes_piece (g.S.Source.told c.args.src.now).bytes (g.S.Source.told c.read_more.new.src).bytes
+        whatever_follows = takes_piece (g.S.Source.told c.args.src.now).bytes
+            (g.S.Source.told c.read_more.new.src).bytes
             (hand_of c.args.self.now) (hand_of c.find_end.new.self) (hand_of c.give.new.self) c.give.result found
             c.give.ensures.pieces c.give.ensures.given;
         counted = search rules;

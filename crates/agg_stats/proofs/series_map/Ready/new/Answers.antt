@@ -28,7 +28,8 @@ returns-clause-place c =
     let at = c.len-at.result in
     let rows = c.args.rows.now in
     let put = subst (λ (s : Series). IsSet old s at new) c.requires.series c.in_ok-insert.ensures.updates.0 in
-    let end : at ≡ length (seen rows.items) = omega (arith, c.len-at.ensures, rows.ok.0, length-map rows.items row_in) in
+    let end : at ≡ length (seen rows.items) = omega
+    (arith, c.len-at.ensures, rows.ok.0, length-map rows.items row_in) in
     let place = new_place old new (seen rows.items) (series_of c.args.m.now) at end put in
     let same = sym (ap (λ (ready : ReadyMemory). ready.at) c.of.ensures) in
     subst (λ (list : List RowMemory). IsPlace (series_of c.args.m.now) new (seen list) c.of.result.at)

@@ -37,8 +37,8 @@ FRAGMENTS = [
     said("inputs.tail", BOTH + '[[inputs.tail]]\n  files = ["/var/mymetrics.out"]\n  from_beginning = false\n  pipe = false\n'
          '  data_format = "influx"\n', "UnknownKind inputs 1", f"[[inputs.tail]]: {NO_INPUT}"),
     said("inputs.statsd", BOTH + '[[inputs.statsd]]\n  protocol = "udp"\n  service_address = ":8125"\n  delete_gauges = true\n',
-         "UnknownKey inputs 1", "[[inputs.statsd]]: delete_gauges: there is no such key", "[[inputs.statsd]]: protocol: there is no "
-         "such key"),
+         "UnknownKey inputs 1", "[[inputs.statsd]]: delete_gauges: leave it out: gauges are kept until the run ends",
+         "[[inputs.statsd]]: protocol: leave it out: packets come over UDP"),
     said("inputs.statsd without an address", BOTH + "[[inputs.statsd]]\n  packets = 100001\n", "OutOfRange inputs 1",
          "[[inputs.statsd]]: packets: takes a whole number, 1 to 100000, without quotes",
          "[[inputs.statsd]]: service_address: is missing, and takes a text that isn't empty"),

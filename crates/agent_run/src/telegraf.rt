@@ -39,6 +39,34 @@ fn about_input(key: &str) -> Option<&'static str> {
         "tags" => Some("write the tags into [global_tags]: an input has none of its own"),
         "file_tag" => Some("leave it out: write the tag into [global_tags]"),
         "character_encoding" => Some("leave it out: a text is read as UTF-8"),
+        _ => about_server(key),
+    }
+}
+
+/// What to do about a key of a StatsD server.
+fn about_server(key: &str) -> Option<&'static str> {
+    match key {
+        "protocol" | "max_tcp_connections" | "tcp_keep_alive" | "tcp_keep_alive_period" => {
+            Some("leave it out: packets come over UDP")
+        }
+        "read_buffer_size" | "allowed_pending_messages" | "number_workers_threads" => {
+            Some("leave it out: packets wait in the system, see net.core.rmem_max")
+        }
+        "delete_gauges" | "max_ttl" => Some("leave it out: gauges are kept until the run ends"),
+        "delete_counters" | "delete_sets" | "delete_timings" => {
+            Some("leave it out: all but gauges begins anew with each group of packets")
+        }
+        "percentiles" | "percentile_limit" => {
+            Some("leave it out: a timing has `count`, `lower`, `upper` and `sum`")
+        }
+        "metric_separator" | "convert_names" | "sanitize_name_method" => {
+            Some("leave it out: a name is taken as it is")
+        }
+        "float_counters" => Some("leave it out: a counter is an exact decimal"),
+        "parse_data_dog_tags" => Some("leave it out: tags of DogStatsD are always read"),
+        "datadog_extensions" | "datadog_distributions" | "datadog_keep_container_tag" => {
+            Some("leave it out: no events, service checks or distributions are read")
+        }
         _ => None,
     }
 }

@@ -1,6 +1,6 @@
 """Refuses each allocation of a reading of a journal once, one a run: the probe then answers as it does else, or prints
-nothing and ends with 1, or with 2 where it couldn't read its words. Another answer, another status, a signal or no end
-in ten seconds is printed, and the status is then 1.
+nothing and ends with 1. Another answer, another status, a signal or no end in ten seconds is printed, and the status is
+then 1.
 """
 
 import os
@@ -12,7 +12,7 @@ from concurrent.futures import ThreadPoolExecutor
 import journal_edits
 
 SECONDS = 10
-SHORT = {(1, b""): "short of memory", (2, b""): "without its words"}
+SHORT = {(1, b""): "short of memory"}
 
 
 def texts():
@@ -52,7 +52,7 @@ class Probe:
 def main(program, preload):
     """Reads each text with each allocation refused, and prints how many were and how the readings ended."""
     probe = Probe(program, preload)
-    counts = {"as else": 0, "short of memory": 0, "without its words": 0, "otherwise": 0}
+    counts = {"as else": 0, "short of memory": 0, "otherwise": 0}
     with tempfile.TemporaryDirectory() as folder, ThreadPoolExecutor(os.cpu_count()) as pool:
         for word, text in texts():
             said, count = probe.allocations(word, text, os.path.join(folder, "count"))

@@ -26,7 +26,7 @@ use metric::Metric;
 use openmetrics_text::{ExpositionKind, read_exposition, write_batch};
 use statsd_text::StatsdKind;
 use std::alloc::{AllocError, AllocFailed, Global};
-use std::io::{Read, Stdin, Stdout};
+use std::io::{Error, ErrorKind, Read, Stdin, Stdout};
 use std::process::ExitCode;
 use std::{env, fmt};
 
@@ -421,11 +421,19 @@ fn asked_of_journal(words: &[String]) -> Option<Told> {
     }
 }
 
+/// The status where the words of the command can't be read.
+fn unread(fault: Error) -> ExitCode {
+    match fault.kind() {
+        ErrorKind::OutOfMemory => ExitCode::from(1),
+        _ => ExitCode::from(2),
+    }
+}
+
 fn main(rt: HostRuntime) -> ExitCode {
     let alloc = rt.alloc();
     let words = match env::args(&rt) {
         Ok(words) => words.skip(1).collect::<Vec<String>>(alloc),
-        Err(_) => return ExitCode::from(2),
+        Err(fault) => return unread(fault),
     };
     if let Ok(words) = &words {
         if let Some(told) = asked_of_journal(words.as_slice()) {

@@ -10,7 +10,7 @@ mod listener;
 
 use listener::{Asked, Listener};
 use std::alloc::Global;
-use std::io::Stdin;
+use std::io::{Error, ErrorKind, Stdin};
 use std::process::ExitCode;
 use std::sync::Wait;
 use std::thread::Threads;
@@ -109,10 +109,18 @@ fn line_of<R: Threads + Wait + Clock + Sync>(
     line.map_err(|_| 1)
 }
 
+/// The status where the words of the command can't be read.
+fn unread(fault: Error) -> ExitCode {
+    match fault.kind() {
+        ErrorKind::OutOfMemory => ExitCode::from(1),
+        _ => ExitCode::from(2),
+    }
+}
+
 fn main(rt: HostRuntime) -> ExitCode {
     let words = match env::args(&rt) {
         Ok(words) => words.skip(1).collect::<Vec<String>>(rt.alloc()),
-        Err(_) => return ExitCode::from(2),
+        Err(fault) => return unread(fault),
     };
     let line = match &words {
         Ok(words) => line_of(&rt, rt.alloc(), rt.stdin(), words.as_slice()),

@@ -5,7 +5,8 @@
   PEER and collectd. A sender in C sends at a given rate from a processor of its own; the server has another one. The rate is
   doubled until something is lost, and then bisected. All packets must be told of in what was served, and the sums of the
   counters be those that were sent; of collectd the sums alone are looked at, which it has some seconds for.
-- What series cost whose names have one hash, beside others, and members of one set.
+- What series cost whose names have one hash, or one of the numbers by which the server orders series, beside others, and members
+  of one set whose texts have one hash.
 - What silence costs.
 
 With --quick a rate is tried once, for a second, the last step is wider, and collectd is left out.
@@ -275,19 +276,21 @@ def whole_group(server, sender, path, kind):
 
 
 def check_colliding(bounds, server, sender, folder, runs):
-    """The bounds on what names and members of one hash cost."""
-    kinds = colliding_texts.both(LINES)
+    """The bounds on what names of one hash, or of the server's own number of a series, and members of one hash cost."""
     for what, form in COLLIDING.items():
-        kit.say(f"{what} of one hash, {runs} runs each")
+        kinds = colliding_texts.both(LINES)
+        if what == "series":
+            kinds = {"one number": colliding_texts.of_one_number(LINES), **kinds}
+        kit.say(f"{what} that collide, {runs} runs each")
         least = dict.fromkeys(kinds, math.inf)
         for kind in [*kinds] * runs:
             path = os.path.join(folder, "colliding")
             with open(path, "wb") as file:
                 file.write(b"".join(form % name for name in kinds[kind]))
             least[kind] = min(least[kind], whole_group(server, sender, path, kind).processor)
-        collided, others = least.values()
+        *collided, others = least.values()
         print(f"{whole(LINES)} {what}: " + ", ".join(f"{kind} {took:.3f} processor s" for kind, took in least.items()), flush=True)
-        bounds.at_most(f"{what}: processor time of one hash by that of others", MOST_COST, collided / max(others, 0.001), "%.2f")
+        bounds.at_most(f"{what}: processor time of those by that of others", MOST_COST, max(collided) / max(others, 0.001), "%.2f")
 
 
 def check_silence(bounds, program, folder, port, seconds):

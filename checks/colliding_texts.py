@@ -1,4 +1,5 @@
-"""Texts of one hash, and others as long: for `colliding-keys`, which says how they are made, and `bench/run statsd-server`."""
+"""Texts of one hash, of one number, and others as long: for `colliding-keys`, which says how they are made, and `bench/run
+statsd-server`."""
 
 import random
 import sys
@@ -39,6 +40,22 @@ def front():
 
 def texts(count, begin):
     return [begin + b"%08d" % at + b"0123456789abcdef" for at in range(count)]
+
+
+def number_of(text):
+    """The number by which a StatsD server orders series first, of a name without tags."""
+    number = 0
+    for byte in text:
+        number = (number * 31 + byte) & ONES
+    return number
+
+
+def of_one_number(count):
+    """So many texts of one such number, as long as the others: `Aa` and `BB` have one."""
+    names = [b"an_ordinary_name__" + b"".join(b"BB" if at >> bit & 1 else b"Aa" for bit in range(15)) for at in range(count)]
+    if len(set(names)) != count or len({number_of(name) for name in names}) != 1:
+        sys.exit("colliding-texts: the numbers are others than meant")
+    return names
 
 
 def both(count):

@@ -11,3 +11,4 @@ pub mod ServedLemmas
 pub mod ServerLemmas
 pub mod StandingLemmas
 pub mod StepLemmas
+pub mod TableLemmas

@@ -1,5 +1,5 @@
 -- The metrics of series.
-use Rattle.std.proofs.Common.{◌≡◌, ◌<◌, ℤ, pos, List, length, map, refl, subst, sym, ◌∙◌, arith, rules}
+use Rattle.std.proofs.Common.{◌≡◌, ap, ◌<◌, ℤ, pos, List, length, map, refl, subst, sym, ◌∙◌, arith, rules, ⊎_elim, ◌⊎◌}
 use Rattle.std.specs.Prelude.{nat_eq, FitsSigned}
 use Rattle.std.specs.Cmp.Lexicographic.{pointwise}
 use Rattle.std.specs.Int.{w64}
@@ -13,7 +13,9 @@ use Rattle.metric.specs.declared.metric.Content.{Content}
 use Rattle.statsd_server.specs.declared.kind.Kind.{Kind}
 use Rattle.statsd_server.specs.declared.kind.Kind.TheVariants.{Counter, Gauge, Timing, Set}
 use Rattle.statsd_server.specs.declared.summary.Summary.{Summary}
-use Rattle.statsd_server.specs.Served.{fields_of}
+use Rattle.metric.specs.Series.{Series}
+use Rattle.statsd_server.specs.Parts.{kind_of}
+use Rattle.statsd_server.specs.Served.{fields_of, metric_with}
 
 fields_some : (kind : Kind) (s : Summary) (level : ℤ) → 0 < length (fields_of kind s level)
 fields_some Counter s level = omega arith
@@ -48,3 +50,25 @@ is_metric part new kind s level fields h name tags is made valid time =
       distinct = subst HasDistinctKeys from (fields_distinct kind s level);
       time = subst (FitsSigned w64) (sym time) now;
     }
+
+-- what is no gauge gives no level
+no_gauge : (kind : Kind) → (kind ≡ Counter) ⊎ ((kind ≡ Timing) ⊎ (kind ≡ Set)) → (s : Summary) (a b : ℤ)
+    → fields_of kind s a ≡ fields_of kind s b
+no_gauge kind h s a b =
+    ⊎_elim (λ e. rw e refl) (λ other. ⊎_elim (λ e. rw e refl) (λ e. rw e refl) other) h
+
+abbrev content_with : Series → List Field → Content
+content_with series fields = record {
+  name = series.0;
+  tags = series.1;
+  fields = fields;
+  time = pos 0;
+}
+
+pub level_left : (series : Series) (kind : Kind) → kind ≡ kind_of series.1
+    → (kind ≡ Counter) ⊎ ((kind ≡ Timing) ⊎ (kind ≡ Set)) → (s : Summary) (a b : ℤ)
+    → metric_with series s a ≡ metric_with series s b
+unfolding metric_with
+level_left series kind is h s a b =
+    ap (content_with series)
+    (ap (λ (k : Kind). fields_of k s a) (sym is) ∙ no_gauge kind h s a b ∙ ap (λ (k : Kind). fields_of k s b) is)

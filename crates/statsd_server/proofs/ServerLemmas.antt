@@ -1,14 +1,15 @@
 -- What a server stands for with a packet more, and once a group was served.
 use Rattle.std.proofs.Common.{◌≡◌, ◌≤◌, ◌+◌, ℕ, true, false, cond, List, [], ◌∷◌, ◌++◌, length, map, refl, sym, ap}
 use Rattle.std.proofs.Common.{subst, ◌∙◌, arith, append-nil, length-append}
-use Rattle.std.specs.Prelude.{is_err, Err, Ok, OnErr, Result}
-use Rattle.std.specs.List.{fold}
+use Rattle.std.specs.Prelude.{is_err, option_and_then, Err, Ok, OnErr, Option, Result}
+use Rattle.std.specs.List.{fold, AllByRecursion}
 use Rattle.std.proofs.lemmas.Grind.{flat_map-append}
 use Rattle.std.proofs.lemmas.List.Sums.{fold-append, sum_by-append}
 use Rattle.metric.specs.declared.metric.Content.{Content}
-use Rattle.agg_keep.specs.Spot.{series_of}
 use Rattle.statsd_server.specs.Counting.{counted, counted_in, does_count, refused_in, with_group, with_part}
-use Rattle.statsd_server.specs.Kept.{made_of, served_of, Keeps, Memory}
+use Rattle.statsd_server.specs.declared.placed.First.{First}
+use Rattle.statsd_server.specs.Kept.{first_series, made_of, served_of, sum_held, HasPlace, Keeps, Memory}
+use Rattle.statsd_server.specs.Table.{value_at}
 use Rattle.statsd_server.specs.Packets.{line_read, lines_in, lines_of, parts_in, parts_of_lines, parts_read}
 use Rattle.statsd_server.specs.Packets.{refused_lines, Packet}
 use Rattle.statsd_server.specs.Served.{metric_of, own_metric, served}
@@ -114,15 +115,18 @@ refused_is earlier hand memory h =
     let kept = h.keeps.counted in
     omega (arith, few, kept, h.all)
 
-each_served : (past now : List Content) (memory : Memory) → Keeps past now memory → (order : List Content)
-    → map (served_of memory) order ≡ map (metric_of past now) (map series_of order)
-each_served past now memory h [] = refl
-each_served past now memory h (part ∷ order) =
-    let s = series_of part in
-    let here : served_of memory part ≡ metric_of past now s =
-    rw (summary_is past now memory s h, h.levels s) refl in
+each_served : (past now : List Content) (memory : Memory) → Keeps past now memory → (order : List First)
+    → AllByRecursion (HasPlace memory.sums) order
+    → map (served_of memory) order ≡ map (metric_of past now) (map first_series order)
+each_served past now memory h [] placed = refl
+each_served past now memory h (first ∷ order) placed =
+    let s = first_series first in
+    let held : value_at memory.sums.values first.sum ≡ sum_held memory.sums s =
+    sym (ap (λ (found : Option ℕ). option_and_then (value_at memory.sums.values) found) placed.0) in
+    let here : served_of memory first ≡ metric_of past now s =
+    rw (held, summary_is past now memory s h, h.levels s) refl in
     ap (λ (m : Content). m ∷ map (served_of memory) order) here
-    ∙ ap (λ (rest : List Content). metric_of past now s ∷ rest) (each_served past now memory h order)
+    ∙ ap (λ (rest : List Content). metric_of past now s ∷ rest) (each_served past now memory h order placed.1)
 
 pub served_is : (earlier : List (List Packet)) (hand : List Packet) (memory : ServerMemory)
     → StandsFor earlier hand memory → made_of memory.packets memory.tally ≡ served earlier hand
@@ -131,7 +135,7 @@ served_is earlier hand memory h =
     let now = counted past (parts_in hand) in
     rw (h.packets, refused_is earlier hand memory h)
     (ap (λ (rest : List Content). own_metric (length hand) (refused_in past hand) ∷ rest)
-    (each_served past now memory.tally h.keeps memory.tally.order
+    (each_served past now memory.tally h.keeps memory.tally.order h.keeps.placed
     ∙ ap (map (metric_of past now)) h.keeps.ordered))
 
 -- what holds in any case holds behind an error

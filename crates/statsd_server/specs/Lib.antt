@@ -5,6 +5,7 @@ pub mod GroupLaws
 pub mod Groups
 pub mod Kept
 pub mod Laws
+pub mod Marked
 pub mod Member
 pub mod Outgoing
 pub mod Packets
@@ -17,4 +18,5 @@ pub mod Serving
 pub mod Source
 pub mod Stages
 pub mod Standing
+pub mod Table
 pub mod TallyView

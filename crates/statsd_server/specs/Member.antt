@@ -19,29 +19,29 @@ abbrev pub Member : Type 0
 Member = Series × List ℕ
 
 abbrev pub member_eq : Member → Member → Bool
-member_eq a b = series_eq a.0 b.0 && bytes_eq a.1 b.1
+member_eq a b = bytes_eq a.1 b.1 && series_eq a.0 b.0
 
--- they are ordered by series, and those of one series by their texts
+-- they are ordered by their texts, and those of one text by series
 abbrev pub member_cmp : Member → Member → Ordering
-member_cmp a b = ordering_then (series_cmp a.0 b.0) (slice_cmp nat_cmp a.1 b.1)
+member_cmp a b = ordering_then (slice_cmp nat_cmp a.1 b.1) (series_cmp a.0 b.0)
 
 pub member_equiv : IsEquivalence member_eq
 member_equiv =
-    and_equiv (on_equiv (λ (m : Member). m.0) series_equiv) (on_equiv (λ (m : Member). m.1) nat_list_eq_equiv)
+    and_equiv (on_equiv (λ (m : Member). m.1) nat_list_eq_equiv) (on_equiv (λ (m : Member). m.0) series_equiv)
 
 pub member_total : IsTotalOrder member_cmp
 member_total =
-    then_total (on_total (λ (m : Member). m.0) series_total) (on_total (λ (m : Member). m.1) nat_list_cmp_total)
+    then_total (on_total (λ (m : Member). m.1) nat_list_cmp_total) (on_total (λ (m : Member). m.0) series_total)
 
 pub member_ties : (a b : Member) → member_eq a b ≡ is_eq (member_cmp a b)
-member_ties a b = both_tied _ _ (series_cmp a.0 b.0) (slice_cmp nat_cmp a.1 b.1) (series_ties a.0 b.0)
-    (sym (is_eq-slice_cmp a.1 b.1))
+member_ties a b = both_tied _ _ (slice_cmp nat_cmp a.1 b.1) (series_cmp a.0 b.0) (sym (is_eq-slice_cmp a.1 b.1))
+    (series_ties a.0 b.0)
 
 -- equal ones are the same
 pub member_same : (a b : Member) → Decides (member_eq a b) (a ≡ b)
 member_same a b =
-    let both = Decides-and _ _ (series_same a.0 b.0) (bytes_eq-Decides a.1 b.1) in
-    (λ e. let h = both.0 e in λ i. (h.0 i, h.1 i), λ e. both.1 (ap (λ (m : Member). m.0) e, ap (λ (m : Member). m.1) e))
+    let both = Decides-and _ _ (bytes_eq-Decides a.1 b.1) (series_same a.0 b.0) in
+    (λ e. let h = both.0 e in λ i. (h.1 i, h.0 i), λ e. both.1 (ap (λ (m : Member). m.1) e, ap (λ (m : Member). m.0) e))
 
 -- the member that a change of a series names
 abbrev pub member_named : Series → Change → Option Member

@@ -5,9 +5,9 @@ use Rattle.statsd_server.specs.declared.tally.Tally.{Tally}
 
 abbrev pub memory_of : Tally → Memory
 memory_of t = record {
-  sums = t.sums.entries;
-  levels = t.levels.entries;
-  members = t.members.entries;
+  sums = t.sums;
+  levels = t.levels;
+  members = t.members;
   order = t.order.items;
   room = vec_capacity t.order;
   counted = t.counted;

@@ -3,12 +3,13 @@
 
 mod change;
 mod datagrams;
-mod keyed;
 mod kind;
 mod laws;
+mod marked;
 mod member;
 mod outgoing;
 mod part;
+mod placed;
 mod reading;
 mod receiving;
 mod served;
@@ -17,7 +18,10 @@ mod source;
 mod stage;
 mod standing;
 mod summary;
+mod table;
 mod tally;
+#[cfg(test)]
+mod tests;
 mod udp;
 
 pub use datagrams::{Datagrams, Dgram, Got, MemDatagrams};

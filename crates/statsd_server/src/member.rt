@@ -10,7 +10,7 @@ ghost use Rattle.statsd_server.specs.Member.{member_cmp, member_eq, member_equiv
 ghost use Rattle.statsd_server.specs.Member.{member_ties, member_total};
 
 use crate::change::Change;
-use crate::keyed::Key;
+use crate::table::Key;
 use fixed_num::OutOfMemory;
 use metric::{Metric, Series, Text};
 use std::cmp::Ordering;
@@ -56,7 +56,7 @@ impl PartialEq for Member {
     ghost laws = { partial_equiv_from_equiv member_equiv };
 
     fn eq(&self, other: &Self) -> bool {
-        self.series == other.series && self.text == other.text
+        self.text == other.text && self.series == other.series
     }
 }
 
@@ -84,8 +84,8 @@ impl Ord for Member {
     ghost matches_eq = { member_ties };
 
     fn cmp(&self, other: &Self) -> Ordering {
-        match self.series.cmp(&other.series) {
-            Ordering::Equal => self.text.cmp(&other.text),
+        match self.text.cmp(&other.text) {
+            Ordering::Equal => self.series.cmp(&other.series),
             apart => apart,
         }
     }

@@ -4,12 +4,12 @@ ghost use Rattle.statsd_server.specs.Packets.{line_read, lines_of, parts_of_line
 ghost use Rattle.statsd_server.specs.Packets.{without_return};
 
 use crate::part::Part;
-use fixed_num::OutOfMemory;
+use fixed_num::{OutOfMemory, Seq};
 use metric::Metric;
 use statsd_text::{StatsdKind, read_line};
 use std::alloc::Global;
 
-/// What is read: the parts, with their keys, and how many lines are refused.
+/// What is read: the parts, with what they say, and how many lines are refused.
 #[derive(Drop)]
 pub(crate) struct Reading {
     pub parts: Vec<Part>,
@@ -26,7 +26,7 @@ fn without_return(line: &[u8]) -> &[u8]
     }
 }
 
-/// Appends the parts of metrics, with their keys.
+/// Appends the parts of metrics, with what they say.
 fn append_parts(alloc: Global, metrics: &[Metric], parts: &mut Vec<Part>) -> Result<(), OutOfMemory>
     ensures { OnOk result (parts.new.items ≡ parts.old.items ++ metrics.now) }
 {
@@ -34,6 +34,23 @@ fn append_parts(alloc: Global, metrics: &[Metric], parts: &mut Vec<Part>) -> Res
         parts.push(Part::of(alloc, metric.copy()?)?)?;
     }
     Ok(())
+}
+
+/// Appends the parts of a line's metrics, with what they say. A single one is moved.
+fn append_line(
+    alloc: Global,
+    metrics: Seq<Metric>,
+    parts: &mut Vec<Part>,
+) -> Result<(), OutOfMemory>
+    ensures { OnOk result (parts.new.items ≡ parts.old.items ++ metrics) }
+{
+    match metrics.into_one() {
+        Ok(metric) => {
+            parts.push(Part::of(alloc, metric)?)?;
+            Ok(())
+        }
+        Err(metrics) => append_parts(alloc, metrics.as_slice(), parts),
+    }
 }
 
 impl Reading {
@@ -46,7 +63,7 @@ impl Reading {
             (self.new.refused ≡ self.old.refused + (if is_err (line_read line.now) then 1 else 0)) }
     {
         match read_line(alloc, line, 0) {
-            Ok(metrics) => append_parts(alloc, metrics.as_slice(), &mut self.parts),
+            Ok(metrics) => append_line(alloc, metrics, &mut self.parts),
             Err(fault) => match fault.kind {
                 StatsdKind::OutOfMemory => Err(OutOfMemory),
                 _ => {

@@ -76,10 +76,9 @@ impl Server {
         if !can_count(self.packets, &self.tally, &reading) {
             return Err(OutOfMemory);
         }
-        self.tally.make_all_room(reading.parts.as_slice())?;
+        let placed = self.tally.place_all(self.alloc, reading.parts)?;
         self.packets += 1;
-        self.tally
-            .add_reading(reading.parts, reading.refused as u64);
+        self.tally.add_reading(placed, reading.refused as u64);
         Ok(())
     }
 

@@ -1,34 +1,43 @@
 //! What is kept of the parts that count.
-ghost use Rattle.std.specs.Prelude.{◌≡◌, ◌<◌, ◌≤◌, ◌+◌, ◌^◌, ◌||◌, ◌∷◌, ◌++◌, [], List, length, pos, OnOk};
-ghost use Rattle.std.specs.Prelude.{unwrap_or, vec_capacity, if◌then◌else◌};
+ghost use Rattle.std.specs.Prelude.{◌≡◌, ◌<◌, ◌≤◌, ◌+◌, ◌^◌, ◌||◌, ◌∷◌, ◌++◌, [], ℕ, List, length, map, pos, Option};
+ghost use Rattle.std.specs.Prelude.{Some, IfOk, OnOk, unwrap_or, vec_capacity, if◌then◌else◌};
 ghost use Rattle.std.specs.List.{fold, AllByRecursion};
 ghost use Rattle.metric.specs.declared.metric.Content.{Content};
-ghost use Rattle.metric.specs.Series.{series_cmp, series_eq, Series as SeriesSeen};
-ghost use Rattle.agg_keep.specs.Keyed.{HasRoom};
+ghost use Rattle.metric.specs.Series.{series_eq, Series as SeriesSeen};
+ghost use Rattle.statsd_server.specs.Marked.{marked_cmp};
+ghost use Rattle.agg_keep.specs.Spot.{series_of};
 ghost use Rattle.statsd_server.specs.Counting.{with_part};
-ghost use Rattle.statsd_server.specs.Kept.{is_it, is_named, is_new, level_held, Keeps, LevelRoom, MemberRoom, RoomFor};
+ghost use Rattle.statsd_server.specs.Kept.{is_it, is_named, is_new, level_for, level_held, part_of, HasStayed, IsPlaced};
+ghost use Rattle.statsd_server.specs.Kept.{Keeps, LevelPlace, MemberPlace};
+ghost use Rattle.statsd_server.specs.declared.placed.Placed.{Placed as PlacedSeen};
 ghost use Rattle.statsd_server.specs.Member.{member_cmp, Member as MemberSeen};
-ghost use Rattle.statsd_server.specs.Parts.{level_with};
+ghost use Rattle.statsd_server.specs.Parts.{change_of, level_with};
+ghost use Rattle.statsd_server.specs.Table.{place_by};
 ghost use Rattle.statsd_server.specs.TallyView.{memory_of};
 
 use crate::change::{Change, zero};
-use crate::keyed::{Kept, held, make_room, put};
+use crate::marked::Marked;
 use crate::member::Member;
 use crate::part::Part;
+use crate::placed::{First, Placed};
 use crate::summary::Summary;
+use crate::table::Table;
 use fixed_num::{Fixed, OutOfMemory};
-use metric::{Metric, Series};
+use metric::Metric;
 use std::alloc::Global;
+
+/// The places of so many series stay from one group to the next, beside twice as many as the group had.
+const MORE_PLACES: usize = 1_000;
 
 /// What is kept of the parts that count: of each series what is counted of it in the group in hand, the level of each
 /// gauge since the start, the members that were named in the group, the first part of each series in it, how many parts
 /// count in it, and how many lines and parts were left out.
 #[derive(Drop)]
 pub(crate) struct Tally {
-    pub sums: Kept<Series, Summary>,
-    pub levels: Kept<Series, Fixed>,
-    pub members: Kept<Member, ()>,
-    pub order: Vec<Metric>,
+    pub sums: Table<Marked, Summary>,
+    pub levels: Table<Marked, Fixed>,
+    pub members: Table<Member, ()>,
+    pub order: Vec<First>,
     pub counted: u64,
     pub refused: u64,
 }
@@ -40,86 +49,95 @@ pub(crate) fn level_or_zero(level: Option<Fixed>) -> Fixed
     level.unwrap_or(zero())
 }
 
-/// Whether a member is there and isn't named yet.
-fn is_new(members: &Kept<Member, ()>, member: &Option<Member>) -> bool
-    ensures { result ≡ is_new members.now.entries member.now }
-{
-    match member {
-        Some(member) => held(members, member).is_none(),
-        None => false,
-    }
-}
-
-/// Names a member, where there is one.
-fn put_member(members: &mut Kept<Member, ()>, member: Option<Member>)
-    requires { MemberRoom members.old.entries member }
-    ensures named { (other : MemberSeen) → is_named members.new.entries other
-        ≡ (is_it member other || is_named members.old.entries other) }
-    ensures stays { (other : MemberSeen) → HasRoom member_cmp members.old.entries other
-        → HasRoom member_cmp members.new.entries other }
-{
-    match member {
-        Some(member) => put(members, member, ()),
-        None => {}
-    }
-}
-
-/// Puts the level of a series behind a change, which changes it where it is that of a gauge.
-fn put_level(levels: &mut Kept<Series, Fixed>, series: Series, change: &Change, level: Fixed)
-    requires room { LevelRoom levels.old.entries series change.now }
-    requires level { level ≡ level_with (level_held levels.old.entries series) change.now }
-    ensures held { (other : SeriesSeen) → level_held levels.new.entries other
-        ≡ if series_eq series other then level else level_held levels.old.entries other }
-    ensures stays { (other : SeriesSeen) → HasRoom series_cmp levels.old.entries other
-        → HasRoom series_cmp levels.new.entries other }
+/// The place of the level of a metric's series, where a change has one.
+fn place_level(
+    levels: &mut Table<Marked, Fixed>,
+    metric: &Metric,
+    change: &Change,
+) -> Result<usize, OutOfMemory>
+    ensures same { (other : SeriesSeen) → level_held levels.new other ≡ level_held levels.old other }
+    ensures stays { (other : SeriesSeen) (at : ℕ) → place_by marked_cmp levels.old other ≡ Some at
+        → place_by marked_cmp levels.new other ≡ Some at }
+    ensures place { IfOk result (LevelPlace levels.new (series_of metric.now) change.now) }
 {
     match change {
-        Change::Sets(_) | Change::Moves(_) => put(levels, series, level),
+        Change::Sets(_) | Change::Moves(_) => levels.place(Marked::of(metric)?),
+        Change::Adds(_) | Change::Took(_) | Change::Names(_) => Ok(0),
+    }
+}
+
+/// The level that a change moves.
+fn level_for(levels: &Table<Marked, Fixed>, change: &Change, at: usize) -> Fixed
+    ensures { (series : SeriesSeen) → LevelPlace levels.now series change.now at
+        → result ≡ level_for levels.now series change.now }
+{
+    match change {
+        Change::Moves(_) => level_or_zero(levels.at(at)),
+        Change::Adds(_) | Change::Sets(_) | Change::Took(_) | Change::Names(_) => zero(),
+    }
+}
+
+/// Puts the level behind a change, where that is one of a gauge.
+fn put_level(levels: &mut Table<Marked, Fixed>, change: &Change, at: usize, level: Fixed)
+    ensures held { (series : SeriesSeen) → LevelPlace levels.old series change.now at
+        → level ≡ level_with (level_for levels.old series change.now) change.now
+        → (other : SeriesSeen) → level_held levels.new other
+        ≡ if series_eq series other then level_with (level_held levels.old series) change.now
+        else level_held levels.old other }
+    ensures places { levels.new.places ≡ levels.old.places }
+{
+    match change {
+        Change::Sets(_) | Change::Moves(_) => levels.put(at, level),
         Change::Adds(_) | Change::Took(_) | Change::Names(_) => {}
     }
 }
 
+/// The place of a member, where there is one.
+fn place_member(
+    members: &mut Table<Member, ()>,
+    member: Option<Member>,
+) -> Result<Option<usize>, OutOfMemory>
+    ensures same { (other : MemberSeen) → is_named members.new other ≡ is_named members.old other }
+    ensures stays { (other : MemberSeen) (at : ℕ) → place_by member_cmp members.old other ≡ Some at
+        → place_by member_cmp members.new other ≡ Some at }
+    ensures place { IfOk result (MemberPlace members.new member) }
+{
+    match member {
+        Some(member) => Ok(Some(members.place(member)?)),
+        None => Ok(None),
+    }
+}
+
+/// Whether the member at a place, where there is one, isn't named yet.
+fn is_new(members: &Table<Member, ()>, at: Option<usize>) -> bool
+    ensures { (member : Option MemberSeen) → MemberPlace members.now member at → result ≡ is_new members.now member }
+{
+    match at {
+        Some(at) => members.at(at).is_none(),
+        None => false,
+    }
+}
+
+/// Names the member at a place, where there is one.
+fn put_member(members: &mut Table<Member, ()>, at: Option<usize>)
+    ensures named { (member : Option MemberSeen) → MemberPlace members.old member at → (other : MemberSeen)
+        → is_named members.new other ≡ (is_it member other || is_named members.old other) }
+    ensures places { members.new.places ≡ members.old.places }
+{
+    match at {
+        Some(at) => members.put(at, ()),
+        None => {}
+    }
+}
+
 /// Puts a metric behind the others, where it is the first one of its series.
-fn put_first(order: &mut Vec<Metric>, is_first: bool, metric: Metric)
+fn put_first(order: &mut Vec<First>, is_first: bool, first: First)
     requires { length order.old.items < vec_capacity order.old }
-    ensures items { order.new.items ≡ if is_first then order.old.items ++ metric ∷ [] else order.old.items }
+    ensures items { order.new.items ≡ if is_first then order.old.items ++ first ∷ [] else order.old.items }
     ensures room { vec_capacity order.new ≡ vec_capacity order.old }
 {
     if is_first {
-        order.push_reserved(metric);
-    }
-}
-
-/// Makes room for the level of a series, where a change has one.
-fn make_level_room(
-    levels: &mut Kept<Series, Fixed>,
-    series: Series,
-    change: &Change,
-) -> Result<(), OutOfMemory>
-    ensures same { (other : SeriesSeen) → level_held levels.new.entries other ≡ level_held levels.old.entries other }
-    ensures stays { (other : SeriesSeen) → HasRoom series_cmp levels.old.entries other
-        → HasRoom series_cmp levels.new.entries other }
-    ensures room { OnOk result (LevelRoom levels.new.entries series change.now) }
-{
-    match change {
-        Change::Sets(_) | Change::Moves(_) => make_room(levels, series),
-        Change::Adds(_) | Change::Took(_) | Change::Names(_) => Ok(()),
-    }
-}
-
-/// Makes room for a member, where there is one.
-fn make_member_room(
-    members: &mut Kept<Member, ()>,
-    member: Option<Member>,
-) -> Result<(), OutOfMemory>
-    ensures same { (other : MemberSeen) → is_named members.new.entries other ≡ is_named members.old.entries other }
-    ensures stays { (other : MemberSeen) → HasRoom member_cmp members.old.entries other
-        → HasRoom member_cmp members.new.entries other }
-    ensures room { OnOk result (MemberRoom members.new.entries member) }
-{
-    match member {
-        Some(member) => make_room(members, member),
-        None => Ok(()),
+        order.push_reserved(first);
     }
 }
 
@@ -131,107 +149,115 @@ impl Tally {
         ensures refused { result.refused ≡ 0 }
     {
         Tally {
-            sums: Kept::new(alloc),
-            levels: Kept::new(alloc),
-            members: Kept::new(alloc),
+            sums: Table::new(alloc),
+            levels: Table::new(alloc),
+            members: Table::new(alloc),
             order: Vec::new(alloc),
             counted: 0,
             refused: 0,
         }
     }
 
-    /// Makes room for a part. What is kept stays.
-    fn make_room(&mut self, part: &Part) -> Result<(), OutOfMemory>
-        ensures keeps { (past now : List Content) → Keeps past now (memory_of self.old)
-            → Keeps past now (memory_of self.new) }
-        ensures stays { (other : Content) → RoomFor (memory_of self.old) other → RoomFor (memory_of self.new) other }
-        ensures room { OnOk result (RoomFor (memory_of self.new) part.now) }
-        ensures order { self.new.order ≡ self.old.order }
-        ensures counted { self.new.counted ≡ self.old.counted }
-        ensures refused { self.new.refused ≡ self.old.refused }
+    /// A part with its places. What is kept stays.
+    fn place(&mut self, part: Part) -> Result<Placed, OutOfMemory>
+        ensures stays { HasStayed (memory_of self.old) (memory_of self.new) }
+        ensures part { IfOk result (λ placed. placed.part ≡ part) }
+        ensures placed { IfOk result (IsPlaced (memory_of self.new)) }
     {
         let metric = part.metric();
         let change = part.change();
         let member = Member::named(metric, change)?;
-        let gauge = metric.series()?;
-        make_room(&mut self.sums, metric.series()?)?;
-        make_level_room(&mut self.levels, gauge, change)?;
-        make_member_room(&mut self.members, member)
+        let sum = self.sums.place(Marked::of(metric)?)?;
+        let level = place_level(&mut self.levels, metric, change)?;
+        let member = place_member(&mut self.members, member)?;
+        Ok(Placed {
+            part,
+            sum,
+            level,
+            member,
+        })
     }
 
-    /// Makes room for parts. What is kept stays.
-    pub(crate) fn make_all_room(&mut self, parts: &[Part]) -> Result<(), OutOfMemory>
-        ensures keeps { (past now : List Content) → Keeps past now (memory_of self.old)
-            → Keeps past now (memory_of self.new) }
-        ensures room { OnOk result (AllByRecursion (RoomFor (memory_of self.new)) parts.now) }
-        ensures space { OnOk result
-            (length self.new.order.items + length parts.now ≤ vec_capacity self.new.order) }
-        ensures counted { self.new.counted ≡ self.old.counted }
-        ensures refused { self.new.refused ≡ self.old.refused }
+    /// Parts with their places, and room for all of them. What is kept stays.
+    pub(crate) fn place_all(
+        &mut self,
+        alloc: Global,
+        parts: Vec<Part>,
+    ) -> Result<Vec<Placed>, OutOfMemory>
+        ensures stays { HasStayed (memory_of self.old) (memory_of self.new) }
+        ensures parts { IfOk result (λ all. map part_of all.items ≡ parts.items) }
+        ensures placed { IfOk result (λ all. AllByRecursion (IsPlaced (memory_of self.new)) all.items) }
+        ensures space { OnOk result (length self.new.order.items + length parts.items ≤ vec_capacity self.new.order) }
     {
         self.order.reserve(parts.len())?;
+        let mut all = Vec::with_capacity(alloc, parts.len())?;
         for part in parts {
-            self.make_room(part)?;
+            all.push(self.place(part)?)?;
         }
-        Ok(())
+        Ok(all)
     }
 
-    /// A part more, for which there is room, where it counts; else it is left out.
-    fn add(&mut self, part: Part)
-        requires room { RoomFor (memory_of self.old) part }
+    /// A part more, where it counts; else it is left out.
+    fn add(&mut self, placed: Placed)
+        requires placed { IsPlaced (memory_of self.old) placed }
         requires space { length self.old.order.items < vec_capacity self.old.order }
         requires few { self.old.counted + self.old.refused + 1 < 2 ^ 64 }
         ensures keeps { (past now : List Content) → Keeps past now (memory_of self.old)
-            → Keeps past (with_part past now part) (memory_of self.new) }
-        ensures stays { (other : Content) → RoomFor (memory_of self.old) other → RoomFor (memory_of self.new) other }
+            → Keeps past (with_part past now placed.part) (memory_of self.new) }
+        ensures stays { (other : PlacedSeen) → IsPlaced (memory_of self.old) other → IsPlaced (memory_of self.new) other }
         ensures space { length self.new.order.items ≤ length self.old.order.items + 1 }
         ensures order { vec_capacity self.new.order ≡ vec_capacity self.old.order }
         ensures all { self.new.counted + self.new.refused ≡ self.old.counted + self.old.refused + 1 }
     {
-        let (metric, change, series, gauge, member) = part.into_parts();
-        let summary = Summary::or_empty(held(&self.sums, &series));
-        let level = level_or_zero(held(&self.levels, &gauge));
-        match change.behind(summary.sum, level) {
+        let Placed {
+            part,
+            sum,
+            level,
+            member,
+        } = placed;
+        let (metric, change) = part.into_parts();
+        let summary = Summary::or_empty(self.sums.at(sum));
+        let before = level_for(&self.levels, &change, level);
+        match change.behind(summary.sum, before) {
             Some(totals) => {
-                let fresh = is_new(&self.members, &member);
-                let more = summary.with(change.amount(), totals.sum, fresh);
-                put(&mut self.sums, series, more);
-                put_level(&mut self.levels, gauge, &change, totals.level);
+                let fresh = is_new(&self.members, member);
+                self.sums
+                    .put(sum, summary.with(change.amount(), totals.sum, fresh));
+                put_level(&mut self.levels, &change, level, totals.level);
                 put_member(&mut self.members, member);
-                put_first(&mut self.order, summary.count == 0, metric);
+                put_first(&mut self.order, summary.count == 0, First { metric, sum });
                 self.counted += 1;
             }
             None => self.refused += 1,
         }
     }
 
-    /// Parts more, for which there is room, in order: each counts, or is left out.
-    fn add_all(&mut self, parts: Vec<Part>)
-        requires room { AllByRecursion (RoomFor (memory_of self.old)) parts.items }
-        requires space { length self.old.order.items + length parts.items ≤ vec_capacity self.old.order }
-        requires few { self.old.counted + self.old.refused + length parts.items < 2 ^ 64 }
+    /// Parts more, in order: each counts, or is left out.
+    fn add_all(&mut self, all: Vec<Placed>)
+        requires placed { AllByRecursion (IsPlaced (memory_of self.old)) all.items }
+        requires space { length self.old.order.items + length all.items ≤ vec_capacity self.old.order }
+        requires few { self.old.counted + self.old.refused + length all.items < 2 ^ 64 }
         ensures keeps { (past now : List Content) → Keeps past now (memory_of self.old)
-            → Keeps past (fold (with_part past) now parts.items) (memory_of self.new) }
-        ensures all { self.new.counted + self.new.refused
-            ≡ self.old.counted + self.old.refused + length parts.items }
+            → Keeps past (fold (with_part past) now (map part_of all.items)) (memory_of self.new) }
+        ensures all { self.new.counted + self.new.refused ≡ self.old.counted + self.old.refused + length all.items }
     {
-        for part in parts {
-            self.add(part);
+        for placed in all {
+            self.add(placed);
         }
     }
 
-    /// What was read of a packet, for whose parts there is room: so many lines more are refused.
-    pub(crate) fn add_reading(&mut self, parts: Vec<Part>, refused: u64)
-        requires room { AllByRecursion (RoomFor (memory_of self.old)) parts.items }
-        requires space { length self.old.order.items + length parts.items ≤ vec_capacity self.old.order }
-        requires few { self.old.counted + self.old.refused + refused + length parts.items < 2 ^ 64 }
+    /// What was read of a packet: so many lines more are refused, and parts more count, or are left out.
+    pub(crate) fn add_reading(&mut self, all: Vec<Placed>, refused: u64)
+        requires placed { AllByRecursion (IsPlaced (memory_of self.old)) all.items }
+        requires space { length self.old.order.items + length all.items ≤ vec_capacity self.old.order }
+        requires few { self.old.counted + self.old.refused + refused + length all.items < 2 ^ 64 }
         ensures keeps { (past now : List Content) → Keeps past now (memory_of self.old)
-            → Keeps past (fold (with_part past) now parts.items) (memory_of self.new) }
+            → Keeps past (fold (with_part past) now (map part_of all.items)) (memory_of self.new) }
         ensures all { self.new.counted + self.new.refused
-            ≡ self.old.counted + self.old.refused + refused + length parts.items }
+            ≡ self.old.counted + self.old.refused + refused + length all.items }
     {
         self.refused += refused;
-        self.add_all(parts);
+        self.add_all(all);
     }
 
     /// A new group begins. It takes no memory.
@@ -241,8 +267,10 @@ impl Tally {
         ensures counted { self.new.counted ≡ 0 }
         ensures refused { self.new.refused ≡ 0 }
     {
-        self.sums.clear();
-        self.members.clear();
+        let series = self.order.len();
+        self.sums
+            .forget(series.saturating_mul(2).saturating_add(MORE_PLACES));
+        self.members.forget(0);
         self.order.clear();
         self.counted = 0;
         self.refused = 0;

@@ -1,19 +1,20 @@
-use Rattle.std.proofs.Common.{◌≡◌, ◌≤◌, ◌+◌, List, length, vec_capacity}
+use Rattle.std.proofs.Common.{◌≡◌, ◌≤◌, ◌+◌, List, length, map, vec_capacity}
 use Rattle.std.specs.List.{fold, AllByRecursion}
 use Rattle.std.specs.Vec.Iter.{into_iter_items}
 use Rattle.metric.specs.declared.metric.Content.{Content}
 use Rattle.statsd_server.specs.Counting.{with_part}
-use Rattle.statsd_server.specs.Kept.{Keeps, RoomFor}
+use Rattle.statsd_server.specs.Kept.{part_of, IsPlaced, Keeps}
 use Rattle.statsd_server.specs.TallyView.{memory_of}
 use Rattle.statsd_server.proofs.tally.Tally.add_all.Given as goal
 
-abbrev pub invariant-loop-part : goal.invariant-loop-part
-invariant-loop-part l = record {
+abbrev pub invariant-loop-placed : goal.invariant-loop-placed
+invariant-loop-placed l = record {
   keeps : (past now : List Content) → Keeps past now (memory_of l.fn.self)
       → (later : List Content) × Keeps past later (memory_of l.self)
-      × (fold (with_part past) later (into_iter_items l.part-iterator) ≡ fold (with_part past) now l.fn.parts.items);
-  room : AllByRecursion (RoomFor (memory_of l.self)) (into_iter_items l.part-iterator);
-  space : length l.self.order.items + length (into_iter_items l.part-iterator) ≤ vec_capacity l.self.order;
-  all : l.self.counted + l.self.refused + length (into_iter_items l.part-iterator)
-      ≡ l.fn.self.counted + l.fn.self.refused + length l.fn.parts.items;
+      × (fold (with_part past) later (map part_of (into_iter_items l.placed-iterator))
+      ≡ fold (with_part past) now (map part_of l.fn.all.items));
+  placed : AllByRecursion (IsPlaced (memory_of l.self)) (into_iter_items l.placed-iterator);
+  space : length l.self.order.items + length (into_iter_items l.placed-iterator) ≤ vec_capacity l.self.order;
+  all : l.self.counted + l.self.refused + length (into_iter_items l.placed-iterator)
+      ≡ l.fn.self.counted + l.fn.self.refused + length l.fn.all.items;
 }

@@ -5,5 +5,5 @@ use Rattle.statsd_server.proofs.tally.Tally.clear.Goals as goal
 
 pub returns-clause-keeps : goal.returns-clause-keeps
 returns-clause-keeps c = λ past now keeps.
-    begins past now (memory_of c.args.self.now) _ keeps c.clear.ensures.empty c.clear-2.ensures.empty
-    c.clear-3.ensures.items refl refl
+    begins past now (memory_of c.args.self.now) _ keeps c.forget.ensures c.forget-2.ensures
+    c.clear.ensures.items refl refl

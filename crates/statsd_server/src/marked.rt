@@ -5,7 +5,7 @@ ghost use Rattle.std.specs.Cmp.{partial_equiv_from_equiv, partial_order_from_own
 ghost use Rattle.std.specs.Cmp.{partial_order_from_total};
 ghost use Rattle.std.specs.Cmp.Rules.{comparing};
 ghost use Rattle.std.specs.Ordering.{as_partial_cmp};
-ghost use Rattle.metric.specs.Series.{series_eq, series_equiv};
+ghost use Rattle.metric.specs.Series.{series_cmp, series_eq, series_equiv};
 ghost use Rattle.agg_keep.specs.Spot.{series_of, series_same};
 ghost use Rattle.statsd_server.specs.Marked.{mark_of, marked_cmp, marked_ties, marked_total, text_mark};
 
@@ -70,6 +70,17 @@ impl Marked {
             series,
         })
     }
+
+    /// How the series compare. That two are the same is found by their texts as a whole, and not byte by byte.
+    fn cmp_series(&self, other: &Marked) -> Ordering
+        ensures { result ≡ series_cmp self.now other.now }
+    {
+        if self.series == other.series {
+            Ordering::Equal
+        } else {
+            self.series.cmp(&other.series)
+        }
+    }
 }
 
 impl Key for Marked {
@@ -111,7 +122,7 @@ impl Ord for Marked {
 
     fn cmp(&self, other: &Self) -> Ordering {
         match self.mark.cmp(&other.mark) {
-            Ordering::Equal => self.series.cmp(&other.series),
+            Ordering::Equal => self.cmp_series(other),
             apart => apart,
         }
     }

@@ -9,6 +9,9 @@ use metric::Metric;
 use statsd_text::{StatsdKind, read_line};
 use std::alloc::Global;
 
+/// Few lines are shorter: by that room is taken for the parts of a packet, which may be more.
+const LINE_BYTES: usize = 16;
+
 /// What is read: the parts, with what they say, and how many lines are refused.
 #[derive(Drop)]
 pub(crate) struct Reading {
@@ -83,7 +86,7 @@ pub(crate) fn read_packet(alloc: Global, packet: &[u8]) -> Result<Reading, OutOf
     ensures few { IfOk result (λ reading. reading.refused ≤ 65536) }
 {
     let mut reading = Reading {
-        parts: Vec::new(alloc),
+        parts: Vec::with_capacity(alloc, packet.len() / LINE_BYTES + 1)?,
         refused: 0,
     };
     let mut start = 0;

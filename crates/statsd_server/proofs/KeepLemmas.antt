@@ -25,7 +25,8 @@ use Rattle.statsd_server.specs.Counting.{does_count, is_in_range, taken_to, with
 use Rattle.statsd_server.specs.Folding.{is_fresh, with_amount}
 use Rattle.statsd_server.specs.declared.placed.First.{First}
 use Rattle.statsd_server.specs.declared.placed.Placed.{Placed}
-use Rattle.statsd_server.specs.Kept.{first_series, is_it, is_named, is_new, level_for, level_held, sum_held, summary_held}
+use Rattle.statsd_server.specs.Kept.{first_series, is_it, is_named, is_new, level_for, level_held, sum_held}
+use Rattle.statsd_server.specs.Kept.{summary_held}
 use Rattle.statsd_server.specs.Kept.{summary_if, HasPlace, HasStayed, IsPlaced, Keeps, LevelPlace, Levels}
 use Rattle.statsd_server.specs.Kept.{Members, MemberPlace, Memory, Sums}
 use Rattle.statsd_server.specs.Marked.{marked_cmp}
@@ -45,7 +46,8 @@ place_same {K = K} cmp old new same k = ap (λ (list : List (K × ℕ)). lookup 
 no_place : {K V : Type 0} (cmp : K → K → Ordering) (table : Table K V) → table.places ≡ [] → (k : K)
     → held_by cmp table k ≡ None
 no_place {K = K} cmp table none k =
-    ap (λ (list : List (K × ℕ)). option_and_then (value_at table.values) (lookup (λ other. is_eq (cmp k other)) list)) none
+    ap (λ (list : List (K × ℕ)). option_and_then (value_at table.values) (lookup (λ other. is_eq
+    (cmp k other)) list)) none
 
 -- ---- the changes of a series, with a part more
 
@@ -262,7 +264,11 @@ placed_more sums (one ∷ order) first true h is = (h.0, placed_more sums order 
 pub places_same : (old new : Sums) (order : List First) → new.places ≡ old.places → AllByRecursion (HasPlace old) order
     → AllByRecursion (HasPlace new) order
 places_same old new [] same h = tt
-places_same old new (first ∷ order) same h = (place_same marked_cmp old new same (first_series first) ∙ h.0, places_same old new order same h.1)
+places_same old new (first ∷ order) same h = (
+  place_same marked_cmp old new same (first_series first)
+      ∙ h.0,
+  places_same old new order same h.1,
+)
 
 -- ---- levels
 
@@ -286,7 +292,8 @@ no_gauge before change h =
 pub level_stays : (levels : Levels) (series : Series) (change : Change)
     → ((x : ℤ) × (change ≡ Adds x)) ⊎ (((x : ℤ) × (change ≡ Took x)) ⊎ ((x : List ℕ) × (change ≡ Names x)))
     → (q : Series)
-    → level_held levels q ≡ cond (series_eq series q) (level_with (level_held levels series) change) (level_held levels q)
+    → level_held levels q ≡ cond (series_eq series q) (level_with (level_held levels series) change)
+    (level_held levels q)
 level_stays levels series change none q =
     elim (series_eq series q) as (λ t. series_eq series q ≡ t
     → level_held levels q ≡ cond t (level_with (level_held levels series) change) (level_held levels q)) [
@@ -356,7 +363,8 @@ counted_more past now part old new h few k =
           (λ m. k.members m ∙ ap (λ (named : Option Member). is_it named m || is_named old.members m) k.member_is);
       ordered = ordered_more past now part old new.order k.first k.is_first h
           (k.first_is ∙ ap (λ (x : Summary). x.count == 0) old_is) k.metric_is k.order;
-      placed = subst (AllByRecursion (HasPlace new.sums)) (sym k.order) (placed_more new.sums old.order k.first k.is_first
+      placed = subst (AllByRecursion (HasPlace new.sums)) (sym k.order)
+          (placed_more new.sums old.order k.first k.is_first
           (places_same old.sums new.sums old.order k.places h.placed)
           (place_same marked_cmp old.sums new.sums k.places (first_series k.first)
           ∙ ap (λ (m : Content). place_by marked_cmp old.sums (series_of m)) k.metric_is ∙ k.place_is));

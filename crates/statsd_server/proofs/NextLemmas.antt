@@ -57,7 +57,8 @@ lookup_moved test end (e ∷ es) =
     [ true ↦ refl | false ↦ lookup_moved test end es ]
 
 value_moved : {V : Type 0} (values : List (Option V)) (value : V) (at : ℕ)
-    → value_at (values ++ Some value ∷ []) (cond (nat_lt at (length values)) at (length values + 1)) ≡ value_at values at
+    → value_at (values ++ Some value ∷ []) (cond (nat_lt at (length values)) at (length values + 1))
+    ≡ value_at values at
 value_moved {V = V} values value at =
     elim (nat_lt at (length values)) as (λ t. nat_lt at (length values) ≡ t
     → value_at (values ++ Some value ∷ []) (cond t at (length values + 1)) ≡ value_at values at) [
@@ -80,7 +81,8 @@ module _ {K : Type 0} (same : K → K → Bool) (cmp : K → K → Ordering)
   with_held {V = V} table k value q =
       elim (same k q) as (λ t. same k q ≡ t
       → held_by cmp (with_value table k value) q ≡ cond t (Some value) (held_by cmp table q)) [
-        | true ↦ λ e. rw (ties_turned k q true e) (ap (λ (found : Option (Option V)). option_and_then (λ value. value) found)
+        | true ↦ λ e. rw (ties_turned k q true e) (ap (λ (found : Option (Option V)). option_and_then
+            (λ value. value) found)
             (last_get table.values (Some value)))
         | false ↦ λ e. rw (ties_turned k q false e) (ap
             (λ (found : Option ℕ). option_and_then (value_at (table.values ++ Some value ∷ [])) found)
@@ -151,7 +153,8 @@ placed_in sums first = record {
 HasSome : Sums → First → Type 0
 HasSome sums first = IsSome (place_by marked_cmp sums (first_series first))
 
-placed_series : (sums : Sums) (order : List First) → map first_series (map (placed_in sums) order) ≡ map first_series order
+placed_series : (sums : Sums) (order : List First) → map first_series (map (placed_in sums) order)
+    ≡ map first_series order
 unfolding placed_in
 placed_series sums [] = refl
 placed_series sums (first ∷ order) =
@@ -161,7 +164,11 @@ all_placed : (sums : Sums) (order : List First) → AllByRecursion (HasSome sums
     → AllByRecursion (HasPlace sums) (map (placed_in sums) order)
 unfolding placed_in HasSome
 all_placed sums [] h = tt
-all_placed sums (first ∷ order) h = (here (place_by marked_cmp sums (first_series first)) h.0, all_placed sums order h.1)
+all_placed sums (first ∷ order) h = (
+  here (place_by marked_cmp sums
+      (first_series first)) h.0,
+  all_placed sums order h.1,
+)
   where
     here : (found : Option ℕ) → IsSome found → found ≡ Some (unwrap_or found 0)
     here (Some at) is = refl
@@ -208,7 +215,11 @@ firsts_have memory part h =
 
     more : (order : List First) → AllByRecursion (HasPlace memory.sums) order
         → AllByRecursion (HasSome (summed memory part)) (order ++ record { metric = part; sum = 0 } ∷ [])
-    more [] h = (own_place series_eq marked_cmp series_same marked_ties memory.sums (series_of part) (sum_with memory part), tt)
+    more [] h = (
+      own_place series_eq marked_cmp series_same marked_ties memory.sums (series_of part)
+          (sum_with memory part),
+      tt,
+    )
     more (first ∷ order) h = (
       with_place series_eq marked_cmp series_same marked_ties memory.sums (series_of part) (sum_with memory part)
           (first_series first) first.sum h.0,

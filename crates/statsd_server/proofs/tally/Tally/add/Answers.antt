@@ -19,7 +19,8 @@ summary_here : (c : After-behind)
     → c.or_empty-summary.result ≡ summary_held c.args.self.now.sums (series_of c.args.placed.part)
 summary_here c =
     c.or_empty-summary.ensures ∙ ap (λ (held : Option Summary). unwrap_or held (summary_of [])) (c.at.ensures
-    ∙ sym (ap (λ (found : Option ℕ). option_and_then (value_at c.args.self.now.sums.values) found) c.requires.placed.sum))
+    ∙ sym (ap (λ (found : Option ℕ). option_and_then
+    (value_at c.args.self.now.sums.values) found) c.requires.placed.sum))
 
 level_placed : (c : After-behind) → LevelPlace c.args.self.now.levels (series_of c.args.placed.part)
     c.into_parts-metric.result.1 c.args.placed.level
@@ -74,7 +75,8 @@ returns-in-Some-clause-stays c =
     placed_stays (memory_of c.args.self.now) _
     (λ q at is. place_same marked_cmp c.args.self.now.sums c.put.new.self c.put.ensures.places q ∙ is)
     (λ q at is. place_same marked_cmp c.args.self.now.levels c.put_level.new.levels c.put_level.ensures.places q ∙ is)
-    (λ m at is. place_same member_cmp c.args.self.now.members c.put_member.new.members c.put_member.ensures.places m ∙ is)
+    (λ m at is. place_same member_cmp c.args.self.now.members c.put_member.new.members c.put_member.ensures.places m
+    ∙ is)
 
 pub returns-in-None-clause-keeps : goal.returns-in-None-clause-keeps
 returns-in-None-clause-keeps c = λ past now keeps.

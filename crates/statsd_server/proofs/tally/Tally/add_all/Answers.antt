@@ -33,6 +33,7 @@ returns-clause-keeps c = λ past now keeps.
     let l = c.loop-placed in
     let so_far = l.invariant.keeps past now keeps in
     let none : into_iter_items l.placed-iterator ≡ [] =
-    none_left (into_iter_items l.placed-iterator) (omega (arith, c.in-None.ensures.steps.0, l.placed-iterator.rest.ok)) in
+    none_left (into_iter_items l.placed-iterator) (omega
+    (arith, c.in-None.ensures.steps.0, l.placed-iterator.rest.ok)) in
     subst (λ (ms : List Content). Keeps past ms (memory_of l.self))
     (ap (λ (all : List Placed). fold (with_part past) so_far.0 (map part_of all)) (sym none) ∙ so_far.2) so_far.1

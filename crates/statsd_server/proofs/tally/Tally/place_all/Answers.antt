@@ -39,7 +39,8 @@ loop-part-preserved c =
       parts = ap (λ (all : List Placed). map part_of all ++ rest) pushed ∙ same ∙ l.invariant.parts;
       placed = subst (AllByRecursion (IsPlaced (memory_of c.place.new.self))) (sym pushed)
           (all_more (IsPlaced (memory_of c.place.new.self)) old placed
-          (all_stay (IsPlaced (memory_of l.self)) (IsPlaced (memory_of c.place.new.self)) c.place.ensures.stays.placed old
+          (all_stay (IsPlaced (memory_of l.self)) (IsPlaced
+          (memory_of c.place.new.self)) c.place.ensures.stays.placed old
           l.invariant.placed) c.in_ok-place.ensures.placed);
       space = omega (arith, order, room, l.invariant.space);
     }

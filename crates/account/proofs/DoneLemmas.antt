@@ -6,20 +6,19 @@ use Rattle.std.proofs.lemmas.List.Sums.{sum_by-append}
 use Rattle.account.specs.declared.entry.Entry.{Entry}
 use Rattle.account.specs.declared.entry.Entry.TheVariants.{Done}
 use Rattle.account.specs.declared.entry.Report.{Report}
+use Rattle.account.proofs.PushLemmas.{push, same}
 use Rattle.account.specs.Dones.{dones_by, dones, LastFailed}
 
 pub dones-push : (output : ℕ) (es : List Entry) (e : Entry) → dones output (es ++ e ∷ []) ≡ dones output es
     ++ dones_by output e
 unfolding dones
-dones-push output [] e = append-nil (dones_by output e)
-dones-push output (d ∷ es) e = ap (λ (bs : List Bool). dones_by output d ++ bs) (dones-push output es e)
-    ∙ sym (append_assoc (dones_by output d) (dones output es) (dones_by output e))
+dones-push output es e = push (dones_by output) (dones output) refl (λ d ds. refl) es e
 
 -- an entry that ends no batch of the output
 pub dones-same : (output : ℕ) (es : List Entry) (e : Entry) → dones_by output e ≡ []
     → dones output (es ++ e ∷ []) ≡ dones output es
-dones-same output es e none = dones-push output es e ∙ ap (λ (bs : List Bool). dones output es ++ bs) none
-    ∙ append-nil (dones output es)
+unfolding dones
+dones-same output es e none = same (dones_by output) (dones output) refl (λ d ds. refl) es e none
 
 -- a batch more that is done
 pub dones-more : (reports : List Report) (output : ℕ) (es : List Entry) (ok : Bool)

@@ -1,3 +1,4 @@
+pub mod PushLemmas
 pub mod ItemLemmas
 pub mod OriginLemmas
 pub mod NumberedLemmas

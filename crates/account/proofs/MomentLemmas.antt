@@ -1,23 +1,22 @@
 -- The moments that entries name, with one entry more.
-use Rattle.std.proofs.Common.{◌≡◌, ℕ, ℤ, List, [], ◌∷◌, ◌++◌, refl, sym, ap, ◌∙◌, append_assoc, append-nil}
+use Rattle.std.proofs.Common.{◌≡◌, ℕ, ℤ, List, [], ◌∷◌, ◌++◌, refl, ap, ◌∙◌, append-nil}
 use Rattle.std.specs.Prelude.{map}
 use Rattle.account.specs.declared.entry.Entry.{Entry}
 use Rattle.account.specs.EntryMoments.{gather_moments, counted_by, counted_moments}
 use Rattle.account.specs.Says.{GatherSays}
 use Rattle.account.specs.Gathers.{gathers, gathers_by}
 use Rattle.account.proofs.GatherLemmas.{gathers-push}
+use Rattle.account.proofs.PushLemmas.{push, same}
 
 pub counted_moments-push : (es : List Entry) (e : Entry) → counted_moments (es ++ e ∷ []) ≡ counted_moments es
     ++ counted_by e
 unfolding counted_moments
-counted_moments-push [] e = append-nil (counted_by e)
-counted_moments-push (d ∷ es) e = ap (λ (ms : List ℤ). counted_by d ++ ms) (counted_moments-push es e)
-    ∙ sym (append_assoc (counted_by d) (counted_moments es) (counted_by e))
+counted_moments-push es e = push counted_by counted_moments refl (λ d ds. refl) es e
 
 pub counted_moments-same : (es : List Entry) (e : Entry) → counted_by e ≡ []
     → counted_moments (es ++ e ∷ []) ≡ counted_moments es
-counted_moments-same es e none = counted_moments-push es e ∙ ap (λ (ms : List ℤ). counted_moments es ++ ms) none
-    ∙ append-nil (counted_moments es)
+unfolding counted_moments
+counted_moments-same es e none = same counted_by counted_moments refl (λ d ds. refl) es e none
 
 map-append : (xs ys : List GatherSays) → map (λ (says : GatherSays). says.moment) (xs ++ ys) ≡ map
     (λ (says : GatherSays). says.moment) xs ++ map (λ (says : GatherSays). says.moment) ys

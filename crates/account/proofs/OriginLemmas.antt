@@ -1,15 +1,14 @@
 -- Where items came from.
-use Rattle.std.proofs.Common.{◌≡◌, List, [], ◌∷◌, ◌++◌, length, refl, ap, sym, ◌∙◌, arith, append-nil}
-use Rattle.std.proofs.Common.{append_assoc, length-append}
+use Rattle.std.proofs.Common.{◌≡◌, List, [], ◌∷◌, ◌++◌, length, refl, arith, length-append}
 use Rattle.std.proofs.lemmas.List.{length-replicate}
-use Rattle.std.specs.Prelude.{ℕ}
 use Rattle.account.specs.declared.entry.Entry.{Entry}
 use Rattle.account.specs.declared.entry.Entry.TheVariants.{Gather, Ended, Take, Route, Tick, Stop, Begin}
 use Rattle.account.specs.declared.entry.Entry.TheVariants.{Done}
 use Rattle.account.specs.Says.{gather_of}
 use Rattle.account.specs.Items.{items, named_by}
-use Rattle.account.specs.Origins.{Origin, made, origins, origins_by, OriginsMatch, group_inputs}
+use Rattle.account.specs.Origins.{made, origins, origins_by, OriginsMatch, group_inputs}
 use Rattle.account.specs.Origins.{group_inputs_said}
+use Rattle.account.proofs.PushLemmas.{push}
 
 length-origins_by : (e : Entry) → length (origins_by e) ≡ length (named_by e)
 length-origins_by (Gather input moment pieces refused passed filtered metrics group reports) =
@@ -37,14 +36,9 @@ origins-match (e ∷ es) =
 pub group_inputs-push : (es : List Entry) (e : Entry) →
     group_inputs (es ++ e ∷ []) ≡ group_inputs es ++ group_inputs_said (gather_of e)
 unfolding group_inputs
-group_inputs-push [] e = append-nil (group_inputs_said (gather_of e))
-group_inputs-push (x ∷ es) e =
-    ap (λ (ns : List ℕ). group_inputs_said (gather_of x) ++ ns) (group_inputs-push es e)
-    ∙ sym (append_assoc (group_inputs_said (gather_of x)) (group_inputs es) (group_inputs_said (gather_of e)))
+group_inputs-push es e =
+    push (λ (d : Entry). group_inputs_said (gather_of d)) group_inputs refl (λ d ds. refl) es e
 
 pub origins-push : (es : List Entry) (e : Entry) → origins (es ++ e ∷ []) ≡ origins es ++ origins_by e
 unfolding origins
-origins-push [] e = append-nil (origins_by e)
-origins-push (x ∷ es) e =
-    ap (λ (more : List Origin). origins_by x ++ more) (origins-push es e)
-    ∙ sym (append_assoc (origins_by x) (origins es) (origins_by e))
+origins-push es e = push origins_by origins refl (λ d ds. refl) es e

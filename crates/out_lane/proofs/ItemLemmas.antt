@@ -1,5 +1,5 @@
 -- What each call makes of the items, as parts of the list of all that were pushed.
-use Rattle.std.proofs.Common.{◌≡◌, ℕ, ◌+◌, ◌-◌, ◌≤◌, ◌==◌, eqb, min, max, true, false, if◌then◌else◌, inl}
+use Rattle.std.proofs.Common.{◌≡◌, ℕ, ◌+◌, ◌-◌, ◌<◌, ◌≤◌, ◌==◌, eqb, min, max, true, false, if◌then◌else◌, inl}
 use Rattle.std.proofs.Common.{inr, List, [], ◌∷◌, ◌++◌, length, take, drop, slice_get, None, refl, sym, ◌∙◌}
 use Rattle.std.proofs.Common.{ap, arith, length-append, length-drop}
 use Rattle.std.specs.Option.{option_to_list}
@@ -76,6 +76,18 @@ module _ {X : Type 0} where
       ap (λ (zs : List X). items_between from to ys ++ zs) (sym (drop-drop (to - from) from ys ∙ ap (λ k. drop k ys) e))
       ∙ take-append-drop (to - from) (drop from ys)
 
+  -- how many are too many after a failed batch, where the newest begin behind it
+  too_many : (limit from to start : ℕ) (ys : List X) → from ≤ to → to ≤ length ys →
+      start ≡ max to (length ys - limit) → to < length ys - limit →
+      length (items_between from to ys ++ drop start ys) - limit ≡ to - from
+  too_many limit from to start ys f t s l =
+      omega (
+        arith,
+        length-append (items_between from to ys) (drop start ys),
+        length-items_between from to ys t,
+        length-drop start ys,
+      )
+
   -- what waits after a failed batch, and what no longer does
   pub newest_failed : (limit from to start : ℕ) (ys : List X) → from ≤ to → to ≤ length ys →
       start ≡ max to (length ys - limit) →
@@ -83,14 +95,8 @@ module _ {X : Type 0} where
   newest_failed limit from to start ys f t s =
       elim (cases_lt to (length ys - limit)) [
         | inl l ↦
-            (let e : length (items_between from to ys ++ drop start ys) - limit ≡ to - from = omega (
-              arith,
-              length-append (items_between from to ys) (drop start ys),
-              length-items_between from to ys t,
-              length-drop start ys,
-            ) in
-            let k : start ≡ max from (length ys - limit) = omega arith in
-            ap (λ k. drop k (items_between from to ys ++ drop start ys)) e
+            (let k : start ≡ max from (length ys - limit) = omega arith in
+            ap (λ k. drop k (items_between from to ys ++ drop start ys)) (too_many limit from to start ys f t s l)
             ∙ drop_at (items_between from to ys) (drop start ys) (to - from) (length-items_between from to ys t)
             ∙ ap (λ k. drop k ys) k)
         | inr g ↦
@@ -107,14 +113,8 @@ module _ {X : Type 0} where
   older_failed limit from to start ys f t s =
       elim (cases_lt to (length ys - limit)) [
         | inl l ↦
-            (let e : length (items_between from to ys ++ drop start ys) - limit ≡ to - from = omega (
-              arith,
-              length-append (items_between from to ys) (drop start ys),
-              length-items_between from to ys t,
-              length-drop start ys,
-            ) in
-            let k : to ≡ min to (max from (length ys - limit)) = omega arith in
-            ap (λ k. take k (items_between from to ys ++ drop start ys)) e
+            (let k : to ≡ min to (max from (length ys - limit)) = omega arith in
+            ap (λ k. take k (items_between from to ys ++ drop start ys)) (too_many limit from to start ys f t s l)
             ∙ take_at (items_between from to ys) (drop start ys) (to - from) (length-items_between from to ys t)
             ∙ ap (λ k. items_between from k ys) k)
         | inr g ↦

@@ -10,7 +10,7 @@ use Rattle.std.proofs.lemmas.List.{length_push, drop_all}
 use Rattle.out_lane.specs.declared.BeginAnswer.{BeginAnswer}
 use Rattle.out_lane.specs.declared.BeginAnswer.TheVariants.{InFlight, NothingWaiting}
 use Rattle.out_lane.specs.Lane.{LaneState, newest, older, waiting_from, batch_items, flying, after_push}
-use Rattle.out_lane.specs.Lane.{after_begin, begin_answer, after_accept, after_fail}
+use Rattle.out_lane.specs.Lane.{after_begin, begin_answer}
 use Rattle.out_lane.specs.LaneEvents.{LaneEvent, Push, Begin, Done, Ranges, reached, ranges_after}
 use Rattle.out_lane.specs.LaneEvents.{ranges_from, ranges_of, next_from, open_end, IsNextRange, IsOpen}
 use Rattle.out_lane.specs.LaneEvents.{MeetsLane, AreLaneEvents, holds, is_in_open, is_written, Buffered}

@@ -1,11 +1,11 @@
 -- Texts of plain bytes are written as they are.
-use Rattle.std.proofs.Common.{◌≡◌, ◌==◌, ◌-◌, ◌<◌, ℕ, zero, suc, true, false, List, [], ◌∷◌, length, take, get_or, refl}
+use Rattle.std.proofs.Common.{◌≡◌, ◌==◌, ◌-◌, ◌<◌, ℕ, zero, suc, Bool, true, false, not, List, [], ◌∷◌, length, take, get_or, refl}
 use Rattle.std.proofs.Common.{sym, ap, ◌∙◌, arith}
 use Rattle.std.proofs.lemmas.List.{take_all}
 use Rattle.std.proofs.lemmas.List.Sums.{suffix_len_is}
 use Rattle.std.specs.Prelude.{codes}
-use Rattle.std.specs.List.{list_all, suffix_len}
-use Rattle.std.proofs.lemmas.Bool.{and_parts, ne_eqb}
+use Rattle.std.specs.List.{list_all, list_any, suffix_len}
+use Rattle.std.proofs.lemmas.Bool.{and_parts, ne_eqb, not-true}
 use Rattle.metric.specs.Plain.{is_plain}
 use Rattle.text_parts.specs.Escaped.{escaped}
 use Rattle.line_proto.specs.LineText.{on_one_line, trimmed, text_escapes, key_text, name_text}
@@ -30,61 +30,47 @@ no_carriage_return : is_plain 13 ≡ false
 unfolding is_plain
 no_carriage_return = refl
 
-no_space : is_plain 32 ≡ false
-unfolding is_plain
-no_space = refl
-
-no_double_quote : is_plain 34 ≡ false
-unfolding is_plain
-no_double_quote = refl
-
-no_comma : is_plain 44 ≡ false
-unfolding is_plain
-no_comma = refl
-
-no_equals_sign : is_plain 61 ≡ false
-unfolding is_plain
-no_equals_sign = refl
-
 no_backslash : is_plain 92 ≡ false
 unfolding is_plain
 no_backslash = refl
 
-bare_key : (b : ℕ) → is_plain b ≡ true → is_bare (codes ",= ") b ≡ true
-bare_key b plain =
+-- none of these marks is plain
+abbrev none_plain : List ℕ → Bool
+none_plain marks = list_all (λ mark. not (is_plain mark)) marks
+
+key_marks : none_plain (codes ",= ") ≡ true
+unfolding is_plain
+key_marks = refl
+
+name_marks : none_plain (codes ", ") ≡ true
+unfolding is_plain
+name_marks = refl
+
+text_marks : none_plain (codes "\"\\") ≡ true
+unfolding is_plain
+text_marks = refl
+
+no_mark : (marks : List ℕ) (b : ℕ) → none_plain marks ≡ true → is_plain b ≡ true
+    → list_any (λ mark. mark == b) marks ≡ false
+no_mark [] b none plain = refl
+no_mark (mark ∷ marks) b none plain =
+    let parts = and_parts (not (is_plain mark)) (none_plain marks) none in
+    rw (apart_from b mark plain (not-true _ parts.0), no_mark marks b parts.1 plain) refl
+
+bare : (marks : List ℕ) (b : ℕ) → none_plain marks ≡ true → is_plain b ≡ true → is_bare marks b ≡ true
+bare marks b none plain =
     rw (
       apart b 10 plain no_newline,
       apart b 13 plain no_carriage_return,
-      apart_from b 44 plain no_comma,
-      apart_from b 61 plain no_equals_sign,
-      apart_from b 32 plain no_space,
+      no_mark marks b none plain,
     ) refl
 
-bare_name : (b : ℕ) → is_plain b ≡ true → is_bare (codes ", ") b ≡ true
-bare_name b plain =
-    rw (
-      apart b 10 plain no_newline,
-      apart b 13 plain no_carriage_return,
-      apart_from b 44 plain no_comma,
-      apart_from b 32 plain no_space,
-    ) refl
-
-bare_quoted : (b : ℕ) → is_plain b ≡ true → is_bare (codes "\"\\") b ≡ true
-bare_quoted b plain =
-    rw (
-      apart b 10 plain no_newline,
-      apart b 13 plain no_carriage_return,
-      apart_from b 34 plain no_double_quote,
-      apart_from b 92 plain no_backslash,
-    ) refl
-
-all_bare : (marks text : List ℕ) → ((b : ℕ) → is_plain b ≡ true → is_bare marks b ≡ true)
-    → list_all is_plain text ≡ true
+all_bare : (marks text : List ℕ) → none_plain marks ≡ true → list_all is_plain text ≡ true
     → list_all (is_bare marks) text ≡ true
-all_bare marks [] bare h = refl
-all_bare marks (b ∷ bs) bare h =
+all_bare marks [] none h = refl
+all_bare marks (b ∷ bs) none h =
     let parts = and_parts (is_plain b) (list_all is_plain bs) h in
-    rw (bare b parts.0, all_bare marks bs bare parts.1) refl
+    rw (bare marks b none parts.0, all_bare marks bs none parts.1) refl
 
 front_plain : (n : ℕ) (text : List ℕ) → list_all is_plain text ≡ true → list_all is_plain (take n text) ≡ true
 front_plain zero text h = refl
@@ -116,7 +102,7 @@ plain_trimmed text h =
 pub word_key : (key kept : List ℕ) → kept ≡ trimmed key → 0 < length kept → list_all is_plain key ≡ true
     → kept ≡ key_text key
 word_key key kept is some h =
-    sym (bare_text (codes ",= ") kept (all_bare (codes ",= ") kept bare_key (kept_plain key kept is h)))
+    sym (bare_text (codes ",= ") kept (all_bare (codes ",= ") kept key_marks (kept_plain key kept is h)))
     ∙ kept_key key kept is some
 
 -- a plain key is written as it is
@@ -129,8 +115,8 @@ pub word_name : (name kept : List ℕ) → kept ≡ trimmed name → 0 < length 
     → list_all is_plain name ≡ true
     → kept ≡ name_text name
 word_name name kept is some no_hash h =
-    sym (bare_text (codes ", ") kept (all_bare (codes ", ") kept bare_name (kept_plain name kept is h)))
+    sym (bare_text (codes ", ") kept (all_bare (codes ", ") kept name_marks (kept_plain name kept is h)))
     ∙ kept_name name kept 0 is some no_hash
 
 pub word_quoted : (text : List ℕ) → list_all is_plain text ≡ true → text ≡ escaped text_escapes (on_one_line text)
-word_quoted text h = sym (bare_text (codes "\"\\") text (all_bare (codes "\"\\") text bare_quoted h))
+word_quoted text h = sym (bare_text (codes "\"\\") text (all_bare (codes "\"\\") text text_marks h))

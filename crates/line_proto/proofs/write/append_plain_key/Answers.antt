@@ -1,7 +1,7 @@
 use Rattle.std.proofs.Common.{◌≡◌, ◌++◌, List, ℕ, length, ap, sym, subst, ◌∙◌, arith}
 use Rattle.std.specs.Prelude.{OnOk}
 use Rattle.std.proofs.lemmas.Bool.{eqb-true, eqb-false}
-use Rattle.line_proto.specs.LineText.{key_text, trimmed}
+use Rattle.line_proto.specs.LineText.{key_text}
 use Rattle.text_parts.proofs.Adding.{appended}
 use Rattle.line_proto.proofs.WriteLemmas.{empty_key}
 use Rattle.line_proto.proofs.WordLemmas.{plain_key, plain_trimmed}

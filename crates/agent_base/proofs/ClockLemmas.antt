@@ -102,27 +102,26 @@ clocked_one moments old new m h = record {
   rest = omega arith;
 }
 
-pub counted_one : (moments : Moments) (old new : ℕ) (m floor : ℤ) → GivesAt moments old new m
-    → Counted moments old new floor (int_max floor m ∷ [])
+-- it counts as the greater one of it and the floor
+counted_as : (moments : Moments) (old new : ℕ) (m floor counted : ℤ) → counted ≡ int_max floor m
+    → GivesAt moments old new m → Counted moments old new floor (counted ∷ [])
 unfolding Counted
-counted_one moments old new m floor h = record {
+counted_as moments old new m floor counted is h = record {
   index = old;
   from = omega arith;
   to = omega arith;
-  is = ap (int_max floor) h.given;
+  is = is ∙ ap (int_max floor) h.given;
   rest = omega arith;
 }
 
+pub counted_one : (moments : Moments) (old new : ℕ) (m floor : ℤ) → GivesAt moments old new m
+    → Counted moments old new floor (int_max floor m ∷ [])
+counted_one moments old new m floor h = counted_as moments old new m floor (int_max floor m) refl h
+
 pub counted_one_over : (moments : Moments) (old new : ℕ) (m floor : ℤ) → GivesAt moments old new m
     → Counted moments old new floor (int_max m floor ∷ [])
-unfolding Counted
-counted_one_over moments old new m floor h = record {
-  index = old;
-  from = omega arith;
-  to = omega arith;
-  is = int_max-comm m floor ∙ ap (int_max floor) h.given;
-  rest = omega arith;
-}
+counted_one_over moments old new m floor h =
+    counted_as moments old new m floor (int_max m floor) (int_max-comm m floor) h
 
 -- none was given
 pub clocked_none : (moments : Moments) (old new : ℕ) → old ≤ new → Clocked moments old new []

@@ -1,4 +1,5 @@
 pub mod KeptTags
+pub mod PutTags
 pub mod Offsets
 pub mod Lacking
 pub mod Spells

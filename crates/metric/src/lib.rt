@@ -22,7 +22,7 @@ pub use draft::{Draft, DraftFault};
 pub use glob::{Element, Glob, GlobFault, tests_matches};
 pub use laws::{first_order, growth, key_order};
 pub use metric::{Content, Metric};
-pub use missing::are_filled;
+pub use missing::{are_filled, tag_copies};
 pub use part::Part;
 pub use plain::is_plain;
 pub use series::Series;

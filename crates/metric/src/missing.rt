@@ -82,8 +82,8 @@ pub(crate) fn add_missing(
     Ok(())
 }
 
-/// The same tags, with room for so many more.
-pub(crate) fn tag_copies(
+/// The same tags, whose long texts are shared, with room for so many more before memory is asked for again.
+pub fn tag_copies(
     alloc: Global,
     tags: &[(Text, Text)],
     more: usize,

@@ -9,6 +9,7 @@ use Rattle.metric.specs.Pairs.{has_empty_key, has_empty_value, with_values}
 use Rattle.metric.specs.declared.metric.Content.{Content}
 use Rattle.metric.specs.declared.value.Value.{Value}
 use Rattle.metric.proofs.MetricLemmas.{is_metric, all_valued}
+use Rattle.metric.proofs.builder.complete.Goals.{After-tag_without_value}
 use Rattle.metric.proofs.builder.complete.Goals as goal
 
 -- the parts, with other tags and a time
@@ -49,34 +50,33 @@ are_whole p name tags fields some n n-is n-not t t-is t-not f f-is f-not s s-is 
   some = ap (λ (fs : List (List ℕ × Value)). length fs == 0) (sym s) ∙ sym s-is ∙ s-not;
 }
 
-pub returns-in_ok-leave_out_empty-clause-metric : goal.returns-in_ok-leave_out_empty-clause-metric
-returns-in_ok-leave_out_empty-clause-metric c =
-    let whole = are_whole (parts_of c.args.content.now) _ _ _ _ c.as_str.ensures c.is_empty.ensures c.if-is_empty.false
+-- what holds once no fault was found
+whole : (c : After-tag_without_value) → AreWhole (parts_of c.args.content.now)
+whole c =
+    are_whole (parts_of c.args.content.now) _ _ _ _ c.as_str.ensures c.is_empty.ensures c.if-is_empty.false
     c.as_slice-tags.ensures c.tag_without_key.ensures c.if-tag_without_key.false c.as_slice.ensures
     c.field_without_key.ensures c.if-field_without_key.false
-    c.as_slice-2.ensures c.is_empty-2.ensures c.if-is_empty-2.false in
+    c.as_slice-2.ensures c.is_empty-2.ensures c.if-is_empty-2.false
+
+pub returns-in_ok-leave_out_empty-clause-metric : goal.returns-in_ok-leave_out_empty-clause-metric
+returns-in_ok-leave_out_empty-clause-metric c =
+    let h = whole (goal.at.returns-in_ok-leave_out_empty-clause-metric c).After-tag_without_value in
     rw (c.in_ok-leave_out_empty.ensures, to_z-of_z w64 c.args.time c.ranges.time)
-    (whole_metric (parts_of c.args.content.now) c.args.time c.requires c.ranges.time whole)
+    (whole_metric (parts_of c.args.content.now) c.args.time c.requires c.ranges.time h)
 
 pub returns-else-tag_without_value-clause-completes : goal.returns-else-tag_without_value-clause-completes
 returns-else-tag_without_value-clause-completes c =
-    let whole = are_whole (parts_of c.args.content.now) _ _ _ _ c.as_str.ensures c.is_empty.ensures c.if-is_empty.false
-    c.as_slice-tags.ensures c.tag_without_key.ensures c.if-tag_without_key.false c.as_slice.ensures
-    c.field_without_key.ensures c.if-field_without_key.false
-    c.as_slice-2.ensures c.is_empty-2.ensures c.if-is_empty-2.false in
+    let h = whole (goal.at.returns-else-tag_without_value-clause-completes c).After-tag_without_value in
     let valued = ap has_empty_value (sym c.as_slice-tags.ensures) ∙ sym c.tag_without_value.ensures
     ∙ c.if-tag_without_value.false in
-    rw (to_z-of_z w64 c.args.time c.ranges.time) (whole_finished (parts_of c.args.content.now) c.args.time whole valued)
+    rw (to_z-of_z w64 c.args.time c.ranges.time) (whole_finished (parts_of c.args.content.now) c.args.time h valued)
 
 pub returns-else-tag_without_value-clause-metric : goal.returns-else-tag_without_value-clause-metric
 returns-else-tag_without_value-clause-metric c =
-    let whole = are_whole (parts_of c.args.content.now) _ _ _ _ c.as_str.ensures c.is_empty.ensures c.if-is_empty.false
-    c.as_slice-tags.ensures c.tag_without_key.ensures c.if-tag_without_key.false c.as_slice.ensures
-    c.field_without_key.ensures c.if-field_without_key.false
-    c.as_slice-2.ensures c.is_empty-2.ensures c.if-is_empty-2.false in
+    let h = whole (goal.at.returns-else-tag_without_value-clause-metric c).After-tag_without_value in
     let valued = ap has_empty_value (sym c.as_slice-tags.ensures) ∙ sym c.tag_without_value.ensures
     ∙ c.if-tag_without_value.false in
     rw (to_z-of_z w64 c.args.time c.ranges.time)
     (subst (λ (tags : List (List ℕ × List ℕ)). IsMetric (content_with (parts_of c.args.content.now) c.args.time tags))
     (sym (all_valued c.args.content.now.tags valued))
-    (whole_metric (parts_of c.args.content.now) c.args.time c.requires c.ranges.time whole))
+    (whole_metric (parts_of c.args.content.now) c.args.time c.requires c.ranges.time h))

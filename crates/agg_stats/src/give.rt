@@ -11,7 +11,7 @@ use crate::kind::Asked;
 use crate::row::Row;
 use crate::summary::Summary;
 use fixed_num::{Moment, OutOfMemory, Seq};
-use metric::{Content, Metric, Text, Value};
+use metric::{Content, Metric, Text, Value, tag_copies};
 use std::alloc::Global;
 
 /// The metric of a series at a time, where there is a field to give.
@@ -31,22 +31,11 @@ pub(crate) fn metric_of(
     metric.shows_metric();
     let content = Content {
         name: metric.name().copy()?,
-        tags: tag_copies(alloc, metric.tags())?,
+        tags: tag_copies(alloc, metric.tags(), 0)?,
         fields: Seq::of(fields),
         time,
     };
     Ok(Some(Metric::of(alloc, content)?))
-}
-
-/// The same tags.
-fn tag_copies(alloc: Global, tags: &[(Text, Text)]) -> Result<Seq<(Text, Text)>, OutOfMemory>
-    ensures { IfOk result (λ copies. copies ≡ tags.now) }
-{
-    let mut copies = Seq::with_room(alloc, tags.len())?;
-    for tag in tags {
-        copies.push(alloc, (tag.0.copy()?, tag.1.copy()?))?;
-    }
-    Ok(copies)
 }
 
 /// What is given of the fields of a series.

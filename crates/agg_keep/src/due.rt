@@ -5,9 +5,8 @@ ghost use Rattle.metric.specs.Metric.{IsWord};
 ghost use Rattle.agg_keep.specs.Final.{final_field, final_metric, given, gives, is_due};
 
 use crate::closing::Closing;
-use crate::fields::tag_copies;
 use fixed_num::{Moment, OutOfMemory, Seq};
-use metric::{Content, Metric, Text, Value};
+use metric::{Content, Metric, Text, Value, tag_copies};
 use std::alloc::Global;
 
 /// Does a closing give what is held of a series?
@@ -64,7 +63,7 @@ fn final_metric(alloc: Global, m: &Metric) -> Result<Metric, OutOfMemory>
     m.shows_metric();
     let content = Content {
         name: m.name().copy()?,
-        tags: tag_copies(alloc, m.tags())?,
+        tags: tag_copies(alloc, m.tags(), 0)?,
         fields: final_fields(alloc, m.fields())?,
         time: m.time(),
     };

@@ -1,26 +1,12 @@
-//! Lists of tags and fields.
+//! Lists of fields.
 ghost use Rattle.std.specs.Prelude.{◌≡◌, IfOk, OnOk};
 ghost use Rattle.std.specs.List.{position};
 ghost use Rattle.std.specs.Str.{bytes_eq};
 ghost use Rattle.metric.specs.Pairs.{in_first_order_on, with_pair};
 
-use fixed_num::{OutOfMemory, Seq};
+use fixed_num::OutOfMemory;
 use metric::{Text, Value};
 use std::alloc::Global;
-
-/// The same tags.
-pub(crate) fn tag_copies(
-    alloc: Global,
-    tags: &[(Text, Text)],
-) -> Result<Seq<(Text, Text)>, OutOfMemory>
-    ensures { IfOk result (λ copies. copies ≡ tags.now) }
-{
-    let mut copies = Seq::with_room(alloc, tags.len())?;
-    for tag in tags {
-        copies.push(alloc, (tag.0.copy()?, tag.1.copy()?))?;
-    }
-    Ok(copies)
-}
 
 /// The same fields.
 pub(crate) fn field_copies(

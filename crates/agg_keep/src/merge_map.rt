@@ -4,11 +4,11 @@ ghost use Rattle.std.specs.List.{flat_map};
 ghost use Rattle.agg_keep.specs.MergeKept.{held_at, made_at, merged_with};
 ghost use Rattle.agg_keep.specs.Spot.{spot_of};
 
-use crate::fields::{field_copies, put_all, tag_copies};
+use crate::fields::{field_copies, put_all};
 use crate::keyed::{Kept, Key, held_of};
 use crate::spot::Spot;
 use fixed_num::{OutOfMemory, Seq};
-use metric::{Content, Metric};
+use metric::{Content, Metric, tag_copies};
 use std::alloc::Global;
 
 /// A metric merged into what is held of its series and time.
@@ -32,7 +32,7 @@ fn merged_into(alloc: Global, held: &Metric, m: &Metric) -> Result<Metric, OutOf
     put_all(&mut fields, m.fields())?;
     let content = Content {
         name: m.name().copy()?,
-        tags: tag_copies(alloc, m.tags())?,
+        tags: tag_copies(alloc, m.tags(), 0)?,
         fields: Seq::of(fields),
         time: m.time(),
     };

@@ -31,15 +31,15 @@ twice_next names i name lt is =
     take_more names i name lt ∙ ap (λ (n : List ℕ). take i names ++ n ∷ []) (sym is) in
     rw (behind, front) refl
 
-pub twice_end : (names : List (List ℕ)) (i : ℕ) → length names ≤ i → twice_from names i ≡ false
+twice_end : (names : List (List ℕ)) (i : ℕ) → length names ≤ i → twice_from names i ≡ false
 unfolding has_twice
 twice_end names i all = rw (drop_all i names all) refl
 
-pub twice_here : (names : List (List ℕ)) (i : ℕ) (name : List ℕ) → i < length names → name ≡ get_or names i name
+twice_here : (names : List (List ℕ)) (i : ℕ) (name : List ℕ) → i < length names → name ≡ get_or names i name
     → list_any (λ other. bytes_eq other name) (take i names) ≡ true → twice_from names i ≡ true
 twice_here names i name lt is among = twice_next names i name lt is ∙ rw among refl
 
-pub twice_later : (names : List (List ℕ)) (i : ℕ) (name : List ℕ) → i < length names → name ≡ get_or names i name
+twice_later : (names : List (List ℕ)) (i : ℕ) (name : List ℕ) → i < length names → name ≡ get_or names i name
     → list_any (λ other. bytes_eq other name) (take i names) ≡ false → twice_from names (i + 1) ≡ twice_from names i
 twice_later names i name lt is among = sym (twice_next names i name lt is ∙ rw among refl)
 
@@ -50,7 +50,7 @@ pub names_any : (name : List ℕ) (labels : List Label) → list_any (λ label. 
 names_any name [] = refl
 names_any name (label ∷ labels) = ap (λ (t : Bool). bytes_eq label.name.now name || t) (names_any name labels)
 
-pub names_len : (labels : List Label) → length (names_of (map label_view labels)) ≡ length labels
+names_len : (labels : List Label) → length (names_of (map label_view labels)) ≡ length labels
 names_len labels = length-map (map label_view labels) (λ (label : Tag). label.0) ∙ length-map labels label_view
 
 pub names_take : (n : ℕ) (labels : List Label) → names_of (map label_view (take n labels)) ≡ take n
@@ -58,7 +58,7 @@ pub names_take : (n : ℕ) (labels : List Label) → names_of (map label_view (t
 names_take n labels = ap names_of (sym (take-map label_view n labels))
     ∙ sym (take-map (λ (label : Tag). label.0) n (map label_view labels))
 
-pub name_at : (labels : List Label) (i : ℕ) (label : Label) → i < length labels → label ≡ get_or labels i label
+name_at : (labels : List Label) (i : ℕ) (label : Label) → i < length labels → label ≡ get_or labels i label
     → label.name.now ≡ get_or (names_of (map label_view labels)) i label.name.now
 name_at labels i label lt is =
     ap (λ (l : Label). l.name.now) is ∙ sym (get_or-map (λ (l : Label). l.name.now) labels i label label.name.now lt)
@@ -83,7 +83,7 @@ one_seen true false found e = refl
 one_seen false true found e = e
 one_seen false false found e = e
 
-pub seen_more : (names : List (List ℕ)) (i : ℕ) (name other : List ℕ) (found : Option (Unit {0})) → i < length names
+seen_more : (names : List (List ℕ)) (i : ℕ) (name other : List ℕ) (found : Option (Unit {0})) → i < length names
     → name ≡ get_or names i name → is_some found ≡ list_any (λ n. bytes_eq n other) (take i names)
     → is_some (cond (bytes_eq name other) (Some tt) found) ≡ list_any (λ n. bytes_eq n other) (take (i + 1) names)
 seen_more names i name other found lt is seen =
@@ -92,6 +92,35 @@ seen_more names i name other found lt is seen =
     one_seen (bytes_eq name other) (list_any (λ n. bytes_eq n other) (take i names)) found seen
     ∙ sym (ap (list_any (λ n. bytes_eq n other)) front ∙ list_any-append (λ n. bytes_eq n other) (take i names)
     (name ∷ []))
+
+-- ---- a label at its index
+
+module _ (labels : List Label) (i : ℕ) (label : Label) (lt : i < length labels) (is : label ≡ get_or labels i label)
+  where
+    abbrev names : List (List ℕ)
+    names = names_of (map label_view labels)
+
+    below : i < length names
+    below = omega (arith, lt, names_len labels)
+
+    pub label_twice : list_any (λ other. bytes_eq other label.name.now) (take i names) ≡ true
+        → twice_from names i ≡ true
+    label_twice seen = twice_here names i label.name.now below (name_at labels i label lt is) seen
+
+    pub label_once : list_any (λ other. bytes_eq other label.name.now) (take i names) ≡ false
+        → twice_from names (i + 1) ≡ twice_from names i
+    label_once new = twice_later names i label.name.now below (name_at labels i label lt is) new
+
+    pub label_seen : (other : List ℕ) (found : Option (Unit {0}))
+        → is_some found ≡ list_any (λ n. bytes_eq n other) (take i names)
+        → is_some (cond (bytes_eq label.name.now other) (Some tt) found) ≡ list_any (λ n. bytes_eq n other)
+        (take (i + 1) names)
+    label_seen other found seen =
+        seen_more names i label.name.now other found below (name_at labels i label lt is) seen
+
+pub labels_end : (labels : List Label) (i : ℕ) → length labels ≤ i
+    → twice_from (names_of (map label_view labels)) i ≡ false
+labels_end labels i all = twice_end (names_of (map label_view labels)) i (omega (arith, all, names_len labels))
 
 -- no label has an empty name
 pub named_more : (labels : List Tag) (label : Tag) → AreNamed labels → 0 < length label.0

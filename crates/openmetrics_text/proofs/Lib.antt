@@ -4,6 +4,7 @@ pub mod LabelLemmas
 pub mod Offsets
 pub mod SaidLemmas
 pub mod TagLemmas
+pub mod Placing
 pub mod Chains
 pub mod Takes
 pub mod Spells

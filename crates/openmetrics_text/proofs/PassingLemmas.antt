@@ -19,7 +19,8 @@ use Rattle.openmetrics_text.specs.Grammar.{SampleLine, line_text, with_newline, 
 use Rattle.openmetrics_text.specs.Grammar.{IsLine, AreLines}
 use Rattle.openmetrics_text.specs.Lines.{LineSays, Typed, Nothing, Sampled}
 use Rattle.openmetrics_text.specs.Passing.{is_beyond, count_beyond, within_range, InRangeIsSame, PassedOver}
-use Rattle.openmetrics_text.specs.Reading.{contents_by, contents_of, metrics_from, passed_by, passed_in, out_by, out_in}
+use Rattle.openmetrics_text.specs.Reading.{contents_by, contents_of, metrics_from, counted_in, passed_by, passed_in}
+use Rattle.openmetrics_text.specs.Reading.{out_by, out_in}
 use Rattle.openmetrics_text.specs.Reading.{exposition_of, reading}
 use Rattle.openmetrics_text.specs.Sample.{Said, is_out_of_range}
 use Rattle.openmetrics_text.specs.Types.{type_of}
@@ -75,7 +76,7 @@ lines_pass (line ∷ lines) (s ∷ says) h = (h.0, line_passes line s h.1, lines
 -- none of such lines is out of range
 line_in : (line : WrittenLine) (says : LineSays) (others : List LineSays) → IsLine false line says
     → out_in (says ∷ others) ≡ out_in others
-unfolding out_in
+unfolding counted_in
 line_in (TypeLine name kind) says others h = rw (h.2) refl
 line_in (HelpLine name text) says others h = rw (h.1) refl
 line_in (UnitLine name text) says others h = rw (h.1) refl
@@ -84,7 +85,7 @@ line_in (SampleLine sample) says others h = rw (h.2)
     (ap (λ (n : ℕ). n + out_in others) (none_out (h.0).number (h.1.in_range refl)) ∙ omega arith)
 
 lines_in : (lines : List WrittenLine) (says : List LineSays) → AreLines false lines says → out_in says ≡ 0
-unfolding out_in
+unfolding counted_in
 lines_in [] [] h = refl
 lines_in [] (s ∷ says) h = absurd h
 lines_in (line ∷ lines) [] h = absurd h
@@ -143,7 +144,7 @@ regroup a b n = omega arith
 
 passed_more : (s : LineSays) (says rest : List LineSays) (n : ℕ) → passed_in says ≡ passed_in rest + n
     → passed_in (s ∷ says) ≡ passed_in (s ∷ rest) + n
-unfolding passed_in
+unfolding counted_in
 passed_more (Typed name kind) says rest n h = h
 passed_more Nothing says rest n h = h
 passed_more (Sampled said) says rest n h = ap (λ (m : ℕ). passed_by said.number + m) h
@@ -158,15 +159,10 @@ out_metrics moment typed types said says e = ap
     (λ (n : Number). contents_by moment typed
     (type_of said.name types) said n ++ metrics_from moment typed types says) e
 
-out_passed : (said : Said) (says : List LineSays) → said.number ≡ OutOfRange
-    → passed_in (Sampled said ∷ says) ≡ 1 + passed_in says
-unfolding passed_in
-out_passed said says e = ap (λ (n : Number). passed_by n + passed_in says) e
-
-out_out : (said : Said) (says : List LineSays) → said.number ≡ OutOfRange
-    → out_in (Sampled said ∷ says) ≡ 1 + out_in says
-unfolding out_in
-out_out said says e = ap (λ (n : Number). out_by n + out_in says) e
+out_counted : (count : Number → ℕ) (said : Said) (says : List LineSays) → said.number ≡ OutOfRange
+    → counted_in count (Sampled said ∷ says) ≡ count OutOfRange + counted_in count says
+unfolding counted_in
+out_counted count said says e = ap (λ (n : Number). count n + counted_in count says) e
 
 count_in : (line : WrittenLine) (lines : List WrittenLine) → is_beyond line ≡ false
     → count_beyond (line ∷ lines) ≡ count_beyond lines
@@ -193,7 +189,7 @@ record Rest (moment : ℤ) (typed : Bool) (lines : List WrittenLine) (says : Lis
   out : out_in says ≡ count_beyond lines
 
 no_rest : (moment : ℤ) (typed : Bool) → Rest moment typed [] []
-unfolding passed_in out_in
+unfolding counted_in
 no_rest moment typed = record { rest = []; are = tt; metrics = λ types. refl; passed = refl; out = refl }
 
 -- a line in range stays
@@ -219,10 +215,10 @@ goes moment typed line lines said says e out r = record {
   rest = r.rest;
   are = subst (λ (ls : List WrittenLine). AreLines false ls r.rest) (sym (kept_out line lines e)) r.are;
   metrics = λ types. out_metrics moment typed types said says out ∙ r.metrics types;
-  passed = out_passed said says out ∙ ap (λ (n : ℕ). 1 + n) r.passed
+  passed = out_counted passed_by said says out ∙ ap (λ (n : ℕ). 1 + n) r.passed
       ∙ behind (passed_in r.rest) (count_beyond lines)
       ∙ ap (λ (n : ℕ). passed_in r.rest + n) (sym (count_out line lines e));
-  out = out_out said says out ∙ ap (λ (n : ℕ). 1 + n) r.out ∙ sym (count_out line lines e);
+  out = out_counted out_by said says out ∙ ap (λ (n : ℕ). 1 + n) r.out ∙ sym (count_out line lines e);
 }
   where
     behind : (b n : ℕ) → 1 + (b + n) ≡ b + (1 + n)

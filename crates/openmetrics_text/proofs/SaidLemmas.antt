@@ -4,11 +4,12 @@ use Rattle.std.proofs.Common.{append_assoc, append-nil, arith}
 use Rattle.metric.specs.declared.metric.Content.{Content}
 use Rattle.metric.specs.Draft.{Tag}
 use Rattle.openmetrics_text.specs.declared.collected.Collected.{Collected}
+use Rattle.openmetrics_text.specs.declared.number.Number.{Number}
 use Rattle.openmetrics_text.specs.declared.number.Number.TheVariants.{Decimal, NoDecimal, OutOfRange}
 use Rattle.openmetrics_text.specs.Collecting.{HaveSaid}
 use Rattle.openmetrics_text.specs.Lines.{LineSays, Typed, Nothing, Sampled}
 use Rattle.openmetrics_text.specs.Reading.{content_of, contents_by, contents_of, exposition_of, metrics_from, passed_by}
-use Rattle.openmetrics_text.specs.Reading.{passed_in, out_by, out_in}
+use Rattle.openmetrics_text.specs.Reading.{counted_in, passed_in, out_by, out_in}
 use Rattle.openmetrics_text.specs.Sample.{Said}
 use Rattle.openmetrics_text.specs.Views.{said_view}
 use Rattle.openmetrics_text.specs.TypeViews.{HaveTypes}
@@ -20,15 +21,10 @@ says_metrics moment typed types (Typed name kind) = []
 says_metrics moment typed types Nothing = []
 says_metrics moment typed types (Sampled said) = contents_of moment typed (type_of said.name types) said
 
-abbrev pub says_passed : LineSays → ℕ
-says_passed (Typed name kind) = 0
-says_passed Nothing = 0
-says_passed (Sampled said) = passed_by said.number
-
-abbrev pub says_out : LineSays → ℕ
-says_out (Typed name kind) = 0
-says_out Nothing = 0
-says_out (Sampled said) = out_by said.number
+abbrev pub says_counted : (Number → ℕ) → LineSays → ℕ
+says_counted count (Typed name kind) = 0
+says_counted count Nothing = 0
+says_counted count (Sampled said) = count said.number
 
 abbrev pub says_types : LineSays → List Tag
 says_types (Typed name kind) = (name, kind) ∷ []
@@ -45,25 +41,16 @@ types_in-push (Typed name kind ∷ lines) line = ap (λ (ts : List Tag). (name, 
 types_in-push (Nothing ∷ lines) line = types_in-push lines line
 types_in-push (Sampled said ∷ lines) line = types_in-push lines line
 
-pub passed_in-push : (lines : List LineSays) (line : LineSays)
-    → passed_in (lines ++ line ∷ []) ≡ passed_in lines + says_passed line
-unfolding passed_in
-passed_in-push [] (Typed name kind) = refl
-passed_in-push [] Nothing = refl
-passed_in-push [] (Sampled said) = omega arith
-passed_in-push (Typed name kind ∷ lines) line = passed_in-push lines line
-passed_in-push (Nothing ∷ lines) line = passed_in-push lines line
-passed_in-push (Sampled said ∷ lines) line = ap (λ (n : ℕ). passed_by said.number + n) (passed_in-push lines line)
-    ∙ omega arith
-
-pub out_in-push : (lines : List LineSays) (line : LineSays) → out_in (lines ++ line ∷ []) ≡ out_in lines + says_out line
-unfolding out_in
-out_in-push [] (Typed name kind) = refl
-out_in-push [] Nothing = refl
-out_in-push [] (Sampled said) = omega arith
-out_in-push (Typed name kind ∷ lines) line = out_in-push lines line
-out_in-push (Nothing ∷ lines) line = out_in-push lines line
-out_in-push (Sampled said ∷ lines) line = ap (λ (n : ℕ). out_by said.number + n) (out_in-push lines line) ∙ omega arith
+pub counted_in-push : (count : Number → ℕ) (lines : List LineSays) (line : LineSays)
+    → counted_in count (lines ++ line ∷ []) ≡ counted_in count lines + says_counted count line
+unfolding counted_in
+counted_in-push count [] (Typed name kind) = refl
+counted_in-push count [] Nothing = refl
+counted_in-push count [] (Sampled said) = omega arith
+counted_in-push count (Typed name kind ∷ lines) line = counted_in-push count lines line
+counted_in-push count (Nothing ∷ lines) line = counted_in-push count lines line
+counted_in-push count (Sampled said ∷ lines) line =
+    ap (λ (n : ℕ). count said.number + n) (counted_in-push count lines line) ∙ omega arith
 
 pub metrics_from-push : (moment : ℤ) (typed : Bool) (types : List Tag) (lines : List LineSays) (line : LineSays)
     → metrics_from moment typed types (lines ++ line ∷ []) ≡ metrics_from moment typed types lines
@@ -93,8 +80,8 @@ AskedAlike old new = (new.moment ≡ old.moment) × (new.typed ≡ old.typed)
 pub said_more : (moment : ℤ) (typed : Bool) (old new : Collected) (lines : List LineSays) (line : LineSays)
     → HaveSaid moment typed old lines → AskedAlike old new
     → new.metrics.items ≡ old.metrics.items ++ says_metrics moment typed (types_in lines) line
-    → new.passed ≡ min (old.passed + says_passed line) (2 ^ 32 - 1)
-    → new.out_of_range ≡ min (old.out_of_range + says_out line) (2 ^ 32 - 1)
+    → new.passed ≡ min (old.passed + says_counted passed_by line) (2 ^ 32 - 1)
+    → new.out_of_range ≡ min (old.out_of_range + says_counted out_by line) (2 ^ 32 - 1)
     → (typed ≡ true → HaveTypes new.types (types_in lines ++ says_types line))
     → HaveSaid moment typed new (lines ++ line ∷ [])
 said_more moment typed old new lines line h asked metrics passed out types = record {
@@ -103,11 +90,11 @@ said_more moment typed old new lines line h asked metrics passed out types = rec
   metrics = metrics ∙ ap (λ (ms : List Content). ms ++ says_metrics moment typed (types_in lines) line) h.metrics
       ∙ sym (metrics_from-push moment typed [] lines line);
   passed = passed
-      ∙ counts old.passed (passed_in lines) (passed_in (lines ++ line ∷ [])) (says_passed line) h.passed
-      (passed_in-push lines line);
+      ∙ counts old.passed (passed_in lines) (passed_in (lines ++ line ∷ [])) (says_counted passed_by line)
+      h.passed (counted_in-push passed_by lines line);
   out_of_range = out
-      ∙ counts old.out_of_range (out_in lines) (out_in (lines ++ line ∷ [])) (says_out line) h.out_of_range
-      (out_in-push lines line);
+      ∙ counts old.out_of_range (out_in lines) (out_in (lines ++ line ∷ [])) (says_counted out_by line)
+      h.out_of_range (counted_in-push out_by lines line);
   types = λ e. rw (types_in-push lines line) (types e);
 }
   where

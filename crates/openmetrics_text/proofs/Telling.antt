@@ -535,43 +535,24 @@ line_faulty passing line = record {
 
 -- ---- the lines
 
--- the kinds of faults that lines have
-line_stands : (passing : Bool) (piece : List ℕ) (offset : ℕ) (line : List ℕ) (kind : ExpositionKind)
-    → BeginsLine piece offset → word_at (is_byte 10) piece offset ≡ line → LineTells passing line kind
-    → StandsAt passing piece offset kind
-line_stands passing piece offset line kinds.OutOfMemory begins word tells = absurd tells
-line_stands passing piece offset line kinds.NoEof begins word tells = absurd tells
-line_stands passing piece offset line kinds.BadLine begins word tells = (
-  begins,
-  subst
-      (λ (l : List ℕ). LineTells passing l kinds.BadLine) (sym word) tells,
-)
-line_stands passing piece offset line kinds.BadLabel begins word tells = (
-  begins,
-  subst
-      (λ (l : List ℕ). LineTells passing l kinds.BadLabel) (sym word) tells,
-)
-line_stands passing piece offset line kinds.BadNumber begins word tells = (
-  begins,
-  subst
-      (λ (l : List ℕ). LineTells passing l kinds.BadNumber) (sym word) tells,
-)
-line_stands passing piece offset line kinds.BadTime begins word tells = (
-  begins,
-  subst
-      (λ (l : List ℕ). LineTells passing l kinds.BadTime) (sym word) tells,
-)
-line_stands passing piece offset line kinds.NumberRange begins word tells = (
-  begins,
-  subst
-      (λ (l : List ℕ). LineTells passing l kinds.NumberRange) (sym word) tells,
-)
-line_stands passing piece offset line kinds.NotUtf8 begins word tells = absurd tells
-line_stands passing piece offset line kinds.TooMany begins word tells = (
-  begins,
-  subst
-      (λ (l : List ℕ). LineTells passing l kinds.TooMany) (sym word) tells,
-)
+-- a line that has a fault has it where it stands in the piece
+module _ (passing : Bool) (piece : List ℕ) (offset : ℕ) (line : List ℕ) (begins : BeginsLine piece offset)
+    (word : word_at (is_byte 10) piece offset ≡ line) where
+  there : (kind : ExpositionKind) → LineTells passing line kind
+      → BeginsLine piece offset × LineTells passing (word_at (is_byte 10) piece offset) kind
+  there kind tells = (begins, subst (λ (l : List ℕ). LineTells passing l kind) (sym word) tells)
+
+  -- the kinds of faults that lines have
+  line_stands : (kind : ExpositionKind) → LineTells passing line kind → StandsAt passing piece offset kind
+  line_stands kinds.OutOfMemory tells = absurd tells
+  line_stands kinds.NoEof tells = absurd tells
+  line_stands kinds.BadLine tells = there kinds.BadLine tells
+  line_stands kinds.BadLabel tells = there kinds.BadLabel tells
+  line_stands kinds.BadNumber tells = there kinds.BadNumber tells
+  line_stands kinds.BadTime tells = there kinds.BadTime tells
+  line_stands kinds.NumberRange tells = there kinds.NumberRange tells
+  line_stands kinds.NotUtf8 tells = absurd tells
+  line_stands kinds.TooMany tells = there kinds.TooMany tells
 
 abbrev Stands : Bool → List ℕ → ExpositionFault → Type 0
 Stands passing piece f = StandsAt passing piece f.offset f.kind
@@ -589,7 +570,7 @@ line_at_faulty : (passing : Bool) (piece tail : List ℕ) (part : PartAt)
 unfolding line_at
 line_at_faulty passing piece tail part s =
     placed_faulty (Stands passing piece) part.0 (line_of passing part.1)
-    (λ kind e. line_stands passing piece part.0 part.1 kind s.0 (standing_word 10 piece (10 ∷ tail) part refl s.1)
+    (λ kind e. line_stands passing piece part.0 part.1 s.0 (standing_word 10 piece (10 ∷ tail) part refl s.1) kind
     ((line_faulty passing part.1).at kind e))
 
 lines_faulty : (passing : Bool) (piece text tail : List ℕ) → piece ≡ text ++ 10 ∷ tail

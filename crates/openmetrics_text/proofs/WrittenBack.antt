@@ -16,7 +16,10 @@ use Rattle.openmetrics_text.specs.Grammar.{WrittenLine, TypeLine, SampleLine, wi
 use Rattle.openmetrics_text.specs.Grammar.{IsName}
 use Rattle.openmetrics_text.specs.Lines.{LineSays, Typed}
 use Rattle.openmetrics_text.specs.Names.{ends_name}
-use Rattle.openmetrics_text.specs.Reading.{reading, contents_of, metrics_from, passed_in, out_in, exposition_of}
+use Rattle.openmetrics_text.specs.declared.number.Number.{Number}
+use Rattle.openmetrics_text.specs.declared.number.Number.TheVariants.{Decimal}
+use Rattle.openmetrics_text.specs.Reading.{reading, contents_of, metrics_from, counted_in, passed_by, out_by}
+use Rattle.openmetrics_text.specs.Reading.{exposition_of}
 use Rattle.metric.specs.Numbers.{billionths_of}
 use Rattle.openmetrics_text.specs.RoundTrip.{content_behind, in_written_order, WrittenIsReadBack}
 use Rattle.openmetrics_text.specs.Types.{type_of}
@@ -152,36 +155,30 @@ metrics_are moment types points (family ∷ families) h =
 from_none : (n : ℕ) → 0 + n ≡ n
 from_none n = omega arith
 
-none_of_points : (points : List Point) (more : List LineSays) → passed_in (sample_says points ++ more) ≡ passed_in more
-unfolding passed_in
-none_of_points [] more = refl
-none_of_points (point ∷ points) more = from_none (passed_in (sample_says points ++ more)) ∙ none_of_points points more
+-- where decimals don't count, none of the points does
+module _ (count : Number → ℕ) (no_decimal : (number : ℤ) → count (Decimal number) ≡ 0) where
+  none_of_points : (points : List Point) (more : List LineSays)
+      → counted_in count (sample_says points ++ more) ≡ counted_in count more
+  unfolding counted_in
+  none_of_points [] more = refl
+  none_of_points (point ∷ points) more =
+      ap (λ (n : ℕ). n + counted_in count (sample_says points ++ more)) (no_decimal _)
+      ∙ from_none (counted_in count (sample_says points ++ more)) ∙ none_of_points points more
 
-none_out_of_points : (points : List Point) (more : List LineSays) → out_in (sample_says points ++ more) ≡ out_in more
-unfolding out_in
-none_out_of_points [] more = refl
-none_out_of_points (point ∷ points) more = from_none (out_in (sample_says points ++ more))
-    ∙ none_out_of_points points more
-
-none_out : (points : List Point) (families : List (List ℕ)) → out_in (flat_map (family_says points) families) ≡ 0
-unfolding out_in
-none_out points [] = refl
-none_out points (family ∷ families) = none_out_of_points (of_family points family)
-    (flat_map (family_says points) families) ∙ none_out points families
-
-none_passed : (points : List Point) (families : List (List ℕ)) → passed_in (flat_map (family_says points) families) ≡ 0
-unfolding passed_in
-none_passed points [] = refl
-none_passed points (family ∷ families) = none_of_points (of_family points family)
-    (flat_map (family_says points) families) ∙ none_passed points families
+  none_counted : (points : List Point) (families : List (List ℕ))
+      → counted_in count (flat_map (family_says points) families) ≡ 0
+  unfolding counted_in
+  none_counted points [] = refl
+  none_counted points (family ∷ families) = none_of_points (of_family points family)
+      (flat_map (family_says points) families) ∙ none_counted points families
 
 exposition_is : (moment : ℤ) (points : List Point) → AllByRecursion IsPoint points
     → exposition_of moment false (flat_map (family_says points) (families_of points)) ≡ record
     { metrics = map content_behind (in_written_order points); passed = 0; out_of_range = 0 }
 exposition_is moment points h =
-    let passed = none_passed points (families_of points) in
+    let passed = none_counted passed_by (λ number. refl) points (families_of points) in
     let metrics = metrics_are moment [] points (families_of points) h in
-    let out = none_out points (families_of points) in
+    let out = none_counted out_by (λ number. refl) points (families_of points) in
     λ j. record {
       metrics = metrics j;
       passed = ap (λ (n : ℕ). min n (2 ^ 32 - 1)) passed j;

@@ -58,17 +58,21 @@ metrics_from moment typed types (Nothing ∷ lines) = metrics_from moment typed 
 metrics_from moment typed types (Sampled said ∷ lines) =
     contents_of moment typed (type_of said.name types) said ++ metrics_from moment typed types lines
 
+-- what the samples of lines count together, each by its number
+unfoldable pub counted_in : (Number → ℕ) → List LineSays → ℕ
+counted_in count [] = 0
+counted_in count (Typed name kind ∷ lines) = counted_in count lines
+counted_in count (Nothing ∷ lines) = counted_in count lines
+counted_in count (Sampled said ∷ lines) = count said.number + counted_in count lines
+
 -- how many samples have a number that is no decimal in range
 abbrev pub passed_by : Number → ℕ
 passed_by (Decimal number) = 0
 passed_by NoDecimal = 1
 passed_by OutOfRange = 1
 
-unfoldable pub passed_in : List LineSays → ℕ
-passed_in [] = 0
-passed_in (Typed name kind ∷ lines) = passed_in lines
-passed_in (Nothing ∷ lines) = passed_in lines
-passed_in (Sampled said ∷ lines) = passed_by said.number + passed_in lines
+abbrev pub passed_in : List LineSays → ℕ
+passed_in lines = counted_in passed_by lines
 
 -- how many of these have one out of range
 abbrev pub out_by : Number → ℕ
@@ -76,11 +80,8 @@ out_by (Decimal number) = 0
 out_by NoDecimal = 0
 out_by OutOfRange = 1
 
-unfoldable pub out_in : List LineSays → ℕ
-out_in [] = 0
-out_in (Typed name kind ∷ lines) = out_in lines
-out_in (Nothing ∷ lines) = out_in lines
-out_in (Sampled said ∷ lines) = out_by said.number + out_in lines
+abbrev pub out_in : List LineSays → ℕ
+out_in lines = counted_in out_by lines
 
 -- the exposition that lines are: the samples that are passed over are counted up to 2^32 - 1, and so are those
 -- of them that are out of range

@@ -29,7 +29,7 @@ use Rattle.pipeline_core.proofs.CopyCounts.{count-append, count-cons, none_or}
 use Rattle.pipeline_core.proofs.CopyLanes.{IsPlain}
 use Rattle.pipeline_core.proofs.CopySteps.{hand_below, one_if}
 use Rattle.pipeline_core.proofs.CopySums.{AreMarked, begin_all, comers, done_buffered_all, plain_all}
-use Rattle.pipeline_core.proofs.CopySums.{route_buffered_all}
+use Rattle.pipeline_core.proofs.CopySums.{route_all}
 use Rattle.pipeline_core.proofs.JournalPush.{few_taken}
 use Rattle.pipeline_core.proofs.RouteLemmas.{few_routed}
 use Rattle.pipeline_core.proofs.Keeping.{differs, same_number}
@@ -149,7 +149,7 @@ route_copies verdict setup es item whole aggs outs reports g all h m are =
     let grp : Option ℕ = (origin_at es item).group in
     omega (
       arith,
-      route_buffered_all verdict setup es item whole aggs outs reports g all h m are,
+      (route_all verdict setup es item whole aggs outs reports g all h m are).0,
       waits_less setup es item whole verdict aggs outs reports g h m,
       count-append (is_copy_of g) (routed_copies verdict outs all) (copy_of false grp),
       times_one g false grp,

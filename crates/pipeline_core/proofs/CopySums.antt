@@ -249,34 +249,42 @@ out_same t verdict setup es item whole aggs outs reports g h m is out =
     (λ i n q l. stays_out setup t (sizes_at setup i).1 n es item whole verdict aggs outs reports g h m is
     (out.offers item (view_at n outs)))
 
-out_buffered : (verdict : Verdict) (setup : Setup) (es : List Entry) (item : ℕ) (whole : Option Content)
-    (aggs outs : List (Option Content)) (reports : List Report) (g : ℕ) (all : List (LaneState (Option ℕ))) →
-    let e : Entry = Route item whole verdict aggs outs reports in
-    IsLegal setup es → MeetsLine setup es e → StaysOut verdict
-    → count_of_fate is_buffered setup (es ++ e ∷ []) g + times g (routed_copies verdict outs all)
+-- of a group's copies those are buffered more that come to an output with the item, and those fewer that it pushes out
+abbrev BufferedOn : Verdict → Setup → List Entry → ℕ → Option Content → List (Option Content) →
+    List (Option Content) → List Report → ℕ → List (LaneState (Option ℕ)) → Type 0
+BufferedOn verdict setup es item whole aggs outs reports g all =
+    count_of_fate is_buffered setup (es ++ Route item whole verdict aggs outs reports ∷ []) g
+    + times g (routed_copies verdict outs all)
     ≡ count_of_fate is_buffered setup es g
     + (if is_number g (origin_at es item).group then comers verdict outs else 0)
-out_buffered verdict setup es item whole aggs outs reports g all h m out =
-    let more : Bool = is_number g (origin_at es item).group in
-    omega (
-      arith,
-      out_same is_buffered verdict setup es item whole aggs outs reports g h m buffered-of_lane out,
-      ap (times g) (out.copies outs all),
-      ap (λ (n : ℕ). if more then n else 0) (out.comes outs),
-      none_or more 0,
-    )
 
-out_dropped : (verdict : Verdict) (setup : Setup) (es : List Entry) (item : ℕ) (whole : Option Content)
-    (aggs outs : List (Option Content)) (reports : List Report) (g : ℕ) (all : List (LaneState (Option ℕ))) →
-    let e : Entry = Route item whole verdict aggs outs reports in
-    IsLegal setup es → MeetsLine setup es e → StaysOut verdict
-    → count_of_fate is_dropped setup (es ++ e ∷ []) g
+-- and these are dropped more
+abbrev DroppedOn : Verdict → Setup → List Entry → ℕ → Option Content → List (Option Content) →
+    List (Option Content) → List Report → ℕ → List (LaneState (Option ℕ)) → Type 0
+DroppedOn verdict setup es item whole aggs outs reports g all =
+    count_of_fate is_dropped setup (es ++ Route item whole verdict aggs outs reports ∷ []) g
     ≡ count_of_fate is_dropped setup es g + drops g (routed_copies verdict outs all)
-out_dropped verdict setup es item whole aggs outs reports g all h m out =
-    omega (
-      arith,
-      out_same is_dropped verdict setup es item whole aggs outs reports g h m dropped-of_lane out,
-      ap (drops g) (out.copies outs all),
+
+goes_out : (verdict : Verdict) (setup : Setup) (es : List Entry) (item : ℕ) (whole : Option Content)
+    (aggs outs : List (Option Content)) (reports : List Report) (g : ℕ) (all : List (LaneState (Option ℕ)))
+    → IsLegal setup es
+    → MeetsLine setup es (Route item whole verdict aggs outs reports) → StaysOut verdict
+    → BufferedOn verdict setup es item whole aggs outs reports g all
+    × DroppedOn verdict setup es item whole aggs outs reports g all
+goes_out verdict setup es item whole aggs outs reports g all h m out =
+    let more : Bool = is_number g (origin_at es item).group in (
+      omega (
+        arith,
+        out_same is_buffered verdict setup es item whole aggs outs reports g h m buffered-of_lane out,
+        ap (times g) (out.copies outs all),
+        ap (λ (n : ℕ). if more then n else 0) (out.comes outs),
+        none_or more 0,
+      ),
+      omega (
+        arith,
+        out_same is_dropped verdict setup es item whole aggs outs reports g h m dropped-of_lane out,
+        ap (drops g) (out.copies outs all),
+      ),
     )
 
 consumed_out : StaysOut verdicts.Consumed
@@ -288,14 +296,12 @@ late_out = record { offers = λ i v. refl; copies = λ o a. refl; comes = λ o. 
 removed_out : StaysOut verdicts.Removed
 removed_out = record { offers = λ i v. refl; copies = λ o a. refl; comes = λ o. refl }
 
-pub route_buffered_all : (verdict : Verdict) (setup : Setup) (es : List Entry) (item : ℕ) (whole : Option Content)
-    (aggs outs : List (Option Content)) (reports : List Report) (g : ℕ) (all : List (LaneState (Option ℕ))) →
-    let e : Entry = Route item whole verdict aggs outs reports in
-    IsLegal setup es → MeetsLine setup es e → AreMarked setup es all
-    → count_of_fate is_buffered setup (es ++ e ∷ []) g + times g (routed_copies verdict outs all)
-    ≡ count_of_fate is_buffered setup es g
-    + (if is_number g (origin_at es item).group then comers verdict outs else 0)
-route_buffered_all verdicts.Passes setup es item whole aggs outs reports g all h m are =
+passes_buffered : (setup : Setup) (es : List Entry) (item : ℕ) (whole : Option Content)
+    (aggs outs : List (Option Content)) (reports : List Report) (g : ℕ) (all : List (LaneState (Option ℕ)))
+    → IsLegal setup es
+    → MeetsLine setup es (Route item whole verdicts.Passes aggs outs reports) → AreMarked setup es all
+    → BufferedOn verdicts.Passes setup es item whole aggs outs reports g all
+passes_buffered setup es item whole aggs outs reports g all h m are =
     let e : Entry = Route item whole verdicts.Passes aggs outs reports in
     let more : Bool = is_number g (origin_at es item).group in
     let a : sum_by (at_output is_buffered (es ++ e ∷ []) g) (enumerate_from 0 setup.outputs)
@@ -314,20 +320,13 @@ route_buffered_all verdicts.Passes setup es item whole aggs outs reports g all h
       none_counted (gone_for (view_at i outs) (marked_at all i)),
     ))) in
     omega (arith, none_counted (pushed_copies outs all))
-route_buffered_all verdicts.Consumed setup es item whole aggs outs reports g all h m are =
-    out_buffered verdicts.Consumed setup es item whole aggs outs reports g all h m consumed_out
-route_buffered_all verdicts.Late setup es item whole aggs outs reports g all h m are =
-    out_buffered verdicts.Late setup es item whole aggs outs reports g all h m late_out
-route_buffered_all verdicts.Removed setup es item whole aggs outs reports g all h m are =
-    out_buffered verdicts.Removed setup es item whole aggs outs reports g all h m removed_out
 
-pub route_dropped_all : (verdict : Verdict) (setup : Setup) (es : List Entry) (item : ℕ) (whole : Option Content)
-    (aggs outs : List (Option Content)) (reports : List Report) (g : ℕ) (all : List (LaneState (Option ℕ))) →
-    let e : Entry = Route item whole verdict aggs outs reports in
-    IsLegal setup es → MeetsLine setup es e → AreMarked setup es all
-    → count_of_fate is_dropped setup (es ++ e ∷ []) g
-    ≡ count_of_fate is_dropped setup es g + drops g (routed_copies verdict outs all)
-route_dropped_all verdicts.Passes setup es item whole aggs outs reports g all h m are =
+passes_dropped : (setup : Setup) (es : List Entry) (item : ℕ) (whole : Option Content)
+    (aggs outs : List (Option Content)) (reports : List Report) (g : ℕ) (all : List (LaneState (Option ℕ)))
+    → IsLegal setup es
+    → MeetsLine setup es (Route item whole verdicts.Passes aggs outs reports) → AreMarked setup es all
+    → DroppedOn verdicts.Passes setup es item whole aggs outs reports g all
+passes_dropped setup es item whole aggs outs reports g all h m are =
     let e : Entry = Route item whole verdicts.Passes aggs outs reports in
     let a : sum_by (at_output is_dropped (es ++ e ∷ []) g) (enumerate_from 0 setup.outputs)
     + count_by (λ (x : Copy). false) (pushed_copies outs all)
@@ -348,9 +347,20 @@ route_dropped_all verdicts.Passes setup es item whole aggs outs reports g all h 
       ap one_if (and_false (is_some (view_at i outs))),
     ))) in
     omega (arith, none_counted (pushed_copies outs all))
-route_dropped_all verdicts.Consumed setup es item whole aggs outs reports g all h m are =
-    out_dropped verdicts.Consumed setup es item whole aggs outs reports g all h m consumed_out
-route_dropped_all verdicts.Late setup es item whole aggs outs reports g all h m are =
-    out_dropped verdicts.Late setup es item whole aggs outs reports g all h m late_out
-route_dropped_all verdicts.Removed setup es item whole aggs outs reports g all h m are =
-    out_dropped verdicts.Removed setup es item whole aggs outs reports g all h m removed_out
+
+pub route_all : (verdict : Verdict) (setup : Setup) (es : List Entry) (item : ℕ) (whole : Option Content)
+    (aggs outs : List (Option Content)) (reports : List Report) (g : ℕ) (all : List (LaneState (Option ℕ)))
+    → IsLegal setup es
+    → MeetsLine setup es (Route item whole verdict aggs outs reports) → AreMarked setup es all
+    → BufferedOn verdict setup es item whole aggs outs reports g all
+    × DroppedOn verdict setup es item whole aggs outs reports g all
+route_all verdicts.Passes setup es item whole aggs outs reports g all h m are = (
+  passes_buffered setup es item whole aggs outs reports g all h m are,
+  passes_dropped setup es item whole aggs outs reports g all h m are,
+)
+route_all verdicts.Consumed setup es item whole aggs outs reports g all h m are =
+    goes_out verdicts.Consumed setup es item whole aggs outs reports g all h m consumed_out
+route_all verdicts.Late setup es item whole aggs outs reports g all h m are =
+    goes_out verdicts.Late setup es item whole aggs outs reports g all h m late_out
+route_all verdicts.Removed setup es item whole aggs outs reports g all h m are =
+    goes_out verdicts.Removed setup es item whole aggs outs reports g all h m removed_out

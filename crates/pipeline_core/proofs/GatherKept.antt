@@ -31,7 +31,8 @@ use Rattle.pipeline_core.proofs.GroupTotals.{few_totals}
 use Rattle.pipeline_core.proofs.Keeping.{differs, kept_entries, kept_gather, kept_groups, kept_inputs, kept_reported}
 use Rattle.pipeline_core.proofs.Keeping.{same_number}
 use Rattle.pipeline_core.proofs.JournalKept.{known_more}
-use Rattle.pipeline_core.proofs.TellingLemmas.{groups_in, length-told_with, told_in, told_with-at}
+use Rattle.pipeline_core.specs.Letting.{groups_in, told_in}
+use Rattle.pipeline_core.proofs.TellingLemmas.{length-told_with, told_with-at}
 
 -- one where an input is tracked
 abbrev pub one_of : Option ℕ → ℕ

@@ -151,28 +151,20 @@ once-push setup es e g sizes h m =
           ≡ one_if (s g) = number_in s g 0 (group_inputs next) (omega arith) (omega (arith, low)) in
           let now : one_if (has_settled setup next g) ≡ one_if (not (is_live setup next g)) =
           ap one_if (settled_is setup next g low) in
+          let before : one_if (has_settled setup es g) + one_if (s g) ≡ one_if (not (is_live setup next g)) =
           elim (cases_lt g (groups es)) [
             | inl old ↦
                 omega (
                   arith,
-                  told,
-                  here,
-                  now,
                   ap one_if (settles_before setup es e g old),
                   ap one_if (settled_is setup es g old),
                   settled_more (is_live setup es g) (is_live setup next g)
                       (λ dead. stays_dead setup es e g sizes h m old dead),
                 )
             | inr new ↦
-                omega (
-                  arith,
-                  told,
-                  here,
-                  now,
-                  ap one_if (settles_new setup es e g new),
-                  ap one_if (settled_not setup es g new),
-                )
-          ])
+                omega (arith, ap one_if (settles_new setup es e g new), ap one_if (settled_not setup es g new))
+          ] in
+          omega (arith, told, here, now, before))
       | inr high ↦
           omega (
             arith,

@@ -5,6 +5,7 @@ use Rattle.std.proofs.Common.{if◌then◌else◌, cond, ◌&&◌, ◌==◌}
 use Rattle.std.specs.List.{All, list_any}
 use Rattle.std.specs.Prelude.{slice_get}
 use mathlib.Core.Bool.{false≢true}
+use Rattle.std.proofs.lemmas.List.{nil_from_length}
 use Rattle.std.proofs.lemmas.Option.{get_or_from_slice_get}
 use Rattle.std.specs.declared.option.Option.{Option}
 use Rattle.std.specs.declared.option.Option.TheVariants.{Some, None}
@@ -38,7 +39,7 @@ use Rattle.pipeline_core.proofs.CopyCounts.{count-append, count-cons, none_or}
 use Rattle.pipeline_core.proofs.CopyGroups.{IsQuiet, begin_copies, done_copies_all, hand_copies, hand_live}
 use Rattle.pipeline_core.proofs.CopyGroups.{kept_in_hand, quiet_copies, quiet_fates, route_copies}
 use Rattle.pipeline_core.proofs.CopyLanes.{and_false}
-use Rattle.pipeline_core.proofs.CopySums.{AreMarked, begin_all, comers, done_dropped_all, route_dropped_all}
+use Rattle.pipeline_core.proofs.CopySums.{AreMarked, begin_all, comers, done_dropped_all, route_all}
 use Rattle.pipeline_core.proofs.GroupSteps.{core_has_sizes, drops_few}
 use Rattle.pipeline_core.proofs.MarkedLanes.{are_marked}
 use Rattle.pipeline_core.proofs.MarkingLemmas.{nothing_pushed}
@@ -60,10 +61,6 @@ pub none_begun : (setup : Setup) (journal : List Entry) → IsLegal setup journa
     group_inputs journal ≡ []
 none_begun setup journal legal none = no_groups setup [] journal (any_none setup.inputs none) legal
 
-nil_of : {X : Type 0} (xs : List X) → length xs ≡ 0 → xs ≡ []
-nil_of [] h = refl
-nil_of (x ∷ xs) h = absurd (omega (arith, h))
-
 -- the groups at the outputs are known, or there are none
 pub known_marks : (s : CoreState) (journal : List Entry) → Stands s journal →
     AreMarked s.setup journal s.marked ⊎ ((s.marked ≡ []) × (group_inputs journal ≡ []))
@@ -77,7 +74,7 @@ known_marks s journal h = go (is_tracking s.setup) refl
         inl (record { as_many = many; each = λ o b. h.marked o (omega (arith, b, many)) })
     go false e =
         inr (
-          nil_of s.marked (h.mark_count ∙ ap (λ (t : Bool). if t then length s.setup.outputs else 0) e),
+          nil_from_length s.marked (h.mark_count ∙ ap (λ (t : Bool). if t then length s.setup.outputs else 0) e),
           none_begun s.setup journal h.legal e,
         )
 
@@ -220,7 +217,7 @@ module _ (verdict : Verdict) (setup : Setup) (es : List Entry) (item : ℕ) (who
         ∙ ap (λ (n : ℕ). copies setup es g + n) (shown_counts verdict g (origin_at es item).group outs);
     dropped = λ g. omega (
       arith,
-      route_dropped_all verdict setup es item whole aggs outs reports g all legal line marked,
+      (route_all verdict setup es item whole aggs outs reports g all legal line marked).1,
       drops-append g (routed_copies verdict outs all) (copy_of false (origin_at es item).group),
       kept_one g (origin_at es item).group,
     );

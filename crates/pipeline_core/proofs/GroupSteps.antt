@@ -21,7 +21,7 @@ use Rattle.pipeline_core.proofs.CopyGroups.{begin_copies, done_copies_all, gathe
 use Rattle.pipeline_core.proofs.CopyGroups.{quiet_fates, route_copies}
 use Rattle.pipeline_core.proofs.CopySteps.{one_if}
 use Rattle.pipeline_core.proofs.CopySums.{AreMarked, begin_all, done_dropped_all, plain_all, comers}
-use Rattle.pipeline_core.proofs.CopySums.{route_dropped_all}
+use Rattle.pipeline_core.proofs.CopySums.{route_all}
 use Rattle.pipeline_core.proofs.JournalPush.{IsLegal-push}
 use Rattle.pipeline_core.proofs.MarkedLanes.{are_marked}
 use Rattle.pipeline_core.proofs.Keeping.{differs}
@@ -143,7 +143,7 @@ stays_settled setup es (Route item whole verdict aggs outs reports) g sizes h m 
         held,
         none,
         drops_few g gone,
-        route_dropped_all verdict setup es item whole aggs outs reports g are.0 h m are.1,
+        (route_all verdict setup es item whole aggs outs reports g are.0 h m are.1).1,
       );
     }
 stays_settled setup es (Tick moment all) g sizes h m low none =

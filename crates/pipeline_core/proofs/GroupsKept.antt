@@ -1,5 +1,5 @@
 -- What a core keeps as copies of groups are let go: their counts, and a place for the report of each live group.
-use Rattle.std.proofs.Common.{◌≡◌, ◌<◌, ◌≤◌, ◌^◌, ℕ, zero, suc, ◌+◌, Bool, false, List, [], ◌∷◌, ◌++◌}
+use Rattle.std.proofs.Common.{◌≡◌, ◌<◌, ◌≤◌, ℕ, zero, suc, Bool, false, List, [], ◌∷◌, ◌++◌}
 use Rattle.std.proofs.Common.{length, map, filter, refl, sym, ap, ◌∙◌, subst, arith, get_or, length-append, set, IsSome}
 use Rattle.std.proofs.lemmas.List.{get_or-map, length-map}
 use Rattle.std.proofs.lemmas.List.Sums.{length-filter}
@@ -17,7 +17,7 @@ use Rattle.pipeline_core.specs.declared.output.Offer.{Offer}
 use Rattle.track_groups.specs.Settling.{Copy, after_copies, is_report_of, reports_with, times}
 use Rattle.track_groups.specs.Tracker.{IsTracker, TrackerState, copies_of, live_of}
 use Rattle.track_groups.proofs.CopyLemmas.{all_told}
-use Rattle.pipeline_core.specs.Letting.{HasCopies}
+use Rattle.pipeline_core.specs.Letting.{HasCopies, MayTell, groups_in, told_in}
 use Rattle.pipeline_core.specs.Tracked.{hold_more, most_live}
 use Rattle.pipeline_core.specs.CoreState.{CoreState, GroupsAgree, IsCore, lane_at, marked_at}
 use Rattle.pipeline_core.specs.Stands.{HasJournal}
@@ -31,7 +31,7 @@ use Rattle.pipeline_core.proofs.GroupSteps.{core_has_sizes}
 use Rattle.pipeline_core.proofs.GroupTotals.{group_totals}
 use Rattle.pipeline_core.proofs.Keeping.{kept_done, kept_groups, kept_reported}
 use Rattle.pipeline_core.proofs.StandsLanes.{done_line}
-use Rattle.pipeline_core.proofs.TellingLemmas.{groups_in, length-told_with, told_in, told_with-at}
+use Rattle.pipeline_core.proofs.TellingLemmas.{length-told_with, told_with-at}
 use Rattle.pipeline_core.proofs.TrackerLemmas.{goes_few, live_of_tracker}
 
 -- an input's groups that aren't delivered yet are those that are live
@@ -129,15 +129,6 @@ places_gone t copies old new tracks h told places i b =
       h i c,
       places i c,
     )
-
--- reports may be told: their inputs are known, have places for them, and as many undelivered groups
-pub record MayTell (n : Numbers) (old : List ToldState) (reports : List Report) : Type 0 where
-  pub known : (i : ℕ) → 0 < count_by (is_report_of i) reports → (i < length old) × (i < length n.inputs)
-  pub places : (i : ℕ) → i < length old →
-      length (told_in old i).reports + count_by (is_report_of i) reports ≤ (told_in old i).places
-  pub some : (i : ℕ) → i < length n.inputs →
-      count_by (is_report_of i) reports ≤ (input_numbers n i).undelivered
-  pub few : (i : ℕ) → i < length n.inputs → groups_in (input_numbers n i) < 2 ^ 64
 
 -- the same core with other numbers of outputs
 module _ (s : CoreState) (core : IsCore s) (agree : GroupsAgree s) (told : HasJournal s) (t : TrackerState)

@@ -4,7 +4,7 @@ use Rattle.std.proofs.Common.{drop, replicate, refl, ap, sym, ◌∙◌, arith}
 use Rattle.std.specs.List.{filter}
 use Rattle.std.specs.declared.option.Option.{Option}
 use Rattle.std.specs.declared.option.Option.TheVariants.{Some}
-use Rattle.std.proofs.lemmas.List.{drop-append-le, drop-drop, length-drop}
+use Rattle.std.proofs.lemmas.List.{drop-append-le, drop-drop, length-drop, nil_from_length}
 use Rattle.std.proofs.lemmas.List.Elements.{filter-append}
 use Rattle.metric.specs.declared.metric.Content.{Content}
 use Rattle.account.specs.Setup.{Setup}
@@ -59,15 +59,11 @@ raw_of-push setup input es e h none more =
     (filter-append (is_of_input input) (drop (taken es) (origins es)) (origins_by e)
     ∙ ap (λ (front : List Origin). front ++ filter (is_of_input input) (origins_by e)) none ∙ more)
 
-none_in : (xs : List Origin) → length xs ≡ 0 → xs ≡ []
-none_in [] l = refl
-none_in (x ∷ xs) l = absurd (omega (arith, l))
-
 -- where no item at all is raw, none of an input is
 pub raw_of-none : (input : ℕ) (es : List Entry) → raw_items es ≡ [] → raw_of input es ≡ []
 raw_of-none input es none =
     ap (filter (is_of_input input))
-    (none_in (drop (taken es) (origins es)) (omega (
+    (nil_from_length (drop (taken es) (origins es)) (omega (
       arith,
       length-drop (taken es) (origins es),
       length-drop (taken es) (items es),

@@ -6,7 +6,7 @@ use Rattle.std.proofs.Math.Bool.{or-false}
 use Rattle.std.proofs.Math.Nat.{eq-or-lt_of_le}
 use Rattle.std.proofs.lemmas.Bool.{cases_lt}
 use Rattle.std.proofs.lemmas.Option.{slice_get-get_or, slice_get_within, get_or_from_slice_get}
-use Rattle.std.proofs.lemmas.List.{get_or-set_same, get_or-set_other, length-set}
+use Rattle.std.proofs.lemmas.List.{get_or-set_same, get_or-set_other, length-set, nil_from_length}
 use Rattle.std.specs.Int.{int_max}
 use Rattle.std.specs.Prelude.{slice_get}
 use Rattle.std.specs.declared.option.Option.{Option}
@@ -43,10 +43,6 @@ use Rattle.pipeline_core.proofs.CopyGroups.{IsQuiet, quiet_plain}
 use Rattle.pipeline_core.proofs.Standing.{InputsGrow, ItemsGrow, stands_grows, bank_stays, told_stays}
 use Rattle.pipeline_core.proofs.Standing.{inputs_at, inputs_stand, items_stand, outputs_stand}
 
-pub nil_of_length : {X : Type 0} (xs : List X) → length xs ≡ 0 → xs ≡ []
-nil_of_length [] h = refl
-nil_of_length (x ∷ xs) h = absurd (omega (arith, h))
-
 or_true : (b : Bool) → (b || true) ≡ true
 or_true true = refl
 or_true false = refl
@@ -59,7 +55,7 @@ below_max a b = grind (arith, ints)
 
 pub placed_raw : (raw : List Content) (n : ℕ) → (length raw ≡ 0) ⊎ (length raw + n ≤ 10000) →
     (raw ≡ []) ⊎ (length raw + n ≤ 10000)
-placed_raw raw n (inl h) = inl (nil_of_length raw h)
+placed_raw raw n (inl h) = inl (nil_from_length raw h)
 placed_raw raw n (inr h) = inr h
 
 -- without reports an input's numbers stay

@@ -17,14 +17,8 @@ use Rattle.account.specs.declared.numbers.InputNumbers.{InputNumbers}
 use Rattle.account.specs.declared.entry.Report.{Report}
 use Rattle.track_groups.specs.Settling.{is_report_of}
 use Rattle.pipeline_core.specs.Steps.{told_with, with_reports}
+use Rattle.pipeline_core.specs.Letting.{groups_in, told_in}
 use Rattle.pipeline_core.specs.ToldView.{ToldState, no_reports, reports_in}
-
--- how many groups of an input were counted
-abbrev pub groups_in : InputNumbers → ℕ
-groups_in x = x.delivered + x.rejected + x.undelivered
-
-abbrev pub told_in : List ToldState → ℕ → ToldState
-told_in all i = get_or all i no_reports
 
 pub with_reports-push : (n : Numbers) (reports : List Report) (r : Report) →
     with_reports n (reports ++ r ∷ []) ≡ with_input (with_reports n reports) r.input

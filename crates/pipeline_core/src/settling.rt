@@ -10,7 +10,7 @@ ghost use Rattle.pipeline_core.specs.CoreState.{marked_at};
 ghost use Rattle.pipeline_core.specs.Steps.{marked_with, marked_routed, marked_done, told_with, with_reports};
 ghost use Rattle.pipeline_core.specs.ToldView.{no_reports, reports_in};
 ghost use Rattle.pipeline_core.specs.Tracked.{copies_in, copy_of, gone_for, held_routed, hold_more, leaving, pushed_copies, routed_copies};
-ghost use Rattle.pipeline_core.specs.Letting.{LetsGo, HasCopies};
+ghost use Rattle.pipeline_core.specs.Letting.{LetsGo, HasCopies, MayTell};
 
 use crate::marked::{Leaving, Marked};
 use crate::told::Told;
@@ -209,16 +209,7 @@ fn push_mark(
 
 /// Counts these reports, and keeps each until it is handed out.
 pub(crate) fn tell(account: &mut Account, told: &mut Vec<Told>, reports: &[Report])
-    requires known { (input : ℕ) → 0 < count_by (is_report_of input) reports.now
-        → (input < length told.old.items) × (input < length account.old.inputs) }
-    requires places { (input : ℕ) → input < length told.old.items →
-        length (slice_index_or told.old.items input no_reports).reports
-        + count_by (is_report_of input) reports.now ≤ (slice_index_or told.old.items input no_reports).places }
-    requires some { (input : ℕ) → input < length account.old.inputs →
-        count_by (is_report_of input) reports.now ≤ (input_numbers account.old input).undelivered }
-    requires few { (input : ℕ) → input < length account.old.inputs →
-        ((input_numbers account.old input).delivered + (input_numbers account.old input).rejected
-        + (input_numbers account.old input).undelivered < 2 ^ 64) }
+    requires { MayTell account.old told.old.items reports.now }
     ensures account { account.new ≡ with_reports account.old reports.now }
     ensures told { map reports_in told.new.items ≡ told_with (map reports_in told.old.items) reports.now }
     ensures places { (input : ℕ) → input < length told.old.items →

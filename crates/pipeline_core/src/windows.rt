@@ -1,12 +1,18 @@
 //! Windows close: what they make becomes raw items.
-ghost use Rattle.std.specs.Prelude.{◌≡◌, ◌+◌, ◌++◌, ◌<◌, ◌≤◌, ◌^◌, true, false, length, replicate, OnErr, OnOk, None};
-ghost use Rattle.pipeline_core.specs.Moments.{IsStoppedAt, IsTickedAt};
+ghost use Rattle.std.specs.Prelude.{◌≡◌, ◌+◌, ◌++◌, ◌<◌, ◌≤◌, ◌^◌, ◌∷◌, [], ℤ, List, true, false, length, replicate};
+ghost use Rattle.std.specs.Prelude.{IfOk, OnErr, OnOk, None};
+ghost use Rattle.account.specs.declared.setup.AggLine.{AggLine};
+ghost use Rattle.agg_bank.specs.Bank.{BankStands, lines_of};
+ghost use Rattle.agg_bank.specs.Events.{BankEvent, closing_event};
+ghost use Rattle.agg_bank.specs.Made.{made_at};
+ghost use Rattle.pipeline_core.specs.Moments.{IsClosedAt, IsStoppedAt, IsTickedAt, closing_entry};
 
 use crate::gathering::has_numbers;
 use crate::room::{line_up, make_room, queue_of};
 use crate::state::Core;
 use crate::unrouted::Unrouted;
 use account::{Account, Entry};
+use agg_bank::Bank;
 use fixed_num::{Moment, OutOfMemory, Seq};
 use metric::Metric;
 use std::alloc::Global;
@@ -20,23 +26,7 @@ impl Core {
         ensures ok { OnOk result (IsTickedAt moment self.old self.new) }
         ensures err { OnErr result (self.new ≡ self.old) }
     {
-        let counted = moment.max(self.counted);
-        let made = self.bank.due(counted)?;
-        make_room(&mut self.stored, self.outputs.len())?;
-        take_in(
-            self.alloc,
-            &mut self.raw,
-            &mut self.unrouted,
-            &mut self.account,
-            self.taken,
-            made.as_slice(),
-        )?;
-        self.bank.close(counted);
-        self.counted = counted;
-        self.stored.push_reserved(Entry::Tick {
-            moment: counted,
-            made: Seq::of(made),
-        });
+        self.close_windows(moment, false)?;
         Ok(())
     }
 
@@ -47,8 +37,18 @@ impl Core {
         ensures ok { OnOk result (IsStoppedAt moment self.old self.new) }
         ensures err { OnErr result (self.new ≡ self.old) }
     {
+        self.close_windows(moment, true)?;
+        Ok(())
+    }
+
+    // Closes the windows that are due at a moment, as a tick does, or all of them, as the stop does.
+    fn close_windows(&mut self, moment: Moment, all: bool) -> Result<(), OutOfMemory>
+        requires { self.old.stopped ≡ false }
+        ensures ok { OnOk result (IsClosedAt all moment self.old self.new) }
+        ensures err { OnErr result (self.new ≡ self.old) }
+    {
         let counted = moment.max(self.counted);
-        let made = self.bank.due_at_stop(counted)?;
+        let made = made_at(&self.bank, all, counted)?;
         make_room(&mut self.stored, self.outputs.len())?;
         take_in(
             self.alloc,
@@ -58,14 +58,49 @@ impl Core {
             self.taken,
             made.as_slice(),
         )?;
-        self.bank.close_all(counted);
+        close_at(&mut self.bank, all, counted);
         self.counted = counted;
-        self.stopped = true;
-        self.stored.push_reserved(Entry::Stop {
-            moment: counted,
-            made: Seq::of(made),
-        });
+        self.stopped = all;
+        self.stored
+            .push_reserved(closing_entry(all, counted, Seq::of(made)));
         Ok(())
+    }
+}
+
+// What the windows make that a tick at a moment closes, or the stop.
+fn made_at(bank: &Bank, all: bool, moment: Moment) -> Result<Vec<Metric>, OutOfMemory>
+    ensures { (lines : List AggLine) (start : ℤ) (events : List BankEvent) → BankStands lines start events bank.now
+        → IfOk result (λ made. made.items ≡ made_at lines start events (closing_event all moment)) }
+{
+    if all {
+        bank.due_at_stop(moment)
+    } else {
+        bank.due(moment)
+    }
+}
+
+// Closes them.
+fn close_at(bank: &mut Bank, all: bool, moment: Moment)
+    ensures stands { (lines : List AggLine) (start : ℤ) (events : List BankEvent)
+        → BankStands lines start events bank.old
+        → BankStands lines start (events ++ closing_event all moment ∷ []) bank.new }
+    ensures lines { lines_of bank.new ≡ lines_of bank.old }
+{
+    if all {
+        bank.close_all(moment);
+    } else {
+        bank.close(moment);
+    }
+}
+
+// The entry that says so.
+fn closing_entry(all: bool, moment: Moment, made: Seq<Metric>) -> Entry
+    ensures { result ≡ closing_entry all moment made }
+{
+    if all {
+        Entry::Stop { moment, made }
+    } else {
+        Entry::Tick { moment, made }
     }
 }
 

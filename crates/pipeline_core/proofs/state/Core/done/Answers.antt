@@ -10,14 +10,14 @@ use Rattle.track_groups.specs.Tracker.{TrackerState}
 use Rattle.pipeline_core.specs.declared.output.Offer.{Offer}
 use Rattle.pipeline_core.specs.CoreState.{CoreState, GroupsAgree, IsCore, lane_at}
 use Rattle.pipeline_core.specs.CoreView.{core_state}
-use Rattle.pipeline_core.specs.Letting.{HasCopies, LetsGo}
+use Rattle.pipeline_core.specs.Letting.{HasCopies, LetsGo, MayTell}
 use Rattle.pipeline_core.specs.Stands.{HasJournal}
 use Rattle.pipeline_core.specs.Steps.{after_done, copies_done, count_done, counted_done, done_entry, done_reports}
 use Rattle.pipeline_core.specs.Steps.{lane_done, told_with, with_reports}
 use Rattle.pipeline_core.specs.ToldView.{reports_in}
 use Rattle.pipeline_core.specs.Tracked.{copies_in}
 use Rattle.pipeline_core.proofs.GatherKept.{HasPlaces}
-use Rattle.pipeline_core.proofs.GroupsKept.{core_done, done_has, done_is, may_tell, MayTell, places_gone}
+use Rattle.pipeline_core.proofs.GroupsKept.{core_done, done_has, done_is, may_tell, places_gone}
 use Rattle.pipeline_core.proofs.JournalKept.{has_next, kept_same}
 use Rattle.pipeline_core.proofs.Keeping.{flights_done, none_left}
 use Rattle.pipeline_core.proofs.LettingLemmas.{lets_all}
@@ -90,17 +90,8 @@ tells c =
     (ap (λ (n : Numbers). n.inputs) c.count_done.ensures) c.self.inside.told.items refl c.as_slice-2.result.now
     (told_are c) c.self.invariant.places
 
-pub tell-requires-clause-known : goal.tell-requires-clause-known
-tell-requires-clause-known c = (tells c).known
-
-pub tell-requires-clause-places : goal.tell-requires-clause-places
-tell-requires-clause-places c = (tells c).places
-
-pub tell-requires-clause-some : goal.tell-requires-clause-some
-tell-requires-clause-some c = (tells c).some
-
-pub tell-requires-clause-few : goal.tell-requires-clause-few
-tell-requires-clause-few c = (tells c).few
+pub tell-requires : goal.tell-requires
+tell-requires c = tells c
 
 pub returns-clause-after : goal.returns-clause-after
 returns-clause-after c =

@@ -9,6 +9,7 @@ use Rattle.account.specs.Numbers.{Numbers}
 use Rattle.account.specs.declared.entry.Report.{Report}
 use Rattle.track_groups.specs.Settling.{is_report_of}
 use Rattle.track_groups.specs.Tracker.{IsTracker, TrackerState}
+use Rattle.pipeline_core.specs.Letting.{told_in}
 use Rattle.pipeline_core.specs.CoreState.{CoreState, GroupsAgree, IsCore}
 use Rattle.pipeline_core.specs.CoreView.{core_state}
 use Rattle.pipeline_core.specs.Stands.{HasJournal}
@@ -20,7 +21,6 @@ use Rattle.pipeline_core.proofs.GatherKept.{places_kept}
 use Rattle.pipeline_core.proofs.GatherKept.{places_to_tell, places_told, started_own}
 use Rattle.pipeline_core.proofs.GatherStanding.{gather_stands}
 use Rattle.pipeline_core.proofs.JournalKept.{agree_same, has_next, kept_as_before, kept_same}
-use Rattle.pipeline_core.proofs.TellingLemmas.{told_in}
 use Rattle.pipeline_core.proofs.Keeping.{flights-le}
 use Rattle.pipeline_core.proofs.state.Core.gather.Goals.{After-as_slice-2, After-push_reserved}
 use Rattle.pipeline_core.proofs.state.Core.gather.Goals as goal
@@ -86,32 +86,32 @@ many_told c =
     sym (length-map c.make_place.new.told.items reports_in) ∙ ap length c.make_place.ensures.reports
     ∙ c.self.invariant.groups.told_count
 
-pub tell-requires-clause-known : goal.tell-requires-clause-known
-tell-requires-clause-known c i some =
-    let own : c.args.g.input ≡ i = started_own c.self.inside.tracker (most_of (core_state c.self.inside) c.args.g.input)
-    c.args.g.input (length c.args.g.metrics) i
-    (subst (λ (xs : List Report). 0 < count_by (is_report_of i) xs) (told_are c) some) in
-    let many : length c.count_gathered.new.account.inputs ≡ length c.self.inside.account.inputs =
-    ap (λ (n : Numbers). length n.inputs) c.count_gathered.ensures
-    ∙ length-set c.self.inside.account.inputs c.args.g.input _ in (
-      omega (arith, own, within c, many_told c),
-      omega (arith, own, within c, many, c.self.invariant.core.inputs.number_count),
-    )
-
-pub tell-requires-clause-places : goal.tell-requires-clause-places
-tell-requires-clause-places c i b =
-    subst (λ (xs : List Report). length (told_in c.make_place.new.told.items i).reports
-    + count_by (is_report_of i) xs ≤ (told_in c.make_place.new.told.items i).places) (sym (told_are c))
-    (places_to_tell c.self.inside.tracker (most_of (core_state c.self.inside) c.args.g.input) c.args.g.input
-    (length c.args.g.metrics) c.self.inside.told.items c.make_place.new.told.items c.make_place.ensures.reports
-    c.make_place.ensures.kept c.in_ok-make_place.ensures.place c.self.invariant.places i b)
-
-pub tell-requires-clause-few : goal.tell-requires-clause-few
-tell-requires-clause-few c i b =
-    few_counted (core_state c.self.inside) c.args.g c.is_some.result c.count_gathered.new.account
-    c.self.invariant.core c.self.invariant.told
-    (subst (λ (s : CoreState). s.tracker.started < 2 ^ 63) (sym c.self.view_is) c.in-Admitted.ensures.5)
-    c.count_gathered.ensures i b
+pub tell-requires : goal.tell-requires
+tell-requires c =
+    record {
+      known = λ i some.
+          let own : c.args.g.input ≡ i = started_own c.self.inside.tracker
+          (most_of (core_state c.self.inside) c.args.g.input) c.args.g.input (length c.args.g.metrics) i
+          (subst (λ (xs : List Report). 0 < count_by (is_report_of i) xs) (told_are c) some) in
+          let many : length c.count_gathered.new.account.inputs ≡ length c.self.inside.account.inputs =
+          ap (λ (n : Numbers). length n.inputs) c.count_gathered.ensures
+          ∙ length-set c.self.inside.account.inputs c.args.g.input _ in (
+            omega (arith, own, within c, many_told c),
+            omega (arith, own, within c, many, c.self.invariant.core.inputs.number_count),
+          );
+      places = λ i b.
+          subst (λ (xs : List Report). length (told_in c.make_place.new.told.items i).reports
+          + count_by (is_report_of i) xs ≤ (told_in c.make_place.new.told.items i).places) (sym (told_are c))
+          (places_to_tell c.self.inside.tracker (most_of (core_state c.self.inside) c.args.g.input) c.args.g.input
+          (length c.args.g.metrics) c.self.inside.told.items c.make_place.new.told.items c.make_place.ensures.reports
+          c.make_place.ensures.kept c.in_ok-make_place.ensures.place c.self.invariant.places i b);
+      some = (search rules);
+      few = λ i b.
+          few_counted (core_state c.self.inside) c.args.g c.is_some.result c.count_gathered.new.account
+          c.self.invariant.core c.self.invariant.told
+          (subst (λ (s : CoreState). s.tracker.started < 2 ^ 63) (sym c.self.view_is) c.in-Admitted.ensures.5)
+          c.count_gathered.ensures i b;
+    }
 
 -- the numbers fit
 few : (c : After-as_slice-2) → c.args.self.now.gathered + length c.args.g.metrics < 2 ^ 32

@@ -12,7 +12,7 @@ use Rattle.agg_bank.specs.Bank.{BankStands, lines_of}
 use Rattle.pipeline_core.specs.CoreState.{CoreState, GroupsAgree, IsCore}
 use Rattle.pipeline_core.specs.CoreView.{core_state}
 use Rattle.pipeline_core.specs.Stands.{HasJournal, IsAsBefore, Stands}
-use Rattle.pipeline_core.specs.Letting.{HasCopies, LetsGo}
+use Rattle.pipeline_core.specs.Letting.{HasCopies, LetsGo, MayTell}
 use Rattle.pipeline_core.specs.Steps.{after_route, held_group, lanes_routed, marked_routed, numbers_routed}
 use Rattle.pipeline_core.specs.Steps.{route_copies}
 use Rattle.pipeline_core.specs.Steps.{route_entry}
@@ -23,7 +23,7 @@ use Rattle.track_groups.specs.Settling.{Copy, after_copies}
 use Rattle.track_groups.specs.Tracker.{IsLive, IsTracker, TrackerState, copies_of}
 use Rattle.pipeline_core.specs.Windows.{bank_events, judged, offered_to, BankIs}
 use Rattle.pipeline_core.proofs.StandsLanes.{route_line, route_stands}
-use Rattle.pipeline_core.proofs.GroupsKept.{may_tell, MayTell, places_gone}
+use Rattle.pipeline_core.proofs.GroupsKept.{may_tell, places_gone}
 use Rattle.pipeline_core.proofs.GatherKept.{HasPlaces}
 use Rattle.pipeline_core.proofs.InStep.{marked_in_step, marked_within}
 use Rattle.pipeline_core.proofs.JournalKept.{has_next, has_still, kept_same, known_fewer}
@@ -146,7 +146,7 @@ settled : (c : After-as_slice-4) → (c.settle_routed.new.tracker ≡ after_copi
     c.in_ok-verdict.verdict)) × (c.settle_routed.new.reports.items ≡ route_reports (core_state c.self.inside) c.args.r
     c.in_ok-verdict.verdict)
 settled c =
-    let at = (goal.at.tell-requires-clause-known c).After-as_slice-3 in
+    let at = (goal.at.tell-requires c).After-as_slice-3 in
     let tracker : TrackerState = route_tracker (core_state c.self.inside) c.args.r c.in_ok-verdict.verdict in
     let gone : List Copy = route_copies (core_state c.self.inside) c.args.r c.in_ok-verdict.verdict in
     lets_all gone tracker c.settle_routed.new.tracker c.in_ok-reports.reports.items c.settle_routed.new.reports.items
@@ -163,7 +163,7 @@ told_are c = c.as_slice-4.ensures.value ∙ (settled c).1
 
 tracks : (c : After-as_slice-4) → IsTracker (route_tracker (core_state c.self.inside) c.args.r c.in_ok-verdict.verdict)
 tracks c =
-    subst IsTracker (tracker_is (goal.at.tell-requires-clause-known c).After-as_slice-3) c.settle_routed.ensures.held
+    subst IsTracker (tracker_is (goal.at.tell-requires c).After-as_slice-3) c.settle_routed.ensures.held
 
 -- what is counted
 numbers : (c : After-as_slice-4) → c.hand_out.new.account ≡ numbers_routed c.in_ok-verdict.verdict c.args.r.outs
@@ -188,17 +188,8 @@ tells c =
     c.hand_out.new.account (inputs c) c.self.inside.told.items refl c.as_slice-4.result.now (told_are c)
     c.self.invariant.places
 
-pub tell-requires-clause-known : goal.tell-requires-clause-known
-tell-requires-clause-known c = (tells c).known
-
-pub tell-requires-clause-places : goal.tell-requires-clause-places
-tell-requires-clause-places c = (tells c).places
-
-pub tell-requires-clause-some : goal.tell-requires-clause-some
-tell-requires-clause-some c = (tells c).some
-
-pub tell-requires-clause-few : goal.tell-requires-clause-few
-tell-requires-clause-few c = (tells c).few
+pub tell-requires : goal.tell-requires
+tell-requires c = tells c
 
 pub returns-clause-ok : goal.returns-clause-ok
 returns-clause-ok c =

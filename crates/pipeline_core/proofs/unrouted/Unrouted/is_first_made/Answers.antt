@@ -1,6 +1,5 @@
-use Rattle.std.proofs.Common.{rules, ◌≡◌, ◌<◌, ◌++◌, ◌∙◌, [], replicate, drop, slice_get, Some, ℕ, ◌+◌, ◌≤◌, length}
-use Rattle.std.proofs.Common.{Bool, List, ◌∷◌, slice_index_or, sym, ap, subst}
-use Rattle.std.specs.List.{All}
+use Rattle.std.proofs.Common.{◌≡◌, ◌<◌, ◌∙◌, slice_get, Some, length}
+use Rattle.std.proofs.Common.{sym, ap, subst}
 use Rattle.pipeline_core.specs.declared.unrouted.Together.{Together}
 use Rattle.pipeline_core.specs.UnroutedView.{UnroutedState, made_of}
 use Rattle.pipeline_core.proofs.UnroutedLemmas.{first_is, has_rows}

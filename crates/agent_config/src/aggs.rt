@@ -1,59 +1,45 @@
 //! What the aggregators of a configuration are.
-ghost use Rattle.std.specs.Prelude.{◌≡◌, IfOk, map};
-ghost use Rattle.toml.specs.Data.{no_members};
+ghost use Rattle.std.specs.Prelude.{◌≡◌, IfOk};
 ghost use Rattle.toml.specs.View.{table_view};
 ghost use Rattle.agent_config.specs.Aggs.{agg_of, asks, word_of};
 ghost use Rattle.agent_config.specs.Keys.{is_one_of};
-ghost use Rattle.agent_config.specs.Plugins.{plugin_view, plugins_view};
 ghost use Rattle.agent_config.specs.Seen.{now_of};
 
 use crate::config::AggConf;
 use crate::fault::Class;
 use crate::filters::filter_of;
-use crate::plugins::Plugin;
+use crate::plugins::{OfPlugin, Plugin};
 use crate::rows::{time_at, truth_at};
 use crate::table::{Keys, Kind, keys_of, kind_of};
 use crate::tables::{members_in, value_at};
 use crate::texts::texts_in;
 use account::{AggLine, AggWord};
-use fixed_num::{OutOfMemory, Seq};
+use fixed_num::OutOfMemory;
 use std::alloc::Global;
 use toml::Table;
 
-/// The aggregators of plugins.
-pub(crate) fn aggs_of<'a>(
-    alloc: Global,
-    plugins: &[Plugin<'a>],
-    empty: &'a Table,
-) -> Result<Seq<AggConf>, OutOfMemory>
-    requires { table_view empty.now ≡ no_members }
-    ensures { IfOk result (λ aggs. aggs ≡ map agg_of (plugins_view plugins.now)) }
-{
-    let mut aggs = Vec::new(alloc);
-    for plugin in plugins {
-        aggs.push(agg_of(alloc, plugin, empty)?)?;
-    }
-    Ok(Seq::of(aggs))
-}
+impl OfPlugin for AggConf {
+    ghost made_of = { agg_of };
 
-/// The aggregator of a plugin.
-fn agg_of<'a>(alloc: Global, plugin: &Plugin<'a>, empty: &'a Table) -> Result<AggConf, OutOfMemory>
-    requires { table_view empty.now ≡ no_members }
-    ensures { IfOk result (λ agg. agg ≡ agg_of (plugin_view plugin.now)) }
-{
-    let keys = keys_of(&Class::Aggregators, plugin.name);
-    let table = members_in(plugin.value, empty);
-    let kind = kind_of(&Class::Aggregators, plugin.name);
-    Ok(AggConf {
-        filter: filter_of(alloc, table)?,
-        line: AggLine {
-            kind: word_of(alloc, kind, table)?,
-            period: time_at(alloc, &keys, table, "period")?,
-            delay: time_at(alloc, &keys, table, "delay")?,
-            grace: time_at(alloc, &keys, table, "grace")?,
-            dropping: truth_at(&keys, table, "drop_original"),
-        },
-    })
+    fn of<'a>(
+        alloc: Global,
+        plugin: &Plugin<'a>,
+        empty: &'a Table,
+    ) -> Result<AggConf, OutOfMemory> {
+        let keys = keys_of(&Class::Aggregators, plugin.name);
+        let table = members_in(plugin.value, empty);
+        let kind = kind_of(&Class::Aggregators, plugin.name);
+        Ok(AggConf {
+            filter: filter_of(alloc, table)?,
+            line: AggLine {
+                kind: word_of(alloc, kind, table)?,
+                period: time_at(alloc, &keys, table, "period")?,
+                delay: time_at(alloc, &keys, table, "delay")?,
+                grace: time_at(alloc, &keys, table, "grace")?,
+                dropping: truth_at(&keys, table, "drop_original"),
+            },
+        })
+    }
 }
 
 /// What an aggregator of a kind is.

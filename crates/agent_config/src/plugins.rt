@@ -1,12 +1,12 @@
 //! The plugins of a class.
-ghost use Rattle.std.specs.Prelude.{◌≡◌, ◌++◌, IfOk};
+ghost use Rattle.std.specs.Prelude.{◌≡◌, ◌++◌, IfOk, map};
 ghost use Rattle.toml.specs.Data.{as_array, no_members};
 ghost use Rattle.toml.specs.View.{items_view, table_view, view};
-ghost use Rattle.agent_config.specs.Faults.{classes_of, listed, of_kind, plugins_of};
-ghost use Rattle.agent_config.specs.Plugins.{classes_view, plugins_view};
+ghost use Rattle.agent_config.specs.Faults.{Plugin, classes_of, listed, of_kind, plugins_of};
+ghost use Rattle.agent_config.specs.Plugins.{classes_view, plugin_view, plugins_view};
 
 use crate::tables::table_at;
-use fixed_num::OutOfMemory;
+use fixed_num::{OutOfMemory, Seq};
 use std::alloc::Global;
 use toml::{Table, Value};
 
@@ -87,4 +87,31 @@ fn add_all<'a>(
         plugins.push(Plugin { name, value })?;
     }
     Ok(())
+}
+
+/// What a plugin stands for: an input, a step, or an aggregator.
+pub(crate) trait OfPlugin: Drop + Sized {
+    /// That of a plugin, as contracts see it.
+    ghost made_of: { Plugin → Self };
+
+    /// That of a plugin.
+    fn of<'a>(alloc: Global, plugin: &Plugin<'a>, empty: &'a Table) -> Result<Self, OutOfMemory>
+        requires { table_view empty.now ≡ no_members }
+        ensures { IfOk result (λ made. made ≡ made_of (plugin_view plugin.now)) };
+}
+
+/// What each of some plugins stands for.
+pub(crate) fn each_of<'a, T: OfPlugin>(
+    alloc: Global,
+    plugins: &[Plugin<'a>],
+    empty: &'a Table,
+) -> Result<Seq<T>, OutOfMemory>
+    requires { table_view empty.now ≡ no_members }
+    ensures { IfOk result (λ each. each ≡ map T.made_of (plugins_view plugins.now)) }
+{
+    let mut each = Vec::new(alloc);
+    for plugin in plugins {
+        each.push(T::of(alloc, plugin, empty)?)?;
+    }
+    Ok(Seq::of(each))
 }

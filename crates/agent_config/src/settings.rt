@@ -5,13 +5,12 @@ ghost use Rattle.toml.specs.View.{table_view, view};
 ghost use Rattle.agent_config.specs.Plugins.{plugin_view, plugins_view};
 ghost use Rattle.agent_config.specs.Values.{agent_of, config_of, global_tag, globals_of, input_of, output_of};
 
-use crate::aggs::aggs_of;
 use crate::config::{AgentConf, Config, InputConf, OutputConf};
 use crate::fault::Class;
 use crate::filters::filter_of;
 use crate::formats::{in_format_at, out_format_at};
 use crate::places::place_of;
-use crate::plugins::{Plugin, classes_of};
+use crate::plugins::{OfPlugin, Plugin, classes_of, each_of};
 use crate::rows::{agent_number, number_at, time_at, truth_at};
 use crate::steps::steps_of;
 use crate::table::{Keys, keys_of};
@@ -37,9 +36,9 @@ pub(crate) fn config_of<'a>(
     Ok(Config {
         agent: agent_of(alloc, agent)?,
         globals: globals_of(alloc, table_at(root, "global_tags", empty))?,
-        inputs: inputs_of(alloc, classes.inputs.as_slice(), empty)?,
+        inputs: each_of(alloc, classes.inputs.as_slice(), empty)?,
         steps: steps_of(alloc, classes.processors.as_slice(), empty)?,
-        aggs: aggs_of(alloc, classes.aggregators.as_slice(), empty)?,
+        aggs: each_of(alloc, classes.aggregators.as_slice(), empty)?,
         outputs: outputs_of(alloc, &limits, classes.outputs.as_slice(), empty)?,
     })
 }
@@ -89,40 +88,24 @@ fn add_global(
     Ok(())
 }
 
-/// The inputs of plugins.
-fn inputs_of<'a>(
-    alloc: Global,
-    plugins: &[Plugin<'a>],
-    empty: &'a Table,
-) -> Result<Seq<InputConf>, OutOfMemory>
-    requires { table_view empty.now ≡ no_members }
-    ensures { IfOk result (λ inputs. inputs ≡ map input_of (plugins_view plugins.now)) }
-{
-    let mut inputs = Vec::new(alloc);
-    for plugin in plugins {
-        inputs.push(input_of(alloc, plugin, empty)?)?;
-    }
-    Ok(Seq::of(inputs))
-}
+impl OfPlugin for InputConf {
+    ghost made_of = { input_of };
 
-/// The input of a plugin.
-fn input_of<'a>(
-    alloc: Global,
-    plugin: &Plugin<'a>,
-    empty: &'a Table,
-) -> Result<InputConf, OutOfMemory>
-    requires { table_view empty.now ≡ no_members }
-    ensures { IfOk result (λ input. input ≡ input_of (plugin_view plugin.now)) }
-{
-    let keys = keys_of(&Class::Inputs, plugin.name);
-    let table = members_in(plugin.value, empty);
-    Ok(InputConf {
-        place: place_of(alloc, &Class::Inputs, plugin, empty)?,
-        format: in_format_at(alloc, &keys, table)?,
-        tracked: truth_at(&keys, table, "tracked"),
-        max_undelivered: number_at(&keys, table, "max_undelivered_messages", USUAL_UNDELIVERED),
-        filter: filter_of(alloc, table)?,
-    })
+    fn of<'a>(
+        alloc: Global,
+        plugin: &Plugin<'a>,
+        empty: &'a Table,
+    ) -> Result<InputConf, OutOfMemory> {
+        let keys = keys_of(&Class::Inputs, plugin.name);
+        let table = members_in(plugin.value, empty);
+        Ok(InputConf {
+            place: place_of(alloc, &Class::Inputs, plugin, empty)?,
+            format: in_format_at(alloc, &keys, table)?,
+            tracked: truth_at(&keys, table, "tracked"),
+            max_undelivered: number_at(&keys, table, "max_undelivered_messages", USUAL_UNDELIVERED),
+            filter: filter_of(alloc, table)?,
+        })
+    }
 }
 
 /// The outputs of plugins.

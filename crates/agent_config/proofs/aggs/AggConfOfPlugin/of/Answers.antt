@@ -1,6 +1,6 @@
 use Rattle.std.proofs.Common.{refl, rules, w64}
 use Rattle.std.proofs.lemmas.Int.{to_z-of_z}
-use Rattle.agent_config.proofs.aggs.agg_of.Goals as goal
+use Rattle.agent_config.proofs.aggs.AggConfOfPlugin.of.Goals as goal
 
 pub returns : goal.returns
 returns c =

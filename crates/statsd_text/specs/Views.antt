@@ -1,5 +1,5 @@
 -- What a reader of lines returned.
-use Rattle.std.specs.Prelude.{◌≡◌, ℕ, List, option_map, Result, Ok, Err, ◌⊎◌}
+use Rattle.std.specs.Prelude.{◌≡◌, ℕ, ℤ, List, map, option_map, Result, Ok, Err, ◌⊎◌}
 use Rattle.std.specs.Borrow.{Bor}
 use Rattle.text_parts.specs.Chain.{Fails}
 use Rattle.text_parts.specs.declared.error.ReadError.{ReadError}
@@ -12,7 +12,10 @@ use Rattle.statsd_text.specs.declared.fault.StatsdFault.{StatsdFault}
 use Rattle.statsd_text.specs.declared.fault.StatsdKind.TheVariants.{OutOfMemory}
 use Rattle.statsd_text.specs.declared.sections.Line.{Line}
 use Rattle.statsd_text.specs.declared.said.PartTexts.{PartTexts}
+use Rattle.statsd_text.specs.declared.read.LineSaid.{LineSaid}
+use Rattle.statsd_text.specs.Reading.{limited}
 use Rattle.statsd_text.specs.Sections.{Sections}
+use Rattle.statsd_text.specs.TagMap.{kept_content}
 use Rattle.statsd_text.specs.Said.{Texts}
 
 -- a part, as the code has it
@@ -48,3 +51,9 @@ abbrev pub Answers : {A : Type 0} → (A → List Content) → Result A StatsdFa
     → Result (List Content) StatsdFault → Type 0
 Answers listed (Ok metrics) reading = reading ≡ Ok (listed metrics)
 Answers listed (Err e) reading = (e ≡ record { kind = OutOfMemory; offset = 0 }) ⊎ (reading ≡ Err e)
+
+-- what a line says makes its metrics at each moment, unless they have too many tags
+abbrev pub Says : Result LineSaid (ReadError StatsdFault) → (ℤ → Result (List Content) StatsdFault) → Type 0
+Says (Ok line) reading =
+    (moment : ℤ) → reading moment ≡ limited (map (kept_content line.name line.tags.items moment) line.said)
+Says (Err e) reading = (moment : ℤ) → Fails e (reading moment)

@@ -1,12 +1,13 @@
 //! Reading a line.
-ghost use Rattle.std.specs.Prelude.{◌≡◌};
+ghost use Rattle.std.specs.Prelude.{◌≡◌, ◌<◌, length, IfOk};
 ghost use Rattle.text_parts.specs.Chain.{Gives};
 ghost use Rattle.statsd_text.specs.Reading.{is_blank, line_reading, text_reading, reading};
-ghost use Rattle.statsd_text.specs.Views.{Answers};
+ghost use Rattle.statsd_text.specs.TagMap.{IsKeyed};
+ghost use Rattle.statsd_text.specs.Views.{Answers, Says};
 
 use crate::fault::{NO_MEMORY, StatsdFault, StatsdKind, fault};
 use crate::metrics::metrics_of;
-use crate::said::read_parts;
+use crate::said::{Said, read_parts};
 use crate::sections::sections;
 use crate::tags::{read_head, read_later_tags, with_values};
 use fixed_num::{Moment, OutOfMemory, Seq};
@@ -14,6 +15,33 @@ use metric::{Metric, Text};
 use std::alloc::Global;
 use std::collections::BTreeMap;
 use text_parts::{ReadError, answer, utf8_text};
+
+/// What a line says, before a metric is made of each part.
+#[derive(Drop)]
+pub(crate) struct LineSaid {
+    /// The name, which isn't empty.
+    pub name: Text,
+    /// The tags that have a value, in the order of their keys, without the one of the type.
+    pub tags: Vec<(Text, Text)>,
+    /// What its parts say.
+    pub said: Seq<Said>,
+}
+
+/// What a line says.
+fn line_said(alloc: Global, piece: &str) -> Result<LineSaid, ReadError<StatsdFault>>
+    ensures says { Says result (line_reading piece.now) }
+    ensures named { IfOk result (λ line. 0 < length line.name) }
+    ensures keyed { IfOk result (λ line. IsKeyed line.tags.items) }
+{
+    let line = sections(piece)?;
+    let mut tags = BTreeMap::new(alloc);
+    let name = read_head(alloc, line.head, &mut tags)?;
+    read_later_tags(alloc, line.tags, &mut tags)?;
+    let said = read_parts(alloc, line.parts)?;
+    let tags = with_values(alloc, tags)?;
+    let name = Text::of(alloc, name)?;
+    Ok(LineSaid { name, tags, said })
+}
 
 /// The metrics of a line.
 fn line_metrics(
@@ -23,13 +51,8 @@ fn line_metrics(
 ) -> Result<Seq<Metric>, ReadError<StatsdFault>>
     ensures { Gives (λ metrics. metrics) result (line_reading piece.now moment) }
 {
-    let line = sections(piece)?;
-    let mut tags = BTreeMap::new(alloc);
-    let name = read_head(alloc, line.head, &mut tags)?;
-    read_later_tags(alloc, line.tags, &mut tags)?;
-    let said = read_parts(alloc, line.parts)?;
-    let tags = with_values(alloc, tags)?;
-    metrics_of(alloc, Text::of(alloc, name)?, tags.as_slice(), said, moment)
+    let LineSaid { name, tags, said } = line_said(alloc, piece)?;
+    metrics_of(alloc, name, tags.as_slice(), said, moment)
 }
 
 /// Whether a text has nothing but spaces.

@@ -3,6 +3,7 @@ pub mod PutTags
 pub mod Offsets
 pub mod Lacking
 pub mod Spells
+pub mod FewTags
 pub mod Founds
 pub mod Chains
 pub mod Telling

@@ -1,5 +1,5 @@
 -- What a reader of lines returned.
-use Rattle.std.specs.Prelude.{◌≡◌, ℕ, ℤ, List, map, option_map, Result, Ok, Err, ◌⊎◌}
+use Rattle.std.specs.Prelude.{◌≡◌, ◌<◌, ℕ, ℤ, List, length, map, option_map, Option, Some, None, Result, Ok, Err, ◌⊎◌}
 use Rattle.std.specs.Borrow.{Bor}
 use Rattle.text_parts.specs.Chain.{Fails}
 use Rattle.text_parts.specs.declared.error.ReadError.{ReadError}
@@ -15,7 +15,7 @@ use Rattle.statsd_text.specs.declared.said.PartTexts.{PartTexts}
 use Rattle.statsd_text.specs.declared.read.LineSaid.{LineSaid}
 use Rattle.statsd_text.specs.Reading.{limited}
 use Rattle.statsd_text.specs.Sections.{Sections}
-use Rattle.statsd_text.specs.TagMap.{kept_content}
+use Rattle.statsd_text.specs.TagMap.{kept_content, IsKeyed}
 use Rattle.statsd_text.specs.Said.{Texts}
 
 -- a part, as the code has it
@@ -57,3 +57,24 @@ abbrev pub Says : Result LineSaid (ReadError StatsdFault) → (ℤ → Result (L
 Says (Ok line) reading =
     (moment : ℤ) → reading moment ≡ limited (map (kept_content line.name line.tags.items moment) line.said)
 Says (Err e) reading = (moment : ℤ) → Fails e (reading moment)
+
+-- a name that isn't empty, and tags in the order of their keys
+pub record IsWholeLine (line : LineSaid) : Type 0 where
+  pub named : 0 < length line.name
+  pub keyed : IsKeyed line.tags.items
+
+-- the metrics of a line, one for each part
+abbrev pub metrics_said : LineSaid → ℤ → List Content
+metrics_said line moment = map (kept_content line.name line.tags.items moment) line.said
+
+-- what a line says makes its metrics; of one that isn't told nothing is said
+abbrev pub SaysIf : Result (Option LineSaid) (ReadError StatsdFault) → (ℤ → Result (List Content) StatsdFault) → Type 0
+SaysIf (Ok None) reading = Unit {0}
+SaysIf (Ok (Some line)) reading = (moment : ℤ) → reading moment ≡ Ok (metrics_said line moment)
+SaysIf (Err e) reading = (moment : ℤ) → Fails e (reading moment)
+
+abbrev pub AnswersSaid : Result (Option LineSaid) StatsdFault → (ℤ → Result (List Content) StatsdFault) → Type 0
+AnswersSaid (Ok None) reading = Unit {0}
+AnswersSaid (Ok (Some line)) reading = (moment : ℤ) → reading moment ≡ Ok (metrics_said line moment)
+AnswersSaid (Err e) reading =
+    (moment : ℤ) → (e ≡ record { kind = OutOfMemory; offset = 0 }) ⊎ (reading moment ≡ Err e)

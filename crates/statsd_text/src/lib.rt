@@ -11,4 +11,5 @@ mod tags;
 
 pub use fault::{StatsdFault, StatsdKind};
 pub use laws::{fault_is_within, fault_says, read_is_written, says_at_most, written_is_read};
-pub use read::read_line;
+pub use read::{LineSaid, read_line, read_said};
+pub use said::{FieldName, MetricType, Said};

@@ -14,7 +14,7 @@ use std::alloc::Global;
 use text_parts::ReadError;
 
 /// The most tags of a metric.
-const MOST_TAGS: usize = 64;
+pub(crate) const MOST_TAGS: usize = 64;
 
 /// Puts the tags of a line and what a part says into a builder that has none yet.
 #[inline(always)]

@@ -1,12 +1,12 @@
 //! Reading a line.
-ghost use Rattle.std.specs.Prelude.{◌≡◌, ◌<◌, length, IfOk};
+ghost use Rattle.std.specs.Prelude.{◌≡◌, ◌<◌, length, IfOk, IfSome};
 ghost use Rattle.text_parts.specs.Chain.{Gives};
 ghost use Rattle.statsd_text.specs.Reading.{is_blank, line_reading, text_reading, reading};
 ghost use Rattle.statsd_text.specs.TagMap.{IsKeyed};
-ghost use Rattle.statsd_text.specs.Views.{Answers, Says};
+ghost use Rattle.statsd_text.specs.Views.{Answers, AnswersSaid, IsWholeLine, Says, SaysIf};
 
 use crate::fault::{NO_MEMORY, StatsdFault, StatsdKind, fault};
-use crate::metrics::metrics_of;
+use crate::metrics::{MOST_TAGS, metrics_of};
 use crate::said::{Said, read_parts};
 use crate::sections::sections;
 use crate::tags::{read_head, read_later_tags, with_values};
@@ -17,8 +17,8 @@ use std::collections::BTreeMap;
 use text_parts::{ReadError, answer, utf8_text};
 
 /// What a line says, before a metric is made of each part.
-#[derive(Drop)]
-pub(crate) struct LineSaid {
+#[derive(Debug, Drop)]
+pub struct LineSaid {
     /// The name, which isn't empty.
     pub name: Text,
     /// The tags that have a value, in the order of their keys, without the one of the type.
@@ -89,6 +89,43 @@ fn read_piece(
         Ok(text) => read_text(alloc, text, moment),
         Err(offset) => Err(fault(StatsdKind::NotUtf8, offset)),
     }
+}
+
+/// What a text says, where it isn't blank and each metric of it has at most 64 tags.
+#[tactic(auto, unfolding(crate::specs::Reading::text_reading))]
+fn text_said(alloc: Global, piece: &str) -> Result<Option<LineSaid>, ReadError<StatsdFault>>
+    ensures says { SaysIf result (text_reading piece.now) }
+    ensures whole { IfOk result (λ line. IfSome line IsWholeLine) }
+{
+    if is_blank(piece) {
+        return Ok(None);
+    }
+    let line = line_said(alloc, piece)?;
+    if line.tags.len() < MOST_TAGS {
+        Ok(Some(line))
+    } else {
+        Ok(None)
+    }
+}
+
+/// What a piece says, likewise.
+fn piece_said(alloc: Global, piece: &[u8]) -> Result<Option<LineSaid>, ReadError<StatsdFault>>
+    ensures says { SaysIf result (reading piece.now) }
+    ensures whole { IfOk result (λ line. IfSome line IsWholeLine) }
+{
+    match utf8_text(piece) {
+        Ok(text) => text_said(alloc, text),
+        Err(offset) => Err(fault(StatsdKind::NotUtf8, offset)),
+    }
+}
+
+/// What a piece says that `read_line` reads: its metrics, at any moment, are those of its parts. None where it is blank,
+/// or has 64 tags or more: then `read_line` has to be asked. A fault is that of `read_line`.
+pub fn read_said(alloc: Global, piece: &[u8]) -> Result<Option<LineSaid>, StatsdFault>
+    ensures says { AnswersSaid result (reading piece.now) }
+    ensures whole { IfOk result (λ line. IfSome line IsWholeLine) }
+{
+    answer(piece_said(alloc, piece), NO_MEMORY)
 }
 
 /// Reads a piece without its newline as a StatsD line: a name with tags, then parts, each a value with its

@@ -17,7 +17,7 @@ use text_parts::{Placed, ReadError, Separated, first_part};
 
 /// The type of a metric.
 #[derive(Clone, Copy, Debug, PartialEq, Eq)]
-pub(crate) enum MetricType {
+pub enum MetricType {
     Counter,
     Gauge,
     Timing,
@@ -40,7 +40,7 @@ impl MetricType {
 
 /// The name of a metric's field.
 #[derive(Clone, Copy, Debug, PartialEq, Eq)]
-pub(crate) enum FieldName {
+pub enum FieldName {
     Value,
     Delta,
     Member,
@@ -61,7 +61,7 @@ impl FieldName {
 
 /// What a part says.
 #[derive(Debug, Drop)]
-pub(crate) struct Said {
+pub struct Said {
     /// The type.
     pub metric_type: MetricType,
     /// The name of the field.

@@ -1,5 +1,5 @@
 -- Lines of few tags, whose metrics have as many as they may.
-use Rattle.std.proofs.Common.{◌≡◌, ◌<◌, ◌≤◌, ◌+◌, ℕ, ℤ, true, false, cond, not, Bool, List, [], ◌∷◌, length, map, Ok}
+use Rattle.std.proofs.Common.{◌≡◌, ◌<◌, ◌≤◌, ◌+◌, ℕ, ℤ, true, false, cond, not, List, [], ◌∷◌, length, map, Ok}
 use Rattle.std.proofs.Common.{Err}
 use Rattle.std.proofs.Common.{refl, sym, ap, subst, ◌∙◌, arith, Some, None}
 use Rattle.std.specs.Prelude.{◌==◌, nat_lt, Option, Result}
@@ -12,7 +12,6 @@ use Rattle.std.specs.declared.cmp.Ordering.TheVariants.{Less, Equal, Greater}
 use Rattle.std.proofs.lemmas.Bool.{le-ltb}
 use Rattle.metric.specs.Draft.{Tag}
 use Rattle.metric.specs.Pairs.{beside, with_sorted, with_values}
-use Rattle.metric.specs.declared.metric.Content.{Content}
 use Rattle.metric.proofs.PairLemmas.{key_cmp}
 use Rattle.statsd_text.specs.declared.fault.StatsdFault.{StatsdFault}
 use Rattle.statsd_text.specs.declared.said.Said.{Said}
@@ -45,8 +44,13 @@ none_too_many name tags moment [] few = refl
 none_too_many name tags moment (one ∷ said) few =
     let all = with_sorted tags (type_tag one).0 (type_tag one).1 in
     let here : nat_lt 64 (length (with_values all)) ≡ false =
-    le-ltb 64 (length (with_values all)) (omega (arith, few, fewer all, one_more tags (type_tag one).0
-    (type_tag one).1)) in
+    le-ltb 64 (length (with_values all)) (omega (
+      arith,
+      few,
+      fewer all,
+      one_more tags (type_tag one).0
+          (type_tag one).1,
+    )) in
     rw here (none_too_many name tags moment said few)
 
 pub few_limited : (name : List ℕ) (tags : List Tag) (moment : ℤ) (said : List Said) → length tags < 64

@@ -145,7 +145,7 @@ impl Builder {
     {
         let _key = key.as_str();
         let _value = value.as_str();
-        put_texts(self.alloc, &mut self.content.tags, key, value)
+        insert_tag(self.alloc, &mut self.content.tags, key, value)
     }
 
     /// One more field: a key that was given before keeps its place and takes this value.
@@ -227,7 +227,7 @@ fn complete(alloc: Global, content: &mut Content, time: Moment) -> Result<(), Bu
     Ok(())
 }
 
-/// One more tag among tags sorted by key.
+/// The same as `insert_tag`, of texts that are copied.
 #[inline(always)]
 pub(crate) fn put_tag(
     alloc: Global,
@@ -239,12 +239,13 @@ pub(crate) fn put_tag(
     ensures ok { OnOk result (tags.new ≡ with_sorted tags.old key.now value.now) }
     ensures err { OnErr result (tags.new ≡ tags.old) }
 {
-    put_texts(alloc, tags, Text::of(alloc, key)?, Text::of(alloc, value)?)
+    insert_tag(alloc, tags, Text::of(alloc, key)?, Text::of(alloc, value)?)
 }
 
-/// The same, of texts that are there.
+/// One more tag among tags in the order of their keys: it stands at its place, and replaces one of the same key. After
+/// `OutOfMemory` the tags are as before.
 #[inline(always)]
-pub(crate) fn put_texts(
+pub fn insert_tag(
     alloc: Global,
     tags: &mut Seq<(Text, Text)>,
     key: Text,

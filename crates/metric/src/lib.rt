@@ -17,7 +17,7 @@ mod series;
 mod text;
 mod value;
 
-pub use builder::{BuildFault, Builder};
+pub use builder::{BuildFault, Builder, insert_tag};
 pub use draft::{Draft, DraftFault};
 pub use glob::{Element, Glob, GlobFault, tests_matches};
 pub use laws::{first_order, growth, key_order};

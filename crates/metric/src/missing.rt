@@ -4,7 +4,7 @@ ghost use Rattle.std.specs.List.{AllByRecursion, list_all};
 ghost use Rattle.metric.specs.Metric.{is_filled, IsFilled, IsFilledTag, IsTag};
 ghost use Rattle.metric.specs.Pairs.{has_key, with_missing, with_all_missing, IsInKeyOrder};
 
-use crate::builder::put_texts;
+use crate::builder::insert_tag;
 use crate::{Text, Value};
 use fixed_num::{OutOfMemory, Seq};
 use std::alloc::Global;
@@ -56,7 +56,7 @@ fn add_one(
     if has_key(tags.as_slice(), key.as_str()) {
         return Ok(());
     }
-    put_texts(alloc, tags, key.copy()?, value.copy()?)?;
+    insert_tag(alloc, tags, key.copy()?, value.copy()?)?;
     Ok(())
 }
 

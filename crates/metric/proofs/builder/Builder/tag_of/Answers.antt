@@ -7,4 +7,4 @@ pub invariant_of-self : goal.invariant_of-self
 invariant_of-self c =
     let key = subst IsUtf8 c.as_str-key.ensures c.as_str-key.utf8 in
     let value = subst IsUtf8 c.as_str-value.ensures c.as_str-value.utf8 in
-    built_tags _ _ _ _ _ key value c.self.invariant c.put_texts.ensures.ok c.put_texts.ensures.err
+    built_tags _ _ _ _ _ key value c.self.invariant c.insert_tag.ensures.ok c.insert_tag.ensures.err

@@ -2,12 +2,13 @@
 use Rattle.std.proofs.Common.{◌≡◌, ℕ, ◌<◌, Bool, true, false, cond, not, List, [], ◌∷◌, ◌++◌, length, refl, sym, ap}
 use Rattle.std.proofs.Common.{subst, ◌∙◌, arith}
 use Rattle.std.specs.Prelude.{◌==◌, ◌||◌}
+use Rattle.std.specs.List.{AllByRecursion}
 use Rattle.std.specs.List.Sorted.{IsStrictlySortedBy}
 use Rattle.std.specs.BTreeMap.{insert_entry}
 use Rattle.std.specs.declared.cmp.Ordering.{Ordering}
 use Rattle.std.specs.declared.cmp.Ordering.TheVariants.{Less, Equal, Greater}
 use Rattle.std.specs.Ordering.{is_eq, ordering_reverse}
-use Rattle.std.proofs.lemmas.Bool.{ne_eqb}
+use Rattle.std.proofs.lemmas.Bool.{eqb-false, ne_eqb}
 use Rattle.std.proofs.lemmas.Cmp.{nat_list_cmp_total}
 use Rattle.std.proofs.lemmas.Map.Text.{is_eq-slice_cmp}
 use Rattle.std.proofs.lemmas.Slice.Eq.{bytes_eq-Decides}
@@ -15,10 +16,10 @@ use Rattle.metric.specs.Draft.{Tag}
 use Rattle.metric.specs.Pairs.{with_sorted, beside, with_values, has_empty_key, in_key_order, in_key_order_on}
 use Rattle.metric.specs.Pairs.{IsInKeyOrder}
 use Rattle.metric.proofs.PairLemmas.{AllKeys, key_cmp, with_sorted-ordered}
-use Rattle.metric.proofs.MetricLemmas.{sorted_tags}
+use Rattle.metric.proofs.MetricLemmas.{each_sorted, sorted_tags}
 use Rattle.metric.proofs.DraftLemmas.{in_key_order_push, keyed_sorted}
 use Rattle.metric.proofs.KeptPairs.{sorted_stay}
-use Rattle.statsd_text.specs.TagMap.{IsKeyed}
+use Rattle.statsd_text.specs.TagMap.{HasValue, IsKeyed}
 
 same_key : (a b : List ℕ) → key_cmp a b ≡ Equal → a ≡ b
 same_key a b e = (bytes_eq-Decides a b).0 (sym (is_eq-slice_cmp a b) ∙ ap is_eq e)
@@ -67,6 +68,28 @@ filled_values (tag ∷ tags) h =
 
 pub keyed_values : (tags : List Tag) → IsKeyed tags → IsKeyed (with_values tags)
 keyed_values tags h = record { sorted = sorted_tags tags h.sorted; filled = filled_values tags h.filled }
+
+-- ---- tags that have a value
+
+pub values_have : (tags : List Tag) → AllByRecursion HasValue (with_values tags)
+values_have [] = tt
+values_have (tag ∷ tags) =
+    elim (length tag.1 == 0) as (λ t. (length tag.1 == 0) ≡ t
+    → AllByRecursion HasValue (cond (not t) (tag ∷ with_values tags) (with_values tags))) [
+      | true ↦ λ e. values_have tags
+      | false ↦ λ e. (let some = eqb-false (length tag.1) 0 e in omega arith, values_have tags)
+    ] refl
+
+valued_stay : (tags : List Tag) → AllByRecursion HasValue tags → with_values tags ≡ tags
+valued_stay [] h = refl
+valued_stay (tag ∷ tags) h =
+    let some : (length tag.1 == 0) ≡ false = ne_eqb _ _ (λ e. absurd (let here = h.0 in omega arith)) in
+    rw some (ap (λ (ts : List Tag). tag ∷ ts) (valued_stay tags h.1))
+
+pub more_stay : (tags : List Tag) (key value : List ℕ) → AllByRecursion HasValue tags → 0 < length value
+    → with_sorted tags key value ≡ with_values (with_sorted tags key value)
+more_stay tags key value h some =
+    sym (valued_stay (with_sorted tags key value) (each_sorted HasValue tags key value some h))
 
 -- ---- one more tag among those that have a value
 

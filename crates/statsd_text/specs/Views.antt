@@ -1,6 +1,7 @@
 -- What a reader of lines returned.
 use Rattle.std.specs.Prelude.{◌≡◌, ◌<◌, ℕ, ℤ, List, length, map, option_map, Option, Some, None, Result, Ok, Err, ◌⊎◌}
 use Rattle.std.specs.Borrow.{Bor}
+use Rattle.std.specs.List.{AllByRecursion}
 use Rattle.text_parts.specs.Chain.{Fails}
 use Rattle.text_parts.specs.declared.error.ReadError.{ReadError}
 use Rattle.text_parts.specs.declared.split.Placed.{Placed}
@@ -15,7 +16,7 @@ use Rattle.statsd_text.specs.declared.said.PartTexts.{PartTexts}
 use Rattle.statsd_text.specs.declared.read.LineSaid.{LineSaid}
 use Rattle.statsd_text.specs.Reading.{limited}
 use Rattle.statsd_text.specs.Sections.{Sections}
-use Rattle.statsd_text.specs.TagMap.{kept_content, IsKeyed}
+use Rattle.statsd_text.specs.TagMap.{kept_content, HasValue, IsKeyed}
 use Rattle.statsd_text.specs.Said.{Texts}
 
 -- a part, as the code has it
@@ -58,10 +59,11 @@ Says (Ok line) reading =
     (moment : ℤ) → reading moment ≡ limited (map (kept_content line.name line.tags.items moment) line.said)
 Says (Err e) reading = (moment : ℤ) → Fails e (reading moment)
 
--- a name that isn't empty, and tags in the order of their keys
+-- a name that isn't empty, and tags in the order of their keys, which have values
 pub record IsWholeLine (line : LineSaid) : Type 0 where
   pub named : 0 < length line.name
   pub keyed : IsKeyed line.tags.items
+  pub valued : AllByRecursion HasValue line.tags.items
 
 -- the metrics of a line, one for each part
 abbrev pub metrics_said : LineSaid → ℤ → List Content

@@ -11,5 +11,6 @@ mod tags;
 
 pub use fault::{StatsdFault, StatsdKind};
 pub use laws::{fault_is_within, fault_says, read_is_written, says_at_most, written_is_read};
+pub use metrics::part_tags;
 pub use read::{LineSaid, read_line, read_said};
 pub use said::{FieldName, MetricType, Said};

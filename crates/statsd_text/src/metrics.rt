@@ -1,20 +1,38 @@
 //! The metrics of a line.
 ghost use Rattle.std.specs.Prelude.{◌≡◌, ◌<◌, [], ◌∷◌, length, map, IfOk, OnOk};
 ghost use Rattle.text_parts.specs.Chain.{Gives};
-ghost use Rattle.metric.specs.Pairs.{with_sorted};
+ghost use Rattle.std.specs.List.{AllByRecursion};
+ghost use Rattle.metric.specs.Pairs.{with_sorted, IsInKeyOrder};
 ghost use Rattle.statsd_text.specs.Reading.{limited, type_tag};
 ghost use Rattle.statsd_text.specs.Said.{field_name};
-ghost use Rattle.statsd_text.specs.TagMap.{IsKeyed, kept_content};
+ghost use Rattle.statsd_text.specs.TagMap.{part_tags, HasValue, IsKeyed, kept_content};
 
 use crate::fault::{StatsdFault, StatsdKind, fault};
-use crate::said::Said;
+use crate::said::{MetricType, Said};
 use fixed_num::{Moment, OutOfMemory, Seq};
-use metric::{Builder, Metric, Text};
+use metric::{Builder, Metric, Text, insert_tag, tag_copies};
 use std::alloc::Global;
 use text_parts::ReadError;
 
 /// The most tags of a metric.
 pub(crate) const MOST_TAGS: usize = 64;
+
+/// The tags of the metric of a part with this type: those of its line and, over them, that of the type, in the order of
+/// their keys.
+pub fn part_tags(
+    alloc: Global,
+    tags: &[(Text, Text)],
+    metric_type: MetricType,
+) -> Result<Seq<(Text, Text)>, OutOfMemory>
+    requires sorted { IsInKeyOrder tags.now }
+    requires valued { AllByRecursion HasValue tags.now }
+    ensures { IfOk result (λ all. all ≡ part_tags tags.now metric_type) }
+{
+    let mut all = tag_copies(alloc, tags, 1)?;
+    let key = Text::of(alloc, "metric_type")?;
+    insert_tag(alloc, &mut all, key, Text::of(alloc, metric_type.name())?)?;
+    Ok(all)
+}
 
 /// Puts the tags of a line and what a part says into a builder that has none yet.
 #[inline(always)]

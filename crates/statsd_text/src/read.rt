@@ -1,8 +1,9 @@
 //! Reading a line.
 ghost use Rattle.std.specs.Prelude.{◌≡◌, ◌<◌, length, IfOk, IfSome};
+ghost use Rattle.std.specs.List.{AllByRecursion};
 ghost use Rattle.text_parts.specs.Chain.{Gives};
 ghost use Rattle.statsd_text.specs.Reading.{is_blank, line_reading, text_reading, reading};
-ghost use Rattle.statsd_text.specs.TagMap.{IsKeyed};
+ghost use Rattle.statsd_text.specs.TagMap.{HasValue, IsKeyed};
 ghost use Rattle.statsd_text.specs.Views.{Answers, AnswersSaid, IsWholeLine, Says, SaysIf};
 
 use crate::fault::{NO_MEMORY, StatsdFault, StatsdKind, fault};
@@ -32,6 +33,7 @@ fn line_said(alloc: Global, piece: &str) -> Result<LineSaid, ReadError<StatsdFau
     ensures says { Says result (line_reading piece.now) }
     ensures named { IfOk result (λ line. 0 < length line.name) }
     ensures keyed { IfOk result (λ line. IsKeyed line.tags.items) }
+    ensures valued { IfOk result (λ line. AllByRecursion HasValue line.tags.items) }
 {
     let line = sections(piece)?;
     let mut tags = BTreeMap::new(alloc);

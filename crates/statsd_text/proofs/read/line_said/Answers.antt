@@ -2,7 +2,7 @@ use Rattle.std.proofs.Common.{sym}
 use Rattle.std.proofs.lemmas.Result.{err_from_is_err_and}
 use Rattle.statsd_text.specs.Views.{sections_view}
 use Rattle.statsd_text.proofs.Chains.{sections_fail, head_fails, later_fails, said_fails, metrics_are}
-use Rattle.statsd_text.proofs.KeptTags.{keyed_values}
+use Rattle.statsd_text.proofs.KeptTags.{keyed_values, values_have}
 use Rattle.statsd_text.proofs.read.line_said.Goals as goal
 
 pub returns-in_err-line-clause-says : goal.returns-in_err-line-clause-says
@@ -47,4 +47,5 @@ returns c =
       named = rw c.in_ok-name-2.ensures c.in_ok-name.ensures.named;
       keyed = rw c.in_ok-tags.ensures (keyed_values c.read_later_tags.new.tags.entries
           c.in_ok-read_later_tags.ensures.keyed);
+      valued = rw c.in_ok-tags.ensures (values_have c.read_later_tags.new.tags.entries);
     }

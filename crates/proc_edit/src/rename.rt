@@ -8,7 +8,7 @@ ghost use Rattle.std.specs.Str.{bytes_eq};
 ghost use Rattle.std.specs.List.{list_all};
 
 use fixed_num::{OutOfMemory, Seq};
-use metric::{Content, Metric, Part, Text, Value};
+use metric::{Content, Metric, Part, Text, Value, tag_copies};
 use std::alloc::Global;
 use std::marker::Model;
 
@@ -142,7 +142,7 @@ fn rename_field(alloc: Global, from: &str, dest: &str, m: &mut Metric) -> Result
     m.shows_metric();
     let content = Content {
         name: m.name().copy()?,
-        tags: tag_copies(alloc, m.tags())?,
+        tags: tag_copies(alloc, m.tags(), 0)?,
         fields: renamed_fields(alloc, from, dest, m.fields())?,
         time: m.time(),
     };
@@ -155,17 +155,6 @@ fn has_key(fields: &[(Text, Value)], key: &str) -> bool
     ensures { result ≡ has_key fields.now key.now }
 {
     fields.iter().any(|field| field.0.as_str() == key)
-}
-
-/// The same tags.
-fn tag_copies(alloc: Global, tags: &[(Text, Text)]) -> Result<Seq<(Text, Text)>, OutOfMemory>
-    ensures { IfOk result (λ copies. copies ≡ tags.now) }
-{
-    let mut copies = Seq::with_room(alloc, tags.len())?;
-    for tag in tags {
-        copies.push(alloc, (tag.0.copy()?, tag.1.copy()?))?;
-    }
-    Ok(copies)
 }
 
 /// The fields but the one that has the new key, with the new key in place of the old one.

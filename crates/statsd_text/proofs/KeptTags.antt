@@ -1,6 +1,6 @@
 -- Tags that are put in the order of their keys, and those of them that have a value.
-use Rattle.std.proofs.Common.{◌≡◌, ℕ, ◌<◌, Bool, true, false, cond, not, List, [], ◌∷◌, ◌++◌, length, refl, sym, ap}
-use Rattle.std.proofs.Common.{subst, ◌∙◌, arith}
+use Rattle.std.proofs.Common.{◌≡◌, ℕ, ◌<◌, Bool, true, false, cond, not, List, [], ◌∷◌, ◌++◌, length, refl, sym, ap, ◌+◌}
+use Rattle.std.proofs.Common.{subst, ◌∙◌, arith, get_or, take}
 use Rattle.std.specs.Prelude.{◌==◌, ◌||◌}
 use Rattle.std.specs.List.{AllByRecursion}
 use Rattle.std.specs.List.Sorted.{IsStrictlySortedBy}
@@ -9,6 +9,7 @@ use Rattle.std.specs.declared.cmp.Ordering.{Ordering}
 use Rattle.std.specs.declared.cmp.Ordering.TheVariants.{Less, Equal, Greater}
 use Rattle.std.specs.Ordering.{is_eq, ordering_reverse}
 use Rattle.std.proofs.lemmas.Bool.{eqb-false, ne_eqb}
+use Rattle.std.proofs.lemmas.List.{take_more}
 use Rattle.std.proofs.lemmas.Cmp.{nat_list_cmp_total}
 use Rattle.std.proofs.lemmas.Map.Text.{is_eq-slice_cmp}
 use Rattle.std.proofs.lemmas.Slice.Eq.{bytes_eq-Decides}
@@ -80,7 +81,7 @@ values_have (tag ∷ tags) =
       | false ↦ λ e. (let some = eqb-false (length tag.1) 0 e in omega arith, values_have tags)
     ] refl
 
-valued_stay : (tags : List Tag) → AllByRecursion HasValue tags → with_values tags ≡ tags
+pub valued_stay : (tags : List Tag) → AllByRecursion HasValue tags → with_values tags ≡ tags
 valued_stay [] h = refl
 valued_stay (tag ∷ tags) h =
     let some : (length tag.1 == 0) ≡ false = ne_eqb _ _ (λ e. absurd (let here = h.0 in omega arith)) in
@@ -168,6 +169,15 @@ kept_tag given key value h = kept_one (in_key_order given) key value h
 -- tags put one after the other into no tags are in their order
 pub put_in_order : (tags : List Tag) → IsInKeyOrder tags → in_key_order tags ≡ tags
 put_in_order tags h = sorted_stay tags h
+
+-- one more tag of a list
+pub put_one : (tags old : List Tag) (i : ℕ) (item : Tag) → i < length tags → item ≡ get_or tags i item
+    → old ≡ in_key_order (take i tags)
+    → with_sorted old item.0 item.1 ≡ in_key_order (take (i + 1) tags)
+put_one tags old i item lt is so_far =
+    let more : take (i + 1) tags ≡ take i tags ++ item ∷ [] =
+    take_more tags i item lt ∙ ap (λ (t : Tag). take i tags ++ t ∷ []) (sym is) in
+    rw (so_far, more) (sym (in_key_order_push [] (take i tags) item))
 
 -- ---- lists of tags one behind the other
 

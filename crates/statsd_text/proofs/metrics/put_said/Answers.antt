@@ -1,28 +1,17 @@
-use Rattle.std.proofs.Common.{◌≡◌, ◌<◌, ◌≤◌, ◌+◌, ◌++◌, ◌∷◌, [], List, ℕ, length, take, get_or, take_all, refl, sym, ap}
+use Rattle.std.proofs.Common.{◌≡◌, ◌≤◌, ◌∷◌, [], List, ℕ, length, take, take_all, refl, ap}
 use Rattle.std.proofs.Common.{◌∙◌}
-use Rattle.std.proofs.lemmas.List.{take_more}
 use Rattle.std.specs.Prelude.{codes}
 use Rattle.metric.specs.Building.{Parts}
 use Rattle.metric.specs.Draft.{Tag}
 use Rattle.metric.specs.Pairs.{in_key_order, in_key_order_on, with_sorted, with_pair}
 use Rattle.metric.specs.declared.value.Value.{Value}
-use Rattle.metric.proofs.DraftLemmas.{in_key_order_push}
 use Rattle.statsd_text.specs.TagMap.{IsKeyed}
-use Rattle.statsd_text.proofs.KeptTags.{put_in_order}
+use Rattle.statsd_text.proofs.KeptTags.{put_in_order, put_one}
 use Rattle.statsd_text.proofs.metrics.put_said.Goals as goal
 
 pub loop-key-init : goal.loop-key-init
 unfolding in_key_order_on
 loop-key-init c = record { name = refl; tags = c.requires.tags; fields = c.requires.fields }
-
--- one more tag of a list
-put_one : (tags old : List Tag) (i : ℕ) (item : Tag) → i < length tags → item ≡ get_or tags i item
-    → old ≡ in_key_order (take i tags)
-    → with_sorted old item.0 item.1 ≡ in_key_order (take (i + 1) tags)
-put_one tags old i item lt is so_far =
-    let more : take (i + 1) tags ≡ take i tags ++ item ∷ [] =
-    take_more tags i item lt ∙ ap (λ (t : Tag). take i tags ++ t ∷ []) (sym is) in
-    rw (so_far, more) (sym (in_key_order_push [] (take i tags) item))
 
 pub loop-key-preserved : goal.loop-key-preserved
 loop-key-preserved c =

@@ -233,11 +233,11 @@ none_first (m ∷ now) series =
     ]
 
 map_cond : (t : Bool) (order : List First) (first : First) (part : Content) (series : List Series)
-    → map first_series order ≡ series → first.metric ≡ part
+    → map first_series order ≡ series → first.series ≡ series_of part
     → map first_series (cond t (order ++ first ∷ []) order) ≡ cond t (series ++ series_of part ∷ []) series
 map_cond true order first part series e is =
     map-append first_series order (first ∷ []) ∙ ap (λ (list : List Series). list ++ first_series first ∷ []) e
-    ∙ ap (λ (m : Content). series ++ series_of m ∷ []) is
+    ∙ ap (λ (s : Series). series ++ s ∷ []) is
 map_cond false order first part series e is = e
 
 turned_not : {X : Type 0} (t : Bool) (a b : X) → cond (not t) a b ≡ cond t b a
@@ -246,7 +246,7 @@ turned_not false a b = refl
 
 pub ordered_more : (past now : List Content) (part : Content) (old : Memory) (order : List First) (first : First)
     (is_first : Bool) → Keeps past now old → is_first ≡ (length (changes_of (series_of part) now) == 0)
-    → first.metric ≡ part → order ≡ cond is_first (old.order ++ first ∷ []) old.order
+    → first.series ≡ series_of part → order ≡ cond is_first (old.order ++ first ∷ []) old.order
     → map first_series order ≡ series_in (now ++ part ∷ [])
 ordered_more past now part old order first is_first h is same put =
     let s = series_of part in
@@ -333,7 +333,7 @@ pub record Counts (part : Content) (old new : Memory) : Type 0 where
   pub is_first : Bool
   pub change_is : change ≡ change_of part
   pub member_is : member ≡ member_named (series_of part) (change_of part)
-  pub metric_is : first.metric ≡ part
+  pub series_is : first.series ≡ series_of part
   pub place_is : place_by marked_cmp old.sums (series_of part) ≡ Some first.sum
   pub summary_is : summary ≡ summary_held old.sums (series_of part)
   pub amount_is : amount ≡ amount_of change
@@ -362,12 +362,12 @@ counted_more past now part old new h few k =
       members = members_more past now part old new.members h
           (λ m. k.members m ∙ ap (λ (named : Option Member). is_it named m || is_named old.members m) k.member_is);
       ordered = ordered_more past now part old new.order k.first k.is_first h
-          (k.first_is ∙ ap (λ (x : Summary). x.count == 0) old_is) k.metric_is k.order;
+          (k.first_is ∙ ap (λ (x : Summary). x.count == 0) old_is) k.series_is k.order;
       placed = subst (AllByRecursion (HasPlace new.sums)) (sym k.order)
           (placed_more new.sums old.order k.first k.is_first
           (places_same old.sums new.sums old.order k.places h.placed)
           (place_same marked_cmp old.sums new.sums k.places (first_series k.first)
-          ∙ ap (λ (m : Content). place_by marked_cmp old.sums (series_of m)) k.metric_is ∙ k.place_is));
+          ∙ ap (place_by marked_cmp old.sums) k.series_is ∙ k.place_is));
       counted = k.counted ∙ ap (λ (n : ℕ). n + 1) h.counted ∙ sym (length-append now (part ∷ []));
     }
 
@@ -401,8 +401,8 @@ pub placed_stays : (old new : Memory) → PlacesStay marked_cmp old.sums new.sum
     → PlacesStay marked_cmp old.levels new.levels → PlacesStay member_cmp old.members new.members → (other : Placed)
     → IsPlaced old other → IsPlaced new other
 placed_stays old new sums levels members other is =
-    let s = series_of other.part in
-    let c = change_of other.part in
+    let s = other.part.series in
+    let c = other.part.change in
     record {
       sum = sums s other.sum is.sum;
       level = level_place_stays old.levels new.levels levels s c other.level is.level;

@@ -9,6 +9,7 @@ pub mod NextLemmas
 pub mod OutgoingLemmas
 pub mod ServedLemmas
 pub mod ServerLemmas
+pub mod SoundLemmas
 pub mod StandingLemmas
 pub mod StepLemmas
 pub mod TableLemmas

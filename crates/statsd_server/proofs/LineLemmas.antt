@@ -1,11 +1,13 @@
 -- The lines of a packet that are left at a byte, where a line has begun at another.
-use Rattle.std.proofs.Common.{◌≡◌, ◌<◌, ◌≤◌, ◌+◌, ◌-◌, ◌==◌, ℕ, true, false, cond, List, [], ◌∷◌, ◌++◌, length}
+use Rattle.std.proofs.Common.{◌≡◌, ◌<◌, ◌≤◌, ◌+◌, ◌-◌, ◌==◌, ℕ, true, false, cond, List, [], ◌∷◌, ◌++◌, length, map}
 use Rattle.std.proofs.Common.{take, drop, get_or, refl, sym, ap, ◌∙◌, arith, append_assoc, length-drop}
 use Rattle.std.specs.Prelude.{is_err}
 use Rattle.std.proofs.lemmas.Bool.{eq-eqb, ne_eqb}
 use Rattle.std.proofs.lemmas.List.{at_drop_all, at_drop_more, get_or-drop, take_all, take_more}
 use Rattle.std.proofs.lemmas.List.Sums.{sum_by-append}
-use Rattle.metric.specs.declared.metric.Content.{Content}
+use Rattle.std.proofs.lemmas.List.{map-append}
+use Rattle.statsd_server.specs.declared.part.Part.{Part}
+use Rattle.statsd_server.specs.Kept.{said_by}
 use Rattle.statsd_server.specs.Packets.{line_read, lines_from, parts_of_lines, parts_read, refused_lines, rest_lines}
 use Rattle.statsd_server.specs.Packets.{without_return}
 
@@ -54,14 +56,20 @@ line_rests packet start i past within =
 
 -- ---- what is read
 
-pub parts_step : (old new : List Content) (line is : List ℕ) (lines rest : List (List ℕ)) (all : List Content)
-    → new ≡ old ++ parts_read (line_read line) → line ≡ is → lines ≡ is ∷ rest → old ++ parts_of_lines lines ≡ all
-    → new ++ parts_of_lines rest ≡ all
+-- what the parts of lines say
+abbrev pub said_of_lines : List (List ℕ) → List Part
+said_of_lines lines = map said_by (parts_of_lines lines)
+
+pub parts_step : (old new : List Part) (line is : List ℕ) (lines rest : List (List ℕ)) (all : List Part)
+    → new ≡ old ++ map said_by (parts_read (line_read line)) → line ≡ is → lines ≡ is ∷ rest
+    → old ++ said_of_lines lines ≡ all → new ++ said_of_lines rest ≡ all
 parts_step old new line is lines rest all read e step before =
-    ap (λ (parts : List Content). parts ++ parts_of_lines rest) read
-    ∙ append_assoc old (parts_read (line_read line)) (parts_of_lines rest)
-    ∙ ap (λ (text : List ℕ). old ++ (parts_read (line_read text) ++ parts_of_lines rest)) e
-    ∙ ap (λ (list : List (List ℕ)). old ++ parts_of_lines list) (sym step) ∙ before
+    ap (λ (parts : List Part). parts ++ said_of_lines rest) read
+    ∙ append_assoc old (map said_by (parts_read (line_read line))) (said_of_lines rest)
+    ∙ ap (λ (text : List ℕ). old ++ (map said_by (parts_read (line_read text)) ++ said_of_lines rest)) e
+    ∙ ap (λ (list : List Part). old ++ list)
+    (sym (map-append said_by (parts_read (line_read is)) (parts_of_lines rest)))
+    ∙ ap (λ (list : List (List ℕ)). old ++ said_of_lines list) (sym step) ∙ before
 
 pub refused_step : (old new : ℕ) (line is : List ℕ) (lines rest : List (List ℕ)) (all : ℕ)
     → new ≡ old + cond (is_err (line_read line)) 1 0 → line ≡ is → lines ≡ is ∷ rest → old + refused_lines lines ≡ all

@@ -146,7 +146,7 @@ level_front levels s level q =
 -- first parts with the places of their series
 placed_in : Sums → First → First
 placed_in sums first = record {
-  metric = first.metric;
+  series = first.series;
   sum = unwrap_or (place_by marked_cmp sums (first_series first)) 0;
 }
 
@@ -184,7 +184,7 @@ summed memory part = with_value memory.sums (series_of part) (sum_with memory pa
 
 firsts_with : Memory → Content → List First
 firsts_with memory part = cond ((summary_held memory.sums (series_of part)).count == 0)
-    (memory.order ++ record { metric = part; sum = 0 } ∷ []) memory.order
+    (memory.order ++ record { series = series_of part; sum = 0 } ∷ []) memory.order
 
 counting : Memory → Content → Memory
 counting memory part = record {
@@ -214,7 +214,7 @@ firsts_have memory part h =
     )
 
     more : (order : List First) → AllByRecursion (HasPlace memory.sums) order
-        → AllByRecursion (HasSome (summed memory part)) (order ++ record { metric = part; sum = 0 } ∷ [])
+        → AllByRecursion (HasSome (summed memory part)) (order ++ record { series = series_of part; sum = 0 } ∷ [])
     more [] h = (
       own_place series_eq marked_cmp series_same marked_ties memory.sums (series_of part)
           (sum_with memory part),
@@ -227,7 +227,7 @@ firsts_have memory part h =
     )
 
     by_cases : (t : Bool) → AllByRecursion (HasSome (summed memory part))
-        (cond t (memory.order ++ record { metric = part; sum = 0 } ∷ []) memory.order)
+        (cond t (memory.order ++ record { series = series_of part; sum = 0 } ∷ []) memory.order)
     by_cases true = more memory.order h
     by_cases false = kept memory.order h
 
@@ -249,7 +249,7 @@ counting_keeps past now memory part h =
       members = members_more past now part memory (counting memory part).members h
           (named_with (member_named s c) memory.members);
       ordered = placed_series (summed memory part) (firsts_with memory part)
-          ∙ ordered_more past now part memory (firsts_with memory part) (record { metric = part; sum = 0 }) _ h
+          ∙ ordered_more past now part memory (firsts_with memory part) (record { series = series_of part; sum = 0 }) _ h
           (ap (λ (x : Summary). x.count == 0) old_is) refl refl;
       placed = all_placed (summed memory part) (firsts_with memory part) (firsts_have memory part h.placed);
       counted = ap (λ (n : ℕ). n + 1) h.counted ∙ sym (length-append now (part ∷ []));

@@ -9,6 +9,7 @@ use Rattle.metric.specs.declared.metric.Content.{Content}
 use Rattle.agg_keep.specs.Spot.{series_of}
 use Rattle.statsd_server.specs.declared.change.Change.{Change}
 use Rattle.statsd_server.specs.declared.change.Change.TheVariants.{Sets, Moves}
+use Rattle.statsd_server.specs.declared.part.Part.{Part}
 use Rattle.statsd_server.specs.declared.placed.First.{First}
 use Rattle.statsd_server.specs.declared.placed.Placed.{Placed}
 use Rattle.statsd_server.specs.declared.summary.Summary.{Summary}
@@ -76,7 +77,7 @@ summary_if (change ∷ changes) = Some (summary_of (change ∷ changes))
 
 -- the series of a first part
 abbrev pub first_series : First → Series
-first_series first = series_of first.metric
+first_series first = first.series
 
 -- what is counted of its series has its place
 abbrev pub HasPlace : Sums → First → Type 0
@@ -107,15 +108,19 @@ MemberPlace members None (Some at) = ⊥
 MemberPlace members (Some member) None = ⊥
 MemberPlace members (Some member) (Some at) = place_by member_cmp members member ≡ Some at
 
+-- what is taken of a part: its series, and what it says of it
+abbrev pub said_by : Content → Part
+said_by part = record { series = series_of part; change = change_of part }
+
 -- the part that was given its places
-abbrev pub part_of : Placed → Content
+abbrev pub part_of : Placed → Part
 part_of placed = placed.part
 
 -- a part has its places
 pub record IsPlaced (memory : Memory) (placed : Placed) : Type 0 where
-  pub sum : place_by marked_cmp memory.sums (series_of placed.part) ≡ Some placed.sum
-  pub level : LevelPlace memory.levels (series_of placed.part) (change_of placed.part) placed.level
-  pub member : MemberPlace memory.members (member_named (series_of placed.part) (change_of placed.part)) placed.member
+  pub sum : place_by marked_cmp memory.sums placed.part.series ≡ Some placed.sum
+  pub level : LevelPlace memory.levels placed.part.series placed.part.change placed.level
+  pub member : MemberPlace memory.members (member_named placed.part.series placed.part.change) placed.member
 
 -- it is kept as before, and each place stays
 pub record HasStayed (old new : Memory) : Type 0 where

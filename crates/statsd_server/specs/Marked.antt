@@ -1,6 +1,6 @@
 -- Series with a number by which most of them are told apart.
-use Rattle.std.specs.Prelude.{ℕ, ◌≡◌, ◌&&◌, ◌*◌, ◌+◌, ◌^◌, ◌%◌, Bool, true, false, List}
-use Rattle.std.specs.List.{fold}
+use Rattle.std.specs.Prelude.{ℕ, ◌≡◌, ◌<◌, ◌&&◌, ◌*◌, ◌+◌, ◌^◌, ◌%◌, Bool, true, false, List, length}
+use Rattle.std.specs.List.{fold, AllByRecursion}
 use Rattle.std.proofs.Common.{ap, refl, subst, sym, ◌∙◌}
 use Rattle.std.specs.Cmp.{IsTotalOrder, both_tied, nat_cmp_total, on_total, then_total, tied_itself}
 use Rattle.std.specs.Ordering.{is_eq, nat_cmp, ordering_then}
@@ -8,6 +8,7 @@ use Rattle.std.specs.declared.cmp.Ordering.{Ordering}
 use Rattle.metric.specs.Draft.{Tag}
 use Rattle.metric.specs.Series.{series_cmp, series_eq, series_ties, series_total, Series}
 use Rattle.agg_keep.specs.Spot.{series_same}
+use Rattle.statsd_text.specs.TagMap.{HasValue, IsKeyed}
 
 -- a number, with a byte more
 unfoldable pub mixed : ℕ → ℕ → ℕ
@@ -21,9 +22,19 @@ text_mark mark text = fold mixed mark text
 abbrev pub tag_mark : ℕ → Tag → ℕ
 tag_mark mark tag = text_mark mark tag.1
 
+-- with the values of tags more
+abbrev pub tags_mark : ℕ → List Tag → ℕ
+tags_mark mark tags = fold tag_mark mark tags
+
 -- that of a series: of its name and the values of its tags
 abbrev pub mark_of : Series → ℕ
-mark_of s = fold tag_mark (text_mark 0 s.0) s.1
+mark_of s = tags_mark (text_mark 0 s.0) s.1
+
+-- its name is filled, its tags are in the order of their keys, and they and their keys are filled
+pub record IsSound (s : Series) : Type 0 where
+  pub named : 0 < length s.0
+  pub keyed : IsKeyed s.1
+  pub valued : AllByRecursion HasValue s.1
 
 -- series are ordered by their numbers, and those of one number by themselves
 abbrev pub marked_cmp : Series → Series → Ordering

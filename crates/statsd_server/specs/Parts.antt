@@ -12,6 +12,10 @@ use Rattle.metric.specs.declared.value.Value.TheVariants as values
 use Rattle.agg_keep.specs.Keyed.{firsts, with_key}
 use Rattle.agg_keep.specs.Spot.{series_of}
 use Rattle.agg_stats.specs.Summary.{greatest_of, least_of, sum_of}
+use Rattle.statsd_text.specs.Said.{field_name}
+use Rattle.statsd_text.specs.declared.said.MetricType.{MetricType}
+use Rattle.statsd_text.specs.declared.said.MetricType.TheVariants as types
+use Rattle.statsd_text.specs.declared.said.Said.{Said}
 use Rattle.statsd_server.specs.declared.kind.Kind.{Kind}
 use Rattle.statsd_server.specs.declared.kind.Kind.TheVariants.{Counter, Gauge, Timing, Set}
 use Rattle.statsd_server.specs.declared.change.Change.{Change}
@@ -57,6 +61,16 @@ field_change Counter field = Adds (number_of field.1)
 field_change Gauge field = gauge_change field.0 (number_of field.1)
 field_change Timing field = Took (number_of field.1)
 field_change Set field = Names (text_of field.1)
+
+-- the type of a series that a line names, and what a part of the line says of it
+abbrev pub kind_said_by : MetricType → Kind
+kind_said_by types.Counter = Counter
+kind_said_by types.Gauge = Gauge
+kind_said_by types.Timing = Timing
+kind_said_by types.Set = Set
+
+abbrev pub said_change : Said → Change
+said_change said = field_change (kind_said_by said.metric_type) (field_name said.field, said.value)
 
 -- what the first field says
 abbrev pub fields_change : Kind → List Field → Change

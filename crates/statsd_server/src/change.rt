@@ -2,11 +2,12 @@
 ghost use Rattle.std.specs.Prelude.{◌≡◌, ◌+ℤ◌, IfOk, IfSome, Some, is_some, pos};
 ghost use Rattle.statsd_server.specs.Counting.{is_in_range, taken_to};
 ghost use Rattle.statsd_server.specs.Parts.{amount_of, change_of, field_change, fields_change, gauge_change};
-ghost use Rattle.statsd_server.specs.Parts.{level_with, number_of, text_of};
+ghost use Rattle.statsd_server.specs.Parts.{level_with, number_of, said_change, text_of};
 
 use crate::kind::Kind;
 use fixed_num::{Fixed, OutOfMemory};
 use metric::{Metric, Text, Value};
+use statsd_text::{MetricType, Said};
 use std::alloc::Global;
 
 /// What a part says of its series.
@@ -54,6 +55,16 @@ fn text_of(alloc: Global, value: &Value) -> Result<Text, OutOfMemory>
     }
 }
 
+/// The same, of a value that isn't needed any more.
+fn into_text(alloc: Global, value: Value) -> Result<Text, OutOfMemory>
+    ensures { IfOk result (λ text. text ≡ text_of value) }
+{
+    match value {
+        Value::Text(text) => Ok(text),
+        _ => Text::of(alloc, ""),
+    }
+}
+
 /// The sum of a series in its group, and the level of a gauge.
 #[derive(Clone, Copy, Debug)]
 pub(crate) struct Totals {
@@ -92,8 +103,20 @@ impl Change {
         ensures { IfOk result (λ change. change ≡ change_of part.now) }
     {
         match part.fields() {
-            [field, ..] => Change::of_field(alloc, Kind::of(part), field),
+            [field, ..] => Change::of_field(alloc, Kind::of(part.tags()), field),
             [] => Ok(Change::Names(Text::of(alloc, "")?)),
+        }
+    }
+
+    /// What is said of a series of its type.
+    pub(crate) fn said(alloc: Global, said: Said) -> Result<Change, OutOfMemory>
+        ensures { IfOk result (λ change. change ≡ said_change said) }
+    {
+        match said.metric_type {
+            MetricType::Counter => Ok(Change::Adds(number_of(&said.value))),
+            MetricType::Gauge => Ok(Change::of_gauge(said.field.text(), number_of(&said.value))),
+            MetricType::Timing => Ok(Change::Took(number_of(&said.value))),
+            MetricType::Set => Ok(Change::Names(into_text(alloc, said.value)?)),
         }
     }
 

@@ -1,9 +1,10 @@
 //! The types of series.
 ghost use Rattle.std.specs.Prelude.{◌≡◌};
 ghost use Rattle.std.specs.Option.{option_copied};
+ghost use Rattle.metric.specs.Pairs.{value_at};
 ghost use Rattle.statsd_server.specs.Parts.{kind_named, kind_of, kind_said};
 
-use metric::{Metric, Text};
+use metric::Text;
 
 /// The type of a series.
 #[derive(Clone, Copy, Debug, PartialEq, Eq)]
@@ -12,6 +13,15 @@ pub(crate) enum Kind {
     Gauge,
     Timing,
     Set,
+}
+
+/// The value of the tag of a key.
+fn value_at<'a>(tags: &'a [(Text, Text)], key: &str) -> Option<&'a Text>
+    ensures { option_copied result ≡ value_at tags.now key.now }
+{
+    tags.iter()
+        .find(|tag| tag.0.as_str() == key)
+        .map(|tag| &tag.1)
 }
 
 impl Kind {
@@ -37,11 +47,11 @@ impl Kind {
         }
     }
 
-    /// The type of a metric's series, as its tag says.
+    /// The type of a series, as the tag says among its tags.
     #[tactic(auto, unfolding(crate::specs::Parts::kind_of))]
-    pub(crate) fn of(part: &Metric) -> Kind
-        ensures { result ≡ kind_of part.now.tags }
+    pub(crate) fn of(tags: &[(Text, Text)]) -> Kind
+        ensures { result ≡ kind_of tags.now }
     {
-        Kind::said(part.tag("metric_type"))
+        Kind::said(value_at(tags, "metric_type"))
     }
 }

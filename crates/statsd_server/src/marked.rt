@@ -1,17 +1,21 @@
 //! Series with a number by which most of them are told apart.
-ghost use Rattle.std.specs.Prelude.{◌≡◌, IfOk};
+ghost use Rattle.std.specs.Prelude.{◌≡◌, ◌<◌, length, IfOk};
 ghost use Rattle.std.proofs.Common.{rules};
 ghost use Rattle.std.specs.Cmp.{partial_equiv_from_equiv, partial_order_from_own_ties};
 ghost use Rattle.std.specs.Cmp.{partial_order_from_total};
 ghost use Rattle.std.specs.Cmp.Rules.{comparing};
+ghost use Rattle.std.specs.List.{AllByRecursion};
 ghost use Rattle.std.specs.Ordering.{as_partial_cmp};
 ghost use Rattle.metric.specs.Series.{series_cmp, series_eq, series_equiv};
 ghost use Rattle.agg_keep.specs.Spot.{series_of, series_same};
-ghost use Rattle.statsd_server.specs.Marked.{mark_of, marked_cmp, marked_ties, marked_total, text_mark};
+ghost use Rattle.statsd_text.specs.TagMap.{HasValue, IsKeyed};
+ghost use Rattle.statsd_server.specs.Marked.{mark_of, marked_cmp, marked_ties, marked_total, tags_mark, text_mark};
+ghost use Rattle.statsd_server.specs.Marked.{IsSound};
 
 use crate::table::Key;
-use fixed_num::OutOfMemory;
-use metric::{Metric, Series};
+use fixed_num::{OutOfMemory, Seq};
+use metric::{Metric, Text, tag_copies};
+use std::alloc::Global;
 use std::cmp::Ordering;
 use std::marker::Model;
 
@@ -21,24 +25,25 @@ use std::marker::Model;
 #[derive(Drop, Debug)]
 pub(crate) struct Marked {
     mark: u64,
-    series: Series,
+    name: Text,
+    tags: Seq<(Text, Text)>,
 }
 
 impl Model for Marked {
     ghost use Rattle.std.specs.Prelude.{◌≡◌};
     ghost use Rattle.metric.specs.Series.{Series};
-    ghost use Rattle.statsd_server.specs.Marked.{mark_of};
+    ghost use Rattle.statsd_server.specs.Marked.{mark_of, IsSound};
 
     ghost Value = { Series };
 
-    ghost view = { λ m. m.series };
+    ghost view = { λ m. (m.name, m.tags) };
 
-    ghost invariant = { λ m. m.mark ≡ mark_of m.series };
+    ghost invariant = { λ m. (m.mark ≡ mark_of (m.name, m.tags)) × IsSound (m.name, m.tags) };
 }
 
 /// A number, with the bytes of a text more.
 #[tactic(auto, unfolding(crate::specs::Marked::mixed))]
-fn text_mark(mark: u64, text: &str) -> u64
+pub(crate) fn text_mark(mark: u64, text: &str) -> u64
     ensures { result ≡ text_mark mark text.now }
 {
     let mut mark = mark;
@@ -48,37 +53,90 @@ fn text_mark(mark: u64, text: &str) -> u64
     mark
 }
 
-/// The number of a metric's series.
-fn mark_of(metric: &Metric) -> u64
-    ensures { result ≡ mark_of (series_of metric.now) }
+/// The number of a series with these tags, by that of its name.
+fn with_tags(name_mark: u64, tags: &[(Text, Text)]) -> u64
+    ensures { result ≡ tags_mark name_mark tags.now }
 {
-    let mut mark = text_mark(0, metric.name().as_str());
-    for tag in metric.tags() {
+    let mut mark = name_mark;
+    for tag in tags {
         mark = text_mark(mark, tag.1.as_str());
     }
     mark
 }
 
 impl Marked {
+    /// The series of a name, whose number is known, and tags in the order of their keys.
+    pub(crate) fn of(name_mark: u64, name: Text, tags: Seq<(Text, Text)>) -> Marked
+        requires mark { name_mark ≡ text_mark 0 name }
+        requires sound { IsSound (name, tags) }
+        ensures { result ≡ (name, tags) }
+    {
+        Marked {
+            mark: with_tags(name_mark, tags.as_slice()),
+            name,
+            tags,
+        }
+    }
+
     /// The series of a metric.
-    pub(crate) fn of(metric: &Metric) -> Result<Marked, OutOfMemory>
+    pub(crate) fn of_metric(alloc: Global, metric: &Metric) -> Result<Marked, OutOfMemory>
         ensures { IfOk result (λ series. series ≡ series_of metric.now) }
     {
-        let series = metric.series()?;
+        metric.shows_metric();
+        let name = metric.name().copy()?;
+        let tags = tag_copies(alloc, metric.tags(), 0)?;
+        Ok(Marked::of(text_mark(0, name.as_str()), name, tags))
+    }
+
+    /// The same series. Long texts are shared.
+    pub(crate) fn copy(&self, alloc: Global) -> Result<Marked, OutOfMemory>
+        ensures { IfOk result (λ series. series ≡ self.now) }
+    {
         Ok(Marked {
-            mark: mark_of(metric),
-            series,
+            mark: self.mark,
+            name: self.name.copy()?,
+            tags: tag_copies(alloc, self.tags.as_slice(), 0)?,
         })
     }
 
+    /// Its name.
+    pub(crate) fn name(&self) -> &Text
+        ensures { result.now ≡ self.now.0 }
+    {
+        &self.name
+    }
+
+    /// Its tags.
+    pub(crate) fn tags(&self) -> &[(Text, Text)]
+        ensures { result.now ≡ self.now.1 }
+    {
+        self.tags.as_slice()
+    }
+
+    /// Says to a caller's proof that its name is filled, and that its tags are in the order of their keys and filled.
+    pub(crate) fn shows_sound(&self)
+        ensures { IsSound self.now }
+    {
+        let _mark = self.mark;
+    }
+
+    /// Are they the same series?
+    fn is_same(&self, other: &Marked) -> bool
+        ensures { result ≡ series_eq self.now other.now }
+    {
+        self.name == other.name && self.tags.as_slice() == other.tags.as_slice()
+    }
+
     /// How the series compare. That two are the same is found by their texts as a whole, and not byte by byte.
-    fn cmp_series(&self, other: &Marked) -> Ordering
+    pub(crate) fn cmp_series(&self, other: &Marked) -> Ordering
         ensures { result ≡ series_cmp self.now other.now }
     {
-        if self.series == other.series {
-            Ordering::Equal
-        } else {
-            self.series.cmp(&other.series)
+        if self.is_same(other) {
+            return Ordering::Equal;
+        }
+        match self.name.cmp(&other.name) {
+            Ordering::Equal => self.tags.as_slice().cmp(other.tags.as_slice()),
+            apart => apart,
         }
     }
 }
@@ -93,7 +151,7 @@ impl PartialEq for Marked {
     ghost laws = { partial_equiv_from_equiv series_equiv };
 
     fn eq(&self, other: &Self) -> bool {
-        self.series == other.series
+        self.is_same(other)
     }
 }
 

@@ -5,21 +5,23 @@ ghost use Rattle.std.specs.Cmp.{partial_equiv_from_equiv, partial_order_from_own
 ghost use Rattle.std.specs.Cmp.{partial_order_from_total};
 ghost use Rattle.std.specs.Cmp.Rules.{comparing};
 ghost use Rattle.std.specs.Ordering.{as_partial_cmp};
-ghost use Rattle.agg_keep.specs.Spot.{series_of};
 ghost use Rattle.statsd_server.specs.Member.{member_cmp, member_eq, member_equiv, member_named, member_same};
 ghost use Rattle.statsd_server.specs.Member.{member_ties, member_total};
 
 use crate::change::Change;
+use crate::marked::Marked;
+use crate::part::Part;
 use crate::table::Key;
 use fixed_num::OutOfMemory;
-use metric::{Metric, Series, Text};
+use metric::Text;
+use std::alloc::Global;
 use std::cmp::Ordering;
 use std::marker::Model;
 
 /// A member of a set, with the set's series.
 #[derive(Drop, Debug)]
 pub(crate) struct Member {
-    series: Series,
+    series: Marked,
     text: Text,
 }
 
@@ -32,13 +34,13 @@ impl Model for Member {
 }
 
 impl Member {
-    /// The member that a change of a metric's series names.
-    pub(crate) fn named(metric: &Metric, change: &Change) -> Result<Option<Member>, OutOfMemory>
-        ensures { IfOk result (λ member. member ≡ member_named (series_of metric.now) change.now) }
+    /// The member that a part names.
+    pub(crate) fn named(alloc: Global, part: &Part) -> Result<Option<Member>, OutOfMemory>
+        ensures { IfOk result (λ member. member ≡ member_named part.now.series part.now.change) }
     {
-        match change {
+        match &part.change {
             Change::Names(text) => Ok(Some(Member {
-                series: metric.series()?,
+                series: part.series.copy(alloc)?,
                 text: text.copy()?,
             })),
             Change::Adds(_) | Change::Sets(_) | Change::Moves(_) | Change::Took(_) => Ok(None),
@@ -85,7 +87,7 @@ impl Ord for Member {
 
     fn cmp(&self, other: &Self) -> Ordering {
         match self.text.cmp(&other.text) {
-            Ordering::Equal => self.series.cmp(&other.series),
+            Ordering::Equal => self.series.cmp_series(&other.series),
             apart => apart,
         }
     }

@@ -1,6 +1,6 @@
 //! Parts with their places.
+use crate::marked::Marked;
 use crate::part::Part;
-use metric::Metric;
 
 /// A part with the places of what is kept of it: of what is counted of its series, of its series' level where it is a
 /// gauge's, and of the member that it names.
@@ -12,9 +12,9 @@ pub(crate) struct Placed {
     pub member: Option<usize>,
 }
 
-/// The first part of a series in a group, and the place of what is counted of the series.
+/// A series of which a part counts in the group, and the place of what is counted of it.
 #[derive(Drop)]
 pub(crate) struct First {
-    pub metric: Metric,
+    pub series: Marked,
     pub sum: usize,
 }

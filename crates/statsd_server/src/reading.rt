@@ -1,12 +1,13 @@
 //! Reading packets.
-ghost use Rattle.std.specs.Prelude.{◌≡◌, ◌<◌, ◌≤◌, ◌+◌, ◌++◌, ◌^◌, length, is_err, IfOk, OnOk, if◌then◌else◌};
+ghost use Rattle.std.specs.Prelude.{◌≡◌, ◌<◌, ◌≤◌, ◌+◌, ◌++◌, ◌^◌, length, map, is_err, IfOk, OnOk, if◌then◌else◌};
+ghost use Rattle.statsd_text.specs.declared.fault.StatsdKind.TheVariants as kinds;
+ghost use Rattle.statsd_server.specs.Kept.{said_by};
 ghost use Rattle.statsd_server.specs.Packets.{line_read, lines_of, parts_of_lines, parts_read, refused_lines};
 ghost use Rattle.statsd_server.specs.Packets.{without_return};
 
-use crate::part::Part;
-use fixed_num::{OutOfMemory, Seq};
-use metric::Metric;
-use statsd_text::{StatsdKind, read_line};
+use crate::part::{Part, append_line, append_metrics};
+use fixed_num::OutOfMemory;
+use statsd_text::{StatsdFault, StatsdKind, read_line, read_said};
 use std::alloc::Global;
 
 /// Few lines are shorter: by that room is taken for the parts of a packet, which may be more.
@@ -29,51 +30,50 @@ fn without_return(line: &[u8]) -> &[u8]
     }
 }
 
-/// Appends the parts of metrics, with what they say.
-fn append_parts(alloc: Global, metrics: &[Metric], parts: &mut Vec<Part>) -> Result<(), OutOfMemory>
-    ensures { OnOk result (parts.new.items ≡ parts.old.items ++ metrics.now) }
-{
-    for metric in metrics {
-        parts.push(Part::of(alloc, metric.copy()?)?)?;
-    }
-    Ok(())
-}
-
-/// Appends the parts of a line's metrics, with what they say. A single one is moved.
-fn append_line(
-    alloc: Global,
-    metrics: Seq<Metric>,
-    parts: &mut Vec<Part>,
-) -> Result<(), OutOfMemory>
-    ensures { OnOk result (parts.new.items ≡ parts.old.items ++ metrics) }
-{
-    match metrics.into_one() {
-        Ok(metric) => {
-            parts.push(Part::of(alloc, metric)?)?;
-            Ok(())
-        }
-        Err(metrics) => append_parts(alloc, metrics.as_slice(), parts),
-    }
-}
-
 impl Reading {
     /// One line more.
     fn add_line(&mut self, alloc: Global, line: &[u8]) -> Result<(), OutOfMemory>
         requires { self.old.refused + 1 < 2 ^ 64 }
         ensures parts { OnOk result
-            (self.new.parts.items ≡ self.old.parts.items ++ parts_read (line_read line.now)) }
+            (self.new.parts.items ≡ self.old.parts.items ++ map said_by (parts_read (line_read line.now))) }
+        ensures refused { OnOk result
+            (self.new.refused ≡ self.old.refused + (if is_err (line_read line.now) then 1 else 0)) }
+    {
+        match read_said(alloc, line) {
+            Ok(Some(said)) => append_line(alloc, said, &mut self.parts),
+            Ok(None) => self.add_metrics(alloc, line),
+            Err(fault) => self.refuse(fault),
+        }
+    }
+
+    /// The same for a line that is blank, or has many tags.
+    #[cold]
+    fn add_metrics(&mut self, alloc: Global, line: &[u8]) -> Result<(), OutOfMemory>
+        requires { self.old.refused + 1 < 2 ^ 64 }
+        ensures parts { OnOk result
+            (self.new.parts.items ≡ self.old.parts.items ++ map said_by (parts_read (line_read line.now))) }
         ensures refused { OnOk result
             (self.new.refused ≡ self.old.refused + (if is_err (line_read line.now) then 1 else 0)) }
     {
         match read_line(alloc, line, 0) {
-            Ok(metrics) => append_line(alloc, metrics, &mut self.parts),
-            Err(fault) => match fault.kind {
-                StatsdKind::OutOfMemory => Err(OutOfMemory),
-                _ => {
-                    self.refused += 1;
-                    Ok(())
-                }
-            },
+            Ok(metrics) => append_metrics(alloc, metrics.as_slice(), &mut self.parts),
+            Err(fault) => self.refuse(fault),
+        }
+    }
+
+    /// One refused line more, unless memory was short.
+    fn refuse(&mut self, fault: StatsdFault) -> Result<(), OutOfMemory>
+        requires { self.old.refused + 1 < 2 ^ 64 }
+        ensures refused { OnOk result (self.new.refused ≡ self.old.refused + 1) }
+        ensures fault { OnOk result ((fault.kind ≡ kinds.OutOfMemory) → ⊥) }
+        ensures parts { self.new.parts ≡ self.old.parts }
+    {
+        match fault.kind {
+            StatsdKind::OutOfMemory => Err(OutOfMemory),
+            _ => {
+                self.refused += 1;
+                Ok(())
+            }
         }
     }
 }
@@ -81,7 +81,7 @@ impl Reading {
 /// Reads a packet.
 pub(crate) fn read_packet(alloc: Global, packet: &[u8]) -> Result<Reading, OutOfMemory>
     requires { length packet.now ≤ 65535 }
-    ensures parts { IfOk result (λ reading. reading.parts.items ≡ parts_of_lines (lines_of packet.now)) }
+    ensures parts { IfOk result (λ reading. reading.parts.items ≡ map said_by (parts_of_lines (lines_of packet.now))) }
     ensures refused { IfOk result (λ reading. reading.refused ≡ refused_lines (lines_of packet.now)) }
     ensures few { IfOk result (λ reading. reading.refused ≤ 65536) }
 {

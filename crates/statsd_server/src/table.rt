@@ -85,7 +85,7 @@ impl<K: Key, V: Drop> Table<K, V> {
     }
 
     /// A place behind the others for a key that has none.
-    fn add(&mut self, key: K) -> Result<usize, OutOfMemory>
+    pub(crate) fn add(&mut self, key: K) -> Result<usize, OutOfMemory>
         requires { place_by K.cmp self.old key ≡ None }
         ensures same { (other : K) → held_by K.cmp self.new other ≡ held_by K.cmp self.old other }
         ensures stays { (other : K) (at : ℕ) → place_by K.cmp self.old other ≡ Some at

@@ -5,14 +5,13 @@ ghost use Rattle.std.specs.List.{fold, AllByRecursion};
 ghost use Rattle.metric.specs.declared.metric.Content.{Content};
 ghost use Rattle.metric.specs.Series.{series_eq, Series as SeriesSeen};
 ghost use Rattle.statsd_server.specs.Marked.{marked_cmp};
-ghost use Rattle.agg_keep.specs.Spot.{series_of};
 ghost use Rattle.statsd_server.specs.Counting.{with_part};
-ghost use Rattle.statsd_server.specs.Kept.{is_it, is_named, is_new, level_for, level_held, part_of, HasStayed, IsPlaced};
-ghost use Rattle.statsd_server.specs.Kept.{Keeps, LevelPlace, MemberPlace};
+ghost use Rattle.statsd_server.specs.Kept.{is_it, is_named, is_new, level_for, level_held, part_of, said_by, HasStayed};
+ghost use Rattle.statsd_server.specs.Kept.{IsPlaced, Keeps, LevelPlace, MemberPlace};
 ghost use Rattle.statsd_server.specs.declared.placed.Placed.{Placed as PlacedSeen};
 ghost use Rattle.statsd_server.specs.Member.{member_cmp, Member as MemberSeen};
-ghost use Rattle.statsd_server.specs.Parts.{change_of, level_with};
-ghost use Rattle.statsd_server.specs.Table.{place_by};
+ghost use Rattle.statsd_server.specs.Parts.{level_with};
+ghost use Rattle.statsd_server.specs.Table.{held_by, place_by};
 ghost use Rattle.statsd_server.specs.TallyView.{memory_of};
 
 use crate::change::{Change, zero};
@@ -23,15 +22,14 @@ use crate::placed::{First, Placed};
 use crate::summary::Summary;
 use crate::table::Table;
 use fixed_num::{Fixed, OutOfMemory};
-use metric::Metric;
 use std::alloc::Global;
 
 /// The places of so many series stay from one group to the next, beside twice as many as the group had.
 const MORE_PLACES: usize = 1_000;
 
 /// What is kept of the parts that count: of each series what is counted of it in the group in hand, the level of each
-/// gauge since the start, the members that were named in the group, the first part of each series in it, how many parts
-/// count in it, and how many lines and parts were left out.
+/// gauge since the start, the members that were named in the group, the series in it in the order of their first parts,
+/// how many parts count in it, and how many lines and parts were left out.
 #[derive(Drop)]
 pub(crate) struct Tally {
     pub sums: Table<Marked, Summary>,
@@ -49,19 +47,36 @@ pub(crate) fn level_or_zero(level: Option<Fixed>) -> Fixed
     level.unwrap_or(zero())
 }
 
-/// The place of the level of a metric's series, where a change has one.
+/// The place of a series, which is given one where it has none. What is held stays.
+fn place_series<V: Drop>(
+    alloc: Global,
+    table: &mut Table<Marked, V>,
+    series: &Marked,
+) -> Result<usize, OutOfMemory>
+    ensures same { (other : SeriesSeen) → held_by marked_cmp table.new other ≡ held_by marked_cmp table.old other }
+    ensures stays { (other : SeriesSeen) (at : ℕ) → place_by marked_cmp table.old other ≡ Some at
+        → place_by marked_cmp table.new other ≡ Some at }
+    ensures place { IfOk result (λ at. place_by marked_cmp table.new series.now ≡ Some at) }
+{
+    match table.place_of(series) {
+        Some(at) => Ok(at),
+        None => table.add(series.copy(alloc)?),
+    }
+}
+
+/// The place of the level of a part's series, where the part has one.
 fn place_level(
+    alloc: Global,
     levels: &mut Table<Marked, Fixed>,
-    metric: &Metric,
-    change: &Change,
+    part: &Part,
 ) -> Result<usize, OutOfMemory>
     ensures same { (other : SeriesSeen) → level_held levels.new other ≡ level_held levels.old other }
     ensures stays { (other : SeriesSeen) (at : ℕ) → place_by marked_cmp levels.old other ≡ Some at
         → place_by marked_cmp levels.new other ≡ Some at }
-    ensures place { IfOk result (LevelPlace levels.new (series_of metric.now) change.now) }
+    ensures place { IfOk result (LevelPlace levels.new part.now.series part.now.change) }
 {
-    match change {
-        Change::Sets(_) | Change::Moves(_) => levels.place(Marked::of(metric)?),
+    match &part.change {
+        Change::Sets(_) | Change::Moves(_) => place_series(alloc, levels, &part.series),
         Change::Adds(_) | Change::Took(_) | Change::Names(_) => Ok(0),
     }
 }
@@ -130,7 +145,7 @@ fn put_member(members: &mut Table<Member, ()>, at: Option<usize>)
     }
 }
 
-/// Puts a metric behind the others, where it is the first one of its series.
+/// Puts a series behind the others, where a part of it is the first one.
 fn put_first(order: &mut Vec<First>, is_first: bool, first: First)
     requires { length order.old.items < vec_capacity order.old }
     ensures items { order.new.items ≡ if is_first then order.old.items ++ first ∷ [] else order.old.items }
@@ -159,16 +174,14 @@ impl Tally {
     }
 
     /// A part with its places. What is kept stays.
-    fn place(&mut self, part: Part) -> Result<Placed, OutOfMemory>
+    fn place(&mut self, alloc: Global, part: Part) -> Result<Placed, OutOfMemory>
         ensures stays { HasStayed (memory_of self.old) (memory_of self.new) }
         ensures part { IfOk result (λ placed. placed.part ≡ part) }
         ensures placed { IfOk result (IsPlaced (memory_of self.new)) }
     {
-        let metric = part.metric();
-        let change = part.change();
-        let member = Member::named(metric, change)?;
-        let sum = self.sums.place(Marked::of(metric)?)?;
-        let level = place_level(&mut self.levels, metric, change)?;
+        let member = Member::named(alloc, &part)?;
+        let sum = place_series(alloc, &mut self.sums, &part.series)?;
+        let level = place_level(alloc, &mut self.levels, &part)?;
         let member = place_member(&mut self.members, member)?;
         Ok(Placed {
             part,
@@ -192,7 +205,7 @@ impl Tally {
         self.order.reserve(parts.len())?;
         let mut all = Vec::with_capacity(alloc, parts.len())?;
         for part in parts {
-            all.push(self.place(part)?)?;
+            all.push(self.place(alloc, part)?)?;
         }
         Ok(all)
     }
@@ -202,8 +215,8 @@ impl Tally {
         requires placed { IsPlaced (memory_of self.old) placed }
         requires space { length self.old.order.items < vec_capacity self.old.order }
         requires few { self.old.counted + self.old.refused + 1 < 2 ^ 64 }
-        ensures keeps { (past now : List Content) → Keeps past now (memory_of self.old)
-            → Keeps past (with_part past now placed.part) (memory_of self.new) }
+        ensures keeps { (past now : List Content) (part : Content) → said_by part ≡ placed.part
+            → Keeps past now (memory_of self.old) → Keeps past (with_part past now part) (memory_of self.new) }
         ensures stays { (other : PlacedSeen) → IsPlaced (memory_of self.old) other → IsPlaced (memory_of self.new) other }
         ensures space { length self.new.order.items ≤ length self.old.order.items + 1 }
         ensures order { vec_capacity self.new.order ≡ vec_capacity self.old.order }
@@ -215,7 +228,7 @@ impl Tally {
             level,
             member,
         } = placed;
-        let (metric, change) = part.into_parts();
+        let Part { series, change } = part;
         let summary = Summary::or_empty(self.sums.at(sum));
         let before = level_for(&self.levels, &change, level);
         match change.behind(summary.sum, before) {
@@ -225,7 +238,7 @@ impl Tally {
                     .put(sum, summary.with(change.amount(), totals.sum, fresh));
                 put_level(&mut self.levels, &change, level, totals.level);
                 put_member(&mut self.members, member);
-                put_first(&mut self.order, summary.count == 0, First { metric, sum });
+                put_first(&mut self.order, summary.count == 0, First { series, sum });
                 self.counted += 1;
             }
             None => self.refused += 1,
@@ -237,8 +250,9 @@ impl Tally {
         requires placed { AllByRecursion (IsPlaced (memory_of self.old)) all.items }
         requires space { length self.old.order.items + length all.items ≤ vec_capacity self.old.order }
         requires few { self.old.counted + self.old.refused + length all.items < 2 ^ 64 }
-        ensures keeps { (past now : List Content) → Keeps past now (memory_of self.old)
-            → Keeps past (fold (with_part past) now (map part_of all.items)) (memory_of self.new) }
+        ensures keeps { (past now parts : List Content) → map said_by parts ≡ map part_of all.items
+            → Keeps past now (memory_of self.old)
+            → Keeps past (fold (with_part past) now parts) (memory_of self.new) }
         ensures all { self.new.counted + self.new.refused ≡ self.old.counted + self.old.refused + length all.items }
     {
         for placed in all {
@@ -251,8 +265,9 @@ impl Tally {
         requires placed { AllByRecursion (IsPlaced (memory_of self.old)) all.items }
         requires space { length self.old.order.items + length all.items ≤ vec_capacity self.old.order }
         requires few { self.old.counted + self.old.refused + refused + length all.items < 2 ^ 64 }
-        ensures keeps { (past now : List Content) → Keeps past now (memory_of self.old)
-            → Keeps past (fold (with_part past) now (map part_of all.items)) (memory_of self.new) }
+        ensures keeps { (past now parts : List Content) → map said_by parts ≡ map part_of all.items
+            → Keeps past now (memory_of self.old)
+            → Keeps past (fold (with_part past) now parts) (memory_of self.new) }
         ensures all { self.new.counted + self.new.refused
             ≡ self.old.counted + self.old.refused + refused + length all.items }
     {

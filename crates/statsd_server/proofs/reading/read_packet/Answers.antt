@@ -1,9 +1,9 @@
 use Rattle.std.proofs.Common.{◌≡◌, ◌<◌, ◌+◌, ◌-◌, ◌∙◌, ◌++◌, [], List, ap, append-nil, arith, drop, length}
 use Rattle.std.proofs.Common.{length-drop, sym, take, ℕ}
 use Rattle.statsd_server.specs.declared.reading.Reading.{Reading}
-use Rattle.statsd_server.specs.Packets.{lines_of, parts_of_lines, refused_lines}
+use Rattle.statsd_server.specs.Packets.{lines_of, refused_lines}
 use Rattle.statsd_server.proofs.LineLemmas.{all_behind, left_at, line_ends, line_goes_on, line_rests, parts_step}
-use Rattle.statsd_server.proofs.LineLemmas.{refused_few, refused_step, rest_none, rest_some}
+use Rattle.statsd_server.proofs.LineLemmas.{refused_few, refused_step, rest_none, rest_some, said_of_lines}
 use Rattle.statsd_server.proofs.reading.read_packet.Goals.{else-start-packet, then-start-packet+in_ok-add_line-2}
 use Rattle.statsd_server.proofs.reading.read_packet.Goals as goal
 
@@ -14,7 +14,7 @@ loop-i-preserved-then-packet-i-eq10 c =
     let ends = line_ends p l.start l.i c.loop-i-test.true c.if-packet-i-eq10.true in
     record {
       parts = parts_step l.reading.parts.items c.add_line.new.self.parts.items c.without_return.result.now _ _ _
-          (parts_of_lines (lines_of p)) c.in_ok-add_line.ensures.parts c.without_return.ensures ends l.invariant.parts;
+          (said_of_lines (lines_of p)) c.in_ok-add_line.ensures.parts c.without_return.ensures ends l.invariant.parts;
       refused = refused_step l.reading.refused c.add_line.new.self.refused c.without_return.result.now _ _ _
           (refused_lines (lines_of p)) c.in_ok-add_line.ensures.refused c.without_return.ensures ends
           l.invariant.refused;
@@ -30,7 +30,7 @@ loop-i-preserved c =
     let p = c.args.packet.now in
     let goes = line_goes_on p l.start l.i c.loop-i-test.true l.invariant.begun c.if-packet-i-eq10.false in
     record {
-      parts = ap (λ (lines : List (List ℕ)). l.reading.parts.items ++ parts_of_lines lines) (sym goes)
+      parts = ap (λ (lines : List (List ℕ)). l.reading.parts.items ++ said_of_lines lines) (sym goes)
           ∙ l.invariant.parts;
       refused = ap (λ (lines : List (List ℕ)). l.reading.refused + refused_lines lines) (sym goes)
           ∙ l.invariant.refused;
@@ -43,7 +43,7 @@ pub returns-clause-parts : goal.returns-clause-parts
 returns-clause-parts c =
     let l = c.loop-i in
     let p = c.args.packet.now in
-    let all = parts_of_lines (lines_of p) in
+    let all = said_of_lines (lines_of p) in
     let old = l.reading.parts.items in
     let rests = line_rests p l.start l.i c.loop-i-test.false l.invariant.within in
     elim c.if-start-packet.branch [
@@ -57,7 +57,7 @@ returns-clause-parts c =
       | else-start-packet w ↦
           let none : length (drop l.start p) ≡ 0 = omega (arith, length-drop l.start p, w.if-start-packet.false) in
           ap (λ (reading : Reading). reading.parts.items) w.reading-is ∙ sym (append-nil old)
-          ∙ ap (λ (lines : List (List ℕ)). old ++ parts_of_lines lines) (sym (rests ∙ rest_none (drop l.start p) none))
+          ∙ ap (λ (lines : List (List ℕ)). old ++ said_of_lines lines) (sym (rests ∙ rest_none (drop l.start p) none))
           ∙ l.invariant.parts
     ]
 

@@ -2,7 +2,7 @@ use Rattle.std.proofs.Common.{◌≡◌, ◌∙◌, ◌++◌, ◌∷◌, [], Lis
 use Rattle.std.proofs.lemmas.List.{map-append}
 use Rattle.std.specs.List.{AllByRecursion}
 use Rattle.std.specs.Vec.Iter.{into_iter_items}
-use Rattle.metric.specs.declared.metric.Content.{Content}
+use Rattle.statsd_server.specs.declared.part.Part.{Part}
 use Rattle.statsd_server.specs.declared.placed.Placed.{Placed}
 use Rattle.statsd_server.specs.Kept.{part_of, HasStayed, IsPlaced}
 use Rattle.statsd_server.specs.TallyView.{memory_of}
@@ -28,10 +28,10 @@ loop-part-preserved c =
     let rest = into_iter_items c.next.new.self in
     let pushed = c.in_ok-push.ensures.items in
     let same : map part_of (old ++ placed ∷ []) ++ rest ≡ map part_of old ++ into_iter_items l.part-iterator =
-    ap (λ (ms : List Content). ms ++ rest) (map-append part_of old (placed ∷ []))
+    ap (λ (ms : List Part). ms ++ rest) (map-append part_of old (placed ∷ []))
     ∙ append_assoc (map part_of old) (placed.part ∷ []) rest
-    ∙ ap (λ (m : Content). map part_of old ++ m ∷ rest) c.in_ok-place.ensures.part
-    ∙ ap (λ (ms : List Content). map part_of old ++ ms) (sym c.in-Some.ensures.steps.0) in
+    ∙ ap (λ (m : Part). map part_of old ++ m ∷ rest) c.in_ok-place.ensures.part
+    ∙ ap (λ (ms : List Part). map part_of old ++ ms) (sym c.in-Some.ensures.steps.0) in
     let order = ap (λ (list : _). length list) c.place.ensures.stays.order in
     let room = c.place.ensures.stays.room in
     record {

@@ -249,7 +249,8 @@ counting_keeps past now memory part h =
       members = members_more past now part memory (counting memory part).members h
           (named_with (member_named s c) memory.members);
       ordered = placed_series (summed memory part) (firsts_with memory part)
-          ∙ ordered_more past now part memory (firsts_with memory part) (record { series = series_of part; sum = 0 }) _ h
+          ∙ ordered_more past now part memory (firsts_with memory part)
+          (record { series = series_of part; sum = 0 }) _ h
           (ap (λ (x : Summary). x.count == 0) old_is) refl refl;
       placed = all_placed (summed memory part) (firsts_with memory part) (firsts_have memory part h.placed);
       counted = ap (λ (n : ℕ). n + 1) h.counted ∙ sym (length-append now (part ∷ []));

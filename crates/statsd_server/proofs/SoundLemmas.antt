@@ -17,7 +17,8 @@ use Rattle.statsd_text.specs.TagMap.{kept_content, part_tags, HasValue, IsKeyed}
 use Rattle.statsd_text.proofs.KeptTags.{keyed_more, keyed_values, more_stay, values_have}
 use Rattle.statsd_server.specs.declared.kind.Kind.{Kind}
 use Rattle.statsd_server.specs.Marked.{IsSound}
-use Rattle.statsd_server.specs.Parts.{change_of, field_change, kind_named, kind_of, kind_said, kind_said_by, said_change}
+use Rattle.statsd_server.specs.Parts.{change_of, field_change, kind_named, kind_of, kind_said, kind_said_by}
+use Rattle.statsd_server.specs.Parts.{said_change}
 
 -- ---- those of metrics
 

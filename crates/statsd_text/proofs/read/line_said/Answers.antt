@@ -40,8 +40,9 @@ returns c =
     let later = c.in_ok-read_later_tags.ensures.tags in
     record {
       says = λ moment. rw c.in_ok-name-2.ensures (sym (metrics_are c.args.piece.now moment
-          (sections_view c.in_ok-line.line) c.in_ok-name.name.now head.0 later.0 c.in_ok-said.said c.new-tags.result.entries
-          c.read_head.new.tags.entries c.read_later_tags.new.tags.entries c.in_ok-tags.tags.items
+          (sections_view c.in_ok-line.line) c.in_ok-name.name.now head.0 later.0 c.in_ok-said.said
+          c.new-tags.result.entries c.read_head.new.tags.entries c.read_later_tags.new.tags.entries
+          c.in_ok-tags.tags.items
           c.in_ok-line.ensures.gives head.1 later.1 c.in_ok-said.ensures c.new-tags.ensures.empty head.2 later.2
           c.in_ok-tags.ensures));
       named = rw c.in_ok-name-2.ensures c.in_ok-name.ensures.named;

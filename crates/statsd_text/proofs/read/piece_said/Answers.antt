@@ -14,4 +14,5 @@ pub returns-in-Err-clause-says : goal.returns-in-Err-clause-says
 unfolding reading
 returns-in-Err-clause-says c =
     let fault : ℕ → StatsdFault = λ n. record { kind = NotUtf8; offset = n } in
-    rw c.fault.ensures (λ moment. not_utf8 c.args.piece.now c.in-Err.offset fault _ c.in-Err.ensures.1 c.in-Err.ensures.0)
+    rw c.fault.ensures (λ moment. not_utf8 c.args.piece.now c.in-Err.offset fault _ c.in-Err.ensures.1
+    c.in-Err.ensures.0)

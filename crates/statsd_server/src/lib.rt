@@ -19,6 +19,7 @@ mod stage;
 mod standing;
 mod summary;
 mod table;
+mod tags;
 mod tally;
 #[cfg(test)]
 mod tests;

@@ -13,7 +13,8 @@ ghost use Rattle.statsd_server.specs.Marked.{mark_of, marked_cmp, marked_ties, m
 ghost use Rattle.statsd_server.specs.Marked.{IsSound};
 
 use crate::table::Key;
-use fixed_num::{OutOfMemory, Seq};
+use crate::tags::Tags;
+use fixed_num::OutOfMemory;
 use metric::{Metric, Text, tag_copies};
 use std::alloc::Global;
 use std::cmp::Ordering;
@@ -26,7 +27,7 @@ use std::marker::Model;
 pub(crate) struct Marked {
     mark: u64,
     name: Text,
-    tags: Seq<(Text, Text)>,
+    tags: Tags,
 }
 
 impl Model for Marked {
@@ -66,7 +67,7 @@ fn with_tags(name_mark: u64, tags: &[(Text, Text)]) -> u64
 
 impl Marked {
     /// The series of a name, whose number is known, and tags in the order of their keys.
-    pub(crate) fn of(name_mark: u64, name: Text, tags: Seq<(Text, Text)>) -> Marked
+    pub(crate) fn of(name_mark: u64, name: Text, tags: Tags) -> Marked
         requires mark { name_mark ≡ text_mark 0 name }
         requires sound { IsSound (name, tags) }
         ensures { result ≡ (name, tags) }
@@ -84,18 +85,18 @@ impl Marked {
     {
         metric.shows_metric();
         let name = metric.name().copy()?;
-        let tags = tag_copies(alloc, metric.tags(), 0)?;
+        let tags = Tags::of(alloc, tag_copies(alloc, metric.tags(), 0)?)?;
         Ok(Marked::of(text_mark(0, name.as_str()), name, tags))
     }
 
-    /// The same series. Long texts are shared.
-    pub(crate) fn copy(&self, alloc: Global) -> Result<Marked, OutOfMemory>
+    /// The same series, with the same tags in one list.
+    pub(crate) fn copy(&self) -> Result<Marked, OutOfMemory>
         ensures { IfOk result (λ series. series ≡ self.now) }
     {
         Ok(Marked {
             mark: self.mark,
             name: self.name.copy()?,
-            tags: tag_copies(alloc, self.tags.as_slice(), 0)?,
+            tags: self.tags.copy()?,
         })
     }
 

@@ -14,7 +14,6 @@ use crate::part::Part;
 use crate::table::Key;
 use fixed_num::OutOfMemory;
 use metric::Text;
-use std::alloc::Global;
 use std::cmp::Ordering;
 use std::marker::Model;
 
@@ -35,12 +34,12 @@ impl Model for Member {
 
 impl Member {
     /// The member that a part names.
-    pub(crate) fn named(alloc: Global, part: &Part) -> Result<Option<Member>, OutOfMemory>
+    pub(crate) fn named(part: &Part) -> Result<Option<Member>, OutOfMemory>
         ensures { IfOk result (λ member. member ≡ member_named part.now.series part.now.change) }
     {
         match &part.change {
             Change::Names(text) => Ok(Some(Member {
-                series: part.series.copy(alloc)?,
+                series: part.series.copy()?,
                 text: text.copy()?,
             })),
             Change::Adds(_) | Change::Sets(_) | Change::Moves(_) | Change::Took(_) => Ok(None),

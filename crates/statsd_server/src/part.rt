@@ -8,9 +8,10 @@ ghost use Rattle.statsd_server.specs.Marked.{text_mark};
 
 use crate::change::Change;
 use crate::marked::{Marked, text_mark};
+use crate::tags::TypeTags;
 use fixed_num::OutOfMemory;
 use metric::{Metric, Text};
-use statsd_text::{LineSaid, Said, part_tags};
+use statsd_text::{LineSaid, Said};
 use std::alloc::Global;
 
 /// The series of a part, and what the part says of it.
@@ -34,6 +35,7 @@ impl Part {
     /// What a part says of the series of a name, whose number is known, and a line's tags.
     fn said(
         alloc: Global,
+        types: &TypeTags,
         name_mark: u64,
         name: Text,
         tags: &[(Text, Text)],
@@ -45,7 +47,7 @@ impl Part {
         requires valued { AllByRecursion HasValue tags.now }
         ensures { IfOk result (λ part. part ≡ said_by (kept_content name tags.now (pos 0) said)) }
     {
-        let tags = part_tags(alloc, tags, said.metric_type)?;
+        let tags = types.with_line(alloc, tags, said.metric_type)?;
         Ok(Part {
             series: Marked::of(name_mark, name, tags),
             change: Change::said(alloc, said)?,
@@ -70,6 +72,7 @@ pub(crate) fn append_metrics(
 /// Appends what the parts of a line say. They share its texts.
 fn append_each(
     alloc: Global,
+    types: &TypeTags,
     name: &Text,
     tags: &[(Text, Text)],
     said: Vec<Said>,
@@ -83,7 +86,7 @@ fn append_each(
 {
     let mark = text_mark(0, name.as_str());
     for part in said {
-        parts.push(Part::said(alloc, mark, name.copy()?, tags, part)?)?;
+        parts.push(Part::said(alloc, types, mark, name.copy()?, tags, part)?)?;
     }
     Ok(())
 }
@@ -91,6 +94,7 @@ fn append_each(
 /// Appends what a line says. Most lines have one part.
 pub(crate) fn append_line(
     alloc: Global,
+    types: &TypeTags,
     line: LineSaid,
     parts: &mut Vec<Part>,
 ) -> Result<(), OutOfMemory>
@@ -101,9 +105,16 @@ pub(crate) fn append_line(
     match said.into_one() {
         Ok(said) => {
             let mark = text_mark(0, name.as_str());
-            parts.push(Part::said(alloc, mark, name, tags.as_slice(), said)?)?;
+            parts.push(Part::said(alloc, types, mark, name, tags.as_slice(), said)?)?;
             Ok(())
         }
-        Err(said) => append_each(alloc, &name, tags.as_slice(), said.into_vec(alloc)?, parts),
+        Err(said) => append_each(
+            alloc,
+            types,
+            &name,
+            tags.as_slice(),
+            said.into_vec(alloc)?,
+            parts,
+        ),
     }
 }

@@ -6,6 +6,7 @@ ghost use Rattle.statsd_server.specs.Packets.{line_read, lines_of, parts_of_line
 ghost use Rattle.statsd_server.specs.Packets.{without_return};
 
 use crate::part::{Part, append_line, append_metrics};
+use crate::tags::TypeTags;
 use fixed_num::OutOfMemory;
 use statsd_text::{StatsdFault, StatsdKind, read_line, read_said};
 use std::alloc::Global;
@@ -32,7 +33,7 @@ fn without_return(line: &[u8]) -> &[u8]
 
 impl Reading {
     /// One line more.
-    fn add_line(&mut self, alloc: Global, line: &[u8]) -> Result<(), OutOfMemory>
+    fn add_line(&mut self, alloc: Global, types: &TypeTags, line: &[u8]) -> Result<(), OutOfMemory>
         requires { self.old.refused + 1 < 2 ^ 64 }
         ensures parts { OnOk result
             (self.new.parts.items ≡ self.old.parts.items ++ map said_by (parts_read (line_read line.now))) }
@@ -40,7 +41,7 @@ impl Reading {
             (self.new.refused ≡ self.old.refused + (if is_err (line_read line.now) then 1 else 0)) }
     {
         match read_said(alloc, line) {
-            Ok(Some(said)) => append_line(alloc, said, &mut self.parts),
+            Ok(Some(said)) => append_line(alloc, types, said, &mut self.parts),
             Ok(None) => self.add_metrics(alloc, line),
             Err(fault) => self.refuse(fault),
         }
@@ -79,7 +80,11 @@ impl Reading {
 }
 
 /// Reads a packet.
-pub(crate) fn read_packet(alloc: Global, packet: &[u8]) -> Result<Reading, OutOfMemory>
+pub(crate) fn read_packet(
+    alloc: Global,
+    types: &TypeTags,
+    packet: &[u8],
+) -> Result<Reading, OutOfMemory>
     requires { length packet.now ≤ 65535 }
     ensures parts { IfOk result (λ reading. reading.parts.items ≡ map said_by (parts_of_lines (lines_of packet.now))) }
     ensures refused { IfOk result (λ reading. reading.refused ≡ refused_lines (lines_of packet.now)) }
@@ -93,7 +98,7 @@ pub(crate) fn read_packet(alloc: Global, packet: &[u8]) -> Result<Reading, OutOf
     let mut i = 0;
     while i < packet.len() {
         if packet[i] == b'\n' {
-            reading.add_line(alloc, without_return(&packet[start..i]))?;
+            reading.add_line(alloc, types, without_return(&packet[start..i]))?;
             i += 1;
             start = i;
         } else {
@@ -101,7 +106,7 @@ pub(crate) fn read_packet(alloc: Global, packet: &[u8]) -> Result<Reading, OutOf
         }
     }
     if start < packet.len() {
-        reading.add_line(alloc, &packet[start..])?;
+        reading.add_line(alloc, types, &packet[start..])?;
     }
     Ok(reading)
 }

@@ -7,6 +7,7 @@ ghost use Rattle.statsd_server.specs.Server.{StandsFor};
 
 use crate::reading::{Reading, read_packet};
 use crate::served::made_of;
+use crate::tags::TypeTags;
 use crate::tally::Tally;
 use fixed_num::OutOfMemory;
 use metric::Metric;
@@ -18,6 +19,7 @@ use std::marker::Model;
 #[derive(Drop)]
 pub struct Server {
     alloc: Global,
+    types: TypeTags,
     packets: u64,
     tally: Tally,
 }
@@ -49,6 +51,7 @@ impl Server {
     {
         Ok(Server {
             alloc,
+            types: TypeTags::new(alloc)?,
             packets: 0,
             tally: Tally::new(alloc),
         })
@@ -72,7 +75,7 @@ impl Server {
         ensures err { (earlier : List (List Packet)) (hand : List Packet) → StandsFor earlier hand self.old
             → OnErr result (StandsFor earlier hand self.new) }
     {
-        let reading = read_packet(self.alloc, bytes)?;
+        let reading = read_packet(self.alloc, &self.types, bytes)?;
         if !can_count(self.packets, &self.tally, &reading) {
             return Err(OutOfMemory);
         }

@@ -49,7 +49,6 @@ pub(crate) fn level_or_zero(level: Option<Fixed>) -> Fixed
 
 /// The place of a series, which is given one where it has none. What is held stays.
 fn place_series<V: Drop>(
-    alloc: Global,
     table: &mut Table<Marked, V>,
     series: &Marked,
 ) -> Result<usize, OutOfMemory>
@@ -60,23 +59,19 @@ fn place_series<V: Drop>(
 {
     match table.place_of(series) {
         Some(at) => Ok(at),
-        None => table.add(series.copy(alloc)?),
+        None => table.add(series.copy()?),
     }
 }
 
 /// The place of the level of a part's series, where the part has one.
-fn place_level(
-    alloc: Global,
-    levels: &mut Table<Marked, Fixed>,
-    part: &Part,
-) -> Result<usize, OutOfMemory>
+fn place_level(levels: &mut Table<Marked, Fixed>, part: &Part) -> Result<usize, OutOfMemory>
     ensures same { (other : SeriesSeen) → level_held levels.new other ≡ level_held levels.old other }
     ensures stays { (other : SeriesSeen) (at : ℕ) → place_by marked_cmp levels.old other ≡ Some at
         → place_by marked_cmp levels.new other ≡ Some at }
     ensures place { IfOk result (LevelPlace levels.new part.now.series part.now.change) }
 {
     match &part.change {
-        Change::Sets(_) | Change::Moves(_) => place_series(alloc, levels, &part.series),
+        Change::Sets(_) | Change::Moves(_) => place_series(levels, &part.series),
         Change::Adds(_) | Change::Took(_) | Change::Names(_) => Ok(0),
     }
 }
@@ -174,14 +169,14 @@ impl Tally {
     }
 
     /// A part with its places. What is kept stays.
-    fn place(&mut self, alloc: Global, part: Part) -> Result<Placed, OutOfMemory>
+    fn place(&mut self, part: Part) -> Result<Placed, OutOfMemory>
         ensures stays { HasStayed (memory_of self.old) (memory_of self.new) }
         ensures part { IfOk result (λ placed. placed.part ≡ part) }
         ensures placed { IfOk result (IsPlaced (memory_of self.new)) }
     {
-        let member = Member::named(alloc, &part)?;
-        let sum = place_series(alloc, &mut self.sums, &part.series)?;
-        let level = place_level(alloc, &mut self.levels, &part)?;
+        let member = Member::named(&part)?;
+        let sum = place_series(&mut self.sums, &part.series)?;
+        let level = place_level(&mut self.levels, &part)?;
         let member = place_member(&mut self.members, member)?;
         Ok(Placed {
             part,
@@ -205,7 +200,7 @@ impl Tally {
         self.order.reserve(parts.len())?;
         let mut all = Vec::with_capacity(alloc, parts.len())?;
         for part in parts {
-            all.push(self.place(alloc, part)?)?;
+            all.push(self.place(part)?)?;
         }
         Ok(all)
     }

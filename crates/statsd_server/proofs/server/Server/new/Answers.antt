@@ -3,4 +3,4 @@ use Rattle.statsd_server.proofs.ServerLemmas.{stands_new}
 use Rattle.statsd_server.proofs.server.Server.new.Goals as goal
 
 pub returns : goal.returns
-returns c = stands_new _ refl c.new.ensures.keeps c.new.ensures.counted c.new.ensures.refused
+returns c = stands_new _ refl c.new-2.ensures.keeps c.new-2.ensures.counted c.new-2.ensures.refused

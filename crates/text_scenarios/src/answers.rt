@@ -3,7 +3,7 @@ use crate::chains::append_chained;
 use crate::changes::{append_changed, append_series};
 use crate::configurations::{append_configuration, append_interval};
 use crate::formats::{
-    append_exposition, append_graphite, append_influx, append_statsd, append_template,
+    append_exposition, append_graphite, append_influx, append_said, append_statsd, append_template,
 };
 use crate::metrics::{append_filtered, append_glob, append_left, append_metric};
 use crate::numbers::{
@@ -35,6 +35,7 @@ pub fn answer(
     match key {
         "influx" => append_influx(alloc, piece, out),
         "statsd" => append_statsd(alloc, piece, out),
+        "said" => append_said(alloc, piece, out),
         "graphite" => append_graphite(alloc, row, piece, out),
         "expositions" => append_exposition(alloc, row, piece, out),
         "configurations" => append_configuration(alloc, piece, out),

@@ -3,9 +3,10 @@ use crate::configurations::config_of;
 use crate::pieces::{put, setting};
 use format_words::{InFormat, Template};
 use line_proto::write_line;
-use metric::Metric;
+use metric::{Builder, Metric};
 use openmetrics_text::{Exposition, read_exposition};
 use scenario_tables::Row;
+use statsd_text::{LineSaid, part_tags, read_said};
 use std::alloc::Global;
 use std::fmt::Debug;
 use std::test::Fail;
@@ -37,6 +38,30 @@ pub fn append_influx(alloc: Global, piece: &[u8], out: &mut Vec<u8>) -> Result<(
 pub fn append_statsd(alloc: Global, piece: &[u8], out: &mut Vec<u8>) -> Result<(), Fail> {
     match statsd_text::read_line(alloc, piece, 50) {
         Ok(metrics) => append_metrics(alloc, metrics.as_slice(), out)?,
+        Err(fault) => append_fault(fault.kind, fault.offset, out)?,
+    }
+    Ok(())
+}
+
+/// Appends the metrics at the moment 50 that are made of what the parts of a line say.
+fn append_line(alloc: Global, line: &LineSaid, out: &mut Vec<u8>) -> Result<(), Fail> {
+    for said in line.said.as_slice() {
+        let mut builder = Builder::of(alloc, line.name.copy()?);
+        let tags = part_tags(alloc, line.tags.as_slice(), said.metric_type)?;
+        for (key, value) in tags.as_slice() {
+            builder.tag_of(key.copy()?, value.copy()?)?;
+        }
+        builder.field(said.field.text(), said.value.copy()?)?;
+        write_line(alloc, &builder.finish(50)?, out)?;
+    }
+    Ok(())
+}
+
+/// Appends what a line of StatsD says, before metrics are made of it, as metrics that are made of that here.
+pub fn append_said(alloc: Global, piece: &[u8], out: &mut Vec<u8>) -> Result<(), Fail> {
+    match read_said(alloc, piece) {
+        Ok(Some(line)) => append_line(alloc, &line, out)?,
+        Ok(None) => put(out, "not said\n")?,
         Err(fault) => append_fault(fault.kind, fault.offset, out)?,
     }
     Ok(())

@@ -63,7 +63,7 @@ pub record Memory : Type 0 where
   pub sums : Sums
   pub levels : Levels
   pub members : Members
-  -- the first part that counts of each series, and for how many of them there is room
+  -- the series of which a part counts, in the order of their first such parts, and for how many of them there is room
   pub order : List First
   pub room : ℕ
   -- how many parts count in the group in hand, and how many lines and parts were left out of it
@@ -75,7 +75,7 @@ abbrev pub summary_if : List Change → Option Summary
 summary_if [] = None
 summary_if (change ∷ changes) = Some (summary_of (change ∷ changes))
 
--- the series of a first part
+-- the series of such a first part
 abbrev pub first_series : First → Series
 first_series first = first.series
 

@@ -15,7 +15,7 @@ use std::alloc::Global;
 use std::marker::Model;
 
 /// What a StatsD server makes of the packets that it gets, group by group. It keeps the level of each gauge since the
-/// start; of the group in hand it keeps a few numbers for each series, its first part, and the members of sets.
+/// start; of the group in hand it keeps a few numbers for each series, and the members of sets.
 #[derive(Drop)]
 pub struct Server {
     alloc: Global,

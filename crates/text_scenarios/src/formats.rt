@@ -1,4 +1,6 @@
 //! What pieces of each format are read as.
+ghost use Rattle.statsd_text.specs.Views.{IsWholeLine};
+
 use crate::configurations::config_of;
 use crate::pieces::{put, setting};
 use format_words::{InFormat, Template};
@@ -44,7 +46,9 @@ pub fn append_statsd(alloc: Global, piece: &[u8], out: &mut Vec<u8>) -> Result<(
 }
 
 /// Appends the metrics at the moment 50 that are made of what the parts of a line say.
-fn append_line(alloc: Global, line: &LineSaid, out: &mut Vec<u8>) -> Result<(), Fail> {
+fn append_line(alloc: Global, line: &LineSaid, out: &mut Vec<u8>) -> Result<(), Fail>
+    requires { IsWholeLine line.now }
+{
     for said in line.said.as_slice() {
         let mut builder = Builder::of(alloc, line.name.copy()?);
         let tags = part_tags(alloc, line.tags.as_slice(), said.metric_type)?;

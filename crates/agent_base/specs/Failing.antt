@@ -2,7 +2,6 @@
 use Rattle.std.specs.Prelude.{◌≡◌, ℕ, ◌+◌, ◌-◌, ◌^◌, ◌==◌, min, List, ◌++◌, length, take, drop, Bool, true, false, ⊤}
 use Rattle.std.specs.Prelude.{Option, Some, None, Result, Ok, Err}
 use Rattle.std.specs.List.{find, list_any}
-use Rattle.agent_base.specs.declared.outside.Failed.{Failed}
 use Rattle.agent_base.specs.declared.outside.PutFault.{PutFault}
 use Rattle.agent_base.specs.declared.outside.PutFault.TheVariants as faults
 
@@ -29,12 +28,12 @@ abbrev pub next_length : SourceState → ℕ → ℕ
 next_length source room = min (min (length source.left) room) source.most
 
 -- the next read fails exactly where it is to fail, and gives so many bytes where it isn't
-abbrev pub ReadAnswers : SourceState → ℕ → Result ℕ Failed → Type 0
+abbrev pub ReadAnswers : {E : Type 0} → SourceState → ℕ → Result ℕ E → Type 0
 ReadAnswers source room (Ok count) = (is_to_fail source ≡ false) × (count ≡ next_length source room)
 ReadAnswers source room (Err fault) = is_to_fail source ≡ true
 
 -- what a read leaves: the bytes behind those that it gave, and all where it failed; it is counted
-abbrev pub after_read : SourceState → Result ℕ Failed → SourceState
+abbrev pub after_read : {E : Type 0} → SourceState → Result ℕ E → SourceState
 after_read source (Ok count) = record source { left = drop count source.left; reads = one_more source.reads }
 after_read source (Err fault) = record source { reads = one_more source.reads; faults = one_more source.faults }
 

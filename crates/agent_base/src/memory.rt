@@ -1,8 +1,13 @@
 //! Sources, sinks and clocks in memory.
 ghost use Rattle.std.specs.Prelude.{◌≡◌, ◌≤◌, ◌-◌, ◌++◌, [], length, take, drop, min, vec_len, false, Some};
-ghost use Rattle.std.specs.Prelude.{IfOk, OnErr};
+ghost use Rattle.std.specs.Prelude.{IfErr, IfOk, OnErr};
+ghost use Rattle.std.specs.Io.{ReadsAtMost};
+ghost use Rattle.std.specs.Io.KnownBytes.{ReadConsumes};
 ghost use Rattle.std.specs.List.{position};
+ghost use Rattle.agent_base.specs.declared.outside.ReadRefused.TheVariants as refusals;
 ghost use Rattle.agent_base.specs.Failing.{failing_count, is_numbered};
+ghost use Rattle.agent_base.specs.Puts.{PutAppends, PutHasCause};
+ghost use Rattle.agent_base.specs.Reads.{ReadHasCause};
 
 use crate::{Clock, Failed, PutFault, ReadRefused, Sink, Source};
 use fixed_num::Moment;
@@ -94,9 +99,24 @@ fn copy_front(bytes: &[u8], buf: &mut [u8], most: usize) -> usize
 }
 
 impl Source for MemSource {
+    ghost use Rattle.agent_base.specs.Failing.{ReadAnswers, after_read};
+
     ghost told = { λ s. record { bytes = Some s.left; faults = s.faults } };
 
-    fn read(&mut self, buf: &mut [u8]) -> Result<usize, ReadRefused> {
+    fn read(&mut self, buf: &mut [u8]) -> Result<usize, ReadRefused>
+        ensures bound { ReadsAtMost result buf.new }
+        ensures bytes { ReadConsumes (⟦<MemSource as Source>⟧.told self.old).bytes
+            (⟦<MemSource as Source>⟧.told self.new).bytes result buf.new }
+        ensures cause { ReadHasCause (⟦<MemSource as Source>⟧.told self.old).faults
+            (⟦<MemSource as Source>⟧.told self.new).faults result }
+
+        // It is the next read, which takes no memory.
+        ensures answer { ReadAnswers self.old (length buf.old) result }
+        ensures next { self.new ≡ after_read self.old result }
+        ensures given { IfOk result (λ count. buf.new ≡ take count self.old.left ++ drop count buf.old) }
+        ensures kept { OnErr result (buf.new ≡ buf.old) }
+        ensures failed { IfErr result (λ e. e ≡ refusals.Failed) }
+    {
         match self.read_next(buf) {
             Ok(count) => Ok(count),
             Err(Failed) => Err(ReadRefused::Failed),
@@ -201,9 +221,20 @@ fn front(bytes: &[u8], count: usize) -> &[u8]
 }
 
 impl Sink for MemSink {
+    ghost use Rattle.agent_base.specs.Failing.{PutAnswers, after_put};
+
     ghost told = { λ s. record { bytes = Some s.held; faults = s.faults } };
 
-    fn put(&mut self, bytes: &[u8]) -> Result<(), PutFault> {
+    fn put(&mut self, bytes: &[u8]) -> Result<(), PutFault>
+        ensures bytes { PutAppends (⟦<MemSink as Sink>⟧.told self.old).bytes
+            (⟦<MemSink as Sink>⟧.told self.new).bytes bytes.now result }
+        ensures cause { PutHasCause (⟦<MemSink as Sink>⟧.told self.old).faults
+            (⟦<MemSink as Sink>⟧.told self.new).faults result }
+
+        // It is the next put.
+        ensures answer { PutAnswers self.old result }
+        ensures next { self.new ≡ after_put self.old bytes.now result }
+    {
         self.put_next(bytes)
     }
 }

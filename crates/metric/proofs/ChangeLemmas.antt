@@ -224,6 +224,11 @@ field_gone m key h =
       | false ↦ h
     ]
 
+-- what holds holds also where a call failed
+pub on_err : {A : Type 0} {P : Type 0} (result : Result A OutOfMemory) → P → OnErr result P
+on_err (Ok x) p = tt
+on_err (Err x) p = p
+
 -- after a call that may fail
 pub after : {A : Type 0} (old changed new : Content) (result : Result A OutOfMemory) → OnOk result (new ≡ changed)
     → OnErr result (new ≡ old) → IsMetric changed → IsMetric old

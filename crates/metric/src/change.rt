@@ -1,5 +1,5 @@
 //! Changing what a metric says.
-ghost use Rattle.std.specs.Prelude.{◌≡◌, IfOk, OnOk, OnErr};
+ghost use Rattle.std.specs.Prelude.{◌≡◌, IfOk, OnOk, OnErr, true};
 ghost use Rattle.std.specs.Arc.{arc_value};
 ghost use Rattle.std.specs.List.{position, IsDistinct};
 ghost use Rattle.std.specs.Map.{keys_of};
@@ -89,6 +89,7 @@ pub(crate) fn drop_tag(
 ) -> Result<bool, OutOfMemory>
     requires { IsInKeyOrder (arc_value content.old).tags }
     ensures gone { IfOk result (λ gone. gone ≡ has_key (arc_value content.old).tags key.now) }
+    ensures there { OnErr result (has_key (arc_value content.old).tags key.now ≡ true) }
     ensures ok { OnOk result
         (arc_value content.new ≡ record (arc_value content.old) {
           tags = without_key (arc_value content.old).tags key.now;
@@ -116,6 +117,7 @@ pub(crate) fn drop_field(
 ) -> Result<bool, OutOfMemory>
     requires { IsDistinct (pointwise nat_eq) (keys_of (arc_value content.old).fields) }
     ensures gone { IfOk result (λ gone. gone ≡ loses_field (arc_value content.old).fields key.now) }
+    ensures there { OnErr result (loses_field (arc_value content.old).fields key.now ≡ true) }
     ensures ok { OnOk result
         (arc_value content.new ≡ record (arc_value content.old) {
           fields = without_field (arc_value content.old).fields key.now;

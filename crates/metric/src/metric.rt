@@ -1,5 +1,6 @@
 //! Metrics.
-ghost use Rattle.std.specs.Prelude.{◌≡◌, ◌≤◌, ◌↔◌, All, IfOk, IsTrue, OnErr, OnOk, drop, length};
+ghost use Rattle.std.specs.Prelude.{◌≡◌, ◌≤◌, ◌↔◌, All, IfOk, IsOkAnd, IsTrue, OnErr, OnOk, drop, length, true};
+ghost use Rattle.std.specs.List.{list_all};
 ghost use Rattle.std.proofs.Common.{rules};
 ghost use Rattle.std.specs.Cmp.Rules.{comparing};
 ghost use Rattle.std.specs.Option.{option_copied};
@@ -94,11 +95,14 @@ impl Metric {
     }
 
     /// The metric with the tags of a list that it lacks: each in order, at its place by key, where no tag has its
-    /// key then. The list may be in any order. Where the metric lacks none it is given back as it is.
+    /// key then. The list may be in any order. Where the metric lacks none it is given back as it is, which takes no
+    /// memory.
     pub fn with_tags(self, alloc: Global, given: &[(Text, Text)]) -> Result<Metric, OutOfMemory>
         requires { All IsFilledTag given.now }
-        ensures { IfOk result
+        ensures added { IfOk result
             (λ m. m ≡ record self { tags = with_all_missing self.tags given.now }) }
+        ensures known { list_all (λ tag. has_key self.tags tag.0) given.now ≡ true
+            → IsOkAnd result (λ m. m ≡ self) }
     {
         let from = behind_known(self.tags(), given);
         if from == given.len() {
@@ -168,10 +172,11 @@ impl Metric {
         change::set_field(&mut self.content, alloc, key, value)
     }
 
-    /// The tag of a key goes: true exactly where there was one. It may take memory where other metrics share the
-    /// content. After an error the metric is as before.
+    /// The tag of a key goes: true exactly where there was one. It may take memory where one goes and other metrics
+    /// share the content. After an error the metric is as before.
     pub fn drop_tag(&mut self, alloc: Global, key: &str) -> Result<bool, OutOfMemory>
         ensures gone { IfOk result (λ gone. gone ≡ has_key self.old.tags key.now) }
+        ensures there { OnErr result (has_key self.old.tags key.now ≡ true) }
         ensures ok { OnOk result
             (self.new ≡ record self.old { tags = without_key self.old.tags key.now }) }
         ensures err { OnErr result (self.new ≡ self.old) }
@@ -179,10 +184,11 @@ impl Metric {
         change::drop_tag(&mut self.content, alloc, key)
     }
 
-    /// The field of a key goes, unless it is the only one: true exactly where it went. It may take memory where other
-    /// metrics share the content. After an error the metric is as before.
+    /// The field of a key goes, unless it is the only one: true exactly where it went. It may take memory where one
+    /// goes and other metrics share the content. After an error the metric is as before.
     pub fn drop_field(&mut self, alloc: Global, key: &str) -> Result<bool, OutOfMemory>
         ensures gone { IfOk result (λ gone. gone ≡ loses_field self.old.fields key.now) }
+        ensures there { OnErr result (loses_field self.old.fields key.now ≡ true) }
         ensures ok { OnOk result
             (self.new ≡ record self.old { fields = without_field self.old.fields key.now }) }
         ensures err { OnErr result (self.new ≡ self.old) }

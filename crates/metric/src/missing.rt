@@ -1,5 +1,5 @@
 //! Tags that a metric lacks.
-ghost use Rattle.std.specs.Prelude.{◌≡◌, ◌≤◌, All, IfOk, IsTrue, OnOk, drop, length};
+ghost use Rattle.std.specs.Prelude.{◌≡◌, ◌<◌, ◌≤◌, All, IfOk, IsTrue, OnOk, drop, false, length};
 ghost use Rattle.std.specs.List.{AllByRecursion, list_all};
 ghost use Rattle.metric.specs.Metric.{is_filled, IsFilled, IsFilledTag, IsTag};
 ghost use Rattle.metric.specs.Pairs.{has_key, with_missing, with_all_missing, IsInKeyOrder};
@@ -28,6 +28,7 @@ pub fn are_filled(tags: &[(Text, Text)]) -> bool
 pub(crate) fn behind_known(tags: &[(Text, Text)], given: &[(Text, Text)]) -> usize
     ensures within { result ≤ length given.now }
     ensures same { with_all_missing tags.now (drop result given.now) ≡ with_all_missing tags.now given.now }
+    ensures unknown { result < length given.now → list_all (λ tag. has_key tags.now tag.0) given.now ≡ false }
 {
     let mut at = 0;
     while at < given.len() && has_key(tags, given[at].0.as_str()) {

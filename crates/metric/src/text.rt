@@ -1,5 +1,5 @@
 //! UTF-8 text that contracts see as its bytes.
-ghost use Rattle.std.specs.Prelude.{◌≡◌, ◌++◌, true, IfOk, OnErr, OnOk, nat_eq};
+ghost use Rattle.std.specs.Prelude.{◌≡◌, ◌≤◌, ◌↔◌, ◌++◌, true, length, IfOk, IsTrue, OnErr, OnOk, nat_eq};
 ghost use Rattle.std.specs.List.{list_all};
 ghost use Rattle.metric.specs.Text.{kept_bytes, IsKept};
 ghost use Rattle.metric.specs.Plain.{is_plain};
@@ -87,9 +87,11 @@ impl Text {
         long_sharing(alloc, other, s)
     }
 
-    /// Whether a text is so short that it takes no memory but its own.
+    /// Whether a text is so short that it takes no memory but its own: it has at most 24 bytes.
     #[inline(always)]
-    pub fn is_short(s: &str) -> bool {
+    pub fn is_short(s: &str) -> bool
+        ensures { IsTrue result ↔ (length s.now ≤ MOST) }
+    {
         s.len() <= MOST
     }
 

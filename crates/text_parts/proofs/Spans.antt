@@ -2,14 +2,15 @@
 use Rattle.std.proofs.Common.{◌≡◌, ℕ, suc, ◌+◌, ◌-◌, ◌<◌, ◌≤◌, Bool, true, false, cond, ltb, List, [], ◌∷◌}
 use Rattle.std.proofs.Common.{length, get_or, take, drop, Option, Some, None, refl, sym, ap, subst, ◌∙◌, add-zero}
 use Rattle.std.proofs.Common.{arith}
-use Rattle.std.proofs.lemmas.List.{length-take-le, length-drop}
+use Rattle.std.proofs.lemmas.List.{length-take, length-take-le, length-drop}
 use Rattle.text_parts.specs.declared.span.Span.{Span}
 use Rattle.text_parts.specs.Part.{len_at, text_at}
-use Rattle.std.specs.Prelude.{◌&&◌, ◌==◌, ◌||◌, not, unwrap_or}
-use Rattle.std.specs.List.{position, position_or_len}
+use Rattle.std.specs.Prelude.{◌&&◌, ◌==◌, ◌||◌, not, slice_range, unwrap_or}
+use Rattle.std.specs.List.{list_any, position, position_or_len}
 use Rattle.std.specs.Str.{IsCharBoundary}
 use Rattle.std.proofs.lemmas.Bool.{ltb-false, ltb-true}
-use Rattle.std.proofs.lemmas.List.{drop-drop, get_or-drop}
+use Rattle.std.proofs.lemmas.List.{drop-drop, get_or-drop, get_or-take}
+use Rattle.std.proofs.lemmas.List.Folds.{list_any_at}
 use Rattle.std.proofs.lemmas.List.Sums.{prefix_len-le-length, passes_at_first}
 use Rattle.text_parts.specs.Part.{Kind, part_len, plain}
 use Rattle.text_parts.specs.Span.{IsSpan}
@@ -156,6 +157,53 @@ escaped_span k low piece i first len at is same within =
       first = at;
       last = subst (IsCharBoundary piece) (sym sum) (part-IsCharBoundary_at k low piece i at.0 (omega (arith, whole)));
     }
+
+-- ---- whether a part has a backslash
+
+-- a part that begins with a backslash isn't empty, where a backslash ends none
+begins_some : (k : Kind) (bs : List ℕ) → k.ends 92 ≡ false → get_or bs 0 0 ≡ 92 → 0 < part_len k bs
+unfolding part_len
+begins_some k [] none e = absurd cc
+begins_some k (b ∷ []) none e = rw (e, none) (omega arith)
+begins_some k (b ∷ c ∷ bs) none e =
+    elim (b == 92 && k.escapes c) as (λ t. 0 < cond t (2 + part_len k bs)
+    (cond (k.ends b) 0 (1 + part_len k (c ∷ bs)))) [
+      | true ↦ omega arith
+      | false ↦ rw (e, none) (omega arith)
+    ]
+
+-- no backslash stands before a stop
+none_before : (k : Kind) (bs : List ℕ) → list_any (λ b. b == 92) (take (position_or_len (stops k) bs) bs) ≡ false
+none_before k [] = refl
+none_before k (b ∷ bs) =
+    elim (stops k b) as (λ t. stops k b ≡ t
+    → list_any (λ b. b == 92) (take (cond (not t) (1 + position_or_len (stops k) bs) 0) (b ∷ bs)) ≡ false) [
+      | true ↦ λ e. refl
+      | false ↦ λ e.
+          let m : 1 + position_or_len (stops k) bs ≡ suc (position_or_len (stops k) bs) = omega arith in
+          let both = or_false (k.ends b) (b == 92) e in
+          rw m (rw both.1 (none_before k bs))
+    ] refl
+
+pub unescaped_none : (k : Kind) (piece : List ℕ) (i first : ℕ) → first ≡ position_or_len (stops k) (drop i piece)
+    → false ≡ list_any (λ b. b == 92) (slice_range piece i (i + first))
+unescaped_none k piece i first is =
+    let size : i + first - i ≡ first = omega arith in
+    let none : list_any (λ b. b == 92) (take first (drop i piece)) ≡ false = rw is (none_before k (drop i piece)) in
+    rw size (sym none)
+
+pub escaped_some : (k : Kind) → k.ends 92 ≡ false → (piece : List ℕ) (i first len : ℕ) → first < length (drop i piece)
+    → get_or (drop i piece) first 0 ≡ 92 → len ≡ part_len k (drop first (drop i piece))
+    → true ≡ list_any (λ b. b == 92) (slice_range piece i (i + first + len))
+escaped_some k none piece i first len lt here same =
+    let head : get_or (drop first (drop i piece)) 0 0 ≡ 92 = rw (get_or-drop, add-zero) here in
+    let some : 0 < len = rw same (begins_some k (drop first (drop i piece)) none head) in
+    let size : i + first + len - i ≡ first + len = omega arith in
+    let within : first < length (take (first + len) (drop i piece)) =
+    omega (arith, some, lt, length-take (first + len) (drop i piece)) in
+    let there : get_or (take (first + len) (drop i piece)) first 0 ≡ 92 =
+    get_or-take (first + len) (drop i piece) first 0 (omega (arith, some)) ∙ here in
+    rw size (sym (list_any_at (λ b. b == 92) (take (first + len) (drop i piece)) first 0 within (rw there refl)))
 
 -- ---- parts in which nothing is hidden
 

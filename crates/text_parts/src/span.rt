@@ -1,6 +1,6 @@
 //! Parts of a piece, found in one pass and copied only where they have escapes.
-ghost use Rattle.std.specs.Prelude.{◌≡◌, ◌≤◌, ◌==◌, ◌||◌, length, slice_range};
-ghost use Rattle.std.specs.List.{position_or_len};
+ghost use Rattle.std.specs.Prelude.{◌≡◌, ◌≤◌, ◌==◌, ◌||◌, false, length, slice_range};
+ghost use Rattle.std.specs.List.{list_any, position_or_len};
 ghost use Rattle.std.specs.Str.{IsCharBoundary};
 ghost use Rattle.text_parts.specs.Bytes.{backslash};
 ghost use Rattle.text_parts.specs.Kinds.{kind_of, ends_of, IsAsciiPart};
@@ -36,6 +36,8 @@ pub fn span_at(part: &Part, piece: &str, i: usize) -> Span
     requires ascii { IsAsciiPart part.now }
     ensures start { result.start ≡ i }
     ensures span { IsSpan (kind_of part.now) piece.now result }
+    ensures escaped { ends_of part.now backslash ≡ false → result.escaped
+        ≡ list_any (λ b. b == backslash) (slice_range piece.now result.start result.end) }
 {
     let bytes = piece.as_bytes();
     let (_, rest) = bytes.split_at(i);

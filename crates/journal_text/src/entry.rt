@@ -253,11 +253,7 @@ pub fn named_by(e: &Entry) -> &[Metric]
         Entry::Gather { metrics, .. } => metrics.as_slice(),
         Entry::Tick { made, .. } => made.as_slice(),
         Entry::Stop { made, .. } => made.as_slice(),
-        Entry::Ended { .. } => &[],
-        Entry::Take { .. } => &[],
-        Entry::Route { .. } => &[],
-        Entry::Begin { .. } => &[],
-        Entry::Done { .. } => &[],
+        _ => &[],
     }
 }
 
@@ -269,11 +265,7 @@ fn reports_of(e: &Entry) -> &[Report]
         Entry::Gather { reports, .. } => reports.as_slice(),
         Entry::Route { reports, .. } => reports.as_slice(),
         Entry::Done { reports, .. } => reports.as_slice(),
-        Entry::Ended { .. } => &[],
-        Entry::Take { .. } => &[],
-        Entry::Tick { .. } => &[],
-        Entry::Stop { .. } => &[],
-        Entry::Begin { .. } => &[],
+        _ => &[],
     }
 }
 

@@ -23,7 +23,7 @@ use Rattle.journal_text.specs.JournalText.{item_of}
 use Rattle.journal_text.proofs.JournalLemmas.{equal_are_same}
 use Rattle.journal_reader.specs.declared.entry.Begun.{Begun}
 use Rattle.journal_reader.specs.declared.entry.Counts.{Counts}
-use Rattle.journal_reader.specs.Words.{Parts, taken, behind, each, number, small_number}
+use Rattle.journal_reader.specs.Words.{◌>>=◌, Parts, taken, behind, at_end, each, number, small_number}
 use Rattle.journal_reader.specs.Words.{signed_number, either_of}
 use Rattle.journal_reader.specs.MetricReading.{content_of, is_metric, metric_of}
 use Rattle.journal_reader.specs.EntryReading.{alone, group_of, counts_of, gather_in, ended_in, take_in, made_in}
@@ -31,7 +31,7 @@ use Rattle.journal_reader.specs.EntryReading.{tick_of, stop_of, begin_in, done_i
 use Rattle.journal_reader.specs.EntryReading.{beside_of, view_of, verdict_of, agg_views, whole_in, removed_in}
 use Rattle.journal_reader.specs.EntryReading.{routed_in}
 use Rattle.journal_reader.specs.EntryReading.{route_in, entry_in, metric_in, report_in}
-use Rattle.journal_reader.specs.Spellable.{FitsGroup, FitsView, FitsEntry}
+use Rattle.journal_reader.specs.Spellable.{FitMetrics, FitsGroup, FitsView, FitsEntry}
 use Rattle.journal_reader.proofs.WordLemmas.{are_bytes, number_is}
 use Rattle.journal_reader.proofs.MetricFacts.{metric_fits}
 use Rattle.journal_reader.proofs.Holding.{Holds, no_answer, one_answer, next_answer, where_answer, test_answer}
@@ -281,37 +281,46 @@ gather_back known setup words =
       waits = λ owes. refl;
     }))))))
 
+-- what is so of an entry without metrics and reports, whose line has these words where so many metrics are owed
+record IsBare (known : List Content) (e : Entry) (owed : ℕ) (words : Parts) : Type 0 where
+  words_are : words ≡ first_word e ∷ words_with (item_of known e) e owed
+  named : named_by e ≡ []
+  reports : reports_of e ≡ []
+  waits : Waits e owed
+
+-- an entry that is told by one number
+number_back : (known : List Content) (setup : JournalSetup) (words : Parts) (word : List ℕ)
+    (says : List ℕ → Option ℕ) (entry : ℕ → Entry)
+    → ((n : ℕ × Parts) → taken says words ≡ Some n → (words ≡ decimal n.0 ∷ n.1) × FitsEntry setup (entry n.0))
+    → ((n : ℕ) → IsBare known (entry n) 0 (word ∷ decimal n ∷ []))
+    → Holds (IsBegun known setup (word ∷ words)) (taken says words >>= λ n. at_end (alone (entry n.0)) n.1)
+number_back known setup words word says entry took bare =
+    let P = IsBegun known setup (word ∷ words) in
+    next_answer P (taken says words) _ (λ n a.
+    let t = took n a in
+    let b = bare n.0 in
+    end_answer P _ n.1 (λ none. record {
+      words_are = more word words _ (t.0 ∙ more (decimal n.0) n.1 [] none) ∙ b.words_are;
+      fits = t.1;
+      count = omega arith;
+      named = b.named;
+      reports = b.reports;
+      waits = b.waits;
+    }))
+
 ended_back : (known : List Content) (setup : JournalSetup) (words : Parts)
     → Holds (IsBegun known setup (codes "ended" ∷ words)) (ended_in words)
 unfolding ended_in first_word words_with Waits
 ended_back known setup words =
-    let P = IsBegun known setup (codes "ended" ∷ words) in
-    next_answer P (taken small_number words) _ (λ input a.
-    let i = took_small words input a in
-    end_answer P _ input.1 (λ none. record {
-      words_are = more (codes "ended") words _ (i.0 ∙ more (decimal input.0) input.1 [] none);
-      fits = i.1;
-      count = omega arith;
-      named = refl;
-      reports = refl;
-      waits = refl;
-    }))
+    number_back known setup words (codes "ended") small_number Ended (took_small words)
+    (λ n. record { words_are = refl; named = refl; reports = refl; waits = refl })
 
 take_back : (known : List Content) (setup : JournalSetup) (words : Parts)
     → Holds (IsBegun known setup (codes "take" ∷ words)) (take_in words)
 unfolding take_in first_word words_with Waits
 take_back known setup words =
-    let P = IsBegun known setup (codes "take" ∷ words) in
-    next_answer P (taken number words) _ (λ item a.
-    let i = took_number words item a in
-    end_answer P _ item.1 (λ none. record {
-      words_are = more (codes "take") words _ (i.0 ∙ more (decimal item.0) item.1 [] none);
-      fits = i.1;
-      count = omega arith;
-      named = refl;
-      reports = refl;
-      waits = refl;
-    }))
+    number_back known setup words (codes "take") number Take (took_number words)
+    (λ n. record { words_are = refl; named = refl; reports = refl; waits = refl })
 
 begin_back : (known : List Content) (setup : JournalSetup) (words : Parts)
     → Holds (IsBegun known setup (codes "begin" ∷ words)) (begin_in words)
@@ -371,35 +380,39 @@ made_back words =
     end_answer (IsMade words) (moment.0, count.0) count.1 (λ none.
     (m.0 ∙ more (signed_decimal moment.0) moment.1 _ (n.0 ∙ more (decimal count.0) count.1 [] none), m.1, n.1))))
 
+-- an entry that is told by a moment and by how many metrics it made
+closing_back : (known : List Content) (setup : JournalSetup) (words : Parts) (word : List ℕ)
+    (entry : ℤ → List Content → Entry)
+    → ((moment : ℤ) → FitsSigned w64 moment → FitMetrics [] → FitsEntry setup (entry moment []))
+    → ((moment : ℤ) (n : ℕ) → IsBare known (entry moment []) n (word ∷ signed_decimal moment ∷ decimal n ∷ []))
+    → Holds (IsBegun known setup (word ∷ words))
+    (option_map (λ (made : ℤ × ℕ). record { entry = entry made.0 []; owed = made.1 }) (made_in words))
+closing_back known setup words word entry fits bare =
+    map_answer (IsBegun known setup (word ∷ words)) _ (made_in words) (λ made e.
+    let m = (made_back words).at made e in
+    let b = bare made.0 made.1 in
+    record {
+      words_are = more word words _ m.0 ∙ b.words_are;
+      fits = fits made.0 m.1 (record { metrics_are = tt; count = omega arith });
+      count = m.2;
+      named = b.named;
+      reports = b.reports;
+      waits = b.waits;
+    })
+
 tick_back : (known : List Content) (setup : JournalSetup) (words : Parts)
     → Holds (IsBegun known setup (codes "tick" ∷ words)) (option_map tick_of (made_in words))
 unfolding first_word words_with Waits
 tick_back known setup words =
-    map_answer (IsBegun known setup (codes "tick" ∷ words)) tick_of (made_in words) (λ made e.
-    let m = (made_back words).at made e in
-    record {
-      words_are = more (codes "tick") words _ m.0;
-      fits = (m.1, record { metrics_are = tt; count = omega arith });
-      count = m.2;
-      named = refl;
-      reports = refl;
-      waits = tt;
-    })
+    closing_back known setup words (codes "tick") Tick (λ moment fits none. (fits, none))
+    (λ moment n. record { words_are = refl; named = refl; reports = refl; waits = tt })
 
 stop_back : (known : List Content) (setup : JournalSetup) (words : Parts)
     → Holds (IsBegun known setup (codes "stop" ∷ words)) (option_map stop_of (made_in words))
 unfolding first_word words_with Waits
 stop_back known setup words =
-    map_answer (IsBegun known setup (codes "stop" ∷ words)) stop_of (made_in words) (λ made e.
-    let m = (made_back words).at made e in
-    record {
-      words_are = more (codes "stop") words _ m.0;
-      fits = (m.1, record { metrics_are = tt; count = omega arith });
-      count = m.2;
-      named = refl;
-      reports = refl;
-      waits = tt;
-    })
+    closing_back known setup words (codes "stop") Stop (λ moment fits none. (fits, none))
+    (λ moment n. record { words_are = refl; named = refl; reports = refl; waits = tt })
 
 -- the same, where the first word is this one
 by_word : (known : List Content) (setup : JournalSetup) (word text : List ℕ) (words : Parts) (answer : Option Begun)

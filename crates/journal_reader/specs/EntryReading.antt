@@ -143,11 +143,15 @@ whole_in item whole words = do
   outs ← each (view_of (Some whole)) aggs.1
   Some (Route item (Some whole) verdict.0 aggs.0 outs [])
 
--- what stands behind an item and `-`: the views are none, one for each aggregator and output of the set-up
+-- the Route of an item that was removed: the views are none, one for each aggregator and output of the set-up
+abbrev pub removed_of : Sizes → ℕ → Entry
+removed_of sizes item = Route item None Removed (replicate sizes.aggs None) (replicate sizes.outs None) []
+
+-- what stands behind an item and `-`
 unfoldable pub removed_in : Sizes → ℕ → Parts → Option Entry
 removed_in sizes item words = do
   words ← behind (codes "removed") words
-  at_end (Route item None Removed (replicate sizes.aggs None) (replicate sizes.outs None) []) words
+  at_end (removed_of sizes item) words
 
 abbrev pub routed_in : Sizes → ℕ → Option Content → Parts → Option Entry
 routed_in sizes item None words = removed_in sizes item words

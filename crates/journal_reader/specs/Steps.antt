@@ -3,6 +3,7 @@ use Rattle.std.specs.Prelude.{ℕ, ◌+◌, ◌-◌, ◌==◌, ◌&&◌, Bool, L
 use Rattle.std.specs.Prelude.{slice_get, Option, Some, None, if◌then◌else◌}
 use Rattle.std.specs.Option.{option_to_list}
 use Rattle.account.specs.declared.entry.Report.{Report}
+use Rattle.account.specs.declared.setup.AggLine.{AggLine}
 use Rattle.journal_reader.specs.declared.state.State.{State}
 use Rattle.journal_reader.specs.declared.state.Stage.{Stage}
 use Rattle.journal_reader.specs.declared.state.Stage.TheVariants.{Starting, Setting, Telling, Counting, Over}
@@ -22,25 +23,34 @@ starting s line = do
 abbrev pub is_none_yet : {A : Type 0} → List A → Bool
 is_none_yet xs = length xs == 0
 
+abbrev pub with_input : State → Option ℕ → State
+with_input s most = record s { setup = record s.setup { inputs = s.setup.inputs ++ most ∷ [] } }
+
 -- inputs come first
 unfoldable pub set_input : State → List ℕ → Option State
 set_input s line =
     where_true (is_none_yet s.setup.aggs && is_none_yet s.setup.outputs) (do
       most ← input_in (length s.setup.inputs) (words_of line)
-      Some (record s { setup = record s.setup { inputs = s.setup.inputs ++ most ∷ [] } }))
+      Some (with_input s most))
+
+abbrev pub with_agg : State → AggLine → State
+with_agg s agg = record s { setup = record s.setup { aggs = s.setup.aggs ++ agg ∷ [] } }
 
 -- then aggregators
 unfoldable pub set_agg : State → List ℕ → Option State
 set_agg s line =
     where_true (is_none_yet s.setup.outputs) (do
       agg ← agg_in (length s.setup.aggs) (words_of line)
-      Some (record s { setup = record s.setup { aggs = s.setup.aggs ++ agg ∷ [] } }))
+      Some (with_agg s agg))
+
+abbrev pub with_output : State → ℕ × ℕ → State
+with_output s sizes = record s { setup = record s.setup { outputs = s.setup.outputs ++ sizes ∷ [] } }
 
 -- then outputs
 unfoldable pub set_output : State → List ℕ → Option State
 set_output s line = do
   sizes ← output_in (length s.setup.outputs) (words_of line)
-  Some (record s { setup = record s.setup { outputs = s.setup.outputs ++ sizes ∷ [] } })
+  Some (with_output s sizes)
 
 -- ---- entries
 

@@ -1,10 +1,10 @@
 //! The metric that a word is.
-ghost use Rattle.std.specs.Prelude.{◌≡◌, ◌<◌, ◌≤◌, ◌∷◌, length, option_map, IfOk};
+ghost use Rattle.std.specs.Prelude.{◌≡◌, ◌<◌, ◌≤◌, ◌∷◌, ℕ, List, Option, length, option_map, IfOk};
 ghost use Rattle.journal_text.specs.MetricText.{metric_text};
 ghost use Rattle.std.specs.Str.{bytes_eq};
 ghost use Rattle.metric.specs.declared.value.Value.TheVariants as value;
 ghost use Rattle.journal_reader.specs.Words.{each};
-ghost use Rattle.journal_reader.specs.MetricReading.{digit_of, unescaped, text_of, value_of, tag_of, field_of};
+ghost use Rattle.journal_reader.specs.MetricReading.{digit_of, unescaped, text_of, value_of, pair_of};
 ghost use Rattle.journal_reader.specs.MetricReading.{series_of};
 ghost use Rattle.journal_reader.specs.MetricReading.{plain_value_of, content_of, metric_of};
 
@@ -110,76 +110,71 @@ fn value_of(alloc: Global, written: &[u8]) -> Result<Option<Value>, OutOfMemory>
     Ok(plain_value_of(written))
 }
 
-/// A tag: a key and its value.
-#[tactic(auto, unfolding(crate::specs::MetricReading::tag_of, crate::specs::MetricReading::pair_of))]
-fn tag_of(alloc: Global, written: &[u8]) -> Result<Option<(Text, Text)>, OutOfMemory>
-    ensures { IfOk result (λ tag. tag ≡ tag_of written.now) }
-{
-    let Some((key, value)) = cut(b'=', written) else {
-        return Ok(None);
-    };
-    let Some(key) = text_of(alloc, key)? else {
-        return Ok(None);
-    };
-    let Some(value) = text_of(alloc, value)? else {
-        return Ok(None);
-    };
-    Ok(Some((key, value)))
+/// What stands behind a key: the text of a tag, or the value of a field.
+trait Behind: Drop + Sized {
+    /// What is written so, as contracts see it.
+    ghost says: { List ℕ → Option Self };
+
+    /// What is written so.
+    fn of(alloc: Global, written: &[u8]) -> Result<Option<Self>, OutOfMemory>
+        ensures { IfOk result (λ said. said ≡ says written.now) };
 }
 
-/// A field: a key and its value.
-#[tactic(auto, unfolding(crate::specs::MetricReading::field_of, crate::specs::MetricReading::pair_of))]
-fn field_of(alloc: Global, written: &[u8]) -> Result<Option<(Text, Value)>, OutOfMemory>
-    ensures { IfOk result (λ field. field ≡ field_of written.now) }
-{
-    let Some((key, value)) = cut(b'=', written) else {
-        return Ok(None);
-    };
-    let Some(key) = text_of(alloc, key)? else {
-        return Ok(None);
-    };
-    let Some(value) = value_of(alloc, value)? else {
-        return Ok(None);
-    };
-    Ok(Some((key, value)))
-}
+impl Behind for Text {
+    ghost says = { text_of };
 
-/// The tags that parts are.
-fn tags_of(alloc: Global, parts: &mut Parts<'_>) -> Result<Option<Seq<(Text, Text)>>, OutOfMemory>
-    ensures { IfOk result (λ tags. tags ≡ each tag_of parts.old) }
-{
-    let mut tags = Seq::of(Vec::new(alloc));
-    while let Some(part) = parts.next() {
-        let Some(tag) = tag_of(alloc, part)? else {
-            return Ok(None);
-        };
-        tags.push(alloc, tag)?;
+    fn of(alloc: Global, written: &[u8]) -> Result<Option<Text>, OutOfMemory> {
+        text_of(alloc, written)
     }
-    Ok(Some(tags))
 }
 
-/// The fields that parts are.
-fn fields_of(
+impl Behind for Value {
+    ghost says = { value_of };
+
+    fn of(alloc: Global, written: &[u8]) -> Result<Option<Value>, OutOfMemory> {
+        value_of(alloc, written)
+    }
+}
+
+/// A tag or a field: a key, and what stands behind its equals sign.
+#[tactic(auto, unfolding(crate::specs::MetricReading::pair_of))]
+fn pair_of<B: Behind>(alloc: Global, written: &[u8]) -> Result<Option<(Text, B)>, OutOfMemory>
+    ensures { IfOk result (λ pair. pair ≡ pair_of B.says written.now) }
+{
+    let Some((key, behind)) = cut(b'=', written) else {
+        return Ok(None);
+    };
+    let Some(key) = text_of(alloc, key)? else {
+        return Ok(None);
+    };
+    let Some(said) = B::of(alloc, behind)? else {
+        return Ok(None);
+    };
+    Ok(Some((key, said)))
+}
+
+/// The tags or the fields that parts are.
+fn pairs_of<B: Behind>(
     alloc: Global,
     parts: &mut Parts<'_>,
-) -> Result<Option<Seq<(Text, Value)>>, OutOfMemory>
-    ensures { IfOk result (λ fields. fields ≡ each field_of parts.old) }
+) -> Result<Option<Seq<(Text, B)>>, OutOfMemory>
+    ensures { IfOk result (λ pairs. pairs ≡ each (pair_of B.says) parts.old) }
 {
-    let mut fields = Seq::of(Vec::new(alloc));
+    let mut pairs = Seq::of(Vec::new(alloc));
     while let Some(part) = parts.next() {
-        let Some(field) = field_of(alloc, part)? else {
+        let Some(pair) = pair_of::<B>(alloc, part)? else {
             return Ok(None);
         };
-        fields.push(alloc, field)?;
+        pairs.push(alloc, pair)?;
     }
-    Ok(Some(fields))
+    Ok(Some(pairs))
 }
 
 /// A name, and tags in the order in which they stand.
 type Series = (Text, Seq<(Text, Text)>);
 
 /// A name with tags behind it.
-#[tactic(auto, unfolding(crate::specs::MetricReading::series_of))]
+#[tactic(auto, unfolding(crate::specs::MetricReading::series_of, crate::specs::MetricReading::tag_of))]
 fn series_of(alloc: Global, parts: &mut Parts<'_>) -> Result<Option<Series>, OutOfMemory>
     ensures { IfOk result (λ series. series ≡ series_of parts.old) }
 {
@@ -189,14 +184,14 @@ fn series_of(alloc: Global, parts: &mut Parts<'_>) -> Result<Option<Series>, Out
     let Some(name) = text_of(alloc, name)? else {
         return Ok(None);
     };
-    let Some(tags) = tags_of(alloc, parts)? else {
+    let Some(tags) = pairs_of::<Text>(alloc, parts)? else {
         return Ok(None);
     };
     Ok(Some((name, tags)))
 }
 
 /// What a word says as a metric: a name with tags, fields and a time.
-#[tactic(auto, unfolding(crate::specs::MetricReading::content_of))]
+#[tactic(auto, unfolding(crate::specs::MetricReading::content_of, crate::specs::MetricReading::field_of))]
 fn content_of(alloc: Global, word: &[u8]) -> Result<Option<Content>, OutOfMemory>
     ensures { IfOk result (λ m. m ≡ content_of word.now) }
 {
@@ -209,7 +204,7 @@ fn content_of(alloc: Global, word: &[u8]) -> Result<Option<Content>, OutOfMemory
     let Some((name, tags)) = series_of(alloc, &mut Parts::of(b';', series))? else {
         return Ok(None);
     };
-    let Some(fields) = fields_of(alloc, &mut Parts::of(b';', fields))? else {
+    let Some(fields) = pairs_of::<Value>(alloc, &mut Parts::of(b';', fields))? else {
         return Ok(None);
     };
     let Ok(time) = read_int(time) else {

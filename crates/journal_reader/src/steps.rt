@@ -1,7 +1,8 @@
 //! What one more line makes of what was read so far.
-ghost use Rattle.std.specs.Prelude.{◌≡◌, OnOk};
+ghost use Rattle.std.specs.Prelude.{◌≡◌, option_map, OnOk};
 ghost use Rattle.journal_reader.specs.States.{Tries, Makes, MakesIt};
-ghost use Rattle.journal_reader.specs.Steps.{starting, set_input, set_agg, set_output, told_metric, told_report};
+ghost use Rattle.journal_reader.specs.Steps.{starting, set_input, set_agg, set_output, with_input, with_agg};
+ghost use Rattle.journal_reader.specs.Steps.{with_output, told_metric, told_report};
 ghost use Rattle.journal_reader.specs.Steps.{told_entry, counted_line, first_counted, ending, counting, going_on};
 ghost use Rattle.journal_reader.specs.Steps.{telling, setting, after, closed};
 
@@ -10,7 +11,7 @@ use crate::entry::{Sizes, report_in};
 use crate::setup::{agg_in, input_in, output_in, start_in, words_of};
 use crate::state::{Stage, State, put_last, report_last};
 use crate::views::{entry_in, metric_in};
-use account::{Entry, Report};
+use account::{AggLine, Entry, Report};
 use fixed_num::OutOfMemory;
 use std::alloc::Global;
 
@@ -28,52 +29,39 @@ impl State {
         true
     }
 
-    /// An input of the set-up.
+    /// The next input of the set-up: inputs come first.
     #[tactic(auto, unfolding(crate::specs::Steps::set_input))]
-    fn set_input(&mut self, alloc: Global, line: &[u8]) -> Result<bool, OutOfMemory>
-        ensures { Tries result (set_input self.old line.now) self.old self.new }
+    fn next_input(&self, line: &[u8]) -> Option<Option<u32>>
+        ensures { set_input self.now line.now ≡ option_map (λ most. with_input self.now most) result }
     {
-        let setup = &mut self.setup;
+        let setup = &self.setup;
         if !setup.aggs.as_slice().is_empty() || !setup.outputs.as_slice().is_empty() {
-            return Ok(false);
+            return None;
         }
-        let index = setup.inputs.as_slice().len() as u64;
-        let Some(most) = input_in(index, &mut words_of(line)) else {
-            return Ok(false);
-        };
-        setup.inputs.push(alloc, most)?;
-        Ok(true)
+        input_in(setup.inputs.as_slice().len() as u64, &mut words_of(line))
     }
 
-    /// An aggregator of the set-up.
+    /// The next aggregator of the set-up: aggregators come before outputs.
     #[tactic(auto, unfolding(crate::specs::Steps::set_agg))]
-    fn set_agg(&mut self, alloc: Global, line: &[u8]) -> Result<bool, OutOfMemory>
-        ensures { Tries result (set_agg self.old line.now) self.old self.new }
+    fn next_agg(&self, line: &[u8]) -> Option<AggLine>
+        ensures { set_agg self.now line.now ≡ option_map (λ agg. with_agg self.now agg) result }
     {
-        let setup = &mut self.setup;
+        let setup = &self.setup;
         if !setup.outputs.as_slice().is_empty() {
-            return Ok(false);
+            return None;
         }
-        let index = setup.aggs.as_slice().len() as u64;
-        let Some(agg) = agg_in(index, &mut words_of(line)) else {
-            return Ok(false);
-        };
-        setup.aggs.push(alloc, agg)?;
-        Ok(true)
+        agg_in(setup.aggs.as_slice().len() as u64, &mut words_of(line))
     }
 
-    /// An output of the set-up.
+    /// The next output of the set-up.
     #[tactic(auto, unfolding(crate::specs::Steps::set_output))]
-    fn set_output(&mut self, alloc: Global, line: &[u8]) -> Result<bool, OutOfMemory>
-        ensures { Tries result (set_output self.old line.now) self.old self.new }
+    fn next_output(&self, line: &[u8]) -> Option<(u32, u32)>
+        ensures { set_output self.now line.now ≡ option_map (λ sizes. with_output self.now sizes) result }
     {
-        let setup = &mut self.setup;
-        let index = setup.outputs.as_slice().len() as u64;
-        let Some(sizes) = output_in(index, &mut words_of(line)) else {
-            return Ok(false);
-        };
-        setup.outputs.push(alloc, sizes)?;
-        Ok(true)
+        output_in(
+            self.setup.outputs.as_slice().len() as u64,
+            &mut words_of(line),
+        )
     }
 
     /// A metric of the last entry, of which some are owed.
@@ -222,13 +210,16 @@ impl State {
     fn setting(&mut self, alloc: Global, line: &[u8]) -> Result<bool, OutOfMemory>
         ensures { Makes result (setting self.old line.now) self.new }
     {
-        if self.set_input(alloc, line)? {
+        if let Some(most) = self.next_input(line) {
+            self.setup.inputs.push(alloc, most)?;
             return Ok(true);
         }
-        if self.set_agg(alloc, line)? {
+        if let Some(agg) = self.next_agg(line) {
+            self.setup.aggs.push(alloc, agg)?;
             return Ok(true);
         }
-        if self.set_output(alloc, line)? {
+        if let Some(sizes) = self.next_output(line) {
+            self.setup.outputs.push(alloc, sizes)?;
             return Ok(true);
         }
         self.going_on(alloc, line)

@@ -5,7 +5,7 @@ ghost use Rattle.std.specs.Option.{option_copied};
 ghost use Rattle.journal_reader.specs.MetricReading.{metric_of};
 ghost use Rattle.journal_reader.specs.Words.{taken, each};
 ghost use Rattle.journal_reader.specs.EntryReading.{alone, other_than, beside_of, view_of, verdict_of, agg_views};
-ghost use Rattle.journal_reader.specs.EntryReading.{whole_in, removed_in, route_in, entry_in, metric_in};
+ghost use Rattle.journal_reader.specs.EntryReading.{whole_in, removed_of, route_in, entry_in, metric_in};
 
 use crate::entry::{Begun, Sizes, event_in};
 use crate::metrics::metric_of;
@@ -182,30 +182,18 @@ fn no_views(alloc: Global, count: usize) -> Result<Seq<Option<Metric>>, OutOfMem
     Ok(views)
 }
 
-/// What stands behind an item and `-`: the views are none, one for each aggregator and output.
-#[tactic(auto, unfolding(crate::specs::EntryReading::removed_in))]
-fn removed_in(
-    alloc: Global,
-    sizes: Sizes,
-    item: u64,
-    words: &mut Words<'_>,
-) -> Result<Option<Entry>, OutOfMemory>
-    ensures { IfOk result (λ e. e ≡ removed_in sizes item words.old) }
+/// The Route of an item that was removed: the views are none, one for each aggregator and output.
+fn removed(alloc: Global, sizes: Sizes, item: u64) -> Result<Entry, OutOfMemory>
+    ensures { IfOk result (λ e. e ≡ removed_of sizes item) }
 {
-    if !take_word(words, "removed") {
-        return Ok(None);
-    }
-    if !is_end(words) {
-        return Ok(None);
-    }
-    Ok(Some(Entry::Route {
+    Ok(Entry::Route {
         item,
         whole: None,
         verdict: Verdict::Removed,
         aggs: no_views(alloc, sizes.aggs)?,
         outs: no_views(alloc, sizes.outs)?,
         reports: Seq::of(Vec::new(alloc)),
-    }))
+    })
 }
 
 /// The item of a number among those that are known.
@@ -231,7 +219,7 @@ fn take_view(
 }
 
 /// `K WHOLE VERDICT AGG.. / OUT..`, or `K - removed`.
-#[tactic(auto, unfolding(crate::specs::EntryReading::route_in))]
+#[tactic(auto, unfolding(crate::specs::EntryReading::route_in, crate::specs::EntryReading::removed_in))]
 fn route_in(
     alloc: Global,
     known: &[Metric],
@@ -246,10 +234,14 @@ fn route_in(
     let Some(whole) = take_view(alloc, item_at(known, item), words)? else {
         return Ok(None);
     };
-    match whole {
-        Some(whole) => whole_in(alloc, item, whole, words),
-        None => removed_in(alloc, sizes, item, words),
+    if let Some(whole) = whole {
+        return whole_in(alloc, item, whole, words);
     }
+    if !take_word(words, "removed") || !is_end(words) {
+        return Ok(None);
+    }
+    let entry = removed(alloc, sizes, item)?;
+    Ok(Some(entry))
 }
 
 /// The entry that a line begins, where these items are known, and how many metrics follow it.

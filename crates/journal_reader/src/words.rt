@@ -1,12 +1,12 @@
 //! The words of a line, and what one word says.
 ghost use Rattle.std.specs.Prelude.{◌≡◌, decimal, option_map, Some, None, if◌then◌else◌};
 ghost use Rattle.std.specs.Str.{bytes_eq};
-ghost use Rattle.journal_reader.specs.Words.{taken, behind, is_none_left, number, small_number};
+ghost use Rattle.journal_reader.specs.Words.{spelled, taken, behind, is_none_left, number, small_number};
 ghost use Rattle.journal_reader.specs.Words.{signed_number, either_of};
 
 use crate::parts::Parts;
-use fixed_num::{read_int, read_uint};
-use itoa::Buffer;
+use fixed_num::{NumFault, read_int, read_uint};
+use itoa::{Buffer, Integer};
 
 /// The words of a line that are left.
 pub(crate) type Words<'a> = Parts<'a>;
@@ -19,21 +19,27 @@ pub(crate) fn is(word: &[u8], text: &str) -> bool
     word == text.as_bytes()
 }
 
+/// What was read of a word as a number, where the word is the text of that.
+#[inline(always)]
+fn spelled<N: Integer>(word: &[u8], read: Result<N, NumFault>) -> Option<N>
+    ensures { result ≡ spelled N.text word.now read }
+{
+    let n = read.ok()?;
+    let mut buffer = Buffer::new();
+    if is(word, buffer.format(n)) {
+        Some(n)
+    } else {
+        None
+    }
+}
+
 /// The number whose decimal a word is.
 #[inline(always)]
 #[tactic(auto, unfolding(crate::specs::Words::number))]
 pub(crate) fn number(word: &[u8]) -> Option<u64>
     ensures { result ≡ number word.now }
 {
-    let Ok(n) = read_uint(word) else {
-        return None;
-    };
-    let mut buffer = Buffer::new();
-    if buffer.format(n).as_bytes() == word {
-        Some(n)
-    } else {
-        None
-    }
+    spelled(word, read_uint(word))
 }
 
 /// The number below 2^32 whose decimal a word is.
@@ -52,15 +58,7 @@ pub(crate) fn small_number(word: &[u8]) -> Option<u32>
 pub(crate) fn signed_number(word: &[u8]) -> Option<i64>
     ensures { result ≡ signed_number word.now }
 {
-    let Ok(n) = read_int(word) else {
-        return None;
-    };
-    let mut buffer = Buffer::new();
-    if buffer.format(n).as_bytes() == word {
-        Some(n)
-    } else {
-        None
-    }
+    spelled(word, read_int(word))
 }
 
 /// Takes the first word where it is this text, and says whether it was.

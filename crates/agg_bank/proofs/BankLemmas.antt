@@ -97,20 +97,21 @@ module _ (lines : List AggLine) (start : ℤ) (events : List BankEvent) (olds : 
 
 -- ---- a moment, as it is read where it is passed on
 
-module _ (lines : List AggLine) (start : ℤ) (events : List BankEvent) (all : Bool) (moment : ℤ)
-    (fits : FitsSigned w64 moment) where
-  abbrev read : ℤ
-  read = to_z w64 (of_z w64 moment)
+-- what an event would make of a bank, whatever it stands for
+abbrev pub Makes : BankMemory → List Content → BankEvent → Type 0
+Makes bank made e =
+    (lines : List AggLine) (start : ℤ) (events : List BankEvent) → BankStands lines start events bank
+    → made ≡ made_at lines start events e
 
-  pub made_read : made_at lines start events (closing_event all read)
-      ≡ made_at lines start events (closing_event all moment)
-  made_read = ap (λ (at : ℤ). made_at lines start events (closing_event all at)) (to_z-of_z w64 moment fits)
+-- what a bank stands for behind an event, whatever it stood for before
+abbrev pub StandsBehind : BankMemory → BankMemory → BankEvent → Type 0
+StandsBehind old new e =
+    (lines : List AggLine) (start : ℤ) (events : List BankEvent) → BankStands lines start events old
+    → BankStands lines start (events ++ e ∷ []) new
 
-  pub closed_read : (bank : BankMemory) → BankStands lines start (events ++ closing_event all read ∷ []) bank
-      → BankStands lines start (events ++ closing_event all moment ∷ []) bank
-  closed_read bank stands =
-      subst (λ (at : ℤ). BankStands lines start (events ++ closing_event all at ∷ []) bank)
-      (to_z-of_z w64 moment fits) stands
+pub closing_read : (all : Bool) (moment : ℤ) → FitsSigned w64 moment → (P : BankEvent → Type 0)
+    → P (closing_event all (to_z w64 (of_z w64 moment))) → P (closing_event all moment)
+closing_read all moment fits P holds = subst (λ (at : ℤ). P (closing_event all at)) (to_z-of_z w64 moment fits) holds
 
 -- ---- the verdict
 

@@ -1,8 +1,6 @@
-use Rattle.std.proofs.Common.{◌∙◌, false}
-use Rattle.agg_bank.proofs.BankLemmas.{made_read}
+use Rattle.std.proofs.Common.{false}
+use Rattle.agg_bank.proofs.BankLemmas.{closing_read, Makes}
 use Rattle.agg_bank.proofs.bank.Bank.due.Goals as goal
 
 pub returns : goal.returns
-returns c = λ lines start events stands.
-    c.in_ok-made_by.ensures lines start events stands
-    ∙ made_read lines start events false c.args.moment c.ranges.moment
+returns c = closing_read false c.args.moment c.ranges.moment (Makes _ _) c.in_ok-made_by.ensures

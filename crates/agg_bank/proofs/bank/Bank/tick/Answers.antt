@@ -1,13 +1,9 @@
-use Rattle.std.proofs.Common.{◌∙◌, false}
-use Rattle.agg_bank.proofs.BankLemmas.{closed_read, made_read}
+use Rattle.std.proofs.Common.{false}
+use Rattle.agg_bank.proofs.BankLemmas.{closing_read, Makes, StandsBehind}
 use Rattle.agg_bank.proofs.bank.Bank.tick.Goals as goal
 
 pub returns-clause-made : goal.returns-clause-made
-returns-clause-made c = λ lines start events stands.
-    c.in_ok-made.ensures lines start events stands
-    ∙ made_read lines start events false c.args.moment c.ranges.moment
+returns-clause-made c = closing_read false c.args.moment c.ranges.moment (Makes _ _) c.in_ok-made.ensures
 
 pub returns-clause-ok : goal.returns-clause-ok
-returns-clause-ok c = λ lines start events stands.
-    closed_read lines start events false c.args.moment c.ranges.moment _
-    (c.close.ensures.stands lines start events stands)
+returns-clause-ok c = closing_read false c.args.moment c.ranges.moment (StandsBehind _ _) c.close.ensures.stands

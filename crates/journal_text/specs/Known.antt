@@ -72,12 +72,6 @@ head_as known item (Route routed whole verdict aggs outs reports) =
     codes "route " ++ decimal routed ++ routed_as known item whole verdict aggs outs
 head_as known item e = head_text item e
 
--- the line of a Route, and nothing for another entry
-unfoldable pub route_as : Known → List Content → Entry → List ℕ
-route_as known item (Route routed whole verdict aggs outs reports) =
-    head_as known item (Route routed whole verdict aggs outs reports)
-route_as known item _ = []
-
 -- an entry: its line, the metrics that it names and its reports
 unfoldable pub entry_as : Known → List Content → Entry → List ℕ
 entry_as known item e = head_as known item e ++ metric_lines (named_by e) ++ report_lines (reports_of e)

@@ -7,7 +7,7 @@ ghost use Rattle.journal_text.specs.JournalText.{metric_line, metric_lines};
 ghost use Rattle.journal_text.specs.JournalText.{report_line, report_lines, group_text, spaced, gather_line};
 ghost use Rattle.journal_text.specs.JournalText.{gather_head, made_line, entry_text};
 ghost use Rattle.journal_text.specs.JournalText.{end_text, HasItem, IsWholeOrRemoved};
-ghost use Rattle.journal_text.specs.Known.{head_as, route_as};
+ghost use Rattle.journal_text.specs.Known.{head_as};
 
 use crate::known::Known;
 use crate::metrics::{append_byte, append_metric};
@@ -165,37 +165,6 @@ fn append_gather(e: &Entry, out: &mut Vec<u8>) -> Result<(), OutOfMemory>
     Ok(())
 }
 
-// Appends the line of a Route, beside its item. Another entry adds nothing.
-#[tactic(auto, unfolding(crate::specs::Known::route_as, crate::specs::Known::head_as))]
-fn append_route(
-    alloc: Global,
-    known: Known,
-    item: &[Metric],
-    e: &Entry,
-    out: &mut Vec<u8>,
-) -> Result<(), OutOfMemory>
-    ensures { Adds result out.old.items out.new.items (route_as known item.now e.now) }
-{
-    let Entry::Route {
-        item: number,
-        whole,
-        verdict,
-        aggs,
-        outs,
-        ..
-    } = e
-    else {
-        return Ok(());
-    };
-    let views = Views {
-        aggs: aggs.as_slice(),
-        outs: outs.as_slice(),
-    };
-    append_unsigned(out, "route ", *number)?;
-    append_routed(alloc, out, known, item, whole, *verdict, &views)?;
-    Ok(())
-}
-
 // Appends a Begin: its output and its positions.
 fn append_begin(out: &mut Vec<u8>, output: u32, from: u64, to: u64) -> Result<(), OutOfMemory>
     ensures { Adds result out.old.items out.new.items
@@ -217,7 +186,7 @@ fn append_done(out: &mut Vec<u8>, output: u32, ok: bool) -> Result<(), OutOfMemo
 }
 
 // Appends the line of an entry, or a front of it.
-#[tactic(auto, unfolding(crate::specs::JournalText::head_text, crate::specs::JournalText::gather_head, crate::specs::Known::head_as, crate::specs::Known::route_as))]
+#[tactic(auto, unfolding(crate::specs::JournalText::head_text, crate::specs::JournalText::gather_head, crate::specs::Known::head_as))]
 fn append_head(
     alloc: Global,
     known: Known,
@@ -237,7 +206,19 @@ fn append_head(
             append_line(out, "take ", *item)?;
             Ok(())
         }
-        Entry::Route { .. } => append_route(alloc, known, item, e, out),
+        Entry::Route {
+            item: number,
+            whole,
+            verdict,
+            aggs,
+            outs,
+            ..
+        } => {
+            let views = Views::of(aggs, outs);
+            append_unsigned(out, "route ", *number)?;
+            append_routed(alloc, out, known, item, whole, *verdict, &views)?;
+            Ok(())
+        }
         Entry::Tick { moment, made } => append_made(out, "tick ", moment, made.as_slice().len()),
         Entry::Stop { moment, made } => append_made(out, "stop ", moment, made.as_slice().len()),
         Entry::Begin { output, from, to } => append_begin(out, *output, *from, *to),

@@ -8,7 +8,7 @@ ghost use Rattle.journal_text.specs.MetricText.{metric_text};
 use crate::known::Known;
 use crate::metrics::append_metric;
 use account::Verdict;
-use fixed_num::OutOfMemory;
+use fixed_num::{OutOfMemory, Seq};
 use metric::Metric;
 use std::alloc::Global;
 use text_parts::append_words;
@@ -20,6 +20,18 @@ pub(crate) struct Views<'a> {
     pub aggs: &'a [Option<Metric>],
     /// At the outputs.
     pub outs: &'a [Option<Metric>],
+}
+
+impl<'a> Views<'a> {
+    /// These views at the aggregators and at the outputs.
+    pub(crate) fn of(aggs: &'a Seq<Option<Metric>>, outs: &'a Seq<Option<Metric>>) -> Views<'a>
+        ensures { (result.aggs.now ≡ aggs.now) × (result.outs.now ≡ outs.now) }
+    {
+        Views {
+            aggs: aggs.as_slice(),
+            outs: outs.as_slice(),
+        }
+    }
 }
 
 // Appends a view, behind a space: `=` where it is the whole, which may be known, `-` for none, and else its text.

@@ -1,5 +1,6 @@
 -- Why a piece is refused.
-use Rattle.std.specs.Prelude.{ℕ, ℤ, List, codes, Result, Ok, Err}
+use denote.Enum.Declared.{Declared, tag_of}
+use Rattle.std.specs.Prelude.{ℕ, ℤ, List, [], ◌∷◌, codes, get_or, Result, Ok, Err}
 use Rattle.std.specs.declared.option.Option.{Option}
 use Rattle.std.specs.declared.option.Option.TheVariants.{Some, None}
 use Rattle.format_words.specs.declared.format.InFormat.{InFormat}
@@ -7,19 +8,19 @@ use Rattle.format_words.specs.declared.format.InFormat.TheVariants as formats
 use Rattle.graphite_text.specs.Reading as graphite
 use Rattle.graphite_text.specs.declared.fault.GraphiteFault.{GraphiteFault}
 use Rattle.graphite_text.specs.declared.fault.GraphiteKind.{GraphiteKind}
-use Rattle.graphite_text.specs.declared.fault.GraphiteKind.TheVariants as graphite_kinds
+use Rattle.graphite_text.specs.contracts.fault.GraphiteKind.{the_type as the_graphite_kind}
 use Rattle.line_proto.specs.Reading as influx
 use Rattle.line_proto.specs.declared.fault.LineFault.{LineFault}
 use Rattle.line_proto.specs.declared.fault.LineKind.{LineKind}
-use Rattle.line_proto.specs.declared.fault.LineKind.TheVariants as line_kinds
+use Rattle.line_proto.specs.contracts.fault.LineKind.{the_type as the_influx_kind}
 use Rattle.openmetrics_text.specs.Reading as openmetrics
 use Rattle.openmetrics_text.specs.declared.fault.ExpositionFault.{ExpositionFault}
 use Rattle.openmetrics_text.specs.declared.fault.ExpositionKind.{ExpositionKind}
-use Rattle.openmetrics_text.specs.declared.fault.ExpositionKind.TheVariants as exposition_kinds
+use Rattle.openmetrics_text.specs.contracts.fault.ExpositionKind.{the_type as the_openmetrics_kind}
 use Rattle.statsd_text.specs.Reading as statsd
 use Rattle.statsd_text.specs.declared.fault.StatsdFault.{StatsdFault}
 use Rattle.statsd_text.specs.declared.fault.StatsdKind.{StatsdKind}
-use Rattle.statsd_text.specs.declared.fault.StatsdKind.TheVariants as statsd_kinds
+use Rattle.statsd_text.specs.contracts.fault.StatsdKind.{the_type as the_statsd_kind}
 use Rattle.formats.specs.declared.refusal.Refusal.{Refusal}
 use Rattle.formats.specs.declared.refusal.Refusal.TheVariants.{TooLong, Influx, Statsd, Graphite, Openmetrics}
 
@@ -38,49 +39,28 @@ refusal_in (formats.Graphite templates separator) moment piece =
 refusal_in (formats.Openmetrics type_tag passing) moment piece =
     fault_of Openmetrics (openmetrics.reading piece moment type_tag passing)
 
+-- the name of a variant, of these of all variants of its type in their order
+abbrev pub variant_name : (type : Declared) → List (List ℕ) → type.D → List ℕ
+variant_name type names variant = get_or names (tag_of type variant) []
+
 -- the names of the kinds of faults of each format
 abbrev pub influx_word : LineKind → List ℕ
-influx_word line_kinds.OutOfMemory = codes "OutOfMemory"
-influx_word line_kinds.NoFields = codes "NoFields"
-influx_word line_kinds.BadKey = codes "BadKey"
-influx_word line_kinds.BadValue = codes "BadValue"
-influx_word line_kinds.BadTime = codes "BadTime"
-influx_word line_kinds.NumberRange = codes "NumberRange"
-influx_word line_kinds.NotUtf8 = codes "NotUtf8"
-influx_word line_kinds.TooMany = codes "TooMany"
+influx_word = variant_name the_influx_kind (codes "OutOfMemory" ∷ codes "NoFields" ∷ codes "BadKey" ∷
+    codes "BadValue" ∷ codes "BadTime" ∷ codes "NumberRange" ∷ codes "NotUtf8" ∷ codes "TooMany" ∷ [])
 
 abbrev pub statsd_word : StatsdKind → List ℕ
-statsd_word statsd_kinds.OutOfMemory = codes "OutOfMemory"
-statsd_word statsd_kinds.NoColon = codes "NoColon"
-statsd_word statsd_kinds.BadType = codes "BadType"
-statsd_word statsd_kinds.BadValue = codes "BadValue"
-statsd_word statsd_kinds.BadRate = codes "BadRate"
-statsd_word statsd_kinds.BadTag = codes "BadTag"
-statsd_word statsd_kinds.NumberRange = codes "NumberRange"
-statsd_word statsd_kinds.NotUtf8 = codes "NotUtf8"
-statsd_word statsd_kinds.BadName = codes "BadName"
-statsd_word statsd_kinds.TooMany = codes "TooMany"
+statsd_word = variant_name the_statsd_kind (codes "OutOfMemory" ∷ codes "NoColon" ∷ codes "BadType" ∷
+    codes "BadValue" ∷ codes "BadRate" ∷ codes "BadTag" ∷ codes "NumberRange" ∷ codes "NotUtf8" ∷ codes "BadName" ∷
+    codes "TooMany" ∷ [])
 
 abbrev pub graphite_word : GraphiteKind → List ℕ
-graphite_word graphite_kinds.OutOfMemory = codes "OutOfMemory"
-graphite_word graphite_kinds.FieldCount = codes "FieldCount"
-graphite_word graphite_kinds.BadPath = codes "BadPath"
-graphite_word graphite_kinds.BadValue = codes "BadValue"
-graphite_word graphite_kinds.BadTime = codes "BadTime"
-graphite_word graphite_kinds.NumberRange = codes "NumberRange"
-graphite_word graphite_kinds.NotUtf8 = codes "NotUtf8"
-graphite_word graphite_kinds.TooMany = codes "TooMany"
+graphite_word = variant_name the_graphite_kind (codes "OutOfMemory" ∷ codes "FieldCount" ∷ codes "BadPath" ∷
+    codes "BadValue" ∷ codes "BadTime" ∷ codes "NumberRange" ∷ codes "NotUtf8" ∷ codes "TooMany" ∷ [])
 
 abbrev pub openmetrics_word : ExpositionKind → List ℕ
-openmetrics_word exposition_kinds.OutOfMemory = codes "OutOfMemory"
-openmetrics_word exposition_kinds.NoEof = codes "NoEof"
-openmetrics_word exposition_kinds.BadLine = codes "BadLine"
-openmetrics_word exposition_kinds.BadLabel = codes "BadLabel"
-openmetrics_word exposition_kinds.BadNumber = codes "BadNumber"
-openmetrics_word exposition_kinds.BadTime = codes "BadTime"
-openmetrics_word exposition_kinds.NumberRange = codes "NumberRange"
-openmetrics_word exposition_kinds.NotUtf8 = codes "NotUtf8"
-openmetrics_word exposition_kinds.TooMany = codes "TooMany"
+openmetrics_word = variant_name the_openmetrics_kind (codes "OutOfMemory" ∷ codes "NoEof" ∷ codes "BadLine" ∷
+    codes "BadLabel" ∷ codes "BadNumber" ∷ codes "BadTime" ∷ codes "NumberRange" ∷ codes "NotUtf8" ∷ codes "TooMany"
+    ∷ [])
 
 -- the name of the kind of a refusal
 abbrev pub kind_of : Refusal → List ℕ

@@ -1,7 +1,6 @@
 //! Why a piece is refused.
 ghost use Rattle.std.specs.Prelude.{◌≡◌, false, IfOk, IfSome, None, OnOk, Some};
 ghost use Rattle.formats.specs.Refusals.{kind_of, offset_of, refusal_in};
-ghost use Rattle.formats.specs.Refusals.{influx_word, statsd_word, graphite_word, openmetrics_word};
 
 use fixed_num::{Moment, OutOfMemory, Seq};
 use format_words::InFormat;
@@ -10,6 +9,16 @@ use line_proto::{LineFault, LineKind, read_line};
 use openmetrics_text::{ExpositionFault, ExpositionKind, read_exposition};
 use statsd_text::{StatsdFault, StatsdKind};
 use std::alloc::Global;
+
+/// The name of a variant, as it is written.
+#[macro_export]
+macro_rules! variant_name {
+    ($value:expr, $type:ident: $($variant:ident),+) => {
+        match $value {
+            $($type::$variant => stringify!($variant),)+
+        }
+    };
+}
 
 /// How many bytes of a piece an excerpt has at most.
 const MOST_SHOWN: usize = 60;
@@ -36,10 +45,18 @@ impl Refusal {
     {
         match self {
             Refusal::TooLong => "TooLong",
-            Refusal::Influx(fault) => influx_word(fault.kind),
-            Refusal::Statsd(fault) => statsd_word(fault.kind),
-            Refusal::Graphite(fault) => graphite_word(fault.kind),
-            Refusal::Openmetrics(fault) => openmetrics_word(fault.kind),
+            Refusal::Influx(fault) => variant_name!(fault.kind, LineKind:
+                OutOfMemory, NoFields, BadKey, BadValue, BadTime, NumberRange,
+                NotUtf8, TooMany),
+            Refusal::Statsd(fault) => variant_name!(fault.kind, StatsdKind:
+                OutOfMemory, NoColon, BadType, BadValue, BadRate, BadTag,
+                NumberRange, NotUtf8, BadName, TooMany),
+            Refusal::Graphite(fault) => variant_name!(fault.kind, GraphiteKind:
+                OutOfMemory, FieldCount, BadPath, BadValue, BadTime, NumberRange,
+                NotUtf8, TooMany),
+            Refusal::Openmetrics(fault) => variant_name!(fault.kind, ExpositionKind:
+                OutOfMemory, NoEof, BadLine, BadLabel, BadNumber, BadTime,
+                NumberRange, NotUtf8, TooMany),
         }
     }
 
@@ -54,73 +71,6 @@ impl Refusal {
             Refusal::Graphite(fault) => Some(fault.offset),
             Refusal::Openmetrics(fault) => Some(fault.offset),
         }
-    }
-}
-
-/// The name of a kind of fault of line protocol.
-fn influx_word(kind: LineKind) -> &'static str
-    ensures { result.now ≡ influx_word kind }
-{
-    match kind {
-        LineKind::OutOfMemory => "OutOfMemory",
-        LineKind::NoFields => "NoFields",
-        LineKind::BadKey => "BadKey",
-        LineKind::BadValue => "BadValue",
-        LineKind::BadTime => "BadTime",
-        LineKind::NumberRange => "NumberRange",
-        LineKind::NotUtf8 => "NotUtf8",
-        LineKind::TooMany => "TooMany",
-    }
-}
-
-/// The name of a kind of fault of StatsD.
-fn statsd_word(kind: StatsdKind) -> &'static str
-    ensures { result.now ≡ statsd_word kind }
-{
-    match kind {
-        StatsdKind::OutOfMemory => "OutOfMemory",
-        StatsdKind::NoColon => "NoColon",
-        StatsdKind::BadType => "BadType",
-        StatsdKind::BadValue => "BadValue",
-        StatsdKind::BadRate => "BadRate",
-        StatsdKind::BadTag => "BadTag",
-        StatsdKind::NumberRange => "NumberRange",
-        StatsdKind::NotUtf8 => "NotUtf8",
-        StatsdKind::BadName => "BadName",
-        StatsdKind::TooMany => "TooMany",
-    }
-}
-
-/// The name of a kind of fault of Graphite.
-fn graphite_word(kind: GraphiteKind) -> &'static str
-    ensures { result.now ≡ graphite_word kind }
-{
-    match kind {
-        GraphiteKind::OutOfMemory => "OutOfMemory",
-        GraphiteKind::FieldCount => "FieldCount",
-        GraphiteKind::BadPath => "BadPath",
-        GraphiteKind::BadValue => "BadValue",
-        GraphiteKind::BadTime => "BadTime",
-        GraphiteKind::NumberRange => "NumberRange",
-        GraphiteKind::NotUtf8 => "NotUtf8",
-        GraphiteKind::TooMany => "TooMany",
-    }
-}
-
-/// The name of a kind of fault of OpenMetrics.
-fn openmetrics_word(kind: ExpositionKind) -> &'static str
-    ensures { result.now ≡ openmetrics_word kind }
-{
-    match kind {
-        ExpositionKind::OutOfMemory => "OutOfMemory",
-        ExpositionKind::NoEof => "NoEof",
-        ExpositionKind::BadLine => "BadLine",
-        ExpositionKind::BadLabel => "BadLabel",
-        ExpositionKind::BadNumber => "BadNumber",
-        ExpositionKind::BadTime => "BadTime",
-        ExpositionKind::NumberRange => "NumberRange",
-        ExpositionKind::NotUtf8 => "NotUtf8",
-        ExpositionKind::TooMany => "TooMany",
     }
 }
 

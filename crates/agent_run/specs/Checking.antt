@@ -1,6 +1,6 @@
 -- What checking a configuration says, and what it leaves.
-use Rattle.std.specs.Prelude.{◌≡◌, ◌≢◌, ◌≤◌, ◌<◌, ◌++◌, ℕ, List, [], length, codes, take, Option, Some, IfSome, true}
-use Rattle.std.specs.Prelude.{false}
+use Rattle.std.specs.Prelude.{◌≡◌, ◌≢◌, ◌≤◌, ◌<◌, ◌++◌, ℕ, List, [], ◌∷◌, length, codes, take, Option, Some, IfSome}
+use Rattle.std.specs.Prelude.{false, true}
 use Rattle.std.specs.Fmt.{decimal}
 use Rattle.std.specs.Io.KnownBytes.{Consumes, IsAtEnd}
 use Rattle.agent_base.specs.Counts.{Rose}
@@ -11,7 +11,8 @@ use Rattle.agent_config.specs.declared.fault.Class.{Class}
 use Rattle.agent_config.specs.declared.fault.Class.TheVariants as classes
 use Rattle.agent_config.specs.declared.fault.ConfigFault.{ConfigFault}
 use Rattle.agent_config.specs.declared.fault.ConfigKind.{ConfigKind}
-use Rattle.agent_config.specs.declared.fault.ConfigKind.TheVariants as kinds
+use Rattle.agent_config.specs.contracts.fault.ConfigKind.{the_type as the_config_kind}
+use Rattle.formats.specs.Refusals.{variant_name}
 use Rattle.agent_run.specs.Headline.{report_change}
 use Rattle.agent_workers.specs.Run.{IsPutSo}
 use Rattle.agent_run.specs.Places.{IsUnopened, ReportsLine, RoseToUse, open_fault_line, read_fault_line}
@@ -59,21 +60,10 @@ class_word classes.Aggregators = codes "aggregators"
 class_word classes.Outputs = codes "outputs"
 
 abbrev pub kind_word : ConfigKind → List ℕ
-kind_word kinds.OutOfMemory = codes "OutOfMemory"
-kind_word kinds.NotToml = codes "NotToml"
-kind_word kinds.UnknownKind = codes "UnknownKind"
-kind_word kinds.UnknownKey = codes "UnknownKey"
-kind_word kinds.WrongType = codes "WrongType"
-kind_word kinds.Missing = codes "Missing"
-kind_word kinds.OutOfRange = codes "OutOfRange"
-kind_word kinds.BadGlob = codes "BadGlob"
-kind_word kinds.BadPattern = codes "BadPattern"
-kind_word kinds.BadTemplate = codes "BadTemplate"
-kind_word kinds.TooManyPlugins = codes "TooManyPlugins"
-kind_word kinds.NoInput = codes "NoInput"
-kind_word kinds.NoOutput = codes "NoOutput"
-kind_word kinds.BatchAboveLimit = codes "BatchAboveLimit"
-kind_word kinds.SamePlace = codes "SamePlace"
+kind_word = variant_name the_config_kind (codes "OutOfMemory" ∷ codes "NotToml" ∷ codes "UnknownKind" ∷
+    codes "UnknownKey" ∷ codes "WrongType" ∷ codes "Missing" ∷ codes "OutOfRange" ∷ codes "BadGlob" ∷
+    codes "BadPattern" ∷ codes "BadTemplate" ∷ codes "TooManyPlugins" ∷ codes "NoInput" ∷ codes "NoOutput" ∷
+    codes "BatchAboveLimit" ∷ codes "SamePlace" ∷ [])
 
 -- the line that says that a configuration has no fault, and the one that names its first
 abbrev pub ok_line : List ℕ

@@ -11,6 +11,7 @@ use crate::reporting::{report_made, report_open_fault, report_read_fault};
 use crate::status::Status;
 use agent_base::{PutFault, World};
 use agent_config::{Class, ConfigFault, ConfigKind};
+use formats::variant_name;
 use std::alloc::{AllocError, Global};
 
 /// How a line names a class.
@@ -32,23 +33,10 @@ fn class_word(class: Class) -> &'static str
 fn kind_word(kind: ConfigKind) -> &'static str
     ensures { result.now ≡ kind_word kind }
 {
-    match kind {
-        ConfigKind::OutOfMemory => "OutOfMemory",
-        ConfigKind::NotToml => "NotToml",
-        ConfigKind::UnknownKind => "UnknownKind",
-        ConfigKind::UnknownKey => "UnknownKey",
-        ConfigKind::WrongType => "WrongType",
-        ConfigKind::Missing => "Missing",
-        ConfigKind::OutOfRange => "OutOfRange",
-        ConfigKind::BadGlob => "BadGlob",
-        ConfigKind::BadPattern => "BadPattern",
-        ConfigKind::BadTemplate => "BadTemplate",
-        ConfigKind::TooManyPlugins => "TooManyPlugins",
-        ConfigKind::NoInput => "NoInput",
-        ConfigKind::NoOutput => "NoOutput",
-        ConfigKind::BatchAboveLimit => "BatchAboveLimit",
-        ConfigKind::SamePlace => "SamePlace",
-    }
+    variant_name!(kind, ConfigKind:
+        OutOfMemory, NotToml, UnknownKind, UnknownKey, WrongType, Missing, OutOfRange,
+        BadGlob, BadPattern, BadTemplate, TooManyPlugins, NoInput, NoOutput,
+        BatchAboveLimit, SamePlace)
 }
 
 /// The line that names a fault of a configuration.

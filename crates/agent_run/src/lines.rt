@@ -102,16 +102,12 @@ struct About<'a> {
     line: &'a str,
 }
 
-/// Adds how many pieces of an input were refused, and the first of them, where one was.
-fn add_refused(
-    about: About<'_>,
-    end: Option<&InputEnd>,
-    lines: &mut Vec<String>,
-) -> Result<(), AllocError> {
+/// How many pieces of an input were refused, and the first of them; None where none was.
+fn refused_line(about: About<'_>, end: Option<&InputEnd>) -> Result<Option<String>, AllocError> {
     let About { alloc, name, line } = about;
     let refused = number_behind(line, "refused");
     if refused == 0 {
-        return Ok(());
+        return Ok(None);
     }
     let pieces = grouped(alloc, number_behind(line, "pieces"))?;
     let refused = grouped(alloc, refused)?;
@@ -125,8 +121,7 @@ fn add_refused(
     {
         append_fault(alloc, first, &mut told)?;
     }
-    lines.push(told)?;
-    Ok(())
+    Ok(Some(told))
 }
 
 /// Why samples were passed over, of which so many were out of range.
@@ -141,24 +136,20 @@ fn why_passed(alloc: Global, passed: u64, out_of_range: u64) -> Result<String, A
     format!(in alloc; "they have no finite value, or ({out_of_range} of them) are out of range")
 }
 
-/// Adds how many samples of an input were passed over, where one was.
-fn add_passed(
-    about: About<'_>,
-    end: Option<&InputEnd>,
-    lines: &mut Vec<String>,
-) -> Result<(), AllocError> {
+/// How many samples of an input were passed over, and why; None where none was.
+fn passed_line(about: About<'_>, end: Option<&InputEnd>) -> Result<Option<String>, AllocError> {
     let About { alloc, name, line } = about;
     let passed = number_behind(line, "passed");
     if passed == 0 {
-        return Ok(());
+        return Ok(None);
     }
     let samples = passed
         .saturating_add(number_behind(line, "filtered"))
         .saturating_add(number_behind(line, "gathered"));
     let why = why_passed(alloc, passed, end.map_or(0, |it| it.out_of_range))?;
     let (passed, samples) = (grouped(alloc, passed)?, grouped(alloc, samples)?);
-    lines.push(format!(in alloc; "{name}: {passed} of {samples} samples passed over, as {why}")?)?;
-    Ok(())
+    let told = format!(in alloc; "{name}: {passed} of {samples} samples passed over, as {why}")?;
+    Ok(Some(told))
 }
 
 /// Adds what is told of an input: why it was read no more, what of it was refused, and what was passed over.
@@ -171,8 +162,13 @@ fn add_input(
     if let Some(why) = end.and_then(stop_of) {
         lines.push(format!(in alloc; "{name}: {why}")?)?;
     }
-    add_refused(about, end, lines)?;
-    add_passed(about, end, lines)
+    if let Some(refused) = refused_line(about, end)? {
+        lines.push(refused)?;
+    }
+    if let Some(passed) = passed_line(about, end)? {
+        lines.push(passed)?;
+    }
+    Ok(())
 }
 
 /// So many of a thing.

@@ -636,8 +636,7 @@ line_again piece i before line moment le no_comment e =
       name = name.word;
       tags = tags.pairs;
       gap = spaced.gap;
-      first =
-          fields.first;
+      first = fields.first;
       others = fields.others;
       time = time.written;
       after = time.after;
@@ -652,16 +651,7 @@ line_again piece i before line moment le no_comment e =
     ++ (time_text time.written ++ spaces time.after)))) =
     tags.spans.is ∙ ap (λ (x : List ℕ). pairs_text tags.pairs ++ x) behind in
     subst (λ (l : Line). LineRead piece i before l moment) same (record {
-      written = record {
-        before = before;
-        name = name.word;
-        tags = tags.pairs;
-        gap = spaced.gap;
-        first = fields.first;
-        others = fields.others;
-        time = time.written;
-        after = time.after;
-      };
+      written = w;
       same = refl;
       is = record {
         name = subst (λ (r : List ℕ). IsWritten name_part name.word r n.0.0) behind_word name.written;

@@ -320,6 +320,21 @@ about_again text says e =
       said = said;
     }
 
+-- the line that begins with a word of these
+about_read : (passing : Bool) (word : List ℕ) (line : List ℕ → Option (List ℕ) → WrittenLine) (text : List ℕ)
+    (says : LineSays)
+    → ((name : List ℕ) (rest : Option (List ℕ)) → line_text (line name rest) ≡ word ++ (name ++ time_text rest))
+    → ((name : List ℕ) (rest : Option (List ℕ)) → IsName ends_name name → says ≡ Nothing
+    → IsLine passing (line name rest) says)
+    → word ++ drop 7 text ≡ text → about_line (drop 7 text) ≡ Ok says → LineRead passing text says
+about_read passing word line text says written is whole e =
+    let r = about_again (drop 7 text) says e in
+    record {
+      written = line r.name r.rest;
+      same = written r.name r.rest ∙ ap (λ (t : List ℕ). word ++ t) r.same ∙ whole;
+      is = is r.name r.rest r.named r.said;
+    }
+
 hash_again : (passing : Bool) (text : List ℕ) (says : LineSays) → get_or text 0 0 ≡ 35 → hash_line text ≡ Ok says
     → LineRead passing text says
 unfolding hash_line
@@ -341,25 +356,13 @@ hash_again passing text says first e =
           (λ t. begins_with help_word text ≡ t → cond t (about_line (drop 7 text))
           (cond (begins_with unit_word text) (about_line (drop 7 text)) (Ok Nothing)) ≡ Ok says
           → LineRead passing text says) [
-            | true ↦ λ word e.
-                let r = about_again (drop 7 text) says e in
-                record {
-                  written = HelpLine r.name r.rest;
-                  same = ap (λ (t : List ℕ). help_word ++ t) r.same
-                      ∙ word_again help_word text word;
-                  is = (r.named, r.said);
-                }
+            | true ↦ λ word e. about_read passing help_word HelpLine text says (λ name rest. refl)
+                (λ name rest named said. (named, said)) (word_again help_word text word) e
             | false ↦ λ no_help e. elim (begins_with unit_word text) as
                 (λ t. begins_with unit_word text ≡ t → cond t (about_line (drop 7 text)) (Ok Nothing) ≡ Ok says
                 → LineRead passing text says) [
-                  | true ↦ λ word e.
-                      let r = about_again (drop 7 text) says e in
-                      record {
-                        written = UnitLine r.name r.rest;
-                        same = ap (λ (t : List ℕ). unit_word ++ t) r.same
-                            ∙ word_again unit_word text word;
-                        is = (r.named, r.said);
-                      }
+                  | true ↦ λ word e. about_read passing unit_word UnitLine text says (λ name rest. refl)
+                      (λ name rest named said. (named, said)) (word_again unit_word text word) e
                   | false ↦ λ no_unit e. record {
                     written = OtherLine (drop 1 text);
                     same = sym whole;

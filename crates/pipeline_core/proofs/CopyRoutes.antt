@@ -49,87 +49,76 @@ stays_out setup t l o es item whole verdict aggs outs reports g h m is none =
     count-still setup t l o es e g h m (ap pushes none) none
     (no_route_kept t (is_item_of (es ++ e ∷ []) g) o item whole verdict aggs outs reports is)
 
--- one that comes
-comes_in : (setup : Setup) (t : Fate → Bool) (b l o : ℕ) (es : List Entry) (item : ℕ) (whole : Option Content)
-    (aggs outs : List (Option Content)) (reports : List Report) (g : ℕ) (view : Content) (x : LaneState (Option ℕ)) →
-    let e : Entry = Route item whole verdicts.Passes aggs outs reports in
-    IsLegal setup es → MeetsLine setup es e → IsLaneTest t → view_at o outs ≡ Some view
-    → IsLaneOf b l (lane_events o es) (marks o es) x
-    → fate_count t l o (es ++ e ∷ []) g + cond (tested t lane.Buffered)
-    (count_by (is_number g) (option_to_list (pushed_out x))) 0
-    ≡ fate_count t l o es g + cond (tested t lane.Dropped) (count_by (is_number g) (option_to_list (pushed_out x))) 0
-    + ones (tested t lane.Buffered && is_number g (origin_at es item).group)
-comes_in setup t b l o es item whole aggs outs reports g view x h m is v at =
-    let e : Entry = Route item whole verdicts.Passes aggs outs reports in
-    let mark : Option ℕ = (origin_at es item).group in
-    let p : Pushes b l (lane_events o es) (marks o es) x mark =
-    push_meets b l (lane_events o es) (marks o es) x mark at in
-    count-come setup t l o es e g mark (option_to_list (pushed_out x)) h m
-    (ap (λ (w : Option Content). pushes (offer_of item w)) v)
-    (ap (λ (w : Option Content). map (mark_of es) (offer_of item w)) v)
-    (no_route_kept t (is_item_of (es ++ e ∷ []) g) o item whole verdicts.Passes aggs outs reports is) p.comes p.dropped
-
 ones_if : (b : Bool) → ones b ≡ one_if b
 ones_if true = refl
 ones_if false = refl
 
--- what is buffered, with a view more
-pub view_buffered : (view : Option Content) (setup : Setup) (b l o : ℕ) (es : List Entry) (item : ℕ)
-    (whole : Option Content) (aggs outs : List (Option Content)) (reports : List Report) (g : ℕ)
-    (x : LaneState (Option ℕ)) →
-    let e : Entry = Route item whole verdicts.Passes aggs outs reports in
-    IsLegal setup es → MeetsLine setup es e → view_at o outs ≡ view → IsLaneOf b l (lane_events o es) (marks o es) x
-    → fate_count is_buffered l o (es ++ e ∷ []) g + times g (gone_for view x)
-    ≡ fate_count is_buffered l o es g + one_if (is_some view && is_number g (origin_at es item).group)
-view_buffered None setup b l o es item whole aggs outs reports g x h m v at =
-    omega (
-      arith,
-      stays_out setup is_buffered l o es item whole verdicts.Passes aggs outs reports g h m buffered-of_lane
-          (ap (offer_of item) v),
-    )
-view_buffered (Some view) setup b l o es item whole aggs outs reports g x h m v at =
-    omega (
-      arith,
-      comes_in setup is_buffered b l o es item whole aggs outs reports g view x h m buffered-of_lane v at,
-      times_in g true (option_to_list (pushed_out x)),
-      ones_if (is_number g (origin_at es item).group),
-    )
+-- an item of a group that passes, with a view at an output or without one
+module _ (setup : Setup) (b l o : ℕ) (es : List Entry) (item : ℕ) (whole : Option Content)
+    (aggs outs : List (Option Content)) (reports : List Report) (x : LaneState (Option ℕ)) (h : IsLegal setup es)
+    (m : MeetsLine setup es (Route item whole verdicts.Passes aggs outs reports))
+    (at : IsLaneOf b l (lane_events o es) (marks o es) x) where
+  abbrev pub passing : Entry
+  passing = Route item whole verdicts.Passes aggs outs reports
 
--- and what is dropped
-pub view_dropped : (view : Option Content) (setup : Setup) (b l o : ℕ) (es : List Entry) (item : ℕ)
-    (whole : Option Content) (aggs outs : List (Option Content)) (reports : List Report) (g : ℕ)
-    (x : LaneState (Option ℕ)) →
-    let e : Entry = Route item whole verdicts.Passes aggs outs reports in
-    IsLegal setup es → MeetsLine setup es e → view_at o outs ≡ view → IsLaneOf b l (lane_events o es) (marks o es) x
-    → fate_count is_dropped l o (es ++ e ∷ []) g ≡ fate_count is_dropped l o es g + drops g (gone_for view x)
-view_dropped None setup b l o es item whole aggs outs reports g x h m v at =
-    omega (
-      arith,
-      stays_out setup is_dropped l o es item whole verdicts.Passes aggs outs reports g h m dropped-of_lane
-          (ap (offer_of item) v),
-    )
-view_dropped (Some view) setup b l o es item whole aggs outs reports g x h m v at =
-    omega (
-      arith,
-      comes_in setup is_dropped b l o es item whole aggs outs reports g view x h m dropped-of_lane v at,
-      drops_in g true (option_to_list (pushed_out x)),
-    )
+  abbrev pub mark : Option ℕ
+  mark = (origin_at es item).group
 
-view_lane : (view : Option Content) (setup : Setup) (b l o : ℕ) (es : List Entry) (item : ℕ) (whole : Option Content)
-    (aggs outs : List (Option Content)) (reports : List Report) (x : LaneState (Option ℕ)) →
-    let e : Entry = Route item whole verdicts.Passes aggs outs reports in
-    IsLegal setup es → MeetsLine setup es e → view_at o outs ≡ view → IsLaneOf b l (lane_events o es) (marks o es) x
-    → IsLaneOf b l (lane_events o (es ++ e ∷ [])) (marks o (es ++ e ∷ []))
-    (marked_with (origin_at es item).group view x)
-view_lane None setup b l o es item whole aggs outs reports x h m v at =
-    lane-still setup b l o es (Route item whole verdicts.Passes aggs outs reports) x h m
-    (ap (λ (w : Option Content). pushes (offer_of item w)) v) (ap (offer_of item) v) at
-view_lane (Some view) setup b l o es item whole aggs outs reports x h m v at =
-    let mark : Option ℕ = (origin_at es item).group in
-    lane-event setup b l o es (Route item whole verdicts.Passes aggs outs reports) lane.Push (mark ∷ [])
-    (after_push x mark) h m (ap (λ (w : Option Content). pushes (offer_of item w)) v)
-    (ap (λ (w : Option Content). map (mark_of es) (offer_of item w)) v)
-    (push_meets b l (lane_events o es) (marks o es) x mark at).state
+  -- it comes to the lane
+  comes_in : (t : Fate → Bool) (g : ℕ) (view : Content) → IsLaneTest t → view_at o outs ≡ Some view →
+      fate_count t l o (es ++ passing ∷ []) g + cond (tested t lane.Buffered)
+      (count_by (is_number g) (option_to_list (pushed_out x))) 0
+      ≡ fate_count t l o es g + cond (tested t lane.Dropped) (count_by (is_number g) (option_to_list (pushed_out x))) 0
+      + ones (tested t lane.Buffered && is_number g mark)
+  comes_in t g view is v =
+      let p : Pushes b l (lane_events o es) (marks o es) x mark =
+      push_meets b l (lane_events o es) (marks o es) x mark at in
+      count-come setup t l o es passing g mark (option_to_list (pushed_out x)) h m
+      (ap (λ (w : Option Content). pushes (offer_of item w)) v)
+      (ap (λ (w : Option Content). map (mark_of es) (offer_of item w)) v)
+      (no_route_kept t (is_item_of (es ++ passing ∷ []) g) o item whole verdicts.Passes aggs outs reports is)
+      p.comes p.dropped
+
+  -- or to none
+  stays_away : (t : Fate → Bool) (g : ℕ) → IsLaneTest t → view_at o outs ≡ None →
+      fate_count t l o (es ++ passing ∷ []) g ≡ fate_count t l o es g
+  stays_away t g is v =
+      stays_out setup t l o es item whole verdicts.Passes aggs outs reports g h m is (ap (offer_of item) v)
+
+  -- what is buffered, with a view more
+  pub view_buffered : (g : ℕ) (view : Option Content) → view_at o outs ≡ view →
+      fate_count is_buffered l o (es ++ passing ∷ []) g + times g (gone_for view x)
+      ≡ fate_count is_buffered l o es g + one_if (is_some view && is_number g mark)
+  view_buffered g None v = omega (arith, stays_away is_buffered g buffered-of_lane v)
+  view_buffered g (Some view) v =
+      omega (
+        arith,
+        comes_in is_buffered g view buffered-of_lane v,
+        times_in g true (option_to_list (pushed_out x)),
+        ones_if (is_number g mark),
+      )
+
+  -- and what is dropped
+  pub view_dropped : (g : ℕ) (view : Option Content) → view_at o outs ≡ view →
+      fate_count is_dropped l o (es ++ passing ∷ []) g ≡ fate_count is_dropped l o es g + drops g (gone_for view x)
+  view_dropped g None v = omega (arith, stays_away is_dropped g dropped-of_lane v)
+  view_dropped g (Some view) v =
+      omega (
+        arith,
+        comes_in is_dropped g view dropped-of_lane v,
+        drops_in g true (option_to_list (pushed_out x)),
+      )
+
+  view_lane : (view : Option Content) → view_at o outs ≡ view →
+      IsLaneOf b l (lane_events o (es ++ passing ∷ [])) (marks o (es ++ passing ∷ [])) (marked_with mark view x)
+  view_lane None v =
+      lane-still setup b l o es passing x h m (ap (λ (w : Option Content). pushes (offer_of item w)) v)
+      (ap (offer_of item) v) at
+  view_lane (Some view) v =
+      lane-event setup b l o es passing lane.Push (mark ∷ []) (after_push x mark) h m
+      (ap (λ (w : Option Content). pushes (offer_of item w)) v)
+      (ap (λ (w : Option Content). map (mark_of es) (offer_of item w)) v)
+      (push_meets b l (lane_events o es) (marks o es) x mark at).state
 
 -- and the lane
 pub route_lane : (verdict : Verdict) (setup : Setup) (b l o : ℕ) (es : List Entry) (item : ℕ)
@@ -139,7 +128,7 @@ pub route_lane : (verdict : Verdict) (setup : Setup) (b l o : ℕ) (es : List En
     → IsLaneOf b l (lane_events o (es ++ e ∷ [])) (marks o (es ++ e ∷ []))
     (marks_routed verdict (view_at o outs) (origin_at es item).group x)
 route_lane verdicts.Passes setup b l o es item whole aggs outs reports x h m at =
-    view_lane (view_at o outs) setup b l o es item whole aggs outs reports x h m refl at
+    view_lane setup b l o es item whole aggs outs reports x h m at (view_at o outs) refl
 route_lane verdicts.Consumed setup b l o es item whole aggs outs reports x h m at =
     lane-still setup b l o es (Route item whole verdicts.Consumed aggs outs reports) x h m refl refl at
 route_lane verdicts.Late setup b l o es item whole aggs outs reports x h m at =

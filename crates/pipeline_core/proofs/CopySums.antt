@@ -315,8 +315,8 @@ passes_buffered setup es item whole aggs outs reports g all h m are =
     (plain_number i n q)
     (omega (
       arith,
-      view_buffered (view_at i outs) setup (sizes_at setup i).0 (sizes_at setup i).1 i es item whole aggs outs
-          reports g (marked_at all i) h m refl (are.each i l),
+      view_buffered setup (sizes_at setup i).0 (sizes_at setup i).1 i es item whole aggs outs reports
+          (marked_at all i) h m (are.each i l) g (view_at i outs) refl,
       none_counted (gone_for (view_at i outs) (marked_at all i)),
     ))) in
     omega (arith, none_counted (pushed_copies outs all))
@@ -341,8 +341,8 @@ passes_dropped setup es item whole aggs outs reports g all h m are =
     (plain_number i n q)
     (omega (
       arith,
-      view_dropped (view_at i outs) setup (sizes_at setup i).0 (sizes_at setup i).1 i es item whole aggs outs
-          reports g (marked_at all i) h m refl (are.each i l),
+      view_dropped setup (sizes_at setup i).0 (sizes_at setup i).1 i es item whole aggs outs reports
+          (marked_at all i) h m (are.each i l) g (view_at i outs) refl,
       none_counted (gone_for (view_at i outs) (marked_at all i)),
       ap one_if (and_false (is_some (view_at i outs))),
     ))) in

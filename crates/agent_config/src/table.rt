@@ -3,8 +3,7 @@ ghost use Rattle.std.specs.Prelude.{◌≡◌, ◌∷◌, [], IfOk, option_map};
 ghost use Rattle.toml.specs.View.{table_view};
 ghost use Rattle.agent_config.specs.Faults.{missing_faults};
 ghost use Rattle.agent_config.specs.Found.{Adds};
-ghost use Rattle.agent_config.specs.Kinds.{input_kind, keys_of, kind_key, kind_of, needs, output_kind};
-ghost use Rattle.agent_config.specs.Kinds.{aggregator_kind, own_faults, place_key, processor_kind, row_of};
+ghost use Rattle.agent_config.specs.Kinds.{keys_of, kind_key, kind_of, needs, own_faults, place_key, row_of};
 
 use crate::adding::add_unless;
 use crate::agent_keys::agent_key;
@@ -51,58 +50,18 @@ pub(crate) enum Kind {
 pub(crate) fn kind_of(class: &Class, name: &str) -> Option<Kind>
     ensures { result ≡ kind_of class.now name.now }
 {
-    match class {
-        Class::Inputs => input_kind(name),
-        Class::Outputs => output_kind(name),
-        Class::Processors => processor_kind(name),
-        Class::Aggregators => aggregator_kind(name),
-        _ => None,
-    }
-}
-
-/// The kind of inputs that has a name.
-fn input_kind(name: &str) -> Option<Kind>
-    ensures { result ≡ input_kind name.now }
-{
-    match name {
-        "file" => Some(Kind::FileInput),
-        "statsd" => Some(Kind::StatsdInput),
-        _ => None,
-    }
-}
-
-/// The kind of outputs that has a name.
-fn output_kind(name: &str) -> Option<Kind>
-    ensures { result ≡ output_kind name.now }
-{
-    match name {
-        "file" => Some(Kind::FileOutput),
-        _ => None,
-    }
-}
-
-/// The kind of processors that has a name.
-fn processor_kind(name: &str) -> Option<Kind>
-    ensures { result ≡ processor_kind name.now }
-{
-    match name {
-        "converter" => Some(Kind::Converter),
-        "dedup" => Some(Kind::Dedup),
-        "regex" => Some(Kind::Regex),
-        "rename" => Some(Kind::Rename),
-        _ => None,
-    }
-}
-
-/// The kind of aggregators that has a name.
-fn aggregator_kind(name: &str) -> Option<Kind>
-    ensures { result ≡ aggregator_kind name.now }
-{
-    match name {
-        "basicstats" => Some(Kind::BasicStats),
-        "final" => Some(Kind::Final),
-        "merge" => Some(Kind::Merge),
-        "minmax" => Some(Kind::MinMax),
+    match (class, name) {
+        (Class::Inputs, "file") => Some(Kind::FileInput),
+        (Class::Inputs, "statsd") => Some(Kind::StatsdInput),
+        (Class::Outputs, "file") => Some(Kind::FileOutput),
+        (Class::Processors, "converter") => Some(Kind::Converter),
+        (Class::Processors, "dedup") => Some(Kind::Dedup),
+        (Class::Processors, "regex") => Some(Kind::Regex),
+        (Class::Processors, "rename") => Some(Kind::Rename),
+        (Class::Aggregators, "basicstats") => Some(Kind::BasicStats),
+        (Class::Aggregators, "final") => Some(Kind::Final),
+        (Class::Aggregators, "merge") => Some(Kind::Merge),
+        (Class::Aggregators, "minmax") => Some(Kind::MinMax),
         _ => None,
     }
 }

@@ -37,6 +37,7 @@ use Rattle.formats.specs.Groups.{ReadsGroup}
 use Rattle.agent_workers.specs.Inputs.{gathered_of, read_state}
 use Rattle.agent_workers.specs.Progress.{IsNamed, HasState, IsClocked, IsNamedOfTaken, Heard}
 use Rattle.formats.proofs.GroupLemmas.{told_then, told_map, told_pair, told_self, few_kept}
+use Rattle.agent_workers.proofs.RoseLemmas.{rose_from}
 use Rattle.agent_workers.proofs.GatherLemmas.{has_ended-other, entry_of, said_of, gathers_own, group_said}
 use Rattle.agent_workers.proofs.GatherLemmas.{AreGroups-last, gathering_starts, gathering_as, gathered_as}
 use Rattle.agent_workers.proofs.GatherLemmas.{gathering_full, gathering_last, gathered_more, gathered_here, unheld}
@@ -263,9 +264,6 @@ heard_full start old input journal g some no_end many h =
 abbrev pub read_to : InPart → InState → Hand → Option (List ℕ) → ℕ → ℕ → Option Gathered → InPart
 read_to old state hand left read_faults next held = record old
     { state = read_state state; hand = hand; left = left; read_faults = read_faults; next = next; held = held }
-
-rose_from : (a b c : ℕ) → a ≤ b → Rose b c → Rose a c
-rose_from a b c l r = omega arith
 
 read_has_state : (state : InState) (start now : InPart) (journal : List Entry) (read_faults : ℕ)
     → start.read_faults ≤ read_faults → (state ≡ states.LimitReached → now.hand.taken ≡ 2 ^ 40)
@@ -517,62 +515,38 @@ heard_first part input fresh =
     (subst (λ (x : Option Gathered). Heard part (record part { state = states.Reading; held = x }) input [])
     (sym fresh.none_held) (heard_new part input fresh.hand fresh.next))
 
--- the Gathers of an input at the end
+-- the Gathers of an input at the end, of what the text has but for this rest
+are_gathered : (rule : InRule) (input : ℕ) (journal : List Entry) (text : List ℕ) (rest : List Cut)
+    → GatheredTo rule (gathers input journal) text rest → (has_ended input journal ≡ true → rest ≡ [])
+    → AreGathered rule journal input text
+are_gathered rule input journal text rest to all = record {
+  groups = to.naming.groups;
+  rest = rest;
+  consecutive = to.naming.consecutive;
+  named = to.naming.named;
+  full = to.full;
+  all = all;
+}
+
 gathered_by_state : (state : InState) (rule : InRule) (input : ℕ) (journal : List Entry) (text : List ℕ)
     (rest : List Cut) → 1 ≤ rule.most → has_ended input journal ≡ is_ended state
     → IsNamed state rule (gathers input journal) text rest → AreGathered rule journal input text
 gathered_by_state states.Reading rule input journal text rest some e h =
-    let to = gathered_here rule (gathers input journal) text rest some h in
-    record {
-      groups = to.naming.groups;
-      rest = rest;
-      consecutive = to.naming.consecutive;
-      named = to.naming.named;
-      full = to.full;
-      all = λ t. absurd (never (sym e ∙ t));
-    }
+    are_gathered rule input journal text rest (gathered_here rule (gathers input journal) text rest some h)
+    (λ t. absurd (never (sym e ∙ t)))
 gathered_by_state states.Ended rule input journal text rest some e h =
-    record {
-      groups = h.naming.groups;
-      rest = [];
-      consecutive = h.naming.consecutive;
-      named = h.naming.named;
-      full = h.full;
-      all = λ t. refl;
-    }
+    are_gathered rule input journal text [] h (λ t. refl)
 gathered_by_state states.Faulted rule input journal text rest some e h =
-    record {
-      groups = h.naming.groups;
-      rest = rest;
-      consecutive = h.naming.consecutive;
-      named = h.naming.named;
-      full = h.full;
-      all = λ t. absurd (never (sym e ∙ t));
-    }
+    are_gathered rule input journal text rest h (λ t. absurd (never (sym e ∙ t)))
 gathered_by_state states.LimitReached rule input journal text rest some e h =
-    record {
-      groups = h.naming.groups;
-      rest = rest;
-      consecutive = h.naming.consecutive;
-      named = h.naming.named;
-      full = h.full;
-      all = λ t. absurd (never (sym e ∙ t));
-    }
+    are_gathered rule input journal text rest h (λ t. absurd (never (sym e ∙ t)))
 
 gathered_held : (rule : InRule) (input : ℕ) (journal : List Entry) (g : Gathered) (text : List ℕ) (rest : List Cut)
     → 1 ≤ rule.most → has_ended input journal ≡ false → GatheredTo rule (gathers input journal ++ says_of g ∷ []) text
     rest → AreGathered rule journal input text
 gathered_held rule input journal g text rest some e h =
     let u = unheld rule (gathers input journal) (says_of g) text rest some h in
-    record {
-      groups = u.gathered.naming.groups;
-      rest = u.group
-          ++ rest;
-      consecutive = u.gathered.naming.consecutive;
-      named = u.gathered.naming.named;
-      full = u.gathered.full;
-      all = λ t. absurd (never (sym e ∙ t));
-    }
+    are_gathered rule input journal text (u.group ++ rest) u.gathered (λ t. absurd (never (sym e ∙ t)))
 
 pub gathered_at_end : (start part : InPart) (held : Option Gathered) (input : ℕ) (journal : List Entry)
     → 1 ≤ part.rule.most → HoldsNoEnd part.state held → Heard start (record part { held = held }) input journal

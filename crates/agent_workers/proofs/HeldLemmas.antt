@@ -6,7 +6,7 @@ use mathlib.Core.Bool.{false≢true}
 use Rattle.std.specs.Prelude.{◌==◌, IfSome, slice_get, slice_set}
 use Rattle.std.specs.List.{count_by, enumerate_from, sum_by}
 use Rattle.std.proofs.lemmas.Bool.{cases_eq, cases_lt}
-use Rattle.std.proofs.lemmas.List.{get_or-set_same, get_or_past, set_past, take-append-drop}
+use Rattle.std.proofs.lemmas.List.{get_or-set_same, get_or_past, nil_from_length, set_past, take-append-drop}
 use Rattle.std.proofs.lemmas.List.Sums.{sum_by-cons}
 use Rattle.std.specs.declared.option.Option.{Option}
 use Rattle.std.specs.declared.option.Option.TheVariants.{Some, None}
@@ -323,22 +323,18 @@ held_back tries count core journal input moment made behind stands at h many =
 
 -- ---- where nothing waits anywhere
 
-nil_of : {X : Type 0} (xs : List X) → length xs ≡ 0 → xs ≡ []
-nil_of [] l = refl
-nil_of (x ∷ xs) l = absurd (omega (arith, l))
-
 as_many : (held : Option ℕ) (routed fetched : ℕ) → HandFits held routed fetched → held ≡ None → routed ≡ fetched
 as_many None routed fetched h is = h
 as_many (Some item) routed fetched h is = absurd (let x : Some item ≡ None = is in cc)
 
 -- where nothing is raw or in hand no item is without a Route
-none_unrouted : (setup : Setup) (journal : List Entry) → IsLegal setup journal → raw_items journal ≡ []
+pub none_unrouted : (setup : Setup) (journal : List Entry) → IsLegal setup journal → raw_items journal ≡ []
     → in_hand journal ≡ None → unrouted journal ≡ []
 none_unrouted setup journal legal raw held =
     let routed : routes journal ≡ taken journal = as_many (in_hand journal) (routes journal) (taken journal)
     (hand_fits setup journal legal) held in
     let none : length (raw_items journal) ≡ 0 = ap (λ (xs : List Content). length xs) raw in
-    nil_of (unrouted journal) (omega (
+    nil_from_length (unrouted journal) (omega (
       arith,
       length-drop (routes journal) (origins journal),
       length-drop (taken journal) (items journal),

@@ -27,7 +27,8 @@ use Rattle.agent_workers.specs.Inputs.{FitsInput, AreInputs, HaveLimits, IsCutBy
 use Rattle.agent_workers.specs.Inputs.{IsMoved}
 use Rattle.agent_workers.specs.Inputs.{IsFullOf, OneIsFull, IsOneIn, AreFresh}
 use Rattle.formats.specs.Reader.{FitsGather}
-use Rattle.agent_workers.specs.Output.{OutPart}
+use Rattle.agent_workers.specs.Output.{AreOutputs, OutPart}
+use Rattle.agent_workers.specs.RunState.{AreFit, IsAboutSame, RunState}
 use Rattle.agent_workers.specs.Progress.{still_after, Progress, GathersAt, GathersTo}
 use Rattle.agent_workers.specs.Running.{IsReady, AreSettled, IsGathered, IsGatheredAt, HasOffered, IsQuiet, IsQuietTurn}
 use Rattle.agent_workers.specs.Running.{AreQuietTurns, IsAtLimit, IsHeldIn, IsOutOrHeld}
@@ -39,6 +40,7 @@ use Rattle.track_groups.specs.Tracker.{TrackerState, live_of}
 use Rattle.agent_workers.specs.Running.{buffered_at}
 use Rattle.agent_workers.proofs.HeardLemmas.{not_ended, holds_no_end}
 use Rattle.agent_workers.proofs.OutLemmas.{each_set, ready_same}
+use Rattle.agent_workers.proofs.PartsLemmas.{proc_fits}
 use Rattle.agent_workers.proofs.ProgressLemmas.{went_behind}
 
 -- ---- the same inputs
@@ -453,11 +455,24 @@ pub fits_own : (index : ℕ) (ended : List Bool) (part : InPart) → FitsInput i
 fits_own index ended part h = subst (λ (k : ℕ). FitsInput k ended part) (sym h.number) h
 
 -- the limits are as before, where the inputs are the same
-pub limits_still : (limits others : List (Option ℕ)) (olds news : List InPart) → others ≡ limits
+limits_still : (limits others : List (Option ℕ)) (olds news : List InPart) → others ≡ limits
     → AreSameInputs olds news → HaveLimits limits olds → HaveLimits others news
 limits_still limits others olds news setup same h = λ k l.
     let b : k < length olds = omega (arith, l, same.count) in
     ap (λ (xs : List (Option ℕ)). slice_get xs k) setup ∙ h k b ∙ ap Some (sym (same.each k b).limit)
+
+-- what a run consists of fits still, where what it is about is the same, and its inputs and its outputs fit
+pub fits_on : (old new : RunState) → IsAboutSame old new
+    → AreInputs (length old.core.setup.inputs) new.core.ended new.ins
+    → AreOutputs (length old.core.setup.outputs) new.outs → AreFit old → AreFit new
+fits_on old new about inputs outputs fit = record {
+  inputs = subst (λ (n : ℕ). AreInputs n new.core.ended new.ins)
+      (sym (ap (λ (s : Setup). length s.inputs) about.setup)) inputs;
+  limits = limits_still old.core.setup.inputs new.core.setup.inputs old.ins new.ins
+      (ap (λ (s : Setup). s.inputs) about.setup) about.inputs fit.limits;
+  outputs = subst (λ (n : ℕ). AreOutputs n new.outs) (sym (ap (λ (s : Setup). length s.outputs) about.setup)) outputs;
+  filters = proc_fits old.core new.core old.proc new.proc fit.filters about.setup about.proc;
+}
 
 -- what isn't accepted stays so while the live groups, and what is raw, are as they were
 pub held_still : (old new : CoreState) (input : ℕ) → IsQuiet old new → new.setup ≡ old.setup → IsHeldIn old input
@@ -568,8 +583,3 @@ turned_more n old mid new ins part b same turn h = record {
 pub turned_all : (n : ℕ) (old new : CoreState) (ins : List InPart) → length ins ≤ n → HasTurned n old new ins
     → AreQuietTurns old new ins
 turned_all n old new ins all h = record { quiet = h.quiet; each = λ k l. h.each k (omega (arith, l, all)) }
-
--- what accepts nothing more accepts as much as before
-pub either_none : (a b : Bool) → (a || b) ≡ false → (a ≡ false) × (b ≡ false)
-either_none true b e = absurd (let x : true ≡ false = e in cc)
-either_none false b e = (refl, e)

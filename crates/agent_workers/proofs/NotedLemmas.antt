@@ -12,6 +12,7 @@ use Rattle.account.specs.Items.{items, routes, named_by}
 use Rattle.account.specs.Says.{reports_of}
 use Rattle.metric.specs.declared.metric.Content.{Content}
 use Rattle.agent_base.specs.Counts.{Rose}
+use Rattle.agent_workers.proofs.RoseLemmas.{rose_from}
 use Rattle.journal_text.specs.declared.setup.JournalSetup.{JournalSetup}
 use Rattle.journal_text.specs.JournalText.{HasItem, metric_line, metric_lines, report_lines}
 use Rattle.journal_text.specs.Known.{head_as, entry_as}
@@ -66,9 +67,6 @@ appends_then (Some xs) (Some ys) (Some zs) first second h k =
 appends_none : (held : Option (List ℕ)) → Appends held held []
 appends_none None = tt
 appends_none (Some xs) = sym (append-nil xs)
-
-rose_from : (a b c : ℕ) → a ≤ b → Rose b c → Rose a c
-rose_from a b c l r = omega arith
 
 -- ---- puts, one after the other
 

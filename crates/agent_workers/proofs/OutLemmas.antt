@@ -29,6 +29,7 @@ use Rattle.pipeline_core.specs.Steps.{counted_done, done_reports, with_reports}
 use Rattle.pipeline_core.proofs.Keeping.{reported_rest}
 use Rattle.account.specs.declared.entry.Report.{Report}
 use Rattle.pipeline_core.specs.declared.output.Offer.{Offer}
+use Rattle.pipeline_core.proofs.StandsSteps.{some_same}
 use Rattle.pipeline_core.proofs.Offering.{lanes_with-at, length-lanes_with}
 use Rattle.agent_workers.specs.Output.{OutPart, out_of, outs_of, out_at, no_out, anew, AreAnew, AreOutputs}
 use Rattle.agent_workers.specs.Item.{ProcPart, TakesNext, routed_by, seen_by}
@@ -283,13 +284,10 @@ sees_nothing aggs item whole is =
     subst (λ (b : Bool). AllByRecursion (λ (view : Option Content). view ≡ None) (seen_by aggs b whole)) (sym is)
     (no_view (agg_filters aggs))
 
--- whether the item in hand was made
-same_mark : (x y : Bool) → Some x ≡ Some y → x ≡ y
-same_mark x y e = cc
-
+-- the item in hand was made, where the mark of the first one says so
 pub marked_first : (core mid : CoreState) (item : Item) → TakesNext core mid item → slice_get mid.made 0 ≡ Some true
     → item.made ≡ true
-marked_first core mid item takes at = same_mark item.made true
+marked_first core mid item takes at = some_same item.made true
     (sym takes.mark ∙ ap (λ (s : CoreState). slice_get s.made 0) (sym takes.after) ∙ at)
 
 -- items were routed: the core is ready as before

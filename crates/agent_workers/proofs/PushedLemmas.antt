@@ -22,13 +22,11 @@ use Rattle.pipeline_core.specs.Steps.{after_take}
 use Rattle.pipeline_core.specs.Worked.{is_pushed, pushed, whole_of}
 use Rattle.pipeline_core.proofs.BankLemmas.{mark_in_hand}
 use Rattle.pipeline_core.proofs.JournalPush.{taken-push, few_taken}
+use Rattle.pipeline_core.proofs.StandsSteps.{some_same}
 use Rattle.pipeline_core.proofs.WorkedLemmas.{length-zip, zip-append}
 use Rattle.proc_chain.specs.Chain.{AllStand, StageState}
 use Rattle.agent_workers.specs.Item.{MakesSo, ProcPart, work_by}
 use Rattle.agent_workers.specs.Progress.{pushed_items}
-
-some_same : (x y : Bool) → Some x ≡ Some y → x ≡ y
-some_same x y e = cc
 
 -- of items with their origins, those that go through the steps
 abbrev among : Bool → List (Content × Origin) → List Content

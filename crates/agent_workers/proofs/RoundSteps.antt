@@ -286,15 +286,11 @@ settled_still sent new outs is h = rw is h
 
 -- ---- a round in which nothing came on
 
--- a core of which reports were taken out is ready, and stands for what it stood for
+-- a core of which reports were taken out is ready
 pub ready_told : (core next : CoreState) → next ≡ record core { told = next.told } → IsReady core → IsReady next
 ready_told core next same h =
     ready_same core next (ap (λ (s : CoreState). s.setup) same) (ap (λ (s : CoreState). s.lanes) same)
     (ap (λ (s : CoreState). s.held) same) h
-
-pub stands_told : (core next : CoreState) → ((journal : List Entry) → Stands core journal → Stands next journal)
-    → HasJournal core → HasJournal next
-stands_told core next stands h = record { journal = h.journal; stands = stands h.journal h.stands }
 
 pub settled_told : (core next : CoreState) (outs : List OutPart) → next ≡ record core { told = next.told }
     → AreSettled core outs → AreSettled next outs

@@ -106,13 +106,17 @@ module _ (start : Beginning) (core mid next : CoreState) (now : RunState) (old n
       (said_push (out_at start.outs k) (out_at now.outs k) k journal begin
       (begin_quiet old.output k batch.from batch.to ne) refl (h k l)))
 
-  went_done : (reports : List Report) (ok : Bool) (w : Progress start (record now { core = core }))
-      → next.stored ≡ mid.stored ++ Done old.output ok reports ∷ [] → next.setup ≡ mid.setup
-      → Continues mid next (Done old.output ok reports) →
+  went_done : (ok : Bool) (w : Progress start (record now { core = core })) → next ≡ after_done mid old.output ok
+      → Continues mid next (done_entry mid old.output ok) → ((reports : List Report) →
       Said (out_at start.outs old.output) new old.output ((w.journal ++ Begin old.output batch.from batch.to ∷ [])
-      ++ Done old.output ok reports ∷ []) → Progress start (record now
+      ++ Done old.output ok reports ∷ [])) → Progress start (record now
       { core = next; outs = set now.outs old.output new; still = still_done ok now.still })
-  went_done reports ok w stored same ends said =
+  went_done ok w done ends said =
+      let shape : IsDoneEntry old.output ok (done_entry mid old.output ok) =
+      entries-have-shape.dones mid old.output ok in
+      let reports : List Report = shape.0 in
+      let stored : next.stored ≡ mid.stored ++ Done old.output ok reports ∷ [] =
+      ap (λ (s : CoreState). s.stored) done ∙ ap (λ (e : Entry). mid.stored ++ e ∷ []) shape.1 in
       let begin : Entry = Begin old.output batch.from batch.to in
       let end : Entry = Done old.output ok reports in
       let between : List Entry = w.journal ++ begin ∷ [] in
@@ -121,12 +125,12 @@ module _ (start : Beginning) (core mid next : CoreState) (now : RunState) (old n
         text = text-push start mid next now.journal between end
             (text-push start core mid now.journal w.journal begin w.text begins (ap (λ (s : CoreState). s.stored) began)
             (ap (λ (s : CoreState). s.setup) began))
-            ends stored same;
+            (subst (Continues mid next) shape.1 ends) stored (ap (λ (s : CoreState). s.setup) done);
         in_count = w.in_count;
         heard = all_heard_push start.ins now.ins between end (λ k. record { none = refl; other = refl })
             (all_heard_push start.ins now.ins w.journal begin (λ k. record { none = refl; other = refl }) w.heard);
         out_count = length-set now.outs old.output new ∙ w.out_count;
-        said = said_done reports ok w.journal w.said said;
+        said = said_done reports ok w.journal w.said (said reports);
         work_is = w.work_is;
         worked = worked-push start.job.work between end tt (worked-push start.job.work w.journal begin tt w.worked);
         pushed = pushed_still mid now.proc between end (begins w.journal w.text.stands) refl
@@ -155,15 +159,11 @@ module _ (start : Beginning) (core mid next : CoreState) (now : RunState) (old n
       (record now { core = next; outs = set now.outs old.output new; still = 0 })
   went_accepted none nil done ends put w =
       let o : ℕ = old.output in
-      let shape : IsDoneEntry o true (done_entry mid o true) = entries-have-shape.dones mid o true in
-      let reports : List Report = shape.0 in
-      let stored : next.stored ≡ mid.stored ++ Done o true reports ∷ [] =
-      ap (λ (s : CoreState). s.stored) done ∙ ap (λ (e : Entry). mid.stored ++ e ∷ []) shape.1 in
-      let same = dones_of reports o w.journal batch.from batch.to true in
       let said = said_before w in
       let first : OutPart = out_at start.outs o in
-      went_done reports true w stored (ap (λ (s : CoreState). s.setup) done) (subst (Continues mid next) shape.1 ends)
-      (record {
+      went_done true w done ends (λ reports.
+      let same = dones_of reports o w.journal batch.from batch.to true in
+      record {
         format = kept_format ∙ said.format;
         sent = sent_accepted (batch_text first.format) reports core w.journal o batch first.held old.held new.held text
             w.text.stands within is (spelled ∙ ap (λ (f : OutFormat). batch_text f batch.metrics) said.format) said.sent
@@ -190,17 +190,13 @@ module _ (start : Beginning) (core mid next : CoreState) (now : RunState) (old n
       (record now { core = next; outs = set now.outs old.output new; still = now.still + 1 })
   went_failed fault f one few done ends put rose w =
       let o : ℕ = old.output in
-      let shape : IsDoneEntry o false (done_entry mid o false) = entries-have-shape.dones mid o false in
-      let reports : List Report = shape.0 in
-      let stored : next.stored ≡ mid.stored ++ Done o false reports ∷ [] =
-      ap (λ (s : CoreState). s.stored) done ∙ ap (λ (e : Entry). mid.stored ++ e ∷ []) shape.1 in
-      let same = dones_of reports o w.journal batch.from batch.to false in
       let said = said_before w in
       let first : OutPart = out_at start.outs o in
       let begin : Entry = Begin o batch.from batch.to in
+      went_done false w done ends (λ reports.
+      let same = dones_of reports o w.journal batch.from batch.to false in
       let end : Entry = Done o false reports in
-      went_done reports false w stored (ap (λ (s : CoreState). s.setup) done) (subst (Continues mid next) shape.1 ends)
-      (record {
+      record {
         format = kept_format ∙ said.format;
         sent = sent_failed (batch_text first.format) reports core w.journal o batch first.held old.held new.held text
             fault f w.text.stands within is (spelled ∙ ap (λ (f : OutFormat). batch_text f batch.metrics) said.format)

@@ -2,7 +2,7 @@
 use Rattle.std.proofs.Common.{◌≡◌, ◌≢◌, ◌≤◌, ◌<◌, ◌+◌, ◌-◌, ◌^◌, ◌||◌, ◌&&◌, ◌==◌, not, ℕ, min, Bool, true, false, List}
 use Rattle.std.proofs.Common.{length, set, refl, sym, ap, ◌∙◌, subst, inl, inr, arith, below_more}
 use Rattle.std.specs.Prelude.{◌⊎◌}
-use Rattle.std.proofs.lemmas.Bool.{cases_Bool, cases_eq}
+use Rattle.std.proofs.lemmas.Bool.{and_parts, cases_Bool, cases_eq, or_parts}
 use Rattle.pipeline_core.proofs.Keeping.{differs}
 use Rattle.std.proofs.lemmas.List.{get_or-set_same, get_or-set_other}
 use Rattle.account.specs.declared.numbers.OutputNumbers.{OutputNumbers}
@@ -16,14 +16,6 @@ use Rattle.agent_workers.specs.declared.output.Flush.{Flush}
 
 never : false ≡ true → ⊥
 never e = cc
-
-both_false : (x y : Bool) → (x || y) ≡ false → (x ≡ false) × (y ≡ false)
-both_false true y e = absurd (never (sym e))
-both_false false y e = (refl, e)
-
-both_true : (x y : Bool) → (x && y) ≡ true → (x ≡ true) × (y ≡ true)
-both_true true y e = (refl, e)
-both_true false y e = absurd (never e)
 
 -- the first so many outputs were swept, and the others are as before
 pub record Sweeping (n : ℕ) (emptied accepted : Bool) (old new : CoreState)
@@ -115,7 +107,7 @@ sweeps_more n emptied accepted flush old mid new outs mid_outs out b sent flushe
     let still : (o : ℕ) → o ≢ n → buffered_at new o ≡ buffered_at mid o =
     λ o ne. ap (λ (x : OutputNumbers). x.buffered) (sent.others o ne).numbers in
     record {
-      emptied_are = λ e. let both = both_true emptied flush.emptied e in
+      emptied_are = λ e. let both = and_parts emptied flush.emptied e in
           below_more _ _
           (λ o l. still o (λ (q : o ≡ n). absurd (omega (arith, l, q))) ∙ h.emptied_are both.0 o l)
           (flushed.emptied both.1).1;
@@ -127,7 +119,7 @@ sweeps_more n emptied accepted flush old mid new outs mid_outs out b sent flushe
           ])
           (subst (λ (x : OutPart). (buffered_at new n ≡ 0) ⊎ (1 ≤ x.failed_since)) (sym here)
           (settled_by flush.emptied flush n mid new (out_at mid_outs n).failed_since out.failed_since refl flushed));
-      stuck = λ e. let both = both_false accepted flush.accepted e in
+      stuck = λ e. let both = or_parts accepted flush.accepted e in
           below_more _ _
           (λ o l. let ne : o ≢ n = λ (q : o ≡ n). absurd (omega (arith, l, q)) in
           tried_still o old mid new (out_at outs o).failed_since (out_at mid_outs o).failed_since

@@ -2,7 +2,7 @@
 use Rattle.std.proofs.Common.{◌≡◌, ℕ, zero, suc, ℤ, Bool, true, false, List, [], ◌∷◌, ◌++◌, ◌||◌, ◌+◌, refl, sym, ap}
 use Rattle.std.proofs.Common.{◌∙◌, arith}
 use Rattle.std.proofs.Common.{if◌then◌else◌, length, map, subst}
-use Rattle.std.proofs.lemmas.List.{length-drop, length-map}
+use Rattle.std.proofs.lemmas.List.{nil_from_length}
 use Rattle.std.proofs.lemmas.List.Sums.{sum_by-append, sum_by-cons}
 use Rattle.std.proofs.lemmas.Bool.{eqb-true}
 use Rattle.std.proofs.lemmas.Option.{slice_get_within}
@@ -10,16 +10,14 @@ use Rattle.std.specs.Prelude.{◌==◌, cond, count_by, not, replicate}
 use Rattle.std.specs.declared.option.Option.{Option}
 use Rattle.std.specs.declared.option.Option.TheVariants.{Some, None}
 use Rattle.metric.specs.declared.metric.Content.{Content}
-use Rattle.account.specs.Items.{in_hand, items, raw_items, routes, taken}
-use Rattle.account.specs.Origins.{origins, unrouted}
-use Rattle.account.proofs.OriginLemmas.{origins-match}
+use Rattle.account.specs.Items.{items, taken}
+use Rattle.account.specs.Origins.{Origin}
 use Rattle.account.specs.Setup.{Setup}
 use Rattle.account.specs.declared.entry.Entry.{Entry}
 use Rattle.account.specs.declared.entry.Entry.TheVariants.{Gather, Ended, Take, Route, Tick, Stop, Begin, Done}
 use Rattle.pipeline_core.specs.Order.{behind_tick, has_tick, is_tick, routes_gathered, IsTicked}
 use Rattle.pipeline_core.specs.Work.{Work}
 use Rattle.pipeline_core.specs.Worked.{AreWorked, Worked, WorkedBy}
-use Rattle.pipeline_core.proofs.RouteLemmas.{hand_fits, HandFits}
 use Rattle.pipeline_core.proofs.WorkedLemmas.{made_stays}
 use Rattle.pipeline_core.specs.CoreState.{CoreState}
 use Rattle.pipeline_core.specs.Moments.{IsStoppedAt, IsTickedAt}
@@ -27,6 +25,7 @@ use Rattle.pipeline_core.specs.Stands.{HasJournal, was_made}
 use Rattle.agent_config.specs.declared.config.AggConf.{AggConf}
 use Rattle.pipeline_core.specs.Windows.{HasNoAggs}
 use Rattle.agent_workers.specs.Running.{AllMade, IsAtRest, IsRoutable, IsRunning}
+use Rattle.agent_workers.proofs.HeldLemmas.{none_unrouted}
 use Rattle.agent_workers.proofs.OutLemmas.{ready_same, routable_same}
 use Rattle.agent_workers.proofs.StandingLemmas.{continues}
 
@@ -133,31 +132,11 @@ ticked_first setup some = refl
 
 -- ---- what was made
 
-empty_of : {X : Type 0} (xs : List X) → length xs ≡ 0 → xs ≡ []
-empty_of [] l = refl
-empty_of (x ∷ xs) l = absurd (omega (arith, l))
-
-as_many : (held : Option ℕ) (routed fetched : ℕ) → HandFits held routed fetched → held ≡ None → routed ≡ fetched
-as_many None routed fetched h is = h
-as_many (Some item) routed fetched h is = absurd (let x : Some item ≡ None = is in cc)
-
 -- where nothing is raw or in hand no item is without a Route
 pub none_marked : (core : CoreState) → HasJournal core → core.held ≡ None → core.raw ≡ [] → core.made ≡ []
 none_marked core h held raw =
-    let j : List Entry = h.journal in
-    let routed : routes j ≡ taken j = as_many (in_hand j) (routes j) (taken j) (hand_fits core.setup j h.stands.legal)
-    (sym h.stands.held ∙ held) in
-    let none : length (raw_items j) ≡ 0 = ap (λ (xs : List Content). length xs) (sym h.stands.raw ∙ raw) in
-    h.stands.made
-    ∙ empty_of (map was_made (unrouted j)) (omega (
-      arith,
-      length-map (unrouted j) was_made,
-      length-drop (routes j) (origins j),
-      length-drop (taken j) (items j),
-      origins-match j,
-      routed,
-      none,
-    ))
+    h.stands.made ∙ ap (λ (origins : List Origin). map was_made origins) (none_unrouted core.setup h.journal
+    h.stands.legal (sym h.stands.raw ∙ raw) (sym h.stands.held ∙ held))
 
 all_true : (n : ℕ) → AllMade (replicate n true)
 all_true zero = tt
@@ -180,7 +159,7 @@ made_ticked moment core next ticks none = subst AllMade (sym (ap (λ (s : CoreSt
 -- where no aggregator has a filter there is none
 pub none_aggs : (setup : Setup) (confs : List AggConf) → (length confs == 0) ≡ true → length confs ≡ length setup.aggs
     → HasNoAggs setup
-none_aggs setup confs none many = empty_of setup.aggs (sym many ∙ eqb-true (length confs) 0 none)
+none_aggs setup confs none many = nil_from_length setup.aggs (sym many ∙ eqb-true (length confs) 0 none)
 
 -- what a tick leaves: all is as before but for what was made
 pub ticked_kept : (moment : ℤ) (core next : CoreState) → IsTickedAt moment core next → core.made ≡ []

@@ -1,5 +1,6 @@
 use Rattle.std.proofs.Common.{◌≡◌, ◌<◌, ◌+◌, ◌||◌, ◌∙◌, ℕ, Bool, List, length, get_or, set, refl, sym, subst, arith}
 use mathlib.Core.Bool.{false≢true}
+use Rattle.std.proofs.lemmas.Bool.{or_parts}
 use Rattle.std.proofs.lemmas.List.{length-map, map-set}
 use Rattle.agent_workers.specs.Inputs.{InPart, FitsInput, in_of, in_at, ins_of, AreInputs, AreSameInputs, OneIsFull}
 use Rattle.agent_workers.specs.Inputs.{IsSameInput}
@@ -8,7 +9,7 @@ use Rattle.agent_workers.specs.Running.{IsGatheredAt}
 use Rattle.agent_workers.specs.declared.input.InJob.{InJob}
 use Rattle.agent_workers.proofs.InLemmas.{fits_here, input_number, input_here, inputs_set, inputs_themselves, same_set}
 use Rattle.agent_workers.proofs.InLemmas.{gathered_none, gathered_then, gathers_then, gathers_on, gathers_nothing}
-use Rattle.agent_workers.proofs.InLemmas.{one_is_full, HasTurned, either_none, turned_none, turned_more, turned_all}
+use Rattle.agent_workers.proofs.InLemmas.{one_is_full, HasTurned, turned_none, turned_more, turned_all}
 use Rattle.agent_workers.proofs.input.gather_each.Given.{Over}
 use Rattle.agent_workers.proofs.input.gather_each.Goals.{In_ok-more}
 use Rattle.agent_workers.proofs.input.gather_each.Goals as goal
@@ -116,7 +117,7 @@ loop-job-preserved g c =
       same = same g k;
       going = c.then-turns.ensures.full ∙ c.if-more.false;
       turned = λ none.
-          let each = either_none c.loop-job.turns.accepted c.in_ok-more.more.accepted
+          let each = or_parts c.loop-job.turns.accepted c.in_ok-more.more.accepted
           (sym c.then-turns.ensures.accepted ∙ none) in
           subst (HasTurned (c.loop-job.job-index + 1) c.args.core.now c.turn.new.core) (are g k)
           (turned_more c.loop-job.job-index c.args.core.now c.loop-job.core c.turn.new.core (ins g c.loop-job.inputs)

@@ -1,11 +1,11 @@
 use Rattle.std.proofs.Common.{◌≡◌, ◌<◌, ◌≤◌, ◌∙◌, ◌+◌, ◌||◌, Bool, List, length, get_or, set, ap, sym, subst, arith}
+use Rattle.std.proofs.lemmas.Bool.{or_parts}
 use Rattle.std.proofs.lemmas.List.{length-map, map-set}
 use Rattle.account.specs.Setup.{Setup}
 use Rattle.agent_workers.specs.Output.{OutPart, outs_of, out_of}
 use Rattle.agent_workers.specs.Progress.{still_flushed, SendsOn}
 use Rattle.agent_workers.proofs.OutLemmas.{part_here, part_number, part_set, sent_on}
 use Rattle.agent_workers.proofs.SendSteps.{flushed_both, sends_at, sends_fewer, sends_then}
-use Rattle.agent_workers.proofs.InLemmas.{either_none}
 use Rattle.agent_workers.proofs.SweepLemmas.{Sweeping, sweeps_part, swept}
 use Rattle.agent_workers.proofs.output.send_each.Goals as goal
 
@@ -76,7 +76,7 @@ loop-job-preserved g c =
       swept = subst (Sweeping (i + 1) c.and-sweep.result.emptied c.and-sweep.result.accepted c.args.core.now
           c.send_all.new.core firsts) (sym are) swept_all;
       quiet = λ none.
-          let both = either_none c.loop-job.sweep.accepted flush.accepted (sym c.and-sweep.ensures.accepted ∙ none) in
+          let both = or_parts c.loop-job.sweep.accepted flush.accepted (sym c.and-sweep.ensures.accepted ∙ none) in
           c.in_ok-flush.ensures.quiet both.1 ∙ c.loop-job.invariant.quiet both.0;
       sends = subst (SendsOn (still_flushed after) c.args.core.now c.send_all.new.core firsts) (sym are) sends;
     }

@@ -19,10 +19,11 @@ use Rattle.agent_workers.specs.declared.journal.JournalJob.{JournalJob}
 use Rattle.agent_workers.specs.declared.output.OutJob.{OutJob}
 use Rattle.agent_workers.specs.declared.parts.Parts.{Parts}
 use Rattle.agent_workers.proofs.OutLemmas.{outputs_still}
-use Rattle.agent_workers.proofs.InLemmas.{inputs_still, limits_still}
+use Rattle.agent_workers.proofs.InLemmas.{fits_on, inputs_still}
 use Rattle.agent_workers.proofs.RoundSteps.{four_none, held_full, not_false, ready_told, round_runs, settled_still}
-use Rattle.agent_workers.proofs.RoundSteps.{settled_told, stands_told}
-use Rattle.agent_workers.proofs.PartsLemmas.{state_by, proc_fits, same_proc}
+use Rattle.agent_workers.proofs.RoundSteps.{settled_told}
+use Rattle.pipeline_core.proofs.JournalKept.{has_still}
+use Rattle.agent_workers.proofs.PartsLemmas.{same_proc, state_by}
 use Rattle.agent_workers.proofs.parts.Parts.round.Given.{Over}
 use Rattle.agent_workers.proofs.parts.Parts.round.Goals.{After-let_reports_go}
 use Rattle.agent_workers.proofs.parts.Parts.round.Goals as goal
@@ -105,7 +106,7 @@ running : (g : Over) (c : After-let_reports_go g) → IsRunning c.let_reports_go
 running g c = record {
   ready = ready_told c.note.new.core c.let_reports_go.new.core c.let_reports_go.ensures.same
       c.in_ok-note.ensures.rests.ready;
-  stands = stands_told c.note.new.core c.let_reports_go.new.core c.let_reports_go.ensures.stands
+  stands = has_still c.note.new.core c.let_reports_go.new.core c.let_reports_go.ensures.stands
       c.in_ok-note.ensures.rests.stands;
   going = ap (λ (s : CoreState). s.stopped) c.let_reports_go.ensures.same
       ∙ ap (λ (s : CoreState). s.stopped) c.in_ok-note.ensures.noted ∙ c.in_ok-sweep.ensures.kept.stopped
@@ -123,27 +124,6 @@ same_ins : (g : Over) (c : After-let_reports_go g) → AreSameInputs (ins g c.ar
 same_ins g c = subst (λ (jobs : List (InJob g.row.S.Denot g.row.C.Denot)). AreSameInputs (ins g jobs)
     (ins g c.gather_each.new.inputs)) (firsts g c) c.in_ok-turns.ensures.same
 
-fit : (g : Over) (c : After-let_reports_go g) → AreFit (last g c)
-fit g c =
-    let in_count = ap (λ (s : Setup). length s.inputs) (setup g c) in
-    let out_count = ap (λ (s : Setup). length s.outputs) (setup g c) in
-    let ended = ap (λ (s : CoreState). s.ended) c.let_reports_go.ensures.same
-    ∙ ap (λ (s : CoreState). s.ended) c.in_ok-note.ensures.noted ∙ c.in_ok-sweep.ensures.kept.ended
-    ∙ c.in_ok-made.ensures.kept.ended ∙ c.in_ok-routed.ensures.kept.ended in
-    let gathered = inputs_still (length c.args.core.now.setup.inputs) c.gather_each.new.core.ended
-    c.let_reports_go.new.core.ended (ins g c.gather_each.new.inputs) ended c.in_ok-turns.ensures.inputs in
-    record {
-      inputs = subst (λ (n : ℕ). AreInputs n c.let_reports_go.new.core.ended (ins g c.gather_each.new.inputs))
-          (sym in_count) gathered;
-      limits = limits_still c.args.core.now.setup.inputs c.let_reports_go.new.core.setup.inputs
-          (ins g c.args.self.now.inputs.items) (ins g c.gather_each.new.inputs)
-          (ap (λ (s : Setup). s.inputs) (setup g c)) (same_ins g c) c.requires.fit.limits;
-      outputs = subst (λ (n : ℕ). AreOutputs n (outs g c.send_each.new.outputs))
-          (ap (λ (s : Setup). length s.outputs) (ticked_setup g c) ∙ sym out_count) c.in_ok-sweep.ensures.outputs;
-      filters = proc_fits c.args.core.now c.let_reports_go.new.core (proc_of c.args.self.now.proc)
-          (proc_of c.tick_noted.new.proc) c.requires.fit.filters (setup g c) (round_proc g c);
-    }
-
 about : (g : Over) (c : After-let_reports_go g) → IsAboutSame (state g c.args.core.now c.args.self.now) (last g c)
 about g c = record {
   setup = setup g c;
@@ -151,6 +131,18 @@ about g c = record {
   proc = round_proc g c;
   timer = c.tick_noted.ensures.timer;
 }
+
+-- what a round consists of fits still
+fit : (g : Over) (c : After-let_reports_go g) → AreFit (last g c)
+fit g c =
+    let ended = ap (λ (s : CoreState). s.ended) c.let_reports_go.ensures.same
+    ∙ ap (λ (s : CoreState). s.ended) c.in_ok-note.ensures.noted ∙ c.in_ok-sweep.ensures.kept.ended
+    ∙ c.in_ok-made.ensures.kept.ended ∙ c.in_ok-routed.ensures.kept.ended in
+    fits_on (state g c.args.core.now c.args.self.now) (last g c) (about g c)
+    (inputs_still (length c.args.core.now.setup.inputs) c.gather_each.new.core.ended c.let_reports_go.new.core.ended
+    (ins g c.gather_each.new.inputs) ended c.in_ok-turns.ensures.inputs)
+    (subst (λ (n : ℕ). AreOutputs n (outs g c.send_each.new.outputs))
+    (ap (λ (s : Setup). length s.outputs) (ticked_setup g c)) c.in_ok-sweep.ensures.outputs) c.requires.fit
 
 -- what the round came to
 module _ (g : Over) (c : After-let_reports_go g) (round : Round)

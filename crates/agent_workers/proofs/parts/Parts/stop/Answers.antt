@@ -20,14 +20,15 @@ use Rattle.agent_workers.specs.RunState.{Beginning, RunState, state_of, AreFit, 
 use Rattle.agent_workers.specs.declared.input.InJob.{InJob}
 use Rattle.agent_workers.specs.declared.output.OutJob.{OutJob}
 use Rattle.agent_workers.specs.declared.parts.Parts.{Parts}
-use Rattle.agent_workers.proofs.InLemmas.{inputs_still, inputs_themselves, limits_still}
+use Rattle.agent_workers.proofs.InLemmas.{fits_on, inputs_still, inputs_themselves}
 use Rattle.agent_workers.proofs.OutLemmas.{are_anew, outputs_still, ready_same}
 use Rattle.agent_workers.specs.Running.{buffered_at, AllMade}
 use Rattle.agent_workers.proofs.TickLemmas.{made_stopped, none_marked}
 use Rattle.std.specs.Prelude.{true}
-use Rattle.agent_workers.proofs.PartsLemmas.{proc_fits, state_by}
+use Rattle.agent_workers.proofs.PartsLemmas.{state_by}
 use Rattle.agent_workers.proofs.ProgressLemmas.{went_back, went_front, went_stop}
-use Rattle.agent_workers.proofs.RoundSteps.{ready_told, stands_told}
+use Rattle.agent_workers.proofs.RoundSteps.{ready_told}
+use Rattle.pipeline_core.proofs.JournalKept.{has_still}
 use Rattle.account.specs.declared.entry.Entry.{Entry}
 use Rattle.account.specs.declared.entry.Entry.TheVariants.{Stop}
 use Rattle.agent_workers.proofs.StandingLemmas.{continues}
@@ -87,25 +88,6 @@ ended g c = ap (λ (s : CoreState). s.ended) c.let_reports_go.ensures.same ∙ c
     ∙ c.in_ok-route_all.ensures.kept.ended
     ∙ ap (λ (s : CoreState). s.ended) c.in_ok-stop.ensures.ok.after
 
-fit : (g : Over) (c : After-let_reports_go g) → AreFit (last g c)
-fit g c =
-    let in_count = ap (λ (s : Setup). length s.inputs) (setup g c) in
-    let out_count = ap (λ (s : Setup). length s.outputs) (setup g c) in
-    record {
-      inputs = subst (λ (n : ℕ). AreInputs n c.let_reports_go.new.core.ended (ins g c.args.self.now.inputs.items))
-          (sym in_count)
-          (inputs_still (length c.args.core.now.setup.inputs) c.args.core.now.ended c.let_reports_go.new.core.ended
-          (ins g c.args.self.now.inputs.items) (ended g c) c.requires.fit.inputs);
-      limits = limits_still c.args.core.now.setup.inputs c.let_reports_go.new.core.setup.inputs
-          (ins g c.args.self.now.inputs.items) (ins g c.args.self.now.inputs.items)
-          (ap (λ (s : Setup). s.inputs) (setup g c)) (inputs_themselves (ins g c.args.self.now.inputs.items))
-          c.requires.fit.limits;
-      outputs = subst (λ (n : ℕ). AreOutputs n (outs g c.send_rest.new.outputs))
-          (ap (λ (s : Setup). length s.outputs) (routed_setup g c) ∙ sym out_count) c.in_ok-send_rest.ensures.outputs;
-      filters = proc_fits c.args.core.now c.let_reports_go.new.core (proc_of c.args.self.now.proc)
-          (proc_of c.route_all.new.proc) c.requires.fit.filters (setup g c) c.route_all.ensures.same;
-    }
-
 about : (g : Over) (c : After-let_reports_go g) → IsAboutSame (state g c.args.core.now c.args.self.now) (last g c)
 about g c = record {
   setup = setup g c;
@@ -113,6 +95,14 @@ about g c = record {
   proc = c.route_all.ensures.same;
   timer = refl;
 }
+
+fit : (g : Over) (c : After-let_reports_go g) → AreFit (last g c)
+fit g c =
+    fits_on (state g c.args.core.now c.args.self.now) (last g c) (about g c)
+    (inputs_still (length c.args.core.now.setup.inputs) c.args.core.now.ended c.let_reports_go.new.core.ended
+    (ins g c.args.self.now.inputs.items) (ended g c) c.requires.fit.inputs)
+    (subst (λ (n : ℕ). AreOutputs n (outs g c.send_rest.new.outputs))
+    (ap (λ (s : Setup). length s.outputs) (routed_setup g c)) c.in_ok-send_rest.ensures.outputs) c.requires.fit
 
 stopped : (g : Over) (c : After-let_reports_go g) → HasStopped c.args.self.now.final_tries
     (state g c.args.core.now c.args.self.now) (last g c)
@@ -235,6 +225,6 @@ pub returns-clause-rests : goal.returns-clause-rests
 returns-clause-rests g c = record {
   ready = ready_told c.send_rest.new.core c.let_reports_go.new.core c.let_reports_go.ensures.same
       c.in_ok-send_rest.ensures.rests.ready;
-  stands = stands_told c.send_rest.new.core c.let_reports_go.new.core c.let_reports_go.ensures.stands
+  stands = has_still c.send_rest.new.core c.let_reports_go.new.core c.let_reports_go.ensures.stands
       c.in_ok-send_rest.ensures.rests.stands;
 }

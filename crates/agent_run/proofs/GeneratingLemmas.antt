@@ -35,11 +35,6 @@ use Rattle.agent_run.proofs.RunningLemmas.{written_runs}
 
 -- ---- the sources and the clocks
 
--- as many, where what is seen of each is the same
-pub as_many : {X Y Z : Type 0} (f : X → Z) (g : Y → Z) (xs : List X) (ys : List Y) → map f xs ≡ map g ys
-    → length xs ≡ length ys
-as_many f g xs ys e = sym (length-map xs f) ∙ ap length e ∙ length-map ys g
-
 -- each clock is at its first moment
 given_first : {T : Type 0} (parts : List T) → All (λ (clock : Timed). clock.next ≡ 0) (clocks_given parts)
 given_first [] k d l = absurd (omega (arith, l))

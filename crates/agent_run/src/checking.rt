@@ -4,10 +4,10 @@ ghost use Rattle.agent_base.specs.Places.{AreHome};
 ghost use Rattle.agent_base.specs.Views.{OnlyReport};
 ghost use Rattle.agent_run.specs.Checking.{Approves, HasChecked, class_word, config_fault_line, kind_word};
 ghost use Rattle.agent_run.specs.Configured.{unread_line, unread_status};
-ghost use Rattle.agent_run.specs.Places.{AnswersWith};
+ghost use Rattle.agent_run.specs.Places.{AnswersWith, read_fault_line};
 
 use crate::reading::{Unread, config_at};
-use crate::reporting::{report_made, report_open_fault, report_read_fault};
+use crate::reporting::{report_made, report_open_fault};
 use crate::status::Status;
 use agent_base::{PutFault, World};
 use agent_config::{Class, ConfigFault, ConfigKind};
@@ -70,6 +70,13 @@ fn report_ok<W: World>(world: &mut W) -> Status
     }
 }
 
+/// The line that says which place wasn't read.
+fn read_fault_line(alloc: Global, place: &str) -> Result<String, AllocError>
+    ensures { IfOk result (λ line. string_bytes line ≡ read_fault_line place.now) }
+{
+    format!(in alloc; "fault: read {place}\n")
+}
+
 /// Reports why the configuration of a place wasn't read.
 pub(crate) fn report_unread<W: World>(
     alloc: Global,
@@ -83,7 +90,7 @@ pub(crate) fn report_unread<W: World>(
 {
     match unread {
         Unread::Unopened => report_open_fault(alloc, world, place),
-        Unread::Failed => report_read_fault(alloc, world, place),
+        Unread::Failed => report_made(world, read_fault_line(alloc, place), Status::ReadFault),
         Unread::Faulty(fault) => report_config_fault(alloc, world, fault),
         Unread::OutOfMemory => Status::OutOfMemory,
     }

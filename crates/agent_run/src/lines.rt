@@ -103,7 +103,7 @@ struct About<'a> {
 }
 
 /// How many pieces of an input were refused, and the first of them; None where none was.
-fn refused_line(about: About<'_>, end: Option<&InputEnd>) -> Result<Option<String>, AllocError> {
+fn refused_line(about: About<'_>, first: Option<&Refused>) -> Result<Option<String>, AllocError> {
     let About { alloc, name, line } = about;
     let refused = number_behind(line, "refused");
     if refused == 0 {
@@ -112,13 +112,7 @@ fn refused_line(about: About<'_>, end: Option<&InputEnd>) -> Result<Option<Strin
     let pieces = grouped(alloc, number_behind(line, "pieces"))?;
     let refused = grouped(alloc, refused)?;
     let mut told = format!(in alloc; "{name}: {refused} of {pieces} pieces refused")?;
-    if let Some(
-        InputEnd {
-            first: Some(first),
-            ..
-        },
-    ) = end
-    {
+    if let Some(first) = first {
         append_fault(alloc, first, &mut told)?;
     }
     Ok(Some(told))
@@ -136,8 +130,8 @@ fn why_passed(alloc: Global, passed: u64, out_of_range: u64) -> Result<String, A
     format!(in alloc; "they have no finite value, or ({out_of_range} of them) are out of range")
 }
 
-/// How many samples of an input were passed over, and why; None where none was.
-fn passed_line(about: About<'_>, end: Option<&InputEnd>) -> Result<Option<String>, AllocError> {
+/// How many samples of an input were passed over, of which so many were out of range, and why; None where none was.
+fn passed_line(about: About<'_>, out_of_range: u64) -> Result<Option<String>, AllocError> {
     let About { alloc, name, line } = about;
     let passed = number_behind(line, "passed");
     if passed == 0 {
@@ -146,7 +140,7 @@ fn passed_line(about: About<'_>, end: Option<&InputEnd>) -> Result<Option<String
     let samples = passed
         .saturating_add(number_behind(line, "filtered"))
         .saturating_add(number_behind(line, "gathered"));
-    let why = why_passed(alloc, passed, end.map_or(0, |it| it.out_of_range))?;
+    let why = why_passed(alloc, passed, out_of_range)?;
     let (passed, samples) = (grouped(alloc, passed)?, grouped(alloc, samples)?);
     let told = format!(in alloc; "{name}: {passed} of {samples} samples passed over, as {why}")?;
     Ok(Some(told))
@@ -162,10 +156,10 @@ fn add_input(
     if let Some(why) = end.and_then(stop_of) {
         lines.push(format!(in alloc; "{name}: {why}")?)?;
     }
-    if let Some(refused) = refused_line(about, end)? {
+    if let Some(refused) = refused_line(about, end.and_then(|it| it.first.as_ref()))? {
         lines.push(refused)?;
     }
-    if let Some(passed) = passed_line(about, end)? {
+    if let Some(passed) = passed_line(about, end.map_or(0, |it| it.out_of_range))? {
         lines.push(passed)?;
     }
     Ok(())

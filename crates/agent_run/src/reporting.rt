@@ -1,7 +1,7 @@
 //! Lines of the report that say how a command ended.
 ghost use Rattle.std.specs.Prelude.{◌≡◌, ℕ, List, IfOk, string_bytes};
 ghost use Rattle.agent_base.specs.Views.{OnlyReport};
-ghost use Rattle.agent_run.specs.Places.{AnswersWith, open_fault_line, read_fault_line};
+ghost use Rattle.agent_run.specs.Places.{AnswersWith, open_fault_line};
 
 use crate::status::Status;
 use agent_base::{PutFault, World};
@@ -48,22 +48,6 @@ pub(crate) fn report_open_fault<W: World>(alloc: Global, world: &mut W, place: &
     ensures only { OnlyReport (W.view world.old) (W.view world.new) }
 {
     report_made(world, open_fault_line(alloc, place), Status::OpenFault)
-}
-
-/// The line that says which place wasn't read.
-fn read_fault_line(alloc: Global, place: &str) -> Result<String, AllocError>
-    ensures { IfOk result (λ line. string_bytes line ≡ read_fault_line place.now) }
-{
-    format!(in alloc; "fault: read {place}\n")
-}
-
-/// Reports which place wasn't read.
-pub(crate) fn report_read_fault<W: World>(alloc: Global, world: &mut W, place: &str) -> Status
-    ensures answer { AnswersWith result Status.ReadFault (W.view world.old).report (W.view world.new).report
-        (read_fault_line place.now) }
-    ensures only { OnlyReport (W.view world.old) (W.view world.new) }
-{
-    report_made(world, read_fault_line(alloc, place), Status::ReadFault)
 }
 
 /// Says lines to people, in order.

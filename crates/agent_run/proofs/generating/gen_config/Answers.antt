@@ -4,12 +4,13 @@ use Rattle.std.proofs.lemmas.List.{length-map}
 use Rattle.agent_base.specs.Carried.{Timed}
 use Rattle.agent_base.specs.Places.{Place}
 use Rattle.agent_workers.specs.Opened.{Carries, Times}
+use Rattle.agent_workers.proofs.OpenedLemmas.{same_count}
 use Rattle.agent_run.specs.Generated.{generated_moments}
 use Rattle.agent_run.specs.Generating.{clock_given, source_given, sources_given, unfailing}
 use Rattle.agent_run.specs.PlaceLists.{AreRefused, out_places}
 use Rattle.agent_run.specs.declared.places.Unopened.{Unopened}
 use Rattle.agent_run.specs.declared.ticking.Ticking.{Ticking}
-use Rattle.agent_run.proofs.GeneratingLemmas.{all_given_first, as_many, ends_generated, refused_so}
+use Rattle.agent_run.proofs.GeneratingLemmas.{all_given_first, ends_generated, refused_so}
 use Rattle.agent_run.proofs.RunningLemmas.{home_but, opened_opens, opens_then}
 use Rattle.agent_run.proofs.generating.gen_config.Goals as goal
 
@@ -19,9 +20,9 @@ told clock = record { moments = Some generated_moments; next = clock.next }
 
 pub run_opened-left-requires-clause-parts : goal.run_opened-left-requires-clause-parts
 run_opened-left-requires-clause-parts g c κs within = record {
-  sources = c.in-Ok.inputs.ok.0 ∙ as_many unfailing (source_given c.args.lines) c.in-Ok.inputs.items
+  sources = c.in-Ok.inputs.ok.0 ∙ same_count unfailing (source_given c.args.lines) c.in-Ok.inputs.items
       c.as_slice.result.now c.in-Ok.ensures ∙ ap length c.as_slice.ensures;
-  in_clocks = c.in-Ok-all_clocks_given.clocks.inputs.ok.0 ∙ as_many told (λ conf. clock_given)
+  in_clocks = c.in-Ok-all_clocks_given.clocks.inputs.ok.0 ∙ same_count told (λ conf. clock_given)
       c.in-Ok-all_clocks_given.clocks.inputs.items c.args.config.now.inputs c.in-Ok-all_clocks_given.ensures.inputs;
   sinks = omega (
     arith,
@@ -54,7 +55,7 @@ returns-in-Ok-open_written-clause-ends g c = λ ne.
     c.run_opened-left.result.0.items c.in-Ok-open_written.ensures.opened c.open_written.ensures.only.report
     (c.in-Ok.ensures ∙ ap (sources_given c.args.lines) c.as_slice.ensures)
     c.in-Ok-all_clocks_given.ensures.inputs c.in-Ok-all_clocks_given.ensures.timer
-    (c.run_opened-left.ensures.count ∙ as_many unfailing (source_given c.args.lines) c.in-Ok.inputs.items
+    (c.run_opened-left.ensures.count ∙ same_count unfailing (source_given c.args.lines) c.in-Ok.inputs.items
     c.as_slice.result.now c.in-Ok.ensures ∙ ap length c.as_slice.ensures)
     c.run_opened-left.ensures.ends
 

@@ -13,18 +13,23 @@ use fixed_num::{Moment, OutOfMemory, Seq};
 use std::alloc::Global;
 use std::cmp::Ordering;
 use std::marker::Model;
-use std::{fmt, mem};
+use std::mem;
+use thiserror::Error;
 
 /// Why no metric was made.
-#[derive(Clone, Copy, Debug, PartialEq, Eq)]
+#[derive(Clone, Copy, Debug, Error, PartialEq, Eq)]
 pub enum BuildFault {
     /// No memory was left.
+    #[error("out of memory")]
     OutOfMemory,
     /// The name is empty.
+    #[error("the name is empty")]
     EmptyName,
     /// A key is empty.
+    #[error("a key is empty")]
     EmptyKey,
     /// No field was given.
+    #[error("no field was given")]
     NoFields,
 }
 
@@ -33,17 +38,6 @@ impl From<OutOfMemory> for BuildFault {
 
     fn from(_fault: OutOfMemory) -> BuildFault {
         BuildFault::OutOfMemory
-    }
-}
-
-impl fmt::Display for BuildFault {
-    fn fmt<W: fmt::Write>(&self, f: &mut fmt::Formatter<W>) -> fmt::Result {
-        match self {
-            BuildFault::OutOfMemory => write!(f, "out of memory"),
-            BuildFault::EmptyName => write!(f, "the name is empty"),
-            BuildFault::EmptyKey => write!(f, "a key is empty"),
-            BuildFault::NoFields => write!(f, "no field was given"),
-        }
     }
 }
 

@@ -6,16 +6,18 @@ use crate::glob_scan::found;
 use crate::glob_text::read_elements;
 use fixed_num::{OutOfMemory, Seq};
 use std::alloc::Global;
-use std::fmt;
 use std::marker::Model;
+use thiserror::Error;
 
 /// Why a text is no glob.
-#[derive(Clone, Copy, Debug, PartialEq, Eq)]
+#[derive(Clone, Copy, Debug, Error, PartialEq, Eq)]
 pub enum GlobFault {
     /// No memory was left.
+    #[error("out of memory")]
     OutOfMemory,
     /// A set isn't closed or is empty, a range's low end is above its high end, a backslash stands last, or a
     /// brace unescaped.
+    #[error("the text is no glob")]
     BadGlob,
 }
 
@@ -26,15 +28,6 @@ impl From<OutOfMemory> for GlobFault {
 
     fn from(_fault: OutOfMemory) -> GlobFault {
         GlobFault::OutOfMemory
-    }
-}
-
-impl fmt::Display for GlobFault {
-    fn fmt<W: fmt::Write>(&self, f: &mut fmt::Formatter<W>) -> fmt::Result {
-        match self {
-            GlobFault::OutOfMemory => write!(f, "out of memory"),
-            GlobFault::BadGlob => write!(f, "the text is no glob"),
-        }
     }
 }
 

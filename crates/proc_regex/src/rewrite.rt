@@ -17,13 +17,16 @@ use regex::{Error, Matcher, Regex, Template};
 use std::alloc::Global;
 use std::fmt;
 use std::marker::Model;
+use thiserror::Error;
 
 /// Why there is no rewriting by a pattern.
-#[derive(Clone, Copy, Debug, PartialEq, Eq)]
+#[derive(Clone, Copy, Debug, Error, PartialEq, Eq)]
 pub enum PatternFault {
     /// No memory was left, or the pattern takes more than the 10 MiB that one may take.
+    #[error("out of memory")]
     OutOfMemory,
     /// The text is no pattern, or one that is nested more than 250 deep.
+    #[error("no pattern is spelled so")]
     BadPattern,
 }
 
@@ -34,15 +37,6 @@ impl From<OutOfMemory> for PatternFault {
 
     fn from(_fault: OutOfMemory) -> PatternFault {
         PatternFault::OutOfMemory
-    }
-}
-
-impl fmt::Display for PatternFault {
-    fn fmt<W: fmt::Write>(&self, f: &mut fmt::Formatter<W>) -> fmt::Result {
-        match self {
-            PatternFault::OutOfMemory => write!(f, "out of memory"),
-            PatternFault::BadPattern => write!(f, "no pattern is spelled so"),
-        }
     }
 }
 

@@ -1,5 +1,5 @@
 -- What a reader of lines returned.
-use Rattle.std.specs.Prelude.{◌≡◌, ◌<◌, ℕ, ℤ, List, length, map, option_map, Option, Some, None, Result, Ok, Err, ◌⊎◌}
+use Rattle.std.specs.Prelude.{◌≡◌, ◌<◌, ◌≤◌, ℕ, ℤ, List, length, map, option_map, Option, Some, None, Result, Ok, Err, ◌⊎◌}
 use Rattle.std.specs.Borrow.{Bor}
 use Rattle.std.specs.List.{AllByRecursion}
 use Rattle.text_parts.specs.Chain.{Fails}
@@ -10,7 +10,7 @@ use Rattle.metric.specs.declared.metric.Content.{Content}
 use Rattle.metric.specs.Draft.{Tag}
 use Rattle.metric.specs.Pairs.{in_key_order_on}
 use Rattle.statsd_text.specs.declared.fault.StatsdFault.{StatsdFault}
-use Rattle.statsd_text.specs.declared.fault.StatsdKind.TheVariants.{OutOfMemory}
+use Rattle.statsd_text.specs.declared.fault.StatsdKind.TheVariants.{OutOfMemory, TooMany}
 use Rattle.statsd_text.specs.declared.sections.Line.{Line}
 use Rattle.statsd_text.specs.declared.said.PartTexts.{PartTexts}
 use Rattle.statsd_text.specs.declared.read.LineSaid.{LineSaid}
@@ -69,14 +69,19 @@ pub record IsWholeLine (line : LineSaid) : Type 0 where
 abbrev pub metrics_said : LineSaid → ℤ → List Content
 metrics_said line moment = map (kept_content line.name line.tags.items moment) line.said
 
--- what a line says makes its metrics; of one that isn't told nothing is said
+-- a piece that isn't told: it has no metrics, or each has 64 tags, and may have too many
+abbrev pub IsUntold : Result (List Content) StatsdFault → Type 0
+IsUntold (Ok metrics) = AllByRecursion (λ (metric : Content). 64 ≤ length metric.tags) metrics
+IsUntold (Err e) = e.kind ≡ TooMany
+
+-- what a line says makes its metrics; where nothing is told there are none, or too many tags
 abbrev pub SaysIf : Result (Option LineSaid) (ReadError StatsdFault) → (ℤ → Result (List Content) StatsdFault) → Type 0
-SaysIf (Ok None) reading = Unit {0}
+SaysIf (Ok None) reading = (moment : ℤ) → IsUntold (reading moment)
 SaysIf (Ok (Some line)) reading = (moment : ℤ) → reading moment ≡ Ok (metrics_said line moment)
 SaysIf (Err e) reading = (moment : ℤ) → Fails e (reading moment)
 
 abbrev pub AnswersSaid : Result (Option LineSaid) StatsdFault → (ℤ → Result (List Content) StatsdFault) → Type 0
-AnswersSaid (Ok None) reading = Unit {0}
+AnswersSaid (Ok None) reading = (moment : ℤ) → IsUntold (reading moment)
 AnswersSaid (Ok (Some line)) reading = (moment : ℤ) → reading moment ≡ Ok (metrics_said line moment)
 AnswersSaid (Err e) reading =
     (moment : ℤ) → (e ≡ record { kind = OutOfMemory; offset = 0 }) ⊎ (reading moment ≡ Err e)

@@ -122,7 +122,7 @@ fn piece_said(alloc: Global, piece: &[u8]) -> Result<Option<LineSaid>, ReadError
 }
 
 /// What a piece says that `read_line` reads: its metrics, at any moment, are those of its parts. None where it is blank,
-/// or has 64 tags or more: then `read_line` has to be asked. A fault is that of `read_line`.
+/// or its line has 64 tags or more that have a value: then `read_line` has to be asked. A fault is that of `read_line`.
 pub fn read_said(alloc: Global, piece: &[u8]) -> Result<Option<LineSaid>, StatsdFault>
     ensures says { AnswersSaid result (reading piece.now) }
     ensures whole { IfOk result (λ line. IfSome line IsWholeLine) }

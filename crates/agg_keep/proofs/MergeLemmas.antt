@@ -20,7 +20,8 @@ use Rattle.agg_keep.specs.Keyed.{firsts}
 use Rattle.agg_keep.specs.Merge.{fields_in, members_at, merged_at, merge_of, spots_in}
 use Rattle.agg_keep.specs.MergeKept.{fields_with, held_at, made_at, merged_with, one_at}
 use Rattle.agg_keep.specs.MergeKept.{IsMergeReady, MergeMemory, MergeStandsFor}
-use Rattle.agg_keep.specs.Spot.{spot_eq, spot_of, spot_same, Spot}
+use Rattle.agg_keep.specs.Spot.{spot_eq, spot_of, spot_same}
+use Rattle.agg_keep.specs.declared.spot.Spot.{Spot}
 use Rattle.agg_keep.proofs.KeyLemmas.{all_have, any_other, any_own, firsts-push, has, no_elements}
 use Rattle.agg_keep.proofs.KeyLemmas.{other_elements, own_elements, some_same, turned, turned_cond}
 

@@ -5,7 +5,8 @@ use Rattle.metric.specs.Draft.{Field}
 use Rattle.metric.specs.Pairs.{in_first_order}
 use Rattle.metric.specs.declared.metric.Content.{Content}
 use Rattle.agg_keep.specs.Keyed.{firsts, with_key}
-use Rattle.agg_keep.specs.Spot.{spot_eq, spot_of, Spot}
+use Rattle.agg_keep.specs.Spot.{spot_eq, spot_of}
+use Rattle.agg_keep.specs.declared.spot.Spot.{Spot}
 
 -- the series and times of the members, each where its first member stands
 abbrev pub spots_in : List Content → List Spot
@@ -22,10 +23,10 @@ fields_in members = flat_map (λ m. m.fields) members
 -- one metric of them: the fields in the order in which they came first, each with its last value
 abbrev pub merged_at : List Content → Spot → Content
 merged_at members spot = record {
-  name = spot.0.0;
-  tags = spot.0.1;
+  name = spot.series.0;
+  tags = spot.series.1;
   fields = in_first_order (fields_in (members_at spot members));
-  time = spot.1;
+  time = spot.time;
 }
 
 -- what is made of the members

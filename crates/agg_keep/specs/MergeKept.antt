@@ -8,7 +8,8 @@ use Rattle.metric.specs.Pairs.{in_first_order_on}
 use Rattle.metric.specs.declared.metric.Content.{Content}
 use Rattle.agg_keep.specs.Keyed.{held_by, HasRoom}
 use Rattle.agg_keep.specs.Merge.{merged_at, spots_in}
-use Rattle.agg_keep.specs.Spot.{spot_cmp, spot_eq, spot_of, Spot}
+use Rattle.agg_keep.specs.Spot.{spot_cmp, spot_eq, spot_of}
+use Rattle.agg_keep.specs.declared.spot.Spot.{Spot}
 
 -- metrics by their series and time, each merged so far; where there is room alone there is none
 pub record MergeMemory : Type 0 where

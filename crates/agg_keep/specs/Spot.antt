@@ -1,45 +1,32 @@
 -- A series and a time.
-use Rattle.std.specs.Prelude.{ℤ, ◌≡◌, ◌&&◌, Bool, List}
+use Rattle.std.specs.Prelude.{◌≡◌, ◌&&◌, Bool, List}
 use Rattle.std.specs.Bool.{Decides}
 use Rattle.std.proofs.Common.{ap, refl}
 use Rattle.std.proofs.lemmas.Bool.Decides.{Decides-and, Decides-int_eq}
-use Rattle.std.proofs.lemmas.Cmp.{int_cmp_total, int_eq_equiv}
 use Rattle.std.specs.Cmp.Lexicographic.{pointwise}
 use Rattle.std.specs.Str.{bytes_eq}
-use Rattle.std.specs.Cmp.{IsEquivalence, IsTotalOrder, and_equiv, both_tied, on_equiv, on_total, then_total}
 use Rattle.std.proofs.lemmas.Slice.Eq.{bytes_eq-Decides, slice_eq-Decides}
-use Rattle.std.specs.Ordering.{int_cmp, int_eq, is_eq, ordering_then}
+use Rattle.std.specs.Ordering.{int_cmp, int_eq, ordering_then}
 use Rattle.std.specs.declared.cmp.Ordering.{Ordering}
-use Rattle.metric.specs.Series.{series_cmp, series_eq, series_equiv, series_ties, series_total}
+use Rattle.metric.specs.Series.{series_cmp, series_eq}
 use Rattle.metric.specs.Series.{tag_eq, Series, Tag}
 use Rattle.metric.specs.declared.metric.Content.{Content}
+use Rattle.agg_keep.specs.declared.spot.Spot.{Spot}
 
 -- the series of a metric: its name and its tags
 abbrev pub series_of : Content → Series
 series_of m = (m.name, m.tags)
 
-abbrev pub Spot : Type 0
-Spot = Series × ℤ
-
 -- the series and the time of a metric
 abbrev pub spot_of : Content → Spot
-spot_of m = (series_of m, m.time)
+spot_of m = record { series = series_of m; time = m.time }
 
 abbrev pub spot_eq : Spot → Spot → Bool
-spot_eq a b = series_eq a.0 b.0 && int_eq a.1 b.1
+spot_eq a b = series_eq a.series b.series && int_eq a.time b.time
 
 -- they are ordered by series, and those of one series by time
 abbrev pub spot_cmp : Spot → Spot → Ordering
-spot_cmp a b = ordering_then (series_cmp a.0 b.0) (int_cmp a.1 b.1)
-
-pub spot_equiv : IsEquivalence spot_eq
-spot_equiv = and_equiv (on_equiv (λ (s : Spot). s.0) series_equiv) (on_equiv (λ (s : Spot). s.1) int_eq_equiv)
-
-pub spot_total : IsTotalOrder spot_cmp
-spot_total = then_total (on_total (λ (s : Spot). s.0) series_total) (on_total (λ (s : Spot). s.1) int_cmp_total)
-
-pub spot_ties : (a b : Spot) → spot_eq a b ≡ is_eq (spot_cmp a b)
-spot_ties a b = both_tied _ _ (series_cmp a.0 b.0) (int_cmp a.1 b.1) (series_ties a.0 b.0) refl
+spot_cmp a b = ordering_then (series_cmp a.series b.series) (int_cmp a.time b.time)
 
 -- ---- equal ones are the same
 
@@ -57,4 +44,8 @@ pub series_same : (a b : Series) → Decides (series_eq a b) (a ≡ b)
 series_same = pairs_same bytes_eq (pointwise tag_eq) bytes_eq-Decides tags_same
 
 pub spot_same : (a b : Spot) → Decides (spot_eq a b) (a ≡ b)
-spot_same = pairs_same series_eq int_eq series_same Decides-int_eq
+spot_same a b =
+    let both = Decides-and _ _ (series_same a.series b.series) (Decides-int_eq a.time b.time) in (
+      λ e. let h = both.0 e in λ i. record { series = h.0 i; time = h.1 i },
+      λ e. both.1 (ap (λ (s : Spot). s.series) e, ap (λ (s : Spot). s.time) e),
+    )

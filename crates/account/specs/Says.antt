@@ -26,9 +26,9 @@ pub record DoneSays : Type 0 where
   pub ok : Bool
   pub reports : List Report
 
--- what an entry says where it is a Gather
-abbrev pub gather_of : Entry → Option GatherSays
-gather_of (Gather input moment pieces refused passed filtered metrics group reports) = Some (record {
+-- what a Gather of these says
+abbrev pub gather_says : ℕ → ℤ → ℕ → ℕ → ℕ → ℕ → List Content → Option ℕ → List Report → GatherSays
+gather_says input moment pieces refused passed filtered metrics group reports = record {
   input = input;
   moment = moment;
   pieces = pieces;
@@ -38,7 +38,12 @@ gather_of (Gather input moment pieces refused passed filtered metrics group repo
   metrics = metrics;
   group = group;
   reports = reports;
-})
+}
+
+-- what an entry says where it is a Gather
+abbrev pub gather_of : Entry → Option GatherSays
+gather_of (Gather input moment pieces refused passed filtered metrics group reports) =
+    Some (gather_says input moment pieces refused passed filtered metrics group reports)
 gather_of _ = None
 
 -- what an entry says where it is a Done

@@ -11,6 +11,7 @@ use Rattle.agent_base.specs.Cut.{Cut}
 use Rattle.agent_base.specs.Hand.{to_come, empty_hand}
 use Rattle.pipeline_core.specs.Legal.{has_ended, is_ended_of}
 use Rattle.pipeline_core.proofs.JournalPush.{has_ended-push}
+use Rattle.pipeline_core.specs.Steps.{entry_of, said_of}
 use Rattle.pipeline_core.specs.declared.gathering.Gathered.{Gathered}
 use Rattle.account.specs.Says.{GatherSays}
 use Rattle.account.specs.Gathers.{gathers_by, gathers}
@@ -107,14 +108,6 @@ pub has_ended-other : (input : ℕ) (es : List Entry) (e : Entry) → is_ended_o
     → has_ended input (es ++ e ∷ []) ≡ has_ended input es
 has_ended-other input es e none = has_ended-push input es e ∙ ap (λ (b : Bool). has_ended input es || b) none
     ∙ or-false (has_ended input es)
-
--- the Gather of what was held
-abbrev pub entry_of : Gathered → Option ℕ → List Report → Entry
-entry_of g number reports = Gather g.input g.moment g.pieces g.refused g.passed g.filtered g.metrics number reports
-
--- and what it says
-abbrev pub said_of : Gathered → Option ℕ → List Report → GatherSays
-said_of g number reports = record (says_of g) { group = number; reports = reports }
 
 pub gathers_own : (g : Gathered) (number : Option ℕ) (reports : List Report)
     → gathers_by g.input (entry_of g number reports) ≡ said_of g number reports ∷ []

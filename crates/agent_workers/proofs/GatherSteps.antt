@@ -16,7 +16,7 @@ use Rattle.agent_base.specs.Told.{Told}
 use Rattle.pipeline_core.specs.CoreState.{CoreState}
 use Rattle.pipeline_core.specs.Shapes.{IsGatherEntry}
 use Rattle.pipeline_core.specs.Stands.{Continues}
-use Rattle.pipeline_core.specs.Steps.{after_gather, after_ended, gather_entry}
+use Rattle.pipeline_core.specs.Steps.{after_gather, after_ended, entry_of, gather_entry, said_of}
 use Rattle.pipeline_core.specs.Order.{IsDrained}
 use Rattle.pipeline_core.specs.declared.gathering.Gathered.{Gathered}
 use Rattle.pipeline_core.proofs.ShapeLemmas.{entries-have-shape}
@@ -34,7 +34,6 @@ use Rattle.agent_workers.specs.Inputs.{InPart, in_at, no_in, HoldsNoEnd, HoldsOw
 use Rattle.agent_workers.specs.RunState.{RunState, Beginning, setup_at}
 use Rattle.agent_workers.specs.Progress.{still_after, Heard, Progress, SettlesFirst, ReadsAt, GathersAt, EndsAt}
 use Rattle.agent_workers.specs.Running.{AreSettled}
-use Rattle.agent_workers.proofs.GatherLemmas.{entry_of, said_of}
 use Rattle.agent_workers.proofs.HeardLemmas.{IsNotOf, read_to, heard_push, heard_accepted, heard_full, heard_ended}
 use Rattle.agent_workers.proofs.HeardLemmas.{heard_free, heard_read_none, heard_read_some}
 use Rattle.agent_workers.proofs.HeldLemmas.{failed_none, failed_quiet}

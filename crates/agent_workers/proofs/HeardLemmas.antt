@@ -25,6 +25,7 @@ use Rattle.agent_base.proofs.ClockLemmas.{clocked_none, clocked_one, clocked_joi
 use Rattle.pipeline_core.specs.Legal.{has_ended, is_ended_of, gathered_count}
 use Rattle.pipeline_core.proofs.JournalPush.{has_ended-push, gathered_count-push}
 use Rattle.pipeline_core.proofs.Keeping.{same_number}
+use Rattle.pipeline_core.specs.Steps.{entry_of, said_of}
 use Rattle.pipeline_core.specs.declared.gathering.Gathered.{Gathered}
 use Rattle.formats.specs.declared.reading.Group.{Group}
 use Rattle.formats.specs.declared.pieces.InState.{InState}
@@ -38,7 +39,7 @@ use Rattle.agent_workers.specs.Inputs.{gathered_of, read_state}
 use Rattle.agent_workers.specs.Progress.{IsNamed, HasState, IsClocked, IsNamedOfTaken, Heard}
 use Rattle.formats.proofs.GroupLemmas.{told_then, told_map, told_pair, told_self, few_kept}
 use Rattle.agent_workers.proofs.RoseLemmas.{rose_from}
-use Rattle.agent_workers.proofs.GatherLemmas.{has_ended-other, entry_of, said_of, gathers_own, group_said}
+use Rattle.agent_workers.proofs.GatherLemmas.{has_ended-other, gathers_own, group_said}
 use Rattle.agent_workers.proofs.GatherLemmas.{AreGroups-last, gathering_starts, gathering_as, gathered_as}
 use Rattle.agent_workers.proofs.GatherLemmas.{gathering_full, gathering_last, gathered_more, gathered_here, unheld}
 use Rattle.agent_workers.proofs.TakenSteps.{told_names_start, names_as, taken_as, no_pieces, told_names_more}

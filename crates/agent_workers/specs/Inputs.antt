@@ -12,6 +12,7 @@ use Rattle.agent_base.specs.Moments.{Moments}
 use Rattle.agent_base.specs.Told.{Told}
 use Rattle.agent_base.specs.declared.piece.CutKind.TheVariants.{Lines}
 use Rattle.metric.specs.Metric.{IsFilledTag}
+use Rattle.pipeline_core.specs.Steps.{said_of}
 use Rattle.pipeline_core.specs.declared.gathering.Gathered.{Gathered}
 use Rattle.formats.specs.Reader.{InRule, in_rule, plain_rule, cut_of, FitsGather}
 use Rattle.agent_workers.specs.declared.input.InJob.{InJob}
@@ -92,17 +93,7 @@ pub record AreSameInputs (olds news : List InPart) : Type 0 where
 
 -- what the Gather of a gather that is held will say, but for its group and its reports
 abbrev pub says_of : Gathered → GatherSays
-says_of g = record {
-  input = g.input;
-  moment = g.moment;
-  pieces = g.pieces;
-  refused = g.refused;
-  passed = g.passed;
-  filtered = g.filtered;
-  metrics = g.metrics;
-  group = None;
-  reports = [];
-}
+says_of g = said_of g None []
 
 -- the Gathers of an input, and then the one that is held
 abbrev pub heard_of : ℕ → List Entry → Option Gathered → List GatherSays

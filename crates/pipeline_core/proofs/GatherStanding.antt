@@ -27,8 +27,8 @@ use Rattle.pipeline_core.specs.Totals.{gathered_with, gathers_too, group_count, 
 use Rattle.pipeline_core.specs.Tracked.{tracker_after}
 use Rattle.pipeline_core.specs.CoreState.{CoreState, GroupsAgree, IsCore}
 use Rattle.pipeline_core.specs.Stands.{Continues, Stands}
-use Rattle.pipeline_core.specs.Steps.{HasGroup, HasNumbers, HasRawRoom, after_gather, gather_entry, gather_reports}
-use Rattle.pipeline_core.specs.Steps.{gathered_too, group_for, most_of, next_number, reports_started, start_group}
+use Rattle.pipeline_core.specs.Steps.{HasGroup, HasNumbers, HasRawRoom, after_gather, entry_of, gather_entry, gather_reports}
+use Rattle.pipeline_core.specs.Steps.{gathered_too, group_for, most_of, next_number, reports_started, said_of, start_group}
 use Rattle.pipeline_core.specs.declared.gathering.Gathered.{Gathered}
 use Rattle.pipeline_core.proofs.CopyBounds.{no_copies, no_fates}
 use Rattle.pipeline_core.proofs.CopyGroups.{gather_copies}
@@ -56,20 +56,15 @@ counted_group None n = refl
 counted_group (Some m) n = refl
 
 module _ (s : CoreState) (g : Gathered) (agree : GroupsAgree s) (journal : List Entry) (h : Stands s journal) where
-  -- the entry with a group and reports
-  abbrev entry_with : Option ℕ → List Report → Entry
-  entry_with group reports =
-      Gather g.input g.moment g.pieces g.refused g.passed g.filtered g.metrics group reports
-
   -- a group begins, where the input is tracked, and may settle
   starts : (most : Option ℕ) (reports : List Report) →
-      MeetsLine s.setup journal (entry_with (next_number most s.tracker.started) reports) →
+      MeetsLine s.setup journal (entry_of g (next_number most s.tracker.started) reports) →
       (start_group s.tracker (next_number most s.tracker.started) g.input (length g.metrics) ≡ tracker_after s.setup
-      (journal ++ entry_with (next_number most s.tracker.started) reports ∷ []))
+      (journal ++ entry_of g (next_number most s.tracker.started) reports ∷ []))
       × (reports_started s.tracker (next_number most s.tracker.started) g.input (length g.metrics) ≡ reports_at s.setup
-      journal (entry_with (next_number most s.tracker.started) reports))
+      journal (entry_of g (next_number most s.tracker.started) reports))
   starts None reports line =
-      let e : Entry = entry_with None reports in
+      let e : Entry = entry_of g None reports in
       let lets : Lets s.setup journal e None 0 [] = record {
         same = begins_none journal e refl;
         counts = λ n. omega (
@@ -84,7 +79,7 @@ module _ (s : CoreState) (g : Gathered) (agree : GroupsAgree s) (journal : List 
   starts (Some m) reports line =
       let n : ℕ = s.tracker.started in
       let next : n ≡ groups journal = started_is s journal h in
-      let e : Entry = entry_with (Some n) reports in
+      let e : Entry = entry_of g (Some n) reports in
       let held : (k : ℕ) → copies s.setup (journal ++ e ∷ []) k ≡ copies s.setup journal k
       + (if n == k then length g.metrics else 0) =
       λ k. gather_copies s.setup journal g.input g.moment g.pieces g.refused g.passed g.filtered g.metrics (Some n)
@@ -121,19 +116,9 @@ module _ (s : CoreState) (g : Gathered) (agree : GroupsAgree s) (journal : List 
       g.input < length s.setup.inputs → k < length s.setup.inputs →
       get_or (set s.numbers.inputs g.input (gathered_too (input_numbers s.numbers g.input) g (is_some most))) k
       (unread_input false) ≡ said_with k (get_or (totals s.setup journal).inputs k (unread_input false))
-      (entry_with group reports)
+      (entry_of g group reports)
   numbers_said most group reports k many one n b =
-      let says : GatherSays = record {
-        input = g.input;
-        moment = g.moment;
-        pieces = g.pieces;
-        refused = g.refused;
-        passed = g.passed;
-        filtered = g.filtered;
-        metrics = g.metrics;
-        group = group;
-        reports = reports;
-      } in
+      let says : GatherSays = said_of g group reports in
       let old : (j : ℕ) → input_numbers s.numbers j ≡ get_or (totals s.setup journal).inputs j (unread_input false) =
       λ j. ap (λ (m : Numbers). input_numbers m j) h.numbers in
       let more : (x : InputNumbers) → gathered_too x g (is_some most) ≡ gathers_too x says =
@@ -163,7 +148,7 @@ gather_stands s n g q core agree reading going few has place =
     by_step s n (after_gather s g) (gather_entry s g) q (λ journal h.
     let group : Option ℕ = group_for s g.input in
     let reports : List Report = gather_reports s g in
-    let e : Entry = entry_with s g agree journal h group reports in
+    let e : Entry = entry_of g group reports in
     let n : g.input < length s.setup.inputs = omega (
       arith,
       slice_get_within s.ended g.input false reading,

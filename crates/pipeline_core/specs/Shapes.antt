@@ -7,14 +7,13 @@ use Rattle.account.specs.declared.entry.Entry.TheVariants as entries
 use Rattle.account.specs.declared.entry.Report.{Report}
 use Rattle.account.specs.declared.entry.Verdict.{Verdict}
 use Rattle.pipeline_core.specs.CoreState.{CoreState}
-use Rattle.pipeline_core.specs.Steps.{gather_entry, route_entry, tick_entry, stop_entry, done_entry, moment_at}
+use Rattle.pipeline_core.specs.Steps.{entry_of, gather_entry, route_entry, tick_entry, stop_entry, done_entry, moment_at}
 use Rattle.pipeline_core.specs.declared.gathering.Gathered.{Gathered}
 use Rattle.pipeline_core.specs.declared.routing.Routed.{Routed}
 
 -- the shape of entries, whatever the group, the verdict, what is made and the reports: for those who look on
 abbrev pub IsGatherEntry : Gathered → Entry → Type 0
-IsGatherEntry g e = (group : Option ℕ) × (reports : List Report)
-    × (e ≡ entries.Gather g.input g.moment g.pieces g.refused g.passed g.filtered g.metrics group reports)
+IsGatherEntry g e = (group : Option ℕ) × (reports : List Report) × (e ≡ entry_of g group reports)
 
 abbrev pub IsRouteEntry : Routed → Entry → Type 0
 IsRouteEntry r e = (verdict : Verdict) × (reports : List Report)

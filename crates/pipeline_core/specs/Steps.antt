@@ -8,6 +8,7 @@ use Rattle.std.specs.Option.{option_to_list}
 use Rattle.std.specs.declared.option.Option.{Option}
 use Rattle.std.specs.declared.option.Option.TheVariants.{Some, None}
 use Rattle.metric.specs.declared.metric.Content.{Content}
+use Rattle.account.specs.Says.{GatherSays, gather_says}
 use Rattle.account.specs.Numbers.{Numbers, with_input, input_numbers, gathered_more, settled_more, written_more}
 use Rattle.account.specs.Numbers.{dropped_more, AreBelow}
 use Rattle.account.specs.declared.numbers.InputNumbers.{InputNumbers}
@@ -76,11 +77,19 @@ reports_started tracker (Some group) input copies = option_to_list (start_report
 abbrev pub gather_reports : CoreState → Gathered → List Report
 gather_reports state g = reports_started state.tracker (group_for state g.input) g.input (length g.metrics)
 
+-- the entry of what was gathered, with a group and reports
+abbrev pub entry_of : Gathered → Option ℕ → List Report → Entry
+entry_of g group reports =
+    entries.Gather g.input g.moment g.pieces g.refused g.passed g.filtered g.metrics group reports
+
+-- and what it says
+abbrev pub said_of : Gathered → Option ℕ → List Report → GatherSays
+said_of g group reports =
+    gather_says g.input g.moment g.pieces g.refused g.passed g.filtered g.metrics group reports
+
 -- the entry of what was gathered
 unfoldable pub gather_entry : CoreState → Gathered → Entry
-gather_entry state g =
-    entries.Gather g.input g.moment g.pieces g.refused g.passed g.filtered g.metrics (group_for state g.input)
-    (gather_reports state g)
+gather_entry state g = entry_of g (group_for state g.input) (gather_reports state g)
 
 -- an input's numbers with what was gathered, which is a group of it where it is tracked
 abbrev pub gathered_too : InputNumbers → Gathered → Bool → InputNumbers

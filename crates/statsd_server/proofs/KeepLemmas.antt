@@ -30,7 +30,8 @@ use Rattle.statsd_server.specs.Kept.{summary_held}
 use Rattle.statsd_server.specs.Kept.{summary_if, HasPlace, HasStayed, IsPlaced, Keeps, LevelPlace, Levels}
 use Rattle.statsd_server.specs.Kept.{Members, MemberPlace, Memory, Sums}
 use Rattle.statsd_server.specs.Marked.{marked_cmp}
-use Rattle.statsd_server.specs.Member.{member_cmp, member_named, Member}
+use Rattle.statsd_server.specs.Member.{member_cmp, member_named}
+use Rattle.statsd_server.specs.declared.member.Member.{Member}
 use Rattle.statsd_server.specs.Parts.{amount_of, change_of, changes_of, level_of, level_with, members_in, members_of}
 use Rattle.statsd_server.specs.Parts.{parts_of, summary_of}
 use Rattle.statsd_server.specs.Served.{series_in}
@@ -177,18 +178,18 @@ bytes_turned a b =
     ] refl
 
 -- whether a change of a series names a member of it
-names_own : (series : Series) (change : Change) (member : Member) → series_eq series member.0 ≡ true
-    → is_it (member_named series change) member ≡ list_any (bytes_eq member.1) (members_of change)
+names_own : (series : Series) (change : Change) (member : Member) → series_eq series member.series ≡ true
+    → is_it (member_named series change) member ≡ list_any (bytes_eq member.text) (members_of change)
 names_own series (Names text) member e =
-    rw e (and_true (bytes_eq text member.1) ∙ bytes_turned text member.1 ∙ sym (or_false (bytes_eq member.1 text)))
+    rw e (and_true (bytes_eq text member.text) ∙ bytes_turned text member.text ∙ sym (or_false (bytes_eq member.text text)))
 names_own series (Adds n) member e = refl
 names_own series (Sets n) member e = refl
 names_own series (Moves n) member e = refl
 names_own series (Took n) member e = refl
 
-names_other : (series : Series) (change : Change) (member : Member) → series_eq series member.0 ≡ false
+names_other : (series : Series) (change : Change) (member : Member) → series_eq series member.series ≡ false
     → is_it (member_named series change) member ≡ false
-names_other series (Names text) member e = rw e (and_false (bytes_eq text member.1))
+names_other series (Names text) member e = rw e (and_false (bytes_eq text member.text))
 names_other series (Adds n) member e = refl
 names_other series (Sets n) member e = refl
 names_other series (Moves n) member e = refl
@@ -198,26 +199,26 @@ pub members_more : (past now : List Content) (part : Content) (old : Memory) (me
     → ((m : Member) → is_named members m
     ≡ (is_it (member_named (series_of part) (change_of part)) m || is_named old.members m))
     → (m : Member)
-    → is_named members m ≡ list_any (bytes_eq m.1) (members_in (changes_of m.0 (now ++ part ∷ [])))
+    → is_named members m ≡ list_any (bytes_eq m.text) (members_in (changes_of m.series (now ++ part ∷ [])))
 members_more past now part old members h put m =
     let s = series_of part in
     let c = change_of part in
     let xs = changes_of s now in
-    put m ∙ elim (series_eq s m.0) as (λ t. series_eq s m.0 ≡ t → (is_it (member_named s c) m || is_named old.members m)
-    ≡ list_any (bytes_eq m.1) (members_in (changes_of m.0 (now ++ part ∷ [])))) [
+    put m ∙ elim (series_eq s m.series) as (λ t. series_eq s m.series ≡ t → (is_it (member_named s c) m || is_named old.members m)
+    ≡ list_any (bytes_eq m.text) (members_in (changes_of m.series (now ++ part ∷ [])))) [
       | true ↦ λ e.
-          let here : is_named old.members m ≡ list_any (bytes_eq m.1) (members_in xs) =
-          h.members m ∙ ap (λ (q : Series). list_any (bytes_eq m.1) (members_in (changes_of q now)))
-          (sym ((series_same s m.0).0 e)) in
+          let here : is_named old.members m ≡ list_any (bytes_eq m.text) (members_in xs) =
+          h.members m ∙ ap (λ (q : Series). list_any (bytes_eq m.text) (members_in (changes_of q now)))
+          (sym ((series_same s m.series).0 e)) in
           rw (names_own s c m e, here)
-          (or_turned (list_any (bytes_eq m.1) (members_of c)) (list_any (bytes_eq m.1) (members_in xs))
-          ∙ sym (list_any-append (bytes_eq m.1) (members_in xs) (members_of c))
-          ∙ sym (ap (list_any (bytes_eq m.1)) (members-push xs c))
-          ∙ sym (ap (λ (changes : List Change). list_any (bytes_eq m.1) (members_in changes))
-          (own_changes m.0 now part e)))
+          (or_turned (list_any (bytes_eq m.text) (members_of c)) (list_any (bytes_eq m.text) (members_in xs))
+          ∙ sym (list_any-append (bytes_eq m.text) (members_in xs) (members_of c))
+          ∙ sym (ap (list_any (bytes_eq m.text)) (members-push xs c))
+          ∙ sym (ap (λ (changes : List Change). list_any (bytes_eq m.text) (members_in changes))
+          (own_changes m.series now part e)))
       | false ↦ λ e. rw (names_other s c m e) (h.members m
-          ∙ sym (ap (λ (changes : List Change). list_any (bytes_eq m.1) (members_in changes))
-          (other_changes m.0 now part e)))
+          ∙ sym (ap (λ (changes : List Change). list_any (bytes_eq m.text) (members_in changes))
+          (other_changes m.series now part e)))
     ] refl
 
 -- ---- the order

@@ -22,7 +22,8 @@ use Rattle.statsd_server.specs.declared.placed.First.{First}
 use Rattle.statsd_server.specs.Kept.{first_series, is_it, is_named, is_new, level_for, level_held, summary_held}
 use Rattle.statsd_server.specs.Kept.{HasPlace, Keeps, Levels, Members, Memory, Sums}
 use Rattle.statsd_server.specs.Marked.{marked_cmp, marked_ties}
-use Rattle.statsd_server.specs.Member.{member_cmp, member_eq, member_named, member_same, member_ties, Member}
+use Rattle.statsd_server.specs.Member.{member_cmp, member_eq, member_named, member_same, member_ties}
+use Rattle.statsd_server.specs.declared.member.Member.{Member}
 use Rattle.statsd_server.specs.Packets.{lines_of, parts_of_lines, refused_lines, Packet}
 use Rattle.statsd_server.specs.Parts.{amount_of, change_of, changes_of, level_with, summary_of}
 use Rattle.statsd_server.specs.Served.{served}

@@ -14,7 +14,8 @@ use Rattle.statsd_server.specs.declared.placed.First.{First}
 use Rattle.statsd_server.specs.declared.placed.Placed.{Placed}
 use Rattle.statsd_server.specs.declared.summary.Summary.{Summary}
 use Rattle.statsd_server.specs.Marked.{marked_cmp}
-use Rattle.statsd_server.specs.Member.{member_cmp, member_eq, member_named, Member}
+use Rattle.statsd_server.specs.Member.{member_cmp, member_eq, member_named}
+use Rattle.statsd_server.specs.declared.member.Member.{Member}
 use Rattle.statsd_server.specs.Parts.{change_of, changes_of, level_of, members_in, summary_of}
 use Rattle.statsd_server.specs.Served.{metric_with, own_metric, series_in}
 use Rattle.statsd_server.specs.Table.{held_by, place_by, value_at, Table}
@@ -88,7 +89,7 @@ pub record Keeps (past now : List Content) (memory : Memory) : Type 0 where
   pub sums : (series : Series) → sum_held memory.sums series ≡ summary_if (changes_of series now)
   pub levels : (series : Series) → level_held memory.levels series ≡ level_of (changes_of series (past ++ now))
   pub members : (member : Member)
-      → is_named memory.members member ≡ list_any (bytes_eq member.1) (members_in (changes_of member.0 now))
+      → is_named memory.members member ≡ list_any (bytes_eq member.text) (members_in (changes_of member.series now))
   pub ordered : map first_series memory.order ≡ series_in now
   pub placed : AllByRecursion (HasPlace memory.sums) memory.order
   pub counted : memory.counted ≡ length now

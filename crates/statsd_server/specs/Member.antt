@@ -10,40 +10,34 @@ use Rattle.std.specs.Cmp.{IsEquivalence, IsTotalOrder, and_equiv, both_tied, on_
 use Rattle.std.specs.Cmp.Lexicographic.{slice_cmp, nat_list_cmp_total, nat_list_eq_equiv}
 use Rattle.std.specs.Ordering.{is_eq, nat_cmp, ordering_then}
 use Rattle.std.specs.declared.cmp.Ordering.{Ordering}
-use Rattle.metric.specs.Series.{series_cmp, series_eq, series_equiv, series_ties, series_total, Series}
+use Rattle.metric.specs.Series.{series_eq, Series}
 use Rattle.agg_keep.specs.Spot.{series_same}
+use Rattle.statsd_server.specs.Marked.{marked_cmp, marked_ties}
+use Rattle.statsd_server.specs.declared.member.Member.{Member}
 use Rattle.statsd_server.specs.declared.change.Change.{Change}
 use Rattle.statsd_server.specs.declared.change.Change.TheVariants.{Names}
 
-abbrev pub Member : Type 0
-Member = Series × List ℕ
-
 abbrev pub member_eq : Member → Member → Bool
-member_eq a b = bytes_eq a.1 b.1 && series_eq a.0 b.0
+member_eq a b = bytes_eq a.text b.text && series_eq a.series b.series
 
 -- they are ordered by their texts, and those of one text by series
 abbrev pub member_cmp : Member → Member → Ordering
-member_cmp a b = ordering_then (slice_cmp nat_cmp a.1 b.1) (series_cmp a.0 b.0)
-
-pub member_equiv : IsEquivalence member_eq
-member_equiv =
-    and_equiv (on_equiv (λ (m : Member). m.1) nat_list_eq_equiv) (on_equiv (λ (m : Member). m.0) series_equiv)
-
-pub member_total : IsTotalOrder member_cmp
-member_total =
-    then_total (on_total (λ (m : Member). m.1) nat_list_cmp_total) (on_total (λ (m : Member). m.0) series_total)
+member_cmp a b = ordering_then (slice_cmp nat_cmp a.text b.text) (marked_cmp a.series b.series)
 
 pub member_ties : (a b : Member) → member_eq a b ≡ is_eq (member_cmp a b)
-member_ties a b = both_tied _ _ (slice_cmp nat_cmp a.1 b.1) (series_cmp a.0 b.0) (sym (is_eq-slice_cmp a.1 b.1))
-    (series_ties a.0 b.0)
+member_ties a b =
+    both_tied _ _ (slice_cmp nat_cmp a.text b.text) (marked_cmp a.series b.series)
+    (sym (is_eq-slice_cmp a.text b.text)) (marked_ties a.series b.series)
 
 -- equal ones are the same
 pub member_same : (a b : Member) → Decides (member_eq a b) (a ≡ b)
 member_same a b =
-    let both = Decides-and _ _ (bytes_eq-Decides a.1 b.1) (series_same a.0 b.0) in
-    (λ e. let h = both.0 e in λ i. (h.1 i, h.0 i), λ e. both.1 (ap (λ (m : Member). m.1) e, ap (λ (m : Member). m.0) e))
+    let both = Decides-and _ _ (bytes_eq-Decides a.text b.text) (series_same a.series b.series) in (
+      λ e. let h = both.0 e in λ i. record { text = h.0 i; series = h.1 i },
+      λ e. both.1 (ap (λ (m : Member). m.text) e, ap (λ (m : Member). m.series) e),
+    )
 
 -- the member that a change of a series names
 abbrev pub member_named : Series → Change → Option Member
-member_named series (Names member) = Some (series, member)
+member_named series (Names member) = Some (record { text = member; series = series })
 member_named series change = None

@@ -9,7 +9,7 @@ ghost use Rattle.statsd_server.specs.Counting.{with_part};
 ghost use Rattle.statsd_server.specs.Kept.{is_it, is_named, is_new, level_for, level_held, part_of, said_by, HasStayed};
 ghost use Rattle.statsd_server.specs.Kept.{IsPlaced, Keeps, LevelPlace, MemberPlace};
 ghost use Rattle.statsd_server.specs.declared.placed.Placed.{Placed as PlacedSeen};
-ghost use Rattle.statsd_server.specs.Member.{member_cmp, Member as MemberSeen};
+ghost use Rattle.statsd_server.specs.Member.{member_cmp};
 ghost use Rattle.statsd_server.specs.Parts.{level_with};
 ghost use Rattle.statsd_server.specs.Table.{held_by, place_by};
 ghost use Rattle.statsd_server.specs.TallyView.{memory_of};
@@ -107,8 +107,8 @@ fn place_member(
     members: &mut Table<Member, ()>,
     member: Option<Member>,
 ) -> Result<Option<usize>, OutOfMemory>
-    ensures same { (other : MemberSeen) → is_named members.new other ≡ is_named members.old other }
-    ensures stays { (other : MemberSeen) (at : ℕ) → place_by member_cmp members.old other ≡ Some at
+    ensures same { (other : Member) → is_named members.new other ≡ is_named members.old other }
+    ensures stays { (other : Member) (at : ℕ) → place_by member_cmp members.old other ≡ Some at
         → place_by member_cmp members.new other ≡ Some at }
     ensures place { IfOk result (MemberPlace members.new member) }
 {
@@ -120,7 +120,7 @@ fn place_member(
 
 /// Whether the member at a place, where there is one, isn't named yet.
 fn is_new(members: &Table<Member, ()>, at: Option<usize>) -> bool
-    ensures { (member : Option MemberSeen) → MemberPlace members.now member at → result ≡ is_new members.now member }
+    ensures { (member : Option Member) → MemberPlace members.now member at → result ≡ is_new members.now member }
 {
     match at {
         Some(at) => members.at(at).is_none(),
@@ -130,7 +130,7 @@ fn is_new(members: &Table<Member, ()>, at: Option<usize>) -> bool
 
 /// Names the member at a place, where there is one.
 fn put_member(members: &mut Table<Member, ()>, at: Option<usize>)
-    ensures named { (member : Option MemberSeen) → MemberPlace members.old member at → (other : MemberSeen)
+    ensures named { (member : Option Member) → MemberPlace members.old member at → (other : Member)
         → is_named members.new other ≡ (is_it member other || is_named members.old other) }
     ensures places { members.new.places ≡ members.old.places }
 {

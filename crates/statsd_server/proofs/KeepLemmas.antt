@@ -93,7 +93,7 @@ summary_is past now memory series h =
 
 pub fresh_is : (past now : List Content) (memory : Memory) (series : Series) (change : Change) → Keeps past now memory
     → is_new memory.members (member_named series change) ≡ is_fresh (changes_of series now) change
-fresh_is past now memory series (Names member) h = ap not (h.members (series, member))
+fresh_is past now memory series (Names member) h = ap not (h.members (record { text = member; series = series }))
 fresh_is past now memory series (Adds n) h = refl
 fresh_is past now memory series (Sets n) h = refl
 fresh_is past now memory series (Moves n) h = refl

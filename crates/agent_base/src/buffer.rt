@@ -134,7 +134,7 @@ impl Buffer {
     pub(crate) fn new(alloc: Global, kind: CutKind) -> Result<Buffer, OutOfMemory>
         ensures { IfOk result (λ b. hand_of b ≡ empty_hand kind) }
     {
-        let buf = vec![in alloc; 0u8; kind.room()]?;
+        let buf = vec![in alloc; 0u8; kind.sizes().room]?;
         Ok(Buffer {
             kind,
             buf,
@@ -252,7 +252,7 @@ impl Buffer {
             self.passing = false;
             return Err(PieceFault::TooLong);
         }
-        if self.kind.most_before() < i {
+        if self.kind.sizes().most_before < i {
             self.spare = room;
             self.skip_to(piece_end);
             return Err(PieceFault::TooLong);
@@ -284,7 +284,7 @@ impl Buffer {
         ensures short { length (bytes_of self.new) ≤ most_bytes self.new.kind }
         ensures room { self.new.end + READ ≤ room_of self.new.kind }
     {
-        if self.passing || self.kind.most_bytes() < self.end - self.start {
+        if self.passing || self.kind.sizes().most_bytes < self.end - self.start {
             self.pass_over();
             return;
         }
@@ -304,7 +304,7 @@ impl Buffer {
         ensures none { NoEnd self.new.kind (bytes_of self.new) }
         ensures short { self.new.end ≤ 6 }
     {
-        let kept = usize::min(self.end - self.line, self.kind.most_kept());
+        let kept = usize::min(self.end - self.line, self.kind.sizes().most_kept);
         self.buf.copy_within(self.line..self.line + kept, 0);
         self.start = 0;
         self.line = 0;
@@ -425,7 +425,7 @@ impl Buffer {
     pub(crate) fn take_back(&mut self, bytes: Vec<u8>)
         ensures { hand_of self.new ≡ hand_of self.old }
     {
-        if bytes.capacity() <= self.kind.most_bytes() {
+        if bytes.capacity() <= self.kind.sizes().most_bytes {
             self.spare = bytes;
         }
     }
@@ -441,7 +441,7 @@ impl Buffer {
         ensures kind { self.new.kind ≡ self.old.kind }
         ensures counted { self.new.taken ≡ self.old.taken }
     {
-        let most = usize::min(i + 1, self.kind.most_bytes());
+        let most = usize::min(i + 1, self.kind.sizes().most_bytes);
         match self.room_for(most) {
             Ok(room) => self.give(room, i),
             Err(OutOfMemory) => Err(PieceFault::OutOfMemory),
@@ -455,7 +455,7 @@ impl Buffer {
         requires most { self.old.taken < MAX_TAKEN_BYTES }
         ensures gives { GivesNext result (hand_of self.old) (hand_of self.new) (S.told src.old) (S.told src.new) }
     {
-        let most = self.kind.most_bytes();
+        let most = self.kind.sizes().most_bytes;
         let Ok(room) = self.room_for(most) else {
             return Err(PieceFault::OutOfMemory);
         };

@@ -19,45 +19,40 @@ pub enum CutKind {
     Expositions,
 }
 
+/// The sizes of pieces of a kind, in bytes.
+#[derive(Clone, Copy, Debug)]
+pub(crate) struct CutSizes {
+    /// A piece has at most so many before the newline that ends it.
+    pub most_before: usize,
+    /// A piece has at most so many, without a newline that isn't of its content.
+    pub most_bytes: usize,
+    /// So many places are there for bytes in hand: those of a piece that isn't too long, and of a read.
+    pub room: usize,
+    /// So many are kept of a line in a piece that is passed over: a longer line can't be the one that ends the piece.
+    pub most_kept: usize,
+}
+
 impl CutKind {
-    /// How many bytes a piece has at most before the newline that ends it.
-    pub(crate) fn most_before(&self) -> usize
-        ensures { result ≡ most_before self.now }
+    /// The sizes of its pieces.
+    pub(crate) fn sizes(&self) -> CutSizes
+        ensures before { result.most_before ≡ most_before self.now }
+        ensures bytes { result.most_bytes ≡ most_bytes self.now }
+        ensures room { result.room ≡ room_of self.now }
+        ensures kept { result.most_kept ≡ most_kept self.now }
     {
         match self {
-            CutKind::Lines => 65_536,
-            CutKind::Expositions => 4_194_303,
-        }
-    }
-
-    /// How many bytes a piece has at most, without a newline that isn't of its content.
-    pub(crate) fn most_bytes(&self) -> usize
-        ensures { result ≡ most_bytes self.now }
-    {
-        match self {
-            CutKind::Lines => 65_536,
-            CutKind::Expositions => 4_194_304,
-        }
-    }
-
-    /// How many places there are for bytes in hand: those of a piece that isn't too long, and of a read.
-    pub(crate) fn room(&self) -> usize
-        ensures { result ≡ room_of self.now }
-    {
-        match self {
-            CutKind::Lines => 135_168,
-            CutKind::Expositions => 4_259_840,
-        }
-    }
-
-    /// How many bytes are kept of a line in a piece that is passed over: so many that a longer line can't be
-    /// the one that ends the piece.
-    pub(crate) fn most_kept(&self) -> usize
-        ensures { result ≡ most_kept self.now }
-    {
-        match self {
-            CutKind::Lines => 0,
-            CutKind::Expositions => 6,
+            CutKind::Lines => CutSizes {
+                most_before: 65_536,
+                most_bytes: 65_536,
+                room: 135_168,
+                most_kept: 0,
+            },
+            CutKind::Expositions => CutSizes {
+                most_before: 4_194_303,
+                most_bytes: 4_194_304,
+                room: 4_259_840,
+                most_kept: 6,
+            },
         }
     }
 }

@@ -12,11 +12,11 @@ returns-then-self-clause-pieces c =
     gives_passed (hand_of s) after c.skip_to.ensures.kind s.buf.items s.start s.end c.args.i
     (s.start + c.args.i + 1) refl c.skip_to.ensures.bytes refl c.requires.end c.if-self.true refl
 
-pub returns-then-most_before-i-clause-pieces : goal.returns-then-most_before-i-clause-pieces
-returns-then-most_before-i-clause-pieces c =
+pub returns-then-sizes-i-clause-pieces : goal.returns-then-sizes-i-clause-pieces
+returns-then-sizes-i-clause-pieces c =
     let s = c.args.self.now in
-    let t = c.skip_to-then-most_before-i.new.self in
-    let after = c.skip_to-then-most_before-i.ensures in
+    let t = c.skip_to-then-sizes-i.new.self in
+    let after = c.skip_to-then-sizes-i.ensures in
     gives_long (hand_of s) (hand_of t) after.kind s.buf.items s.start s.end c.args.i
     (s.start + c.args.i + 1) refl after.bytes refl c.requires.end c.if-self.false (after.passing ∙ c.if-self.false)
     (omega arith)

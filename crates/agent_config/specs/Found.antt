@@ -1,6 +1,7 @@
 -- Faults as they are found: what is wrong with a table, and where.
 use Rattle.std.specs.Prelude.{◌++◌, ◌≡◌, ℕ, Bool, false, List, [], ◌∷◌, map, Option, Some, None, option_map}
 use Rattle.agent_config.specs.Unless.{unless}
+use Rattle.agent_config.specs.declared.adding.Findings.{Findings}
 use Rattle.agent_config.specs.declared.fault.Class.{Class}
 use Rattle.agent_config.specs.declared.fault.Fault.{Fault}
 use Rattle.agent_config.specs.declared.fault.FaultKind.{FaultKind}
@@ -68,8 +69,8 @@ abbrev pub founds_view : List FoundThere → List Found
 founds_view founds = map found_view founds
 
 -- so many were added
-abbrev pub Adds : List WrongThere → List WrongThere → List Wrong → Type 0
-Adds old new added = wrongs_view new ≡ wrongs_view old ++ added
+abbrev pub Adds : Findings → Findings → List Wrong → Type 0
+Adds old new added = wrongs_view new.wrongs.items ≡ wrongs_view old.wrongs.items ++ added
 
 abbrev pub AddsFound : List FoundThere → List FoundThere → List Found → Type 0
 AddsFound old new added = founds_view new ≡ founds_view old ++ added

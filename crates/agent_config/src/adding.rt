@@ -1,102 +1,65 @@
 //! Adding what is wrong with a table to a list.
 ghost use Rattle.std.specs.Prelude.{◌≡◌, ◌∷◌, [], IfOk};
 ghost use Rattle.agent_config.specs.Faults.{range_faults};
-ghost use Rattle.agent_config.specs.Found.{Adds, AddsFound, at, whole, wrong, wrong_text, wrongs_view};
+ghost use Rattle.agent_config.specs.Found.{Adds, AddsFound, at, whole, wrong_view, wrongs_view};
 ghost use Rattle.agent_config.specs.Unless.{unless};
 
 use crate::fault::{Class, FaultKind, Found, Wrong};
 use fixed_num::OutOfMemory;
+use std::alloc::Global;
 
-/// Adds a fault of a key.
-pub(crate) fn add_wrong<'a>(
-    wrongs: &mut Vec<Wrong<'a>>,
-    kind: FaultKind,
-    key: &'a str,
-) -> Result<(), OutOfMemory>
-    ensures { IfOk result (λ _. Adds wrongs.old.items wrongs.new.items (wrong kind key.now ∷ [])) }
-{
-    wrongs.push(Wrong {
-        kind,
-        key: Some(key),
-        text: None,
-        follows: false,
-    })?;
-    Ok(())
+/// Whether memory was left for what was added.
+pub(crate) type Added = Result<(), OutOfMemory>;
+
+/// What was found wrong with a table so far, in the order in which it was found. Each part of a table has a method that
+/// looks at it and adds what is wrong with it.
+#[derive(Drop)]
+pub(crate) struct Findings<'a> {
+    /// For what is added, and for what is read to find it.
+    pub(crate) alloc: Global,
+    /// What is wrong.
+    pub(crate) wrongs: Vec<Wrong<'a>>,
 }
 
-/// Adds a fault of a key, unless something holds.
-pub(crate) fn add_unless<'a>(
-    wrongs: &mut Vec<Wrong<'a>>,
-    holds: bool,
-    kind: FaultKind,
-    key: &'a str,
-) -> Result<(), OutOfMemory>
-    ensures { IfOk result (λ _. Adds wrongs.old.items wrongs.new.items (unless holds (wrong kind key.now))) }
-{
-    if holds {
-        return Ok(());
+impl<'a> Findings<'a> {
+    /// Of a table that nobody has looked at.
+    pub(crate) fn new(alloc: Global) -> Findings<'a>
+        ensures { result.wrongs.items ≡ [] }
+    {
+        Findings {
+            alloc,
+            wrongs: Vec::new(alloc),
+        }
     }
-    add_wrong(wrongs, kind, key)?;
-    Ok(())
-}
 
-/// Adds the fault of a value, by whether what it is read as is right; None where it is of another type than its key
-/// takes.
-pub(crate) fn add_range_fault<'a>(
-    wrongs: &mut Vec<Wrong<'a>>,
-    key: &'a str,
-    right: Option<bool>,
-) -> Result<(), OutOfMemory>
-    ensures { IfOk result (λ _. Adds wrongs.old.items wrongs.new.items (range_faults key.now right)) }
-{
-    match right {
-        Some(right) => add_unless(wrongs, right, FaultKind::OutOfRange, key),
-        None => add_wrong(wrongs, FaultKind::WrongType, key),
+    /// Adds what is wrong.
+    pub(crate) fn add(&mut self, wrong: Wrong<'a>) -> Added
+        ensures { IfOk result (λ _. Adds self.old self.new (wrong_view wrong.entry ∷ [])) }
+    {
+        self.wrongs.push(wrong)?;
+        Ok(())
     }
-}
 
-/// Adds a fault of a text in the value of a key, unless something holds.
-pub(crate) fn add_text_unless<'a>(
-    wrongs: &mut Vec<Wrong<'a>>,
-    holds: bool,
-    kind: FaultKind,
-    key: &'a str,
-    text: &'a str,
-) -> Result<(), OutOfMemory>
-    ensures { IfOk result (λ _. Adds wrongs.old.items wrongs.new.items
-        (unless holds (wrong_text kind key.now text.now))) }
-{
-    if holds {
-        return Ok(());
+    /// Adds what is wrong unless something holds.
+    pub(crate) fn add_unless(&mut self, holds: bool, wrong: Wrong<'a>) -> Added
+        ensures { IfOk result (λ _. Adds self.old self.new (unless holds (wrong_view wrong.entry))) }
+    {
+        if holds {
+            return Ok(());
+        }
+        self.add(wrong)?;
+        Ok(())
     }
-    wrongs.push(Wrong {
-        kind,
-        key: Some(key),
-        text: Some(text),
-        follows: false,
-    })?;
-    Ok(())
-}
 
-/// Adds a fault of a whole table, unless something holds.
-pub(crate) fn add_whole_unless<'a>(
-    wrongs: &mut Vec<Wrong<'a>>,
-    holds: bool,
-    kind: FaultKind,
-    follows: bool,
-) -> Result<(), OutOfMemory>
-    ensures { IfOk result (λ _. Adds wrongs.old.items wrongs.new.items (unless holds (whole kind follows))) }
-{
-    if holds {
-        return Ok(());
+    /// Checks a value by whether what it is read as is right; None where it is of another type than its key takes.
+    pub(crate) fn check_range(&mut self, key: &'a str, right: Option<bool>) -> Added
+        ensures { IfOk result (λ _. Adds self.old self.new (range_faults key.now right)) }
+    {
+        match right {
+            Some(right) => self.add_unless(right, Wrong::of_key(FaultKind::OutOfRange, key)),
+            None => self.add(Wrong::of_key(FaultKind::WrongType, key)),
+        }
     }
-    wrongs.push(Wrong {
-        kind,
-        key: None,
-        text: None,
-        follows,
-    })?;
-    Ok(())
 }
 
 /// Adds what is wrong at a place.
@@ -135,12 +98,7 @@ pub(crate) fn add_whole_at<'a>(
         return Ok(());
     }
     founds.push(Found {
-        wrong: Wrong {
-            kind,
-            key: None,
-            text: None,
-            follows,
-        },
+        wrong: Wrong::of_whole(kind, follows),
         class: *class,
         number,
     })?;

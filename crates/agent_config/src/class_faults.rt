@@ -1,17 +1,17 @@
 //! What is wrong with the plugins of a class.
-ghost use Rattle.std.specs.Prelude.{◌≡◌, ◌≤◌, IfOk, length};
+ghost use Rattle.std.specs.Prelude.{◌≡◌, ◌≤◌, ◌∷◌, [], IfOk, length};
 ghost use Rattle.toml.specs.View.{table_view};
 ghost use Rattle.agent_config.specs.Faults.{class_faults, few, kind_faults, numbered, plugin_faults};
-ghost use Rattle.agent_config.specs.Faults.{unknown_faults};
+ghost use Rattle.agent_config.specs.Faults.{missing_faults, unknown_faults};
 ghost use Rattle.agent_config.specs.Found.{Adds, AddsFound, at};
+ghost use Rattle.agent_config.specs.Kinds.{needs, own_faults};
 ghost use Rattle.agent_config.specs.Plugins.{plugin_view, plugins_view};
 
-use crate::adding::{add_at, add_unless, add_whole_at, add_whole_unless};
+use crate::adding::{Added, Findings, add_at, add_whole_at};
 use crate::fault::{Class, FaultKind, Found, Wrong};
 use crate::plugins::Plugin;
 use crate::table::{Keys, Kind, kind_of};
-use crate::table_faults::add_keys_faults;
-use crate::tables::Limits;
+use crate::tables::{Limits, own_limits, value_at};
 use fixed_num::OutOfMemory;
 use std::alloc::Global;
 use toml::Table;
@@ -88,10 +88,10 @@ fn add_unknown<'a>(
     ensures { IfOk result (λ _. AddsFound founds.old.items founds.new.items
         (at class.now number (unknown_faults class.now (plugin_view plugin.now)))) }
 {
-    let mut wrongs = Vec::new(alloc);
+    let mut findings = Findings::new(alloc);
     let is_known = kind_of(class, plugin.name).is_some();
-    add_unless(&mut wrongs, is_known, FaultKind::UnknownKind, plugin.name)?;
-    add_at(founds, class, number, wrongs.as_slice())?;
+    findings.add_unless(is_known, Wrong::of_key(FaultKind::UnknownKind, plugin.name))?;
+    add_at(founds, class, number, findings.wrongs.as_slice())?;
     Ok(())
 }
 
@@ -127,46 +127,67 @@ fn add_known<'a>(
         (at place.entry.0.now place.entry.1 (plugin_faults place.entry.0.now limits.now (plugin_view plugin.now)))) }
 {
     let (class, number) = place;
-    let mut wrongs = Vec::new(alloc);
-    add_plugin_faults(alloc, &mut wrongs, class, limits, plugin)?;
-    add_at(founds, class, number, wrongs.as_slice())?;
+    let mut findings = Findings::new(alloc);
+    findings.check_plugin(class, limits, plugin)?;
+    add_at(founds, class, number, findings.wrongs.as_slice())?;
     Ok(())
 }
 
-/// Adds the faults of a plugin, where its kind is known.
-#[tactic(auto, unfolding(crate::specs::Faults::plugin_faults))]
-fn add_plugin_faults<'a>(
-    alloc: Global,
-    wrongs: &mut Vec<Wrong<'a>>,
-    class: &Class,
-    limits: &Limits,
-    plugin: &Plugin<'a>,
-) -> Result<(), OutOfMemory>
-    ensures { IfOk result (λ _. Adds wrongs.old.items wrongs.new.items
-        (plugin_faults class.now limits.now (plugin_view plugin.now))) }
-{
-    let Some(kind) = kind_of(class, plugin.name) else {
-        return Ok(());
-    };
-    match plugin.value.as_table() {
-        Some(table) => add_kind_faults(alloc, wrongs, &kind, limits, table),
-        None => add_whole_unless(wrongs, false, FaultKind::WrongType, false),
+impl<'a> Findings<'a> {
+    /// Checks a plugin, where its kind is known.
+    #[tactic(auto, unfolding(crate::specs::Faults::plugin_faults))]
+    fn check_plugin(&mut self, class: &Class, limits: &Limits, plugin: &Plugin<'a>) -> Added
+        ensures { IfOk result (λ _. Adds self.old self.new (plugin_faults class.now limits.now (plugin_view plugin.now))) }
+    {
+        let Some(kind) = kind_of(class, plugin.name) else {
+            return Ok(());
+        };
+        match plugin.value.as_table() {
+            Some(table) => self.check_kind(&kind, limits, table),
+            None => self.add(Wrong::of_whole(FaultKind::WrongType, false)),
+        }
     }
-}
 
-/// Adds the faults of a table that is a plugin of a kind.
-fn add_kind_faults<'a>(
-    alloc: Global,
-    wrongs: &mut Vec<Wrong<'a>>,
-    kind: &Kind,
-    limits: &Limits,
-    table: &'a Table,
-) -> Result<(), OutOfMemory>
-    ensures { IfOk result (λ _. Adds wrongs.old.items wrongs.new.items
-        (kind_faults kind.now limits.now (table_view table.now))) }
-{
-    add_keys_faults(alloc, wrongs, &Keys::Plugin(*kind), table)?;
-    kind.add_missing_faults(wrongs, table)?;
-    kind.add_own_faults(wrongs, limits, table)?;
-    Ok(())
+    /// Checks a table that is a plugin of a kind.
+    fn check_kind(&mut self, kind: &Kind, limits: &Limits, table: &'a Table) -> Added
+        ensures { IfOk result (λ _. Adds self.old self.new (kind_faults kind.now limits.now (table_view table.now))) }
+    {
+        self.check_keys(&Keys::Plugin(*kind), table)?;
+        self.check_needs(kind, table)?;
+        self.check_own(kind, limits, table)?;
+        Ok(())
+    }
+
+    /// Checks that a plugin of a kind has the keys which it needs.
+    fn check_needs(&mut self, kind: &Kind, table: &'a Table) -> Added
+        ensures { IfOk result (λ _. Adds self.old self.new (missing_faults (needs kind.now) (table_view table.now))) }
+    {
+        match kind {
+            Kind::FileInput => self.check_need(table, "files"),
+            Kind::StatsdInput => self.check_need(table, "service_address"),
+            Kind::FileOutput => self.check_need(table, "files"),
+            _ => Ok(()),
+        }
+    }
+
+    /// Checks that a table has a key which it needs.
+    fn check_need(&mut self, table: &'a Table, key: &'a str) -> Added
+        ensures { IfOk result (λ _. Adds self.old self.new (missing_faults (key.now ∷ []) (table_view table.now))) }
+    {
+        let is_there = value_at(table, key).is_some();
+        self.add_unless(is_there, Wrong::of_key(FaultKind::Missing, key))?;
+        Ok(())
+    }
+
+    /// Checks a plugin of a kind for what no key of it has alone.
+    fn check_own(&mut self, kind: &Kind, limits: &Limits, table: &'a Table) -> Added
+        ensures { IfOk result (λ _. Adds self.old self.new (own_faults kind.now limits.now (table_view table.now))) }
+    {
+        match kind {
+            Kind::FileOutput => {
+                self.check_limits(&own_limits(&Keys::Plugin(Kind::FileOutput), limits, table))
+            }
+            _ => Ok(()),
+        }
+    }
 }

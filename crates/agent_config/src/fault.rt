@@ -1,6 +1,6 @@
 //! What can be wrong with a configuration.
 ghost use Rattle.std.specs.Prelude.{◌≡◌};
-ghost use Rattle.agent_config.specs.Found.{fault_of, found_view};
+ghost use Rattle.agent_config.specs.Found.{fault_of, found_view, whole, wrong, wrong_text, wrong_view};
 ghost use Rattle.agent_config.specs.Told.{fault_told, kind_told};
 
 use metric::Text;
@@ -163,6 +163,44 @@ pub(crate) struct Wrong<'a> {
     pub(crate) text: Option<&'a str>,
     /// Does it come only of the default in a faulty value's place, or of a place that no value says?
     pub(crate) follows: bool,
+}
+
+impl<'a> Wrong<'a> {
+    /// About a key.
+    pub(crate) fn of_key(kind: FaultKind, key: &'a str) -> Wrong<'a>
+        ensures { wrong_view result ≡ wrong kind key.now }
+    {
+        Wrong {
+            kind,
+            key: Some(key),
+            text: None,
+            follows: false,
+        }
+    }
+
+    /// About a text in the value of a key.
+    pub(crate) fn of_text(kind: FaultKind, key: &'a str, text: &'a str) -> Wrong<'a>
+        ensures { wrong_view result ≡ wrong_text kind key.now text.now }
+    {
+        Wrong {
+            kind,
+            key: Some(key),
+            text: Some(text),
+            follows: false,
+        }
+    }
+
+    /// About a whole table, or more than one.
+    pub(crate) fn of_whole(kind: FaultKind, follows: bool) -> Wrong<'a>
+        ensures { wrong_view result ≡ whole kind follows }
+    {
+        Wrong {
+            kind,
+            key: None,
+            text: None,
+            follows,
+        }
+    }
 }
 
 /// What is wrong, and where.

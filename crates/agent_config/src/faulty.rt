@@ -8,12 +8,12 @@ ghost use Rattle.agent_config.specs.FaultyKey.{key_in_table, key_of_plugin, no_r
 ghost use Rattle.agent_config.specs.FaultyKey.{unknown_root_key};
 ghost use Rattle.agent_config.specs.Plugins.{plugin_view};
 
+use crate::adding::Findings;
 use crate::agent_keys::is_root_key;
 use crate::fault::{Class, ConfigFault, ConfigKind};
 use crate::plugins::{Plugin, plugins_of};
 use crate::read::tree_of;
 use crate::table::{Keys, keys_of};
-use crate::table_faults::add_key_faults;
 use crate::tables::table_at;
 use fixed_num::OutOfMemory;
 use std::alloc::Global;
@@ -78,9 +78,9 @@ fn key_in<'a>(alloc: Global, keys: &Keys, table: &'a Table) -> Result<Option<&'a
 fn is_key_faulty(alloc: Global, keys: &Keys, key: &str, value: &Value) -> Result<bool, OutOfMemory>
     ensures { IfOk result (λ faulty. faulty ≡ is_some (first (entry_faults keys.now key.now (view value.now)))) }
 {
-    let mut wrongs = Vec::new(alloc);
-    add_key_faults(alloc, &mut wrongs, keys, key, value)?;
-    Ok(!wrongs.is_empty())
+    let mut findings = Findings::new(alloc);
+    findings.check_key(keys, key, value)?;
+    Ok(!findings.wrongs.is_empty())
 }
 
 /// The first faulty key of the global tags.

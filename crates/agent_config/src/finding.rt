@@ -7,14 +7,11 @@ ghost use Rattle.agent_config.specs.Faults.{none_faults, table_faults};
 ghost use Rattle.agent_config.specs.Found.{AddsFound, founds_view};
 ghost use Rattle.agent_config.specs.Plugins.{classes_view, plugins_view};
 
-use crate::adding::{add_at, add_whole_at};
+use crate::adding::{Findings, add_at, add_whole_at};
 use crate::class_faults::{add_class_faults, few};
 use crate::fault::{Class, FaultKind, Found};
 use crate::places::{add_same_inputs, add_same_outputs};
 use crate::plugins::{Classes, Plugin, classes_of};
-use crate::table_faults::{
-    add_agent_faults, add_global_faults, add_root_key_faults, add_root_value_faults,
-};
 use crate::tables::{Limits, agent_limits, table_at};
 use fixed_num::OutOfMemory;
 use std::alloc::Global;
@@ -48,16 +45,16 @@ fn add_table_faults<'a>(
     requires { table_view empty.now ≡ no_members }
     ensures { IfOk result (λ _. AddsFound founds.old.items founds.new.items (table_faults (table_view root.now))) }
 {
-    let mut of_root = Vec::new(alloc);
-    add_root_key_faults(&mut of_root, root)?;
-    add_root_value_faults(&mut of_root, root)?;
-    add_at(founds, &Class::Root, 0, of_root.as_slice())?;
-    let mut of_agent = Vec::new(alloc);
-    add_agent_faults(alloc, &mut of_agent, table_at(root, "agent", empty))?;
-    add_at(founds, &Class::Agent, 0, of_agent.as_slice())?;
-    let mut of_tags = Vec::new(alloc);
-    add_global_faults(&mut of_tags, table_at(root, "global_tags", empty))?;
-    add_at(founds, &Class::GlobalTags, 0, of_tags.as_slice())?;
+    let mut of_root = Findings::new(alloc);
+    of_root.check_root_keys(root)?;
+    of_root.check_root_values(root)?;
+    add_at(founds, &Class::Root, 0, of_root.wrongs.as_slice())?;
+    let mut of_agent = Findings::new(alloc);
+    of_agent.check_agent(table_at(root, "agent", empty))?;
+    add_at(founds, &Class::Agent, 0, of_agent.wrongs.as_slice())?;
+    let mut of_tags = Findings::new(alloc);
+    of_tags.check_globals(table_at(root, "global_tags", empty))?;
+    add_at(founds, &Class::GlobalTags, 0, of_tags.wrongs.as_slice())?;
     Ok(())
 }
 

@@ -10,10 +10,10 @@ ghost use Rattle.agent_config.specs.Found.{Adds};
 ghost use Rattle.agent_config.specs.Inner.{count_of, inner_needs, sources};
 ghost use Rattle.agent_config.specs.Seen.{tables_view};
 
-use crate::adding::{add_text_unless, add_unless, add_wrong};
+use crate::adding::{Added, Findings};
 use crate::fault::{FaultKind, Wrong};
 use crate::inner::{Inner, InnerShape};
-use crate::spelled::{Spelled, add_spelling_faults};
+use crate::spelled::Spelled;
 use crate::tables::value_at;
 use crate::texts::texts_in;
 use fixed_num::OutOfMemory;
@@ -21,43 +21,141 @@ use proc_regex::is_pattern;
 use std::alloc::Global;
 use toml::{Table, Value};
 
-/// Adds the faults of a value that is a table.
-pub(crate) fn add_table_faults<'a>(
-    alloc: Global,
-    wrongs: &mut Vec<Wrong<'a>>,
-    key: &'a str,
-    inner: &Inner,
-    value: &'a Value,
-) -> Result<(), OutOfMemory>
-    ensures { IfOk result (λ _. Adds wrongs.old.items wrongs.new.items
-        (table_value_faults key.now inner.now (as_table (view value.now)))) }
-{
-    match value.as_table() {
-        Some(table) => add_inner_faults(alloc, wrongs, key, inner, table),
-        None => add_wrong(wrongs, FaultKind::WrongType, key),
+impl<'a> Findings<'a> {
+    /// Checks a value that has to be a table.
+    pub(crate) fn check_table(&mut self, key: &'a str, inner: &Inner, value: &'a Value) -> Added
+        ensures { IfOk result (λ _. Adds self.old self.new
+            (table_value_faults key.now inner.now (as_table (view value.now)))) }
+    {
+        match value.as_table() {
+            Some(table) => self.check_inner(key, inner, table),
+            None => self.add(Wrong::of_key(FaultKind::WrongType, key)),
+        }
     }
-}
 
-/// Adds the faults of a value that is a list of tables.
-pub(crate) fn add_tables_faults<'a>(
-    alloc: Global,
-    wrongs: &mut Vec<Wrong<'a>>,
-    key: &'a str,
-    inner: &Inner,
-    value: &'a Value,
-) -> Result<(), OutOfMemory>
-    ensures { IfOk result (λ _. Adds wrongs.old.items wrongs.new.items
-        (tables_faults key.now inner.now (tables_in (view value.now)))) }
-{
-    let Some(tables) = tables_in(alloc, value)? else {
-        add_wrong(wrongs, FaultKind::WrongType, key)?;
-        return Ok(());
-    };
-    let tables = tables.as_slice();
-    for table in tables {
-        add_inner_faults(alloc, wrongs, key, inner, table)?;
+    /// Checks a value that has to be a list of tables.
+    pub(crate) fn check_tables(&mut self, key: &'a str, inner: &Inner, value: &'a Value) -> Added
+        ensures { IfOk result (λ _. Adds self.old self.new
+            (tables_faults key.now inner.now (tables_in (view value.now)))) }
+    {
+        let Some(tables) = tables_in(self.alloc, value)? else {
+            self.add(Wrong::of_key(FaultKind::WrongType, key))?;
+            return Ok(());
+        };
+        let tables = tables.as_slice();
+        for table in tables {
+            self.check_inner(key, inner, table)?;
+        }
+        Ok(())
     }
-    Ok(())
+
+    /// Checks a table: its keys in order, then those that it lacks.
+    fn check_inner(&mut self, key: &'a str, inner: &Inner, table: &'a Table) -> Added
+        ensures { IfOk result (λ _. Adds self.old self.new (inner_faults key.now inner.now (table_view table.now))) }
+    {
+        for (name, value) in table.iter() {
+            let name = name.as_str();
+            self.check_inner_value((key, name), inner.row_of(name), value)?;
+        }
+        self.check_inner_needs(key, inner, table)?;
+        Ok(())
+    }
+
+    /// Checks the value of a key in a table that stands in the value of another.
+    fn check_inner_value(
+        &mut self,
+        keys: (&'a str, &'a str),
+        shape: Option<InnerShape>,
+        value: &'a Value,
+    ) -> Added
+        ensures { IfOk result (λ _. Adds self.old self.new
+            (inner_value_faults keys.entry.0.now keys.entry.1.now shape (view value.now))) }
+    {
+        let (key, name) = keys;
+        match shape {
+            None => self.add(Wrong::of_text(FaultKind::UnknownKey, key, name)),
+            Some(InnerShape::FilledText) => self.check_filled(key, name, value),
+            Some(InnerShape::AnyText) => {
+                self.add_unless(
+                    value.is_str(),
+                    Wrong::of_text(FaultKind::WrongType, key, name),
+                )
+            }
+            Some(InnerShape::Pattern) => self.check_pattern(key, name, value),
+            Some(InnerShape::Globs) => self.check_inner_globs(key, name, value),
+        }
+    }
+
+    /// Checks a text that isn't to be empty.
+    fn check_filled(&mut self, key: &'a str, name: &'a str, value: &'a Value) -> Added
+        ensures { IfOk result (λ _. Adds self.old self.new (filled_faults key.now name.now (as_str (view value.now)))) }
+    {
+        match value.as_str() {
+            Some(text) => {
+                self.add_unless(
+                    !text.is_empty(),
+                    Wrong::of_text(FaultKind::OutOfRange, key, name),
+                )
+            }
+            None => self.add(Wrong::of_text(FaultKind::WrongType, key, name)),
+        }
+    }
+
+    /// Checks a pattern.
+    fn check_pattern(&mut self, key: &'a str, name: &'a str, value: &'a Value) -> Added
+        ensures { IfOk result (λ _. Adds self.old self.new (pattern_faults key.now name.now (as_str (view value.now)))) }
+    {
+        let Some(text) = value.as_str() else {
+            self.add(Wrong::of_text(FaultKind::WrongType, key, name))?;
+            return Ok(());
+        };
+        let holds = is_pattern(self.alloc, text)?;
+        self.add_unless(holds, Wrong::of_text(FaultKind::BadPattern, key, text))?;
+        Ok(())
+    }
+
+    /// Checks a list of globs.
+    fn check_inner_globs(&mut self, key: &'a str, name: &'a str, value: &'a Value) -> Added
+        ensures { IfOk result (λ _. Adds self.old self.new
+            (inner_glob_faults key.now name.now (texts_in (view value.now)))) }
+    {
+        match texts_in(self.alloc, value)? {
+            Some(texts) => self.check_spelling(key, &Spelled::Glob, texts.as_slice()),
+            None => self.add(Wrong::of_text(FaultKind::WrongType, key, name)),
+        }
+    }
+
+    /// Checks that a table says at just one key what is renamed, and that it has the keys which it needs.
+    fn check_inner_needs(&mut self, key: &'a str, inner: &Inner, table: &'a Table) -> Added
+        ensures { IfOk result (λ _. Adds self.old self.new (source_faults key.now inner.now (table_view table.now)
+            ++ inner_missing_faults key.now (inner_needs inner.now) (table_view table.now))) }
+    {
+        match inner {
+            Inner::Replacement => {
+                let is_one = source_count(table) == 1;
+                self.add_unless(is_one, Wrong::of_key(FaultKind::Missing, key))?;
+                self.check_inner_need(key, table, "dest")?;
+                Ok(())
+            }
+            Inner::Rewriting => {
+                self.check_inner_need(key, table, "key")?;
+                self.check_inner_need(key, table, "pattern")?;
+                self.check_inner_need(key, table, "replacement")?;
+                Ok(())
+            }
+            _ => Ok(()),
+        }
+    }
+
+    /// Checks that a table has a key which it needs.
+    fn check_inner_need(&mut self, key: &'a str, table: &'a Table, name: &'a str) -> Added
+        ensures { IfOk result (λ _. Adds self.old self.new
+            (inner_missing_faults key.now (name.now ∷ []) (table_view table.now))) }
+    {
+        let is_there = value_at(table, name).is_some();
+        self.add_unless(is_there, Wrong::of_text(FaultKind::Missing, key, name))?;
+        Ok(())
+    }
 }
 
 /// The tables of a value that is a list of tables; None where it is none.
@@ -88,103 +186,6 @@ fn tables_of<'a>(alloc: Global, values: &'a [Value]) -> Result<Option<Vec<&'a Ta
     Ok(Some(tables))
 }
 
-/// Adds the faults of a table: of its keys in order, then those that it lacks.
-fn add_inner_faults<'a>(
-    alloc: Global,
-    wrongs: &mut Vec<Wrong<'a>>,
-    key: &'a str,
-    inner: &Inner,
-    table: &'a Table,
-) -> Result<(), OutOfMemory>
-    ensures { IfOk result (λ _. Adds wrongs.old.items wrongs.new.items
-        (inner_faults key.now inner.now (table_view table.now))) }
-{
-    for (name, value) in table.iter() {
-        let name = name.as_str();
-        add_inner_value_faults(alloc, wrongs, (key, name), inner.row_of(name), value)?;
-    }
-    add_needs_faults(wrongs, key, inner, table)?;
-    Ok(())
-}
-
-/// Adds the faults of the value of a key in a table that stands in the value of another.
-fn add_inner_value_faults<'a>(
-    alloc: Global,
-    wrongs: &mut Vec<Wrong<'a>>,
-    keys: (&'a str, &'a str),
-    shape: Option<InnerShape>,
-    value: &'a Value,
-) -> Result<(), OutOfMemory>
-    ensures { IfOk result (λ _. Adds wrongs.old.items wrongs.new.items
-        (inner_value_faults keys.entry.0.now keys.entry.1.now shape (view value.now))) }
-{
-    let (key, name) = keys;
-    match shape {
-        None => add_text_unless(wrongs, false, FaultKind::UnknownKey, key, name),
-        Some(InnerShape::FilledText) => add_filled_faults(wrongs, key, name, value),
-        Some(InnerShape::AnyText) => {
-            add_text_unless(wrongs, value.is_str(), FaultKind::WrongType, key, name)
-        }
-        Some(InnerShape::Pattern) => add_pattern_faults(alloc, wrongs, key, name, value),
-        Some(InnerShape::Globs) => add_inner_glob_faults(alloc, wrongs, key, name, value),
-    }
-}
-
-/// Adds the faults of a text that isn't empty.
-fn add_filled_faults<'a>(
-    wrongs: &mut Vec<Wrong<'a>>,
-    key: &'a str,
-    name: &'a str,
-    value: &'a Value,
-) -> Result<(), OutOfMemory>
-    ensures { IfOk result (λ _. Adds wrongs.old.items wrongs.new.items
-        (filled_faults key.now name.now (as_str (view value.now)))) }
-{
-    match value.as_str() {
-        Some(text) => {
-            add_text_unless(wrongs, !text.is_empty(), FaultKind::OutOfRange, key, name)
-        }
-        None => add_text_unless(wrongs, false, FaultKind::WrongType, key, name),
-    }
-}
-
-/// Adds the faults of a pattern.
-fn add_pattern_faults<'a>(
-    alloc: Global,
-    wrongs: &mut Vec<Wrong<'a>>,
-    key: &'a str,
-    name: &'a str,
-    value: &'a Value,
-) -> Result<(), OutOfMemory>
-    ensures { IfOk result (λ _. Adds wrongs.old.items wrongs.new.items
-        (pattern_faults key.now name.now (as_str (view value.now)))) }
-{
-    let Some(text) = value.as_str() else {
-        add_text_unless(wrongs, false, FaultKind::WrongType, key, name)?;
-        return Ok(());
-    };
-    let holds = is_pattern(alloc, text)?;
-    add_text_unless(wrongs, holds, FaultKind::BadPattern, key, text)?;
-    Ok(())
-}
-
-/// Adds the faults of a list of globs.
-fn add_inner_glob_faults<'a>(
-    alloc: Global,
-    wrongs: &mut Vec<Wrong<'a>>,
-    key: &'a str,
-    name: &'a str,
-    value: &'a Value,
-) -> Result<(), OutOfMemory>
-    ensures { IfOk result (λ _. Adds wrongs.old.items wrongs.new.items
-        (inner_glob_faults key.now name.now (texts_in (view value.now)))) }
-{
-    match texts_in(alloc, value)? {
-        Some(texts) => add_spelling_faults(alloc, wrongs, key, &Spelled::Glob, texts.as_slice()),
-        None => add_text_unless(wrongs, false, FaultKind::WrongType, key, name),
-    }
-}
-
 /// Is there a value at a key? As a number.
 fn count_at(table: &Table, key: &str) -> u32
     ensures { result ≡ count_of (key.now ∷ []) (table_view table.now) }
@@ -197,46 +198,4 @@ fn source_count(table: &Table) -> u32
     ensures { result ≡ count_of sources (table_view table.now) }
 {
     count_at(table, "measurement") + count_at(table, "tag") + count_at(table, "field")
-}
-
-/// Adds the faults of a table that doesn't say at just one key what is renamed, or lacks keys which it needs.
-fn add_needs_faults<'a>(
-    wrongs: &mut Vec<Wrong<'a>>,
-    key: &'a str,
-    inner: &Inner,
-    table: &'a Table,
-) -> Result<(), OutOfMemory>
-    ensures { IfOk result (λ _. Adds wrongs.old.items wrongs.new.items
-        (source_faults key.now inner.now (table_view table.now)
-        ++ inner_missing_faults key.now (inner_needs inner.now) (table_view table.now))) }
-{
-    match inner {
-        Inner::Replacement => {
-            add_unless(wrongs, source_count(table) == 1, FaultKind::Missing, key)?;
-            add_inner_missing(wrongs, key, table, "dest")?;
-            Ok(())
-        }
-        Inner::Rewriting => {
-            add_inner_missing(wrongs, key, table, "key")?;
-            add_inner_missing(wrongs, key, table, "pattern")?;
-            add_inner_missing(wrongs, key, table, "replacement")?;
-            Ok(())
-        }
-        _ => Ok(()),
-    }
-}
-
-/// Adds the fault of a table that lacks a key which it needs.
-fn add_inner_missing<'a>(
-    wrongs: &mut Vec<Wrong<'a>>,
-    key: &'a str,
-    table: &'a Table,
-    name: &'a str,
-) -> Result<(), OutOfMemory>
-    ensures { IfOk result (λ _. Adds wrongs.old.items wrongs.new.items
-        (inner_missing_faults key.now (name.now ∷ []) (table_view table.now))) }
-{
-    let is_there = value_at(table, name).is_some();
-    add_text_unless(wrongs, is_there, FaultKind::Missing, key, name)?;
-    Ok(())
 }

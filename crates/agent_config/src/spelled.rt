@@ -5,7 +5,7 @@ ghost use Rattle.agent_config.specs.Faults.{is_spelled, misspelled, spelling_fau
 ghost use Rattle.agent_config.specs.Found.{Adds};
 ghost use Rattle.agent_config.specs.Seen.{now_of};
 
-use crate::adding::{add_text_unless, add_wrong};
+use crate::adding::{Added, Findings};
 use crate::fault::{FaultKind, Wrong};
 use crate::shapes::is_statistic;
 use crate::templates::read_template;
@@ -49,37 +49,30 @@ impl Spelled {
     }
 }
 
-/// Adds the faults of texts that don't spell what they have to.
-pub(crate) fn add_spelling_faults<'a>(
-    alloc: Global,
-    wrongs: &mut Vec<Wrong<'a>>,
-    key: &'a str,
-    spelled: &Spelled,
-    texts: &[&'a str],
-) -> Result<(), OutOfMemory>
-    ensures { IfOk result (λ _. Adds wrongs.old.items wrongs.new.items
-        (spelling_faults key.now spelled.now (now_of texts.now))) }
-{
-    for text in texts {
-        let holds = spelled.is_spelled(alloc, text)?;
-        add_text_unless(wrongs, holds, spelled.misspelled(), key, text)?;
+impl<'a> Findings<'a> {
+    /// Checks texts, each of which has to spell something.
+    pub(crate) fn check_spelling(
+        &mut self,
+        key: &'a str,
+        spelled: &Spelled,
+        texts: &[&'a str],
+    ) -> Added
+        ensures { IfOk result (λ _. Adds self.old self.new (spelling_faults key.now spelled.now (now_of texts.now))) }
+    {
+        for text in texts {
+            let holds = spelled.is_spelled(self.alloc, text)?;
+            self.add_unless(holds, Wrong::of_text(spelled.misspelled(), key, text))?;
+        }
+        Ok(())
     }
-    Ok(())
-}
 
-/// Adds the faults of a list of texts that have to spell something.
-pub(crate) fn add_texts_faults<'a>(
-    alloc: Global,
-    wrongs: &mut Vec<Wrong<'a>>,
-    key: &'a str,
-    spelled: &Spelled,
-    value: &'a Value,
-) -> Result<(), OutOfMemory>
-    ensures { IfOk result (λ _. Adds wrongs.old.items wrongs.new.items
-        (texts_faults key.now spelled.now (texts_in (view value.now)))) }
-{
-    match texts_in(alloc, value)? {
-        Some(texts) => add_spelling_faults(alloc, wrongs, key, spelled, texts.as_slice()),
-        None => add_wrong(wrongs, FaultKind::WrongType, key),
+    /// Checks a value that has to be a list of such texts.
+    pub(crate) fn check_texts(&mut self, key: &'a str, spelled: &Spelled, value: &'a Value) -> Added
+        ensures { IfOk result (λ _. Adds self.old self.new (texts_faults key.now spelled.now (texts_in (view value.now)))) }
+    {
+        match texts_in(self.alloc, value)? {
+            Some(texts) => self.check_spelling(key, spelled, texts.as_slice()),
+            None => self.add(Wrong::of_key(FaultKind::WrongType, key)),
+        }
     }
 }

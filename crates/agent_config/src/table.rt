@@ -1,22 +1,15 @@
 //! The table of the kinds of plugins, and of the keys of each table.
-ghost use Rattle.std.specs.Prelude.{◌≡◌, ◌∷◌, [], IfOk, option_map};
-ghost use Rattle.toml.specs.View.{table_view};
-ghost use Rattle.agent_config.specs.Faults.{missing_faults};
-ghost use Rattle.agent_config.specs.Found.{Adds};
-ghost use Rattle.agent_config.specs.Kinds.{keys_of, kind_key, kind_of, needs, own_faults, place_key, row_of};
+ghost use Rattle.std.specs.Prelude.{◌≡◌, option_map};
+ghost use Rattle.agent_config.specs.Kinds.{keys_of, kind_key, kind_of, place_key, row_of};
 
-use crate::adding::add_unless;
 use crate::agent_keys::agent_key;
 use crate::aggregator_keys::{aggregator_key, basicstats_key, final_key};
-use crate::fault::{Class, FaultKind, Wrong};
+use crate::fault::Class;
 use crate::file_input::file_input_key;
-use crate::file_output::{add_file_output_faults, file_output_key};
+use crate::file_output::file_output_key;
 use crate::processor_keys::{converter_key, dedup_key, regex_key, rename_key};
 use crate::shapes::Shape;
 use crate::statsd_input::statsd_input_key;
-use crate::tables::{Limits, value_at};
-use fixed_num::OutOfMemory;
-use toml::Table;
 
 /// The kinds of plugins.
 #[derive(Clone, Copy)]
@@ -85,39 +78,6 @@ impl Kind {
         }
     }
 
-    /// Adds the faults of a plugin of this kind that lacks keys which it needs.
-    pub(crate) fn add_missing_faults<'a>(
-        &self,
-        wrongs: &mut Vec<Wrong<'a>>,
-        table: &'a Table,
-    ) -> Result<(), OutOfMemory>
-        ensures { IfOk result (λ _. Adds wrongs.old.items wrongs.new.items
-            (missing_faults (needs self.now) (table_view table.now))) }
-    {
-        match self {
-            Kind::FileInput => add_missing(wrongs, table, "files"),
-            Kind::StatsdInput => add_missing(wrongs, table, "service_address"),
-            Kind::FileOutput => add_missing(wrongs, table, "files"),
-            _ => Ok(()),
-        }
-    }
-
-    /// Adds the faults of a plugin of this kind that no key of it has alone.
-    pub(crate) fn add_own_faults<'a>(
-        &self,
-        wrongs: &mut Vec<Wrong<'a>>,
-        limits: &Limits,
-        table: &'a Table,
-    ) -> Result<(), OutOfMemory>
-        ensures { IfOk result (λ _. Adds wrongs.old.items wrongs.new.items
-            (own_faults self.now limits.now (table_view table.now))) }
-    {
-        match self {
-            Kind::FileOutput => add_file_output_faults(wrongs, limits, table),
-            _ => Ok(()),
-        }
-    }
-
     /// The key of the list whose only text is the place of a plugin of this kind; None where it has no such key.
     pub(crate) fn place_key(&self) -> Option<&'static str>
         ensures { option_map (λ key. key.now) result ≡ place_key self.now }
@@ -128,20 +88,6 @@ impl Kind {
             _ => None,
         }
     }
-}
-
-/// Adds the fault of a table that lacks a key which it needs.
-fn add_missing<'a>(
-    wrongs: &mut Vec<Wrong<'a>>,
-    table: &'a Table,
-    key: &'a str,
-) -> Result<(), OutOfMemory>
-    ensures { IfOk result (λ _. Adds wrongs.old.items wrongs.new.items
-        (missing_faults (key.now ∷ []) (table_view table.now))) }
-{
-    let is_there = value_at(table, key).is_some();
-    add_unless(wrongs, is_there, FaultKind::Missing, key)?;
-    Ok(())
 }
 
 /// Which table the keys are of.

@@ -2,9 +2,9 @@ use Rattle.std.proofs.Common.{◌≡◌, ◌++◌}
 use Rattle.toml.specs.View.{members_view}
 use Rattle.agent_config.specs.Faults.{root_value_faults}
 use Rattle.agent_config.specs.Found.{wrongs_view}
-use Rattle.agent_config.proofs.table_faults.add_root_value_faults.Given as goal
+use Rattle.agent_config.proofs.adding.Findings.check_root_values.Given as goal
 
 abbrev pub invariant-loop-key : goal.invariant-loop-key
 invariant-loop-key l =
-    wrongs_view l.wrongs.items ++ root_value_faults (members_view l.key-iterator)
-    ≡ wrongs_view l.fn.wrongs.items ++ root_value_faults (members_view l.root.entries)
+    wrongs_view l.self.wrongs.items ++ root_value_faults (members_view l.key-iterator)
+    ≡ wrongs_view l.fn.self.wrongs.items ++ root_value_faults (members_view l.root.entries)

@@ -2,9 +2,9 @@ use Rattle.std.proofs.Common.{◌≡◌, ◌++◌}
 use Rattle.toml.specs.View.{members_view}
 use Rattle.agent_config.specs.Faults.{keys_faults}
 use Rattle.agent_config.specs.Found.{wrongs_view}
-use Rattle.agent_config.proofs.table_faults.add_keys_faults.Given as goal
+use Rattle.agent_config.proofs.adding.Findings.check_keys.Given as goal
 
 abbrev pub invariant-loop-key : goal.invariant-loop-key
 invariant-loop-key l =
-    wrongs_view l.wrongs.items ++ keys_faults l.keys (members_view l.key-iterator)
-    ≡ wrongs_view l.fn.wrongs.items ++ keys_faults l.keys (members_view l.table.entries)
+    wrongs_view l.self.wrongs.items ++ keys_faults l.keys (members_view l.key-iterator)
+    ≡ wrongs_view l.fn.self.wrongs.items ++ keys_faults l.keys (members_view l.table.entries)
